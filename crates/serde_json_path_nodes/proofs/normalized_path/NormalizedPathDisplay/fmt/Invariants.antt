@@ -1,0 +1,9 @@
+use Rattle.std.proofs.Common.{map, take}
+use Rattle.std.specs.Fmt.{HasWritten, IsPlainFormatter}
+use Rattle.serde_json_path_nodes.specs.Text.{normal}
+use Rattle.serde_json_path_nodes.specs.Views.{step_view}
+use Rattle.serde_json_path_nodes.proofs.normalized_path.NormalizedPathDisplay.fmt.Given as goal
+
+abbrev pub invariant-loop-element : goal.invariant-loop-element
+invariant-loop-element g l =
+    IsPlainFormatter l.fn.f → HasWritten g.W.Write.write_str_gives l.fn.f (normal (map step_view (take l.element-index l.element-items))) l.f

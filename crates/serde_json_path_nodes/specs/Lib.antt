@@ -1,0 +1,4 @@
+pub mod Place
+pub mod Same
+pub mod Text
+pub mod Views

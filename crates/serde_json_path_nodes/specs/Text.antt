@@ -1,0 +1,54 @@
+-- The texts of locations: normalised paths (RFC 9535, section 2.7) and JSON pointers (RFC 6901, section 3).
+use Rattle.std.specs.Prelude.{ℕ, ◌%◌, ◌/◌, List, [], ◌∷◌, ◌++◌, Option, Some, None, ◌==◌, nat_lt, unwrap_or, if◌then◌else◌, codes}
+use Rattle.std.specs.List.{flat_map}
+use Rattle.std.specs.Str.{chars}
+use Rattle.std.specs.Char.{encode_utf8, digit_char}
+use Rattle.std.specs.Fmt.{decimal}
+use Rattle.serde_json_path_nodes.specs.Place.{Step, by_name, by_position}
+
+-- `\u00` and two hexadecimal digits in lower case
+abbrev pub hexadecimal_escape : ℕ → List ℕ
+hexadecimal_escape c = codes "\\u00" ++ digit_char (c / 16) ∷ digit_char (c % 16) ∷ []
+
+-- what stands for a character that does not print itself between single quotes
+abbrev pub escape_of : ℕ → Option (List ℕ)
+escape_of c =
+    if c == 39 then Some (codes "\\'")
+    else if c == 92 then Some (codes "\\\\")
+    else if c == 8 then Some (codes "\\b")
+    else if c == 9 then Some (codes "\\t")
+    else if c == 10 then Some (codes "\\n")
+    else if c == 12 then Some (codes "\\f")
+    else if c == 13 then Some (codes "\\r")
+    else if nat_lt c 32 then Some (hexadecimal_escape c)
+    else None
+
+-- a character as it is printed between single quotes: its escape, or itself
+abbrev pub in_quotes : ℕ → List ℕ
+in_quotes c = unwrap_or (escape_of c) (encode_utf8 c)
+
+-- a text in single quotes
+abbrev pub quoted : List ℕ → List ℕ
+quoted text = codes "'" ++ flat_map in_quotes (chars text) ++ codes "'"
+
+-- a step of a normalised path
+abbrev pub normal_step : Step → List ℕ
+normal_step (by_name name) = codes "[" ++ quoted name ++ codes "]"
+normal_step (by_position position) = codes "[" ++ decimal position ++ codes "]"
+
+-- the normalised path of a location
+abbrev pub normal : List Step → List ℕ
+normal location = codes "$" ++ flat_map normal_step location
+
+-- a byte of a name in a pointer: `~` is `~0` and `/` is `~1`
+abbrev pub in_pointer : ℕ → List ℕ
+in_pointer b = if b == 126 then codes "~0" else if b == 47 then codes "~1" else b ∷ []
+
+-- a step of a pointer
+abbrev pub pointer_step : Step → List ℕ
+pointer_step (by_name name) = codes "/" ++ flat_map in_pointer name
+pointer_step (by_position position) = codes "/" ++ decimal position
+
+-- the JSON pointer of a location; that of the root is empty
+abbrev pub pointer : List Step → List ℕ
+pointer location = flat_map pointer_step location

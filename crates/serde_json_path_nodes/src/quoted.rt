@@ -1,0 +1,26 @@
+//! Names as they stand in a normalised path.
+
+ghost use Rattle.std.specs.Prelude.{Some};
+ghost use Rattle.serde_json_path_nodes.specs.Text.{quoted};
+
+use crate::escape::escaped;
+use std::fmt;
+
+// A name in single quotes, with the escapes of `escaped`.
+#[derive(Clone, Copy)]
+pub(crate) struct Quoted<'b>(pub(crate) &'b str);
+
+impl<'b> fmt::Display for Quoted<'b> {
+    ghost output = { λ q. Some (quoted q.0.now) };
+
+    fn fmt<W: fmt::Write>(&self, f: &mut fmt::Formatter<W>) -> fmt::Result {
+        write!(f, "'")?;
+        for c in self.0.chars() {
+            match escaped(c) {
+                Some(escape) => write!(f, "{escape}")?,
+                None => write!(f, "{c}")?,
+            }
+        }
+        write!(f, "'")
+    }
+}
