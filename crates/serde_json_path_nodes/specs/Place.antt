@@ -31,7 +31,8 @@ IsProper [] = Unit {0}
 IsProper (by_name name ∷ steps) = IsUtf8 name × IsProper steps
 IsProper (by_position position ∷ steps) = IsProper steps
 
--- of two children of one value, the first in document order: positions rise, and so do the bytes of names
+-- of two children of one value, the first in document order: positions rise, and so do the bytes of names (which the
+-- RFC leaves open)
 abbrev pub StepBefore : Step → Step → Type 0
 StepBefore (by_name a) (by_name b) = slice_cmp nat_cmp a b ≡ Less
 StepBefore (by_position i) (by_position j) = i < j

@@ -1,0 +1,7 @@
+pub mod Growing
+pub mod Leading
+pub mod Lookups
+pub mod Narrow
+pub mod NamedSegments
+pub mod Order
+pub mod Singular

@@ -1,0 +1,118 @@
+-- Derivations are in an order: never do two stand before each other, and a list in that order is fixed by its members.
+use Rattle.std.proofs.Common.{◌≡◌, ℕ, zero, suc, List, [], ◌∷◌, inl, inr, Less, Greater, refl, sym, ap, subst, ◌∙◌, arith, Some}
+use Rattle.std.specs.List.{AllZip}
+use Rattle.std.specs.Ordering.{ordering_reverse}
+use Rattle.std.proofs.lemmas.Cmp.{nat_list_cmp_total}
+use Rattle.std.proofs.lemmas.Int.{ints}
+use Rattle.serde_json.specs.Data.{Data}
+use Rattle.serde_json_path_nodes.specs.Place.{Step, by_name, by_position, at, StepBefore, DescentBefore, Located}
+use Rattle.serde_json_path_core.specs.Tree.{Query, query, Segments, no_segments, segment, Segment, dot_name, dot_wildcard, long_hand, Selectors, no_selectors, selector, Selector, name, wildcard, index, slice, filter}
+use Rattle.serde_json_path_core.specs.Functions.{FunctionSet}
+use Rattle.serde_json_path_core.specs.Derivation.{Triple, start_of, BelongsTo, IsIn, IsInOrder, SelectedBefore, SelectedBeforeBy, SelectedBeforeIn, TripleBefore, Before}
+use Rattle.serde_json_path_core.specs.Meaning.{IsResult}
+
+-- ---- never both
+
+step_once : (s t : Step) → StepBefore s t → StepBefore t s → ⊥
+step_once (by_name k) (by_name l) h g = let e : Less ≡ Greater = sym h ∙ nat_list_cmp_total.antisymm k l ∙ ap ordering_reverse g in cc
+step_once (by_position i) (by_position j) h g = absurd (omega arith)
+step_once (by_name k) (by_position j) h g = h
+step_once (by_position i) (by_name l) h g = h
+
+descent_once : (xs ys : List Step) → DescentBefore xs ys → DescentBefore ys xs → ⊥
+descent_once [] [] h g = h
+descent_once [] (t ∷ ts) h g = g
+descent_once (s ∷ ss) [] h g = h
+descent_once (s ∷ ss) (t ∷ ts) (inl h) (inl g) = step_once s t h g
+descent_once (s ∷ ss) (t ∷ ts) (inl h) (inr g) = let k = subst (StepBefore s) g.0 h in step_once s s k k
+descent_once (s ∷ ss) (t ∷ ts) (inr h) (inl g) = let k = subst (StepBefore t) h.0 g in step_once t t k k
+descent_once (s ∷ ss) (t ∷ ts) (inr h) (inr g) = descent_once ss ts h.1 g.1
+
+selected_once : (sel : Selector) (s t : Step) → SelectedBefore sel s t → SelectedBefore sel t s → ⊥
+selected_once (slice sl) s t (inl h) (inl g) = step_once s t h.1 g.1
+selected_once (slice sl) s t (inr h) (inr g) = step_once t s h.1 g.1
+selected_once (slice sl) s t (inl h) (inr g) = let p = h.0 in let q = g.0 in absurd (omega (arith, ints))
+selected_once (slice sl) s t (inr h) (inl g) = let p = h.0 in let q = g.0 in absurd (omega (arith, ints))
+selected_once (name k) s t h g = step_once s t h g
+selected_once wildcard s t h g = step_once s t h g
+selected_once (index i) s t h g = step_once s t h g
+selected_once (filter e) s t h g = step_once s t h g
+
+selected_once_by : (sels : Selectors) (n : ℕ) (s t : Step) → SelectedBeforeBy sels n s t → SelectedBeforeBy sels n t s → ⊥
+selected_once_by no_selectors n s t h g = h
+selected_once_by (selector sel more) zero s t h g = selected_once sel s t h g
+selected_once_by (selector sel more) (suc n) s t h g = selected_once_by more n s t h g
+
+selected_once_in : (seg : Segment) (n : ℕ) (s t : Step) → SelectedBeforeIn seg n s t → SelectedBeforeIn seg n t s → ⊥
+selected_once_in (dot_name k) n s t h g = step_once s t h g
+selected_once_in dot_wildcard n s t h g = step_once s t h g
+selected_once_in (long_hand sels) n s t h g = selected_once_by sels n s t h g
+
+triple_once : (seg : Segment) (x y : Triple) → TripleBefore seg x y → TripleBefore seg y x → ⊥
+triple_once seg x y (inl h) (inl g) = descent_once x.descent y.descent h g
+triple_once seg x y (inl h) (inr g) = let k = subst (DescentBefore x.descent) g.0 h in descent_once x.descent x.descent k k
+triple_once seg x y (inr h) (inl g) = let k = subst (DescentBefore y.descent) h.0 g in descent_once y.descent y.descent k k
+triple_once seg x y (inr (d, inl h)) (inr (e, inl g)) = absurd (omega arith)
+triple_once seg x y (inr (d, inl h)) (inr (e, inr g)) = let k = g.0 in absurd (omega arith)
+triple_once seg x y (inr (d, inr h)) (inr (e, inl g)) = let k = h.0 in absurd (omega arith)
+triple_once seg x y (inr (d, inr h)) (inr (e, inr g)) = selected_once_in seg x.number x.step y.step h.1 (subst (λ n. SelectedBeforeIn seg n y.step x.step) g.0 g.1)
+
+-- of two lists of triples never both stand before the other
+pub before_once : (segs : Segments) (xs ys : List Triple) → Before segs xs ys → Before segs ys xs → ⊥
+before_once no_segments xs ys h g = h
+before_once (segment kind seg more) [] [] h g = h
+before_once (segment kind seg more) [] (y ∷ ys) h g = h
+before_once (segment kind seg more) (x ∷ xs) [] h g = h
+before_once (segment kind seg more) (x ∷ xs) (y ∷ ys) (inl h) (inl g) = triple_once seg x y h g
+before_once (segment kind seg more) (x ∷ xs) (y ∷ ys) (inl h) (inr g) = let k = subst (TripleBefore seg x) g.0 h in triple_once seg x x k k
+before_once (segment kind seg more) (x ∷ xs) (y ∷ ys) (inr h) (inl g) = let k = subst (TripleBefore seg y) h.0 g in triple_once seg y y k k
+before_once (segment kind seg more) (x ∷ xs) (y ∷ ys) (inr h) (inr g) = before_once more xs ys h.1 g.1
+
+-- ---- a list in order is fixed by its members
+
+heads : {A : Type 0} (R : A → A → Type 0) (once : (x y : A) → R x y → R y x → ⊥) (x y : A) (xs ys : List A)
+    → IsInOrder R (x ∷ xs) → IsInOrder R (y ∷ ys) → IsIn x (y ∷ ys) → IsIn y (x ∷ xs) → x ≡ y
+heads R once x y xs ys o p (inl e) g = e
+heads R once x y xs ys o p (inr h) (inl e) = sym e
+heads R once x y xs ys o p (inr h) (inr g) = absurd (once x y (o.0 y g) (p.0 x h))
+
+in_rest : {A : Type 0} (R : A → A → Type 0) (once : (x y : A) → R x y → R y x → ⊥) (x y z : A) (xs ys : List A)
+    → x ≡ y → IsInOrder R (x ∷ xs) → IsIn z xs → IsIn z (y ∷ ys) → IsIn z ys
+in_rest R once x y z xs ys e o h (inr g) = g
+in_rest R once x y z xs ys e o h (inl f) = let k = subst (R x) (f ∙ sym e) (o.0 z h) in absurd (once x x k k)
+
+pub in_order_once : {A : Type 0} (R : A → A → Type 0) (once : (x y : A) → R x y → R y x → ⊥) (xs ys : List A)
+    → IsInOrder R xs → IsInOrder R ys → ((z : A) → IsIn z xs → IsIn z ys) → ((z : A) → IsIn z ys → IsIn z xs) → xs ≡ ys
+in_order_once R once [] [] o p f g = refl
+in_order_once R once [] (y ∷ ys) o p f g = absurd (g y (inl refl))
+in_order_once R once (x ∷ xs) [] o p f g = absurd (f x (inl refl))
+in_order_once R once (x ∷ xs) (y ∷ ys) o p f g =
+    let e = heads R once x y xs ys o p (f x (inl refl)) (g y (inl refl)) in
+    let t = in_order_once R once xs ys o.1 p.1
+    (λ z h. in_rest R once x y z xs ys e o h (f z (inr h))) (λ z h. in_rest R once y x z ys xs (sym e) p h (g z (inr h))) in
+    ap (λ w. w ∷ xs) e ∙ ap (λ ws. y ∷ ws) t
+
+-- ---- results
+
+same_pair : (start : Data) (xs : List Triple) (n m : Located) → BelongsTo start xs n → BelongsTo start xs m → n ≡ m
+same_pair start xs n m h g =
+    let l : n.location ≡ m.location = h.0 ∙ sym g.0 in
+    let v : Some n.value ≡ Some m.value = sym h.1 ∙ ap (at start) l ∙ g.1 in
+    let w : n.value ≡ m.value = cc in
+    ap (λ location. record { location = location; value = n.value }) l ∙ ap (λ value. record { location = m.location; value = value }) w
+
+same_pairs : (start : Data) (ds : List (List Triple)) (ns ms : List Located) → AllZip (BelongsTo start) ds ns → AllZip (BelongsTo start) ds ms → ns ≡ ms
+same_pairs start [] [] [] h g = refl
+same_pairs start [] [] (m ∷ ms) h g = absurd g
+same_pairs start [] (n ∷ ns) ms h g = absurd h
+same_pairs start (d ∷ ds) [] ms h g = absurd h
+same_pairs start (d ∷ ds) (n ∷ ns) [] h g = absurd g
+same_pairs start (d ∷ ds) (n ∷ ns) (m ∷ ms) h g =
+    ap (λ x. x ∷ ns) (same_pair start d n m h.0 g.0) ∙ ap (λ xs. m ∷ xs) (same_pairs start ds ns ms h.1 g.1)
+
+-- a query has one result at most
+pub result_once : (F : FunctionSet) (top : Data) (q : Query) (v : Data) (ns ms : List Located) → IsResult F top q v ns → IsResult F top q v ms → ns ≡ ms
+result_once F top (query kind segs) v ns ms h g =
+    let same : h.0 ≡ g.0 = in_order_once (Before segs) (before_once segs) h.0 g.0 h.1 g.1
+    (λ z k. (g.2 z).1 ((h.2 z).0 k)) (λ z k. (h.2 z).1 ((g.2 z).0 k)) in
+    same_pairs (start_of kind top v) g.0 ns ms (subst (λ ds. AllZip (BelongsTo (start_of kind top v)) ds ns) same h.3) g.3

@@ -1,0 +1,95 @@
+-- Comparison of values (RFC 9535, section 2.3.5.2.2). By this project's own rule a document's number that is not held
+-- as an integer equals no value, itself included, and is not ordered. An object's members are taken as a document has
+-- them: each name once, in the order of the names' bytes.
+use Rattle.std.specs.Prelude.{◌≡◌, ℤ, pos, ◌*ℤ◌, ◌<ℤ◌, ◌⊎◌, Option, Some, None, option_map}
+use Rattle.std.specs.Ordering.{nat_cmp}
+use Rattle.std.specs.declared.cmp.Ordering.TheVariants.{Less}
+use Rattle.std.specs.Cmp.Lexicographic.{slice_cmp}
+use Rattle.std.specs.Str.{chars}
+use Rattle.serde_json.specs.Data.{Data, null, boolean, number, string, array, object, Items, Members, no_items, item, no_members, member}
+use Rattle.serde_json.specs.Find.{as_integer}
+use Rattle.serde_json_path_core.specs.Tree.{Literal, Operator, equal, not_equal, less, less_or_equal, greater, greater_or_equal}
+use Rattle.serde_json_path_core.specs.Tree as tree
+
+-- what a comparable stands for: Nothing, a value, or the billionths of a number literal
+pub data Compared : Type 0 where
+  nothing : Compared
+  value : Data → Compared
+  billionths : ℤ → Compared
+
+-- ---- values
+
+-- both are there, and equal
+abbrev pub AreEqualAmounts : Option ℤ → Option ℤ → Type 0
+AreEqualAmounts (Some a) (Some b) = a ≡ b
+AreEqualAmounts _ _ = ⊥
+
+-- both are there, and the first is less
+abbrev pub AreRisingAmounts : Option ℤ → Option ℤ → Type 0
+AreRisingAmounts (Some a) (Some b) = a <ℤ b
+AreRisingAmounts _ _ = ⊥
+
+-- Whole numbers by value, texts by their characters, arrays item by item, objects by their names and values in order;
+-- values of two kinds are never equal.
+abbrev mutual
+  pub EqualData : Data → Data → Type 0
+  EqualData null null = Unit {0}
+  EqualData (boolean a) (boolean b) = a ≡ b
+  EqualData (number a) (number b) = AreEqualAmounts (as_integer a) (as_integer b)
+  EqualData (string a) (string b) = a ≡ b
+  EqualData (array xs) (array ys) = EqualItems xs ys
+  EqualData (object xs) (object ys) = EqualMembers xs ys
+  EqualData _ _ = ⊥
+
+  pub EqualItems : Items → Items → Type 0
+  EqualItems no_items no_items = Unit {0}
+  EqualItems (item a xs) (item b ys) = EqualData a b × EqualItems xs ys
+  EqualItems _ _ = ⊥
+
+  pub EqualMembers : Members → Members → Type 0
+  EqualMembers no_members no_members = Unit {0}
+  EqualMembers (member k a xs) (member l b ys) = (k ≡ l) × EqualData a b × EqualMembers xs ys
+  EqualMembers _ _ = ⊥
+
+-- ---- comparables
+
+-- the billionths of what is a whole number or the number of a literal
+abbrev pub amount_of : Compared → Option ℤ
+amount_of nothing = None
+amount_of (value (number n)) = option_map (λ whole. whole *ℤ pos 1000000000) (as_integer n)
+amount_of (value _) = None
+amount_of (billionths amount) = Some amount
+
+-- `==`: Nothing equals Nothing and no value
+abbrev pub AreEqual : Compared → Compared → Type 0
+AreEqual nothing nothing = Unit {0}
+AreEqual (value a) (value b) = EqualData a b
+AreEqual (value a) (billionths b) = AreEqualAmounts (amount_of (value a)) (Some b)
+AreEqual (billionths a) b = AreEqualAmounts (Some a) (amount_of b)
+AreEqual _ _ = ⊥
+
+-- `<`: two texts by Unicode scalar values, or two numbers
+abbrev pub IsLess : Compared → Compared → Type 0
+IsLess (value (string a)) (value (string b)) = slice_cmp nat_cmp (chars a) (chars b) ≡ Less
+IsLess a b = AreRisingAmounts (amount_of a) (amount_of b)
+
+-- `!=` negates `==`; `<=` is `<` or `==`; `>` and `>=` are `<` and `<=` with the sides swapped
+abbrev pub Compares : Operator → Compared → Compared → Type 0
+Compares equal a b = AreEqual a b
+Compares not_equal a b = AreEqual a b → ⊥
+Compares less a b = IsLess a b
+Compares less_or_equal a b = IsLess a b ⊎ AreEqual a b
+Compares greater a b = IsLess b a
+Compares greater_or_equal a b = IsLess b a ⊎ AreEqual b a
+
+-- what a literal stands for
+abbrev pub literal_compared : Literal → Compared
+literal_compared (tree.text t) = value (string t)
+literal_compared (tree.number amount) = billionths amount
+literal_compared (tree.truth b) = value (boolean b)
+literal_compared tree.null = value null
+
+-- what a value or Nothing stands for in a comparison
+abbrev pub value_compared : Option Data → Compared
+value_compared None = nothing
+value_compared (Some d) = value d

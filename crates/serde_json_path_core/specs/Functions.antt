@@ -1,0 +1,127 @@
+-- Function sets: the signature of each name, and what it means (RFC 9535, section 2.4).
+use Rattle.std.specs.Prelude.{◌≡◌, ℕ, suc, ◌≤◌, List, [], ◌∷◌, length, map, Bool, Option, Some, None, bytes_eq, codes, if◌then◌else◌}
+use Rattle.std.specs.Str.{chars}
+use Rattle.serde_json.specs.Data.{Data, number, string, array, object, unsigned, Items, no_items, item, Members, no_members, member}
+
+-- the types of parameters and results (section 2.4.1)
+pub data Kind : Type 0 where
+  of_value : Kind
+  of_nodes : Kind
+  of_logical : Kind
+
+pub record Signature : Type 0 where
+  pub params : List Kind
+  pub result : Kind
+
+-- an argument or an answer: a value or Nothing, the values of a node list, or a truth value
+pub data Term : Type 0 where
+  value : Option Data → Term
+  nodes : List Data → Term
+  logical : Bool → Term
+
+-- what a pattern has to match: the whole text, as for `match`, or some part of it, as for `search`
+pub data Matching : Type 0 where
+  whole_text : Matching
+  any_part : Matching
+
+-- A function set: the signature of each name that it declares, the meaning of a name at its arguments, and which names
+-- mean the built-in `match` or `search`. Names are the bytes of their characters.
+pub record FunctionSet : Type 0 where
+  pub signature : List ℕ → Option Signature
+  pub meaning : List ℕ → List Term → Term
+  pub by_regex : List ℕ → Option Matching
+
+-- the set declares each of these names with that signature
+abbrev pub Fits : FunctionSet → List (List ℕ × Signature) → Type 0
+Fits F [] = Unit {0}
+Fits F (used ∷ more) = (F.signature used.0 ≡ Some used.1) × Fits F more
+
+-- ---- what a set keeps
+
+abbrev pub kind_of_term : Term → Kind
+kind_of_term (value v) = of_value
+kind_of_term (nodes ds) = of_nodes
+kind_of_term (logical b) = of_logical
+
+-- the set declares the name, with at most eight parameters, and for arguments of their types the meaning has the type
+-- of the result
+abbrev pub KeepsTypes : FunctionSet → Type 0
+KeepsTypes F =
+    (name : List ℕ) (s : Signature) → F.signature name ≡ Some s
+    → (length s.params ≤ 8) × ((ts : List Term) → map kind_of_term ts ≡ s.params → kind_of_term (F.meaning name ts) ≡ s.result)
+
+-- ---- two sets, one before the other: the names of the first, then the other names of the second
+
+abbrev pub first_signature : Option Signature → Option Signature → Option Signature
+first_signature None other = other
+first_signature (Some s) other = Some s
+
+-- what the set whose name counts has of it
+abbrev pub of_first : {A : Type 0} → Option Signature → A → A → A
+of_first None first second = second
+of_first (Some s) first second = first
+
+abbrev pub both : FunctionSet → FunctionSet → FunctionSet
+both A B = record {
+  signature = λ name. first_signature (A.signature name) (B.signature name);
+  meaning = λ name ts. of_first (A.signature name) (A.meaning name ts) (B.meaning name ts);
+  by_regex = λ name. of_first (A.signature name) (A.by_regex name) (B.by_regex name);
+}
+
+-- ---- the built-in functions
+
+-- `length(Value) -> Value`, `count(Nodes) -> Value`, `value(Nodes) -> Value`, `match(Value, Value) -> Logical` and
+-- `search(Value, Value) -> Logical` (sections 2.4.4 to 2.4.8)
+abbrev pub builtin_signature : List ℕ → Option Signature
+builtin_signature name =
+    if bytes_eq name (codes "length") then Some (record { params = of_value ∷ []; result = of_value })
+    else if bytes_eq name (codes "count") then Some (record { params = of_nodes ∷ []; result = of_value })
+    else if bytes_eq name (codes "value") then Some (record { params = of_nodes ∷ []; result = of_value })
+    else if bytes_eq name (codes "match") then Some (record { params = of_value ∷ of_value ∷ []; result = of_logical })
+    else if bytes_eq name (codes "search") then Some (record { params = of_value ∷ of_value ∷ []; result = of_logical })
+    else None
+
+abbrev pub items_count : Items → ℕ
+items_count no_items = 0
+items_count (item d ds) = suc (items_count ds)
+
+abbrev pub members_count : Members → ℕ
+members_count no_members = 0
+members_count (member k d ms) = suc (members_count ms)
+
+-- a number as a value
+abbrev pub counted : ℕ → Option Data
+counted n = Some (number (unsigned n))
+
+-- `length` of a value: the characters of a text, the items of an array, the members of an object, and else Nothing
+-- (section 2.4.4)
+abbrev pub length_of : Option Data → Option Data
+length_of (Some (string text)) = counted (length (chars text))
+length_of (Some (array items)) = counted (items_count items)
+length_of (Some (object members)) = counted (members_count members)
+length_of _ = None
+
+-- `value` of a node list: the value of its one node, and else Nothing (section 2.4.8)
+abbrev pub value_of_one : List Data → Option Data
+value_of_one (d ∷ []) = Some d
+value_of_one _ = None
+
+-- the built-in names that go by `regex` (sections 2.4.6 and 2.4.7)
+abbrev pub builtin_by_regex : List ℕ → Option Matching
+builtin_by_regex name =
+    if bytes_eq name (codes "match") then Some whole_text
+    else if bytes_eq name (codes "search") then Some any_part
+    else None
+
+-- what `length`, `count` (section 2.4.5) and `value` mean
+abbrev pub length_meaning : List Term → Term
+length_meaning (value v ∷ []) = value (length_of v)
+length_meaning _ = value None
+
+abbrev pub count_meaning : List Term → Term
+count_meaning (nodes ds ∷ []) = value (counted (length ds))
+count_meaning _ = value None
+
+abbrev pub value_meaning : List Term → Term
+value_meaning (nodes ds ∷ []) = value (value_of_one ds)
+value_meaning _ = value None

@@ -1,0 +1,15 @@
+pub mod Tree
+pub mod Slices
+pub mod Functions
+pub mod Compared
+pub mod Derivation
+pub mod Meaning
+pub mod Typing
+pub mod Depth
+pub mod WellFormed
+pub mod Text
+pub mod Piece
+pub mod Flat
+pub mod Parts
+pub mod Selected
+pub mod Views

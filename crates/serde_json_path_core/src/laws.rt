@@ -1,0 +1,20 @@
+//! Laws of the definitions, each the contract of a function with an empty body.
+
+ghost use Rattle.std.specs.Prelude.{◌≡◌, List};
+ghost use Rattle.serde_json.specs.Data.{Data};
+ghost use Rattle.serde_json_path_nodes.specs.Place.{Located};
+ghost use Rattle.serde_json_path_core.specs.Tree.{Query, segments_of};
+ghost use Rattle.serde_json_path_core.specs.Functions.{FunctionSet};
+ghost use Rattle.serde_json_path_core.specs.Derivation.{Triple, Before};
+ghost use Rattle.serde_json_path_core.specs.Meaning.{IsResult};
+
+/// Of two derivations of one query never both stand before the other (RFC 9535, sections 2.5.1.2 and 2.5.2.2).
+pub fn law_before_is_asymmetric()
+    ensures { (q : Query) (xs ys : List Triple) → Before (segments_of q) xs ys → Before (segments_of q) ys xs → ⊥ }
+{}
+
+/// A query has one result at most, whatever the function set and the document.
+pub fn law_result_is_unique()
+    ensures { (F : FunctionSet) (top : Data) (q : Query) (node : Data) (some other : List Located)
+        → IsResult F top q node some → IsResult F top q node other → some ≡ other }
+{}
