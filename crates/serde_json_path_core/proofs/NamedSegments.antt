@@ -5,11 +5,11 @@ use Rattle.std.specs.declared.alloc.AllocError.{AllocError}
 use Rattle.std.specs.List.{All, AllByRecursion}
 use Rattle.std.proofs.lemmas.List.Elements.{All-from_recursion, recursion_from_All}
 use Rattle.serde_json_path_core.specs.Tree as tree
-use Rattle.serde_json_path_core.specs.Piece.{a_query}
+use Rattle.serde_json_path_core.specs.Piece.{a_query, a_segment}
 use Rattle.serde_json_path_core.specs.declared.syntax.node.Part.{Part}
 use Rattle.serde_json_path_core.specs.declared.syntax.builder.SyntaxBuilder.{SyntaxBuilder}
 use Rattle.serde_json_path_core.specs.Flat.{pieces, pieces_named, segments_in, segment_kind_in, segment_in}
-use Rattle.serde_json_path_core.specs.Parts.{IsPart, ArePartsOf}
+use Rattle.serde_json_path_core.specs.Parts.{IsPart, ArePartsOf, KeepsParts}
 
 below_by_recursion : (builder : SyntaxBuilder) (parts : List Part) (segs : tree.Segments) → ArePartsOf builder parts segs
     → AllByRecursion (λ number. number < length builder.nodes.items) (map (λ (part : Part). part.number) parts)
@@ -46,3 +46,10 @@ parts_below parts low high le h = All-from_recursion _ parts (each parts (recurs
     each : (ps : List Part) → AllByRecursion (λ number. number < low) (map (λ (part : Part). part.number) ps) → AllByRecursion (λ (part : Part). part.number < high) ps
     each [] g = tt
     each (p ∷ ps) g = (let below = g.0 in omega arith, each ps g.1)
+
+-- parts keep standing for their segments
+pub parts_kept : (old new : SyntaxBuilder) → KeepsParts old new → (parts : List Part) (segs : tree.Segments) → ArePartsOf old parts segs → ArePartsOf new parts segs
+parts_kept old new keeps [] tree.no_segments h = tt
+parts_kept old new keeps [] (tree.segment kind seg more) h = absurd h
+parts_kept old new keeps (part ∷ parts) tree.no_segments h = absurd h
+parts_kept old new keeps (part ∷ parts) (tree.segment kind seg more) h = (keeps part (a_segment kind seg) h.0, parts_kept old new keeps parts more h.1)

@@ -10,7 +10,6 @@ mod syntax;
 pub use error::QueryError;
 pub use evaluate::evaluate_located;
 pub use laws::{law_before_is_asymmetric, law_result_is_unique};
-pub use serde_json_path_nodes as nodes;
 pub use syntax::builder::SyntaxBuilder;
 pub use syntax::checked::Checked;
 pub use syntax::node::{Part, QueryKind};

@@ -1,0 +1,139 @@
+-- The character at a place of a text, by its first byte.
+use Rattle.std.proofs.Common.{◌≡◌, ℕ, zero, suc, ◌+◌, ◌*◌, ◌/◌, ◌%◌, ◌<◌, ◌≤◌, inl, inr, Bool, true, false, List, [], ◌∷◌, ◌++◌, length, get_or, drop, Some, refl, sym, ap, subst, ◌∙◌, arith}
+use Rattle.std.specs.Prelude.{slice_get, encode_utf8, ◌&&◌}
+use Rattle.std.specs.Str.{IsUtf8, encode_utf8_all, all_scalars}
+use Rattle.std.specs.Str.Pattern.{StartsWithChar}
+use Rattle.std.specs.Char.{IsScalar, encode_utf8 as encode}
+use Rattle.std.proofs.lemmas.List.{get_or-drop, length-drop, drop_at, length-append}
+use Rattle.std.proofs.lemmas.Bool.{cases_lt, lt-ltb, le-ltb}
+
+some_within : (xs : List ℕ) (i b : ℕ) → slice_get xs i ≡ Some b → (i < length xs) × (get_or xs i 0 ≡ b)
+some_within [] i b e = absurd cc
+some_within (x ∷ xs) zero b e = (omega arith, cc)
+some_within (x ∷ xs) (suc i) b e = let h = some_within xs i b e in (omega (arith, h.0), h.1)
+
+-- a text's first character, and what follows
+pub record Head (bs : List ℕ) : Type 0 where
+  pub c : ℕ
+  pub rest : List ℕ
+  pub is : IsScalar c
+  pub split : bs ≡ encode_utf8 c ++ rest
+  pub tail : IsUtf8 rest
+
+both : (a b : Bool) → (a && b) ≡ true → (a ≡ true) × (b ≡ true)
+both true b e = (refl, e)
+both false b e = absurd cc
+
+head_from : (bs cs : List ℕ) → all_scalars cs ≡ true → encode_utf8_all cs ≡ bs → 0 < length bs → Head bs
+head_from bs [] s e l = absurd (omega (arith, ap length e))
+head_from bs (c ∷ cs) s e l = let h = both _ _ s in record { c = c; rest = encode_utf8_all cs; is = h.0; split = sym e; tail = (cs, (h.1, refl)) }
+
+pub head : (bs : List ℕ) → IsUtf8 bs → 0 < length bs → Head bs
+head bs u l = head_from bs u.0 u.1.0 u.1.1 l
+
+-- the four forms of a character
+pub data Shape (c : ℕ) : Type 0 where
+  of1 : c < 128 → encode_utf8 c ≡ c ∷ [] → Shape c
+  of2 : 128 ≤ c → c < 2048 → encode_utf8 c ≡ (192 + c / 64) ∷ (128 + c % 64) ∷ [] → Shape c
+  of3 : 2048 ≤ c → c < 65536 → encode_utf8 c ≡ (224 + c / 4096) ∷ (128 + c / 64 % 64) ∷ (128 + c % 64) ∷ [] → Shape c
+  of4 : 65536 ≤ c → encode_utf8 c ≡ (240 + c / 262144) ∷ (128 + c / 4096 % 64) ∷ (128 + c / 64 % 64) ∷ (128 + c % 64) ∷ [] → Shape c
+
+pub shape : (c : ℕ) → Shape c
+unfolding encode
+shape c = elim (cases_lt c 128) [
+  | inl a ↦ of1 a (rw (lt-ltb c 128 a) refl)
+  | inr a ↦ elim (cases_lt c 2048) [
+    | inl b ↦ of2 a b (rw (le-ltb c 128 a, lt-ltb c 2048 b) refl)
+    | inr b ↦ elim (cases_lt c 65536) [
+      | inl d ↦ of3 b d (rw (le-ltb c 128 a, le-ltb c 2048 b, lt-ltb c 65536 d) refl)
+      | inr d ↦ of4 d (rw (le-ltb c 128 a, le-ltb c 2048 b, le-ltb c 65536 d) refl)
+    ]
+  ]
+]
+
+abbrev pub Read : List ℕ → ℕ → ℕ → Type 0
+Read bs c w = IsScalar c × StartsWithChar bs c w
+
+abbrev c_limit : ℕ → Type 0
+c_limit c = c < 1114112
+
+limit : (c : ℕ) → IsScalar c → c_limit c
+limit c s = elim (cases_lt c 1114112) [ inl a ↦ a | inr a ↦ absurd (grind arith) ]
+
+module _ (bs : List ℕ) (h : Head bs) where
+  byte : (p : List ℕ) (k : ℕ) → encode_utf8 h.c ≡ p → get_or bs k 0 ≡ get_or (p ++ h.rest) k 0
+  byte p k e = ap (λ (l : List ℕ). get_or l k 0) (h.split ∙ ap (λ (l : List ℕ). l ++ h.rest) e)
+
+  read : (p : List ℕ) (n k : ℕ) → encode_utf8 h.c ≡ p → k ≡ h.c → n ≡ length p → 0 < n → Read bs k n
+  read p n k e f l pos =
+      let n-is : n ≡ length (encode_utf8 h.c) = l ∙ ap length (sym e) in
+      let past : drop n bs ≡ h.rest = ap (drop n) h.split ∙ drop_at (encode_utf8 h.c) h.rest n (sym n-is) in
+      let long : length bs ≡ length (encode_utf8 h.c) + length h.rest = ap length h.split ∙ length-append (encode_utf8 h.c) h.rest in
+      subst (λ (c : ℕ). Read bs c n) (sym f) (h.is, (h.split ∙ ap (λ (l : List ℕ). encode_utf8 h.c ++ l) (sym past), n-is, pos, omega arith, subst IsUtf8 (sym past) h.tail))
+
+  lens : (p : List ℕ) → encode_utf8 h.c ≡ p → length bs ≡ length (p ++ h.rest)
+  lens p e = ap length (h.split ∙ ap (λ (l : List ℕ). l ++ h.rest) e)
+
+  by1 : Shape h.c → get_or bs 0 0 < 128 → Read bs (get_or bs 0 0) 1
+  by1 (of1 l e) t = read _ _ _ e (byte _ 0 e) refl (omega arith)
+  by1 (of2 l u e) t = absurd (omega (arith, byte _ 0 e))
+  by1 (of3 l u e) t = absurd (omega (arith, byte _ 0 e))
+  by1 (of4 l e) t = absurd (omega (arith, byte _ 0 e))
+
+  by2 : Shape h.c → 128 ≤ get_or bs 0 0 → get_or bs 0 0 < 224 → Read bs (get_or bs 0 0 % 32 * 64 + get_or bs 1 0 % 64) 2
+  by2 (of1 l e) t v = absurd (omega (arith, byte _ 0 e))
+  by2 (of2 l u e) t v = read _ _ _ e (omega (arith, byte _ 0 e, byte _ 1 e)) refl (omega arith)
+  by2 (of3 l u e) t v = absurd (omega (arith, byte _ 0 e))
+  by2 (of4 l e) t v = absurd (omega (arith, byte _ 0 e))
+
+  by3 : Shape h.c → 224 ≤ get_or bs 0 0 → get_or bs 0 0 < 240 → Read bs (get_or bs 0 0 % 16 * 4096 + get_or bs 1 0 % 64 * 64 + get_or bs 2 0 % 64) 3
+  by3 (of1 l e) t v = absurd (omega (arith, byte _ 0 e))
+  by3 (of2 l u e) t v = absurd (omega (arith, byte _ 0 e))
+  by3 (of3 l u e) t v = read _ _ _ e (omega (arith, byte _ 0 e, byte _ 1 e, byte _ 2 e)) refl (omega arith)
+  by3 (of4 l e) t v = absurd (omega (arith, byte _ 0 e))
+
+  by4 : c_limit h.c → Shape h.c → 240 ≤ get_or bs 0 0 → Read bs (get_or bs 0 0 % 8 * 262144 + get_or bs 1 0 % 64 * 4096 + get_or bs 2 0 % 64 * 64 + get_or bs 3 0 % 64) 4
+  by4 m (of1 l e) t = absurd (omega (arith, byte _ 0 e))
+  by4 m (of2 l u e) t = absurd (omega (arith, byte _ 0 e))
+  by4 m (of3 l u e) t = absurd (omega (arith, byte _ 0 e))
+  by4 m (of4 l e) t = read _ _ _ e (omega (arith, byte _ 0 e, byte _ 1 e, byte _ 2 e, byte _ 3 e)) refl (omega arith)
+
+  wide : Shape h.c → (128 ≤ get_or bs 0 0 → 1 < length bs) × (224 ≤ get_or bs 0 0 → 2 < length bs) × (240 ≤ get_or bs 0 0 → 3 < length bs)
+  wide (of1 l e) = ((λ t. absurd (omega (arith, t, byte _ 0 e))), (λ t. absurd (omega (arith, t, byte _ 0 e))), (λ t. absurd (omega (arith, t, byte _ 0 e))))
+  wide (of2 l u e) = ((λ t. omega (arith, lens _ e)), (λ t. absurd (omega (arith, t, byte _ 0 e))), (λ t. absurd (omega (arith, t, byte _ 0 e))))
+  wide (of3 l u e) = ((λ t. omega (arith, lens _ e)), (λ t. omega (arith, lens _ e)), (λ t. absurd (omega (arith, t, byte _ 0 e))))
+  wide (of4 l e) = ((λ t. omega (arith, lens _ e)), (λ t. omega (arith, lens _ e)), (λ t. omega (arith, lens _ e)))
+
+module _ (text : List ℕ) (at lead : ℕ) (utf8 : IsUtf8 (drop at text)) (is : slice_get text at ≡ Some lead) where
+  pub within : at < length text
+  within = (some_within text at lead is).0
+
+  h : Head (drop at text)
+  h = head (drop at text) utf8 (omega (arith, within, length-drop at text))
+
+  pub at_byte : (k : ℕ) → get_or (drop at text) k 0 ≡ get_or text (at + k) 0
+  at_byte k = rw get_or-drop refl
+
+  pub lead_is : get_or (drop at text) 0 0 ≡ lead
+  lead_is = let e : at + 0 ≡ at = omega arith in rw (at_byte 0, e) (some_within text at lead is).1
+
+  pub second : 128 ≤ lead → at + 1 < length text
+  second t = let k = (wide (drop at text) h (shape h.c)).0 (rw lead_is t) in omega (arith, k, within, length-drop at text)
+
+  pub third : 224 ≤ lead → at + 2 < length text
+  third t = let k = (wide (drop at text) h (shape h.c)).1 (rw lead_is t) in omega (arith, k, within, length-drop at text)
+
+  pub fourth : 240 ≤ lead → at + 3 < length text
+  fourth t = let k = (wide (drop at text) h (shape h.c)).2 (rw lead_is t) in omega (arith, k, within, length-drop at text)
+
+  pub one : lead < 128 → Read (drop at text) lead 1
+  one t = subst (λ (c : ℕ). Read (drop at text) c 1) lead_is (by1 (drop at text) h (shape h.c) (rw lead_is t))
+
+  pub two : (y : ℕ) → y ≡ get_or text (at + 1) 0 % 64 → 128 ≤ lead → lead < 224 → Read (drop at text) (lead % 32 * 64 + y) 2
+  two y f t v = subst (λ (c : ℕ). Read (drop at text) c 2) (rw (lead_is, at_byte 1, f) refl) (by2 (drop at text) h (shape h.c) (rw lead_is t) (rw lead_is v))
+
+  pub three : (y z : ℕ) → y ≡ get_or text (at + 1) 0 % 64 → z ≡ get_or text (at + 2) 0 % 64 → 224 ≤ lead → lead < 240 → Read (drop at text) (lead % 16 * 4096 + y * 64 + z) 3
+  three y z f g t v = subst (λ (c : ℕ). Read (drop at text) c 3) (rw (lead_is, at_byte 1, at_byte 2, f, g) refl) (by3 (drop at text) h (shape h.c) (rw lead_is t) (rw lead_is v))
+
+  pub four : (y z x : ℕ) → y ≡ get_or text (at + 1) 0 % 64 → z ≡ get_or text (at + 2) 0 % 64 → x ≡ get_or text (at + 3) 0 % 64 → 240 ≤ lead → Read (drop at text) (lead % 8 * 262144 + y * 4096 + z * 64 + x) 4
+  four y z x f g i t = subst (λ (c : ℕ). Read (drop at text) c 4) (rw (lead_is, at_byte 1, at_byte 2, at_byte 3, f, g, i) refl) (by4 (drop at text) h (limit h.c h.is) (shape h.c) (rw lead_is t))

@@ -1,0 +1,10 @@
+pub mod Complete
+pub mod Decoding
+pub mod FirstByte
+pub mod Many
+pub mod OpenTexts
+pub mod Parses
+pub mod PartLists
+pub mod Places
+pub mod Runs
+pub mod Sound

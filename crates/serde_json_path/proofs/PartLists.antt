@@ -1,0 +1,15 @@
+-- Parts that stand for child segments, one more at a time.
+use Rattle.std.proofs.Common.{List, [], ◌∷◌, ◌++◌}
+use Rattle.serde_json_path_core.specs.Tree.{Segment, child}
+use Rattle.serde_json_path_core.specs.Piece.{a_segment}
+use Rattle.serde_json_path_core.specs.Parts.{IsPart, ArePartsOf}
+use Rattle.serde_json_path_core.specs.declared.syntax.node.Part.{Part}
+use Rattle.serde_json_path_core.specs.declared.syntax.builder.SyntaxBuilder.{SyntaxBuilder}
+use Rattle.serde_json_path.specs.Parsing.{child_segments}
+
+pub parts_pushed : (builder : SyntaxBuilder) (parts : List Part) (ss : List Segment) (part : Part) (s : Segment) → ArePartsOf builder parts (child_segments ss) → IsPart builder part (a_segment child s)
+    → ArePartsOf builder (parts ++ part ∷ []) (child_segments (ss ++ s ∷ []))
+parts_pushed builder [] [] part s h p = (p, tt)
+parts_pushed builder [] (t ∷ ss) part s h p = absurd h
+parts_pushed builder (q ∷ parts) [] part s h p = absurd h
+parts_pushed builder (q ∷ parts) (t ∷ ss) part s h p = (h.0, parts_pushed builder parts ss part s h.1 p)

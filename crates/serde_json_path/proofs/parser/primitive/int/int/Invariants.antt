@@ -1,0 +1,15 @@
+use Rattle.std.proofs.Common.{◌≡◌, ◌^◌, ◌-◌, min, length}
+use Rattle.serde_json_path.specs.Lexical.{is_digit, value_from}
+use Rattle.serde_json_path.specs.Parsing.{front, behind}
+use Rattle.serde_json_path.specs.Reading.{left, Moves}
+use Rattle.serde_json_path.proofs.parser.primitive.int.int.Given as goal
+
+abbrev pub invariant-loop-reader : goal.invariant-loop-reader
+invariant-loop-reader g l = record {
+  moves : Moves l.fn.reader l.reader;
+  value : min (value_from l.n (front is_digit (left l.reader))) (2 ^ 64 - 1) ≡ min (value_from 0 (front is_digit (left l.fn.reader))) (2 ^ 64 - 1);
+  rest : behind is_digit (left l.reader) ≡ behind is_digit (left l.fn.reader);
+}
+
+abbrev pub decreases-loop-reader : goal.decreases-loop-reader
+decreases-loop-reader g l = length (left l.reader)

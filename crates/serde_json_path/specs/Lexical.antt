@@ -1,0 +1,169 @@
+-- The pieces of a path's text (RFC 9535, sections 2.1.1, 2.3.1.1, 2.3.3.1, 2.3.5.1 and 2.5.1.1). A text is a list of
+-- characters, each a Unicode scalar value; names and strings in trees are the bytes of their characters.
+use Rattle.std.specs.Prelude.{◌≡◌, ◌==◌, ℕ, suc, ◌+◌, ◌-◌, ◌*◌, ◌<◌, ◌≤◌, ◌^◌, ◌⊎◌, ◌&&◌, ◌||◌, not, nat_le, ℤ, pos, negsuc, ◌-ℤ◌, Bool, true, false, List, [], ◌∷◌, ◌++◌, length, codes, Option, Some, None, if◌then◌else◌}
+use Rattle.std.specs.List.{AllByRecursion}
+use Rattle.std.specs.Str.{encode_utf8_all}
+use Rattle.serde_json_path_core.specs.Tree.{IsInteger}
+use Rattle.serde_json_path_core.specs.WellFormed.{IsLiteralAmount}
+
+-- every character passes the test
+abbrev pub AllPass : (ℕ → Bool) → List ℕ → Type 0
+AllPass p text = AllByRecursion (λ c. p c ≡ true) text
+
+-- the text begins with a character that passes the test
+abbrev pub begins : (ℕ → Bool) → List ℕ → Bool
+begins p [] = false
+begins p (c ∷ cs) = p c
+
+-- ---- blanks (section 2.1.1): space, tab, line feed and carriage return
+
+abbrev pub is_blank : ℕ → Bool
+is_blank c = c == 32 || c == 9 || c == 10 || c == 13
+
+abbrev pub IsBlank : List ℕ → Type 0
+IsBlank text = AllPass is_blank text
+
+-- ---- member names (section 2.5.1.1)
+
+abbrev pub is_digit : ℕ → Bool
+is_digit c = nat_le 48 c && nat_le c 57
+
+-- a letter, `_` or a character beyond ASCII
+abbrev pub is_name_first : ℕ → Bool
+is_name_first c = (nat_le 65 c && nat_le c 90) || (nat_le 97 c && nat_le c 122) || c == 95 || nat_le 128 c
+
+abbrev pub is_name_char : ℕ → Bool
+is_name_char c = is_name_first c || is_digit c
+
+-- the text is a member name of these bytes
+pub record IsName (text bytes : List ℕ) : Type 0 where
+  pub first : begins is_name_first text ≡ true
+  pub each : AllPass is_name_char text
+  pub bytes_of : bytes ≡ encode_utf8_all text
+
+-- ---- function names (section 2.4)
+
+abbrev pub is_small_letter : ℕ → Bool
+is_small_letter c = nat_le 97 c && nat_le c 122
+
+abbrev pub is_function_char : ℕ → Bool
+is_function_char c = is_small_letter c || c == 95 || is_digit c
+
+pub record IsFunctionName (text bytes : List ℕ) : Type 0 where
+  pub first : begins is_small_letter text ≡ true
+  pub each : AllPass is_function_char text
+  pub bytes_of : bytes ≡ text
+
+-- ---- integers (section 2.3.3.1)
+
+-- the number that these digits write behind the digits of n
+abbrev pub value_from : ℕ → List ℕ → ℕ
+value_from n [] = n
+value_from n (d ∷ ds) = value_from ((n * 10) + (d - 48)) ds
+
+-- `0`, or digits that do not begin with it
+pub record IsDecimal (text : List ℕ) (n : ℕ) : Type 0 where
+  pub first : begins is_digit text ≡ true
+  pub each : AllPass is_digit text
+  pub plain : (text ≡ 48 ∷ []) ⊎ (begins (λ c. c == 48) text ≡ false)
+  pub value_of : n ≡ value_from 0 text
+
+-- an `int`: a decimal number, or `-` and one that is not 0
+abbrev pub IsIntText : List ℕ → ℤ → Type 0
+IsIntText text (pos n) = IsDecimal text n
+IsIntText text (negsuc n) = (digits : List ℕ) × IsDecimal digits (suc n) × (text ≡ codes "-" ++ digits)
+
+-- an index, or a part of a slice
+abbrev pub IsInt : List ℕ → ℤ → Type 0
+IsInt text i = IsIntText text i × IsInteger i
+
+-- ---- number literals (section 2.3.5.1); that there is no exponent, that a fraction has at most nine digits, and the
+-- range are this project's own rules
+
+-- the billionths that the digits behind a point write
+abbrev pub fraction_of : List ℕ → ℕ
+fraction_of digits = (value_from 0 digits) * (10 ^ (9 - length digits))
+
+-- no fraction, or a point and one to nine digits; the fraction in billionths
+abbrev pub IsFraction : List ℕ → ℕ → Type 0
+IsFraction text n =
+    ((text ≡ []) × (n ≡ 0))
+    ⊎ ((digits : List ℕ) × (text ≡ codes "." ++ digits) × AllPass is_digit digits × (1 ≤ length digits) × (length digits ≤ 9) × (n ≡ fraction_of digits))
+
+-- a decimal number and its fraction, in billionths
+abbrev pub IsAmount : List ℕ → ℕ → Type 0
+IsAmount text n =
+    (a b : List ℕ) × (whole fraction : ℕ) × IsDecimal a whole × IsFraction b fraction × (text ≡ a ++ b)
+    × (n ≡ (whole * 1000000000) + fraction)
+
+-- a number with or without `-`, of -2 ^ 63 to 2 ^ 64 - 1; `-0` is 0
+abbrev pub IsNumber : List ℕ → ℤ → Type 0
+IsNumber text amount =
+    ((n : ℕ) × ((IsAmount text n × (amount ≡ pos n)) ⊎ ((digits : List ℕ) × IsAmount digits n × (text ≡ codes "-" ++ digits) × (amount ≡ (pos 0 -ℤ pos n)))))
+    × IsLiteralAmount amount
+
+-- ---- strings (section 2.3.1.1)
+
+-- the value of a hexadecimal digit of either case
+abbrev pub hexadecimal_of : ℕ → Option ℕ
+hexadecimal_of c =
+    if is_digit c then Some (c - 48)
+    else if nat_le 65 c && nat_le c 70 then Some (c - 55)
+    else if nat_le 97 c && nat_le c 102 then Some (c - 87)
+    else None
+
+-- four hexadecimal digits
+abbrev pub IsHex4 : List ℕ → ℕ → Type 0
+IsHex4 text n =
+    (a b c d p q r s : ℕ) × (text ≡ a ∷ b ∷ c ∷ d ∷ [])
+    × (hexadecimal_of a ≡ Some p) × (hexadecimal_of b ≡ Some q) × (hexadecimal_of c ≡ Some r) × (hexadecimal_of d ≡ Some s)
+    × (n ≡ (((4096 * p) + (256 * q)) + (16 * r)) + s)
+
+-- D800 to DBFF, and DC00 to DFFF
+abbrev pub IsHighSurrogate : ℕ → Type 0
+IsHighSurrogate n = (0xd800 ≤ n) × (n ≤ 0xdbff)
+
+abbrev pub IsLowSurrogate : ℕ → Type 0
+IsLowSurrogate n = (0xdc00 ≤ n) × (n ≤ 0xdfff)
+
+-- the character of a pair of surrogates
+abbrev pub pair_of : ℕ → ℕ → ℕ
+pair_of high low = (0x10000 + (0x400 * (high - 0xd800))) + (low - 0xdc00)
+
+-- what stands behind a backslash for one character, but for `u` and the quote
+abbrev pub escaped_by : ℕ → Option ℕ
+escaped_by c =
+    if c == 98 then Some 8
+    else if c == 102 then Some 12
+    else if c == 110 then Some 10
+    else if c == 114 then Some 13
+    else if c == 116 then Some 9
+    else if c == 47 then Some 47
+    else if c == 92 then Some 92
+    else None
+
+-- a character that stands for itself: from U+0020 on, but for the backslash and the quote round the string
+abbrev pub is_plain : ℕ → ℕ → Bool
+is_plain quote c = nat_le 32 c && not (c == 92) && not (c == quote)
+
+-- a piece of a string in these quotes, and the one character that it stands for
+pub data IsPiece (quote : ℕ) : List ℕ → ℕ → Type 0 where
+  plain : (c : ℕ) → is_plain quote c ≡ true → IsPiece quote (c ∷ []) c
+  quote_escape : IsPiece quote (92 ∷ quote ∷ []) quote
+  letter_escape : (letter c : ℕ) → escaped_by letter ≡ Some c → IsPiece quote (92 ∷ letter ∷ []) c
+  hex_escape : (digits : List ℕ) (c : ℕ) → IsHex4 digits c → (c < 0xd800) ⊎ (0xdfff < c) → IsPiece quote (codes "\\u" ++ digits) c
+  pair_escape : (a b : List ℕ) (high low : ℕ) → IsHex4 a high → IsHex4 b low → IsHighSurrogate high → IsLowSurrogate low → IsPiece quote ((codes "\\u" ++ a) ++ (codes "\\u" ++ b)) (pair_of high low)
+
+-- the text is a joining of pieces that stand for these characters
+abbrev pub ArePieces : ℕ → List ℕ → List ℕ → Type 0
+ArePieces quote text [] = text ≡ []
+ArePieces quote text (c ∷ cs) = (a b : List ℕ) × IsPiece quote a c × ArePieces quote b cs × (text ≡ a ++ b)
+
+abbrev pub IsQuote : ℕ → Type 0
+IsQuote quote = (quote ≡ 39) ⊎ (quote ≡ 34)
+
+-- a string in single or double quotes of these bytes
+abbrev pub IsString : List ℕ → List ℕ → Type 0
+IsString text bytes =
+    (quote : ℕ) × (inside characters : List ℕ) × IsQuote quote × ArePieces quote inside characters
+    × (text ≡ quote ∷ (inside ++ quote ∷ [])) × (bytes ≡ encode_utf8_all characters)

@@ -1,0 +1,14 @@
+pub mod Source
+pub mod TextSources
+pub mod Lexical
+pub mod Grammar
+pub mod Accepted
+pub mod Errors
+pub mod Looking
+pub mod Ahead
+pub mod Reading
+pub mod Parsing
+pub mod Giving
+pub mod Open
+pub mod Paths
+pub mod Parse

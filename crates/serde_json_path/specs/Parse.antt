@@ -1,0 +1,44 @@
+-- What a parse answers, whatever way it is asked.
+use Rattle.std.specs.Prelude.{◌≡◌, ◌≢◌, ◌==◌, ℕ, ◌-◌, ◌^◌, ◌<◌, ◌≤◌, ◌⊎◌, ◌↔◌, Bool, false, List, ◌∷◌, ◌++◌, length, take, Option, Result, IfOk, IfErr, IsErrAnd}
+use Rattle.std.specs.Str.{chars, IsCharBoundary}
+use Rattle.serde_json_path_core.specs.Tree.{Query}
+use Rattle.serde_json_path_core.specs.Functions.{Signature}
+use Rattle.serde_json_path.specs.declared.error.ParseErrorKind.TheVariants.{ExpectedRoot, TextAfterPath, NoMemory}
+use Rattle.serde_json_path.specs.declared.error.ParseError.{ParseError}
+use Rattle.serde_json_path.specs.declared.path.JsonPath.{JsonPath}
+use Rattle.serde_json_path.specs.Lexical.{begins, is_blank, IsBlank}
+use Rattle.serde_json_path.specs.Accepted.{IsAccepted}
+use Rattle.serde_json_path.specs.Open.{IsOpen}
+use Rattle.serde_json_path.specs.Errors.{kind_of, position_of}
+use Rattle.serde_json_path.specs.Paths.{path_tree}
+use Rattle.serde_json_path.specs.Parsing.{opens}
+
+abbrev pub is_dollar : ℕ → Bool
+is_dollar c = c == 36
+
+-- there is no `$` at the start, or behind it and blanks neither `.` nor `[`
+abbrev pub NeedsNoMemory : List ℕ → Type 0
+NeedsNoMemory text =
+    (begins is_dollar text ≡ false)
+    ⊎ ((blanks rest : List ℕ) × (text ≡ 36 ∷ (blanks ++ rest)) × IsBlank blanks × (begins is_blank rest ≡ false) × (begins opens rest ≡ false))
+
+-- The text is given by the bytes of its UTF-8.
+pub record IsParseOf (signature : List ℕ → Option Signature) (text : List ℕ) (result : Result JsonPath ParseError) : Type 0 where
+  -- what is accepted is in the typed grammar, with this tree
+  pub accepted : IfOk result (λ path. IsAccepted signature (chars text) (path_tree path))
+  -- and no other of the open forms
+  pub only : IfOk result (λ path. (q : Query) → IsOpen (chars text) q → IsAccepted signature (chars text) q → q ≡ path_tree path)
+  -- a refusal, unless memory was refused, means that no tree of the open forms is accepted
+  pub refused : IfErr result (λ e. kind_of e ≢ NoMemory → (q : Query) → IsOpen (chars text) q → IsAccepted signature (chars text) q → ⊥)
+  -- a missing root is told exactly where the text does not begin with `$`
+  pub missing_root : IsErrAnd result (λ e. kind_of e ≡ ExpectedRoot) ↔ ((length text < 2 ^ 64 - 1) × (begins is_dollar (chars text) ≡ false))
+  -- text behind the path is told only where the bytes before the position are an accepted text
+  pub text_after : IfErr result (λ e. kind_of e ≡ TextAfterPath → (q : Query) × IsAccepted signature (chars (take (position_of e - 1) text)) q)
+  -- a refusal stands at the start of a character, or at the end of the text
+  pub position : IfErr result (λ e. (1 ≤ position_of e) × IsCharBoundary text (position_of e - 1))
+  -- want of memory stands at 1
+  pub memory_position : IfErr result (λ e. kind_of e ≡ NoMemory → position_of e ≡ 1)
+  -- and is not told where nothing is to be kept
+  pub spares_memory : length text < 2 ^ 64 - 1 → NeedsNoMemory (chars text) → IfErr result (λ e. kind_of e ≢ NoMemory)
+  -- but of a text whose end has no number
+  pub too_long : length text ≡ 2 ^ 64 - 1 → IsErrAnd result (λ e. kind_of e ≡ NoMemory)

@@ -1,0 +1,16 @@
+-- What a source tells: one text, how often it was looked at, and the farthest byte looked at.
+use Rattle.std.specs.Prelude.{ℕ, ◌+◌, ◌-◌, ◌^◌, List, if◌then◌else◌, nat_lt, max}
+
+-- the text's bytes, the number of looks, and the number of the farthest byte looked at, from 1, or 0
+pub record Told : Type 0 where
+  pub text : List ℕ
+  pub looks : ℕ
+  pub farthest : ℕ
+
+-- one look more; at the greatest count it stays
+abbrev pub one_more : ℕ → ℕ
+one_more looks = if nat_lt looks (2 ^ 128 - 1) then looks + 1 else looks
+
+-- the source after a look at the byte of that index, from 0
+abbrev pub looked : Told → ℕ → Told
+looked told index = record { text = told.text; looks = one_more told.looks; farthest = max told.farthest (index + 1) }

@@ -1,0 +1,16 @@
+//! JSONPath (RFC 9535) over `serde_json` values: which nodes of a document are meant, in which order and where.
+#![tactic(auto)]
+
+mod error;
+mod parser;
+mod path;
+mod source;
+
+pub use error::{ParseError, ParseErrorKind};
+pub use parser::parse_source;
+pub use path::JsonPath;
+pub use serde_json_path_core::QueryError;
+pub use serde_json_path_nodes::{
+    LocatedNode, LocatedNodeList, LocatedNodes, NormalizedPath, PathElement, PathElements,
+};
+pub use source::{PathSource, TextSource};

@@ -1,0 +1,46 @@
+//! Reading a path, from left to right and each byte once.
+
+mod decode;
+mod primitive;
+mod query;
+mod reader;
+mod segment;
+
+ghost use Rattle.std.specs.Prelude.{◌≡◌, ◌+◌, ◌-◌, ◌*◌, ◌^◌, ◌≤◌, max, true, length, IfErr};
+ghost use Rattle.serde_json_path_core.specs.Functions.{builtin_signature};
+ghost use Rattle.serde_json_path.specs.Errors.{kind_of, position_of, is_told_at_next};
+ghost use Rattle.serde_json_path.specs.Parse.{IsParseOf};
+
+use crate::error::{ParseError, Stop};
+use crate::parser::query::query;
+use crate::parser::reader::Reader;
+use crate::path::JsonPath;
+use crate::source::PathSource;
+use std::alloc::Global;
+
+/// Reads the path that a source tells, from left to right by its `byte` alone; the first refusal that is met is told.
+///
+/// A text of `usize::MAX` bytes, whose end would have no position, is refused as `NoMemory` before any look.
+pub fn parse_source<S: PathSource>(alloc: Global, source: &mut S) -> Result<JsonPath, ParseError>
+    ensures parse { IsParseOf builtin_signature (S.told source.old).text result }
+    // The source still tells its text.
+    ensures same_text { (S.told source.new).text ≡ (S.told source.old).text }
+    // However the parse ends, there are at most 32(n + 1) looks more at n bytes.
+    ensures looks { (S.told source.new).looks ≤ (S.told source.old).looks + 32 * (length (S.told source.old).text + 1) }
+    // Of four kinds nothing beyond the byte behind the position was looked at.
+    ensures farthest { IfErr result (λ e. is_told_at_next (kind_of e) ≡ true
+        → (S.told source.new).farthest ≤ max (S.told source.old).farthest (position_of e + 1)) }
+    ensures unseen { length (S.told source.old).text ≡ 2 ^ 64 - 1 → S.told source.new ≡ S.told source.old }
+{
+    if source.len() == usize::MAX {
+        return Err(Stop::Memory.in_text(0));
+    }
+    let mut reader = Reader::new(source);
+    let read = query(alloc, &mut reader);
+    let total = reader.len();
+    reader.close();
+    match read {
+        Ok(checked) => Ok(JsonPath { checked }),
+        Err(stop) => Err(stop.in_text(total)),
+    }
+}

@@ -1,0 +1,4 @@
+//! The pieces of a path's text.
+
+pub(crate) mod int;
+pub(crate) mod name;

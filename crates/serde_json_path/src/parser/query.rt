@@ -1,0 +1,64 @@
+//! The whole query.
+
+ghost use Rattle.std.specs.Prelude.{◌≡◌, false, IfErr};
+ghost use Rattle.serde_json_path_core.specs.Parts.{KeepsParts};
+ghost use Rattle.serde_json_path.specs.Giving.{MakesSegments, GivesQuery, IsNear, IsRefused};
+ghost use Rattle.serde_json_path.specs.Parsing.{segments_at, path_at, opens_behind_root};
+ghost use Rattle.serde_json_path.specs.Reading.{left, Moves};
+
+use crate::error::{ParseErrorKind, Place, Stop};
+use crate::parser::reader::Reader;
+use crate::parser::segment::segment;
+use crate::source::PathSource;
+use serde_json_path_core::{Checked, Part, QueryKind, SyntaxBuilder};
+use std::alloc::Global;
+
+/// As many segments as there are.
+fn segments<S: PathSource>(
+    alloc: Global,
+    builder: &mut SyntaxBuilder,
+    reader: &mut Reader<'_, S>,
+) -> Result<Vec<Part>, Stop>
+    ensures moves { Moves reader.old reader.new }
+    ensures near { IsNear result reader.new }
+    ensures gives { MakesSegments builder.new result reader.new (segments_at (left reader.old)) }
+{
+    let mut parts = Vec::new(alloc);
+    'segments: while reader.sees_segment() {
+        let part = segment(alloc, builder, reader)?;
+        parts.push(part)?;
+    }
+    Ok(parts)
+}
+
+/// `$` and segments up to the end of the text (RFC 9535, section 2.1.1).
+///
+/// Memory is asked for only once a segment has begun.
+#[tactic(auto, unfolding(crate::specs::Parsing::path_at))]
+pub(crate) fn query<S: PathSource>(
+    alloc: Global,
+    reader: &mut Reader<'_, S>,
+) -> Result<Checked, Stop>
+    ensures moves { Moves reader.old reader.new }
+    ensures near { IsNear result reader.new }
+    ensures gives { GivesQuery result (path_at (left reader.old)) }
+    ensures spares { IfErr result (λ stop. opens_behind_root (left reader.old) ≡ false → IsRefused stop) }
+{
+    if !reader.sees(b'$') {
+        return Err(reader.refuse(ParseErrorKind::ExpectedRoot, Place::Path));
+    }
+    reader.take_char();
+    if !reader.sees_segment() {
+        if !reader.is_at_end() {
+            return Err(reader.refuse(ParseErrorKind::TextAfterPath, Place::Path));
+        }
+        return Ok(Checked::new(alloc));
+    }
+    let mut builder = SyntaxBuilder::new(alloc);
+    let parts = segments(alloc, &mut builder, reader)?;
+    if !reader.is_at_end() {
+        return Err(reader.refuse(ParseErrorKind::TextAfterPath, Place::Path));
+    }
+    let part = builder.query(QueryKind::Root, parts)?;
+    Ok(builder.finish(part))
+}

@@ -1,0 +1,161 @@
+//! A text that is read character by character, and each byte looked at once.
+
+ghost use Rattle.std.specs.Prelude.{◌≡◌, ◌==◌, ◌<◌, ◌≤◌, ◌+◌, ◌-◌, ◌^◌, ◌∷◌, length, slice_get, drop, true, max};
+ghost use Rattle.std.specs.Str.{is_utf8, chars};
+ghost use Rattle.std.specs.Char.{IsScalar};
+ghost use Rattle.serde_json_path.specs.Lexical.{begins, is_digit, is_name_first, is_name_char};
+ghost use Rattle.serde_json_path.specs.Ahead.{IsAhead};
+
+use crate::error::{ParseErrorKind, Place, Refusal, Stop};
+use crate::parser::decode::{byte_at, character_at};
+use crate::source::PathSource;
+
+/// A text with one byte of look-ahead. A character is decoded only when it is taken, so that no byte beyond the next
+/// one is looked at.
+pub(crate) struct Reader<'s, S: PathSource> {
+    pub(crate) source: &'s mut S,
+    index: usize,
+    next: Option<u8>,
+    ghost short: { length (S.told source.now).text < 2 ^ 64 - 1 },
+    ghost within: { index ≤ length (S.told source.now).text },
+    ghost utf8: { is_utf8 (drop index (S.told source.now).text) ≡ true },
+    ghost next_is: { next ≡ slice_get (S.told source.now).text index },
+}
+
+impl<'s, S: PathSource> Reader<'s, S> {
+    ghost use Rattle.std.specs.Str.{encode_utf8_all};
+    ghost use Rattle.serde_json_path.specs.Parsing.{refusal, opens};
+    ghost use Rattle.serde_json_path.specs.Reading.{told, left, seen, Moves};
+    ghost use Rattle.serde_json_path.specs.Giving.{StopsNear};
+
+    /// A reader at the start of a text.
+    pub(crate) fn new(source: &'s mut S) -> Reader<'s, S>
+        requires { length (S.told source.old).text < 2 ^ 64 - 1 }
+        ensures same_source { result.source.ghost_name ≡ source.entry.ghost_name }
+        ensures same_text { (told result).text ≡ (S.told source.old).text }
+        ensures left { left result ≡ chars (S.told source.old).text }
+        ensures looks { (told result).looks ≤ (S.told source.old).looks + seen result }
+        ensures farthest { (told result).farthest ≤ max (S.told source.old).farthest (seen result) }
+    {
+        let _len = source.len();
+        let next = byte_at(source, 0);
+        Reader {
+            source,
+            index: 0,
+            next,
+        }
+    }
+
+    /// The byte that is next.
+    fn peek(&self) -> Option<u8>
+        ensures { IsAhead result (left self.now) }
+    {
+        self.next
+    }
+
+    /// Takes the next character.
+    pub(crate) fn take_char(&mut self) -> char
+        requires { 0 < length (left self.old) }
+        ensures value { left self.old ≡ result ∷ left self.new }
+        ensures scalar { IsScalar result }
+        ensures moves { Moves self.old self.new }
+    {
+        let lead = self.next.unwrap();
+        let (c, width) = character_at(self.source, self.index, lead);
+        let index = self.index + width;
+        let next = byte_at(self.source, index);
+        self.index = index;
+        self.next = next;
+        c
+    }
+
+    /// How many bytes are left.
+    pub(crate) fn bytes_left(&self) -> usize
+        ensures value { result ≡ length (encode_utf8_all (left self.now)) }
+        ensures sum { result + self.now.index ≡ length (told self.now).text }
+    {
+        self.source.len() - self.index
+    }
+
+    /// A refusal at the next character.
+    pub(crate) fn refuse(&self, kind: ParseErrorKind, place: Place) -> Stop
+        ensures value { result ≡ Stop.Refused (refusal kind place (left self.now)) }
+        ensures near { StopsNear result self.now }
+    {
+        Stop::Refused(Refusal {
+            kind,
+            place,
+            left: self.bytes_left(),
+        })
+    }
+
+    /// Whether this ASCII character is next.
+    pub(crate) fn sees(&self, b: u8) -> bool
+        requires { b < 128 }
+        ensures { result ≡ begins (λ c. c == b) (left self.now) }
+    {
+        match self.peek() {
+            Some(next) => next == b,
+            None => false,
+        }
+    }
+
+    /// Whether a digit is next.
+    pub(crate) fn sees_digit(&self) -> bool
+        ensures { result ≡ begins is_digit (left self.now) }
+    {
+        match self.peek() {
+            Some(next) => next.is_ascii_digit(),
+            None => false,
+        }
+    }
+
+    /// Whether a member name begins here.
+    pub(crate) fn sees_name_first(&self) -> bool
+        ensures { result ≡ begins is_name_first (left self.now) }
+    {
+        match self.peek() {
+            Some(next) => next.is_ascii_alphabetic() || next == b'_' || next >= 128,
+            None => false,
+        }
+    }
+
+    /// Whether a member name goes on here.
+    pub(crate) fn sees_name_char(&self) -> bool
+        ensures { result ≡ begins is_name_char (left self.now) }
+    {
+        self.sees_name_first() || self.sees_digit()
+    }
+
+    /// Whether a segment begins here.
+    pub(crate) fn sees_segment(&self) -> bool
+        ensures { result ≡ begins opens (left self.now) }
+    {
+        self.sees(b'.') || self.sees(b'[')
+    }
+
+    /// Whether the text ends here.
+    pub(crate) fn is_at_end(&self) -> bool
+        ensures { result ≡ (length (left self.now) == 0) }
+    {
+        self.peek().is_none()
+    }
+
+    /// The length of the text in bytes.
+    pub(crate) fn len(&self) -> usize
+        ensures { result ≡ length (told self.now).text }
+    {
+        self.source.len()
+    }
+
+    /// Gives the source back to its owner.
+    pub(crate) fn close(self)
+        ensures { self.exit.0.now ≡ self.entry.source.now }
+    {
+        let Reader {
+            source: _,
+            index: _,
+            next: _,
+        } = self;
+    }
+}

@@ -1,0 +1,58 @@
+//! Paths.
+
+ghost use Rattle.std.specs.Prelude.{◌≡◌, IfOk, IfErr};
+ghost use Rattle.serde_json.specs.View.{view};
+ghost use Rattle.serde_json_path_nodes.specs.Views.{located_nodes};
+ghost use Rattle.serde_json_path_core.specs.Functions.{FunctionSet, builtin_signature};
+ghost use Rattle.serde_json_path_core.specs.Meaning.{IsResult};
+ghost use Rattle.serde_json_path_core.specs.declared.error.QueryError.TheVariants.{Memory};
+
+use crate::error::ParseError;
+use crate::parser::parse_source;
+use crate::source::TextSource;
+use serde_json::Value;
+use serde_json_path_core::{Checked, QueryError, evaluate_located};
+use serde_json_path_nodes::LocatedNodeList;
+use std::alloc::Global;
+
+/// A JSONPath (RFC 9535).
+///
+/// ```text
+/// let path = JsonPath::parse(alloc, "$.foo.bar[0]")?;
+/// for node in path.query_located(alloc, &document)?.iter() {
+///     println!(rt; "{}", node.location())?;
+/// }
+/// ```
+#[derive(Drop)]
+pub struct JsonPath {
+    pub(crate) checked: Checked,
+}
+
+impl JsonPath {
+    ghost use Rattle.serde_json_path.specs.Parse.{IsParseOf};
+    ghost use Rattle.serde_json_path.specs.Paths.{path_tree};
+
+    /// Reads a path, as `parse_source` does.
+    pub fn parse(alloc: Global, path_str: &str) -> Result<JsonPath, ParseError>
+        ensures parse { IsParseOf builtin_signature path_str.now result }
+    {
+        let mut source = TextSource::new(path_str);
+        parse_source(alloc, &mut source)
+    }
+
+    /// What the path selects from a document, with locations, in order (RFC 9535, section 2.1.2).
+    ///
+    /// The nodes and the names of their locations borrow the document. An error comes only where memory is refused;
+    /// then there is no list.
+    pub fn query_located<'b>(
+        &self,
+        alloc: Global,
+        value: &'b Value,
+    ) -> Result<LocatedNodeList<'b>, QueryError>
+        // Under every function set, as no path of the open forms calls a function.
+        ensures selects { IfOk result (λ list. (F : FunctionSet) → IsResult F (view value.now) (path_tree self.now) (view value.now) (located_nodes list)) }
+        ensures refused { IfErr result (λ e. e ≡ Memory) }
+    {
+        evaluate_located(alloc, &self.checked, value, value)
+    }
+}
