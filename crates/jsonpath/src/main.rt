@@ -1,0 +1,31 @@
+//! `jsonpath PATH` prints the nodes of the JSON document on standard input that a path selects.
+#![tactic(auto)]
+
+mod report;
+mod run;
+
+use std::alloc::Global;
+use std::env;
+use std::process::ExitCode;
+
+/// The words behind the program's name, or none where they cannot be read.
+fn words(rt: &HostRuntime) -> Vec<String> {
+    let mut words = Vec::new(rt.alloc());
+    if let Ok(args) = env::args(rt) {
+        for word in args.skip(1) {
+            if words.push(word).is_err() {
+                return Vec::new(rt.alloc());
+            }
+        }
+    }
+    words
+}
+
+fn main(rt: HostRuntime) -> ExitCode {
+    let words = words(&rt);
+    let mut input = rt.stdin();
+    let mut out = rt.stdout();
+    let mut err = rt.stderr();
+    let status = run::run(rt.alloc(), &words, &mut input, &mut out, &mut err);
+    ExitCode::from(status)
+}

@@ -1,0 +1,111 @@
+//! The lines that are made of a path and a document.
+
+ghost use Rattle.std.specs.Prelude.{◌≡◌, ◌++◌, ℕ, List, IfOk, OnOk, string_bytes};
+ghost use Rattle.serde_json.specs.Data.{Data};
+ghost use Rattle.serde_json.specs.View.{view};
+ghost use Rattle.serde_json_path_nodes.specs.Views.{located, located_nodes};
+ghost use Rattle.serde_json_path_core.specs.Functions.{builtin_signature};
+ghost use Rattle.serde_json_path.specs.Parse.{IsParseOf};
+ghost use Rattle.serde_json_path.specs.declared.error.ParseError as path_error;
+ghost use Rattle.jsonpath.specs.Report.{ReadsAs, IsLineOf, AreLinesOf, IsReportOf};
+
+use serde_json::Value;
+use serde_json_path::{JsonPath, LocatedNode, LocatedNodeList, ParseError, QueryError};
+use std::alloc::{AllocError, Global};
+use thiserror::Error;
+
+/// Why a document is refused.
+#[derive(Debug, Drop, Error)]
+pub enum DocumentError {
+    /// The bytes are no JSON text.
+    #[error("not JSON")]
+    NotJson,
+    /// Memory was refused.
+    #[error("no memory")]
+    Memory,
+}
+
+/// Why there are no lines.
+#[derive(Debug, Drop, Error)]
+pub enum ReportError {
+    /// The path is refused.
+    #[error("{0}")]
+    Path(ParseError),
+    /// The document is refused.
+    #[error("{0}")]
+    Document(DocumentError),
+    /// The query is refused, or memory for the lines.
+    #[error("{0}")]
+    Query(QueryError),
+}
+
+/// Reads a document.
+fn document(alloc: Global, bytes: &[u8]) -> Result<Value, DocumentError>
+    ensures ok { IfOk result (λ value. ReadsAs bytes.now (view value)) }
+    ensures not_json { result ≡ Err DocumentError.NotJson → (d : Data) → ReadsAs bytes.now d → ⊥ }
+{
+    match Value::from_slice(alloc, bytes) {
+        Ok(value) => Ok(value),
+        Err(e) => {
+            if e.is_memory() {
+                Err(DocumentError::Memory)
+            } else {
+                Err(DocumentError::NotJson)
+            }
+        }
+    }
+}
+
+/// Puts a node's line behind the text: its normalised path, a tab, its compact JSON and a line feed.
+fn push_line(alloc: Global, text: &mut String, node: &LocatedNode<'_>) -> Result<(), AllocError>
+    ensures { OnOk result ((line : List ℕ) × IsLineOf (located node.now) line × (string_bytes text.new ≡ string_bytes text.old ++ line)) }
+{
+    write!(text, "{}\t", node.location())?;
+    let json = node.node().to_string(alloc)?;
+    text.push_str(json.as_str())?;
+    text.push('\n')?;
+    Ok(())
+}
+
+/// One line for each node, in order.
+fn lines(alloc: Global, nodes: &LocatedNodeList<'_>) -> Result<String, AllocError>
+    ensures { IfOk result (λ text. AreLinesOf (located_nodes nodes.now) (string_bytes text)) }
+{
+    let mut text = String::new(alloc);
+    for node in nodes.iter() {
+        push_line(alloc, &mut text, node)?;
+    }
+    Ok(text)
+}
+
+/// One line for each node of the document that the path selects, in order: its normalised path, a tab, its compact JSON
+/// and a line feed.
+///
+/// The path is read first, then the document, and then the query runs.
+///
+/// ```text
+/// report(alloc, "$.foo.bar[0]", b"{\"foo\":{\"bar\":[\"baz\",42]}}")
+/// gives $['foo']['bar'][0]<tab>"baz"
+/// ```
+pub fn report(alloc: Global, path: &str, document: &[u8]) -> Result<String, ReportError>
+    ensures lines { IfOk result (λ text. IsReportOf path.now document.now (string_bytes text)) }
+    ensures path_refused { (e : path_error.ParseError) → result ≡ Err (ReportError.Path e) → IsParseOf builtin_signature path.now (Err e) }
+    ensures not_json { result ≡ Err (ReportError.Document DocumentError.NotJson) → (d : Data) → ReadsAs document.now d → ⊥ }
+{
+    let path = match JsonPath::parse(alloc, path) {
+        Ok(path) => path,
+        Err(e) => return Err(ReportError::Path(e)),
+    };
+    let value = match self::document(alloc, document) {
+        Ok(value) => value,
+        Err(e) => return Err(ReportError::Document(e)),
+    };
+    let nodes = match path.query_located(alloc, &value) {
+        Ok(nodes) => nodes,
+        Err(e) => return Err(ReportError::Query(e)),
+    };
+    match lines(alloc, &nodes) {
+        Ok(text) => Ok(text),
+        Err(_) => Err(ReportError::Query(QueryError::Memory)),
+    }
+}

@@ -1,0 +1,87 @@
+//! The program over a reader and two writers.
+
+ghost use Rattle.std.specs.Prelude.{◌≡◌, ◌≢◌, ◌↔◌, length};
+
+use crate::report::{ReportError, report};
+use std::alloc::Global;
+use std::io::{Read, Write};
+
+/// The status of a run that wrote its lines.
+const DONE: u8 = 0;
+/// The status where the path is refused.
+const PATH_REFUSED: u8 = 1;
+/// The status where the document is refused.
+const DOCUMENT_REFUSED: u8 = 2;
+/// The status where the query is refused or the lines could not be written.
+const QUERY_REFUSED: u8 = 3;
+/// The status where there is not exactly one word.
+const USAGE: u8 = 64;
+
+/// Tells a refusal in one line, and answers its status. Where the line cannot be written the status stays.
+fn refuse<E: Write>(err: &mut E, e: &ReportError) -> u8
+    ensures { result ≢ 64 }
+{
+    match e {
+        ReportError::Path(e) => {
+            let _ = writeln!(err, "jsonpath: path: {e}");
+            PATH_REFUSED
+        }
+        ReportError::Document(e) => {
+            let _ = writeln!(err, "jsonpath: document: {e}");
+            DOCUMENT_REFUSED
+        }
+        ReportError::Query(e) => {
+            let _ = writeln!(err, "jsonpath: query: {e}");
+            QUERY_REFUSED
+        }
+    }
+}
+
+/// Writes the lines, and answers the status.
+fn print<W: Write, E: Write>(lines: &str, out: &mut W, err: &mut E) -> u8
+    ensures { result ≢ 64 }
+{
+    let written = out.write_all(lines.as_bytes());
+    if written.is_ok() && out.flush().is_ok() {
+        return DONE;
+    }
+    let _ = writeln!(err, "jsonpath: output failed");
+    QUERY_REFUSED
+}
+
+/// The program: `jsonpath PATH` with a document as its input. Answers the status.
+///
+/// With exactly one word the input is read to its end, the path and the document are read, all lines are made, and then
+/// they are written. Any fault goes to `err` in one line, and nothing to `out`:
+///
+/// | Status | When |
+/// |---|---|
+/// | 0 | done, also for no node |
+/// | 1 | the path is refused |
+/// | 2 | the document is refused, or the input cannot be read |
+/// | 3 | the query is refused; or writing failed, where a part may have gone out |
+/// | 64 | there is not exactly one word; the input is not read |
+pub fn run<R: Read, W: Write, E: Write>(
+    alloc: Global,
+    words: &[String],
+    input: &mut R,
+    out: &mut W,
+    err: &mut E,
+) -> u8
+    ensures usage { (result ≡ 64) ↔ (length words.now ≢ 1) }
+    ensures unread { length words.now ≢ 1 → input.new ≡ input.old }
+{
+    let [path] = words else {
+        let _ = writeln!(err, "usage: jsonpath PATH");
+        return USAGE;
+    };
+    let mut document = Vec::new(alloc);
+    if input.read_to_end(&mut document).is_err() {
+        let _ = writeln!(err, "jsonpath: document: cannot be read");
+        return DOCUMENT_REFUSED;
+    }
+    match report(alloc, path.as_str(), document.as_slice()) {
+        Ok(lines) => print(lines.as_str(), out, err),
+        Err(e) => refuse(err, &e),
+    }
+}
