@@ -29,3 +29,6 @@ fn main(rt: HostRuntime) -> ExitCode {
     let status = run::run(rt.alloc(), &words, &mut input, &mut out, &mut err);
     ExitCode::from(status)
 }
+
+#[cfg(test)]
+mod tests;

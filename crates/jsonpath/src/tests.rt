@@ -1,0 +1,4 @@
+//! Worked rows, as tables by subject.
+
+mod paths;
+mod program;

@@ -1,0 +1,136 @@
+//! Runs of the program over a reader and writers in memory.
+
+use crate::run::run;
+use std::alloc::Global;
+use std::io;
+use std::io::{Read, Write};
+use std::test::Fail;
+
+/// A reader that counts its reads and may fail at one of them.
+#[derive(Drop)]
+struct Input<'a> {
+    left: &'a [u8],
+    reads: usize,
+    fails_at: usize,
+}
+
+impl<'a> Input<'a> {
+    fn of(left: &'a [u8]) -> Input<'a> {
+        Input {
+            left,
+            reads: 0,
+            fails_at: usize::MAX,
+        }
+    }
+}
+
+impl Read for Input<'_> {
+    fn read(&mut self, buf: &mut [u8]) -> io::Result<usize> {
+        let read = self.reads;
+        self.reads = read.saturating_add(1);
+        if read == self.fails_at {
+            return Err(io::Error::from(io::ErrorKind::InvalidData));
+        }
+        self.left.read(buf)
+    }
+}
+
+/// A writer whose writes fail.
+#[derive(Drop)]
+struct Broken;
+
+impl Write for Broken {
+    fn write(&mut self, _buf: &[u8]) -> io::Result<usize> {
+        Err(io::Error::from(io::ErrorKind::BrokenPipe))
+    }
+
+    fn flush(&mut self) -> io::Result<()> {
+        Ok(())
+    }
+}
+
+fn words(alloc: Global, of: &[&str]) -> Result<Vec<String>, std::alloc::AllocError> {
+    let mut words = Vec::new(alloc);
+    for word in of {
+        words.push(String::from_str(alloc, word)?)?;
+    }
+    Ok(words)
+}
+
+/// The words, the input, and the status with what goes out and what is told.
+const RUNS: [(&[&str], &str, u8, &str, &str); 9] = [
+    (&["$.a"], r#"{"a":[1]}"#, 0, "$['a']\t[1]\n", ""),
+    (&["$.b"], r#"{"a":[1]}"#, 0, "", ""),
+    (&["$"], "null", 0, "$\tnull\n", ""),
+    (&["$.a"], "{", 2, "", "jsonpath: document: not JSON\n"),
+    (&["$"], "1 2", 2, "", "jsonpath: document: not JSON\n"),
+    (
+        &["x"],
+        "{",
+        1,
+        "",
+        "jsonpath: path: at position 1, expected '$'\n",
+    ),
+    (
+        &[""],
+        "null",
+        1,
+        "",
+        "jsonpath: path: at position 1, expected '$'\n",
+    ),
+    (&[], "null", 64, "", "usage: jsonpath PATH\n"),
+    (&["$", "$"], "null", 64, "", "usage: jsonpath PATH\n"),
+];
+
+#[test]
+fn statuses_and_texts(rt: HostRuntime) -> Result<(), Fail> {
+    for (given, document, status, printed, told) in RUNS {
+        let mut input = Input::of(document.as_bytes());
+        let mut out = Vec::new(rt.alloc());
+        let mut err = Vec::new(rt.alloc());
+        let words = words(rt.alloc(), given)?;
+        let answer = run(rt.alloc(), &words, &mut input, &mut out, &mut err);
+        assert_eq!(rt; answer, status, "{document}");
+        assert_eq!(rt; out.as_slice(), printed.as_bytes());
+        assert_eq!(rt; err.as_slice(), told.as_bytes());
+        assert_eq!(rt; input.reads == 0, status == 64, "{document}");
+    }
+    Ok(())
+}
+
+#[test]
+fn failing_reads_and_writes(rt: HostRuntime) -> Result<(), Fail> {
+    let path = words(rt.alloc(), &["x"])?;
+    let mut input = Input::of(b"null");
+    input.fails_at = 0;
+    let mut out = Vec::new(rt.alloc());
+    let mut err = Vec::new(rt.alloc());
+    let status = run(rt.alloc(), &path, &mut input, &mut out, &mut err);
+    assert_eq!(rt; status, 2);
+    assert_eq!(rt; out.len(), 0);
+    assert_eq!(rt;
+        err.as_slice(),
+        b"jsonpath: document: cannot be read\n".as_slice()
+    );
+
+    let root = words(rt.alloc(), &["$"])?;
+    let mut told = Vec::new(rt.alloc());
+    let status = run(
+        rt.alloc(),
+        &root,
+        &mut Input::of(b"1"),
+        &mut Broken,
+        &mut told,
+    );
+    assert_eq!(rt; status, 3);
+    assert_eq!(rt; told.as_slice(), b"jsonpath: output failed\n".as_slice());
+    let status = run(
+        rt.alloc(),
+        &root,
+        &mut Input::of(b"1"),
+        &mut Broken,
+        &mut Broken,
+    );
+    assert_eq!(rt; status, 3);
+    Ok(())
+}
