@@ -1,9 +1,16 @@
 //! The program over a reader and two writers.
 
-ghost use Rattle.std.specs.Prelude.{◌≡◌, ◌≢◌, ◌↔◌, length};
+ghost use Rattle.std.specs.Prelude.{◌≡◌, ◌≢◌, ◌↔◌, ◌⊎◌, ℕ, List, length, IfSome, OnOk};
+ghost use Rattle.std.specs.Io.KnownBytes.{Appends, IsAtEnd};
+ghost use Rattle.serde_json_path_core.specs.Functions.{builtin_signature};
+ghost use Rattle.serde_json_path.specs.Parse.{IsParseOf};
+ghost use Rattle.serde_json_path.specs.declared.error.ParseError.{ParseError};
+ghost use Rattle.jsonpath.specs.Report.{IsReportOf};
+ghost use Rattle.jsonpath.specs.Run.{status_of, IsOneWord};
 
 use crate::report::{ReportError, report};
 use std::alloc::Global;
+use std::io;
 use std::io::{Read, Write};
 
 /// The status of a run that wrote its lines.
@@ -19,7 +26,7 @@ const USAGE: u8 = 64;
 
 /// Tells a refusal in one line, and answers its status. Where the line cannot be written the status stays.
 fn refuse<E: Write>(err: &mut E, e: &ReportError) -> u8
-    ensures { result ≢ 64 }
+    ensures { result ≡ status_of e.now }
 {
     match e {
         ReportError::Path(e) => {
@@ -37,12 +44,21 @@ fn refuse<E: Write>(err: &mut E, e: &ReportError) -> u8
     }
 }
 
+/// Writes the lines through to where they go.
+fn write_lines<W: Write>(lines: &str, out: &mut W) -> io::Result<()>
+    ensures { OnOk result (Appends (W.contents out.old) (W.contents out.new) lines.now) }
+{
+    out.write_all(lines.as_bytes())?;
+    out.flush()
+}
+
 /// Writes the lines, and answers the status.
 fn print<W: Write, E: Write>(lines: &str, out: &mut W, err: &mut E) -> u8
-    ensures { result ≢ 64 }
+    ensures either { (result ≡ 0) ⊎ (result ≡ 3) }
+    ensures written { result ≡ 0 → Appends (W.contents out.old) (W.contents out.new) lines.now }
+    ensures silent { result ≡ 0 → err.new ≡ err.old }
 {
-    let written = out.write_all(lines.as_bytes());
-    if written.is_ok() && out.flush().is_ok() {
+    if write_lines(lines, out).is_ok() {
         return DONE;
     }
     let _ = writeln!(err, "jsonpath: output failed");
@@ -70,6 +86,16 @@ pub fn run<R: Read, W: Write, E: Write>(
 ) -> u8
     ensures usage { (result ≡ 64) ↔ (length words.now ≢ 1) }
     ensures unread { length words.now ≢ 1 → input.new ≡ input.old }
+    // A path is refused only as the parse refuses it.
+    ensures path_refused { result ≡ 1 → (path : List ℕ) × IsOneWord words.now path × ((e : ParseError) × IsParseOf builtin_signature path (Err e)) }
+    // Nothing goes out but the lines of a run that is done, or a part of them where writing failed.
+    ensures nothing_out { result ≢ 0 → result ≢ 3 → out.new ≡ out.old }
+    // Of a run that is done, over a reader and a writer that tell their bytes: the input was read to its end, its report
+    // went out, and nothing else.
+    ensures read_whole { result ≡ 0 → IsAtEnd (R.remaining input.new) }
+    ensures report_out { result ≡ 0 → (document text path : List ℕ) × IsOneWord words.now path × IfSome (R.remaining input.old) (λ bytes. document ≡ bytes)
+        × IsReportOf path document text × Appends (W.contents out.old) (W.contents out.new) text }
+    ensures nothing_told { result ≡ 0 → err.new ≡ err.old }
 {
     let [path] = words else {
         let _ = writeln!(err, "usage: jsonpath PATH");
