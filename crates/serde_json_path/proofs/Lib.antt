@@ -8,3 +8,4 @@ pub mod PartLists
 pub mod Places
 pub mod Runs
 pub mod Sound
+mod Worked

@@ -5,3 +5,4 @@ pub mod Narrow
 pub mod NamedSegments
 pub mod Order
 pub mod Singular
+mod Worked

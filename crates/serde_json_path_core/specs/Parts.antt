@@ -11,6 +11,10 @@ use Rattle.serde_json_path_core.specs.declared.syntax.checked.Checked.{Checked}
 abbrev pub IsPart : SyntaxBuilder → Part → Piece → Type 0
 IsPart builder part piece = (part.number < length builder.nodes.items) × (piece_at builder.nodes.items part.number ≡ piece)
 
+-- no part is good for the builder
+abbrev pub HasNoParts : SyntaxBuilder → Type 0
+HasNoParts builder = (part : Part) (piece : Piece) → IsPart builder part piece → ⊥
+
 -- the parts stand for the segments, one for each
 abbrev pub ArePartsOf : SyntaxBuilder → List Part → Segments → Type 0
 ArePartsOf builder [] no_segments = Unit {0}

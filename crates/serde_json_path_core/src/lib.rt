@@ -6,6 +6,8 @@ mod error;
 mod evaluate;
 mod laws;
 mod syntax;
+#[cfg(test)]
+mod tests;
 
 pub use error::QueryError;
 pub use evaluate::evaluate_located;

@@ -1,6 +1,8 @@
 -- The derived `==` of elements answers as `same_step` does of their steps.
-use Rattle.std.proofs.Common.{◌≡◌, List, [], ◌∷◌, map, refl}
-use Rattle.std.specs.Cmp.Lexicographic.{pointwise}
+use Rattle.std.proofs.Common.{◌≡◌, ℕ, zero, suc, ◌-◌, Bool, true, false, true≢false, List, [], ◌∷◌, length, map, slice_get, Option, Some, None, Bor, refl, sym, ◌∙◌}
+use Rattle.std.proofs.lemmas.Bool.{and_parts}
+use Rattle.std.specs.Option.{option_eq, option_copied}
+use Rattle.std.specs.Cmp.Lexicographic.{pointwise, as_long}
 use Rattle.serde_json_path_nodes.specs.Same.{same_step, same_steps}
 use Rattle.serde_json_path_nodes.specs.Views.{step_view}
 use Rattle.serde_json_path_nodes.specs.declared.path_element.PathElement.{PathElement}
@@ -18,3 +20,37 @@ elements-same_steps [] [] = refl
 elements-same_steps [] (b ∷ bs) = refl
 elements-same_steps (a ∷ as_) [] = refl
 elements-same_steps (a ∷ as_) (b ∷ bs) = rw (eq-value-same_step a b, elements-same_steps as_ bs)
+
+-- lists that are alike answer alike at each place
+alike-slice_get : (a b : List PathElement) (n : ℕ) → pointwise eq-value.it a b ≡ true → option_eq eq-value.it (slice_get a n) (slice_get b n) ≡ true
+alike-slice_get [] [] n alike = refl
+alike-slice_get [] (y ∷ ys) n alike = absurd (cc)
+alike-slice_get (x ∷ xs) [] n alike = absurd (cc)
+alike-slice_get (x ∷ xs) (y ∷ ys) zero alike = (and_parts (eq-value.it x y) (pointwise eq-value.it xs ys) alike).0
+alike-slice_get (x ∷ xs) (y ∷ ys) (suc n) alike = alike-slice_get xs ys n ((and_parts (eq-value.it x y) (pointwise eq-value.it xs ys) alike).1)
+
+-- the same of references to elements
+option_eq-now : (r s : Option (Bor PathElement)) → option_eq (λ x y. eq-value.it x.now y.now) r s ≡ option_eq eq-value.it (option_copied r) (option_copied s)
+option_eq-now None None = refl
+option_eq-now None (Some y) = refl
+option_eq-now (Some x) None = refl
+option_eq-now (Some x) (Some y) = refl
+
+-- a test that is never true answers false
+false_unless : (test : Bool) → (test ≡ true → ⊥) → false ≡ test
+false_unless true never = absurd (never refl)
+false_unless false never = refl
+
+-- locations of different lengths differ
+pub lengths_differ : (a b : List PathElement) → (length a ≡ length b → ⊥) → false ≡ same_steps (map step_view a) (map step_view b)
+lengths_differ a b differ = false_unless _ (λ alike. differ (as_long eq-value.it a b (elements-same_steps a b ∙ alike)))
+
+-- locations with different last steps differ
+pub lasts_differ : (a b : List PathElement) (r s : Option (Bor PathElement)) → length a ≡ length b
+    → option_copied r ≡ slice_get a (length a - 1) → option_copied s ≡ slice_get b (length b - 1)
+    → option_eq (λ x y. eq-value.it x.now y.now) r s ≡ false
+    → false ≡ same_steps (map step_view a) (map step_view b)
+lasts_differ a b r s long last_a last_b differ =
+    let ends : option_eq eq-value.it (slice_get a (length a - 1)) (slice_get b (length a - 1)) ≡ false =
+    rw (← last_a, long, ← last_b, ← option_eq-now) differ in
+    false_unless _ (λ alike. true≢false (sym (alike-slice_get a b (length a - 1) (elements-same_steps a b ∙ alike)) ∙ ends))

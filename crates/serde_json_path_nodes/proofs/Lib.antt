@@ -1,2 +1,6 @@
 mod Equal
+mod Escapes
+mod FirstPlaces
+mod Pointers
 mod Quotes
+mod TextsApart

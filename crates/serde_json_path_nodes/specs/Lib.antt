@@ -1,3 +1,5 @@
+pub mod Laws
+pub mod Lists
 pub mod Place
 pub mod Same
 pub mod Text

@@ -5,6 +5,8 @@ use Rattle.std.specs.Str.{chars}
 use Rattle.std.specs.Char.{encode_utf8, digit_char}
 use Rattle.std.specs.Fmt.{decimal}
 use Rattle.serde_json_path_nodes.specs.Place.{Step, by_name, by_position}
+use Rattle.serde_json_path_nodes.specs.declared.error.ExactlyOneError.{ExactlyOneError}
+use Rattle.serde_json_path_nodes.specs.declared.error.ExactlyOneError.TheVariants.{Empty, MoreThanOne}
 
 -- `\u00` and two hexadecimal digits in lower case
 abbrev pub hexadecimal_escape : ℕ → List ℕ
@@ -52,3 +54,8 @@ pointer_step (by_position position) = codes "/" ++ decimal position
 -- the JSON pointer of a location; that of the root is empty
 abbrev pub pointer : List Step → List ℕ
 pointer location = flat_map pointer_step location
+
+-- the text of an error where exactly one node was expected
+abbrev pub exactly_one_text : ExactlyOneError → List ℕ
+exactly_one_text Empty = codes "one node expected, found none"
+exactly_one_text (MoreThanOne found) = codes "one node expected, found " ++ decimal found

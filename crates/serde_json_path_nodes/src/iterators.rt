@@ -1,10 +1,12 @@
 //! The iterators of locations and lists. Each ends after as many items as are left.
 
-ghost use Rattle.std.specs.Prelude.{◌≡◌, map};
-ghost use Rattle.std.specs.Iterator.{YieldsFirstBy, item_count};
+ghost use Rattle.std.specs.Prelude.{◌≡◌, ◌≤◌, length, map, IfSome};
+ghost use Rattle.std.specs.Iterator.{YieldsFirstRef, UpTo, at_most, item_count};
 
 use crate::located_node::LocatedNode;
+use crate::normalized_path::NormalizedPath;
 use crate::path_element::PathElement;
+use serde_json::Value;
 use std::marker::Model;
 use std::slice;
 
@@ -55,8 +57,13 @@ impl<'a, 'b> Iterator for PathElements<'a, 'b> {
         self.left.next().copied()
     }
 
-    fn size_hint(&self) -> (usize, Option<usize>) {
-        self.left.size_hint()
+    fn size_hint(&self) -> (usize, Option<usize>)
+        ensures lower { result.0 ≤ length self.now }
+        ensures upper { IfSome result.1 (UpTo (at_most (length self.now))) }
+        ensures exact { result ≡ (length self.now, Some (length self.now)) }
+    {
+        let len = self.left.len();
+        (len, Some(len))
     }
 }
 
@@ -97,12 +104,146 @@ impl<'a, 'b> Iterator for LocatedNodes<'a, 'b> {
         self.left.next()
     }
 
-    fn size_hint(&self) -> (usize, Option<usize>) {
-        self.left.size_hint()
+    fn size_hint(&self) -> (usize, Option<usize>)
+        ensures lower { result.0 ≤ length (located_nodes_left self.now) }
+        ensures upper { IfSome result.1 (UpTo (at_most (length (located_nodes_left self.now)))) }
+        ensures exact { result ≡ (length (located_nodes_left self.now), Some (length (located_nodes_left self.now))) }
+    {
+        let len = self.left.len();
+        (len, Some(len))
     }
 }
 
 impl<'a, 'b> ExactSizeIterator for LocatedNodes<'a, 'b> {
+    fn len(&self) -> usize {
+        self.left.len()
+    }
+}
+
+/// The nodes of a list, in order. Made by `NodeList::iter` and `LocatedNodeList::nodes`.
+#[derive(Drop)]
+pub struct Nodes<'a, 'b> {
+    store: Store<'a, 'b>,
+}
+
+// The nodes that are left, where they stand.
+#[derive(Drop)]
+enum Store<'a, 'b> {
+    Plain(slice::Iter<'a, &'b Value>),
+    Located(LocatedNodes<'a, 'b>),
+}
+
+impl<'a, 'b> Nodes<'a, 'b> {
+    ghost use Rattle.serde_json_path_nodes.specs.Views.{node_value, node_values_left, value_of, located_nodes_left};
+
+    // The iterator over these.
+    pub(crate) fn of_nodes(nodes: &'a [&'b Value]) -> Nodes<'a, 'b>
+        ensures { node_values_left result ≡ map node_value nodes.now }
+    {
+        Nodes {
+            store: Store::Plain(nodes.iter()),
+        }
+    }
+
+    // The iterator over the nodes of these.
+    pub(crate) fn of_located(located: LocatedNodes<'a, 'b>) -> Nodes<'a, 'b>
+        ensures { node_values_left result ≡ map value_of (located_nodes_left located.entry) }
+    {
+        Nodes {
+            store: Store::Located(located),
+        }
+    }
+}
+
+impl<'a, 'b> Iterator for Nodes<'a, 'b> {
+    ghost use Rattle.std.specs.Iterator.{YieldsFirstBy, item_count};
+    ghost use Rattle.serde_json_path_nodes.specs.Views.{node_value, node_values_left};
+
+    type Item = &'b Value;
+
+    ghost next_gives = { YieldsFirstBy node_value node_values_left };
+
+    ghost remaining = { item_count node_values_left };
+
+    fn next(&mut self) -> Option<&'b Value> {
+        match &mut self.store {
+            Store::Plain(nodes) => nodes.next().copied(),
+            Store::Located(nodes) => Some(nodes.next()?.node()),
+        }
+    }
+
+    fn size_hint(&self) -> (usize, Option<usize>)
+        ensures lower { result.0 ≤ length (node_values_left self.now) }
+        ensures upper { IfSome result.1 (UpTo (at_most (length (node_values_left self.now)))) }
+        ensures exact { result ≡ (length (node_values_left self.now), Some (length (node_values_left self.now))) }
+    {
+        let len = self.len();
+        (len, Some(len))
+    }
+}
+
+impl<'a, 'b> ExactSizeIterator for Nodes<'a, 'b> {
+    fn len(&self) -> usize {
+        match &self.store {
+            Store::Plain(nodes) => nodes.len(),
+            Store::Located(nodes) => nodes.len(),
+        }
+    }
+}
+
+/// The locations of a located list, in order. Made by `LocatedNodeList::locations`.
+///
+/// Contracts see it as the list of the locations that are left.
+#[derive(Drop)]
+pub struct Locations<'a, 'b> {
+    left: slice::Iter<'a, LocatedNode<'b>>,
+}
+
+impl<'a, 'b> Model for Locations<'a, 'b> {
+    ghost use Rattle.std.specs.Prelude.{List, map};
+    ghost use Rattle.std.specs.Slice.Iter.{iter_rest};
+    ghost use Rattle.serde_json_path_nodes.specs.Place.{Step};
+
+    ghost Value = { List (List Step) };
+
+    ghost use Rattle.serde_json_path_nodes.specs.Views.{located, location_of};
+
+    ghost view = { λ it. map location_of (map located (iter_rest it.left)) };
+}
+
+impl<'a, 'b> Locations<'a, 'b> {
+    ghost use Rattle.serde_json_path_nodes.specs.Views.{located, location_of};
+
+    // The iterator over the locations of these.
+    pub(crate) fn new(nodes: &'a [LocatedNode<'b>]) -> Locations<'a, 'b>
+        ensures { result ≡ map location_of (map located nodes.now) }
+    {
+        Locations { left: nodes.iter() }
+    }
+}
+
+impl<'a, 'b> Iterator for Locations<'a, 'b> {
+    type Item = &'a NormalizedPath<'b>;
+
+    ghost next_gives = { YieldsFirstRef (λ left. left) };
+
+    ghost remaining = { item_count (λ left. left) };
+
+    fn next(&mut self) -> Option<&'a NormalizedPath<'b>> {
+        Some(self.left.next()?.location())
+    }
+
+    fn size_hint(&self) -> (usize, Option<usize>)
+        ensures lower { result.0 ≤ length self.now }
+        ensures upper { IfSome result.1 (UpTo (at_most (length self.now))) }
+        ensures exact { result ≡ (length self.now, Some (length self.now)) }
+    {
+        let len = self.left.len();
+        (len, Some(len))
+    }
+}
+
+impl<'a, 'b> ExactSizeIterator for Locations<'a, 'b> {
     fn len(&self) -> usize {
         self.left.len()
     }

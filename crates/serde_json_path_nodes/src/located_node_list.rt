@@ -1,9 +1,13 @@
 //! Nodes with their locations.
 
-ghost use Rattle.std.specs.Prelude.{◌≡◌, ◌==◌, length, map};
+ghost use Rattle.std.specs.Prelude.{◌≡◌, ◌==◌, ◌≤◌, length, map, take, option_map, IfOk, IfErr};
+ghost use Rattle.serde_json_path_nodes.specs.Views.{located, location_of};
+ghost use Rattle.serde_json_path_nodes.specs.Lists.{first_places, is_among};
 
-use crate::iterators::LocatedNodes;
+use crate::error::{AtMostOneError, ExactlyOneError};
+use crate::iterators::{LocatedNodes, Locations, Nodes};
 use crate::located_node::LocatedNode;
+use crate::normalized_path::NormalizedPath;
 
 /// The nodes that a query selects with their locations, in order; a node may stand in it more than once
 /// (RFC 9535, section 1.1).
@@ -25,7 +29,8 @@ impl<'b> From<Vec<LocatedNode<'b>>> for LocatedNodeList<'b> {
 }
 
 impl<'b> LocatedNodeList<'b> {
-    ghost use Rattle.serde_json_path_nodes.specs.Views.{located_nodes, located_nodes_left};
+    ghost use Rattle.serde_json_path_nodes.specs.Views.{located, located_nodes, located_nodes_left, location_of, value_of, node_values_left};
+    ghost use Rattle.serde_json_path_nodes.specs.Lists.{first_places, at_most_one_of, exactly_one_of};
 
     /// How many entries there are, duplicates counted.
     pub fn len(&self) -> usize
@@ -47,4 +52,93 @@ impl<'b> LocatedNodeList<'b> {
     {
         LocatedNodes::new(self.nodes.as_slice())
     }
+
+    /// The nodes with their locations as a vector, in order. Takes no memory.
+    pub fn all(self) -> Vec<LocatedNode<'b>>
+        ensures { map located result.items ≡ located_nodes self.entry }
+    {
+        self.nodes
+    }
+
+    /// The nodes alone, in order.
+    pub fn nodes(&self) -> Nodes<'_, 'b>
+        ensures { node_values_left result ≡ map value_of (located_nodes self.now) }
+    {
+        Nodes::of_located(self.iter())
+    }
+
+    /// The locations alone, in order.
+    pub fn locations(&self) -> Locations<'_, 'b>
+        ensures { result ≡ map location_of (located_nodes self.now) }
+    {
+        Locations::new(self.nodes.as_slice())
+    }
+
+    /// The list without the entries whose location stands earlier in it, in the order that it had.
+    ///
+    /// Works in place and takes no memory. Each entry is compared with the entries that are kept before it, so the
+    /// time grows with the number of entries times that of different locations.
+    pub fn dedup(mut self) -> LocatedNodeList<'b>
+        ensures { located_nodes result ≡ first_places (located_nodes self.entry) }
+    {
+        let kept = move_first_places(self.nodes.as_mut_slice());
+        self.nodes.truncate(kept);
+        self
+    }
+
+    /// The one node with its location, or `None` in an empty list.
+    ///
+    /// A list of more nodes is the error, with their number.
+    pub fn at_most_one(mut self) -> Result<Option<LocatedNode<'b>>, AtMostOneError>
+        ensures ok { IfOk result (λ node. at_most_one_of (located_nodes self.entry) ≡ Ok (option_map located node)) }
+        ensures err { IfErr result (λ error. at_most_one_of (located_nodes self.entry) ≡ Err error) }
+    {
+        let found = self.len();
+        if found > 1 {
+            return Err(AtMostOneError(found));
+        }
+        Ok(self.nodes.pop())
+    }
+
+    /// The one node with its location.
+    ///
+    /// An empty list is the error `Empty`, and one of more nodes `MoreThanOne` with their number.
+    pub fn exactly_one(mut self) -> Result<LocatedNode<'b>, ExactlyOneError>
+        ensures ok { IfOk result (λ node. exactly_one_of (located_nodes self.entry) ≡ Ok (located node)) }
+        ensures err { IfErr result (λ error. exactly_one_of (located_nodes self.entry) ≡ Err error) }
+    {
+        let found = self.len();
+        if found > 1 {
+            return Err(ExactlyOneError::MoreThanOne(found));
+        }
+        self.nodes.pop().ok_or(ExactlyOneError::Empty)
+    }
+}
+
+// Moves the nodes whose location does not stand earlier to the front, in their order, and tells how many there are.
+fn move_first_places<'b>(nodes: &mut [LocatedNode<'b>]) -> usize
+    ensures within { result ≤ length nodes.old }
+    ensures front { map located (take result nodes.new) ≡ first_places (map located nodes.old) }
+{
+    let mut kept = 0;
+    for index in 0..nodes.len() {
+        let seen: &[LocatedNode<'b>] = nodes;
+        if !stands_among(seen[index].location(), &seen[..kept]) {
+            nodes.swap(kept, index);
+            kept += 1;
+        }
+    }
+    kept
+}
+
+// Whether the location is that of one of these nodes.
+fn stands_among<'b>(location: &NormalizedPath<'b>, nodes: &[LocatedNode<'b>]) -> bool
+    ensures { result ≡ is_among location.now (map location_of (map located nodes.now)) }
+{
+    for node in nodes {
+        if location == node.location() {
+            return true;
+        }
+    }
+    false
 }

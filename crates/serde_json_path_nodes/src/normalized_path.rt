@@ -1,13 +1,15 @@
 //! Locations, as normalised paths.
 
-ghost use Rattle.std.specs.Prelude.{◌≡◌, ◌==◌, ◌↔◌, List, length, map, slice_get, option_map, Some, IfOk, IsTrue, string_bytes};
-ghost use Rattle.serde_json_path_nodes.specs.Text.{normal};
+ghost use Rattle.std.specs.Prelude.{◌≡◌, ◌==◌, ◌↔◌, ◌++◌, length, map, slice_get, option_map, Some, IfOk, OnOk, IsTrue, string_bytes};
+ghost use Rattle.std.specs.List.{flat_map};
+ghost use Rattle.serde_json_path_nodes.specs.Text.{normal, pointer, in_pointer};
 
 use crate::iterators::PathElements;
 use crate::path_element::PathElement;
 use crate::quoted::Quoted;
 use std::alloc::{AllocError, Global};
 use std::fmt;
+use std::fmt::Write;
 use std::marker::Model;
 
 /// The location of one node: the steps that lead to it from the document's root (RFC 9535, section 2.7).
@@ -75,12 +77,28 @@ impl<'b> NormalizedPath<'b> {
     {
         self.to_string(alloc)
     }
+
+    /// The JSON pointer to the same place (RFC 6901, section 3), as `/store/book/0`; the empty text for the root.
+    ///
+    /// An error comes only where memory is refused.
+    pub fn to_json_pointer(&self, alloc: Global) -> Result<String, AllocError>
+        ensures { IfOk result (λ text. string_bytes text ≡ pointer self.now) }
+    {
+        let mut text = String::new(alloc);
+        for element in &self.steps {
+            text.push('/')?;
+            match element {
+                PathElement::Name(name) => push_in_pointer(&mut text, name)?,
+                PathElement::Index(position) => write!(text, "{position}")?,
+            }
+        }
+        Ok(text)
+    }
 }
 
 impl<'b> PartialEq for NormalizedPath<'b> {
     ghost use Rattle.std.specs.Cmp.{partial_equiv_from_equiv};
-    ghost use Rattle.serde_json_path_nodes.specs.Same.{same_steps};
-    ghost use Rattle.serde_json_path_nodes.specs.Same.{same_steps-equiv};
+    ghost use Rattle.serde_json_path_nodes.specs.Same.{same_steps, same_steps-equiv};
 
     ghost eq = { same_steps };
 
@@ -90,7 +108,10 @@ impl<'b> PartialEq for NormalizedPath<'b> {
         ensures computes { result ≡ same_steps self.now other.now }
         ensures same { IsTrue result ↔ (self.now ≡ other.now) }
     {
-        self.steps == other.steps
+        // Locations of one result mostly differ in their length or their last step.
+        self.steps.len() == other.steps.len()
+            && self.steps.last() == other.steps.last()
+            && self.steps == other.steps
     }
 }
 
@@ -116,4 +137,18 @@ impl<'b> fmt::Display for NormalizedPath<'b> {
         }
         Ok(())
     }
+}
+
+// Appends a name as it stands in a pointer.
+fn push_in_pointer(text: &mut String, name: &str) -> Result<(), AllocError>
+    ensures { OnOk result (string_bytes text.new ≡ string_bytes text.old ++ flat_map in_pointer name.now) }
+{
+    for c in name.chars() {
+        match c {
+            '~' => text.push_str("~0")?,
+            '/' => text.push_str("~1")?,
+            c => text.push(c)?,
+        }
+    }
+    Ok(())
 }

@@ -21,10 +21,12 @@ impl SyntaxBuilder {
     ghost use Rattle.serde_json_path_core.specs.Tree as tree;
     ghost use Rattle.serde_json_path_core.specs.Piece.{a_query, a_segment, a_selector};
     ghost use Rattle.serde_json_path_core.specs.Flat.{kind_view, NamesBelow, piece_of, pieces};
-    ghost use Rattle.serde_json_path_core.specs.Parts.{IsPart, ArePartsOf, KeepsParts, tree_of};
+    ghost use Rattle.serde_json_path_core.specs.Parts.{HasNoParts, IsPart, ArePartsOf, KeepsParts, tree_of};
 
     /// A builder that has made no part yet. Takes no memory.
-    pub fn new(alloc: Global) -> SyntaxBuilder {
+    pub fn new(alloc: Global) -> SyntaxBuilder
+        ensures empty { HasNoParts result }
+    {
         SyntaxBuilder {
             nodes: Vec::new(alloc),
         }

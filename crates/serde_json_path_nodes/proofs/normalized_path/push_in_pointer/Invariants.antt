@@ -1,0 +1,9 @@
+use Rattle.std.proofs.Common.{◌≡◌, ◌++◌, string_bytes}
+use Rattle.std.specs.List.{flat_map}
+use Rattle.std.specs.Str.Iter.{chars_rest}
+use Rattle.serde_json_path_nodes.specs.Text.{in_pointer}
+use Rattle.serde_json_path_nodes.proofs.normalized_path.push_in_pointer.Given as goal
+
+-- what is written and what is left are the whole name
+abbrev pub invariant-loop-c : goal.invariant-loop-c
+invariant-loop-c l = string_bytes l.text ++ flat_map in_pointer (chars_rest l.c-iterator) ≡ string_bytes l.fn.text ++ flat_map in_pointer l.fn.name
