@@ -120,6 +120,11 @@ fn looks_at_a_long_name(rt: HostRuntime) -> Result<(), Fail> {
     let accepted = parse_source(rt.alloc(), &mut source).is_ok();
     assert!(rt; accepted);
     assert_eq!(rt; source.len(), 1002);
-    assert!(rt; source.looks() <= 32096, "{} looks", source.looks());
+    assert!(rt;
+        source.looks() <= 32 * (1002 + 1),
+        "{} looks",
+        source.looks()
+    );
+    assert!(rt; source.looks() <= 2 * 1002, "{} looks", source.looks());
     Ok(())
 }
