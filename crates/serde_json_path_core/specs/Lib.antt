@@ -12,4 +12,5 @@ pub mod Piece
 pub mod Flat
 pub mod Parts
 pub mod Selected
+pub mod Computed
 pub mod Views
