@@ -1,4 +1,7 @@
+pub mod ChildSteps
+pub mod Descents
 pub mod Growing
+pub mod InLists
 pub mod Leading
 pub mod Lookups
 pub mod Narrow

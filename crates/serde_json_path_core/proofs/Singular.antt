@@ -26,7 +26,8 @@ AreNarrow (segment descendant seg more) = ⊥
 
 -- ---- one child
 
-by_step : (v : Data) (s t : Step) (c : Data) → child_by v s ≡ Some (t, c) → (t ≡ s) × (child_at v s ≡ Some c)
+-- the child at a step, with that step
+pub by_step : (v : Data) (s t : Step) (c : Data) → child_by v s ≡ Some (t, c) → (t ≡ s) × (child_at v s ≡ Some c)
 by_step v s t c e = split (child_at v s) refl
   where
     split : (o : Option Data) → child_at v s ≡ o → (t ≡ s) × (child_at v s ≡ Some c)
@@ -35,7 +36,7 @@ by_step v s t c e = split (child_at v s) refl
         let same = same_Some {A = Step × Data} (s, d) (t, c) (sym (ap (option_map (λ x. (s, x))) f) ∙ e) in
         (sym (ap (λ (x : Step × Data). x.0) same), f ∙ ap (λ (x : Step × Data). Some x.1) same)
 
-there_by : (v : Data) (s : Step) (c : Data) → child_at v s ≡ Some c → child_by v s ≡ Some (s, c)
+pub there_by : (v : Data) (s : Step) (c : Data) → child_at v s ≡ Some c → child_by v s ≡ Some (s, c)
 there_by v s c e = ap (option_map (λ d. (s, d))) e
 
 below_zero : (k : ℕ) → negsuc k <ℤ pos 0

@@ -1,0 +1,176 @@
+-- The computed children of a value are those that a step leads to, in document order.
+use Rattle.std.proofs.Common.{◌≡◌, ℕ, zero, suc, ◌+◌, ◌<◌, List, Ordering, Less, Equal, Greater, nat_cmp, is_eq, Bool, true, false, bytes_eq, Option, Some, ◌↔◌, inl, inr, refl, sym, ap, subst, ◌∙◌, arith, true≢false, option_to_list}
+use Rattle.std.specs.Cmp.Lexicographic.{slice_cmp}
+use Rattle.std.specs.Ordering.{ordering_reverse, match_ordering}
+use Rattle.std.proofs.lemmas.Cmp.{nat_list_cmp_total, tied_itself}
+use Rattle.std.proofs.lemmas.Map.Text.{is_eq-slice_cmp}
+use Rattle.std.proofs.lemmas.Option.{none-some, same_Some}
+use Rattle.std.proofs.lemmas.Slice.Eq.{bytes_eq-Decides}
+use Rattle.serde_json.specs.Data.{Data, null, boolean, number, string, array, object, Items, no_items, item, Members, no_members, member, put}
+use Rattle.serde_json.specs.Find.{get_item, get_member}
+use Rattle.serde_json.proofs.Views.{get_member-put, get_member-put_other}
+use Rattle.serde_json_path_nodes.specs.Place.{Step, by_name, by_position, child_at, StepBefore}
+use Rattle.serde_json_path_core.specs.Derivation.{IsIn, IsInOrder}
+use Rattle.serde_json_path_core.specs.Selected.{child_by}
+use Rattle.serde_json_path_core.specs.Computed.{children, items_from, members_all, in_order}
+use Rattle.serde_json_path_core.proofs.InLists.{in_option}
+use Rattle.serde_json_path_core.proofs.Singular.{by_step, there_by}
+
+-- ---- items
+
+in_items : (i : ℕ) (items : Items) (c : Step × Data) → IsIn c (items_from i items) → (p : ℕ) × (c.0 ≡ by_position (i + p)) × (get_item p items ≡ Some c.1)
+in_items i no_items c h = absurd h
+in_items i (item d more) c (inl e) = (0, ap (λ (x : Step × Data). x.0) e ∙ ap by_position (omega arith), ap (λ (x : Step × Data). Some x.1) (sym e))
+in_items i (item d more) c (inr h) = let k = in_items (i + 1) more c h in (suc k.0, k.1 ∙ ap by_position (omega arith), k.2)
+
+items_in : (i p : ℕ) (items : Items) (c : Data) → get_item p items ≡ Some c → IsIn {A = Step × Data} (by_position (i + p), c) (items_from i items)
+items_in i p no_items c e = absurd (none-some c e)
+items_in i zero (item d more) c e =
+    let f = same_Some d c e in let s : by_position (i + 0) ≡ by_position i = ap by_position (omega arith) in inl (λ j. (s j, sym f j))
+items_in i (suc p) (item d more) c e =
+    inr (subst (λ s. IsIn {A = Step × Data} (s, c) (items_from (i + 1) more)) (ap by_position (omega arith)) (items_in (i + 1) p more c e))
+
+items_ordered : (i : ℕ) (items : Items) → IsInOrder (λ (a b : Step × Data). StepBefore a.0 b.0) (items_from i items)
+items_ordered i no_items = tt
+items_ordered i (item d more) =
+    (λ c h. let k = in_items (i + 1) more c h in let less : i < (i + 1) + k.0 = omega arith in subst (StepBefore (by_position i)) (sym k.1) less,
+     items_ordered (i + 1) more)
+
+-- ---- members in the order of their names
+
+found_here : (k : List ℕ) (d : Data) (ms : Members) → get_member k (member k d ms) ≡ Some d
+found_here k d ms = let e : slice_cmp nat_cmp k k ≡ Equal = tied_itself nat_list_cmp_total k in rw e
+
+either : (o : Ordering) (a b : Option Data) → is_eq o ≡ false → match_ordering o a b a ≡ a
+either Less a b e = refl
+either Equal a b e = absurd (true≢false e)
+either Greater a b e = refl
+
+found_later : (q k : List ℕ) (d : Data) (ms : Members) → bytes_eq q k ≡ false → get_member q (member k d ms) ≡ get_member q ms
+found_later q k d ms e = either (slice_cmp nat_cmp q k) _ _ (is_eq-slice_cmp q k ∙ e)
+
+apart : (q k : List ℕ) → bytes_eq q k ≡ false → q ≡ k → ⊥
+apart q k e s = true≢false (sym ((bytes_eq-Decides q k).1 s) ∙ e)
+
+unlike : (q k : List ℕ) → slice_cmp nat_cmp k q ≡ Less → bytes_eq q k ≡ false
+unlike q k h = sym (is_eq-slice_cmp q k) ∙ ap is_eq (nat_list_cmp_total.antisymm q k ∙ ap ordering_reverse h)
+
+-- a name finds the same among the members in order
+get_member-in_order : (q : List ℕ) (ms : Members) → get_member q (in_order ms) ≡ get_member q ms
+get_member-in_order q no_members = refl
+get_member-in_order q (member k d ms) = by (bytes_eq q k) refl (get_member-in_order q ms)
+  where
+    by : (b : Bool) → bytes_eq q k ≡ b → get_member q (in_order ms) ≡ get_member q ms → get_member q (put k d (in_order ms)) ≡ get_member q (member k d ms)
+    by true e later =
+        subst (λ x. get_member x (put k d (in_order ms)) ≡ get_member x (member k d ms)) (sym ((bytes_eq-Decides q k).0 e))
+        (get_member-put k d (in_order ms) ∙ sym (found_here k d ms))
+    by false e later = get_member-put_other q k d (in_order ms) (apart q k e) ∙ later ∙ sym (found_later q k d ms e)
+
+-- the name is before each of the members' names
+abbrev IsBelow : List ℕ → Members → Type 0
+IsBelow k no_members = Unit {0}
+IsBelow k (member l e ms) = (slice_cmp nat_cmp k l ≡ Less) × IsBelow k ms
+
+-- each name is before those that follow
+abbrev AreRising : Members → Type 0
+AreRising no_members = Unit {0}
+AreRising (member k d ms) = IsBelow k ms × AreRising ms
+
+below_found : (k q : List ℕ) (ms : Members) (c : Data) → IsBelow k ms → get_member q ms ≡ Some c → slice_cmp nat_cmp k q ≡ Less
+below_found k q no_members c a e = absurd (none-some c e)
+below_found k q (member l d ms) c a e = by (bytes_eq q l) refl (λ f. below_found k q ms c a.1 f)
+  where
+    by : (b : Bool) → bytes_eq q l ≡ b → (get_member q ms ≡ Some c → slice_cmp nat_cmp k q ≡ Less) → slice_cmp nat_cmp k q ≡ Less
+    by true f later = subst (λ x. slice_cmp nat_cmp k x ≡ Less) (sym ((bytes_eq-Decides q l).0 f)) a.0
+    by false f later = later (sym (found_later q l d ms f) ∙ e)
+
+in_members : (ms : Members) (c : Step × Data) → AreRising ms → IsIn c (members_all ms) → (k : List ℕ) × (c.0 ≡ by_name k) × (get_member k ms ≡ Some c.1)
+in_members no_members c r h = absurd h
+in_members (member k d ms) c r (inl e) = (k, ap (λ (x : Step × Data). x.0) e, found_here k d ms ∙ ap (λ (x : Step × Data). Some x.1) (sym e))
+in_members (member k d ms) c r (inr h) =
+    let g = in_members ms c r.1 h in (g.0, g.1, found_later g.0 k d ms (unlike g.0 k (below_found k g.0 ms c.1 r.0 g.2)) ∙ g.2)
+
+members_in : (ms : Members) (k : List ℕ) (c : Data) → get_member k ms ≡ Some c → IsIn {A = Step × Data} (by_name k, c) (members_all ms)
+members_in no_members k c e = absurd (none-some c e)
+members_in (member l d ms) k c e = by (bytes_eq k l) refl (members_in ms k c)
+  where
+    by : (b : Bool) → bytes_eq k l ≡ b → (get_member k ms ≡ Some c → IsIn {A = Step × Data} (by_name k, c) (members_all ms)) → IsIn {A = Step × Data} (by_name k, c) (members_all (member l d ms))
+    by true f later =
+        let s : k ≡ l = (bytes_eq-Decides k l).0 f in
+        let here : get_member k (member l d ms) ≡ Some d = subst (λ x. get_member x (member l d ms) ≡ Some d) (sym s) (found_here l d ms) in
+        let same = same_Some d c (sym here ∙ e) in
+        inl (λ j. (by_name (s j), sym same j))
+    by false f later = inr (later (sym (found_later k l d ms f) ∙ e))
+
+members_ordered : (ms : Members) → AreRising ms → IsInOrder (λ (a b : Step × Data). StepBefore a.0 b.0) (members_all ms)
+members_ordered no_members r = tt
+members_ordered (member k d ms) r =
+    (λ c h. let g = in_members ms c r.1 h in subst (StepBefore (by_name k)) (sym g.1) (below_found k g.0 ms c.1 r.0 g.2), members_ordered ms r.1)
+
+below_trans : (k l : List ℕ) (ms : Members) → slice_cmp nat_cmp k l ≡ Less → IsBelow l ms → IsBelow k ms
+below_trans k l no_members h a = tt
+below_trans k l (member m d ms) h a = (nat_list_cmp_total.trans k l m h a.0, below_trans k l ms h a.1)
+
+below-put : (l k : List ℕ) (d : Data) (ms : Members) → slice_cmp nat_cmp l k ≡ Less → IsBelow l ms → IsBelow l (put k d ms)
+below-put l k d no_members h a = (h, tt)
+below-put l k d (member m e ms) h a = by (slice_cmp nat_cmp k m) (below-put l k d ms h a.1)
+  where
+    by : (o : Ordering) → IsBelow l (put k d ms) → IsBelow l (match_ordering o (member k d (member m e ms)) (member m d ms) (member m e (put k d ms)))
+    by Less later = (h, a)
+    by Equal later = a
+    by Greater later = (a.0, later)
+
+rising-put : (k : List ℕ) (d : Data) (ms : Members) → AreRising ms → AreRising (put k d ms)
+rising-put k d no_members r = (tt, tt)
+rising-put k d (member l e ms) r = by (slice_cmp nat_cmp k l) refl (rising-put k d ms r.1)
+  where
+    by : (o : Ordering) → slice_cmp nat_cmp k l ≡ o → AreRising (put k d ms) → AreRising (match_ordering o (member k d (member l e ms)) (member l d ms) (member l e (put k d ms)))
+    by Less is later = ((is, below_trans k l ms is r.0), r)
+    by Equal is later = r
+    by Greater is later = (below-put l k d ms (nat_list_cmp_total.antisymm l k ∙ ap ordering_reverse is) r.0, later)
+
+rising-in_order : (ms : Members) → AreRising (in_order ms)
+rising-in_order no_members = tt
+rising-in_order (member k d ms) = rising-put k d (in_order ms) (rising-in_order ms)
+
+-- ---- children
+
+children_sound : (v : Data) (c : Step × Data) → IsIn c (children v) → child_at v c.0 ≡ Some c.1
+children_sound (array items) c h = let k = in_items 0 items c h in ap (child_at (array items)) (k.1 ∙ ap by_position (omega arith)) ∙ k.2
+children_sound (object ms) c h =
+    let k = in_members (in_order ms) c (rising-in_order ms) h in
+    ap (child_at (object ms)) k.1 ∙ sym (get_member-in_order k.0 ms) ∙ k.2
+children_sound null c h = absurd h
+children_sound (boolean b) c h = absurd h
+children_sound (number n) c h = absurd h
+children_sound (string s) c h = absurd h
+
+children_complete : (v : Data) (s : Step) (c : Data) → child_at v s ≡ Some c → IsIn {A = Step × Data} (s, c) (children v)
+children_complete (array items) (by_position p) c e =
+    subst (λ q. IsIn {A = Step × Data} (by_position q, c) (items_from 0 items)) (omega arith) (items_in 0 p items c e)
+children_complete (object ms) (by_name k) c e = members_in (in_order ms) k c (get_member-in_order k ms ∙ e)
+children_complete (array items) (by_name k) c e = absurd (none-some c e)
+children_complete (object ms) (by_position p) c e = absurd (none-some c e)
+children_complete null s c e = absurd (none-some c e)
+children_complete (boolean b) s c e = absurd (none-some c e)
+children_complete (number n) s c e = absurd (none-some c e)
+children_complete (string t) s c e = absurd (none-some c e)
+
+-- the children are what the steps lead to
+pub in_children : (v : Data) (c : Step × Data) → IsIn c (children v) ↔ (child_at v c.0 ≡ Some c.1)
+in_children v c = (children_sound v c, children_complete v c.0 c.1)
+
+-- the children stand in document order
+pub children_ordered : (v : Data) → IsInOrder (λ (a b : Step × Data). StepBefore a.0 b.0) (children v)
+children_ordered (array items) = items_ordered 0 items
+children_ordered (object ms) = members_ordered (in_order ms) (rising-in_order ms)
+children_ordered null = tt
+children_ordered (boolean b) = tt
+children_ordered (number n) = tt
+children_ordered (string s) = tt
+
+-- the one child at a step
+pub in_child_by : (v : Data) (s : Step) (c : Step × Data) → IsIn c (option_to_list (child_by v s)) ↔ ((c.0 ≡ s) × (child_at v c.0 ≡ Some c.1))
+in_child_by v s c =
+    let here = in_option c (child_by v s) in
+    (λ h. let b = by_step v s c.0 c.1 (here.0 h) in (b.0, ap (child_at v) b.0 ∙ b.1), λ h. here.1 (ap (child_by v) (sym h.0) ∙ there_by v c.0 c.1 h.1))
