@@ -1,4 +1,5 @@
 pub mod ChildSteps
+pub mod Comparisons
 pub mod Descents
 pub mod Growing
 pub mod InLists
