@@ -10,3 +10,4 @@ pub mod NamedSegments
 pub mod Order
 pub mod Singular
 mod Worked
+pub mod SlicePositions

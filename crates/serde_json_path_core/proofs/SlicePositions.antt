@@ -1,0 +1,279 @@
+-- The computed children of a slice are those at the positions that it selects, in its order.
+use Rattle.std.proofs.Common.{◌≡◌, ℕ, zero, suc, ◌+◌, ◌-◌, ◌*◌, ◌<◌, ◌≤◌, ℤ, pos, negsuc, neg_ℤ, nat_abs, [], ◌∷◌, ◌↔◌, inl, inr, Bool, true, false, Option, Some, None, unwrap_or, refl, sym, ap, subst, ◌∙◌, arith, suc-mul, le-div_iff_mul-le, mul-lt-mul_of_pos_right}
+use Rattle.std.specs.Prelude.{◌<ℤ◌, ◌≤ℤ◌, ◌+ℤ◌, ◌-ℤ◌, ◌*ℤ◌}
+use Rattle.std.specs.Int.{int_max, int_min}
+use Rattle.std.specs.Option.{option_map_or}
+use Rattle.std.proofs.Math.IntN.{pos-*ℤ-pos, pos-*ℤ-negsuc}
+use Rattle.std.proofs.lemmas.Int.{ints, clamps}
+use Rattle.std.proofs.lemmas.Option.{same_Some, none-some}
+use Rattle.serde_json.specs.Data.{Data, null, boolean, number, string, array, object, Items, no_items, item}
+use Rattle.serde_json.specs.Find.{get_item}
+use Rattle.serde_json_path_nodes.specs.Place.{Step, by_position, child_at}
+use Rattle.serde_json_path_core.specs.Tree.{Slice, slice}
+use Rattle.serde_json_path_core.specs.Functions.{items_count}
+use Rattle.serde_json_path_core.specs.Slices.{step_of, from_end, bound_of, SelectsPosition}
+use Rattle.serde_json_path_core.specs.Derivation.{IsIn, IsInOrder, SelectedBefore}
+use Rattle.serde_json_path_core.specs.Meaning.{IsPositionOf}
+use Rattle.serde_json_path_core.specs.Computed.{Course, count_within, strided, rising, falling, course_by, sliced, next_position}
+
+-- ---- items on a course
+
+-- an item is there at each position below the count
+item_there : (items : Items) (p : ℕ) → p < items_count items → (d : Data) × (get_item p items ≡ Some d)
+item_there no_items p h = absurd (omega arith)
+item_there (item d more) zero h = (d, refl)
+item_there (item d more) (suc p) h = item_there more p (omega arith)
+
+-- the position after so many strides
+abbrev place : Bool → ℕ → ℕ → ℕ → ℕ
+place upwards first stride zero = first
+place upwards first stride (suc j) = place upwards (next_position upwards first stride) stride j
+
+place_up : (first stride j : ℕ) → place true first stride j ≡ first + j * stride
+place_up first stride zero = omega arith
+place_up first stride (suc j) = place_up (first + stride) stride j ∙ omega (arith, suc-mul j stride)
+
+place_down : (first stride j : ℕ) → place false first stride j ≡ first - j * stride
+place_down first stride zero = omega arith
+place_down first stride (suc j) = place_down (first - stride) stride j ∙ omega (arith, suc-mul j stride)
+
+-- the child is at one of so many positions
+abbrev IsPlaced : ℕ → Bool → ℕ → ℕ → Items → Step × Data → Type 0
+IsPlaced count upwards first stride items c =
+    (j : ℕ) × (j < count) × (c.0 ≡ by_position (place upwards first stride j)) × (get_item (place upwards first stride j) items ≡ Some c.1)
+
+-- the first of so many positions, and the others
+next_strided : (count : ℕ) (upwards : Bool) (first stride : ℕ) (items : Items) (o : Option Data) → get_item first items ≡ o
+    → strided (suc count) upwards first stride items
+    ≡ option_map_or (λ d. (by_position first, d) ∷ strided count upwards (next_position upwards first stride) stride items) o []
+next_strided count upwards first stride items o e =
+    ap (λ x. option_map_or (λ d. (by_position first, d) ∷ strided count upwards (next_position upwards first stride) stride items) x []) e
+
+strided_sound : (count : ℕ) (upwards : Bool) (first stride : ℕ) (items : Items) (c : Step × Data) → IsIn c (strided count upwards first stride items) → IsPlaced count upwards first stride items c
+strided_sound zero upwards first stride items c h = absurd h
+strided_sound (suc count) upwards first stride items c h =
+    by (get_item first items) refl (strided_sound count upwards (next_position upwards first stride) stride items c)
+  where
+    from : (d : Data) → get_item first items ≡ Some d → (IsIn c (strided count upwards (next_position upwards first stride) stride items) → IsPlaced count upwards (next_position upwards first stride) stride items c)
+        → IsIn c ((by_position first, d) ∷ strided count upwards (next_position upwards first stride) stride items) → IsPlaced (suc count) upwards first stride items c
+    from d e later (inl f) = (0, omega arith, ap (λ (x : Step × Data). x.0) f, e ∙ ap (λ (x : Step × Data). Some x.1) (sym f))
+    from d e later (inr g) = let k = later g in (suc k.0, omega arith, k.2, k.3)
+    by : (o : Option Data) → get_item first items ≡ o → (IsIn c (strided count upwards (next_position upwards first stride) stride items) → IsPlaced count upwards (next_position upwards first stride) stride items c)
+        → IsPlaced (suc count) upwards first stride items c
+    by None e later = absurd (subst (IsIn c) (next_strided count upwards first stride items None e) h)
+    by (Some d) e later = from d e later (subst (IsIn c) (next_strided count upwards first stride items (Some d) e) h)
+
+strided_complete : (count : ℕ) (upwards : Bool) (first stride : ℕ) (items : Items) → ((j : ℕ) → j < count → place upwards first stride j < items_count items)
+    → (c : Step × Data) → IsPlaced count upwards first stride items c → IsIn c (strided count upwards first stride items)
+strided_complete zero upwards first stride items there c h = let k = h.1 in absurd (omega arith)
+strided_complete (suc count) upwards first stride items there c h =
+    let later = strided_complete count upwards (next_position upwards first stride) stride items (λ j k. there (suc j) (omega arith)) in
+    let d = item_there items first (there 0 (omega arith)) in
+    subst (IsIn c) (sym (next_strided count upwards first stride items (Some d.0) d.1)) (by d.0 d.1 later h.0 h.1 h.2 h.3)
+  where
+    by : (d : Data) → get_item first items ≡ Some d
+        → ((c : Step × Data) → IsPlaced count upwards (next_position upwards first stride) stride items c → IsIn c (strided count upwards (next_position upwards first stride) stride items))
+        → (j : ℕ) → j < suc count → c.0 ≡ by_position (place upwards first stride j) → get_item (place upwards first stride j) items ≡ Some c.1
+        → IsIn c ((by_position first, d) ∷ strided count upwards (next_position upwards first stride) stride items)
+    by d e later zero k f g = let same = same_Some c.1 d (sym g ∙ e) in inl (λ i. (f i, same i))
+    by d e later (suc j) k f g = inr (later c (j, omega arith, f, g))
+
+strided_ordered : (R : Step → Step → Type 0) (count : ℕ) (upwards : Bool) (first stride : ℕ) (items : Items)
+    → ((j k : ℕ) → j < k → k < count → R (by_position (place upwards first stride j)) (by_position (place upwards first stride k)))
+    → IsInOrder (λ (a b : Step × Data). R a.0 b.0) (strided count upwards first stride items)
+strided_ordered R zero upwards first stride items before = tt
+strided_ordered R (suc count) upwards first stride items before =
+    by (get_item first items) refl (strided_ordered R count upwards (next_position upwards first stride) stride items (λ j k h g. before (suc j) (suc k) (omega arith) (omega arith)))
+  where
+    by : (o : Option Data) → get_item first items ≡ o → IsInOrder (λ (a b : Step × Data). R a.0 b.0) (strided count upwards (next_position upwards first stride) stride items)
+        → IsInOrder (λ (a b : Step × Data). R a.0 b.0) (strided (suc count) upwards first stride items)
+    by None e later = subst (IsInOrder (λ (a b : Step × Data). R a.0 b.0)) (sym (next_strided count upwards first stride items None e)) tt
+    by (Some d) e later =
+        subst (IsInOrder (λ (a b : Step × Data). R a.0 b.0)) (sym (next_strided count upwards first stride items (Some d) e))
+        ((λ c h. let k = strided_sound count upwards (next_position upwards first stride) stride items c h in
+            subst (R (by_position first)) (sym k.2) (before 0 (suc k.0) (omega arith) (omega arith))), later)
+
+-- ---- courses
+
+-- j strides stay below the width exactly where j is below the count
+counted_within : (j width stride : ℕ) → (j < count_within width (suc stride)) ↔ (j * suc stride < width)
+counted_within j zero stride = (λ h. absurd (omega arith), λ h. absurd (omega arith))
+counted_within j (suc width) stride =
+    let many = le-div_iff_mul-le {k = suc stride} {x = j} {y = width} (omega arith) in
+    (λ h. let k = many.0 (omega arith) in omega arith, λ h. let k = many.1 (omega arith) in omega arith)
+
+-- a bound that is cut lies in its range
+cut_within : (low high x : ℤ) → low ≤ℤ high → (low ≤ℤ int_min high (int_max low x)) × (int_min high (int_max low x) ≤ℤ high)
+cut_within low high x h = (omega (arith, ints, clamps), omega (arith, ints, clamps))
+
+natural : (z : ℤ) → pos 0 ≤ℤ z → pos (nat_abs z) ≡ z
+natural (pos n) h = refl
+natural (negsuc n) h = absurd (omega (arith, ints))
+
+module _ (s : Slice) (len k : ℕ) where
+  abbrev low : ℤ
+  low = bound_of (pos len) s.start (pos 0) (pos 0) (pos len)
+
+  abbrev high : ℤ
+  high = bound_of (pos len) s.end (pos len) (pos 0) (pos len)
+
+  rising_bounds : (pos (nat_abs low) ≡ low) × (pos (nat_abs high) ≡ high) × (nat_abs high ≤ len)
+  rising_bounds =
+      let a = cut_within (pos 0) (pos len) (from_end (pos len) (unwrap_or s.start (pos 0))) (omega (arith, ints)) in
+      let b = cut_within (pos 0) (pos len) (from_end (pos len) (unwrap_or s.end (pos len))) (omega (arith, ints)) in
+      let e = natural high b.0 in
+      let c : pos (nat_abs high) ≤ℤ pos len = subst (λ z. z ≤ℤ pos len) (sym e) b.1 in
+      (natural low a.0, e, omega (arith, ints))
+
+  rising_positions : (p : ℕ) → step_of s ≡ pos (suc k)
+      → SelectsPosition s len p ↔ ((j : ℕ) × (j < (rising s len (suc k)).count) × (p ≡ nat_abs low + j * suc k))
+  rising_positions p e = (forth, λ h. back h.0 h.1 h.2)
+    where
+      steps : (n : ℕ) → pos n *ℤ step_of s ≡ pos (n * suc k)
+      steps n = ap (λ z. pos n *ℤ z) e ∙ pos-*ℤ-pos n (suc k)
+      forth : SelectsPosition s len p → (j : ℕ) × (j < (rising s len (suc k)).count) × (p ≡ nat_abs low + j * suc k)
+      forth (inl (up, from, before, (n, is))) =
+          let b = rising_bounds in
+          let i = nat_abs low in
+          let l = nat_abs high in
+          let there : pos p ≡ pos i +ℤ pos (n * suc k) = is ∙ ap (λ z. z +ℤ (pos n *ℤ step_of s)) (sym b.0) ∙ ap (λ z. pos i +ℤ z) (steps n) in
+          let below : pos p <ℤ pos l = subst (λ z. pos p <ℤ z) (sym b.1) before in
+          let same : p ≡ i + n * suc k = omega (arith, ints) in
+          let less : n * suc k < l - i = omega (arith, ints) in
+          (n, (counted_within n (l - i) k).1 less, same)
+      forth (inr h) = let d : pos (suc k) <ℤ pos 0 = subst (λ z. z <ℤ pos 0) e h.0 in absurd (omega (arith, ints))
+      back : (j : ℕ) → j < (rising s len (suc k)).count → p ≡ nat_abs low + j * suc k → SelectsPosition s len p
+      back j h same =
+          let b = rising_bounds in
+          let i = nat_abs low in
+          let l = nat_abs high in
+          let less : j * suc k < l - i = (counted_within j (l - i) k).0 h in
+          let from : pos i ≤ℤ pos p = omega (arith, ints) in
+          let before : pos p <ℤ pos l = omega (arith, ints) in
+          let there : pos p ≡ pos i +ℤ pos (j * suc k) = omega (arith, ints) in
+          inl (subst (λ z. pos 0 <ℤ z) (sym e) (omega (arith, ints)), subst (λ z. z ≤ℤ pos p) b.0 from, subst (λ z. pos p <ℤ z) b.1 before,
+            (j, there ∙ ap (λ z. z +ℤ pos (j * suc k)) b.0 ∙ ap (λ z. low +ℤ z) (sym (steps j))))
+
+  abbrev last : ℤ
+  last = pos len -ℤ pos 1
+
+  abbrev top : ℤ
+  top = bound_of (pos len) s.start last (pos 0 -ℤ pos 1) last
+
+  abbrev bottom : ℤ
+  bottom = bound_of (pos len) s.end ((pos 0 -ℤ pos len) -ℤ pos 1) (pos 0 -ℤ pos 1) last
+
+  falling_bounds : (pos (nat_abs (top +ℤ pos 1)) ≡ (top +ℤ pos 1)) × (pos (nat_abs (bottom +ℤ pos 1)) ≡ (bottom +ℤ pos 1)) × (nat_abs (top +ℤ pos 1) ≤ len)
+  falling_bounds =
+      let a = cut_within (pos 0 -ℤ pos 1) last (from_end (pos len) (unwrap_or s.start last)) (omega (arith, ints)) in
+      let b = cut_within (pos 0 -ℤ pos 1) last (from_end (pos len) (unwrap_or s.end ((pos 0 -ℤ pos len) -ℤ pos 1))) (omega (arith, ints)) in
+      let from : pos 0 ≤ℤ (top +ℤ pos 1) = above top a.0 in
+      let e = natural (top +ℤ pos 1) from in
+      let c : pos (nat_abs (top +ℤ pos 1)) ≤ℤ pos len = subst (λ z. z ≤ℤ pos len) (sym e) (within top a.1) in
+      (e, natural (bottom +ℤ pos 1) (above bottom b.0), omega (arith, ints))
+    where
+      above : (z : ℤ) → (pos 0 -ℤ pos 1) ≤ℤ z → pos 0 ≤ℤ (z +ℤ pos 1)
+      above z h = omega (arith, ints)
+      within : (z : ℤ) → z ≤ℤ (pos len -ℤ pos 1) → (z +ℤ pos 1) ≤ℤ pos len
+      within z h = omega (arith, ints)
+
+  falling_positions : (p : ℕ) → step_of s ≡ negsuc k
+      → SelectsPosition s len p ↔ ((j : ℕ) × (j < (falling s len (suc k)).count) × (p ≡ (nat_abs (top +ℤ pos 1) - 1) - j * suc k))
+  falling_positions p e = (forth, λ h. back h.0 h.1 h.2)
+    where
+      steps : (n : ℕ) → pos n *ℤ step_of s ≡ neg_ℤ (pos (n * suc k))
+      steps n = ap (λ z. pos n *ℤ z) e ∙ pos-*ℤ-negsuc n k
+      -- over numbers alone
+      downwards : (z b : ℤ) (u l m : ℕ) → pos u ≡ (z +ℤ pos 1) → pos l ≡ (b +ℤ pos 1) → b <ℤ pos p → pos p ≡ (z +ℤ neg_ℤ (pos m)) → (m < u - l) × (p ≡ (u - 1) - m)
+      downwards z b u l m f g h is = (omega (arith, ints), omega (arith, ints))
+      upwards : (z b : ℤ) (u l m : ℕ) → pos u ≡ (z +ℤ pos 1) → pos l ≡ (b +ℤ pos 1) → m < u - l → p ≡ (u - 1) - m → (b <ℤ pos p) × (pos p ≤ℤ z) × (pos p ≡ (z +ℤ neg_ℤ (pos m)))
+      upwards z b u l m f g h is = (omega (arith, ints), omega (arith, ints), omega (arith, ints))
+      forth : SelectsPosition s len p → (j : ℕ) × (j < (falling s len (suc k)).count) × (p ≡ (nat_abs (top +ℤ pos 1) - 1) - j * suc k)
+      forth (inl h) = let d : pos 0 <ℤ negsuc k = subst (λ z. pos 0 <ℤ z) e h.0 in absurd (omega (arith, ints))
+      forth (inr (down, after, upto, (n, is))) =
+          let b = falling_bounds in
+          let u = nat_abs (top +ℤ pos 1) in
+          let l = nat_abs (bottom +ℤ pos 1) in
+          let there = downwards top bottom u l (n * suc k) b.0 b.1 after (is ∙ ap (λ z. top +ℤ z) (steps n)) in
+          (n, (counted_within n (u - l) k).1 there.0, there.1)
+      back : (j : ℕ) → j < (falling s len (suc k)).count → p ≡ (nat_abs (top +ℤ pos 1) - 1) - j * suc k → SelectsPosition s len p
+      back j h same =
+          let b = falling_bounds in
+          let u = nat_abs (top +ℤ pos 1) in
+          let l = nat_abs (bottom +ℤ pos 1) in
+          let there = upwards top bottom u l (j * suc k) b.0 b.1 ((counted_within j (u - l) k).0 h) same in
+          inr (subst (λ z. z <ℤ pos 0) (sym e) (omega (arith, ints)), there.0, there.1, (j, there.2 ∙ ap (λ z. top +ℤ z) (sym (steps j))))
+
+-- what a course with that step selects, where it lies and in which order
+record IsCourse (s : Slice) (len : ℕ) (c : Course) : Type 0 where
+  selects : (p : ℕ) → SelectsPosition s len p ↔ ((j : ℕ) × (j < c.count) × (p ≡ place c.upwards c.first c.stride j))
+  there : (j : ℕ) → j < c.count → place c.upwards c.first c.stride j < len
+  before : (i j : ℕ) → i < j → j < c.count → SelectedBefore (slice s) (by_position (place c.upwards c.first c.stride i)) (by_position (place c.upwards c.first c.stride j))
+
+strides_less : (i j k : ℕ) → i < j → i * suc k < j * suc k
+strides_less i j k h = mul-lt-mul_of_pos_right h (omega arith)
+
+is_course : (z : ℤ) (s : Slice) (len : ℕ) → step_of s ≡ z → IsCourse s len (course_by z s len)
+is_course (pos zero) s len e = record {
+  selects = λ p. (elim [ inl h ↦ (let up : pos 0 <ℤ pos 0 = subst (λ z. pos 0 <ℤ z) e h.0 in absurd (omega (arith, ints)))
+                 | inr h ↦ (let down : pos 0 <ℤ pos 0 = subst (λ z. z <ℤ pos 0) e h.0 in absurd (omega (arith, ints))) ], λ h. let k = h.1 in absurd (omega arith));
+  there = λ j h. absurd (omega arith);
+  before = λ i j h g. absurd (omega arith);
+}
+is_course (pos (suc k)) s len e =
+    let i = nat_abs (low s len k) in
+    let w = nat_abs (high s len k) - i in
+    let most = (rising_bounds s len k).2 in
+    record {
+      selects = λ p. let r = rising_positions s len k p e in
+        (λ h. let j = r.0 h in (j.0, j.1, j.2 ∙ sym (place_up i (suc k) j.0)), λ h. r.1 (h.0, h.1, h.2 ∙ place_up i (suc k) h.0));
+      there = λ j h. let less = (counted_within j w k).0 h in omega (arith, place_up i (suc k) j);
+      before = λ a b h g. inl (subst (λ z. pos 0 <ℤ z) (sym e) (omega (arith, ints)), omega (arith, place_up i (suc k) a, place_up i (suc k) b, strides_less a b k h));
+    }
+is_course (negsuc k) s len e =
+    let u = nat_abs (top s len k +ℤ pos 1) in
+    let w = u - nat_abs (bottom s len k +ℤ pos 1) in
+    let most = (falling_bounds s len k).2 in
+    record {
+      selects = λ p. let r = falling_positions s len k p e in
+        (λ h. let j = r.0 h in (j.0, j.1, j.2 ∙ sym (place_down (u - 1) (suc k) j.0)), λ h. r.1 (h.0, h.1, h.2 ∙ place_down (u - 1) (suc k) h.0));
+      there = λ j h. let less = (counted_within j w k).0 h in omega (arith, place_down (u - 1) (suc k) j);
+      before = λ a b h g. let less = (counted_within b w k).0 g in
+        inr (subst (λ z. z <ℤ pos 0) (sym e) (omega (arith, ints)), omega (arith, place_down (u - 1) (suc k) a, place_down (u - 1) (suc k) b, strides_less a b k h));
+    }
+
+-- ---- slices
+
+-- the children of a slice are those at the positions that it selects
+pub in_sliced : (s : Slice) (v : Data) (x : Step × Data) → IsIn x (sliced s v) ↔ (IsPositionOf (SelectsPosition s) v x.0 × (child_at v x.0 ≡ Some x.1))
+in_sliced s (array items) x = (forth, λ h. back h.0.0 h.0.1 h.0.2 h.0.3 h.0.4 h.1)
+  where
+    forth : IsIn x (sliced s (array items)) → IsPositionOf (SelectsPosition s) (array items) x.0 × (child_at (array items) x.0 ≡ Some x.1)
+    forth h =
+        let c = course_by (step_of s) s (items_count items) in
+        let k = strided_sound c.count c.upwards c.first c.stride items x h in
+        let p = place c.upwards c.first c.stride k.0 in
+        ((items, refl, p, k.2, ((is_course (step_of s) s (items_count items) refl).selects p).1 (k.0, k.1, refl)), ap (child_at (array items)) k.2 ∙ k.3)
+    back : (same : Items) → Some items ≡ Some same → (p : ℕ) → x.0 ≡ by_position p → SelectsPosition s (items_count same) p → child_at (array items) x.0 ≡ Some x.1 → IsIn x (sliced s (array items))
+    back same e p is selects found =
+        let c = course_by (step_of s) s (items_count items) in
+        let good = is_course (step_of s) s (items_count items) refl in
+        let k = (good.selects p).0 (subst (λ (xs : Items). SelectsPosition s (items_count xs) p) (sym (same_Some items same e)) selects) in
+        strided_complete c.count c.upwards c.first c.stride items good.there x
+        (k.0, k.1, is ∙ ap by_position k.2, ap (λ q. get_item q items) (sym k.2) ∙ ap (child_at (array items)) (sym is) ∙ found)
+in_sliced s (object ms) x = (λ h. absurd h, λ h. absurd (none-some h.0.0 h.0.1))
+in_sliced s null x = (λ h. absurd h, λ h. absurd (none-some h.0.0 h.0.1))
+in_sliced s (boolean b) x = (λ h. absurd h, λ h. absurd (none-some h.0.0 h.0.1))
+in_sliced s (number n) x = (λ h. absurd h, λ h. absurd (none-some h.0.0 h.0.1))
+in_sliced s (string t) x = (λ h. absurd h, λ h. absurd (none-some h.0.0 h.0.1))
+
+-- the children of a slice stand in its order
+pub sliced_ordered : (s : Slice) (v : Data) → IsInOrder (λ (a b : Step × Data). SelectedBefore (slice s) a.0 b.0) (sliced s v)
+sliced_ordered s (array items) =
+    let c = course_by (step_of s) s (items_count items) in
+    strided_ordered (SelectedBefore (slice s)) c.count c.upwards c.first c.stride items (is_course (step_of s) s (items_count items) refl).before
+sliced_ordered s (object ms) = tt
+sliced_ordered s null = tt
+sliced_ordered s (boolean b) = tt
+sliced_ordered s (number n) = tt
+sliced_ordered s (string t) = tt
