@@ -1,5 +1,7 @@
 -- What is in lists that were joined, mapped or sifted, and when these are in order.
 use Rattle.std.proofs.Common.{◌≡◌, List, [], ◌∷◌, ◌++◌, map, flat_map, filter as keep, ◌⊎◌, ◌↔◌, inl, inr, Bool, true, false, cond, Option, Some, None, option_to_list, refl, sym, ap, subst, ◌∙◌, true≢false}
+use Rattle.std.proofs.lemmas.Grind.{flat_map-append}
+use Rattle.std.proofs.lemmas.List.{map-append}
 use Rattle.std.proofs.lemmas.Option.{none-some, same_Some}
 use Rattle.serde_json_path_core.specs.Derivation.{IsIn, IsInOrder}
 use Rattle.serde_json_path_core.specs.Computed.{is_nonempty}
@@ -111,3 +113,20 @@ in_order-keep R p (x ∷ xs) o = by (p x) (in_order-keep R p xs o.1)
 pub in_order-option : {A : Type 0} (R : A → A → Type 0) (o : Option A) → IsInOrder R (option_to_list o)
 in_order-option R None = tt
 in_order-option R (Some x) = (λ y h. absurd h, tt)
+
+-- ---- one after the other
+
+-- the same function on each member makes the same list
+pub flat_map-same : {A B : Type 0} (f g : A → List B) → ((x : A) → f x ≡ g x) → (xs : List A) → flat_map f xs ≡ flat_map g xs
+flat_map-same f g e [] = refl
+flat_map-same f g e (x ∷ xs) = ap (λ ys. ys ++ flat_map f xs) (e x) ∙ ap (λ ys. g x ++ ys) (flat_map-same f g e xs)
+
+-- lists joined, then joined again
+pub flat_map-flat_map : {A B C : Type 0} (g : B → List C) (f : A → List B) (xs : List A) → flat_map g (flat_map f xs) ≡ flat_map (λ x. flat_map g (f x)) xs
+flat_map-flat_map g f [] = refl
+flat_map-flat_map g f (x ∷ xs) = flat_map-append g (f x) (flat_map f xs) ∙ ap (λ ys. flat_map g (f x) ++ ys) (flat_map-flat_map g f xs)
+
+-- lists joined, then mapped
+pub map-flat_map : {A B C : Type 0} (h : B → C) (f : A → List B) (xs : List A) → map h (flat_map f xs) ≡ flat_map (λ x. map h (f x)) xs
+map-flat_map h f [] = refl
+map-flat_map h f (x ∷ xs) = map-append h (f x) (flat_map f xs) ∙ ap (λ ys. map h (f x) ++ ys) (map-flat_map h f xs)

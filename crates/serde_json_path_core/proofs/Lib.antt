@@ -1,6 +1,7 @@
 pub mod ChildSteps
 pub mod Comparisons
 pub mod Descents
+pub mod Ends
 pub mod Growing
 pub mod InLists
 pub mod Leading
