@@ -1,5 +1,5 @@
 -- The computed children of a value are those that a step leads to, in document order.
-use Rattle.std.proofs.Common.{◌≡◌, ℕ, zero, suc, ◌+◌, ◌<◌, List, Ordering, Less, Equal, Greater, nat_cmp, is_eq, Bool, true, false, bytes_eq, Option, Some, ◌↔◌, inl, inr, refl, sym, ap, subst, ◌∙◌, arith, true≢false, option_to_list}
+use Rattle.std.proofs.Common.{◌≡◌, ℕ, zero, suc, ◌+◌, ◌<◌, ℤ, List, Ordering, Less, Equal, Greater, nat_cmp, is_eq, Bool, true, false, bytes_eq, Option, Some, ◌↔◌, inl, inr, refl, sym, ap, subst, ◌∙◌, arith, true≢false, option_to_list}
 use Rattle.std.specs.Cmp.Lexicographic.{slice_cmp}
 use Rattle.std.specs.Ordering.{ordering_reverse, match_ordering}
 use Rattle.std.proofs.lemmas.Cmp.{nat_list_cmp_total, tied_itself}
@@ -11,10 +11,11 @@ use Rattle.serde_json.specs.Find.{get_item, get_member}
 use Rattle.serde_json.proofs.Views.{get_member-put, get_member-put_other}
 use Rattle.serde_json_path_nodes.specs.Place.{Step, by_name, by_position, child_at, StepBefore}
 use Rattle.serde_json_path_core.specs.Derivation.{IsIn, IsInOrder}
-use Rattle.serde_json_path_core.specs.Selected.{child_by}
+use Rattle.serde_json_path_core.specs.Meaning.{SelectsIndex, IsPositionOf}
+use Rattle.serde_json_path_core.specs.Selected.{child_by, item_at}
 use Rattle.serde_json_path_core.specs.Computed.{children, items_from, members_all, in_order}
 use Rattle.serde_json_path_core.proofs.InLists.{in_option}
-use Rattle.serde_json_path_core.proofs.Singular.{by_step, there_by}
+use Rattle.serde_json_path_core.proofs.Singular.{by_step, there_by, item_sound, item_complete}
 
 -- ---- items
 
@@ -174,3 +175,14 @@ pub in_child_by : (v : Data) (s : Step) (c : Step × Data) → IsIn c (option_to
 in_child_by v s c =
     let here = in_option c (child_by v s) in
     (λ h. let b = by_step v s c.0 c.1 (here.0 h) in (b.0, ap (child_at v) b.0 ∙ b.1), λ h. here.1 (ap (child_by v) (sym h.0) ∙ there_by v c.0 c.1 h.1))
+
+-- the one child at an index
+pub in_item_at : (v : Data) (i : ℤ) (c : Step × Data) → IsIn c (option_to_list (item_at v i)) ↔ (IsPositionOf (SelectsIndex i) v c.0 × (child_at v c.0 ≡ Some c.1))
+in_item_at (array items) i c =
+    let here = in_option c (item_at (array items) i) in
+    (λ h. item_sound items i c.0 c.1 (here.0 h), λ h. here.1 (item_complete (array items) i c.0 c.1 h.0 h.1))
+in_item_at (object ms) i c = (λ h. absurd h, λ h. absurd (none-some h.0.0 h.0.1))
+in_item_at null i c = (λ h. absurd h, λ h. absurd (none-some h.0.0 h.0.1))
+in_item_at (boolean b) i c = (λ h. absurd h, λ h. absurd (none-some h.0.0 h.0.1))
+in_item_at (number n) i c = (λ h. absurd h, λ h. absurd (none-some h.0.0 h.0.1))
+in_item_at (string t) i c = (λ h. absurd h, λ h. absurd (none-some h.0.0 h.0.1))

@@ -31,6 +31,36 @@ abbrev pub levels : SegmentKind → Data → List Located
 levels child v = itself v ∷ []
 levels descendant v = descents v
 
+-- the order of the triples at one place, where the selectors count from that number
+abbrev IsBeforeFrom : ℕ → Selectors → Triple × Data → Triple × Data → Type 0
+IsBeforeFrom number sels t u =
+    (t.0.descent ≡ u.0.descent)
+    × ((t.0.number < u.0.number) ⊎ ((m : ℕ) × (t.0.number ≡ number + m) × (u.0.number ≡ number + m) × SelectedBeforeBy sels m t.0.step u.0.step))
+
+-- the node of an end, where the derivation begins at a node
+abbrev pub node_at : Located → End → Located
+node_at n e = record { location = n.location ++ location_of e.0; value = e.1 }
+
+-- the node of a triple
+abbrev child_of : Located → Triple × Data → Located
+child_of n t = record { location = n.location ++ (t.0.descent ++ t.0.step ∷ []); value = t.1 }
+
+node_at-after : (n : Located) (t : Triple × Data) (es : List End) → map (node_at (child_of n t)) es ≡ map (node_at n) (map (after t) es)
+node_at-after n t [] = refl
+node_at-after n t (e ∷ es) =
+    ap (λ l. record { location = l; value = e.1 } ∷ map (node_at (child_of n t)) es) (append_assoc n.location (t.0.descent ++ t.0.step ∷ []) (location_of e.0))
+    ∙ ap (λ ns. node_at n (after t e) ∷ ns) (node_at-after n t es)
+
+child_of-triple : (n : Located) (down : List Step) (number : ℕ) (cs : List (Step × Data)) → map (child_of n) (map (triple_at down number) cs) ≡ map (placed (n.location ++ down)) cs
+child_of-triple n down number [] = refl
+child_of-triple n down number (c ∷ cs) =
+    ap (λ l. record { location = l; value = c.1 } ∷ map (child_of n) (map (triple_at down number) cs)) (sym (append_assoc n.location down (c.0 ∷ [])))
+    ∙ ap (λ ns. placed (n.location ++ down) c ∷ ns) (child_of-triple n down number cs)
+
+levels_reached : (kind : SegmentKind) (n : Located) → map (beneath n.location) (levels kind n.value) ≡ reached kind n
+levels_reached child n = ap (λ l. record { location = l; value = n.value } ∷ []) (append-nil n.location)
+levels_reached descendant n = refl
+
 module _ (F : FunctionSet) (top : Data) where
   -- the triples of what the selectors select, the first of them of that number
   abbrev pub picks_by : Selectors → ℕ → List Step → Data → List (Triple × Data)
@@ -60,12 +90,6 @@ module _ (F : FunctionSet) (top : Data) where
   selected_ordered (index i) v = in_order-option (λ (a b : Step × Data). StepBefore a.0 b.0) (item_at v i)
   selected_ordered (slice s) v = sliced_ordered s v
   selected_ordered (filter e) v = in_order-keep (λ (a b : Step × Data). StepBefore a.0 b.0) (λ c. is_true F top e c.1) (children v) (children_ordered v)
-
-  -- the order of the triples at one place, where the selectors count from that number
-  abbrev IsBeforeFrom : ℕ → Selectors → Triple × Data → Triple × Data → Type 0
-  IsBeforeFrom number sels t u =
-      (t.0.descent ≡ u.0.descent)
-      × ((t.0.number < u.0.number) ⊎ ((m : ℕ) × (t.0.number ≡ number + m) × (u.0.number ≡ number + m) × SelectedBeforeBy sels m t.0.step u.0.step))
 
   picks_by_place : (sels : Selectors) (number : ℕ) (down : List Step) (v : Data) (t : Triple × Data) → IsIn t (picks_by sels number down v) → (t.0.descent ≡ down) × (number ≤ t.0.number)
   picks_by_place no_selectors number down v t h = absurd h
@@ -146,26 +170,6 @@ module _ (F : FunctionSet) (top : Data) where
 
   -- ---- the nodes of the ends
 
-  -- the node of an end, where the derivation begins at a node
-  abbrev pub node_at : Located → End → Located
-  node_at n e = record { location = n.location ++ location_of e.0; value = e.1 }
-
-  -- the node of a triple
-  abbrev child_of : Located → Triple × Data → Located
-  child_of n t = record { location = n.location ++ (t.0.descent ++ t.0.step ∷ []); value = t.1 }
-
-  node_at-after : (n : Located) (t : Triple × Data) (es : List End) → map (node_at (child_of n t)) es ≡ map (node_at n) (map (after t) es)
-  node_at-after n t [] = refl
-  node_at-after n t (e ∷ es) =
-      ap (λ l. record { location = l; value = e.1 } ∷ map (node_at (child_of n t)) es) (append_assoc n.location (t.0.descent ++ t.0.step ∷ []) (location_of e.0))
-      ∙ ap (λ ns. node_at n (after t e) ∷ ns) (node_at-after n t es)
-
-  child_of-triple : (n : Located) (down : List Step) (number : ℕ) (cs : List (Step × Data)) → map (child_of n) (map (triple_at down number) cs) ≡ map (placed (n.location ++ down)) cs
-  child_of-triple n down number [] = refl
-  child_of-triple n down number (c ∷ cs) =
-      ap (λ l. record { location = l; value = c.1 } ∷ map (child_of n) (map (triple_at down number) cs)) (sym (append_assoc n.location down (c.0 ∷ [])))
-      ∙ ap (λ ns. placed (n.location ++ down) c ∷ ns) (child_of-triple n down number cs)
-
   child_of-picks_by : (sels : Selectors) (number : ℕ) (n : Located) (down : List Step) (v : Data)
       → map (child_of n) (picks_by sels number down v) ≡ map (placed (n.location ++ down)) (chosen_by F top sels v)
   child_of-picks_by no_selectors number n down v = refl
@@ -179,10 +183,6 @@ module _ (F : FunctionSet) (top : Data) where
   child_of-picks (dot_name k) n down v = child_of-triple n down 0 (option_to_list (child_by v (by_name k)))
   child_of-picks dot_wildcard n down v = child_of-triple n down 0 (children v)
   child_of-picks (long_hand sels) n down v = child_of-picks_by sels 0 n down v
-
-  levels_reached : (kind : SegmentKind) (n : Located) → map (beneath n.location) (levels kind n.value) ≡ reached kind n
-  levels_reached child n = ap (λ l. record { location = l; value = n.value } ∷ []) (append-nil n.location)
-  levels_reached descendant n = refl
 
   -- the nodes that segments select from a node are those of the ends
   pub results-ends : (segs : Segments) (n : Located) → results_from F top segs n ≡ map (node_at n) (ends segs n.value)

@@ -49,7 +49,8 @@ counted n k e = let less : k < n = grind (arith, e) in omega (arith, ints)
 counts_back : (n k q : ℕ) → pos q ≡ (negsuc k +ℤ pos n) → (nat_lt k n ≡ true) × (q ≡ n - (k + 1))
 counts_back n k q e = let less : k < n = omega (arith, ints) in (grind arith, omega (arith, ints))
 
-item_sound : (items : Items) (i : ℤ) (s : Step) (c : Data) → item_at (array items) i ≡ Some (s, c) → IsPositionOf (SelectsIndex i) (array items) s × (child_at (array items) s ≡ Some c)
+-- the item of an index is at a position that it selects
+pub item_sound : (items : Items) (i : ℤ) (s : Step) (c : Data) → item_at (array items) i ≡ Some (s, c) → IsPositionOf (SelectsIndex i) (array items) s × (child_at (array items) s ≡ Some c)
 item_sound items (pos p) s c e =
     let b = by_step (array items) (by_position p) s c e in
     ((items, refl, p, b.0, inl refl), ap (child_at (array items)) b.0 ∙ b.1)
@@ -65,7 +66,7 @@ item_sound items (negsuc k) s c e = split (nat_lt k (items_count items)) refl
     split false f =
         absurd (none-some (s, c) (sym (ap (λ b. option_and_then (λ q. child_by (array items) (by_position q)) (if b then Some (items_count items - (k + 1)) else None)) f) ∙ e))
 
-item_complete : (v : Data) (i : ℤ) (s : Step) (c : Data) → IsPositionOf (SelectsIndex i) v s → child_at v s ≡ Some c → item_at v i ≡ Some (s, c)
+pub item_complete : (v : Data) (i : ℤ) (s : Step) (c : Data) → IsPositionOf (SelectsIndex i) v s → child_at v s ≡ Some c → item_at v i ≡ Some (s, c)
 item_complete (array ds) (pos p) s c (items, e, q, t, inl f) g =
     let p_is : p ≡ q = omega (arith, ints, f) in
     let s_is : by_position p ≡ s = ap by_position p_is ∙ sym t in
