@@ -33,9 +33,10 @@ items_in i (suc p) (item d more) c e =
 
 items_ordered : (i : ℕ) (items : Items) → IsInOrder (λ (a b : Step × Data). StepBefore a.0 b.0) (items_from i items)
 items_ordered i no_items = tt
-items_ordered i (item d more) =
-    (λ c h. let k = in_items (i + 1) more c h in let less : i < (i + 1) + k.0 = omega arith in subst (StepBefore (by_position i)) (sym k.1) less,
-     items_ordered (i + 1) more)
+items_ordered i (item d more) = (
+  λ c h. let k = in_items (i + 1) more c h in let less : i < (i + 1) + k.0 = omega arith in subst (StepBefore (by_position i)) (sym k.1) less,
+  items_ordered (i + 1) more,
+)
 
 -- ---- members in the order of their names
 

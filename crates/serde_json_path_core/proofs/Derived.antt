@@ -42,18 +42,20 @@ at_below v down d s c rest p q =
 
 -- the values at which selectors are applied are those that the segment may descend to
 in_levels : (kind : SegmentKind) (v : Data) (m : Located) → IsIn m (levels kind v) ↔ (MayDescend kind m.location × (at v m.location ≡ Some m.value))
-in_levels child v m =
-    (elim [ inl e ↦ (ap (λ (n : Located). n.location) e, subst (λ (n : Located). at v n.location ≡ Some n.value) (sym e) refl) | inr h ↦ absurd h ],
-     λ h. let same = same_Some v m.value (ap (at v) (sym h.0) ∙ h.1) in inl (λ i. record { location = h.0 i; value = sym same i }))
+in_levels child v m = (
+  elim [ inl e ↦ (ap (λ (n : Located). n.location) e, subst (λ (n : Located). at v n.location ≡ Some n.value) (sym e) refl) | inr h ↦ absurd h ],
+  λ h. let same = same_Some v m.value (ap (at v) (sym h.0) ∙ h.1) in inl (λ i. record { location = h.0 i; value = sym same i }),
+)
 in_levels descendant v m = let d = in_descents v m in (λ h. (tt, d.0 h), λ h. d.1 h.1)
 
 -- the triples of children
 in_triples : (down : List Step) (number : ℕ) (cs : List (Step × Data)) (t : Triple × Data)
     → IsIn t (map (triple_at down number) cs) ↔ ((t.0.descent ≡ down) × (t.0.number ≡ number) × IsIn {A = Step × Data} (t.0.step, t.1) cs)
-in_triples down number cs t =
-    (λ h. let c = (in_map (triple_at down number) t cs).0 h in
-        (ap (λ (u : Triple × Data). u.0.descent) c.2, ap (λ (u : Triple × Data). u.0.number) c.2, subst (λ (u : Triple × Data). IsIn {A = Step × Data} (u.0.step, u.1) cs) (sym c.2) c.1),
-     λ h. (in_map (triple_at down number) t cs).1 ((t.0.step, t.1), h.2, λ i. (record { descent = h.0 i; number = h.1 i; step = t.0.step }, t.1)))
+in_triples down number cs t = (
+  λ h. let c = (in_map (triple_at down number) t cs).0 h in
+      (ap (λ (u : Triple × Data). u.0.descent) c.2, ap (λ (u : Triple × Data). u.0.number) c.2, subst (λ (u : Triple × Data). IsIn {A = Step × Data} (u.0.step, u.1) cs) (sym c.2) c.1),
+  λ h. (in_map (triple_at down number) t cs).1 ((t.0.step, t.1), h.2, λ i. (record { descent = h.0 i; number = h.1 i; step = t.0.step }, t.1)),
+)
 
 -- ---- tests and answers
 
@@ -70,9 +72,10 @@ truth_of P b t d = (λ h. h.1 ∙ ap logical (same_from_decides h.0 b h.2 d), λ
 relation_right : (op : Operator) (o p : Option Compared) (A B : Compared → Type 0) → ((x : Compared) → A x ↔ (o ≡ Some x)) → ((y : Compared) → B y ↔ (p ≡ Some y))
     → Decides (compare_sides op o p) ((x y : Compared) × A x × B y × Compares op x y)
 relation_right op (Some a) (Some b) A B f g =
-    let d = Decides-compare op a b in
-    (λ e. (a, b, (f a).1 refl, (g b).1 refl, d.0 e),
-     λ h. d.1 (subst (λ x. Compares op x b) (sym (same_Some a h.0 ((f h.0).0 h.2))) (subst (Compares op h.0) (sym (same_Some b h.1 ((g h.1).0 h.3))) h.4)))
+    let d = Decides-compare op a b in (
+      λ e. (a, b, (f a).1 refl, (g b).1 refl, d.0 e),
+      λ h. d.1 (subst (λ x. Compares op x b) (sym (same_Some a h.0 ((f h.0).0 h.2))) (subst (Compares op h.0) (sym (same_Some b h.1 ((g h.1).0 h.3))) h.4)),
+    )
 relation_right op None p A B f g = (λ e. absurd (true≢false (sym e)), λ h. absurd (none-some h.0 ((f h.0).0 h.2)))
 relation_right op (Some a) None A B f g = (λ e. absurd (true≢false (sym e)), λ h. absurd (none-some h.1 ((g h.1).0 h.3)))
 
@@ -145,9 +148,11 @@ module _ (F : FunctionSet) (top : Data) where
           let p = (are_picks m.0.location m.0.value t.0).0 m.2 in
           let i = (are_ends t.0.1 k.0).0 k.1 in
           let there = ap (at v) p.0 ∙ l.1 in
-          subst (λ (x : End). Derives F top (segment kind seg more) v x.0 × (at v (location_of x.0) ≡ Some x.1)) (sym k.2)
-          ((subst (MayDescend kind) (sym p.0) l.0, (m.0.value, there, p.1, (t.0.1, p.2, i.0))),
-            at_below v t.0.0.descent m.0.value t.0.0.step t.0.1 (location_of k.0.0) there p.2 ∙ i.1)
+          subst (λ (x : End). Derives F top (segment kind seg more) v x.0 × (at v (location_of x.0) ≡ Some x.1)) (sym k.2) (
+            (subst (MayDescend kind) (sym p.0) l.0, (m.0.value, there, p.1, (t.0.1, p.2, i.0))),
+            at_below v t.0.0.descent m.0.value t.0.0.step t.0.1 (location_of k.0.0) there p.2 ∙ i.1,
+          )
+
       back : (xs : List Triple) (d : Data) → Derives F top (segment kind seg more) v xs → at v (location_of xs) ≡ Some d → IsIn {A = End} (xs, d) (ends F top (segment kind seg more) v)
       back [] d h g = absurd h
       back (x ∷ xs) d (may, (w, there, admits, (c, leads, rest))) g =
@@ -165,10 +170,11 @@ module _ (F : FunctionSet) (top : Data) where
           → (m : ℕ) × (t.0.number ≡ number + m) × (t.0.descent ≡ down) × AdmitsBy F top (selector sel more) m v t.0.step × (child_at v t.0.step ≡ Some t.1)
       forth h =
           elim ((in_append t (map (triple_at down number) (selected F top sel v)) (picks_by F top more (number + 1) down v)).0 h) [
-            inl g ↦ let k = (in_triples down number (selected F top sel v) t).0 g in let s = (are_selected v (t.0.step, t.1)).0 k.2 in
-              (0, let e = k.1 in omega arith, k.0, s.0, s.1)
-          | inr g ↦ let k = (are_picks (number + 1) down v t).0 g in (suc k.0, let e = k.1 in omega arith, k.2, k.3, k.4)
+            | inl g ↦ let k = (in_triples down number (selected F top sel v) t).0 g in let s = (are_selected v (t.0.step, t.1)).0 k.2 in
+                (0, let e = k.1 in omega arith, k.0, s.0, s.1)
+            | inr g ↦ let k = (are_picks (number + 1) down v t).0 g in (suc k.0, let e = k.1 in omega arith, k.2, k.3, k.4)
           ]
+
       back : (m : ℕ) → t.0.number ≡ number + m → t.0.descent ≡ down → AdmitsBy F top (selector sel more) m v t.0.step → child_at v t.0.step ≡ Some t.1
           → IsIn t (picks_by F top (selector sel more) number down v)
       back zero e d a c =
@@ -192,16 +198,18 @@ module _ (F : FunctionSet) (top : Data) where
 
   long_hand_step : (sels : Selectors) → ArePicksBy sels → ArePicks (long_hand sels)
   long_hand_step sels are_picks down v t =
-      let i = are_picks 0 down v t in
-      (λ h. let j = i.0 h in (j.2, subst (λ n. AdmitsBy F top sels n v t.0.step) (sym (j.1 ∙ zero-add j.0)) j.3, j.4),
-       λ h. i.1 (t.0.number, sym (zero-add t.0.number), h.0, h.1, h.2))
+      let i = are_picks 0 down v t in (
+        λ h. let j = i.0 h in (j.2, subst (λ n. AdmitsBy F top sels n v t.0.step) (sym (j.1 ∙ zero-add j.0)) j.3, j.4),
+        λ h. i.1 (t.0.number, sym (zero-add t.0.number), h.0, h.1, h.2),
+      )
 
   filter_step : (e : LogicalOr) → ((v : Data) → Decides (is_true F top e v) (Holds F top e v)) → AreSelected (filter e)
   filter_step e right v c =
       let k = in_keep (λ (x : Step × Data). is_true F top e x.1) c (children v) in
-      let i = in_children v c in
-      (λ h. let j = k.0 h in ((c.1, i.0 j.0, (right c.1).0 j.1), i.0 j.0),
-       λ h. k.1 (i.1 h.1, (right c.1).1 (subst (Holds F top e) (same_Some h.0.0 c.1 (sym h.0.1 ∙ h.1)) h.0.2)))
+      let i = in_children v c in (
+        λ h. let j = k.0 h in ((c.1, i.0 j.0, (right c.1).0 j.1), i.0 j.0),
+        λ h. k.1 (i.1 h.1, (right c.1).1 (subst (Holds F top e) (same_Some h.0.0 c.1 (sym h.0.1 ∙ h.1)) h.0.2)),
+      )
 
   zipped : (start : Data) (es : List End) → ((e : End) → IsIn e es → at start (location_of e.0) ≡ Some e.1)
       → AllZip (BelongsTo start) (map (λ (e : End). e.0) es) (map (node_at (itself start)) es)
@@ -213,17 +221,20 @@ module _ (F : FunctionSet) (top : Data) where
       let start = start_of kind top v in
       let es = ends F top segs start in
       let same = sym (results-ends F top segs (itself start)) in
-      let derive : (xs : List Triple) → IsIn xs (map (λ (e : End). e.0) es) ↔ Derives F top segs start xs = λ xs.
-        (λ h. let k = (in_map (λ (e : End). e.0) xs es).0 h in subst (Derives F top segs start) (sym k.2) ((are_ends start k.0).0 k.1).0,
-         λ h. let d = derives_at segs start xs h in map_in (λ (e : End). e.0) (xs, d.0) es ((are_ends start (xs, d.0)).1 (h, d.1))) in
-      (subst (IsResult F top (query kind segs) v) same
-        (map (λ (e : End). e.0) es, in_order-map (Before segs) (λ (e : End). e.0) es (ends_ordered F top segs start), derive, zipped start es (λ e h. ((are_ends start e).0 h).1)),
-       subst (λ ns. Decides (is_nonempty ns) (Exists F top (query kind segs) v)) same
-        ((λ e. let n = (nonempty_is (map (node_at (itself start)) es)).0 e in
-            let k = (in_map (node_at (itself start)) n.0 es).0 n.1 in (k.0.0, ((are_ends start k.0).0 k.1).0)),
-         λ h. let d = derives_at segs start h.0 h.1 in
-            (nonempty_is (map (node_at (itself start)) es)).1
-            (node_at (itself start) (h.0, d.0), map_in (node_at (itself start)) (h.0, d.0) es ((are_ends start (h.0, d.0)).1 (h.1, d.1)))))
+      let derive : (xs : List Triple) → IsIn xs (map (λ (e : End). e.0) es) ↔ Derives F top segs start xs = λ xs. (
+        λ h. let k = (in_map (λ (e : End). e.0) xs es).0 h in subst (Derives F top segs start) (sym k.2) ((are_ends start k.0).0 k.1).0,
+        λ h. let d = derives_at segs start xs h in map_in (λ (e : End). e.0) (xs, d.0) es ((are_ends start (xs, d.0)).1 (h, d.1)),
+      ) in (
+        subst (IsResult F top (query kind segs) v) same
+            (map (λ (e : End). e.0) es, in_order-map (Before segs) (λ (e : End). e.0) es (ends_ordered F top segs start), derive, zipped start es (λ e h. ((are_ends start e).0 h).1)),
+        subst (λ ns. Decides (is_nonempty ns) (Exists F top (query kind segs) v)) same (
+          (λ e. let n = (nonempty_is (map (node_at (itself start)) es)).0 e in
+              let k = (in_map (node_at (itself start)) n.0 es).0 n.1 in (k.0.0, ((are_ends start k.0).0 k.1).0)),
+          λ h. let d = derives_at segs start h.0 h.1 in
+              (nonempty_is (map (node_at (itself start)) es)).1
+              (node_at (itself start) (h.0, d.0), map_in (node_at (itself start)) (h.0, d.0) es ((are_ends start (h.0, d.0)).1 (h.1, d.1))),
+        ),
+      )
 
   -- what a query's result gives
   result_gives : (q : Query) → IsQueryRight q → (v : Data) (A : Type 0) (f : List Located → A) (x : A)
@@ -239,9 +250,10 @@ module _ (F : FunctionSet) (top : Data) where
     query_right (query kind segs) typed = query_step kind segs (are_ends segs typed)
 
     pub are_ends : (segs : Segments) → AreTypedSegments F.signature segs → AreEnds segs
-    are_ends no_segments typed = λ v e.
-        (elim [ inl p ↦ (ap (λ (x : End). x.0) p, subst (λ (x : End). at v (location_of x.0) ≡ Some x.1) (sym p) refl) | inr h ↦ absurd h ],
-         λ h. let same = same_Some v e.1 (sym (ap (λ xs. at v (location_of xs)) h.0) ∙ h.1) in inl (λ i. (h.0 i, sym same i)))
+    are_ends no_segments typed = λ v e. (
+      elim [ inl p ↦ (ap (λ (x : End). x.0) p, subst (λ (x : End). at v (location_of x.0) ≡ Some x.1) (sym p) refl) | inr h ↦ absurd h ],
+      λ h. let same = same_Some v e.1 (sym (ap (λ xs. at v (location_of xs)) h.0) ∙ h.1) in inl (λ i. (h.0 i, sym same i)),
+    )
     are_ends (segment kind seg more) typed = ends_step kind seg more (are_picks seg typed.0) (are_ends more typed.1)
 
     are_picks : (seg : Segment) → IsTypedSegment F.signature seg → ArePicks seg
@@ -291,9 +303,10 @@ module _ (F : FunctionSet) (top : Data) where
     pub call_right : (c : Call) → IsTypedCall F.signature c → (v : Data) (t : Term) → Answers F top c v t ↔ (t ≡ answer F top c v)
     call_right (call f args) typed v t =
         let kinds_are = ap params_of typed.1 in
-        let g = arguments_right args (params_of (F.signature f)) (subst (AreTypedArguments F.signature args) (sym kinds_are) typed.2) v in
-        (λ h. h.2 ∙ ap (F.meaning f) ((g h.0).0 h.1),
-         λ e. (arguments F top args (params_of (F.signature f)) v, (g (arguments F top args (params_of (F.signature f)) v)).1 refl, e))
+        let g = arguments_right args (params_of (F.signature f)) (subst (AreTypedArguments F.signature args) (sym kinds_are) typed.2) v in (
+          λ h. h.2 ∙ ap (F.meaning f) ((g h.0).0 h.1),
+          λ e. (arguments F top args (params_of (F.signature f)) v, (g (arguments F top args (params_of (F.signature f)) v)).1 refl, e),
+        )
 
     arguments_right : (args : Arguments) (kinds : List Kind) → AreTypedArguments F.signature args kinds → (v : Data) (ts : List Term)
         → AreArguments F top args kinds v ts ↔ (ts ≡ arguments F top args kinds v)

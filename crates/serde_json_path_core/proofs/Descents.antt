@@ -96,9 +96,10 @@ module _ (P : Data → Type 0) (step : (v : Data) → ((s : Step) (c : Data) →
 
 -- the list has each value with its location
 located_in : (location : List Step) (v d : Data) → IsIn (record { location = location; value = d }) (itself v ∷ flat_map below_child (children v)) ↔ (at v location ≡ Some d)
-located_in [] v d =
-    (elim [ inl e ↦ ap (λ (n : Located). Some n.value) (sym e) | inr h ↦ absurd (nowhere h) ],
-     λ e. inl (ap itself (sym (same_Some v d e))))
+located_in [] v d = (
+  elim [ inl e ↦ ap (λ (n : Located). Some n.value) (sym e) | inr h ↦ absurd (nowhere h) ],
+  λ e. inl (ap itself (sym (same_Some v d e))),
+)
   where
     nowhere : IsIn (record { location = []; value = d }) (flat_map below_child (children v)) → ⊥
     nowhere h =
@@ -122,14 +123,15 @@ located_in (s ∷ location) v d = (forth (λ c. located_in location c d), back (
         let there = (later c.0.1).0 (subst (IsIn (record { location = location; value = d })) (descents_are c.0.1) here) in
         let first = ap (child_at v) step_is ∙ (in_children v c.0).0 c.1 in
         ap (option_and_then (λ w. at w location)) first ∙ there
+
     back : ((c : Data) → IsIn (record { location = location; value = d }) (itself c ∷ flat_map below_child (children c)) ↔ (at c location ≡ Some d))
         → at v (s ∷ location) ≡ Some d → IsIn (record { location = s ∷ location; value = d }) (itself v ∷ flat_map below_child (children v))
     back later e =
         option_and_then_some (λ w. at w location) (child_at v s) d e
         (λ c f g.
-            let here = subst (IsIn (record { location = location; value = d })) (sym (descents_are c)) ((later c).1 g) in
-            inr ((in_flat_map below_child (record { location = s ∷ location; value = d }) (children v)).1
-            ((s, c), (in_children v (s, c)).1 f, map_in (beneath (s ∷ [])) (record { location = location; value = d }) (descents c) here)))
+        let here = subst (IsIn (record { location = location; value = d })) (sym (descents_are c)) ((later c).1 g) in
+        inr ((in_flat_map below_child (record { location = s ∷ location; value = d }) (children v)).1
+        ((s, c), (in_children v (s, c)).1 f, map_in (beneath (s ∷ [])) (record { location = location; value = d }) (descents c) here)))
 
 -- the values below a value are those at its locations
 pub in_descents : (v : Data) (n : Located) → IsIn n (descents v) ↔ (at v n.location ≡ Some n.value)
@@ -149,17 +151,19 @@ descents_ordered = by_children (λ v. IsInOrder (λ (m n : Located). DescentBefo
         let c = (in_flat_map below_child n (children v)).0 h in
         let m = (in_map (beneath (c.0.0 ∷ [])) n (descents c.0.1)).0 c.2 in
         subst (λ (k : Located). DescentBefore [] k.location) (sym m.2) tt
+
     apart : (x y : Step × Data) (a b : Located) → StepBefore x.0 y.0 → IsIn a (below_child x) → IsIn b (below_child y) → DescentBefore a.location b.location
     apart x y a b before h g =
         let m = (in_map (beneath (x.0 ∷ [])) a (descents x.1)).0 h in
         let n = (in_map (beneath (y.0 ∷ [])) b (descents y.1)).0 g in
         subst (λ (k : Located). DescentBefore k.location b.location) (sym m.2)
         (subst (λ (k : Located). DescentBefore (x.0 ∷ m.0.location) k.location) (sym n.2) (inl before))
+
     rest : (v : Data) → ((s : Step) (c : Data) → child_at v s ≡ Some c → IsInOrder (λ (m n : Located). DescentBefore m.location n.location) (descents c))
         → IsInOrder (λ (m n : Located). DescentBefore m.location n.location) (flat_map below_child (children v))
     rest v below =
         in_order-flat_map (λ (a b : Step × Data). StepBefore a.0 b.0) (λ (m n : Located). DescentBefore m.location n.location) below_child (children v) (children_ordered v)
         (λ c h. in_order-map (λ (m n : Located). DescentBefore m.location n.location) (beneath (c.0 ∷ [])) (descents c.1)
-            (weaker (λ (m n : Located). DescentBefore m.location n.location) (λ m n. DescentBefore (c.0 ∷ m.location) (c.0 ∷ n.location)) (descents c.1)
-                (λ m n before. inr (refl, before)) (below c.0 c.1 ((in_children v c).0 h))))
+        (weaker (λ (m n : Located). DescentBefore m.location n.location) (λ m n. DescentBefore (c.0 ∷ m.location) (c.0 ∷ n.location)) (descents c.1)
+        (λ m n before. inr (refl, before)) (below c.0 c.1 ((in_children v c).0 h))))
         apart

@@ -95,9 +95,9 @@ module _ (F : FunctionSet) (top : Data) where
   picks_by_place no_selectors number down v t h = absurd h
   picks_by_place (selector sel more) number down v t h =
       elim ((in_append t (map (triple_at down number) (selected F top sel v)) (picks_by more (number + 1) down v)).0 h) [
-        inl g ↦ let c = (in_map (triple_at down number) t (selected F top sel v)).0 g in
-          (ap (λ (u : Triple × Data). u.0.descent) c.2, let e : t.0.number ≡ number = ap (λ (u : Triple × Data). u.0.number) c.2 in omega arith)
-      | inr g ↦ let k = picks_by_place more (number + 1) down v t g in (k.0, let less = k.1 in omega arith)
+        | inl g ↦ let c = (in_map (triple_at down number) t (selected F top sel v)).0 g in
+            (ap (λ (u : Triple × Data). u.0.descent) c.2, let e : t.0.number ≡ number = ap (λ (u : Triple × Data). u.0.number) c.2 in omega arith)
+        | inr g ↦ let k = picks_by_place more (number + 1) down v t g in (k.0, let less = k.1 in omega arith)
       ]
 
   picks_by_ordered : (sels : Selectors) (number : ℕ) (down : List Step) (v : Data) → IsInOrder (IsBeforeFrom number sels) (picks_by sels number down v)
@@ -105,14 +105,14 @@ module _ (F : FunctionSet) (top : Data) where
   picks_by_ordered (selector sel more) number down v =
       in_order-append (IsBeforeFrom number (selector sel more)) (map (triple_at down number) (selected F top sel v)) (picks_by more (number + 1) down v)
       (in_order-map (IsBeforeFrom number (selector sel more)) (triple_at down number) (selected F top sel v)
-        (weaker _ _ (selected F top sel v) (λ a b h. (refl, inr (0, omega arith, omega arith, h))) (selected_ordered sel v)))
+      (weaker _ _ (selected F top sel v) (λ a b h. (refl, inr (0, omega arith, omega arith, h))) (selected_ordered sel v)))
       (weaker _ _ (picks_by more (number + 1) down v) (λ t u h. (h.0, later t u h.1)) (picks_by_ordered more (number + 1) down v))
       (λ t u h g.
-        let c = (in_map (triple_at down number) t (selected F top sel v)).0 h in
-        let d = picks_by_place more (number + 1) down v u g in
-        let e : t.0.number ≡ number = ap (λ (w : Triple × Data). w.0.number) c.2 in
-        let less = d.1 in
-        (ap (λ (w : Triple × Data). w.0.descent) c.2 ∙ sym d.0, inl (omega arith)))
+      let c = (in_map (triple_at down number) t (selected F top sel v)).0 h in
+      let d = picks_by_place more (number + 1) down v u g in
+      let e : t.0.number ≡ number = ap (λ (w : Triple × Data). w.0.number) c.2 in
+      let less = d.1 in
+      (ap (λ (w : Triple × Data). w.0.descent) c.2 ∙ sym d.0, inl (omega arith)))
     where
       later : (t u : Triple × Data)
           → (t.0.number < u.0.number) ⊎ ((m : ℕ) × (t.0.number ≡ (number + 1) + m) × (u.0.number ≡ (number + 1) + m) × SelectedBeforeBy more m t.0.step u.0.step)
@@ -148,7 +148,7 @@ module _ (F : FunctionSet) (top : Data) where
       in_order-flat_map (λ (m n : Located). DescentBefore m.location n.location) (λ (t u : Triple × Data). TripleBefore seg t.0 u.0)
       (λ (m : Located). picks seg m.location m.value) (levels kind v) (in_levels kind) (λ m h. picks_ordered seg m.location m.value)
       (λ m n t u before h g. inl (subst (λ l. DescentBefore l u.0.descent) (sym (picks_place seg m.location m.value t h))
-        (subst (DescentBefore m.location) (sym (picks_place seg n.location n.value u g)) before)))
+      (subst (DescentBefore m.location) (sym (picks_place seg n.location n.value u g)) before)))
     where
       in_levels : (kind : SegmentKind) → IsInOrder (λ (m n : Located). DescentBefore m.location n.location) (levels kind v)
       in_levels child = (λ y h. absurd h, tt)
@@ -161,12 +161,12 @@ module _ (F : FunctionSet) (top : Data) where
       in_order-flat_map (λ (t u : Triple × Data). TripleBefore seg t.0 u.0) (λ (d e : End). Before (segment kind seg more) d.0 e.0)
       (λ t. map (after t) (ends more t.1)) (through kind seg v) (through_ordered kind seg v)
       (λ t i. in_order-map (λ (d e : End). Before (segment kind seg more) d.0 e.0) (after t) (ends more t.1)
-        (weaker _ _ (ends more t.1) (λ d e h. inr (refl, h)) (ends_ordered more t.1)))
+      (weaker _ _ (ends more t.1) (λ d e h. inr (refl, h)) (ends_ordered more t.1)))
       (λ t u d e before h g.
-        let k = (in_map (after t) d (ends more t.1)).0 h in
-        let l = (in_map (after u) e (ends more u.1)).0 g in
-        subst (λ (x : End). Before (segment kind seg more) x.0 e.0) (sym k.2)
-        (subst (λ (y : End). Before (segment kind seg more) (t.0 ∷ k.0.0) y.0) (sym l.2) (inl before)))
+      let k = (in_map (after t) d (ends more t.1)).0 h in
+      let l = (in_map (after u) e (ends more u.1)).0 g in
+      subst (λ (x : End). Before (segment kind seg more) x.0 e.0) (sym k.2)
+      (subst (λ (y : End). Before (segment kind seg more) (t.0 ∷ k.0.0) y.0) (sym l.2) (inl before)))
 
   -- ---- the nodes of the ends
 
@@ -194,8 +194,8 @@ module _ (F : FunctionSet) (top : Data) where
       ap (flat_map below) (sym (levels_reached kind n))
       ∙ flat_map-map below (beneath n.location) (levels kind n.value)
       ∙ flat_map-same (λ m. below (beneath n.location m)) (λ m. flat_map (λ t. results_from F top more (child_of n t)) (pick m))
-        (λ m. ap (flat_map (results_from F top more)) (sym (child_of-picks seg n m.location m.value)) ∙ flat_map-map (results_from F top more) (child_of n) (pick m)) (levels kind n.value)
+      (λ m. ap (flat_map (results_from F top more)) (sym (child_of-picks seg n m.location m.value)) ∙ flat_map-map (results_from F top more) (child_of n) (pick m)) (levels kind n.value)
       ∙ sym (flat_map-flat_map (λ t. results_from F top more (child_of n t)) pick (levels kind n.value))
       ∙ flat_map-same (λ t. results_from F top more (child_of n t)) (λ t. map (node_at n) (map (after t) (ends more t.1)))
-        (λ t. results-ends more (child_of n t) ∙ node_at-after n t (ends more t.1)) ts
+      (λ t. results-ends more (child_of n t) ∙ node_at-after n t (ends more t.1)) ts
       ∙ sym (map-flat_map (node_at n) (λ t. map (after t) (ends more t.1)) ts)

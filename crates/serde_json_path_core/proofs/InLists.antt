@@ -12,17 +12,19 @@ use Rattle.serde_json_path_core.specs.Computed.{is_nonempty}
 pub in_append : {A : Type 0} (x : A) (xs ys : List A) → IsIn x (xs ++ ys) ↔ (IsIn x xs ⊎ IsIn x ys)
 in_append x [] ys = (λ h. inr h, λ h. elim h [ inl g ↦ absurd g | inr g ↦ g ])
 in_append x (z ∷ xs) ys =
-    let later = in_append x xs ys in
-    (elim [ inl e ↦ inl (inl e) | inr h ↦ elim (later.0 h) [ inl g ↦ inl (inr g) | inr g ↦ inr g ] ],
-     elim [ inl h ↦ elim h [ inl e ↦ inl e | inr g ↦ inr (later.1 (inl g)) ] | inr h ↦ inr (later.1 (inr h)) ])
+    let later = in_append x xs ys in (
+      elim [ inl e ↦ inl (inl e) | inr h ↦ elim (later.0 h) [ inl g ↦ inl (inr g) | inr g ↦ inr g ] ],
+      elim [ inl h ↦ elim h [ inl e ↦ inl e | inr g ↦ inr (later.1 (inl g)) ] | inr h ↦ inr (later.1 (inr h)) ],
+    )
 
 -- what is in a mapped list is the image of a member
 pub in_map : {A B : Type 0} (f : A → B) (y : B) (xs : List A) → IsIn y (map f xs) ↔ ((x : A) × IsIn x xs × (y ≡ f x))
 in_map f y [] = (λ h. absurd h, λ h. h.1)
 in_map {A = A} f y (x ∷ xs) =
-    let later = in_map f y xs in
-    (elim [ inl e ↦ (x, inl refl, e) | inr h ↦ let g = later.0 h in (g.0, inr g.1, g.2) ],
-     λ h. back later h.0 h.1 h.2)
+    let later = in_map f y xs in (
+      elim [ inl e ↦ (x, inl refl, e) | inr h ↦ let g = later.0 h in (g.0, inr g.1, g.2) ],
+      λ h. back later h.0 h.1 h.2,
+    )
   where
     back : (IsIn y (map f xs) ↔ ((x : A) × IsIn x xs × (y ≡ f x))) → (z : A) → IsIn z (x ∷ xs) → y ≡ f z → IsIn y (f x ∷ map f xs)
     back later z (inl e) g = inl (g ∙ ap f e)
@@ -37,9 +39,10 @@ pub in_flat_map : {A B : Type 0} (f : A → List B) (y : B) (xs : List A) → Is
 in_flat_map f y [] = (λ h. absurd h, λ h. h.1)
 in_flat_map {A = A} f y (x ∷ xs) =
     let later = in_flat_map f y xs in
-    let here = in_append y (f x) (flat_map f xs) in
-    (λ h. elim (here.0 h) [ inl g ↦ (x, inl refl, g) | inr g ↦ let k = later.0 g in (k.0, inr k.1, k.2) ],
-     λ h. here.1 (back later h.0 h.1 h.2))
+    let here = in_append y (f x) (flat_map f xs) in (
+      λ h. elim (here.0 h) [ inl g ↦ (x, inl refl, g) | inr g ↦ let k = later.0 g in (k.0, inr k.1, k.2) ],
+      λ h. here.1 (back later h.0 h.1 h.2),
+    )
   where
     back : (IsIn y (flat_map f xs) ↔ ((x : A) × IsIn x xs × IsIn y (f x))) → (z : A) → IsIn z (x ∷ xs) → IsIn y (f z) → IsIn y (f x) ⊎ IsIn y (flat_map f xs)
     back later z (inl e) g = inl (subst (λ w. IsIn y (f w)) e g)
@@ -53,12 +56,15 @@ in_keep p x (z ∷ xs) = by (p z) refl (in_keep p x xs)
     kept : p z ≡ true → (IsIn x (keep p xs) ↔ (IsIn x xs × (p x ≡ true))) → IsIn x (z ∷ keep p xs) → IsIn x (z ∷ xs) × (p x ≡ true)
     kept e later (inl g) = (inl g, ap p g ∙ e)
     kept e later (inr g) = let k = later.0 g in (inr k.0, k.1)
+
     left_out : p z ≡ false → (IsIn x (keep p xs) ↔ (IsIn x xs × (p x ≡ true))) → IsIn x (z ∷ xs) → p x ≡ true → IsIn x (keep p xs)
     left_out e later (inl g) k = absurd (true≢false (sym k ∙ ap p g ∙ e))
     left_out e later (inr g) k = later.1 (g, k)
+
     stays : (IsIn x (keep p xs) ↔ (IsIn x xs × (p x ≡ true))) → IsIn x (z ∷ xs) → p x ≡ true → IsIn x (z ∷ keep p xs)
     stays later (inl g) k = inl g
     stays later (inr g) k = inr (later.1 (g, k))
+
     by : (b : Bool) → p z ≡ b → (IsIn x (keep p xs) ↔ (IsIn x xs × (p x ≡ true))) → IsIn x (cond b (z ∷ keep p xs) (keep p xs)) ↔ (IsIn x (z ∷ xs) × (p x ≡ true))
     by true e later = (kept e later, λ h. stays later h.0 h.1)
     by false e later = (λ h. let k = later.0 h in (inr k.0, k.1), λ h. left_out e later h.0 h.1)

@@ -58,6 +58,7 @@ strided_sound (suc count) upwards first stride items c h =
         → IsIn c ((by_position first, d) ∷ strided count upwards (next_position upwards first stride) stride items) → IsPlaced (suc count) upwards first stride items c
     from d e later (inl f) = (0, omega arith, ap (λ (x : Step × Data). x.0) f, e ∙ ap (λ (x : Step × Data). Some x.1) (sym f))
     from d e later (inr g) = let k = later g in (suc k.0, omega arith, k.2, k.3)
+
     by : (o : Option Data) → get_item first items ≡ o → (IsIn c (strided count upwards (next_position upwards first stride) stride items) → IsPlaced count upwards (next_position upwards first stride) stride items c)
         → IsPlaced (suc count) upwards first stride items c
     by None e later = absurd (subst (IsIn c) (next_strided count upwards first stride items None e) h)
@@ -89,9 +90,11 @@ strided_ordered R (suc count) upwards first stride items before =
         → IsInOrder (λ (a b : Step × Data). R a.0 b.0) (strided (suc count) upwards first stride items)
     by None e later = subst (IsInOrder (λ (a b : Step × Data). R a.0 b.0)) (sym (next_strided count upwards first stride items None e)) tt
     by (Some d) e later =
-        subst (IsInOrder (λ (a b : Step × Data). R a.0 b.0)) (sym (next_strided count upwards first stride items (Some d) e))
-        ((λ c h. let k = strided_sound count upwards (next_position upwards first stride) stride items c h in
-            subst (R (by_position first)) (sym k.2) (before 0 (suc k.0) (omega arith) (omega arith))), later)
+        subst (IsInOrder (λ (a b : Step × Data). R a.0 b.0)) (sym (next_strided count upwards first stride items (Some d) e)) (
+          (λ c h. let k = strided_sound count upwards (next_position upwards first stride) stride items c h in
+              subst (R (by_position first)) (sym k.2) (before 0 (suc k.0) (omega arith) (omega arith))),
+          later,
+        )
 
 -- ---- courses
 
@@ -131,6 +134,7 @@ module _ (s : Slice) (len k : ℕ) where
     where
       steps : (n : ℕ) → pos n *ℤ step_of s ≡ pos (n * suc k)
       steps n = ap (λ z. pos n *ℤ z) e ∙ pos-*ℤ-pos n (suc k)
+
       forth : SelectsPosition s len p → (j : ℕ) × (j < (rising s len (suc k)).count) × (p ≡ nat_abs low + j * suc k)
       forth (inl (up, from, before, (n, is))) =
           let b = rising_bounds in
@@ -142,6 +146,7 @@ module _ (s : Slice) (len k : ℕ) where
           let less : n * suc k < l - i = omega (arith, ints) in
           (n, (counted_within n (l - i) k).1 less, same)
       forth (inr h) = let d : pos (suc k) <ℤ pos 0 = subst (λ z. z <ℤ pos 0) e h.0 in absurd (omega (arith, ints))
+
       back : (j : ℕ) → j < (rising s len (suc k)).count → p ≡ nat_abs low + j * suc k → SelectsPosition s len p
       back j h same =
           let b = rising_bounds in
@@ -151,8 +156,12 @@ module _ (s : Slice) (len k : ℕ) where
           let from : pos i ≤ℤ pos p = omega (arith, ints) in
           let before : pos p <ℤ pos l = omega (arith, ints) in
           let there : pos p ≡ pos i +ℤ pos (j * suc k) = omega (arith, ints) in
-          inl (subst (λ z. pos 0 <ℤ z) (sym e) (omega (arith, ints)), subst (λ z. z ≤ℤ pos p) b.0 from, subst (λ z. pos p <ℤ z) b.1 before,
-            (j, there ∙ ap (λ z. z +ℤ pos (j * suc k)) b.0 ∙ ap (λ z. low +ℤ z) (sym (steps j))))
+          inl (
+            subst (λ z. pos 0 <ℤ z) (sym e) (omega (arith, ints)),
+            subst (λ z. z ≤ℤ pos p) b.0 from,
+            subst (λ z. pos p <ℤ z) b.1 before,
+            (j, there ∙ ap (λ z. z +ℤ pos (j * suc k)) b.0 ∙ ap (λ z. low +ℤ z) (sym (steps j))),
+          )
 
   abbrev last : ℤ
   last = pos len -ℤ pos 1
@@ -174,6 +183,7 @@ module _ (s : Slice) (len k : ℕ) where
     where
       above : (z : ℤ) → (pos 0 -ℤ pos 1) ≤ℤ z → pos 0 ≤ℤ (z +ℤ pos 1)
       above z h = omega (arith, ints)
+
       within : (z : ℤ) → z ≤ℤ (pos len -ℤ pos 1) → (z +ℤ pos 1) ≤ℤ pos len
       within z h = omega (arith, ints)
 
@@ -183,11 +193,14 @@ module _ (s : Slice) (len k : ℕ) where
     where
       steps : (n : ℕ) → pos n *ℤ step_of s ≡ neg_ℤ (pos (n * suc k))
       steps n = ap (λ z. pos n *ℤ z) e ∙ pos-*ℤ-negsuc n k
+
       -- over numbers alone
       downwards : (z b : ℤ) (u l m : ℕ) → pos u ≡ (z +ℤ pos 1) → pos l ≡ (b +ℤ pos 1) → b <ℤ pos p → pos p ≡ (z +ℤ neg_ℤ (pos m)) → (m < u - l) × (p ≡ (u - 1) - m)
       downwards z b u l m f g h is = (omega (arith, ints), omega (arith, ints))
+
       upwards : (z b : ℤ) (u l m : ℕ) → pos u ≡ (z +ℤ pos 1) → pos l ≡ (b +ℤ pos 1) → m < u - l → p ≡ (u - 1) - m → (b <ℤ pos p) × (pos p ≤ℤ z) × (pos p ≡ (z +ℤ neg_ℤ (pos m)))
       upwards z b u l m f g h is = (omega (arith, ints), omega (arith, ints), omega (arith, ints))
+
       forth : SelectsPosition s len p → (j : ℕ) × (j < (falling s len (suc k)).count) × (p ≡ (nat_abs (top +ℤ pos 1) - 1) - j * suc k)
       forth (inl h) = let d : pos 0 <ℤ negsuc k = subst (λ z. pos 0 <ℤ z) e h.0 in absurd (omega (arith, ints))
       forth (inr (down, after, upto, (n, is))) =
@@ -196,6 +209,7 @@ module _ (s : Slice) (len k : ℕ) where
           let l = nat_abs (bottom +ℤ pos 1) in
           let there = downwards top bottom u l (n * suc k) b.0 b.1 after (is ∙ ap (λ z. top +ℤ z) (steps n)) in
           (n, (counted_within n (u - l) k).1 there.0, there.1)
+
       back : (j : ℕ) → j < (falling s len (suc k)).count → p ≡ (nat_abs (top +ℤ pos 1) - 1) - j * suc k → SelectsPosition s len p
       back j h same =
           let b = falling_bounds in
@@ -215,8 +229,13 @@ strides_less i j k h = mul-lt-mul_of_pos_right h (omega arith)
 
 is_course : (z : ℤ) (s : Slice) (len : ℕ) → step_of s ≡ z → IsCourse s len (course_by z s len)
 is_course (pos zero) s len e = record {
-  selects = λ p. (elim [ inl h ↦ (let up : pos 0 <ℤ pos 0 = subst (λ z. pos 0 <ℤ z) e h.0 in absurd (omega (arith, ints)))
-                 | inr h ↦ (let down : pos 0 <ℤ pos 0 = subst (λ z. z <ℤ pos 0) e h.0 in absurd (omega (arith, ints))) ], λ h. let k = h.1 in absurd (omega arith));
+  selects = λ p. (
+    elim [
+      | inl h ↦ (let up : pos 0 <ℤ pos 0 = subst (λ z. pos 0 <ℤ z) e h.0 in absurd (omega (arith, ints)))
+      | inr h ↦ (let down : pos 0 <ℤ pos 0 = subst (λ z. z <ℤ pos 0) e h.0 in absurd (omega (arith, ints)))
+    ],
+    λ h. let k = h.1 in absurd (omega arith),
+  );
   there = λ j h. absurd (omega arith);
   before = λ i j h g. absurd (omega arith);
 }
@@ -226,7 +245,7 @@ is_course (pos (suc k)) s len e =
     let most = (rising_bounds s len k).2 in
     record {
       selects = λ p. let r = rising_positions s len k p e in
-        (λ h. let j = r.0 h in (j.0, j.1, j.2 ∙ sym (place_up i (suc k) j.0)), λ h. r.1 (h.0, h.1, h.2 ∙ place_up i (suc k) h.0));
+          (λ h. let j = r.0 h in (j.0, j.1, j.2 ∙ sym (place_up i (suc k) j.0)), λ h. r.1 (h.0, h.1, h.2 ∙ place_up i (suc k) h.0));
       there = λ j h. let less = (counted_within j w k).0 h in omega (arith, place_up i (suc k) j);
       before = λ a b h g. inl (subst (λ z. pos 0 <ℤ z) (sym e) (omega (arith, ints)), omega (arith, place_up i (suc k) a, place_up i (suc k) b, strides_less a b k h));
     }
@@ -236,10 +255,10 @@ is_course (negsuc k) s len e =
     let most = (falling_bounds s len k).2 in
     record {
       selects = λ p. let r = falling_positions s len k p e in
-        (λ h. let j = r.0 h in (j.0, j.1, j.2 ∙ sym (place_down (u - 1) (suc k) j.0)), λ h. r.1 (h.0, h.1, h.2 ∙ place_down (u - 1) (suc k) h.0));
+          (λ h. let j = r.0 h in (j.0, j.1, j.2 ∙ sym (place_down (u - 1) (suc k) j.0)), λ h. r.1 (h.0, h.1, h.2 ∙ place_down (u - 1) (suc k) h.0));
       there = λ j h. let less = (counted_within j w k).0 h in omega (arith, place_down (u - 1) (suc k) j);
       before = λ a b h g. let less = (counted_within b w k).0 g in
-        inr (subst (λ z. z <ℤ pos 0) (sym e) (omega (arith, ints)), omega (arith, place_down (u - 1) (suc k) a, place_down (u - 1) (suc k) b, strides_less a b k h));
+          inr (subst (λ z. z <ℤ pos 0) (sym e) (omega (arith, ints)), omega (arith, place_down (u - 1) (suc k) a, place_down (u - 1) (suc k) b, strides_less a b k h));
     }
 
 -- ---- slices
@@ -254,6 +273,7 @@ in_sliced s (array items) x = (forth, λ h. back h.0.0 h.0.1 h.0.2 h.0.3 h.0.4 h
         let k = strided_sound c.count c.upwards c.first c.stride items x h in
         let p = place c.upwards c.first c.stride k.0 in
         ((items, refl, p, k.2, ((is_course (step_of s) s (items_count items) refl).selects p).1 (k.0, k.1, refl)), ap (child_at (array items)) k.2 ∙ k.3)
+
     back : (same : Items) → Some items ≡ Some same → (p : ℕ) → x.0 ≡ by_position p → SelectsPosition s (items_count same) p → child_at (array items) x.0 ≡ Some x.1 → IsIn x (sliced s (array items))
     back same e p is selects found =
         let c = course_by (step_of s) s (items_count items) in
