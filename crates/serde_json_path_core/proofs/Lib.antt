@@ -1,3 +1,4 @@
+pub mod AnswerKinds
 pub mod ChildSteps
 pub mod Comparisons
 pub mod Descents

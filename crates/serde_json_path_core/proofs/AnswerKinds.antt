@@ -1,0 +1,50 @@
+-- Under a function set that keeps types, the computed arguments and answers of well-typed calls have their declared types.
+use Rattle.std.proofs.Common.{◌≡◌, List, [], ◌∷◌, map, Option, Some, option_map, refl, sym, ap, ◌∙◌}
+use Rattle.std.proofs.lemmas.Option.{same_Some}
+use Rattle.serde_json.specs.Data.{Data}
+use Rattle.serde_json_path_core.specs.Tree.{Comparable, literal, singular, called, Call, call, Arguments, no_arguments, argument, Argument, literal_argument, query_argument, call_argument, logical_argument}
+use Rattle.serde_json_path_core.specs.Functions.{Kind, of_value, of_nodes, of_logical, Signature, Term, value, nodes, logical, FunctionSet, kind_of_term, KeepsTypes}
+use Rattle.serde_json_path_core.specs.Compared.{Compared, literal_compared, value_compared}
+use Rattle.serde_json_path_core.specs.Meaning.{first_value, params_of}
+use Rattle.serde_json_path_core.specs.Typing.{result_kind, IsTypedComparable, IsTypedCall, AreTypedArguments, IsTypedArgument}
+use Rattle.serde_json_path_core.specs.Computed.{results, compared, answer, arguments, argument_as, answer_compared}
+
+module _ (F : FunctionSet) (top : Data) (keeps : KeepsTypes F) where
+  mutual
+    -- a call's answer has the type of its result
+    pub answer_kind : (c : Call) → IsTypedCall F.signature c → (v : Data) → Some (kind_of_term (answer F top c v)) ≡ result_kind F.signature c
+    answer_kind (call f args) typed v =
+        ap (λ (o : Option Signature). Some (kind_of_term (F.meaning f (arguments F top args (params_of o) v)))) typed.1
+        ∙ ap Some ((keeps f typed.0 typed.1).1 (arguments F top args typed.0.params v) (arguments_kinds args typed.0.params typed.2 v))
+        ∙ sym (ap (option_map (λ (s : Signature). s.result)) typed.1)
+
+    -- the arguments have the types of the parameters
+    pub arguments_kinds : (args : Arguments) (kinds : List Kind) → AreTypedArguments F.signature args kinds → (v : Data) → map kind_of_term (arguments F top args kinds v) ≡ kinds
+    arguments_kinds no_arguments kinds typed v = sym typed
+    arguments_kinds (argument a more) [] typed v = absurd typed
+    arguments_kinds (argument a more) (kind ∷ kinds) typed v = λ i. argument_kind a kind typed.0 v i ∷ arguments_kinds more kinds typed.1 v i
+
+    argument_kind : (a : Argument) (kind : Kind) → IsTypedArgument F.signature a kind → (v : Data) → kind_of_term (argument_as F top a kind v) ≡ kind
+    argument_kind (literal_argument l) of_value typed v = refl
+    argument_kind (literal_argument l) of_nodes typed v = absurd typed
+    argument_kind (literal_argument l) of_logical typed v = absurd typed
+    argument_kind (query_argument q) of_value typed v = refl
+    argument_kind (query_argument q) of_nodes typed v = refl
+    argument_kind (query_argument q) of_logical typed v = refl
+    argument_kind (call_argument c) of_value typed v = same_Some (kind_of_term (answer F top c v)) of_value (answer_kind c typed.0 v ∙ typed.1)
+    argument_kind (call_argument c) of_nodes typed v = same_Some (kind_of_term (answer F top c v)) of_nodes (answer_kind c typed.0 v ∙ typed.1)
+    argument_kind (call_argument c) of_logical typed v = refl
+    argument_kind (logical_argument e) of_value typed v = absurd typed
+    argument_kind (logical_argument e) of_nodes typed v = absurd typed
+    argument_kind (logical_argument e) of_logical typed v = refl
+
+  value_there : (t : Term) → kind_of_term t ≡ of_value → (x : Compared) × (answer_compared t ≡ Some x)
+  value_there (value o) e = (value_compared o, refl)
+  value_there (nodes ds) e = absurd (cc)
+  value_there (logical b) e = absurd (cc)
+
+  -- a side of a comparison stands for something that is compared
+  pub compared_there : (a : Comparable) → IsTypedComparable F.signature a → (v : Data) → (x : Compared) × (compared F top a v ≡ Some x)
+  compared_there (literal l) typed v = (literal_compared l, refl)
+  compared_there (singular q) typed v = (value_compared (first_value (results F top q v)), refl)
+  compared_there (called c) typed v = value_there (answer F top c v) (same_Some (kind_of_term (answer F top c v)) of_value (answer_kind c typed.0 v ∙ typed.1))
