@@ -108,24 +108,29 @@ one_more P Q t a ts more f g =
 module _ (F : FunctionSet) (top : Data) where
   -- ---- what the computed lists and tests of a tree are to be
 
+  -- the segments' ends are their derivations, each with the value that it leads to
   abbrev pub AreEnds : Segments → Type 0
   AreEnds segs = (v : Data) (e : End) → IsIn e (ends F top segs v) ↔ (Derives F top segs v e.0 × (at v (location_of e.0) ≡ Some e.1))
 
+  -- the segment's triples at a place are those that it admits there
   abbrev ArePicks : Segment → Type 0
   ArePicks seg =
       (down : List Step) (v : Data) (t : Triple × Data)
       → IsIn t (picks F top seg down v) ↔ ((t.0.descent ≡ down) × AdmitsIn F top seg t.0.number v t.0.step × (child_at v t.0.step ≡ Some t.1))
 
+  -- the same of selectors, the first of them of that number
   abbrev ArePicksBy : Selectors → Type 0
   ArePicksBy sels =
       (number : ℕ) (down : List Step) (v : Data) (t : Triple × Data)
       → IsIn t (picks_by F top sels number down v)
       ↔ ((m : ℕ) × (t.0.number ≡ number + m) × (t.0.descent ≡ down) × AdmitsBy F top sels m v t.0.step × (child_at v t.0.step ≡ Some t.1))
 
+  -- the selector's children are those that it admits
   abbrev AreSelected : Selector → Type 0
   AreSelected sel = (v : Data) (c : Step × Data) → IsIn c (selected F top sel v) ↔ (Admits F top sel v c.0 × (child_at v c.0 ≡ Some c.1))
 
-  abbrev IsQueryRight : Query → Type 0
+  -- the query's computed list is its result, and has a node exactly where the query has a derivation
+  abbrev pub IsQueryRight : Query → Type 0
   IsQueryRight q = (v : Data) → IsResult F top q v (results F top q v) × Decides (is_nonempty (results F top q v)) (Exists F top q v)
 
   -- ---- the steps of the induction
@@ -249,6 +254,7 @@ module _ (F : FunctionSet) (top : Data) where
     pub query_right : (q : Query) → IsTyped F.signature q → IsQueryRight q
     query_right (query kind segs) typed = query_step kind segs (are_ends segs typed)
 
+    -- the computed ends of segments are those of their derivations
     pub are_ends : (segs : Segments) → AreTypedSegments F.signature segs → AreEnds segs
     are_ends no_segments typed = λ v e. (
       elim [ inl p ↦ (ap (λ (x : End). x.0) p, subst (λ (x : End). at v (location_of x.0) ≡ Some x.1) (sym p) refl) | inr h ↦ absurd h ],

@@ -43,7 +43,7 @@ IsPlaced count upwards first stride items c =
     (j : ℕ) × (j < count) × (c.0 ≡ by_position (place upwards first stride j)) × (get_item (place upwards first stride j) items ≡ Some c.1)
 
 -- the first of so many positions, and the others
-next_strided : (count : ℕ) (upwards : Bool) (first stride : ℕ) (items : Items) (o : Option Data) → get_item first items ≡ o
+pub next_strided : (count : ℕ) (upwards : Bool) (first stride : ℕ) (items : Items) (o : Option Data) → get_item first items ≡ o
     → strided (suc count) upwards first stride items
     ≡ option_map_or (λ d. (by_position first, d) ∷ strided count upwards (next_position upwards first stride) stride items) o []
 next_strided count upwards first stride items o e =
@@ -114,9 +114,11 @@ natural (pos n) h = refl
 natural (negsuc n) h = absurd (omega (arith, ints))
 
 module _ (s : Slice) (len k : ℕ) where
+  -- where a rising course begins (RFC 9535, section 2.3.4.2.2)
   abbrev low : ℤ
   low = bound_of (pos len) s.start (pos 0) (pos 0) (pos len)
 
+  -- where a rising course ends
   abbrev high : ℤ
   high = bound_of (pos len) s.end (pos len) (pos 0) (pos len)
 
@@ -163,12 +165,15 @@ module _ (s : Slice) (len k : ℕ) where
             (j, there ∙ ap (λ z. z +ℤ pos (j * suc k)) b.0 ∙ ap (λ z. low +ℤ z) (sym (steps j))),
           )
 
+  -- the last position
   abbrev last : ℤ
   last = pos len -ℤ pos 1
 
+  -- where a falling course begins
   abbrev top : ℤ
   top = bound_of (pos len) s.start last (pos 0 -ℤ pos 1) last
 
+  -- where a falling course ends
   abbrev bottom : ℤ
   bottom = bound_of (pos len) s.end ((pos 0 -ℤ pos len) -ℤ pos 1) (pos 0 -ℤ pos 1) last
 

@@ -1,5 +1,6 @@
 -- What a query selects, computed: the nodes of its result as a list, and its tests as truth values
--- (RFC 9535, sections 2.1 to 2.5), under a function set and at the root of a document.
+-- (RFC 9535, sections 2.1 to 2.5), under a function set and at the root of a document. Objects have their members in
+-- the order of the names' bytes, the first of each name.
 use Rattle.std.specs.Prelude.{ℕ, zero, suc, ◌+◌, ◌-◌, ◌/◌, ℤ, pos, negsuc, ◌+ℤ◌, ◌-ℤ◌, int_lt, nat_abs, List, [], ◌∷◌, ◌++◌, map, flat_map, filter as keep, Bool, true, false, not, ◌&&◌, ◌||◌, Option, Some, None, option_to_list, bytes_eq}
 use Rattle.std.specs.Bool.{beq}
 use Rattle.std.specs.Option.{option_map_or}
@@ -21,32 +22,32 @@ use Rattle.serde_json_path_core.specs.Selected.{child_by, item_at, beneath}
 
 -- ---- children and descendants
 
--- the items with their positions, the first at that position
+-- an array's items with their positions, the first at that position (section 1.1)
 abbrev pub items_from : ℕ → Items → List (Step × Data)
 items_from position no_items = []
 items_from position (item d more) = (by_position position, d) ∷ items_from (position + 1) more
 
--- the members with their names, as they stand
+-- an object's members with their names, as they stand (section 1.1)
 abbrev pub members_all : Members → List (Step × Data)
 members_all no_members = []
 members_all (member k d more) = (by_name k, d) ∷ members_all more
 
--- the members in the order of their names, the first of each name
+-- an object's members in order (section 1.1)
 abbrev pub in_order : Members → Members
 in_order no_members = no_members
 in_order (member k d more) = put k d (in_order more)
 
--- the children of a value in document order (section 1.1)
+-- the children of a value in document order (sections 1.1 and 2.3.2.2)
 abbrev pub children : Data → List (Step × Data)
 children (array items) = items_from 0 items
 children (object members) = members_all (in_order members)
 children _ = []
 
--- a value with the empty location, where a query begins
+-- a value with the empty location, as a query begins there (section 2.1.2)
 abbrev pub itself : Data → Located
 itself v = record { location = []; value = v }
 
--- what is below a member, as located from the object
+-- a member and all below it, as located from the object (section 2.5.2.2)
 abbrev pub below_member : List ℕ × List Located → List Located
 below_member block = map (beneath (by_name block.0 ∷ [])) block.1
 
@@ -60,22 +61,22 @@ abbrev mutual
   descents (number n) = itself (number n) ∷ []
   descents (string text) = itself (string text) ∷ []
 
-  -- the items and all below them, the first at that position
+  -- an array's items and all below each, the first at that position
   pub items_descents : ℕ → Items → List Located
   items_descents position no_items = []
   items_descents position (item d more) = map (beneath (by_position position ∷ [])) (descents d) ++ items_descents (position + 1) more
 
-  -- each member's name with the member and all below it, in the order of the names, the first of each name
+  -- each name with its member and all below it, in order
   pub members_descents : Members → List (List ℕ × List Located)
   members_descents no_members = []
   members_descents (member k d more) = insert_entry (slice_cmp nat_cmp) (members_descents more) k (descents d)
 
--- the nodes at which a segment's selectors are applied: the node alone, or it and all below it (section 2.5)
+-- the nodes at which a segment's selectors are applied: the node alone, or it and all below it (sections 2.5.1.2 and 2.5.2.2)
 abbrev pub reached : SegmentKind → Located → List Located
 reached child n = n ∷ []
 reached descendant n = map (beneath n.location) (descents n.value)
 
--- a child below the location of its parent
+-- a child as a node, below the location of its parent (section 2.7)
 abbrev pub placed : List Step → Step × Data → Located
 placed above c = record { location = above ++ c.0 ∷ []; value = c.1 }
 
@@ -88,7 +89,7 @@ pub record Course : Type 0 where
   pub stride : ℕ
   pub count : ℕ
 
--- how many of 0, the stride, twice the stride .. are below the width
+-- how many of 0, the stride, twice the stride and so on are below the width
 abbrev pub count_within : ℕ → ℕ → ℕ
 count_within zero stride = 0
 count_within (suc width) stride = suc (width / stride)
@@ -136,17 +137,17 @@ sliced s _ = []
 
 -- ---- comparisons (section 2.3.5.2.2)
 
--- both are there, and equal
+-- both amounts are there, and equal
 abbrev pub same_amount : Option ℤ → Option ℤ → Bool
 same_amount (Some a) (Some b) = int_eq a b
 same_amount _ _ = false
 
--- both are there, and the first is less
+-- both amounts are there, and the first is less
 abbrev pub rising_amount : Option ℤ → Option ℤ → Bool
 rising_amount (Some a) (Some b) = int_lt a b
 rising_amount _ _ = false
 
--- whether two values are equal
+-- whether two values are equal, two arrays item by item, and two objects by their names and values in order
 abbrev mutual
   pub same_data : Data → Data → Bool
   same_data null_data null_data = true
@@ -189,36 +190,37 @@ compare less_or_equal a b = comes_before a b || is_same a b
 compare greater a b = comes_before b a
 compare greater_or_equal a b = comes_before b a || is_same b a
 
--- the same, where a side may stand for nothing that is compared
+-- the same, where a side may stand for nothing that is compared: then it is false
 abbrev pub compare_sides : Operator → Option Compared → Option Compared → Bool
 compare_sides op (Some a) (Some b) = compare op a b
 compare_sides op _ _ = false
 
 -- ---- answers of calls (section 2.4)
 
+-- the list has a member, as a test of a query asks (section 2.3.5.2.1)
 abbrev pub is_nonempty : {A : Type 0} → List A → Bool
 is_nonempty [] = false
 is_nonempty (x ∷ xs) = true
 
--- an answer as a test
+-- an answer as a test (section 2.4.2)
 abbrev pub answers_yes : Term → Bool
 answers_yes (functions.value v) = false
 answers_yes (nodes ds) = is_nonempty ds
 answers_yes (logical b) = b
 
--- an answer as a side of a comparison: a value or Nothing, and no answer of another type
+-- an answer as a side of a comparison: a value or Nothing; an answer of another type stands for nothing that is compared
 abbrev pub answer_compared : Term → Option Compared
 answer_compared (functions.value v) = Some (value_compared v)
 answer_compared (nodes ds) = None
 answer_compared (logical b) = None
 
--- an answer as an argument of that type
+-- an answer as an argument of that type (section 2.4.2)
 abbrev pub answer_as : Kind → Term → Term
 answer_as of_value t = t
 answer_as of_nodes t = t
 answer_as of_logical t = logical (answers_yes t)
 
--- a query's result as an argument of that type
+-- a query's result as an argument of that type (section 2.4.3)
 abbrev pub result_as : Kind → List Located → Term
 result_as of_value ns = functions.value (first_value ns)
 result_as of_nodes ns = nodes (map (λ n. n.value) ns)
@@ -226,23 +228,25 @@ result_as of_logical ns = logical (is_nonempty ns)
 
 module _ (F : FunctionSet) (top : Data) where
   -- ---- queries (sections 2.1 to 2.5)
+
   abbrev mutual
-    -- the nodes of a query's result where `@` is v
+    -- the nodes of a query's result where `@` is v (section 2.1.2)
     pub results : Query → Data → List Located
     results (query kind segs) v = results_from segs (itself (start_of kind top v))
 
-    -- the nodes that the segments select from a node
+    -- the nodes that the segments select from a node, one segment after the other (section 2.5)
     pub results_from : Segments → Located → List Located
     results_from no_segments n = n ∷ []
     results_from (segment kind seg more) n =
         flat_map (λ m. flat_map (results_from more) (map (placed m.location) (chosen seg m.value))) (reached kind n)
 
-    -- the children that a segment's selectors select, one selector after the other
+    -- the children that a segment's selectors select (section 2.5.1.2)
     pub chosen : Segment → Data → List (Step × Data)
     chosen (dot_name k) v = option_to_list (child_by v (by_name k))
     chosen dot_wildcard v = children v
     chosen (long_hand sels) v = chosen_by sels v
 
+    -- the same of the selectors in brackets, one after the other
     pub chosen_by : Selectors → Data → List (Step × Data)
     chosen_by no_selectors v = []
     chosen_by (selector sel more) v = selected sel v ++ chosen_by more v
@@ -260,10 +264,12 @@ module _ (F : FunctionSet) (top : Data) where
     is_true no_or v = false
     is_true (or a more) v = all_true a v || is_true more v
 
+    -- whether all parts joined by `&&` hold
     pub all_true : LogicalAnd → Data → Bool
     all_true no_and v = true
     all_true (and b more) v = basic_true b v && all_true more v
 
+    -- whether a parenthesis, a comparison or a test holds (sections 2.3.5.2.1 and 2.3.5.2.2)
     pub basic_true : Basic → Data → Bool
     basic_true (paren e) v = is_true e v
     basic_true (not_paren e) v = not (is_true e v)
@@ -273,28 +279,29 @@ module _ (F : FunctionSet) (top : Data) where
     basic_true (test c) v = answers_yes (answer c v)
     basic_true (not_test c) v = not (answers_yes (answer c v))
 
-    -- what a side of a comparison stands for; a call whose answer is no value stands for nothing that is compared
+    -- what a side of a comparison stands for (section 2.3.5.2.2), if its answer is a value
     pub compared : Comparable → Data → Option Compared
     compared (literal l) v = Some (literal_compared l)
     compared (singular q) v = Some (value_compared (first_value (results q v)))
     compared (called c) v = answer_compared (answer c v)
 
-    -- the answer of a call
+    -- the answer of a call: the set's meaning of its name and arguments (section 2.4)
     pub answer : Call → Data → Term
     answer (call f args) v = F.meaning f (arguments args (params_of (F.signature f)) v)
 
-    -- the arguments as parameters of those types take them
+    -- the arguments as parameters of those types take them (section 2.4.3)
     pub arguments : Arguments → List Kind → Data → List Term
     arguments no_arguments kinds v = []
     arguments (argument a more) [] v = []
     arguments (argument a more) (kind ∷ kinds) v = argument_as a kind v ∷ arguments more kinds v
 
+    -- an argument as a parameter of that type takes it
     pub argument_as : Argument → Kind → Data → Term
     argument_as (literal_argument l) kind v = functions.value (Some (literal_value l))
     argument_as (query_argument q) kind v = result_as kind (results q v)
     argument_as (call_argument c) kind v = answer_as kind (answer c v)
     argument_as (logical_argument e) kind v = logical (is_true e v)
 
-  -- the nodes that a segment selects from a node, in order
+  -- the nodes that a segment selects from a node, in order (section 2.5)
   abbrev pub picked : SegmentKind → Segment → Located → List Located
   picked kind seg n = flat_map (λ m. map (placed m.location) (chosen seg m.value)) (reached kind n)
