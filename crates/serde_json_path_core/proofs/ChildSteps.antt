@@ -69,12 +69,12 @@ get_member-in_order q (member k d ms) = by (bytes_eq q k) refl (get_member-in_or
     by false e later = get_member-put_other q k d (in_order ms) (apart q k e) ∙ later ∙ sym (found_later q k d ms e)
 
 -- the name is before each of the members' names
-abbrev IsBelow : List ℕ → Members → Type 0
+abbrev pub IsBelow : List ℕ → Members → Type 0
 IsBelow k no_members = Unit {0}
 IsBelow k (member l e ms) = (slice_cmp nat_cmp k l ≡ Less) × IsBelow k ms
 
 -- each name is before those that follow
-abbrev AreRising : Members → Type 0
+abbrev pub AreRising : Members → Type 0
 AreRising no_members = Unit {0}
 AreRising (member k d ms) = IsBelow k ms × AreRising ms
 
@@ -134,6 +134,15 @@ rising-put k d (member l e ms) r = by (slice_cmp nat_cmp k l) refl (rising-put k
 rising-in_order : (ms : Members) → AreRising (in_order ms)
 rising-in_order no_members = tt
 rising-in_order (member k d ms) = rising-put k d (in_order ms) (rising-in_order ms)
+
+put-below : (k : List ℕ) (d : Data) (ms : Members) → IsBelow k ms → put k d ms ≡ member k d ms
+put-below k d no_members h = refl
+put-below k d (member l e more) h = rw h.0
+
+-- members that stand in order stay as they are
+pub in_order-rising : (ms : Members) → AreRising ms → in_order ms ≡ ms
+in_order-rising no_members r = refl
+in_order-rising (member k d more) r = ap (put k d) (in_order-rising more r.1) ∙ put-below k d more r.0
 
 -- ---- children
 

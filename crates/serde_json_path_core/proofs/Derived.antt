@@ -109,7 +109,7 @@ module _ (F : FunctionSet) (top : Data) where
   -- ---- what the computed lists and tests of a tree are to be
 
   -- the segments' ends are their derivations, each with the value that it leads to
-  abbrev pub AreEnds : Segments → Type 0
+  abbrev AreEnds : Segments → Type 0
   AreEnds segs = (v : Data) (e : End) → IsIn e (ends F top segs v) ↔ (Derives F top segs v e.0 × (at v (location_of e.0) ≡ Some e.1))
 
   -- the segment's triples at a place are those that it admits there
@@ -255,7 +255,7 @@ module _ (F : FunctionSet) (top : Data) where
     query_right (query kind segs) typed = query_step kind segs (are_ends segs typed)
 
     -- the computed ends of segments are those of their derivations
-    pub are_ends : (segs : Segments) → AreTypedSegments F.signature segs → AreEnds segs
+    are_ends : (segs : Segments) → AreTypedSegments F.signature segs → AreEnds segs
     are_ends no_segments typed = λ v e. (
       elim [ inl p ↦ (ap (λ (x : End). x.0) p, subst (λ (x : End). at v (location_of x.0) ≡ Some x.1) (sym p) refl) | inr h ↦ absurd h ],
       λ h. let same = same_Some v e.1 (sym (ap (λ xs. at v (location_of xs)) h.0) ∙ h.1) in inl (λ i. (h.0 i, sym same i)),

@@ -36,6 +36,7 @@ by_step v s t c e = split (child_at v s) refl
         let same = same_Some {A = Step × Data} (s, d) (t, c) (sym (ap (option_map (λ x. (s, x))) f) ∙ e) in
         (sym (ap (λ (x : Step × Data). x.0) same), f ∙ ap (λ (x : Step × Data). Some x.1) same)
 
+-- and the other way round
 pub there_by : (v : Data) (s : Step) (c : Data) → child_at v s ≡ Some c → child_by v s ≡ Some (s, c)
 there_by v s c e = ap (option_map (λ d. (s, d))) e
 
@@ -66,6 +67,7 @@ item_sound items (negsuc k) s c e = split (nat_lt k (items_count items)) refl
     split false f =
         absurd (none-some (s, c) (sym (ap (λ b. option_and_then (λ q. child_by (array items) (by_position q)) (if b then Some (items_count items - (k + 1)) else None)) f) ∙ e))
 
+-- a child at a position that an index selects is the item of the index
 pub item_complete : (v : Data) (i : ℤ) (s : Step) (c : Data) → IsPositionOf (SelectsIndex i) v s → child_at v s ≡ Some c → item_at v i ≡ Some (s, c)
 item_complete (array ds) (pos p) s c (items, e, q, t, inl f) g =
     let p_is : p ≡ q = omega (arith, ints, f) in
