@@ -147,8 +147,8 @@ abbrev pub rising_amount : Option ℤ → Option ℤ → Bool
 rising_amount (Some a) (Some b) = int_lt a b
 rising_amount _ _ = false
 
--- whether two values are equal, two arrays item by item, and two objects by their names and values in order
 abbrev mutual
+  -- whether two values are equal
   pub same_data : Data → Data → Bool
   same_data null_data null_data = true
   same_data (boolean a) (boolean b) = beq a b
@@ -158,11 +158,13 @@ abbrev mutual
   same_data (object xs) (object ys) = same_members xs ys
   same_data _ _ = false
 
+  -- whether two arrays are equal, item by item
   pub same_items : Items → Items → Bool
   same_items no_items no_items = true
   same_items (item a xs) (item b ys) = same_data a b && same_items xs ys
   same_items _ _ = false
 
+  -- whether two objects are equal, by their names and values in order
   pub same_members : Members → Members → Bool
   same_members no_members no_members = true
   same_members (member k a xs) (member l b ys) = bytes_eq k l && (same_data a b && same_members xs ys)
