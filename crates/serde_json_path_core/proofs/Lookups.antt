@@ -1,5 +1,5 @@
 -- A look-up in a map or a vector finds what the same look-up in their data finds.
-use Rattle.std.proofs.Common.{◌≡◌, ℕ, suc, ◌<◌, ◌≤◌, get_or, ℤ, option_and_then, List, [], ◌∷◌, length, Option, Some, None, option_map, Equal, string_bytes, nat_cmp, is_eq, refl, sym, ap, ◌∙◌}
+use Rattle.std.proofs.Common.{◌≡◌, ℕ, ◌<◌, ◌≤◌, get_or, ℤ, option_and_then, List, length, Option, Some, None, option_map, Equal, string_bytes, nat_cmp, is_eq, sym, ap, ◌∙◌}
 use Rattle.std.specs.Cmp.Lexicographic.{slice_cmp}
 use Rattle.std.specs.BTreeMap.{is_at}
 use Rattle.std.specs.Map.{lookup}
@@ -8,15 +8,11 @@ use Rattle.std.proofs.lemmas.Slice.Eq.{bytes_eq-Decides}
 use Rattle.serde_json.specs.Data.{object, array}
 use Rattle.serde_json.specs.View.{view, items_view, members_view}
 use Rattle.serde_json.specs.declared.value.Value.{Value}
-use Rattle.serde_json.proofs.Views.{Entry, view-lookup, get_item_within, get_item_past}
-use Rattle.serde_json_path_core.specs.Functions.{items_count}
+use Rattle.serde_json.proofs.Views.{Entry, view-lookup, get_item_within, get_item_past, items_len-items_view}
 use Rattle.serde_json.specs.Data.{Data}
 use Rattle.serde_json_path_nodes.specs.Place.{Step, by_name, by_position}
+use Rattle.serde_json.specs.Events.{}
 use Rattle.serde_json_path_core.specs.Selected.{child_by, item_at, position_in}
-
-pub items_count-view : (vs : List Value) → items_count (items_view vs) ≡ length vs
-items_count-view [] = refl
-items_count-view (v ∷ vs) = ap suc (items_count-view vs)
 
 same_name : (xs ys : List ℕ) → slice_cmp nat_cmp xs ys ≡ Equal → xs ≡ ys
 same_name xs ys e = (bytes_eq-Decides xs ys).0 (sym (is_eq-slice_cmp xs ys) ∙ ap is_eq e)
@@ -26,7 +22,7 @@ reached vs p = child_by (array (items_view vs)) (by_position p)
 
 item_at-is : (vs : List Value) (z : ℤ) (o : Option ℕ) → o ≡ position_in z (length vs) → option_and_then (reached vs) o ≡ item_at (array (items_view vs)) z
 unfolding reached
-item_at-is vs z o e = ap (option_and_then (reached vs)) e ∙ sym (ap (λ n. option_and_then (reached vs) (position_in z n)) (items_count-view vs))
+item_at-is vs z o e = ap (option_and_then (reached vs)) e ∙ sym (ap (λ n. option_and_then (reached vs) (position_in z n)) (items_len-items_view vs))
 
 pub item_none : (vs : List Value) (z : ℤ) (o : Option ℕ) → o ≡ None → o ≡ position_in z (length vs) → None ≡ item_at (array (items_view vs)) z
 unfolding reached

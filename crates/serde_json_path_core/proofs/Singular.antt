@@ -5,8 +5,9 @@ use Rattle.std.proofs.lemmas.Int.{ints}
 use Rattle.std.proofs.lemmas.Option.{none-some, same_Some, option_and_then_some}
 use Rattle.serde_json.specs.Data.{Data, null, boolean, number, string, array, object, Items}
 use Rattle.serde_json_path_nodes.specs.Place.{Step, by_name, by_position, child_at, at, Located}
+use Rattle.serde_json.specs.Events.{items_len}
 use Rattle.serde_json_path_core.specs.Tree.{QueryKind, query, Segments, no_segments, segment, child, descendant, Segment, dot_name, dot_wildcard, long_hand, no_selectors, selector, name, wildcard, index, slice, filter}
-use Rattle.serde_json_path_core.specs.Functions.{FunctionSet, items_count}
+use Rattle.serde_json_path_core.specs.Functions.{FunctionSet}
 use Rattle.serde_json_path_core.specs.Derivation.{Triple, location_of, start_of}
 use Rattle.serde_json_path_core.specs.Meaning.{SelectsIndex, IsPositionOf, Derives, AdmitsIn, IsResult}
 use Rattle.serde_json_path_core.specs.Selected.{child_by, item_at, child_of, beneath, node_of}
@@ -55,17 +56,17 @@ pub item_sound : (items : Items) (i : ℤ) (s : Step) (c : Data) → item_at (ar
 item_sound items (pos p) s c e =
     let b = by_step (array items) (by_position p) s c e in
     ((items, refl, p, b.0, inl refl), ap (child_at (array items)) b.0 ∙ b.1)
-item_sound items (negsuc k) s c e = split (nat_lt k (items_count items)) refl
+item_sound items (negsuc k) s c e = split (nat_lt k (items_len items)) refl
   where
-    split : (b : Bool) → nat_lt k (items_count items) ≡ b → IsPositionOf (SelectsIndex (negsuc k)) (array items) s × (child_at (array items) s ≡ Some c)
+    split : (b : Bool) → nat_lt k (items_len items) ≡ b → IsPositionOf (SelectsIndex (negsuc k)) (array items) s × (child_at (array items) s ≡ Some c)
     split true f =
-        let p = items_count items - (k + 1) in
+        let p = items_len items - (k + 1) in
         let g : child_by (array items) (by_position p) ≡ Some (s, c) =
         sym (ap (λ b. option_and_then (λ q. child_by (array items) (by_position q)) (if b then Some p else None)) f) ∙ e in
         let b = by_step (array items) (by_position p) s c g in
-        ((items, refl, p, b.0, inr (below_zero k, counted (items_count items) k f)), ap (child_at (array items)) b.0 ∙ b.1)
+        ((items, refl, p, b.0, inr (below_zero k, counted (items_len items) k f)), ap (child_at (array items)) b.0 ∙ b.1)
     split false f =
-        absurd (none-some (s, c) (sym (ap (λ b. option_and_then (λ q. child_by (array items) (by_position q)) (if b then Some (items_count items - (k + 1)) else None)) f) ∙ e))
+        absurd (none-some (s, c) (sym (ap (λ b. option_and_then (λ q. child_by (array items) (by_position q)) (if b then Some (items_len items - (k + 1)) else None)) f) ∙ e))
 
 -- a child at a position that an index selects is the item of the index
 pub item_complete : (v : Data) (i : ℤ) (s : Step) (c : Data) → IsPositionOf (SelectsIndex i) v s → child_at v s ≡ Some c → item_at v i ≡ Some (s, c)
@@ -77,8 +78,8 @@ item_complete (array ds) (pos p) s c (items, e, q, t, inr f) g = let h = f.0 in 
 item_complete (array ds) (negsuc k) s c (items, e, q, t, inl f) g = absurd (omega (arith, ints, f))
 item_complete (array ds) (negsuc k) s c (items, e, q, t, inr f) g =
     let same : ds ≡ items = same_Some ds items e in
-    let back = counts_back (items_count ds) k q (f.1 ∙ ap (λ (xs : Items). negsuc k +ℤ pos (items_count xs)) (sym same)) in
-    ap (λ b. option_and_then (λ p. child_by (array ds) (by_position p)) (if b then Some (items_count ds - (k + 1)) else None)) back.0
+    let back = counts_back (items_len ds) k q (f.1 ∙ ap (λ (xs : Items). negsuc k +ℤ pos (items_len xs)) (sym same)) in
+    ap (λ b. option_and_then (λ p. child_by (array ds) (by_position p)) (if b then Some (items_len ds - (k + 1)) else None)) back.0
     ∙ ap (λ p. child_by (array ds) (by_position p)) (sym back.1) ∙ ap (child_by (array ds)) (sym t) ∙ there_by (array ds) s c g
 item_complete (object ms) i s c h g = absurd (none-some h.0 h.1)
 item_complete null i s c h g = absurd (none-some h.0 h.1)

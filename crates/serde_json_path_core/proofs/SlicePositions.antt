@@ -9,8 +9,8 @@ use Rattle.std.proofs.lemmas.Option.{same_Some, none-some}
 use Rattle.serde_json.specs.Data.{Data, null, boolean, number, string, array, object, Items, no_items, item}
 use Rattle.serde_json.specs.Find.{get_item}
 use Rattle.serde_json_path_nodes.specs.Place.{Step, by_position, child_at}
+use Rattle.serde_json.specs.Events.{items_len}
 use Rattle.serde_json_path_core.specs.Tree.{Slice, slice}
-use Rattle.serde_json_path_core.specs.Functions.{items_count}
 use Rattle.serde_json_path_core.specs.Slices.{step_of, from_end, bound_of, SelectsPosition}
 use Rattle.serde_json_path_core.specs.Derivation.{IsIn, IsInOrder, SelectedBefore}
 use Rattle.serde_json_path_core.specs.Meaning.{IsPositionOf}
@@ -19,7 +19,7 @@ use Rattle.serde_json_path_core.specs.Computed.{Course, count_within, strided, r
 -- ---- items on a course
 
 -- an item is there at each position below the count
-item_there : (items : Items) (p : ℕ) → p < items_count items → (d : Data) × (get_item p items ≡ Some d)
+item_there : (items : Items) (p : ℕ) → p < items_len items → (d : Data) × (get_item p items ≡ Some d)
 item_there no_items p h = absurd (omega arith)
 item_there (item d more) zero h = (d, refl)
 item_there (item d more) (suc p) h = item_there more p (omega arith)
@@ -64,7 +64,7 @@ strided_sound (suc count) upwards first stride items c h =
     by None e later = absurd (subst (IsIn c) (next_strided count upwards first stride items None e) h)
     by (Some d) e later = from d e later (subst (IsIn c) (next_strided count upwards first stride items (Some d) e) h)
 
-strided_complete : (count : ℕ) (upwards : Bool) (first stride : ℕ) (items : Items) → ((j : ℕ) → j < count → place upwards first stride j < items_count items)
+strided_complete : (count : ℕ) (upwards : Bool) (first stride : ℕ) (items : Items) → ((j : ℕ) → j < count → place upwards first stride j < items_len items)
     → (c : Step × Data) → IsPlaced count upwards first stride items c → IsIn c (strided count upwards first stride items)
 strided_complete zero upwards first stride items there c h = let k = h.1 in absurd (omega arith)
 strided_complete (suc count) upwards first stride items there c h =
@@ -274,16 +274,16 @@ in_sliced s (array items) x = (forth, λ h. back h.0.0 h.0.1 h.0.2 h.0.3 h.0.4 h
   where
     forth : IsIn x (sliced s (array items)) → IsPositionOf (SelectsPosition s) (array items) x.0 × (child_at (array items) x.0 ≡ Some x.1)
     forth h =
-        let c = course_by (step_of s) s (items_count items) in
+        let c = course_by (step_of s) s (items_len items) in
         let k = strided_sound c.count c.upwards c.first c.stride items x h in
         let p = place c.upwards c.first c.stride k.0 in
-        ((items, refl, p, k.2, ((is_course (step_of s) s (items_count items) refl).selects p).1 (k.0, k.1, refl)), ap (child_at (array items)) k.2 ∙ k.3)
+        ((items, refl, p, k.2, ((is_course (step_of s) s (items_len items) refl).selects p).1 (k.0, k.1, refl)), ap (child_at (array items)) k.2 ∙ k.3)
 
-    back : (same : Items) → Some items ≡ Some same → (p : ℕ) → x.0 ≡ by_position p → SelectsPosition s (items_count same) p → child_at (array items) x.0 ≡ Some x.1 → IsIn x (sliced s (array items))
+    back : (same : Items) → Some items ≡ Some same → (p : ℕ) → x.0 ≡ by_position p → SelectsPosition s (items_len same) p → child_at (array items) x.0 ≡ Some x.1 → IsIn x (sliced s (array items))
     back same e p is selects found =
-        let c = course_by (step_of s) s (items_count items) in
-        let good = is_course (step_of s) s (items_count items) refl in
-        let k = (good.selects p).0 (subst (λ (xs : Items). SelectsPosition s (items_count xs) p) (sym (same_Some items same e)) selects) in
+        let c = course_by (step_of s) s (items_len items) in
+        let good = is_course (step_of s) s (items_len items) refl in
+        let k = (good.selects p).0 (subst (λ (xs : Items). SelectsPosition s (items_len xs) p) (sym (same_Some items same e)) selects) in
         strided_complete c.count c.upwards c.first c.stride items good.there x
         (k.0, k.1, is ∙ ap by_position k.2, ap (λ q. get_item q items) (sym k.2) ∙ ap (child_at (array items)) (sym is) ∙ found)
 in_sliced s (object ms) x = (λ h. absurd h, λ h. absurd (none-some h.0.0 h.0.1))
@@ -295,8 +295,8 @@ in_sliced s (string t) x = (λ h. absurd h, λ h. absurd (none-some h.0.0 h.0.1)
 -- the children of a slice stand in its order
 pub sliced_ordered : (s : Slice) (v : Data) → IsInOrder (λ (a b : Step × Data). SelectedBefore (slice s) a.0 b.0) (sliced s v)
 sliced_ordered s (array items) =
-    let c = course_by (step_of s) s (items_count items) in
-    strided_ordered (SelectedBefore (slice s)) c.count c.upwards c.first c.stride items (is_course (step_of s) s (items_count items) refl).before
+    let c = course_by (step_of s) s (items_len items) in
+    strided_ordered (SelectedBefore (slice s)) c.count c.upwards c.first c.stride items (is_course (step_of s) s (items_len items) refl).before
 sliced_ordered s (object ms) = tt
 sliced_ordered s null = tt
 sliced_ordered s (boolean b) = tt

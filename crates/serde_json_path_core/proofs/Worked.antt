@@ -9,10 +9,11 @@ use Rattle.std.proofs.lemmas.Option.{same_Some}
 use Rattle.serde_json.specs.Find.{as_array}
 use Rattle.serde_json.specs.Data.{Items, Data, null, boolean, number, string, array, object, unsigned, negative, float, item, no_items, no_members}
 use Rattle.serde_json_path_nodes.specs.Place.{at, Step, by_position, Located}
+use Rattle.serde_json.specs.Events.{items_len}
 use Rattle.serde_json_path_core.specs.Tree.{LogicalOr, Slice, largest, Query, query, root, current, Segments, no_segments, segment, child, descendant, dot_name, dot_wildcard, long_hand, no_selectors, selector, name, wildcard, index, slice, filter, no_or, or, no_and, and, paren, not_paren, relation, exist, not_exist, literal, singular, Operator, equal, not_equal, less, less_or_equal, greater, greater_or_equal}
 use Rattle.serde_json_path_core.specs.Tree as tree
 use Rattle.serde_json_path_core.specs.Slices.{SelectsPosition}
-use Rattle.serde_json_path_core.specs.Functions.{FunctionSet, items_count}
+use Rattle.serde_json_path_core.specs.Functions.{FunctionSet}
 use Rattle.serde_json_path_core.specs.Compared.{Compared, nothing, value, billionths, Compares, value_compared}
 use Rattle.serde_json_path_core.specs.Depth.{depth}
 use Rattle.serde_json_path_core.specs.Derivation.{Triple, Before, IsIn, IsInOrder, SelectedBefore}
@@ -338,7 +339,7 @@ module _ (F : FunctionSet) (v : Data) where
           → Some (array two) ≡ Some d → x.number ≡ n → x.step ≡ s → IsIn (x ∷ xs) second_and_first
       by_selector zero s d (items, e, p, f, g) there i j =
           let same : two ≡ items = same_Some two items (ap as_array (same_Some (array two) d there) ∙ e) in
-          by_position_of p i (j ∙ f) (one_of (items_count items) p (ap items_count (sym same)) g)
+          by_position_of p i (j ∙ f) (one_of (items_len items) p (ap items_len (sym same)) g)
       by_selector (suc n) s d h there i j = absurd h
 
   -- the slice's order, from the end

@@ -1,7 +1,8 @@
 -- Function sets: the signature of each name, and what it means (RFC 9535, section 2.4).
-use Rattle.std.specs.Prelude.{◌≡◌, ℕ, suc, ◌≤◌, List, [], ◌∷◌, length, map, Bool, Option, Some, None, bytes_eq, codes, if◌then◌else◌}
+use Rattle.std.specs.Prelude.{◌≡◌, ℕ, ◌≤◌, List, [], ◌∷◌, length, map, Bool, Option, Some, None, bytes_eq, codes, if◌then◌else◌}
 use Rattle.std.specs.Str.{chars}
-use Rattle.serde_json.specs.Data.{Data, number, string, array, object, unsigned, Items, no_items, item, Members, no_members, member}
+use Rattle.serde_json.specs.Events.{items_len, members_len}
+use Rattle.serde_json.specs.Data.{Data, number, string, array, object, unsigned}
 
 -- the types of parameters and results (section 2.4.1)
 pub data Kind : Type 0 where
@@ -43,8 +44,17 @@ kind_of_term (value v) = of_value
 kind_of_term (nodes ds) = of_nodes
 kind_of_term (logical b) = of_logical
 
--- the set declares the name, with at most eight parameters, and for arguments of their types the meaning has the type
--- of the result
+-- a name of this signature takes the terms: each is of its parameter's type
+abbrev pub Takes : Option Signature → List Term → Type 0
+Takes None ts = ⊥
+Takes (Some s) ts = map kind_of_term ts ≡ s.params
+
+-- a name of this signature gives the term: it is of the result's type
+abbrev pub Gives : Option Signature → Term → Type 0
+Gives None t = ⊥
+Gives (Some s) t = kind_of_term t ≡ s.result
+
+-- each name has at most eight parameters, and at terms that it takes its meaning is of the type that it gives
 abbrev pub KeepsTypes : FunctionSet → Type 0
 KeepsTypes F =
     (name : List ℕ) (s : Signature) → F.signature name ≡ Some s
@@ -70,24 +80,23 @@ both A B = record {
 
 -- ---- the built-in functions
 
--- `length(Value) -> Value`, `count(Nodes) -> Value`, `value(Nodes) -> Value`, `match(Value, Value) -> Logical` and
--- `search(Value, Value) -> Logical` (sections 2.4.4 to 2.4.8)
-abbrev pub builtin_signature : List ℕ → Option Signature
-builtin_signature name =
+-- `length(Value) -> Value`, `count(Nodes) -> Value` and `value(Nodes) -> Value` (sections 2.4.4, 2.4.5 and 2.4.8)
+abbrev pub plain_signature : List ℕ → Option Signature
+plain_signature name =
     if bytes_eq name (codes "length") then Some (record { params = of_value ∷ []; result = of_value })
     else if bytes_eq name (codes "count") then Some (record { params = of_nodes ∷ []; result = of_value })
     else if bytes_eq name (codes "value") then Some (record { params = of_nodes ∷ []; result = of_value })
-    else if bytes_eq name (codes "match") then Some (record { params = of_value ∷ of_value ∷ []; result = of_logical })
+    else None
+
+-- `match(Value, Value) -> Logical` and `search(Value, Value) -> Logical` (sections 2.4.6 and 2.4.7)
+abbrev pub pattern_signature : List ℕ → Option Signature
+pattern_signature name =
+    if bytes_eq name (codes "match") then Some (record { params = of_value ∷ of_value ∷ []; result = of_logical })
     else if bytes_eq name (codes "search") then Some (record { params = of_value ∷ of_value ∷ []; result = of_logical })
     else None
 
-abbrev pub items_count : Items → ℕ
-items_count no_items = 0
-items_count (item d ds) = suc (items_count ds)
-
-abbrev pub members_count : Members → ℕ
-members_count no_members = 0
-members_count (member k d ms) = suc (members_count ms)
+abbrev pub builtin_signature : List ℕ → Option Signature
+builtin_signature name = first_signature (plain_signature name) (pattern_signature name)
 
 -- a number as a value
 abbrev pub counted : ℕ → Option Data
@@ -97,8 +106,8 @@ counted n = Some (number (unsigned n))
 -- (section 2.4.4)
 abbrev pub length_of : Option Data → Option Data
 length_of (Some (string text)) = counted (length (chars text))
-length_of (Some (array items)) = counted (items_count items)
-length_of (Some (object members)) = counted (members_count members)
+length_of (Some (array items)) = counted (items_len items)
+length_of (Some (object members)) = counted (members_len members)
 length_of _ = None
 
 -- `value` of a node list: the value of its one node, and else Nothing (section 2.4.8)
@@ -113,7 +122,7 @@ builtin_by_regex name =
     else if bytes_eq name (codes "search") then Some any_part
     else None
 
--- what `length`, `count` (section 2.4.5) and `value` mean
+-- what `length`, `count` and `value` mean
 abbrev pub length_meaning : List Term → Term
 length_meaning (value v ∷ []) = value (length_of v)
 length_meaning _ = value None
@@ -125,3 +134,13 @@ count_meaning _ = value None
 abbrev pub value_meaning : List Term → Term
 value_meaning (nodes ds ∷ []) = value (value_of_one ds)
 value_meaning _ = value None
+
+abbrev pub plain_meaning : List ℕ → List Term → Term
+plain_meaning name ts =
+    if bytes_eq name (codes "length") then length_meaning ts
+    else if bytes_eq name (codes "count") then count_meaning ts
+    else value_meaning ts
+
+-- the set of `length`, `count` and `value`
+abbrev pub plain_functions : FunctionSet
+plain_functions = record { signature = plain_signature; meaning = plain_meaning; by_regex = λ name. None }

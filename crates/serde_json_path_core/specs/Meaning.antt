@@ -5,9 +5,10 @@ use Rattle.std.specs.List.{AllZip}
 use Rattle.serde_json.specs.Data.{Data, Items, null as null_data, boolean, number as number_data, string}
 use Rattle.serde_json.specs.Find.{as_array, of_integer}
 use Rattle.serde_json_path_nodes.specs.Place.{Step, by_name, by_position, child_at, at, Located}
+use Rattle.serde_json.specs.Events.{items_len}
 use Rattle.serde_json_path_core.specs.Tree.{Query, query, Segments, no_segments, segment, SegmentKind, child, descendant, Segment, dot_name, dot_wildcard, long_hand, Selectors, no_selectors, selector, Selector, name, wildcard, index, slice, filter, LogicalOr, no_or, or, LogicalAnd, no_and, and, Basic, paren, not_paren, relation, exist, not_exist, test, not_test, Comparable, literal, singular, called, Call, call, Arguments, no_arguments, argument, Argument, literal_argument, query_argument, call_argument, logical_argument, Literal, text, number, truth, null}
 use Rattle.serde_json_path_core.specs.Slices.{SelectsPosition}
-use Rattle.serde_json_path_core.specs.Functions.{Kind, of_value, of_nodes, of_logical, Signature, Term, value, nodes, logical, FunctionSet, items_count}
+use Rattle.serde_json_path_core.specs.Functions.{Kind, of_value, of_nodes, of_logical, Signature, Term, value, nodes, logical, FunctionSet}
 use Rattle.serde_json_path_core.specs.Compared.{Compared, Compares, literal_compared, value_compared}
 use Rattle.serde_json_path_core.specs.Derivation.{Triple, start_of, BelongsTo, Before, IsIn, IsInOrder}
 
@@ -22,7 +23,7 @@ SelectsIndex i len p = (i ≡ pos p) ⊎ ((i <ℤ pos 0) × (pos p ≡ (i +ℤ p
 
 -- the step is to a position of an array, and the test holds of the array's length and that position
 abbrev pub IsPositionOf : (ℕ → ℕ → Type 0) → Data → Step → Type 0
-IsPositionOf Selects v s = (items : Items) × (as_array v ≡ Some items) × (p : ℕ) × (s ≡ by_position p) × Selects (items_count items) p
+IsPositionOf Selects v s = (items : Items) × (as_array v ≡ Some items) × (p : ℕ) × (s ≡ by_position p) × Selects (items_len items) p
 
 -- an answer as a test: a node list that is not empty, or a truth value that is true (section 2.4.2)
 abbrev pub AnswersYes : Term → Type 0

@@ -2,8 +2,8 @@
 use Rattle.std.specs.Prelude.{ℕ, ◌+◌, ◌-◌, nat_lt, ℤ, pos, negsuc, List, [], ◌∷◌, ◌++◌, Option, Some, None, option_map, option_and_then, if◌then◌else◌}
 use Rattle.serde_json.specs.Data.{Data, array}
 use Rattle.serde_json_path_nodes.specs.Place.{Step, by_name, by_position, child_at, Located}
+use Rattle.serde_json.specs.Events.{items_len}
 use Rattle.serde_json_path_core.specs.Tree.{Segments, no_segments, segment, Segment, dot_name, long_hand, no_selectors, selector, name, index}
-use Rattle.serde_json_path_core.specs.Functions.{items_count}
 
 -- the child at that step, with the step
 abbrev pub child_by : Data → Step → Option (Step × Data)
@@ -15,7 +15,7 @@ position_in (pos p) len = Some p
 position_in (negsuc k) len = if nat_lt k len then Some (len - (k + 1)) else None
 
 abbrev pub item_at : Data → ℤ → Option (Step × Data)
-item_at (array items) i = option_and_then (λ p. child_by (array items) (by_position p)) (position_in i (items_count items))
+item_at (array items) i = option_and_then (λ p. child_by (array items) (by_position p)) (position_in i (items_len items))
 item_at _ i = None
 
 abbrev pub child_of : Segment → Data → Option (Step × Data)

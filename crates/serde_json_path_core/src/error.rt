@@ -1,6 +1,7 @@
 //! Why a query is refused.
 
-ghost use Rattle.std.specs.Prelude.{◌≡◌, codes, Some};
+ghost use Rattle.std.specs.Prelude.{◌≡◌, Some};
+ghost use Rattle.serde_json_path_core.specs.Errors.{query_error_text};
 ghost use Rattle.serde_json_path_core.specs.declared.error.QueryError.TheVariants.{Memory};
 
 use std::alloc::{AllocError, AllocFailed};
@@ -11,14 +12,17 @@ use std::fmt;
 pub enum QueryError {
     /// Memory was refused.
     Memory,
+    /// A pattern of `match` or `search` was refused, and not as an error of syntax.
+    Pattern,
 }
 
 impl fmt::Display for QueryError {
-    ghost output = { λ _. Some (codes "no memory") };
+    ghost output = { λ e. Some (query_error_text e) };
 
     fn fmt<W: fmt::Write>(&self, f: &mut fmt::Formatter<W>) -> fmt::Result {
         match self {
             QueryError::Memory => f.write_str("no memory"),
+            QueryError::Pattern => f.write_str("pattern refused"),
         }
     }
 }

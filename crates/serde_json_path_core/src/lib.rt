@@ -4,6 +4,7 @@
 mod child;
 mod error;
 mod evaluate;
+pub mod functions;
 mod laws;
 mod syntax;
 #[cfg(test)]

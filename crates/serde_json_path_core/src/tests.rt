@@ -5,6 +5,8 @@ ghost use Rattle.serde_json_path_core.specs.Tree as tree;
 ghost use Rattle.serde_json_path_core.specs.Piece.{a_segment};
 ghost use Rattle.serde_json_path_core.specs.Parts.{IsPart, KeepsParts};
 
+mod functions;
+
 use crate::{Checked, Part, QueryError, QueryKind, SyntaxBuilder, evaluate_located};
 use serde_json::Value;
 use serde_json_path_nodes::LocatedNodeList;
@@ -100,7 +102,12 @@ fn begins_at_the_root(rt: HostRuntime) -> Result<(), Fail> {
 
 #[test]
 fn prints_errors(rt: HostRuntime) -> Result<(), Fail> {
-    let text = QueryError::Memory.to_string(rt.alloc())?;
-    assert_eq!(rt; text.as_str(), "no memory");
+    for (error, want) in [
+        (QueryError::Memory, "no memory"),
+        (QueryError::Pattern, "pattern refused"),
+    ] {
+        let text = error.to_string(rt.alloc())?;
+        assert_eq!(rt; text.as_str(), want);
+    }
     Ok(())
 }
