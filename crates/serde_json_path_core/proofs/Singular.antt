@@ -1,16 +1,17 @@
 -- Segments that select one child at most lead to one node at most, and that is the query's result.
-use Rattle.std.proofs.Common.{◌≡◌, ℕ, zero, suc, ◌+◌, ◌-◌, ◌<◌, ℤ, pos, negsuc, List, [], ◌∷◌, inl, inr, Bool, true, false, Option, Some, None, option_map, option_and_then, option_to_list, refl, sym, ap, subst, ◌∙◌, arith}
+use Rattle.std.proofs.Common.{◌≡◌, ℕ, zero, suc, ◌+◌, ◌-◌, ◌<◌, ◌≤◌, ℤ, pos, negsuc, List, [], ◌∷◌, length, inl, inr, Bool, true, false, Option, Some, None, option_map, option_and_then, option_to_list, refl, sym, ap, subst, ◌∙◌, arith}
 use Rattle.std.specs.Prelude.{◌<ℤ◌, ◌+ℤ◌, nat_lt, if◌then◌else◌}
 use Rattle.std.proofs.lemmas.Int.{ints}
 use Rattle.std.proofs.lemmas.Option.{none-some, same_Some, option_and_then_some}
 use Rattle.serde_json.specs.Data.{Data, null, boolean, number, string, array, object, Items}
 use Rattle.serde_json_path_nodes.specs.Place.{Step, by_name, by_position, child_at, at, Located}
 use Rattle.serde_json.specs.Events.{items_len}
-use Rattle.serde_json_path_core.specs.Tree.{QueryKind, query, Segments, no_segments, segment, child, descendant, Segment, dot_name, dot_wildcard, long_hand, no_selectors, selector, name, wildcard, index, slice, filter}
+use Rattle.serde_json_path_core.specs.Tree.{QueryKind, Query, query, Segments, no_segments, segment, child, descendant, Segment, dot_name, dot_wildcard, long_hand, no_selectors, selector, name, wildcard, index, slice, filter, IsSingularSegment, AreSingular, IsSingular}
 use Rattle.serde_json_path_core.specs.Functions.{FunctionSet}
 use Rattle.serde_json_path_core.specs.Derivation.{Triple, location_of, start_of}
 use Rattle.serde_json_path_core.specs.Meaning.{SelectsIndex, IsPositionOf, Derives, AdmitsIn, IsResult}
 use Rattle.serde_json_path_core.specs.Selected.{child_by, item_at, child_of, beneath, node_of}
+use Rattle.serde_json_path_core.proofs.Order.{result_once}
 
 -- one name or one index, or no selector at all
 abbrev pub IsNarrowSegment : Segment → Type 0
@@ -192,3 +193,35 @@ module _ (F : FunctionSet) (top : Data) where
             )),
             ((sym (location_of-by_children n.location), k.1), tt),
           )
+
+-- ---- singular queries
+
+-- a segment that is singular is narrow
+singular_segment_narrow : (seg : Segment) → IsSingularSegment seg → IsNarrowSegment seg
+singular_segment_narrow (dot_name k) h = tt
+singular_segment_narrow (long_hand (selector (name k) no_selectors)) h = tt
+singular_segment_narrow (long_hand (selector (index i) no_selectors)) h = tt
+singular_segment_narrow (long_hand no_selectors) h = absurd h
+singular_segment_narrow (long_hand (selector (name k) (selector sel more))) h = absurd h
+singular_segment_narrow (long_hand (selector (index i) (selector sel more))) h = absurd h
+singular_segment_narrow (long_hand (selector wildcard more)) h = absurd h
+singular_segment_narrow (long_hand (selector (slice sl) more)) h = absurd h
+singular_segment_narrow (long_hand (selector (filter x) more)) h = absurd h
+singular_segment_narrow dot_wildcard h = absurd h
+
+-- segments that are singular are narrow
+singular_narrow : (segs : Segments) → AreSingular segs → AreNarrow segs
+singular_narrow no_segments h = tt
+singular_narrow (segment child seg more) h = (singular_segment_narrow seg h.0, singular_narrow more h.1)
+singular_narrow (segment descendant seg more) h = absurd h
+
+length-option : (o : Option Located) → length (option_to_list o) ≤ 1
+length-option None = omega arith
+length-option (Some n) = omega arith
+
+-- the result of a singular query has one node at most
+pub selects_at_most_one : (F : FunctionSet) (top : Data) (q : Query) (v : Data) (ns : List Located) → IsSingular q → IsResult F top q v ns → length ns ≤ 1
+selects_at_most_one F top (query kind segs) v ns h r =
+    let o = node_of segs (start_of kind top v) in
+    let led : ns ≡ option_to_list o = result_once F top (query kind segs) v ns (option_to_list o) r (narrow_result F top kind segs v (singular_narrow segs h)) in
+    subst (λ ms. length ms ≤ 1) (sym led) (length-option o)

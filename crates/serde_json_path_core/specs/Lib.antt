@@ -18,3 +18,4 @@ pub mod Parts
 pub mod Selected
 pub mod Computed
 pub mod Views
+pub mod Laws

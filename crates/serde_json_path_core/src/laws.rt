@@ -7,6 +7,7 @@ ghost use Rattle.serde_json_path_core.specs.Tree.{Query, segments_of};
 ghost use Rattle.serde_json_path_core.specs.Functions.{FunctionSet};
 ghost use Rattle.serde_json_path_core.specs.Derivation.{Triple, Before};
 ghost use Rattle.serde_json_path_core.specs.Meaning.{IsResult};
+ghost use Rattle.serde_json_path_core.specs.Laws.{SingularQuerySelectsAtMostOne};
 
 /// Of two derivations of one query never both stand before the other (RFC 9535, sections 2.5.1.2 and 2.5.2.2).
 pub fn law_before_is_asymmetric()
@@ -17,4 +18,11 @@ pub fn law_before_is_asymmetric()
 pub fn law_result_is_unique()
     ensures { (F : FunctionSet) (top : Data) (q : Query) (node : Data) (some other : List Located)
         → IsResult F top q node some → IsResult F top q node other → some ≡ other }
+{}
+
+/// A singular query selects at most one node (RFC 9535, section 2.3.5.1).
+///
+/// Its segments are child segments of one name or one index each. Function set, document and node may be any.
+pub fn law_singular_query_selects_at_most_one()
+    ensures { SingularQuerySelectsAtMostOne }
 {}
