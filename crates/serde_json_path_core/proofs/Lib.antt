@@ -11,6 +11,7 @@ pub mod Listed
 pub mod Lookups
 pub mod NamedSegments
 pub mod Narrow
+pub mod Negations
 pub mod Order
 pub mod Singular
 pub mod SlicePositions

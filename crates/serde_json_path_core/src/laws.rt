@@ -7,7 +7,7 @@ ghost use Rattle.serde_json_path_core.specs.Tree.{Query, segments_of};
 ghost use Rattle.serde_json_path_core.specs.Functions.{FunctionSet};
 ghost use Rattle.serde_json_path_core.specs.Derivation.{Triple, Before};
 ghost use Rattle.serde_json_path_core.specs.Meaning.{IsResult};
-ghost use Rattle.serde_json_path_core.specs.Laws.{SingularQuerySelectsAtMostOne};
+ghost use Rattle.serde_json_path_core.specs.Laws.{SingularQuerySelectsAtMostOne, NotEqualNegatesEqual};
 
 /// Of two derivations of one query never both stand before the other (RFC 9535, sections 2.5.1.2 and 2.5.2.2).
 pub fn law_before_is_asymmetric()
@@ -25,4 +25,12 @@ pub fn law_result_is_unique()
 /// Its segments are child segments of one name or one index each. Function set, document and node may be any.
 pub fn law_singular_query_selects_at_most_one()
     ensures { SingularQuerySelectsAtMostOne }
+{}
+
+/// A comparison by `!=` yields the negation of the same comparison by `==` (RFC 9535, section 2.3.5.2.2).
+///
+/// The sides are well-typed, and the function set keeps types: where a function that is to answer a value answers
+/// something else, its side stands for nothing that is compared, and neither comparison holds.
+pub fn law_not_equal_negates_equal()
+    ensures { NotEqualNegatesEqual }
 {}
