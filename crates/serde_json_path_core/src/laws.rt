@@ -7,7 +7,7 @@ ghost use Rattle.serde_json_path_core.specs.Tree.{Query, segments_of};
 ghost use Rattle.serde_json_path_core.specs.Functions.{FunctionSet};
 ghost use Rattle.serde_json_path_core.specs.Derivation.{Triple, Before};
 ghost use Rattle.serde_json_path_core.specs.Meaning.{IsResult};
-ghost use Rattle.serde_json_path_core.specs.Laws.{SingularQuerySelectsAtMostOne, NotEqualNegatesEqual};
+ghost use Rattle.serde_json_path_core.specs.Laws.{SingularQuerySelectsAtMostOne, NotEqualNegatesEqual, LessOrEqualIsEither};
 
 /// Of two derivations of one query never both stand before the other (RFC 9535, sections 2.5.1.2 and 2.5.2.2).
 pub fn law_before_is_asymmetric()
@@ -33,4 +33,11 @@ pub fn law_singular_query_selects_at_most_one()
 /// something else, its side stands for nothing that is compared, and neither comparison holds.
 pub fn law_not_equal_negates_equal()
     ensures { NotEqualNegatesEqual }
+{}
+
+/// A comparison by `<=` holds where the one by `<` or the one by `==` does, and nowhere else (RFC 9535, section 2.3.5.2.2).
+///
+/// The sides and the function set may be any, well-typed or not.
+pub fn law_less_or_equal_is_either()
+    ensures { LessOrEqualIsEither }
 {}
