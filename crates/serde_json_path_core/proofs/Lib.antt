@@ -15,4 +15,5 @@ pub mod Negations
 pub mod Order
 pub mod Singular
 pub mod SlicePositions
+pub mod Subtrees
 mod Worked

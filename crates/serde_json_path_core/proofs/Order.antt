@@ -13,7 +13,7 @@ use Rattle.serde_json_path_core.specs.Meaning.{IsResult}
 
 -- ---- never both
 
-step_once : (s t : Step) → StepBefore s t → StepBefore t s → ⊥
+pub step_once : (s t : Step) → StepBefore s t → StepBefore t s → ⊥
 step_once (by_name k) (by_name l) h g = let e : Less ≡ Greater = sym h ∙ nat_list_cmp_total.antisymm k l ∙ ap ordering_reverse g in cc
 step_once (by_position i) (by_position j) h g = absurd (omega arith)
 step_once (by_name k) (by_position j) h g = h

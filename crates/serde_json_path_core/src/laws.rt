@@ -7,7 +7,7 @@ ghost use Rattle.serde_json_path_core.specs.Tree.{Query, segments_of};
 ghost use Rattle.serde_json_path_core.specs.Functions.{FunctionSet};
 ghost use Rattle.serde_json_path_core.specs.Derivation.{Triple, Before};
 ghost use Rattle.serde_json_path_core.specs.Meaning.{IsResult};
-ghost use Rattle.serde_json_path_core.specs.Laws.{SingularQuerySelectsAtMostOne, NotEqualNegatesEqual, LessOrEqualIsEither};
+ghost use Rattle.serde_json_path_core.specs.Laws.{SingularQuerySelectsAtMostOne, NotEqualNegatesEqual, LessOrEqualIsEither, DescendantsInDocumentOrder};
 
 /// Of two derivations of one query never both stand before the other (RFC 9535, sections 2.5.1.2 and 2.5.2.2).
 pub fn law_before_is_asymmetric()
@@ -40,4 +40,13 @@ pub fn law_not_equal_negates_equal()
 /// The sides and the function set may be any, well-typed or not.
 pub fn law_less_or_equal_is_either()
     ensures { LessOrEqualIsEither }
+{}
+
+/// The result of a descendant segment is that of the child segment at the node, then those of each child's subtree: a node
+/// is visited before its descendants, and the items of an array in array order (RFC 9535, section 2.5.2.2).
+///
+/// The query is well-typed and begins at the current node, so that it can be asked at each child; more segments may follow.
+/// The RFC leaves the order of an object's members open; here it is that of the bytes of their names.
+pub fn law_descendants_in_document_order()
+    ensures { DescendantsInDocumentOrder }
 {}

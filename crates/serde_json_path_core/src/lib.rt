@@ -13,8 +13,8 @@ mod tests;
 pub use error::QueryError;
 pub use evaluate::evaluate_located;
 pub use laws::{
-    law_before_is_asymmetric, law_less_or_equal_is_either, law_not_equal_negates_equal,
-    law_result_is_unique, law_singular_query_selects_at_most_one,
+    law_before_is_asymmetric, law_descendants_in_document_order, law_less_or_equal_is_either,
+    law_not_equal_negates_equal, law_result_is_unique, law_singular_query_selects_at_most_one,
 };
 pub use syntax::builder::SyntaxBuilder;
 pub use syntax::checked::Checked;
