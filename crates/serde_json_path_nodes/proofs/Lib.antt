@@ -4,3 +4,5 @@ mod FirstPlaces
 mod Pointers
 mod Quotes
 mod TextsApart
+mod KeptBySorting
+mod Orders

@@ -4,3 +4,5 @@ pub mod Place
 pub mod Same
 pub mod Text
 pub mod Views
+pub mod NodeOrder
+pub mod StepOrder

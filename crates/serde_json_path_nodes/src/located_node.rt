@@ -5,6 +5,7 @@ ghost use Rattle.serde_json.specs.View.{view};
 
 use crate::normalized_path::NormalizedPath;
 use serde_json::Value;
+use std::cmp::Ordering;
 
 /// A node of a document with its location (RFC 9535, section 1.1).
 ///
@@ -13,16 +14,23 @@ use serde_json::Value;
 pub struct LocatedNode<'b> {
     location: NormalizedPath<'b>,
     node: &'b Value,
+    // Where the node stood in its list, while `LocatedNodeList::dedup` works; else it says nothing.
+    place: usize,
 }
 
 impl<'b> LocatedNode<'b> {
     ghost use Rattle.serde_json_path_nodes.specs.Views.{located};
+    ghost use Rattle.serde_json_path_nodes.specs.NodeOrder.{node_cmp};
 
     /// The node with this location. Takes no memory.
     pub fn new(location: NormalizedPath<'b>, node: &'b Value) -> LocatedNode<'b>
         ensures { located result ≡ record { location = location.entry; value = view node.now } }
     {
-        LocatedNode { location, node }
+        LocatedNode {
+            location,
+            node,
+            place: 0,
+        }
     }
 
     /// The location of the node.
@@ -37,5 +45,29 @@ impl<'b> LocatedNode<'b> {
         ensures { view result.now ≡ (located self.now).value }
     {
         self.node
+    }
+
+    // The place that was noted last.
+    pub(crate) fn place(&self) -> usize
+        ensures { result ≡ self.now.place }
+    {
+        self.place
+    }
+
+    // Notes where the node stands in its list.
+    pub(crate) fn note_place(&mut self, place: usize)
+        ensures noted { self.new.place ≡ place }
+        ensures same { located self.new ≡ located self.old }
+    {
+        self.place = place;
+    }
+
+    // By location, and by the noted place where the location is the same.
+    pub(crate) fn compare(&self, other: &LocatedNode<'b>) -> Ordering
+        ensures { result ≡ node_cmp self.now other.now }
+    {
+        self.location
+            .compare(&other.location)
+            .then(self.place.cmp(&other.place))
     }
 }

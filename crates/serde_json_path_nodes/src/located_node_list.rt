@@ -2,7 +2,8 @@
 
 ghost use Rattle.std.specs.Prelude.{◌≡◌, ◌==◌, ◌≤◌, length, map, take, option_map, IfOk, IfErr};
 ghost use Rattle.serde_json_path_nodes.specs.Views.{located, location_of};
-ghost use Rattle.serde_json_path_nodes.specs.Lists.{first_places, is_among};
+ghost use Rattle.serde_json_path_nodes.specs.Lists.{first_places};
+ghost use Rattle.serde_json_path_nodes.specs.NodeOrder.{HasPlaces};
 
 use crate::error::{AtMostOneError, ExactlyOneError};
 use crate::iterators::{LocatedNodes, Locations, Nodes};
@@ -76,13 +77,17 @@ impl<'b> LocatedNodeList<'b> {
 
     /// The list without the entries whose location stands earlier in it, in the order that it had.
     ///
-    /// Works in place and takes no memory. Each entry is compared with the entries that are kept before it, so the
-    /// time grows with the number of entries times that of different locations.
+    /// Works in place and takes no memory. It sorts the entries by location and then back, so that the time grows with
+    /// the number of entries times its logarithm.
     pub fn dedup(mut self) -> LocatedNodeList<'b>
         ensures { located_nodes result ≡ first_places (located_nodes self.entry) }
     {
-        let kept = move_first_places(self.nodes.as_mut_slice());
-        self.nodes.truncate(kept);
+        note_places(self.nodes.as_mut_slice());
+        // Entries of one location then stand together, the first of them in front.
+        self.nodes.sort_unstable_by(|a, b| a.compare(b));
+        self.nodes
+            .dedup_by(|next, kept| next.location() == kept.location());
+        self.nodes.sort_unstable_by_key(|node| node.place());
         self
     }
 
@@ -115,30 +120,12 @@ impl<'b> LocatedNodeList<'b> {
     }
 }
 
-// Moves the nodes whose location does not stand earlier to the front, in their order, and tells how many there are.
-fn move_first_places<'b>(nodes: &mut [LocatedNode<'b>]) -> usize
-    ensures within { result ≤ length nodes.old }
-    ensures front { map located (take result nodes.new) ≡ first_places (map located nodes.old) }
+// Notes in each node its place.
+fn note_places<'b>(nodes: &mut [LocatedNode<'b>])
+    ensures noted { HasPlaces nodes.new }
+    ensures same { map located nodes.new ≡ map located nodes.old }
 {
-    let mut kept = 0;
-    for index in 0..nodes.len() {
-        let seen: &[LocatedNode<'b>] = nodes;
-        if !stands_among(seen[index].location(), &seen[..kept]) {
-            nodes.swap(kept, index);
-            kept += 1;
-        }
+    for (place, node) in nodes.iter_mut().enumerate() {
+        node.note_place(place);
     }
-    kept
-}
-
-// Whether the location is that of one of these nodes.
-fn stands_among<'b>(location: &NormalizedPath<'b>, nodes: &[LocatedNode<'b>]) -> bool
-    ensures { result ≡ is_among location.now (map location_of (map located nodes.now)) }
-{
-    for node in nodes {
-        if location == node.location() {
-            return true;
-        }
-    }
-    false
 }

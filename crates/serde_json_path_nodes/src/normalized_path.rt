@@ -8,6 +8,7 @@ use crate::iterators::PathElements;
 use crate::path_element::PathElement;
 use crate::quoted::Quoted;
 use std::alloc::{AllocError, Global};
+use std::cmp::Ordering;
 use std::fmt;
 use std::fmt::Write;
 use std::marker::Model;
@@ -33,6 +34,7 @@ impl<'b> Model for NormalizedPath<'b> {
 
 impl<'b> NormalizedPath<'b> {
     ghost use Rattle.serde_json_path_nodes.specs.Views.{step_view};
+    ghost use Rattle.serde_json_path_nodes.specs.StepOrder.{location_cmp};
 
     /// The location that these steps make up. Takes no memory.
     pub fn from_steps(steps: Vec<PathElement<'b>>) -> NormalizedPath<'b>
@@ -93,6 +95,13 @@ impl<'b> NormalizedPath<'b> {
             }
         }
         Ok(text)
+    }
+
+    // A total order in which only equal locations tie.
+    pub(crate) fn compare(&self, other: &NormalizedPath<'b>) -> Ordering
+        ensures { result ≡ location_cmp self.now other.now }
+    {
+        self.steps.cmp(&other.steps)
     }
 }
 

@@ -1,7 +1,9 @@
 //! The elements of a normalised path.
 
 /// An element of a normalised path: one step into a document (RFC 9535, section 2.7).
-#[derive(Clone, Copy, Debug, PartialEq, Eq)]
+///
+/// Names stand before positions, names in the order of their bytes.
+#[derive(Clone, Copy, Debug, PartialEq, Eq, PartialOrd, Ord)]
 pub enum PathElement<'b> {
     /// The name of an object's member, borrowed from the document.
     Name(&'b str),

@@ -1,0 +1,266 @@
+-- Elements that note their places, sorted by an order and then by place, without those that repeat their neighbour, and
+-- sorted back by place: these are the elements that no earlier one ties with, in their order.
+use Rattle.std.proofs.Common.{◌≡◌, ℕ, zero, suc, ◌+◌, ◌<◌, ◌≤◌, Bool, true, false, cond, not, ◌&&◌, ◌||◌, ltb, nat_eq, true≢false, List, [], ◌∷◌, length, get_or, refl, ap, sym, ◌∙◌, arith, inl, inr}
+use Rattle.std.specs.Cmp.{IsTotalOrder, unsigned_ties}
+use Rattle.std.specs.List.{All, AllByRecursion, AllPairs, IsDistinct, dedup, dedup_from, filter, list_any, sum_by}
+use Rattle.std.specs.List.Sorted.{IsNonDecreasingBy, IsPermutation, IsSortedBy, IsStrictlySortedBy}
+use Rattle.std.specs.Ordering.{eq_by_cmp, is_eq, is_gt, is_lt, nat_cmp, on, ordering_reverse, ordering_then, then_cmp}
+use Rattle.std.specs.declared.cmp.Ordering.{Ordering}
+use Rattle.std.specs.declared.cmp.Ordering.TheVariants.{Less, Equal, Greater}
+use Rattle.std.proofs.lemmas.Bool.{and_from, and_parts, and_right, cases_lt, false_from_ne_true, le-ltb, lt-ltb, ltb-true, ne_eqb, or_from, or_left}
+use Rattle.std.proofs.lemmas.Cmp.{alike_right, nat_cmp_total, nat_eq_equiv, on_total, ranked, then_total, tied_back}
+use Rattle.std.proofs.lemmas.List.{get_or_default}
+use Rattle.std.proofs.lemmas.List.Elements.{All-filter, All-same, All-tail, filter_agree, recursion_from_All}
+use Rattle.std.proofs.lemmas.List.Kept.{IsNonDecreasingBy-filter}
+use Rattle.std.proofs.lemmas.List.Sorted.{All-permutation, list_any-IsPermutation, ranks_by, sorted_far, sum_by-IsPermutation}
+use Rattle.std.proofs.lemmas.List.Sums.{sum_by-cons, sum_by-le}
+use Rattle.std.proofs.lemmas.Map.Keys.{apart_from_distinct, IsDistinct-from_apart, IsDistinct-IsPermutation}
+
+-- ---- orderings
+
+not_greater : (first next : Ordering) → ordering_then first next ≡ Less → is_gt first ≡ false
+not_greater Less next less = refl
+not_greater Equal next less = refl
+not_greater Greater next less = cc
+
+next_less : (first next : Ordering) → ordering_then first next ≡ Less → is_eq first ≡ true → next ≡ Less
+next_less Less next less tie = cc
+next_less Equal next less tie = less
+next_less Greater next less tie = cc
+
+equal_from : (o : Ordering) → is_eq o ≡ true → o ≡ Equal
+equal_from Less tie = cc
+equal_from Equal tie = refl
+equal_from Greater tie = cc
+
+-- what is not less backwards, and does not tie in its second part, is less
+less_from : (o back : Ordering) → o ≡ ordering_reverse back → is_lt back ≡ false → is_eq back ≡ false → o ≡ Less
+less_from o Less reversed not_less no_tie = cc
+less_from o Equal reversed not_less no_tie = cc
+less_from o Greater reversed not_less no_tie = reversed
+
+no_cycle : (o back : Ordering) → o ≡ ordering_reverse back → is_gt o ≡ false → is_gt back ≡ false → is_eq back ≡ false → ⊥
+no_cycle o Less reversed not_gt back_not_gt no_tie = cc
+no_cycle o Equal reversed not_gt back_not_gt no_tie = cc
+no_cycle o Greater reversed not_gt back_not_gt no_tie = cc
+
+no_tie_by_next : (o : Ordering) (m n : ℕ) → nat_eq m n ≡ false → is_eq (ordering_then o (nat_cmp m n)) ≡ false
+no_tie_by_next Less m n differ = refl
+no_tie_by_next Equal m n differ = sym (unsigned_ties m n) ∙ differ
+no_tie_by_next Greater m n differ = refl
+
+-- a test that implies another one adds nothing to it
+absorbed : (first next rest : Bool) → (next ≡ true → first ≡ true) → (first || (next || rest)) ≡ (first || rest)
+absorbed true next rest through = refl
+absorbed false true rest through = absurd (true≢false (sym (through refl)))
+absorbed false false rest through = refl
+
+-- ---- filters and sums
+
+module _ {X : Type 0} where
+  filter_agree_all : (p q : X → Bool) (xs : List X) → AllByRecursion (λ x. p x ≡ q x) xs → filter p xs ≡ filter q xs
+  filter_agree_all p q [] agree = refl
+  filter_agree_all p q (x ∷ xs) agree = rw (agree.0, filter_agree_all p q xs agree.1)
+
+  filter-second : (p : X → Bool) (x y : X) (xs : List X) → p y ≡ false → filter p (x ∷ y ∷ xs) ≡ filter p (x ∷ xs)
+  filter-second p x y xs fails = ap (λ b. cond (p x) (x ∷ cond b (y ∷ filter p xs) (filter p xs)) (cond b (y ∷ filter p xs) (filter p xs))) fails
+
+  sum_by-filter : (f : X → ℕ) (p : X → Bool) (xs : List X) → sum_by f (filter p xs) ≡ sum_by (λ x. cond (p x) (f x) 0) xs
+  sum_by-filter f p [] = refl
+  sum_by-filter f p (x ∷ xs) =
+      let more : (b : Bool) → sum_by f (cond b (x ∷ filter p xs) (filter p xs)) ≡ cond b (f x) 0 + sum_by f (filter p xs) =
+      λ b. elim b as (λ c. sum_by f (cond c (x ∷ filter p xs) (filter p xs)) ≡ cond c (f x) 0 + sum_by f (filter p xs)) [ true ↦ sum_by-cons f x (filter p xs) | false ↦ omega arith ] in
+      more (p x) ∙ ap (λ n. cond (p x) (f x) 0 + n) (sum_by-filter f p xs) ∙ sym (sum_by-cons (λ y. cond (p y) (f y) 0) x xs)
+
+-- ---- a list that is sorted by place is known from its elements
+
+module _ {X : Type 0} (place : X → ℕ) where
+  below_none : (bound : ℕ) (y : X) (ys : List X) → IsNonDecreasingBy place (y ∷ ys) → bound ≤ place y
+      → sum_by (λ z. cond (ltb (place z) bound) 1 0) (y ∷ ys) ≡ 0
+  below_none bound y ys rise low =
+      let none : All (λ z. cond (ltb (place z) bound) 1 0 ≤ 0) (y ∷ ys) = λ k d within.
+      let above : bound ≤ place (get_or (y ∷ ys) k d) = omega (arith, rise 0 k d (omega arith) within) in
+      rw (le-ltb (place (get_or (y ∷ ys) k d)) bound above) (omega arith) in
+      omega (arith, sum_by-le (λ z. cond (ltb (place z) bound) 1 0) 0 (y ∷ ys) none)
+
+  head_le : (x y : X) (xs ys : List X) → IsNonDecreasingBy place (y ∷ ys) → ((f : X → ℕ) → sum_by f (x ∷ xs) ≡ sum_by f (y ∷ ys))
+      → place y ≤ place x
+  head_le x y xs ys rise sums =
+      elim (cases_lt (place x) (place y)) [
+        | inl below ↦
+            let f : X → ℕ = λ z. cond (ltb (place z) (place y)) 1 0 in
+            let one : f x ≡ 1 = ap (λ b. cond b 1 0) (lt-ltb (place x) (place y) below) in
+            let start : sum_by f (x ∷ xs) ≡ f x + sum_by f xs = sum_by-cons f x xs in
+            let end : sum_by f (y ∷ ys) ≡ 0 = below_none (place y) y ys rise (omega arith) in
+            let both : sum_by f (x ∷ xs) ≡ sum_by f (y ∷ ys) = sums f in
+            absurd (omega arith)
+        | inr above ↦ above
+      ]
+
+  tail_rises : (x : X) (xs : List X) → IsNonDecreasingBy place (x ∷ xs) → IsNonDecreasingBy place xs
+  tail_rises x xs rise i j d le within = rise (suc i) (suc j) d (omega arith) (omega arith)
+
+  -- where the place tells an element
+  pub sorted_same : (P : X → Type 0) (tells : (x y : X) → P x → P y → place x ≡ place y → x ≡ y) (xs ys : List X)
+      → IsNonDecreasingBy place xs → IsNonDecreasingBy place ys → All P xs → All P ys
+      → ((f : X → ℕ) → sum_by f xs ≡ sum_by f ys) → xs ≡ ys
+  sorted_same P tells [] [] rise rise' all all' sums = refl
+  sorted_same P tells [] (y ∷ ys) rise rise' all all' sums = absurd (omega (arith, sums (λ _. 1), sum_by-cons (λ _. 1) y ys))
+  sorted_same P tells (x ∷ xs) [] rise rise' all all' sums = absurd (omega (arith, sums (λ _. 1), sum_by-cons (λ _. 1) x xs))
+  sorted_same P tells (x ∷ xs) (y ∷ ys) rise rise' all all' sums =
+      let level : place x ≡ place y = omega (arith, head_le x y xs ys rise' sums, head_le y x ys xs rise (λ f. sym (sums f))) in
+      let head : x ≡ y = tells x y (all 0 x (omega arith)) (all' 0 y (omega arith)) level in
+      let tails : (f : X → ℕ) → sum_by f xs ≡ sum_by f ys = λ f. omega (arith, sums f, sum_by-cons f x xs, sum_by-cons f y ys, ap f head) in
+      let tail = sorted_same P tells xs ys (tail_rises x xs rise) (tail_rises y ys rise') (All-tail P x xs all) (All-tail P y ys all') tails in
+      cc
+
+-- ---- an order and a place
+
+module _ {X : Type 0} (order : X → X → Ordering) (place : X → ℕ) where
+  -- y ties with x and notes an earlier place
+  abbrev pub repeats : X → X → Bool
+  repeats x y = is_eq (order x y) && ltb (place y) (place x)
+
+  -- no element ties with x and notes an earlier place
+  abbrev pub is_first_among : List X → X → Bool
+  is_first_among all x = not (list_any (repeats x) all)
+
+  abbrev pub order_then_place : X → X → Ordering
+  order_then_place = then_cmp order (on place nat_cmp)
+
+  later : (x y : X) → order_then_place x y ≡ Less → is_eq (order x y) ≡ true → place x < place y
+  later x y less tie = ranked (place x) (place y) Less (sym (next_less (order x y) (nat_cmp (place x) (place y)) less tie))
+
+  repeats_none : (x y : X) → order_then_place x y ≡ Less → repeats x y ≡ false
+  repeats_none x y less =
+      let known : (b : Bool) → is_eq (order x y) ≡ b → (b && ltb (place y) (place x)) ≡ false =
+      λ b. elim b as (λ c. is_eq (order x y) ≡ c → (c && ltb (place y) (place x)) ≡ false) [
+        | true ↦ λ tie. let below : place x < place y = later x y less tie in le-ltb (place y) (place x) (omega arith)
+        | false ↦ λ no_tie. refl
+      ] in
+      known (is_eq (order x y)) refl
+
+  repeats_no_later : (x : X) (xs : List X) → AllByRecursion (λ y. order_then_place x y ≡ Less) xs → list_any (repeats x) xs ≡ false
+  repeats_no_later x [] above = refl
+  repeats_no_later x (y ∷ ys) above = or_from (repeats x y) (list_any (repeats x) ys) (repeats_none x y above.0) (repeats_no_later x ys above.1)
+
+  first_is_first : (x : X) (xs : List X) → AllByRecursion (λ y. order_then_place x y ≡ Less) xs → is_first_among (x ∷ xs) x ≡ true
+  first_is_first x xs above =
+      ap not (or_from (repeats x x) (list_any (repeats x) xs)
+      (and_right (is_eq (order x x)) (ltb (place x) (place x)) (le-ltb (place x) (place x) (omega arith)))
+      (repeats_no_later x xs above))
+
+  strict_from_pairs : (xs : List X) → AllPairs (λ x y. order_then_place x y ≡ Less) xs → IsStrictlySortedBy order_then_place xs
+  unfolding IsStrictlySortedBy
+  strict_from_pairs [] pairs = tt
+  strict_from_pairs (x ∷ xs) pairs = (
+    recursion_from_All (λ y. order_then_place x y ≡ Less) xs (λ k d within. pairs zero (suc k) d (omega arith) (omega arith)),
+    strict_from_pairs xs (λ i j d below within. pairs (suc i) (suc j) d (omega arith) (omega arith)),
+  )
+
+  module _ (total : IsTotalOrder order) where
+    -- what repeats an element that repeats an earlier one repeats the earlier one
+    repeats_through : (x y z : X) → order_then_place x y ≡ Less → is_eq (order y x) ≡ true → repeats z y ≡ true → repeats z x ≡ true
+    repeats_through x y z less tie repeat =
+        let parts = and_parts (is_eq (order z y)) (ltb (place y) (place z)) repeat in
+        let level : order y x ≡ Equal = equal_from (order y x) tie in
+        let below : place x < place y = later x y less (ap is_eq (tied_back total y x level)) in
+        let above : place y < place z = ltb-true (place y) (place z) parts.1 in
+        and_from (is_eq (order z x)) (ltb (place x) (place z)) (ap is_eq (sym (alike_right total y x z level)) ∙ parts.0) (lt-ltb (place x) (place z) (omega arith))
+
+    -- elements between which another one stands that does not tie with the first
+    apart : (x y z : X) → order_then_place x y ≡ Less → is_eq (order y x) ≡ false → order_then_place y z ≡ Less → is_eq (order z x) ≡ false
+    apart x y z less no_tie less_again = false_from_ne_true (is_eq (order z x)) (λ tie.
+        let same : order y z ≡ order y x = alike_right total z x y (equal_from (order z x) tie) in
+        no_cycle (order x y) (order y x) (total.antisymm x y) (not_greater (order x y) (nat_cmp (place x) (place y)) less)
+        (ap is_gt (sym same) ∙ not_greater (order y z) (nat_cmp (place y) (place z)) less_again) no_tie)
+
+    repeats_none_before : (x y : X) (all zs : List X) → order_then_place x y ≡ Less → is_eq (order y x) ≡ false
+        → AllByRecursion (λ z. order_then_place y z ≡ Less) zs → AllByRecursion (λ z. is_first_among (x ∷ all) z ≡ is_first_among all z) zs
+    repeats_none_before x y all [] less no_tie above = tt
+    repeats_none_before x y all (z ∷ zs) less no_tie above = (
+      ap (λ b. not ((b && ltb (place x) (place z)) || list_any (repeats z) all)) (apart x y z less no_tie above.0),
+      repeats_none_before x y all zs less no_tie above.1,
+    )
+
+    dedup_from_is : (x : X) (xs : List X) → IsStrictlySortedBy order_then_place (x ∷ xs)
+        → dedup_from (eq_by_cmp order) x xs ≡ filter (is_first_among (x ∷ xs)) (x ∷ xs)
+    unfolding IsStrictlySortedBy
+    dedup_from_is x [] rise = sym (ap (λ b. cond b (x ∷ []) []) (first_is_first x [] tt))
+    dedup_from_is x (y ∷ ys) rise =
+        let all = x ∷ y ∷ ys in
+        let known : (b : Bool) → is_eq (order y x) ≡ b
+        → cond b (dedup_from (eq_by_cmp order) x ys) (x ∷ dedup_from (eq_by_cmp order) y ys) ≡ filter (is_first_among all) all =
+        λ b. elim b as (λ c. is_eq (order y x) ≡ c
+        → cond c (dedup_from (eq_by_cmp order) x ys) (x ∷ dedup_from (eq_by_cmp order) y ys) ≡ filter (is_first_among all) all) [
+          | true ↦ λ tie.
+              let below : place x < place y = later x y rise.0.0 (ap is_eq (tied_back total y x (equal_from (order y x) tie))) in
+              let repeat : repeats y x ≡ true = and_from (is_eq (order y x)) (ltb (place x) (place y)) tie (lt-ltb (place x) (place y) below) in
+              dedup_from_is x ys (rise.0.1, rise.1.1)
+              ∙ filter_agree (is_first_among (x ∷ ys)) (is_first_among all)
+              (λ z. ap not (sym (absorbed (repeats z x) (repeats z y) (list_any (repeats z) ys) (repeats_through x y z rise.0.0 tie)))) (x ∷ ys)
+              ∙ sym (filter-second (is_first_among all) x y ys (ap not (or_left (repeats y x) (list_any (repeats y) (y ∷ ys)) repeat)))
+          | false ↦ λ no_tie.
+              let agree : AllByRecursion (λ z. is_first_among all z ≡ is_first_among (y ∷ ys) z) (y ∷ ys) =
+              (ap (λ c. not ((c && ltb (place x) (place y)) || list_any (repeats y) (y ∷ ys))) no_tie, repeats_none_before x y (y ∷ ys) ys rise.0.0 no_tie rise.1.0) in
+              ap (λ (l : List X). x ∷ l) (dedup_from_is y ys rise.1 ∙ sym (filter_agree_all (is_first_among all) (is_first_among (y ∷ ys)) (y ∷ ys) agree))
+              ∙ sym (ap (λ c. cond c (x ∷ filter (is_first_among all) (y ∷ ys)) (filter (is_first_among all) (y ∷ ys))) (first_is_first x (y ∷ ys) rise.0))
+        ] in
+        known (is_eq (order y x)) refl
+
+    dedup-strict : (xs : List X) → IsStrictlySortedBy order_then_place xs → dedup (eq_by_cmp order) xs ≡ filter (is_first_among xs) xs
+    dedup-strict [] rise = refl
+    dedup-strict (x ∷ xs) rise = dedup_from_is x xs rise
+
+    pub order_then_place-total : IsTotalOrder order_then_place
+    order_then_place-total = then_total total (on_total place nat_cmp_total)
+
+    -- where places differ, a sorted list rises strictly
+    strict_from_sorted : (xs : List X) → IsSortedBy (λ x y. is_lt (order_then_place x y)) xs → IsDistinct (on place nat_eq) xs
+        → IsStrictlySortedBy order_then_place xs
+    strict_from_sorted xs up distinct = strict_from_pairs xs (λ i j d below within.
+        let x = get_or xs i d in
+        let y = get_or xs j d in
+        less_from (order_then_place x y) (order_then_place y x) (order_then_place-total.antisymm x y)
+        (sorted_far (λ a b. is_lt (order_then_place a b)) (ranks_by order_then_place-total (λ a. a)) xs up i j d (omega arith) within)
+        (no_tie_by_next (order y x) (place y) (place x) (nat_eq_equiv.symm (place y) (place x) ∙ apart_from_distinct (on place nat_eq) xs i j d distinct below within)))
+
+    module _ (noted sorted back : List X) (places : (k : ℕ) (d : X) → k < length noted → place (get_or noted k d) ≡ k)
+        (moved : IsPermutation noted sorted) (up : IsSortedBy (λ x y. is_lt (order_then_place x y)) sorted)
+        (moved_back : IsPermutation (dedup (eq_by_cmp order) sorted) back) (rises : IsNonDecreasingBy place back) where
+      abbrev StandsAtPlace : X → Type 0
+      StandsAtPlace x = (d : X) → get_or noted (place x) d ≡ x
+
+      told_by_place : (x y : X) → StandsAtPlace x → StandsAtPlace y → place x ≡ place y → x ≡ y
+      told_by_place x y first second level = sym (first x) ∙ ap (λ n. get_or noted n x) level ∙ second x
+
+      noted_stand : All StandsAtPlace noted
+      noted_stand k d within e = ap (λ n. get_or noted n e) (places k d within) ∙ get_or_default noted k e d within
+
+      noted_differ : IsDistinct (on place nat_eq) noted
+      noted_differ = IsDistinct-from_apart (on place nat_eq) noted (λ i j d below within.
+          ne_eqb (place (get_or noted i d)) (place (get_or noted j d)) (λ same. omega (arith, places i d (omega arith), places j d within)))
+
+      -- the first among those that are sorted
+      kept_is : dedup (eq_by_cmp order) sorted ≡ filter (is_first_among noted) sorted
+      kept_is =
+          dedup-strict sorted (strict_from_sorted sorted up (IsDistinct-IsPermutation (on place nat_eq) (λ x y. nat_eq_equiv.symm (place x) (place y)) noted sorted moved noted_differ))
+          ∙ filter_agree (is_first_among sorted) (is_first_among noted) (λ x. ap not (sym (list_any-IsPermutation (repeats x) noted sorted moved))) sorted
+
+      same_sums : (f : X → ℕ) → sum_by f back ≡ sum_by f (filter (is_first_among noted) noted)
+      same_sums f =
+          sum_by-IsPermutation f (dedup (eq_by_cmp order) sorted) back moved_back
+          ∙ ap (sum_by f) kept_is
+          ∙ sum_by-filter f (is_first_among noted) sorted
+          ∙ sum_by-IsPermutation (λ x. cond (is_first_among noted x) (f x) 0) noted sorted moved
+          ∙ sym (sum_by-filter f (is_first_among noted) noted)
+
+      pub kept_by_sorting : back ≡ filter (is_first_among noted) noted
+      kept_by_sorting =
+          let all_kept : All StandsAtPlace (dedup (eq_by_cmp order) sorted) =
+          All-same StandsAtPlace _ _ kept_is (All-filter (is_first_among noted) StandsAtPlace sorted (All-permutation StandsAtPlace noted sorted moved noted_stand)) in
+          sorted_same place StandsAtPlace told_by_place back (filter (is_first_among noted) noted) rises
+          (IsNonDecreasingBy-filter place (is_first_among noted) noted (λ i j d le within. omega (arith, places i d (omega arith), places j d within)))
+          (All-permutation StandsAtPlace (dedup (eq_by_cmp order) sorted) back moved_back all_kept)
+          (All-filter (is_first_among noted) StandsAtPlace noted noted_stand)
+          same_sums
