@@ -27,6 +27,7 @@ abbrev NotesFrom : ℕ → List LocatedNode → Type 0
 NotesFrom start [] = Unit {0}
 NotesFrom start (node ∷ nodes) = (node.place ≡ start) × NotesFrom (start + 1) nodes
 
+-- the same, from what is noted at each index
 notes_from : (start : ℕ) (nodes : List LocatedNode) → ((k : ℕ) (d : LocatedNode) → k < length nodes → (get_or nodes k d).place ≡ start + k)
     → NotesFrom start nodes
 notes_from start [] places = tt
@@ -52,7 +53,7 @@ none_later node start (next ∷ nodes) low notes =
     (let above : node.place ≤ next.place = omega (arith, notes.0) in and_right (is_eq (by_location node next)) (ltb next.place node.place) (le-ltb next.place node.place above))
     (none_later node (start + 1) nodes (omega arith) notes.1)
 
--- of earlier ones those of the same location are
+-- earlier nodes are, where they have its location
 among_earlier : (node : LocatedNode) (nodes : List LocatedNode) → AllByRecursion (λ before. before.place < node.place) nodes
     → list_any (repeats by_location place_of node) nodes ≡ is_among node.location (map location_of (map located nodes))
 among_earlier node [] earlier = refl

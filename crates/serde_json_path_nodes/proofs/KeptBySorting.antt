@@ -18,6 +18,7 @@ use Rattle.std.proofs.lemmas.Map.Keys.{apart_from_distinct, IsDistinct-from_apar
 
 -- ---- orderings
 
+-- two orders in turn, of which the second decides where the first ties
 not_greater : (first next : Ordering) → ordering_then first next ≡ Less → is_gt first ≡ false
 not_greater Less next less = refl
 not_greater Equal next less = refl
@@ -28,23 +29,25 @@ next_less Less next less tie = cc
 next_less Equal next less tie = less
 next_less Greater next less tie = cc
 
-equal_from : (o : Ordering) → is_eq o ≡ true → o ≡ Equal
+equal_from : (order : Ordering) → is_eq order ≡ true → order ≡ Equal
 equal_from Less tie = cc
 equal_from Equal tie = refl
 equal_from Greater tie = cc
 
--- what is not less backwards, and does not tie in its second part, is less
-less_from : (o back : Ordering) → o ≡ ordering_reverse back → is_lt back ≡ false → is_eq back ≡ false → o ≡ Less
-less_from o Less reversed not_less no_tie = cc
-less_from o Equal reversed not_less no_tie = cc
-less_from o Greater reversed not_less no_tie = reversed
+-- what is neither less nor a tie the other way round is less
+less_from : (forth back : Ordering) → forth ≡ ordering_reverse back → is_lt back ≡ false → is_eq back ≡ false → forth ≡ Less
+less_from forth Less reversed not_less no_tie = cc
+less_from forth Equal reversed not_less no_tie = cc
+less_from forth Greater reversed not_less no_tie = reversed
 
-no_cycle : (o back : Ordering) → o ≡ ordering_reverse back → is_gt o ≡ false → is_gt back ≡ false → is_eq back ≡ false → ⊥
-no_cycle o Less reversed not_gt back_not_gt no_tie = cc
-no_cycle o Equal reversed not_gt back_not_gt no_tie = cc
-no_cycle o Greater reversed not_gt back_not_gt no_tie = cc
+-- of two that do not tie, one is greater than the other
+no_cycle : (forth back : Ordering) → forth ≡ ordering_reverse back → is_gt forth ≡ false → is_gt back ≡ false → is_eq back ≡ false → ⊥
+no_cycle forth Less reversed low high no_tie = cc
+no_cycle forth Equal reversed low high no_tie = cc
+no_cycle forth Greater reversed low high no_tie = cc
 
-no_tie_by_next : (o : Ordering) (m n : ℕ) → nat_eq m n ≡ false → is_eq (ordering_then o (nat_cmp m n)) ≡ false
+-- numbers that differ do not tie
+no_tie_by_next : (first : Ordering) (m n : ℕ) → nat_eq m n ≡ false → is_eq (ordering_then first (nat_cmp m n)) ≡ false
 no_tie_by_next Less m n differ = refl
 no_tie_by_next Equal m n differ = sym (unsigned_ties m n) ∙ differ
 no_tie_by_next Greater m n differ = refl
@@ -58,6 +61,7 @@ absorbed false false rest through = refl
 -- ---- filters and sums
 
 module _ {X : Type 0} where
+  -- tests that agree at the elements of a list keep the same of them
   filter_agree_all : (p q : X → Bool) (xs : List X) → AllByRecursion (λ x. p x ≡ q x) xs → filter p xs ≡ filter q xs
   filter_agree_all p q [] agree = refl
   filter_agree_all p q (x ∷ xs) agree = rw (agree.0, filter_agree_all p q xs agree.1)
@@ -65,6 +69,7 @@ module _ {X : Type 0} where
   filter-second : (p : X → Bool) (x y : X) (xs : List X) → p y ≡ false → filter p (x ∷ y ∷ xs) ≡ filter p (x ∷ xs)
   filter-second p x y xs fails = ap (λ b. cond (p x) (x ∷ cond b (y ∷ filter p xs) (filter p xs)) (cond b (y ∷ filter p xs) (filter p xs))) fails
 
+  -- what a filter leaves out adds nothing to the sum
   sum_by-filter : (f : X → ℕ) (p : X → Bool) (xs : List X) → sum_by f (filter p xs) ≡ sum_by (λ x. cond (p x) (f x) 0) xs
   sum_by-filter f p [] = refl
   sum_by-filter f p (x ∷ xs) =
@@ -75,6 +80,7 @@ module _ {X : Type 0} where
 -- ---- a list that is sorted by place is known from its elements
 
 module _ {X : Type 0} (place : X → ℕ) where
+  -- no element stands below the first
   below_none : (bound : ℕ) (y : X) (ys : List X) → IsNonDecreasingBy place (y ∷ ys) → bound ≤ place y
       → sum_by (λ z. cond (ltb (place z) bound) 1 0) (y ∷ ys) ≡ 0
   below_none bound y ys rise low =
@@ -83,6 +89,7 @@ module _ {X : Type 0} (place : X → ℕ) where
       rw (le-ltb (place (get_or (y ∷ ys) k d)) bound above) (omega arith) in
       omega (arith, sum_by-le (λ z. cond (ltb (place z) bound) 1 0) 0 (y ∷ ys) none)
 
+  -- so of two such lists with the same sums neither begins below the other
   head_le : (x y : X) (xs ys : List X) → IsNonDecreasingBy place (y ∷ ys) → ((f : X → ℕ) → sum_by f (x ∷ xs) ≡ sum_by f (y ∷ ys))
       → place y ≤ place x
   head_le x y xs ys rise sums =
@@ -100,18 +107,18 @@ module _ {X : Type 0} (place : X → ℕ) where
   tail_rises : (x : X) (xs : List X) → IsNonDecreasingBy place (x ∷ xs) → IsNonDecreasingBy place xs
   tail_rises x xs rise i j d le within = rise (suc i) (suc j) d (omega arith) (omega arith)
 
-  -- where the place tells an element
+  -- lists with the same sums are the same, where the place tells the element
   pub sorted_same : (P : X → Type 0) (tells : (x y : X) → P x → P y → place x ≡ place y → x ≡ y) (xs ys : List X)
       → IsNonDecreasingBy place xs → IsNonDecreasingBy place ys → All P xs → All P ys
       → ((f : X → ℕ) → sum_by f xs ≡ sum_by f ys) → xs ≡ ys
-  sorted_same P tells [] [] rise rise' all all' sums = refl
-  sorted_same P tells [] (y ∷ ys) rise rise' all all' sums = absurd (omega (arith, sums (λ _. 1), sum_by-cons (λ _. 1) y ys))
-  sorted_same P tells (x ∷ xs) [] rise rise' all all' sums = absurd (omega (arith, sums (λ _. 1), sum_by-cons (λ _. 1) x xs))
-  sorted_same P tells (x ∷ xs) (y ∷ ys) rise rise' all all' sums =
-      let level : place x ≡ place y = omega (arith, head_le x y xs ys rise' sums, head_le y x ys xs rise (λ f. sym (sums f))) in
-      let head : x ≡ y = tells x y (all 0 x (omega arith)) (all' 0 y (omega arith)) level in
+  sorted_same P tells [] [] rise rise_again all all_again sums = refl
+  sorted_same P tells [] (y ∷ ys) rise rise_again all all_again sums = absurd (omega (arith, sums (λ _. 1), sum_by-cons (λ _. 1) y ys))
+  sorted_same P tells (x ∷ xs) [] rise rise_again all all_again sums = absurd (omega (arith, sums (λ _. 1), sum_by-cons (λ _. 1) x xs))
+  sorted_same P tells (x ∷ xs) (y ∷ ys) rise rise_again all all_again sums =
+      let level : place x ≡ place y = omega (arith, head_le x y xs ys rise_again sums, head_le y x ys xs rise (λ f. sym (sums f))) in
+      let head : x ≡ y = tells x y (all 0 x (omega arith)) (all_again 0 y (omega arith)) level in
       let tails : (f : X → ℕ) → sum_by f xs ≡ sum_by f ys = λ f. omega (arith, sums f, sum_by-cons f x xs, sum_by-cons f y ys, ap f head) in
-      let tail = sorted_same P tells xs ys (tail_rises x xs rise) (tail_rises y ys rise') (All-tail P x xs all) (All-tail P y ys all') tails in
+      let tail = sorted_same P tells xs ys (tail_rises x xs rise) (tail_rises y ys rise_again) (All-tail P x xs all) (All-tail P y ys all_again) tails in
       cc
 
 -- ---- an order and a place
@@ -140,6 +147,7 @@ module _ {X : Type 0} (order : X → X → Ordering) (place : X → ℕ) where
       ] in
       known (is_eq (order x y)) refl
 
+  -- nothing repeats an element that stands later
   repeats_no_later : (x : X) (xs : List X) → AllByRecursion (λ y. order_then_place x y ≡ Less) xs → list_any (repeats x) xs ≡ false
   repeats_no_later x [] above = refl
   repeats_no_later x (y ∷ ys) above = or_from (repeats x y) (list_any (repeats x) ys) (repeats_none x y above.0) (repeats_no_later x ys above.1)
@@ -175,6 +183,7 @@ module _ {X : Type 0} (order : X → X → Ordering) (place : X → ℕ) where
         no_cycle (order x y) (order y x) (total.antisymm x y) (not_greater (order x y) (nat_cmp (place x) (place y)) less)
         (ap is_gt (sym same) ∙ not_greater (order y z) (nat_cmp (place y) (place z)) less_again) no_tie)
 
+    -- so no element behind one that does not tie with the first repeats the first
     repeats_none_before : (x y : X) (all zs : List X) → order_then_place x y ≡ Less → is_eq (order y x) ≡ false
         → AllByRecursion (λ z. order_then_place y z ≡ Less) zs → AllByRecursion (λ z. is_first_among (x ∷ all) z ≡ is_first_among all z) zs
     repeats_none_before x y all [] less no_tie above = tt
@@ -183,6 +192,7 @@ module _ {X : Type 0} (order : X → X → Ordering) (place : X → ℕ) where
       repeats_none_before x y all zs less no_tie above.1,
     )
 
+    -- in a list that rises strictly, those that differ from their neighbour are those that repeat nothing
     dedup_from_is : (x : X) (xs : List X) → IsStrictlySortedBy order_then_place (x ∷ xs)
         → dedup_from (eq_by_cmp order) x xs ≡ filter (is_first_among (x ∷ xs)) (x ∷ xs)
     unfolding IsStrictlySortedBy
@@ -225,9 +235,11 @@ module _ {X : Type 0} (order : X → X → Ordering) (place : X → ℕ) where
         (sorted_far (λ a b. is_lt (order_then_place a b)) (ranks_by order_then_place-total (λ a. a)) xs up i j d (omega arith) within)
         (no_tie_by_next (order y x) (place y) (place x) (nat_eq_equiv.symm (place y) (place x) ∙ apart_from_distinct (on place nat_eq) xs i j d distinct below within)))
 
+    -- what notes its places is sorted, freed of repeats and sorted back
     module _ (noted sorted back : List X) (places : (k : ℕ) (d : X) → k < length noted → place (get_or noted k d) ≡ k)
         (moved : IsPermutation noted sorted) (up : IsSortedBy (λ x y. is_lt (order_then_place x y)) sorted)
         (moved_back : IsPermutation (dedup (eq_by_cmp order) sorted) back) (rises : IsNonDecreasingBy place back) where
+      -- the place of an element tells it
       abbrev StandsAtPlace : X → Type 0
       StandsAtPlace x = (d : X) → get_or noted (place x) d ≡ x
 
@@ -241,7 +253,7 @@ module _ {X : Type 0} (order : X → X → Ordering) (place : X → ℕ) where
       noted_differ = IsDistinct-from_apart (on place nat_eq) noted (λ i j d below within.
           ne_eqb (place (get_or noted i d)) (place (get_or noted j d)) (λ same. omega (arith, places i d (omega arith), places j d within)))
 
-      -- the first among those that are sorted
+      -- what is kept of the sorted elements
       kept_is : dedup (eq_by_cmp order) sorted ≡ filter (is_first_among noted) sorted
       kept_is =
           dedup-strict sorted (strict_from_sorted sorted up (IsDistinct-IsPermutation (on place nat_eq) (λ x y. nat_eq_equiv.symm (place x) (place y)) noted sorted moved noted_differ))

@@ -1,8 +1,8 @@
 mod Equal
 mod Escapes
 mod FirstPlaces
+mod KeptBySorting
+mod Orders
 mod Pointers
 mod Quotes
 mod TextsApart
-mod KeptBySorting
-mod Orders

@@ -50,6 +50,7 @@ step_cmp-ties (by_position i) (by_position j) = unsigned_ties i j
 pub location_cmp-ties : (a b : List Step) → same_steps a b ≡ eq_by_cmp location_cmp a b
 location_cmp-ties = lists_ties step_cmp step_cmp-ties
 
+-- the derived `cmp` of elements answers as `step_cmp` does of their steps
 cmp-value-step_cmp : (a b : PathElement) → cmp-value.it a b ≡ step_cmp (step_view a) (step_view b)
 cmp-value-step_cmp (Name a) (Name b) = refl
 cmp-value-step_cmp (Index i) (Index j) = refl

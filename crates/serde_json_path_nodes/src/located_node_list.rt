@@ -1,6 +1,6 @@
 //! Nodes with their locations.
 
-ghost use Rattle.std.specs.Prelude.{◌≡◌, ◌==◌, ◌≤◌, length, map, take, option_map, IfOk, IfErr};
+ghost use Rattle.std.specs.Prelude.{◌≡◌, ◌==◌, length, map, option_map, IfOk, IfErr};
 ghost use Rattle.serde_json_path_nodes.specs.Views.{located, location_of};
 ghost use Rattle.serde_json_path_nodes.specs.Lists.{first_places};
 ghost use Rattle.serde_json_path_nodes.specs.NodeOrder.{HasPlaces};
