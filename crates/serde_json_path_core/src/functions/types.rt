@@ -67,7 +67,7 @@ impl<'b> ValueType<'b> {
         match self {
             ValueType::Value(value) => Some(value),
             ValueType::Node(value) => Some(*value),
-            ValueType::Nothing => None,
+            _ => None,
         }
     }
 }
