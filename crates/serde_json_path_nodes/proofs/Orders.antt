@@ -1,17 +1,15 @@
 -- The order of steps is total, and elements and locations are compared by it.
-use Rattle.std.proofs.Common.{◌≡◌, List, [], ◌∷◌, map, refl}
+use Rattle.std.proofs.Common.{◌≡◌, ◌⊎◌, ℕ, suc, List, [], ◌∷◌, length, map, inl, inr, refl, sym, arith}
+use Rattle.std.proofs.lemmas.Bool.Decides.{nat_tests}
 use Rattle.std.proofs.lemmas.Cmp.{nat_cmp_total, nat_list_cmp_total, lists_total}
 use Rattle.std.specs.Cmp.{IsTotalOrder, unsigned_ties}
 use Rattle.std.specs.Cmp.Lexicographic.{slice_cmp, lists_ties}
-use Rattle.std.specs.Ordering.{eq_by_cmp, ordering_reverse, nat_cmp}
-use Rattle.std.specs.declared.cmp.Ordering.TheVariants.{Less, Equal}
+use Rattle.std.specs.Ordering.{eq_by_cmp, ordering_reverse, ordering_then, nat_cmp}
+use Rattle.std.specs.declared.cmp.Ordering.{Ordering}
+use Rattle.std.specs.declared.cmp.Ordering.TheVariants.{Less, Equal, Greater}
 use Rattle.serde_json_path_nodes.specs.Place.{Step, by_name, by_position}
 use Rattle.serde_json_path_nodes.specs.Same.{same_step, same_steps}
 use Rattle.serde_json_path_nodes.specs.StepOrder.{step_cmp, location_cmp}
-use Rattle.serde_json_path_nodes.specs.Views.{step_view}
-use Rattle.serde_json_path_nodes.specs.declared.path_element.PathElement.{PathElement}
-use Rattle.serde_json_path_nodes.specs.declared.path_element.PathElement.TheVariants.{Name, Index}
-use Rattle.serde_json_path_nodes.specs.contracts.path_element.PathElementOrd.TheImpl.{cmp-value}
 
 step_cmp-antisymm : (s t : Step) → step_cmp s t ≡ ordering_reverse (step_cmp t s)
 step_cmp-antisymm (by_name a) (by_name b) = nat_list_cmp_total.antisymm a b
@@ -50,16 +48,36 @@ step_cmp-ties (by_position i) (by_position j) = unsigned_ties i j
 pub location_cmp-ties : (a b : List Step) → same_steps a b ≡ eq_by_cmp location_cmp a b
 location_cmp-ties = lists_ties step_cmp step_cmp-ties
 
--- the derived `cmp` of elements answers as `step_cmp` does of their steps
-cmp-value-step_cmp : (a b : PathElement) → cmp-value.it a b ≡ step_cmp (step_view a) (step_view b)
-cmp-value-step_cmp (Name a) (Name b) = refl
-cmp-value-step_cmp (Index i) (Index j) = refl
-cmp-value-step_cmp (Name a) (Index j) = refl
-cmp-value-step_cmp (Index i) (Name b) = refl
+-- ---- lists, compared element by element
 
--- paths are compared as their locations
-pub elements-location_cmp : (a b : List PathElement) → slice_cmp cmp-value.it a b ≡ location_cmp (map step_view a) (map step_view b)
-elements-location_cmp [] [] = refl
-elements-location_cmp [] (b ∷ bs) = refl
-elements-location_cmp (a ∷ as_) [] = refl
-elements-location_cmp (a ∷ as_) (b ∷ bs) = rw (cmp-value-step_cmp a b, elements-location_cmp as_ bs)
+nat_cmp-suc : (m n : ℕ) → nat_cmp m n ≡ nat_cmp (suc m) (suc n)
+nat_cmp-suc m n = grind (arith, nat_tests)
+
+-- an order that is no tie decides
+then_decided : (first second : Ordering) → (first ≡ Equal → ⊥) → ordering_then first second ≡ first
+then_decided Less second differ = refl
+then_decided Equal second differ = absurd (differ refl)
+then_decided Greater second differ = refl
+
+-- of two lists with their first elements, seen by `f`
+module _ {A B : Type 0} (R : A → A → Ordering) (f : B → A) {a b : B} {xs ys rest_x rest_y : List B}
+    (first_x : xs ≡ a ∷ rest_x) (first_y : ys ≡ b ∷ rest_y) where
+  -- behind elements that tie, the others decide
+  pub slice_cmp-tie : Equal ≡ R (f a) (f b) → slice_cmp R (map f rest_x) (map f rest_y) ≡ slice_cmp R (map f xs) (map f ys)
+  slice_cmp-tie tie = rw (first_x, first_y, ← tie) refl
+
+  -- and so do the lengths
+  pub lengths-tie : nat_cmp (length rest_x) (length rest_y) ≡ nat_cmp (length xs) (length ys)
+  lengths-tie = rw (first_x, first_y) (nat_cmp-suc (length rest_x) (length rest_y))
+
+  -- elements that differ decide
+  pub slice_cmp-decided : (R (f a) (f b) ≡ Equal → ⊥) → R (f a) (f b) ≡ slice_cmp R (map f xs) (map f ys)
+  slice_cmp-decided differ = rw (first_x, first_y) (sym (then_decided (R (f a) (f b)) (slice_cmp R (map f rest_x) (map f rest_y)) differ))
+
+-- where one list has ended, the lengths decide
+pub slice_cmp-ended : {A B : Type 0} (R : A → A → Ordering) (f : B → A) (xs ys : List B) → (length xs ≡ 0) ⊎ (length ys ≡ 0)
+    → nat_cmp (length xs) (length ys) ≡ slice_cmp R (map f xs) (map f ys)
+slice_cmp-ended R f [] [] ended = refl
+slice_cmp-ended R f [] (y ∷ ys) ended = grind (arith, nat_tests)
+slice_cmp-ended R f (x ∷ xs) [] ended = grind (arith, nat_tests)
+slice_cmp-ended R f (x ∷ xs) (y ∷ ys) ended = absurd (elim ended [ inl none ↦ omega arith | inr none ↦ omega arith ])

@@ -101,7 +101,13 @@ impl<'b> NormalizedPath<'b> {
     pub(crate) fn compare(&self, other: &NormalizedPath<'b>) -> Ordering
         ensures { result ≡ location_cmp self.now other.now }
     {
-        self.steps.cmp(&other.steps)
+        for (mine, theirs) in self.steps.iter().zip(&other.steps) {
+            match mine.compare(theirs) {
+                Ordering::Equal => {}
+                order => return order,
+            }
+        }
+        self.steps.len().cmp(&other.steps.len())
     }
 }
 
