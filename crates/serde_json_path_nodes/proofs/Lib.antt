@@ -1,3 +1,4 @@
+mod Decimals
 mod Equal
 mod Escapes
 mod FirstPlaces

@@ -1,14 +1,15 @@
 -- Locations are read back from their normalised paths.
-use Rattle.std.proofs.Common.{◌≡◌, ◌≢◌, ℕ, ◌+◌, ◌%◌, ◌^◌, ◌<◌, List, [], ◌∷◌, ◌++◌, drop, get_or, codes, refl, ap, sym, ◌∙◌, arith, append_assoc}
-use Rattle.std.specs.Fmt.{decimal}
+use Rattle.std.proofs.Common.{◌≡◌, ◌≢◌, ℕ, zero, suc, ◌+◌, ◌<◌, List, [], ◌∷◌, ◌++◌, drop, map, get_or, codes, refl, ap, sym, ◌∙◌, arith, append_assoc}
+use Rattle.std.specs.Int.Digits.{digits_of, AllBelowBase}
 use Rattle.std.specs.List.{flat_map}
 use Rattle.std.specs.Str.{chars, encode_utf8_all}
-use Rattle.std.proofs.lemmas.Fmt.{decimal_injective, decimal_by_steps}
+use Rattle.std.proofs.lemmas.Int.Digits.{all_below_base_digits_of, first_digits_of}
 use Rattle.std.proofs.lemmas.List.{append_cancel_left}
 use Rattle.std.proofs.lemmas.Str.{encodes-chars}
 use Rattle.serde_json_path_nodes.specs.Place.{Step, by_name, by_position, IsProper}
-use Rattle.serde_json_path_nodes.specs.Text.{in_quotes, normal_step, normal}
-use Rattle.serde_json_path_nodes.specs.Laws.{PositionsFit, TextsTellLocations}
+use Rattle.serde_json_path_nodes.specs.Text.{in_decimal, in_quotes, normal_step, normal}
+use Rattle.serde_json_path_nodes.specs.Laws.{TextsTellLocations}
+use Rattle.serde_json_path_nodes.proofs.Decimals.{in_decimal_injective}
 use Rattle.serde_json_path_nodes.proofs.Escapes.{in_quotes_apart, in_quotes-quote}
 
 -- ---- names
@@ -30,14 +31,14 @@ abbrev IsInside : List ℕ → Type 0
 IsInside [] = Unit {0}
 IsInside (b ∷ bs) = (b ≢ 93) × IsInside bs
 
-IsInside-push : (bs : List ℕ) (b : ℕ) → IsInside bs → b ≢ 93 → IsInside (bs ++ b ∷ [])
-IsInside-push [] b inside other = (other, tt)
-IsInside-push (x ∷ xs) b inside other = (inside.0, IsInside-push xs b inside.1 other)
+IsInside-digits : (digits : List ℕ) → AllBelowBase 10 digits → IsInside (map (λ digit. 48 + digit) digits)
+IsInside-digits [] small = tt
+IsInside-digits (d ∷ ds) small = (let low : d < 10 = small.0 in λ e. omega arith, IsInside-digits ds small.1)
 
-IsInside-decimal : (n : ℕ) → n < 2 ^ 64 → IsInside (decimal n)
-IsInside-decimal = decimal_by_steps (λ n digits. IsInside digits)
-    (λ n small. (λ e. omega arith, tt))
-    (λ n digits large inside. IsInside-push digits (48 + n % 10) inside (λ e. omega arith))
+IsInside-in_decimal : (n : ℕ) → IsInside (in_decimal n)
+unfolding in_decimal
+IsInside-in_decimal zero = (λ e. omega arith, tt)
+IsInside-in_decimal (suc n) = IsInside-digits (digits_of 10 (suc n)) (all_below_base_digits_of 10 (suc n) (omega arith))
 
 -- two texts that go on behind their first closing bracket
 brackets_apart : (xs ys r t : List ℕ) → IsInside xs → IsInside ys → xs ++ 93 ∷ r ≡ ys ++ 93 ∷ t → (xs ≡ ys) × (r ≡ t)
@@ -51,37 +52,41 @@ brackets_apart (a ∷ xs) (b ∷ ys) r t x y same =
     (λ i. first i ∷ rest.0 i, rest.1)
 
 -- a position does not begin with a quote
-decimal-quote : (n : ℕ) → n < 2 ^ 64 → (r t : List ℕ) → decimal n ++ r ≡ 39 ∷ t → ⊥
-decimal-quote = decimal_by_steps (λ n digits. (r t : List ℕ) → digits ++ r ≡ 39 ∷ t → ⊥)
-    (λ n small r t same. let first : 48 + n ≡ 39 = ap (λ (l : List ℕ). get_or l 0 0) same in omega arith)
-    (λ n digits large begins r t same. begins ((48 + n % 10) ∷ r) t (sym (append_assoc digits _ _) ∙ same))
+digits-quote : (digits r t : List ℕ) → 0 < get_or digits 0 0 → map (λ digit. 48 + digit) digits ++ r ≡ 39 ∷ t → ⊥
+digits-quote [] r t some same = omega arith
+digits-quote (d ∷ ds) r t some same = omega (arith, ap (λ (l : List ℕ). get_or l 0 0) same)
+
+in_decimal-quote : (n : ℕ) (r t : List ℕ) → in_decimal n ++ r ≡ 39 ∷ t → ⊥
+unfolding in_decimal
+in_decimal-quote zero r t same = omega (arith, ap (λ (l : List ℕ). get_or l 0 0) same)
+in_decimal-quote (suc n) r t same = digits-quote (digits_of 10 (suc n)) r t (first_digits_of 10 (suc n) (omega arith) (omega arith)) same
 
 -- ---- steps
 
 name_text : (name r : List ℕ) → normal_step (by_name name) ++ r ≡ 91 ∷ 39 ∷ (flat_map in_quotes (chars name) ++ 39 ∷ 93 ∷ r)
 name_text name r = simp append_assoc
 
-position_text : (i : ℕ) (r : List ℕ) → normal_step (by_position i) ++ r ≡ 91 ∷ (decimal i ++ 93 ∷ r)
+position_text : (i : ℕ) (r : List ℕ) → normal_step (by_position i) ++ r ≡ 91 ∷ (in_decimal i ++ 93 ∷ r)
 position_text i r = simp append_assoc
 
-name_position_apart : (name r t : List ℕ) (i : ℕ) → i < 2 ^ 64 → normal_step (by_name name) ++ r ≡ normal_step (by_position i) ++ t → ⊥
-name_position_apart name r t i fits same =
-    decimal-quote i fits (93 ∷ t) _ (ap (drop 1) (sym (position_text i t) ∙ sym same ∙ name_text name r))
+name_position_apart : (name r t : List ℕ) (i : ℕ) → normal_step (by_name name) ++ r ≡ normal_step (by_position i) ++ t → ⊥
+name_position_apart name r t i same =
+    in_decimal-quote i (93 ∷ t) _ (ap (drop 1) (sym (position_text i t) ∙ sym same ∙ name_text name r))
 
 -- two texts that begin with steps
-steps_apart : (a b : Step) (r t : List ℕ) → IsProper (a ∷ []) → IsProper (b ∷ []) → PositionsFit (a ∷ []) → PositionsFit (b ∷ [])
+steps_apart : (a b : Step) (r t : List ℕ) → IsProper (a ∷ []) → IsProper (b ∷ [])
     → normal_step a ++ r ≡ normal_step b ++ t → (a ≡ b) × (r ≡ t)
-steps_apart (by_name n) (by_name m) r t proper_a proper_b fits_a fits_b same =
+steps_apart (by_name n) (by_name m) r t proper_a proper_b same =
     let inside = quotes_apart (chars n) (chars m) (93 ∷ r) (93 ∷ t) (ap (drop 2) (sym (name_text n r) ∙ same ∙ name_text m t)) in (
       ap by_name (sym (encodes-chars n proper_a.0) ∙ ap encode_utf8_all inside.0 ∙ encodes-chars m proper_b.0),
       ap (drop 1) inside.1,
     )
-steps_apart (by_position i) (by_position j) r t proper_a proper_b fits_a fits_b same =
-    let inside = brackets_apart (decimal i) (decimal j) r t (IsInside-decimal i fits_a.0) (IsInside-decimal j fits_b.0)
+steps_apart (by_position i) (by_position j) r t proper_a proper_b same =
+    let inside = brackets_apart (in_decimal i) (in_decimal j) r t (IsInside-in_decimal i) (IsInside-in_decimal j)
     (ap (drop 1) (sym (position_text i r) ∙ same ∙ position_text j t)) in
-    (ap by_position (decimal_injective i j fits_a.0 fits_b.0 inside.0), inside.1)
-steps_apart (by_name n) (by_position j) r t proper_a proper_b fits_a fits_b same = absurd (name_position_apart n r t j fits_b.0 same)
-steps_apart (by_position i) (by_name m) r t proper_a proper_b fits_a fits_b same = absurd (name_position_apart m t r i fits_a.0 (sym same))
+    (ap by_position (in_decimal_injective i j inside.0), inside.1)
+steps_apart (by_name n) (by_position j) r t proper_a proper_b same = absurd (name_position_apart n r t j same)
+steps_apart (by_position i) (by_name m) r t proper_a proper_b same = absurd (name_position_apart m t r i (sym same))
 
 -- ---- locations
 
@@ -90,28 +95,22 @@ proper_parts : (step : Step) (steps : List Step) → IsProper (step ∷ steps) �
 proper_parts (by_name name) steps proper = ((proper.0, tt), proper.1)
 proper_parts (by_position i) steps proper = (tt, proper)
 
-fit_parts : (step : Step) (steps : List Step) → PositionsFit (step ∷ steps) → PositionsFit (step ∷ []) × PositionsFit steps
-fit_parts (by_name name) steps fit = (tt, fit)
-fit_parts (by_position i) steps fit = ((fit.0, tt), fit.1)
-
 normal_step-nil : (step : Step) (r : List ℕ) → normal_step step ++ r ≡ [] → ⊥
 normal_step-nil (by_name name) r same = cc
 normal_step-nil (by_position i) r same = cc
 
-locations_apart : (a b : List Step) → IsProper a → IsProper b → PositionsFit a → PositionsFit b
+locations_apart : (a b : List Step) → IsProper a → IsProper b
     → flat_map normal_step a ≡ flat_map normal_step b → a ≡ b
-locations_apart [] [] proper_a proper_b fits_a fits_b same = refl
-locations_apart [] (y ∷ ys) proper_a proper_b fits_a fits_b same = absurd (normal_step-nil y _ (sym same))
-locations_apart (x ∷ xs) [] proper_a proper_b fits_a fits_b same = absurd (normal_step-nil x _ same)
-locations_apart (x ∷ xs) (y ∷ ys) proper_a proper_b fits_a fits_b same =
+locations_apart [] [] proper_a proper_b same = refl
+locations_apart [] (y ∷ ys) proper_a proper_b same = absurd (normal_step-nil y _ (sym same))
+locations_apart (x ∷ xs) [] proper_a proper_b same = absurd (normal_step-nil x _ same)
+locations_apart (x ∷ xs) (y ∷ ys) proper_a proper_b same =
     let p = proper_parts x xs proper_a in
     let q = proper_parts y ys proper_b in
-    let f = fit_parts x xs fits_a in
-    let g = fit_parts y ys fits_b in
-    let parts = steps_apart x y (flat_map normal_step xs) (flat_map normal_step ys) p.0 q.0 f.0 g.0 same in
-    let rest = locations_apart xs ys p.1 q.1 f.1 g.1 parts.1 in
+    let parts = steps_apart x y (flat_map normal_step xs) (flat_map normal_step ys) p.0 q.0 same in
+    let rest = locations_apart xs ys p.1 q.1 parts.1 in
     λ i. parts.0 i ∷ rest i
 
 pub texts_tell_locations : TextsTellLocations
-texts_tell_locations a b proper_a proper_b fits_a fits_b =
-    (λ same. ap normal same, λ same. locations_apart a b proper_a proper_b fits_a fits_b (append_cancel_left (codes "$") _ _ same))
+texts_tell_locations a b proper_a proper_b =
+    (λ same. ap normal same, λ same. locations_apart a b proper_a proper_b (append_cancel_left (codes "$") _ _ same))

@@ -1,9 +1,10 @@
 -- The texts of locations: normalised paths (RFC 9535, section 2.7) and JSON pointers (RFC 6901, section 3).
-use Rattle.std.specs.Prelude.{ℕ, ◌%◌, ◌/◌, List, [], ◌∷◌, ◌++◌, Option, Some, None, ◌==◌, nat_lt, unwrap_or, if◌then◌else◌, codes}
+use Rattle.std.specs.Prelude.{ℕ, zero, ◌+◌, ◌%◌, ◌/◌, List, [], ◌∷◌, ◌++◌, map, Option, Some, None, ◌==◌, nat_lt, unwrap_or, if◌then◌else◌, codes}
 use Rattle.std.specs.List.{flat_map}
 use Rattle.std.specs.Str.{chars}
 use Rattle.std.specs.Char.{encode_utf8, digit_char}
 use Rattle.std.specs.Fmt.{decimal}
+use Rattle.std.specs.Int.Digits.{digits_of}
 use Rattle.serde_json_path_nodes.specs.Place.{Step, by_name, by_position}
 use Rattle.serde_json_path_nodes.specs.declared.error.ExactlyOneError.{ExactlyOneError}
 use Rattle.serde_json_path_nodes.specs.declared.error.ExactlyOneError.TheVariants.{Empty, MoreThanOne}
@@ -33,10 +34,15 @@ in_quotes c = unwrap_or (escape_of c) (encode_utf8 c)
 abbrev pub quoted : List ℕ → List ℕ
 quoted text = codes "'" ++ flat_map in_quotes (chars text) ++ codes "'"
 
+-- a number in decimal: `0`, or its digits from the highest on, however many (std's `decimal` ends at 64)
+unfoldable pub in_decimal : ℕ → List ℕ
+in_decimal zero = codes "0"
+in_decimal n = map (λ digit. 48 + digit) (digits_of 10 n)
+
 -- a step of a normalised path
 abbrev pub normal_step : Step → List ℕ
 normal_step (by_name name) = codes "[" ++ quoted name ++ codes "]"
-normal_step (by_position position) = codes "[" ++ decimal position ++ codes "]"
+normal_step (by_position position) = codes "[" ++ in_decimal position ++ codes "]"
 
 -- the normalised path of a location
 abbrev pub normal : List Step → List ℕ
@@ -49,7 +55,7 @@ in_pointer b = if b == 126 then codes "~0" else if b == 47 then codes "~1" else 
 -- a step of a pointer
 abbrev pub pointer_step : Step → List ℕ
 pointer_step (by_name name) = codes "/" ++ flat_map in_pointer name
-pointer_step (by_position position) = codes "/" ++ decimal position
+pointer_step (by_position position) = codes "/" ++ in_decimal position
 
 -- the JSON pointer of a location; that of the root is empty
 abbrev pub pointer : List Step → List ℕ

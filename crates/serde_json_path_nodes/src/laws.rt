@@ -4,8 +4,8 @@ ghost use Rattle.serde_json_path_nodes.specs.Laws.{TextsTellLocations};
 
 /// Locations are equal exactly where their normalised paths are (RFC 9535, section 2.7).
 ///
-/// This holds where names are Unicode text, as every borrowed name is, and positions are such as a `usize` holds.
-/// The law is the contract; the function does nothing.
+/// This holds where names are Unicode text, as every borrowed name is. The law is the contract; the function does
+/// nothing.
 pub fn law_texts_tell_locations()
     ensures { TextsTellLocations }
 {}

@@ -89,7 +89,7 @@ impl<'b> NormalizedPath<'b> {
         let mut text = String::new(alloc);
         for element in &self.steps {
             text.push('/')?;
-            match element {
+            match *element {
                 PathElement::Name(name) => push_in_pointer(&mut text, name)?,
                 PathElement::Index(position) => write!(text, "{position}")?,
             }
@@ -142,7 +142,7 @@ impl<'b> fmt::Display for NormalizedPath<'b> {
     fn fmt<W: fmt::Write>(&self, f: &mut fmt::Formatter<W>) -> fmt::Result {
         write!(f, "$")?;
         for element in &self.steps {
-            match element {
+            match *element {
                 PathElement::Name(name) => {
                     let name = Quoted(name);
                     write!(f, "[{name}]")?

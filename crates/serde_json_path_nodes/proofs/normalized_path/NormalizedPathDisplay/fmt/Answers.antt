@@ -1,0 +1,11 @@
+use Rattle.std.proofs.Common.{arith}
+use Rattle.std.proofs.lemmas.Grind.{common_steps}
+use Rattle.serde_json_path_nodes.proofs.Decimals.{in_decimal-decimal}
+use Rattle.serde_json_path_nodes.proofs.normalized_path.NormalizedPathDisplay.fmt.Goals as goal
+use Rattle.serde_json_path_nodes.proofs.normalized_path.NormalizedPathDisplay.fmt.Goals.{in-Name+in_ok-write-in-Name, in-Index+in_ok-write-in-Index}
+
+pub loop-element-preserved : goal.loop-element-preserved
+loop-element-preserved g c = elim c.match-element.branch [
+  | in-Name+in_ok-write-in-Name w ↦ grind (arith, common_steps)
+  | in-Index+in_ok-write-in-Index w ↦ grind (arith, common_steps, in_decimal-decimal w.in-Index.position (omega arith))
+]
