@@ -1,4 +1,4 @@
--- The order of steps is total, and elements and locations are compared by it.
+-- The order of steps is total, and so is that of locations, which goes step by step.
 use Rattle.std.proofs.Common.{◌≡◌, ◌⊎◌, ℕ, suc, List, [], ◌∷◌, length, map, inl, inr, refl, sym, arith}
 use Rattle.std.proofs.lemmas.Bool.Decides.{nat_tests}
 use Rattle.std.proofs.lemmas.Cmp.{nat_cmp_total, nat_list_cmp_total, lists_total}
