@@ -5,9 +5,11 @@ ghost use Rattle.serde_json_path_core.specs.Tree as tree;
 ghost use Rattle.serde_json_path_core.specs.Piece.{a_segment};
 ghost use Rattle.serde_json_path_core.specs.Parts.{IsPart, KeepsParts};
 
+mod comparisons;
+mod cursor;
 mod functions;
 
-use crate::{Checked, Part, QueryError, QueryKind, SyntaxBuilder, evaluate_located};
+use crate::{Checked, Part, QueryError, QueryKind, SegmentKind, SyntaxBuilder, evaluate_located};
 use serde_json::Value;
 use serde_json_path_nodes::LocatedNodeList;
 use std::alloc::Global;
@@ -21,12 +23,14 @@ fn part_of(alloc: Global, builder: &mut SyntaxBuilder, segment: &str) -> Result<
     match segment.strip_prefix(".") {
         Some(name) => {
             let name = String::from_str(alloc, name)?;
-            Ok(builder.dot_name(name)?)
+            Ok(builder.dot_name(SegmentKind::Child, name)?)
         }
         None => {
             let index = segment.parse::<i8>()?;
             let selector = builder.index(index as i64)?;
-            Ok(builder.long_hand(selector)?)
+            let mut selectors = Vec::new(alloc);
+            selectors.push(selector)?;
+            Ok(builder.long_hand(SegmentKind::Child, selectors)?)
         }
     }
 }
