@@ -2,13 +2,11 @@
 
 use crate::Slice;
 use crate::evaluation::cursor::Cursor;
+use crate::tests::building::LARGEST;
 use serde_json::Value;
 use serde_json_path_nodes::PathElement;
 use std::alloc::Global;
 use std::test::Fail;
-
-/// The greatest part of a slice in a query (RFC 9535, section 2.1).
-const LARGEST: i64 = 9007199254740991;
 
 /// The steps to the children that are left, with a space before each.
 fn printed(alloc: Global, cursor: Cursor<'_>) -> Result<String, Fail> {
