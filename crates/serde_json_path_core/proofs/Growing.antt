@@ -3,12 +3,13 @@ use Rattle.std.proofs.Common.{◌≡◌, ℕ, zero, suc, ◌+◌, ◌<◌, List,
 use Rattle.std.specs.List.{AllByRecursion}
 use Rattle.std.proofs.lemmas.List.Elements.{recursion_from_All}
 use Rattle.std.proofs.lemmas.Grind.{common_steps}
-use Rattle.serde_json_path_core.specs.Tree.{child, query}
+use Rattle.serde_json_path_core.specs.Tree.{query, long_hand}
 use Rattle.serde_json_path_core.specs.Piece.{Piece, a_query, a_segment}
 use Rattle.serde_json_path_core.specs.declared.syntax.node.Node.{Node}
 use Rattle.serde_json_path_core.specs.declared.syntax.node.Node.TheVariants as node
+use Rattle.serde_json_path_core.specs.declared.syntax.node.Segment.TheVariants.{DotName, DotWildcard, LongHand}
 use Rattle.serde_json_path_core.specs.declared.syntax.node.Part.{Part}
-use Rattle.serde_json_path_core.specs.Flat.{kind_view, no_piece, long_hand_in, segments_in, piece_in, pieces_named, piece_of, pieces_from, pieces, piece_at, NamesBelow, IsGrown}
+use Rattle.serde_json_path_core.specs.Flat.{kind_view, segment_kind_view, no_piece, segments_in, selectors_in, piece_in, pieces_named, piece_of, pieces_from, pieces, piece_at, NamesBelow, IsGrown}
 
 pieces_from-push : (earlier : List Piece) (nodes : List Node) (n : Node) → pieces_from earlier (nodes ++ n ∷ []) ≡ pieces_from earlier nodes ++ piece_of (pieces_from earlier nodes) n ∷ []
 pieces_from-push earlier [] n = refl
@@ -34,11 +35,11 @@ same_named a b bound f (part ∷ parts) h =
 same_piece : (a b : List Piece) (bound : ℕ) → ((i : ℕ) → i < bound → piece_in a i ≡ piece_in b i) → (n : Node) → NamesBelow bound n → piece_of a n ≡ piece_of b n
 same_piece a b bound f (node.Query start parts) h =
     ap (λ named. a_query (query (kind_view start) (segments_in named))) (same_named a b bound f parts.items (recursion_from_All (λ i. i < bound) _ h))
-same_piece a b bound f (node.DotName name) h = refl
-same_piece a b bound f (node.LongHand part) h =
-    let below : AllByRecursion (λ i. i < bound) (part.number ∷ []) = recursion_from_All (λ i. i < bound) (part.number ∷ []) h in
-    ap (λ piece. a_segment child (long_hand_in piece)) (f part.number below.0)
-same_piece a b bound f (node.Index i) h = refl
+same_piece a b bound f (node.Segment kind (LongHand parts)) h =
+    ap (λ named. a_segment (segment_kind_view kind) (long_hand (selectors_in named))) (same_named a b bound f parts.items (recursion_from_All (λ i. i < bound) _ h))
+same_piece a b bound f (node.Segment kind (DotName name)) h = refl
+same_piece a b bound f (node.Segment kind DotWildcard) h = refl
+same_piece a b bound f (node.Selector sel) h = refl
 
 piece_from : (earlier : List Piece) (nodes : List Node) (i : ℕ) (d : Node) → ((k : ℕ) → k < length nodes → NamesBelow (length earlier + k) (get_or nodes k d)) → i < length nodes
     → piece_in (pieces_from earlier nodes) (length earlier + i) ≡ piece_of (pieces_from earlier nodes) (get_or nodes i d)

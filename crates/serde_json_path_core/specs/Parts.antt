@@ -1,7 +1,7 @@
 -- The parts that a builder has made and the finished tree, as contracts see them.
 use Rattle.std.specs.Prelude.{◌≡◌, ◌<◌, List, [], ◌∷◌, length}
-use Rattle.serde_json_path_core.specs.Tree.{Query, Segments, no_segments, segment}
-use Rattle.serde_json_path_core.specs.Piece.{Piece, a_segment}
+use Rattle.serde_json_path_core.specs.Tree.{Query, Segments, no_segments, segment, Selectors, no_selectors, selector}
+use Rattle.serde_json_path_core.specs.Piece.{Piece, a_segment, a_selector}
 use Rattle.serde_json_path_core.specs.Flat.{piece_at, query_at}
 use Rattle.serde_json_path_core.specs.declared.syntax.node.Part.{Part}
 use Rattle.serde_json_path_core.specs.declared.syntax.builder.SyntaxBuilder.{SyntaxBuilder}
@@ -15,11 +15,29 @@ IsPart builder part piece = (part.number < length builder.nodes.items) × (piece
 abbrev pub HasNoParts : SyntaxBuilder → Type 0
 HasNoParts builder = (part : Part) (piece : Piece) → IsPart builder part piece → ⊥
 
+-- the parts stand for these pieces, one for each
+abbrev pub ArePartsFor : SyntaxBuilder → List Part → List Piece → Type 0
+ArePartsFor builder [] [] = Unit {0}
+ArePartsFor builder (part ∷ parts) (piece ∷ pieces) = IsPart builder part piece × ArePartsFor builder parts pieces
+ArePartsFor builder _ _ = ⊥
+
+-- the pieces of segments, and of selectors
+abbrev pub segment_pieces : Segments → List Piece
+segment_pieces no_segments = []
+segment_pieces (segment kind seg more) = a_segment kind seg ∷ segment_pieces more
+
+abbrev pub selector_pieces : Selectors → List Piece
+selector_pieces no_selectors = []
+selector_pieces (selector sel more) = a_selector sel ∷ selector_pieces more
+
 -- the parts stand for the segments, one for each
 abbrev pub ArePartsOf : SyntaxBuilder → List Part → Segments → Type 0
-ArePartsOf builder [] no_segments = Unit {0}
-ArePartsOf builder (part ∷ parts) (segment kind seg more) = IsPart builder part (a_segment kind seg) × ArePartsOf builder parts more
-ArePartsOf builder _ _ = ⊥
+ArePartsOf builder parts segs = ArePartsFor builder parts (segment_pieces segs)
+
+-- the parts stand for the selectors in brackets, of which there is one at least
+abbrev pub AreSelectorsOf : SyntaxBuilder → List Part → Selectors → Type 0
+AreSelectorsOf builder [] sels = ⊥
+AreSelectorsOf builder (part ∷ parts) sels = ArePartsFor builder (part ∷ parts) (selector_pieces sels)
 
 -- each part stays good, with its tree
 abbrev pub KeepsParts : SyntaxBuilder → SyntaxBuilder → Type 0

@@ -3,7 +3,8 @@
 
 mod child;
 mod error;
-mod evaluate;
+mod evaluation;
+mod filter;
 pub mod functions;
 mod laws;
 mod syntax;
@@ -11,11 +12,15 @@ mod syntax;
 mod tests;
 
 pub use error::QueryError;
-pub use evaluate::evaluate_located;
+pub use evaluation::resume::Walk;
+pub use evaluation::{evaluate, evaluate_located, walk};
 pub use laws::{
     law_before_is_asymmetric, law_descendants_in_document_order, law_less_or_equal_is_either,
     law_not_equal_negates_equal, law_result_is_unique, law_singular_query_selects_at_most_one,
 };
 pub use syntax::builder::SyntaxBuilder;
 pub use syntax::checked::Checked;
-pub use syntax::node::{Part, QueryKind};
+pub use syntax::literal::{Literal, NumberLiteral};
+pub use syntax::node::{Part, QueryKind, SegmentKind};
+pub use syntax::operator::ComparisonOperator;
+pub use syntax::slice::Slice;

@@ -2,4 +2,8 @@
 
 pub(crate) mod builder;
 pub(crate) mod checked;
+pub(crate) mod choice;
+pub(crate) mod literal;
 pub(crate) mod node;
+pub(crate) mod operator;
+pub(crate) mod slice;

@@ -12,12 +12,13 @@ use crate::parser::primitive::int::int;
 use crate::parser::primitive::name::name;
 use crate::parser::reader::Reader;
 use crate::source::PathSource;
-use serde_json_path_core::{Part, SyntaxBuilder};
+use serde_json_path_core::{Part, SegmentKind, SyntaxBuilder};
 use std::alloc::Global;
 
 /// What stands behind `[`: a position and `]`.
 #[tactic(auto, unfolding(crate::specs::Parsing::bracket_at))]
 fn bracket<S: PathSource>(
+    alloc: Global,
     builder: &mut SyntaxBuilder,
     reader: &mut Reader<'_, S>,
 ) -> Result<Part, Stop>
@@ -32,7 +33,9 @@ fn bracket<S: PathSource>(
     }
     reader.take_char();
     let selector = builder.index(position as i64)?;
-    let segment = builder.long_hand(selector)?;
+    let mut selectors = Vec::new(alloc);
+    selectors.push(selector)?;
+    let segment = builder.long_hand(SegmentKind::Child, selectors)?;
     Ok(segment)
 }
 
@@ -49,7 +52,7 @@ fn dot<S: PathSource>(
     ensures gives { MakesSegment builder.new result reader.new (dot_at (left reader.old)) }
 {
     let text = name(alloc, reader, Place::DotMemberName)?;
-    let segment = builder.dot_name(text)?;
+    let segment = builder.dot_name(SegmentKind::Child, text)?;
     Ok(segment)
 }
 
@@ -71,6 +74,6 @@ pub(crate) fn segment<S: PathSource>(
         dot(alloc, builder, reader)
     } else {
         reader.take_char();
-        bracket(builder, reader)
+        bracket(alloc, builder, reader)
     }
 }

@@ -3,7 +3,8 @@
 ghost use Rattle.serde_json_path_core.specs.Flat.{IsGrown};
 
 use crate::syntax::checked::Checked;
-use crate::syntax::node::{Node, Part, QueryKind};
+use crate::syntax::node::{Node, Part, QueryKind, Segment, SegmentKind, Selector};
+use crate::syntax::slice::Slice;
 use std::alloc::{AllocError, Global};
 
 /// Makes the parts of a syntax tree, each out of finished ones.
@@ -20,8 +21,10 @@ impl SyntaxBuilder {
     ghost use Rattle.std.specs.Prelude.{◌≡◌, IfOk, string_bytes, length};
     ghost use Rattle.serde_json_path_core.specs.Tree as tree;
     ghost use Rattle.serde_json_path_core.specs.Piece.{a_query, a_segment, a_selector};
-    ghost use Rattle.serde_json_path_core.specs.Flat.{kind_view, NamesBelow, piece_of, pieces};
-    ghost use Rattle.serde_json_path_core.specs.Parts.{HasNoParts, IsPart, ArePartsOf, KeepsParts, tree_of};
+    ghost use Rattle.serde_json_path_core.specs.WellFormed.{IsOptionalInteger};
+    ghost use Rattle.serde_json_path_core.specs.Flat.{kind_view, segment_kind_view, NamesBelow, piece_of, pieces};
+    ghost use Rattle.serde_json_path_core.specs.SliceView.{slice_view};
+    ghost use Rattle.serde_json_path_core.specs.Parts.{HasNoParts, IsPart, ArePartsOf, AreSelectorsOf, KeepsParts, tree_of};
 
     /// A builder that has made no part yet. Takes no memory.
     pub fn new(alloc: Global) -> SyntaxBuilder
@@ -43,12 +46,55 @@ impl SyntaxBuilder {
         Ok(Part { number })
     }
 
-    /// The child segment `.name`.
-    pub fn dot_name(&mut self, name: String) -> Result<Part, AllocError>
-        ensures made { IfOk result (λ part. IsPart self.new part (a_segment tree.child (tree.dot_name (string_bytes name)))) }
+    /// The segment `.name`.
+    pub fn dot_name(&mut self, kind: SegmentKind, name: String) -> Result<Part, AllocError>
+        ensures made { IfOk result (λ part. IsPart self.new part (a_segment (segment_kind_view kind) (tree.dot_name (string_bytes name)))) }
         ensures keeps { KeepsParts self.old self.new }
     {
-        self.push(Node::DotName(name))
+        self.push(Node::Segment {
+            kind,
+            segment: Segment::DotName(name),
+        })
+    }
+
+    /// The segment `.*`.
+    pub fn dot_wildcard(&mut self, kind: SegmentKind) -> Result<Part, AllocError>
+        ensures made { IfOk result (λ part. IsPart self.new part (a_segment (segment_kind_view kind) tree.dot_wildcard)) }
+        ensures keeps { KeepsParts self.old self.new }
+    {
+        self.push(Node::Segment {
+            kind,
+            segment: Segment::DotWildcard,
+        })
+    }
+
+    /// The segment of these selectors in brackets, in order, of which there is one at least.
+    pub fn long_hand(&mut self, kind: SegmentKind, selectors: Vec<Part>) -> Result<Part, AllocError>
+        requires { (sels : tree.Selectors) × AreSelectorsOf self.old selectors.items sels }
+        ensures made { IfOk result (λ part. (sels : tree.Selectors) → AreSelectorsOf self.old selectors.items sels
+            → IsPart self.new part (a_segment (segment_kind_view kind) (tree.long_hand sels))) }
+        ensures keeps { KeepsParts self.old self.new }
+    {
+        self.push(Node::Segment {
+            kind,
+            segment: Segment::LongHand(selectors),
+        })
+    }
+
+    /// A name selector in brackets.
+    pub fn name(&mut self, name: String) -> Result<Part, AllocError>
+        ensures made { IfOk result (λ part. IsPart self.new part (a_selector (tree.name (string_bytes name)))) }
+        ensures keeps { KeepsParts self.old self.new }
+    {
+        self.push(Node::Selector(Selector::Name(name)))
+    }
+
+    /// A wildcard selector in brackets.
+    pub fn wildcard(&mut self) -> Result<Part, AllocError>
+        ensures made { IfOk result (λ part. IsPart self.new part (a_selector tree.wildcard)) }
+        ensures keeps { KeepsParts self.old self.new }
+    {
+        self.push(Node::Selector(Selector::Wildcard))
     }
 
     /// An index selector, of -(2^53 - 1) to 2^53 - 1.
@@ -57,17 +103,18 @@ impl SyntaxBuilder {
         ensures made { IfOk result (λ part. IsPart self.new part (a_selector (tree.index index))) }
         ensures keeps { KeepsParts self.old self.new }
     {
-        self.push(Node::Index(index))
+        self.push(Node::Selector(Selector::Index(index)))
     }
 
-    /// The child segment of one selector in brackets.
-    pub fn long_hand(&mut self, selector: Part) -> Result<Part, AllocError>
-        requires { (sel : tree.Selector) × IsPart self.old selector (a_selector sel) }
-        ensures made { IfOk result (λ part. (sel : tree.Selector) → IsPart self.old selector (a_selector sel)
-            → IsPart self.new part (a_segment tree.child (tree.long_hand (tree.selector sel tree.no_selectors)))) }
+    /// A slice selector, whose parts are of -(2^53 - 1) to 2^53 - 1.
+    pub fn slice(&mut self, slice: Slice) -> Result<Part, AllocError>
+        requires start { IsOptionalInteger slice.start }
+        requires end { IsOptionalInteger slice.end }
+        requires step { IsOptionalInteger slice.step }
+        ensures made { IfOk result (λ part. IsPart self.new part (a_selector (tree.slice (slice_view slice)))) }
         ensures keeps { KeepsParts self.old self.new }
     {
-        self.push(Node::LongHand(selector))
+        self.push(Node::Selector(Selector::Slice(slice)))
     }
 
     /// A query of these segments, in order.

@@ -1,10 +1,12 @@
 //! Finished syntax trees.
 
-ghost use Rattle.std.specs.Prelude.{◌<◌, ◌≡◌, length};
+ghost use Rattle.std.specs.Prelude.{◌<◌, ◌≡◌, ◌+◌, ◌^◌, [], ◌∷◌, IsSome, length, option_map, slice_get};
 ghost use Rattle.std.specs.Option.{ForSome};
 ghost use Rattle.serde_json_path_core.specs.Flat.{IsGrown};
+ghost use Rattle.serde_json_path_core.specs.Stages.{choice_view, stage_at};
 
-use crate::syntax::node::{Node, Part};
+use crate::syntax::choice::Choice;
+use crate::syntax::node::{Node, Part, QueryKind, Segment, SegmentKind, Selector};
 use std::alloc::Global;
 
 /// A well-typed query from the document's root.
@@ -19,8 +21,10 @@ pub struct Checked {
 }
 
 impl Checked {
-    ghost use Rattle.serde_json_path_core.specs.Tree.{query, root, no_segments};
-    ghost use Rattle.serde_json_path_core.specs.Flat.{query_in, piece_at};
+    ghost use Rattle.std.specs.List.{All};
+    ghost use Rattle.serde_json_path_core.specs.Tree.{query, root, no_segments, kind_of, segments_of};
+    ghost use Rattle.serde_json_path_core.specs.Flat.{kind_view, segment_kind_view, query_in, selector_in, selectors_in, piece_at, piece_of, pieces, pieces_named, segments_at, NamesBelow};
+    ghost use Rattle.serde_json_path_core.specs.Rest.{selectors_list};
     ghost use Rattle.serde_json_path_core.specs.Parts.{tree_of};
 
     /// The query `$` without segments. Takes no memory.
@@ -44,4 +48,103 @@ impl Checked {
             query: Some(part),
         }
     }
+
+    /// The node of a part.
+    pub(crate) fn node(&self, part: Part) -> &Node
+        requires { part.number < length self.now.nodes.items }
+        ensures piece { piece_at self.now.nodes.items part.number ≡ piece_of (pieces self.now.nodes.items) result.now }
+        ensures below { NamesBelow part.number result.now }
+    {
+        &self.nodes[part.number]
+    }
+
+    /// Where the query begins.
+    pub(crate) fn kind(&self) -> QueryKind
+        ensures { kind_view result ≡ kind_of (tree_of self.now) }
+    {
+        match self.query {
+            None => QueryKind::Root,
+            Some(part) => match self.node(part) {
+                Node::Query { kind, .. } => *kind,
+                _ => QueryKind::Root,
+            },
+        }
+    }
+
+    /// The query's segments, in order.
+    pub(crate) fn segments(&self) -> &[Part]
+        ensures tree { segments_at self.now.nodes.items result.now ≡ segments_of (tree_of self.now) }
+        ensures within { All (λ part. part.number < length self.now.nodes.items) result.now }
+    {
+        match self.query {
+            None => &[],
+            Some(part) => match self.node(part) {
+                Node::Query { segments, .. } => segments.as_slice(),
+                _ => &[],
+            },
+        }
+    }
+
+    /// How far a segment goes down.
+    pub(crate) fn segment_kind(&self, segment: Part) -> SegmentKind
+        requires { segment.number < length self.now.nodes.items }
+        ensures { segment_kind_view result ≡ (stage_at self.now.nodes.items segment).kind }
+    {
+        match self.node(segment) {
+            Node::Segment { kind, .. } => *kind,
+            _ => SegmentKind::Child,
+        }
+    }
+
+    /// The selector in brackets of that part.
+    fn selector(&self, part: Part) -> Choice<'_>
+        requires { part.number < length self.now.nodes.items }
+        ensures { choice_view result ≡ selector_in (piece_at self.now.nodes.items part.number) }
+    {
+        match self.node(part) {
+            Node::Selector(selector) => match selector {
+                Selector::Name(name) => Choice::Name(name.as_str()),
+                Selector::Wildcard => Choice::Wildcard,
+                Selector::Index(index) => Choice::Index(*index),
+                Selector::Slice(slice) => Choice::Slice(*slice),
+            },
+            _ => Choice::Wildcard,
+        }
+    }
+
+    /// The selector of that number among those in brackets, from 0.
+    fn bracketed(&self, selectors: &[Part], number: usize) -> Option<Choice<'_>>
+        requires { All (λ part. part.number < length self.now.nodes.items) selectors.now }
+        ensures more { IsSome result → number + 1 < 2 ^ 64 }
+        ensures choice { option_map choice_view result ≡ slice_get (selectors_list (selectors_in (pieces_named (pieces self.now.nodes.items) selectors.now))) number }
+    {
+        match selectors.get(number) {
+            Some(part) => Some(self.selector(*part)),
+            None => None,
+        }
+    }
+
+    /// The selector of that number in a segment, from 0.
+    pub(crate) fn choice(&self, segment: Part, number: usize) -> Option<Choice<'_>>
+        requires { segment.number < length self.now.nodes.items }
+        ensures more { IsSome result → number + 1 < 2 ^ 64 }
+        ensures choice { option_map choice_view result ≡ slice_get (stage_at self.now.nodes.items segment).selectors number }
+    {
+        match self.node(segment) {
+            Node::Segment { segment, .. } => match segment {
+                Segment::DotName(name) => only(Choice::Name(name.as_str()), number),
+                Segment::DotWildcard => only(Choice::Wildcard, number),
+                Segment::LongHand(selectors) => self.bracketed(selectors.as_slice(), number),
+            },
+            _ => None,
+        }
+    }
+}
+
+/// The selector of that number where there is but one.
+fn only<'q>(choice: Choice<'q>, number: usize) -> Option<Choice<'q>>
+    ensures more { IsSome result → number + 1 < 2 ^ 64 }
+    ensures choice { option_map choice_view result ≡ slice_get (choice_view choice.entry ∷ []) number }
+{
+    if number == 0 { Some(choice) } else { None }
 }

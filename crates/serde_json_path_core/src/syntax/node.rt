@@ -1,5 +1,7 @@
 //! The nodes of a syntax tree.
 
+use crate::syntax::slice::Slice;
+
 /// Where a query begins (RFC 9535, sections 2.2.1 and 2.3.5.1).
 #[derive(Clone, Copy, Debug, PartialEq, Eq)]
 pub enum QueryKind {
@@ -9,10 +11,43 @@ pub enum QueryKind {
     Current,
 }
 
+/// How far a segment goes down (RFC 9535, sections 2.5.1 and 2.5.2).
+#[derive(Clone, Copy, Debug, PartialEq, Eq)]
+pub enum SegmentKind {
+    /// To the children of a node.
+    Child,
+    /// To the children of a node and of all below it.
+    Descendant,
+}
+
 /// The number of a node, good for the builder that made it.
 #[derive(Clone, Copy, Debug)]
 pub struct Part {
     pub(crate) number: usize,
+}
+
+/// A segment, without how far it goes down.
+#[derive(Debug, Drop)]
+pub(crate) enum Segment {
+    /// `.name`
+    DotName(String),
+    /// `.*`
+    DotWildcard,
+    /// Selectors in brackets.
+    LongHand(Vec<Part>),
+}
+
+/// A selector in brackets.
+#[derive(Debug, Drop)]
+pub(crate) enum Selector {
+    /// The member of that name.
+    Name(String),
+    /// All children.
+    Wildcard,
+    /// The item at that position.
+    Index(i64),
+    /// The items at some positions.
+    Slice(Slice),
 }
 
 /// One node of a syntax tree; it names nodes that were made before it.
@@ -23,10 +58,11 @@ pub(crate) enum Node {
         kind: QueryKind,
         segments: Vec<Part>,
     },
-    /// The child segment `.name`.
-    DotName(String),
-    /// A child segment of one selector in brackets.
-    LongHand(Part),
-    /// An index selector.
-    Index(i64),
+    /// A segment.
+    Segment {
+        kind: SegmentKind,
+        segment: Segment,
+    },
+    /// A selector.
+    Selector(Selector),
 }

@@ -2,7 +2,7 @@ use Rattle.std.proofs.Common.{◌≡◌, ◌++◌, ◌∷◌, [], true, false, s
 use Rattle.std.proofs.lemmas.Grind.{common_steps}
 use Rattle.std.proofs.lemmas.Result.{err_from_is_err_and}
 use Rattle.serde_json_path_core.specs.Parts.{ArePartsOf}
-use Rattle.serde_json_path_core.proofs.NamedSegments.{parts_kept}
+use Rattle.serde_json_path_core.proofs.NamedParts.{parts_kept}
 use Rattle.serde_json_path.specs.Reading.{left}
 use Rattle.serde_json_path.specs.Lexical.{begins}
 use Rattle.serde_json_path.specs.Parsing.{segments_at, segment_at, opens, child_segments}

@@ -1,0 +1,105 @@
+-- Stacks of places, each at a child of the one below: what a turn keeps, and how many places there are at most.
+use Rattle.std.proofs.Common.{◌≡◌, ℕ, ◌+◌, ◌<◌, ◌≤◌, List, [], ◌∷◌, ◌++◌, drop, length, Some, None, sym, ap, subst, ◌∙◌, arith}
+use Rattle.std.specs.List.{All}
+use Rattle.std.proofs.lemmas.List.Elements.{All-nil}
+use Rattle.serde_json.specs.Data.{Data}
+use Rattle.serde_json_path_nodes.specs.Place.{Step, child_at}
+use Rattle.serde_json_path_core.specs.Functions.{FunctionSet}
+use Rattle.serde_json_path_core.specs.Height.{height}
+use Rattle.serde_json_path_core.specs.Rest.{Stage, Frame, begun, rest_of, work, IsOfValue, IsChain, IsStack}
+use Rattle.serde_json_path_core.specs.Advances.{IsSamePlace, ComesTo, IsDone}
+use Rattle.serde_json_path_core.proofs.Heights.{height-child_at}
+use Rattle.serde_json_path_core.proofs.Moves.{IsChildOf, opened-of}
+use Rattle.serde_json_path_core.proofs.Turns.{rest-dropped, rest-moved, work-dropped, work-moved}
+
+begun-of : (all : List Stage) (v : Data) → All (IsChildOf v) (begun all v)
+begun-of [] v = All-nil _
+begun-of (stage ∷ more) v = opened-of stage.kind stage.selectors v
+
+-- ---- chains
+
+chain-front : (v : Data) (ps : List Frame) (p : Frame) → IsChain v (ps ++ p ∷ []) → IsChain v ps
+chain-front v [] p h = tt
+chain-front v (q ∷ qs) p h = (h.0, h.1, h.2, h.3, chain-front q.value qs p h.4)
+
+chain-last : (v : Data) (ps : List Frame) (p : Frame) → IsChain v (ps ++ p ∷ []) → IsOfValue p
+chain-last v [] p h = h.3
+chain-last v (q ∷ qs) p h = chain-last q.value qs p h.4
+
+-- the last place is replaced by one at the same value, and a place at a child of it is put above
+chain-moved : (v : Data) (ps : List Frame) (p m q : Frame) (s : Step) → IsChain v (ps ++ p ∷ []) → IsSamePlace p m → q.step ≡ Some s → child_at p.value s ≡ Some q.value → IsOfValue q
+    → IsChain v ((ps ++ m ∷ []) ++ q ∷ [])
+chain-moved v [] p m q s h same step leads left =
+    (h.0, same.0 ∙ h.1, h.2 ∙ ap Some (sym same.1), same.3 h.3, (s, step, ap (λ w. child_at w s) same.1 ∙ leads, left, tt))
+chain-moved v (r ∷ rs) p m q s h same step leads left = (h.0, h.1, h.2, h.3, chain-moved r.value rs p m q s h.4 same step leads left)
+
+chain-height : (v : Data) (ps : List Frame) → IsChain v ps → length ps ≤ height v
+chain-height v [] h = omega arith
+chain-height v (p ∷ ps) h =
+    let lower = height-child_at v h.0 p.value h.2 in
+    let above = chain-height p.value ps h.4 in
+    omega arith
+
+-- ---- stacks
+
+pub stack-front : (start : Data) (ps : List Frame) (p : Frame) → IsStack start (ps ++ p ∷ []) → IsStack start ps
+stack-front start [] p h = tt
+stack-front start (q ∷ qs) p h = (h.0, h.1, h.2, chain-front q.value qs p h.3)
+
+stack-last : (start : Data) (ps : List Frame) (p : Frame) → IsStack start (ps ++ p ∷ []) → IsOfValue p
+stack-last start [] p h = h.2
+stack-last start (q ∷ qs) p h = chain-last q.value qs p h.3
+
+stack-moved : (start : Data) (ps : List Frame) (p m q : Frame) (s : Step) → IsStack start (ps ++ p ∷ []) → IsSamePlace p m → q.step ≡ Some s → child_at p.value s ≡ Some q.value → IsOfValue q
+    → IsStack start ((ps ++ m ∷ []) ++ q ∷ [])
+stack-moved start [] p m q s h same step leads left = (same.0 ∙ h.0, same.1 ∙ h.1, same.3 h.2, (s, step, ap (λ w. child_at w s) same.1 ∙ leads, left, tt))
+stack-moved start (r ∷ rs) p m q s h same step leads left = (h.0, h.1, h.2, chain-moved r.value rs p m q s h.3 same step leads left)
+
+-- a place where a walk begins is a stack
+pub stack-started : (all : List Stage) (start : Data) (q : Frame) → q ≡ record { step = None; value = start; segment = 0; selector = 0; left = begun all start } → IsStack start (q ∷ [])
+stack-started all start q e =
+    (ap (λ (p : Frame). p.step) e, ap (λ (p : Frame). p.value) e, subst IsOfValue (sym e) (begun-of all start), tt)
+
+-- a stack has at most one place more than the start is high
+pub stack-height : (start : Data) (ps : List Frame) → IsStack start ps → length ps ≤ height start + 1
+stack-height start [] h = omega arith
+stack-height start (p ∷ ps) h =
+    let above = chain-height p.value ps h.3 in
+    let same : height p.value ≡ height start = ap height h.1 in
+    omega arith
+
+-- ---- turns
+
+module _ (Clear : Type 0) (F : FunctionSet) (top : Data) (all : List Stage) where
+  -- a turn leaves the rest as it is, leaves less work, and keeps the stack
+  abbrev pub IsTurn : List Frame → List Frame → Type 0
+  IsTurn old new = (Clear → rest_of F top all old ≡ rest_of F top all new) × (work all new < work all old) × ((start : Data) → IsStack start old → IsStack start new)
+
+  pub turn-dropped : (old new ps : List Frame) (p : Frame) (stage : Stage) (more : List Stage) → old ≡ ps ++ p ∷ [] → new ≡ ps
+      → drop p.segment all ≡ stage ∷ more → IsDone Clear F top stage p → IsTurn old new
+  turn-dropped old new ps p stage more o n d done = (
+    λ clear. ap (rest_of F top all) o ∙ rest-dropped F top all ps p stage more d (done clear) ∙ ap (rest_of F top all) (sym n),
+    subst (λ ns. work all ns < work all old) (sym n) (subst (λ os. work all ps < work all os) (sym o) (work-dropped all ps p stage more d)),
+    λ start h. subst (IsStack start) (sym n) (stack-front start ps p (subst (IsStack start) o h)),
+  )
+
+  pub turn-moved : (old new ps : List Frame) (p m q : Frame) (stage : Stage) (more : List Stage) (number : ℕ) (c : Step × Data) → old ≡ ps ++ p ∷ [] → new ≡ (ps ++ m ∷ []) ++ q ∷ []
+      → drop p.segment all ≡ stage ∷ more → ComesTo Clear F top stage p (number, c) m
+      → q ≡ record { step = Some c.0; value = c.1; segment = number; selector = 0; left = begun (drop number all) c.1 }
+      → IsTurn old new
+  turn-moved old new ps p m q stage more number c o n d comes is =
+      let qs : q.step ≡ Some c.0 = ap (λ (p : Frame). p.step) is in
+      let qk : q.segment ≡ number = ap (λ (p : Frame). p.segment) is in
+      let qz : q.selector ≡ 0 = ap (λ (p : Frame). p.selector) is in
+      let qv : q.value ≡ c.1 = ap (λ (p : Frame). p.value) is in
+      let ql : q.left ≡ begun (drop number all) c.1 = ap (λ (p : Frame). p.left) is in (
+        λ clear. ap (rest_of F top all) o
+            ∙ rest-moved F top all ps p m q stage more number c d (comes.1 clear) comes.0.0 comes.0.2 qs qk qz qv ql ∙ ap (rest_of F top all) (sym n),
+        subst (λ ns. work all ns < work all old) (sym n)
+            (subst (λ os. work all ((ps ++ m ∷ []) ++ q ∷ []) < work all os) (sym o)
+            (work-moved all ps p m q stage more comes.2.0 number c d comes.2.1 comes.0.0 comes.0.2 qs qk qz qv ql)),
+        λ start h.
+            let is_stack = subst (IsStack start) o h in
+            subst (IsStack start) (sym n)
+            (stack-moved start ps p m q c.0 is_stack comes.0 qs (comes.3 (stack-last start ps p is_stack) ∙ ap Some (sym qv)) (subst IsOfValue (sym is) (begun-of (drop number all) c.1))),
+      )

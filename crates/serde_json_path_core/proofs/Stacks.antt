@@ -1,0 +1,145 @@
+-- What a stack of places has left, when its last place gives its node, is dropped, or moves on to a child.
+use Rattle.std.proofs.Common.{◌≡◌, ℕ, ◌+◌, List, [], ◌∷◌, ◌++◌, map, drop, flat_map, Some, option_to_list, refl, ap, ◌∙◌, sym, append_assoc}
+use Rattle.std.proofs.lemmas.Grind.{flat_map-append}
+use Rattle.std.proofs.lemmas.List.{append-nil, drop-drop}
+use Rattle.std.proofs.lemmas.List.Folds.{flat_map-map}
+use Rattle.serde_json.specs.Data.{Data}
+use Rattle.serde_json_path_nodes.specs.Place.{Step, Located}
+use Rattle.serde_json_path_core.specs.Tree.{SegmentKind, child, descendant, Selector}
+use Rattle.serde_json_path_core.specs.Selected.{beneath}
+use Rattle.serde_json_path_core.specs.Computed.{children, descents, placed, reached}
+use Rattle.serde_json_path_core.specs.Rest.{Stage, Frame, candidates, lower, begun, tasks, frame_tasks, here, stack_path, visit, visit_rest, visit_place, visit_stack}
+use Rattle.serde_json_path_core.proofs.Descents.{below_child, descents_are}
+use Rattle.serde_json_path_core.proofs.InLists.{flat_map-same, flat_map-flat_map}
+use Rattle.serde_json_path_core.proofs.Tasks.{next_opened}
+
+abbrev pub located : List Step → Data → Located
+located above v = record { location = above; value = v }
+
+-- ---- a node and all below it, level by level
+
+module _ {A : Type 0} (make : Located → List A) where
+  beneath-beneath : (above : List Step) (s : Step) (n : Located) → make (beneath above (beneath (s ∷ []) n)) ≡ make (beneath (above ++ s ∷ []) n)
+  beneath-beneath above s n = ap (λ location. make (record { location = location; value = n.value })) (sym (append_assoc above (s ∷ []) n.location))
+
+  -- what is made of a child and all below it
+  below-placed : (n : Located) (c : Step × Data) → flat_map (λ m. make (beneath n.location m)) (below_child c) ≡ flat_map make (reached descendant (placed n.location c))
+  below-placed n c =
+      flat_map-map (λ m. make (beneath n.location m)) (beneath (c.0 ∷ [])) (descents c.1)
+      ∙ flat_map-same (λ m. make (beneath n.location (beneath (c.0 ∷ []) m))) (λ m. make (beneath (n.location ++ c.0 ∷ []) m)) (beneath-beneath n.location c.0) (descents c.1)
+      ∙ sym (flat_map-map make (beneath (n.location ++ c.0 ∷ [])) (descents c.1))
+
+  -- a node, and then its children with all below them
+  pub unrolled : (kind : SegmentKind) (n : Located) → flat_map make (reached kind n) ≡ make n ++ flat_map (λ c. flat_map make (reached kind (placed n.location c))) (lower kind n.value)
+  unrolled child n = refl
+  unrolled descendant n =
+      flat_map-map make (beneath n.location) (descents n.value)
+      ∙ ap (flat_map (λ m. make (beneath n.location m))) (descents_are n.value)
+      ∙ ap (λ location. make (located location n.value) ++ flat_map (λ m. make (beneath n.location m)) (flat_map below_child (children n.value))) (append-nil n.location)
+      ∙ ap (λ xs. make n ++ xs)
+      (flat_map-flat_map (λ m. make (beneath n.location m)) below_child (children n.value)
+      ∙ flat_map-same (λ c. flat_map (λ m. make (beneath n.location m)) (below_child c)) (λ c. flat_map make (reached descendant (placed n.location c))) (below-placed n) (children n.value))
+
+-- ---- stacks
+
+next_stage : (all : List Stage) (number : ℕ) (stage : Stage) (more : List Stage) → stage ∷ more ≡ drop number all → drop (number + 1) all ≡ more
+next_stage all number stage more e = sym (drop-drop 1 number all) ∙ ap (drop 1) (sym e)
+
+pub stack_path-last : (above : List Step) (ps : List Frame) (p : Frame) → stack_path above (ps ++ p ∷ []) ≡ here (stack_path above ps) p
+stack_path-last above [] p = refl
+stack_path-last above (q ∷ qs) p = stack_path-last (here above q) qs p
+
+module _ (admit : Selector → List (Step × Data) → List (Step × Data)) {A : Type 0} (before : List A) (leaf : Located → List A) (all : List Stage) where
+  abbrev made : List Stage → Located → List A
+  made = visit admit before leaf
+
+  abbrev of_task : List Step → ℕ × (Step × Data) → List A
+  of_task above x = made (drop x.0 all) (placed above x.1)
+
+  abbrev of_stack : List Frame → List A
+  of_stack = visit_stack admit before leaf all []
+
+  -- the children that the selectors of a stage admit
+  abbrev picks : List Selector → Data → List (Step × Data)
+  picks sels v = flat_map (λ s. admit s (candidates s v)) sels
+
+  -- where a segment begins
+  begins : (number : ℕ) (stage : Stage) (more : List Stage) (n : Located) → stage ∷ more ≡ drop number all
+      → made (stage ∷ more) n ≡ before ++ flat_map (of_task n.location) (map (λ c. (number + 1, c)) (picks stage.selectors n.value) ++ map (λ c. (number, c)) (lower stage.kind n.value))
+  begins number stage more n e =
+      let xs = picks stage.selectors n.value in
+      let ys = lower stage.kind n.value in
+      unrolled (λ m. before ++ flat_map (λ c. made more (placed m.location c)) (picks stage.selectors m.value)) stage.kind n
+      ∙ append_assoc before (flat_map (λ c. made more (placed n.location c)) xs) (flat_map (λ c. made (stage ∷ more) (placed n.location c)) ys)
+      ∙ ap (λ zs. before ++ zs) (
+      ap (λ s. flat_map (λ c. made s (placed n.location c)) xs ++ flat_map (λ c. made (stage ∷ more) (placed n.location c)) ys) (sym (next_stage all number stage more e))
+      ∙ ap (λ s. flat_map (λ c. made (drop (number + 1) all) (placed n.location c)) xs ++ flat_map (λ c. made s (placed n.location c)) ys) e
+      ∙ ap (λ zs. zs ++ flat_map (λ c. made (drop number all) (placed n.location c)) ys) (sym (flat_map-map (of_task n.location) (λ c. (number + 1, c)) xs))
+      ∙ ap (λ zs. flat_map (of_task n.location) (map (λ c. (number + 1, c)) xs) ++ zs) (sym (flat_map-map (of_task n.location) (λ c. (number, c)) ys))
+      ∙ sym (flat_map-append (of_task n.location) (map (λ c. (number + 1, c)) xs) (map (λ c. (number, c)) ys))
+      )
+
+  of_stack-last : (above : List Step) (ps : List Frame) (p : Frame)
+      → visit_stack admit before leaf all above (ps ++ p ∷ []) ≡ visit_place admit before leaf all (here (stack_path above ps) p) p ++ visit_stack admit before leaf all above ps
+  of_stack-last above [] p = sym (append-nil _)
+  of_stack-last above (q ∷ qs) p =
+      ap (λ xs. xs ++ visit_place admit before leaf all (here above q) q) (of_stack-last (here above q) qs p)
+      ∙ append_assoc (visit_place admit before leaf all (here (stack_path (here above q) qs) p) p) _ _
+
+  -- the last place gives its node
+  pub gives : (ps : List Frame) (p : Frame) → drop p.segment all ≡ [] → of_stack (ps ++ p ∷ []) ≡ leaf (located (stack_path [] (ps ++ p ∷ [])) p.value) ++ of_stack ps
+  gives ps p d =
+      of_stack-last [] ps p
+      ∙ ap (λ s. visit_rest admit before leaf all s (here (stack_path [] ps) p) p ++ of_stack ps) d
+      ∙ ap (λ location. leaf (located location p.value) ++ of_stack ps) (sym (stack_path-last [] ps p))
+
+  -- the last place has some tasks left, and then no more
+  pub drops : (ps : List Frame) (p : Frame) (stage : Stage) (more : List Stage) → drop p.segment all ≡ stage ∷ more
+      → of_stack (ps ++ p ∷ []) ≡ flat_map (of_task (here (stack_path [] ps) p)) (frame_tasks admit stage p) ++ of_stack ps
+  drops ps p stage more d = of_stack-last [] ps p ∙ ap (λ s. visit_rest admit before leaf all s (here (stack_path [] ps) p) p ++ of_stack ps) d
+
+  -- a place where a task begins
+  pub enters : (number : ℕ) (stages : List Stage) (n : Located) (q : Frame) → stages ≡ drop number all
+      → q.segment ≡ number → q.selector ≡ 0 → q.value ≡ n.value → q.left ≡ begun stages n.value
+      → made stages n ≡ before ++ visit_rest admit before leaf all stages n.location q
+  enters number [] n q e s z v l = ap (λ w. before ++ leaf (located n.location w)) (sym v)
+  enters number (stage ∷ more) n q e s z v l =
+      begins number stage more n e
+      ∙ ap (λ ts. before ++ flat_map (of_task n.location) ts)
+      (next_opened admit number stage.kind n.value stage.selectors
+      ∙ ap (λ xs. tasks admit number stage.kind stage.selectors xs n.value) (sym l)
+      ∙ ap (λ w. tasks admit number stage.kind stage.selectors q.left w) (sym v)
+      ∙ ap (λ m. tasks admit number stage.kind (drop m stage.selectors) q.left q.value) (sym z)
+      ∙ ap (λ m. tasks admit m stage.kind (drop q.selector stage.selectors) q.left q.value) (sym s))
+
+  -- the last place moves on, past some tasks, to a child
+  pub moves : (ps : List Frame) (p m q : Frame) (stage : Stage) (more : List Stage) (front : List (ℕ × (Step × Data))) (number : ℕ) (c : Step × Data)
+      → drop p.segment all ≡ stage ∷ more → frame_tasks admit stage p ≡ front ++ (number, c) ∷ frame_tasks admit stage m
+      → m.step ≡ p.step → m.segment ≡ p.segment
+      → q.step ≡ Some c.0 → q.segment ≡ number → q.selector ≡ 0 → q.value ≡ c.1 → q.left ≡ begun (drop number all) c.1
+      → of_stack (ps ++ p ∷ []) ≡ flat_map (of_task (here (stack_path [] ps) p)) front ++ (before ++ of_stack ((ps ++ m ∷ []) ++ q ∷ []))
+  moves ps p m q stage more front number c d t ms mk qs qk qz qv ql =
+      let S = of_stack ps in
+      let L = here (stack_path [] ps) p in
+      let L' = here (stack_path [] ps) m in
+      let same : L ≡ L' = ap (λ o. stack_path [] ps ++ option_to_list o) (sym ms) in
+      let Q = visit_place admit before leaf all (L ++ c.0 ∷ []) q in
+      let M = visit_place admit before leaf all L m in
+      let dm : drop m.segment all ≡ stage ∷ more = ap (λ j. drop j all) mk ∙ d in
+      let begun_at : made (drop number all) (placed L c) ≡ before ++ Q =
+      enters number (drop number all) (placed L c) q refl qk qz qv ql ∙ ap (λ j. before ++ visit_rest admit before leaf all (drop j all) (L ++ c.0 ∷ []) q) (sym qk) in
+      let left_is : flat_map (of_task L) (frame_tasks admit stage m) ≡ M = ap (λ s. visit_rest admit before leaf all s L m) (sym dm) in
+      let new_is : of_stack ((ps ++ m ∷ []) ++ q ∷ []) ≡ Q ++ (M ++ S) =
+      of_stack-last [] (ps ++ m ∷ []) q
+      ∙ ap (λ xs. visit_place admit before leaf all (here (stack_path [] (ps ++ m ∷ [])) q) q ++ xs) (of_stack-last [] ps m)
+      ∙ ap (λ l. visit_place admit before leaf all (here l q) q ++ (visit_place admit before leaf all L' m ++ S)) (stack_path-last [] ps m)
+      ∙ ap (λ o. visit_place admit before leaf all (L' ++ option_to_list o) q ++ (visit_place admit before leaf all L' m ++ S)) qs
+      ∙ ap (λ l. visit_place admit before leaf all (l ++ c.0 ∷ []) q ++ (visit_place admit before leaf all l m ++ S)) (sym same) in
+      drops ps p stage more d
+      ∙ ap (λ ts. flat_map (of_task L) ts ++ S) t
+      ∙ ap (λ xs. xs ++ S) (flat_map-append (of_task L) front ((number, c) ∷ frame_tasks admit stage m))
+      ∙ ap (λ xs. (flat_map (of_task L) front ++ (made (drop number all) (placed L c) ++ xs)) ++ S) left_is
+      ∙ ap (λ xs. (flat_map (of_task L) front ++ (xs ++ M)) ++ S) begun_at
+      ∙ append_assoc (flat_map (of_task L) front) ((before ++ Q) ++ M) S
+      ∙ ap (λ xs. flat_map (of_task L) front ++ xs) (append_assoc (before ++ Q) M S ∙ append_assoc before Q (M ++ S))
+      ∙ ap (λ xs. flat_map (of_task L) front ++ (before ++ xs)) (sym new_is)

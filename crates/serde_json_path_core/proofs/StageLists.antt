@@ -1,0 +1,48 @@
+-- The stages of a query's parts, and what is left of a list behind so many elements.
+use Rattle.std.proofs.Common.{◌≡◌, ℕ, zero, suc, ◌+◌, ◌<◌, ◌≤◌, List, [], ◌∷◌, drop, length, slice_get, option_map, Option, Some, None, slice_index_or, refl, ap, sym, ◌∙◌, arith}
+use Rattle.std.proofs.lemmas.Option.{none-some, same_Some, slice_get_read, slice_get_past}
+use Rattle.serde_json_path_core.specs.Piece.{Piece}
+use Rattle.serde_json_path_core.specs.declared.syntax.node.Node.{Node}
+use Rattle.serde_json_path_core.specs.declared.syntax.node.Part.{Part}
+use Rattle.serde_json_path_core.specs.Flat.{piece_in, pieces, pieces_named, segment_in, segment_kind_in, segments_in}
+use Rattle.serde_json_path_core.specs.Rest.{stage_of, stages}
+use Rattle.serde_json_path_core.specs.Stages.{stage_at, stages_at}
+
+-- behind so many elements stands the one of that number
+pub drop-some : {A : Type 0} (xs : List A) (i : ℕ) (x : A) → slice_get xs i ≡ Some x → drop i xs ≡ x ∷ drop (i + 1) xs
+drop-some [] i x e = absurd (none-some x e)
+drop-some (y ∷ ys) zero x e = ap (λ z. z ∷ ys) (same_Some y x e)
+drop-some (y ∷ ys) (suc i) x e = let next : suc (i + 1) ≡ suc i + 1 = omega arith in drop-some ys i x e ∙ ap (λ k. x ∷ drop k (y ∷ ys)) next
+
+pub drop-none : {A : Type 0} (xs : List A) (i : ℕ) → slice_get xs i ≡ None → drop i xs ≡ []
+drop-none [] zero e = refl
+drop-none [] (suc i) e = refl
+drop-none (y ∷ ys) zero e = absurd (none-some y (sym e))
+drop-none (y ∷ ys) (suc i) e = drop-none ys i e
+
+-- there is an element of that number below the length alone
+pub get-within : {A : Type 0} (xs : List A) (i : ℕ) (x : A) → slice_get xs i ≡ Some x → i < length xs
+get-within [] i x e = absurd (none-some x e)
+get-within (y ∷ ys) zero x e = omega arith
+get-within (y ∷ ys) (suc i) x e = let later = get-within ys i x e in omega arith
+
+-- the stages of so many parts, one by one
+stages-get : (ps : List Piece) (parts : List Part) (i : ℕ)
+    → slice_get (stages (segments_in (pieces_named ps parts))) i
+    ≡ option_map (λ (part : Part). stage_of (segment_kind_in (piece_in ps part.number)) (segment_in (piece_in ps part.number))) (slice_get parts i)
+stages-get ps [] i = refl
+stages-get ps (part ∷ parts) zero = refl
+stages-get ps (part ∷ parts) (suc i) = stages-get ps parts i
+
+pub stages-from : (nodes : List Node) (parts : List Part) (i : ℕ) (part : Part) → i < length parts → part ≡ slice_index_or parts i part
+    → drop i (stages_at nodes parts) ≡ stage_at nodes part ∷ drop (i + 1) (stages_at nodes parts)
+stages-from nodes parts i part lt e =
+    drop-some (stages_at nodes parts) i (stage_at nodes part) (stages-get (pieces nodes) parts i ∙ ap (option_map (stage_at nodes)) (slice_get_read parts _ i part refl lt e))
+
+pub stages-past : (nodes : List Node) (parts : List Part) (i : ℕ) → length parts ≤ i → drop i (stages_at nodes parts) ≡ []
+stages-past nodes parts i le = drop-none (stages_at nodes parts) i (stages-get (pieces nodes) parts i ∙ ap (option_map (stage_at nodes)) (slice_get_past parts i le))
+
+-- where a value is seen nowhere, there is none
+pub missing : {A B : Type 0} (see : A → B) (found : Option A) (o : Option B) → ((x : A) → found ≡ Some x → ⊥) → option_map see found ≡ o → o ≡ None
+missing see None o none e = sym e
+missing see (Some x) o none e = absurd (none x refl)

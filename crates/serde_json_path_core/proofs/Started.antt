@@ -1,0 +1,52 @@
+-- What a walk that begins has left is the result of the segments.
+use Rattle.std.proofs.Common.{◌≡◌, [], ◌∷◌, ◌++◌, map, drop, flat_map, None, option_to_list, refl, ap, ◌∙◌, sym}
+use Rattle.std.proofs.lemmas.List.{append-nil}
+use Rattle.std.proofs.lemmas.List.Folds.{flat_map-map}
+use Rattle.serde_json.specs.Data.{Data}
+use Rattle.serde_json_path_nodes.specs.Place.{Located}
+use Rattle.serde_json_path_core.specs.Functions.{FunctionSet}
+use Rattle.serde_json_path_core.specs.Tree.{Query, query, kind_of, segments_of, Segments, no_segments, segment, Segment, dot_name, dot_wildcard, long_hand, Selectors, no_selectors, selector, Selector, name, wildcard, index, slice, filter}
+use Rattle.serde_json_path_core.specs.Derivation.{start_of}
+use Rattle.serde_json_path_core.specs.Computed.{itself, results, placed, reached, results_from, chosen, chosen_by, selected}
+use Rattle.serde_json_path_core.specs.Rest.{Frame, candidates, admitted, begun, selectors_of, selectors_list, stages, visit, visit_rest, rest_of}
+use Rattle.serde_json_path_core.proofs.InLists.{flat_map-same}
+use Rattle.serde_json_path_core.proofs.Stacks.{located, enters}
+
+module _ (F : FunctionSet) (top : Data) where
+  selected-admitted : (sel : Selector) (v : Data) → admitted F top sel (candidates sel v) ≡ selected F top sel v
+  selected-admitted (name k) v = refl
+  selected-admitted wildcard v = refl
+  selected-admitted (index i) v = refl
+  selected-admitted (slice s) v = refl
+  selected-admitted (filter e) v = refl
+
+  chosen_by-list : (sels : Selectors) (v : Data) → flat_map (λ s. admitted F top s (candidates s v)) (selectors_list sels) ≡ chosen_by F top sels v
+  chosen_by-list no_selectors v = refl
+  chosen_by-list (selector sel more) v =
+      ap (λ xs. xs ++ flat_map (λ s. admitted F top s (candidates s v)) (selectors_list more)) (selected-admitted sel v)
+      ∙ ap (λ xs. selected F top sel v ++ xs) (chosen_by-list more v)
+
+  chosen-list : (seg : Segment) (v : Data) → flat_map (λ s. admitted F top s (candidates s v)) (selectors_of seg) ≡ chosen F top seg v
+  chosen-list (dot_name k) v = append-nil _
+  chosen-list dot_wildcard v = append-nil _
+  chosen-list (long_hand sels) v = chosen_by-list sels v
+
+  visit-results : (segs : Segments) (n : Located) → visit (admitted F top) [] (λ m. m ∷ []) (stages segs) n ≡ results_from F top segs n
+  visit-results no_segments n = refl
+  visit-results (segment kind seg more) n =
+      flat_map-same (λ m. flat_map (λ c. visit (admitted F top) [] (λ l. l ∷ []) (stages more) (placed m.location c)) (flat_map (λ s. admitted F top s (candidates s m.value)) (selectors_of seg)))
+      (λ m. flat_map (results_from F top more) (map (placed m.location) (chosen F top seg m.value)))
+      (λ m. ap (flat_map (λ c. visit (admitted F top) [] (λ l. l ∷ []) (stages more) (placed m.location c))) (chosen-list seg m.value)
+      ∙ flat_map-same (λ c. visit (admitted F top) [] (λ l. l ∷ []) (stages more) (placed m.location c)) (λ c. results_from F top more (placed m.location c)) (λ c. visit-results more (placed m.location c)) (chosen F top seg m.value)
+      ∙ sym (flat_map-map (results_from F top more) (placed m.location) (chosen F top seg m.value)))
+      (reached kind n)
+
+  pub rest-started : (segs : Segments) (v : Data) (q : Frame) → q.step ≡ None → q.segment ≡ 0 → q.selector ≡ 0 → q.value ≡ v → q.left ≡ begun (stages segs) v
+      → rest_of F top (stages segs) (q ∷ []) ≡ results_from F top segs (located [] v)
+  rest-started segs v q t s z w l =
+      ap (λ o. visit_rest (admitted F top) [] (λ m. m ∷ []) (stages segs) (drop q.segment (stages segs)) ([] ++ option_to_list o) q) t
+      ∙ ap (λ k. visit_rest (admitted F top) [] (λ m. m ∷ []) (stages segs) (drop k (stages segs)) [] q) s
+      ∙ sym (enters (admitted F top) [] (λ m. m ∷ []) (stages segs) 0 (stages segs) (located [] v) q refl s z w l) ∙ visit-results segs (located [] v)
+
+  pub results-parts : (q : Query) (v : Data) → results_from F top (segments_of q) (itself (start_of (kind_of q) top v)) ≡ results F top q v
+  results-parts (query kind segs) v = refl

@@ -1,0 +1,30 @@
+use Rattle.std.proofs.Common.{[], option_map, sym, ap, ◌∙◌}
+use Rattle.serde_json.specs.View.{view}
+use Rattle.serde_json_path_core.specs.Flat.{segment_kind_view}
+use Rattle.serde_json_path_core.specs.Rest.{opened}
+use Rattle.serde_json_path_core.specs.Stages.{choice_view, stage_at}
+use Rattle.serde_json_path_core.proofs.StageLists.{drop-some, drop-none}
+use Rattle.serde_json_path_core.proofs.evaluation.place.open.Goals as goal
+
+pub returns-in-Some : goal.returns-in-Some
+returns-in-Some c =
+    let stage = stage_at c.args.query.now.nodes.items c.args.segment in
+    c.choose.ensures
+    ∙ sym (ap (λ sels. opened stage.kind sels (view c.args.value.now))
+    (drop-some stage.selectors c.args.selector (choice_view c.in-Some.choice) (sym (ap (option_map choice_view) (sym c.in-Some.is) ∙ c.choice.ensures.choice))))
+
+pub returns-in-Child : goal.returns-in-Child
+returns-in-Child c =
+    let stage = stage_at c.args.query.now.nodes.items c.args.segment in
+    c.none.ensures
+    ∙ sym (ap (λ sels. opened stage.kind sels (view c.args.value.now))
+    (drop-none stage.selectors c.args.selector (sym (ap (option_map choice_view) (sym c.in-None.is) ∙ c.choice.ensures.choice)))
+    ∙ ap (λ kind. opened kind [] (view c.args.value.now)) (sym c.segment_kind.ensures ∙ ap segment_kind_view c.in-Child.is))
+
+pub returns-in-Descendant : goal.returns-in-Descendant
+returns-in-Descendant c =
+    let stage = stage_at c.args.query.now.nodes.items c.args.segment in
+    c.all.ensures
+    ∙ sym (ap (λ sels. opened stage.kind sels (view c.args.value.now))
+    (drop-none stage.selectors c.args.selector (sym (ap (option_map choice_view) (sym c.in-None.is) ∙ c.choice.ensures.choice)))
+    ∙ ap (λ kind. opened kind [] (view c.args.value.now)) (sym c.segment_kind.ensures ∙ ap segment_kind_view c.in-Descendant.is))

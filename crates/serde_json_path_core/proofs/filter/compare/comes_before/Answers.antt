@@ -1,0 +1,12 @@
+use Rattle.std.proofs.Common.{◌≡◌, ◌∙◌, ap, nat_cmp, refl}
+use Rattle.std.specs.Ordering.{is_lt}
+use Rattle.std.specs.Str.Iter.{chars_rest}
+use Rattle.std.proofs.lemmas.Iterator.{YieldsList-from_chars}
+use Rattle.std.proofs.lemmas.Iterator.Search.{cmp_from_yields_List}
+use Rattle.serde_json_path_core.proofs.filter.compare.comes_before.Goals as goal
+
+pub returns : goal.returns
+returns c =
+    let first = YieldsList-from_chars c.args.left.now c.utf8.left c.chars.ensures.rest in
+    c.is_lt.ensures ∙ ap is_lt (cmp_from_yields_List (λ x y. y ≡ x) _ nat_cmp _ c.cmp.ensures.ran first
+    (λ it e. YieldsList-from_chars c.args.right.now c.utf8.right (ap chars_rest e ∙ c.chars-2.ensures.rest)) (λ x y. refl))

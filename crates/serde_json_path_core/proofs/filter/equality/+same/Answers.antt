@@ -1,0 +1,34 @@
+use Rattle.std.proofs.Common.{◌≡◌, suc, List, [], ◌∷◌, length, String, Global, string_bytes, bytes_eq, Bool, true, false, ◌&&◌, refl, sym, ap, ◌∙◌}
+use Rattle.serde_json.specs.View.{view, items_view, members_view}
+use Rattle.serde_json.specs.declared.value.Value.{Value}
+use Rattle.serde_json_path_core.specs.Computed.{same_data, same_items, same_members}
+use Rattle.serde_json_path_core.proofs.filter.equality.+same.Goals as goal
+
+and-false : (b : Bool) → (b && false) ≡ false
+and-false true = refl
+and-false false = refl
+
+-- lists of two lengths are not equal
+items_differ : (xs ys : List Value) → (length xs ≡ length ys → ⊥) → false ≡ same_items (items_view xs) (items_view ys)
+items_differ [] [] h = absurd (h refl)
+items_differ [] (y ∷ ys) h = refl
+items_differ (x ∷ xs) [] h = refl
+items_differ (x ∷ xs) (y ∷ ys) h =
+    sym (and-false (same_data (view x) (view y))) ∙ ap (λ b. same_data (view x) (view y) && b) (items_differ xs ys (λ e. h (ap suc e)))
+
+-- objects of two sizes are not equal
+members_differ : (xs ys : List (String Global × Value)) → (length xs ≡ length ys → ⊥) → false ≡ same_members (members_view xs) (members_view ys)
+members_differ [] [] h = absurd (h refl)
+members_differ [] (y ∷ ys) h = refl
+members_differ (x ∷ xs) [] h = refl
+members_differ (x ∷ xs) (y ∷ ys) h =
+    let more = sym (and-false (same_data (view x.1) (view y.1))) ∙ ap (λ b. same_data (view x.1) (view y.1) && b) (members_differ xs ys (λ e. h (ap suc e))) in
+    sym (and-false (bytes_eq (string_bytes x.0) (string_bytes y.0))) ∙ ap (λ b. bytes_eq (string_bytes x.0) (string_bytes y.0) && b) more
+
+pub same_items-returns-then-len : goal.same_items-returns-then-len
+same_items-returns-then-len t c =
+    items_differ _ _ (λ e. c.if-len.true (c.len.ensures ∙ c.args.left.now.ok.0 ∙ e ∙ sym c.args.right.now.ok.0 ∙ sym c.len-2.ensures))
+
+pub same_members-returns-then-len : goal.same_members-returns-then-len
+same_members-returns-then-len t c =
+    members_differ _ _ (λ e. c.if-len.true (c.len.ensures.len ∙ e ∙ sym c.len-2.ensures.len))

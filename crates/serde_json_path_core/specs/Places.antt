@@ -1,0 +1,20 @@
+-- The places of a walk as the definitions see them.
+use Rattle.std.specs.Prelude.{ℕ, List, map, option_map}
+use Rattle.serde_json.specs.Data.{Data}
+use Rattle.serde_json.specs.View.{view}
+use Rattle.serde_json_path_nodes.specs.Place.{Step}
+use Rattle.serde_json_path_nodes.specs.Views.{step_view}
+use Rattle.serde_json_path_core.specs.Cursors.{cursor_left}
+use Rattle.serde_json_path_core.specs.Rest.{Frame}
+use Rattle.serde_json_path_core.specs.Views.{child_view}
+use Rattle.serde_json_path_core.specs.declared.evaluation.place.Place.{Place}
+use Rattle.serde_json_path_core.specs.declared.evaluation.place.Task.{Task}
+
+abbrev pub frame_of : Place → Frame
+frame_of p = record { step = option_map step_view p.step; value = view p.value.now; segment = p.segment; selector = p.selector; left = cursor_left p.cursor }
+
+abbrev pub frames_of : List Place → List Frame
+frames_of places = map frame_of places
+
+abbrev pub task_view : Task → ℕ × (Step × Data)
+task_view task = (task.segment, child_view task.child)

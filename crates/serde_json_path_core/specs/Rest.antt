@@ -1,0 +1,163 @@
+-- What a walk has still to give: from the places on its stack, the document and the query's segments alone.
+use Rattle.std.specs.Prelude.{◌≡◌, ℕ, ◌+◌, List, [], ◌∷◌, ◌++◌, length, map, drop, flat_map, filter as keep, Option, Some, None, option_to_list}
+use Rattle.std.specs.List.{All}
+use Rattle.serde_json.specs.Data.{Data}
+use Rattle.serde_json_path_nodes.specs.Place.{Step, by_name, child_at, Located}
+use Rattle.serde_json_path_core.specs.Tree.{Segments, no_segments, segment, SegmentKind, child, descendant, Segment, dot_name, dot_wildcard, long_hand, Selectors, no_selectors, selector, Selector, name, wildcard, index, slice, filter}
+use Rattle.serde_json_path_core.specs.Functions.{FunctionSet}
+use Rattle.serde_json_path_core.specs.Selected.{child_by, item_at}
+use Rattle.serde_json_path_core.specs.Computed.{children, sliced, reached, placed, is_true}
+
+-- ---- segments as a list
+
+-- the selectors of a segment; a `.name` and a `.*` have one
+abbrev pub selectors_list : Selectors → List Selector
+selectors_list no_selectors = []
+selectors_list (selector sel more) = sel ∷ selectors_list more
+
+abbrev pub selectors_of : Segment → List Selector
+selectors_of (dot_name k) = name k ∷ []
+selectors_of dot_wildcard = wildcard ∷ []
+selectors_of (long_hand sels) = selectors_list sels
+
+-- how a segment goes down, and its selectors
+pub record Stage : Type 0 where
+  pub kind : SegmentKind
+  pub selectors : List Selector
+
+abbrev pub stage_of : SegmentKind → Segment → Stage
+stage_of kind seg = record { kind = kind; selectors = selectors_of seg }
+
+abbrev pub stages : Segments → List Stage
+stages no_segments = []
+stages (segment kind seg more) = stage_of kind seg ∷ stages more
+
+-- ---- children
+
+-- the children that a selector chooses from
+abbrev pub candidates : Selector → Data → List (Step × Data)
+candidates (name k) v = option_to_list (child_by v (by_name k))
+candidates wildcard v = children v
+candidates (index i) v = option_to_list (item_at v i)
+candidates (slice s) v = sliced s v
+candidates (filter e) v = children v
+
+-- those of them that the selector admits: a filter's where its expression holds, and else all
+abbrev pub admitted : FunctionSet → Data → Selector → List (Step × Data) → List (Step × Data)
+admitted F top (filter e) cs = keep (λ c. is_true F top e c.1) cs
+admitted F top (name k) cs = cs
+admitted F top wildcard cs = cs
+admitted F top (index i) cs = cs
+admitted F top (slice s) cs = cs
+
+-- the same where every filter admits all
+abbrev pub unfiltered : Selector → List (Step × Data) → List (Step × Data)
+unfiltered sel cs = cs
+
+-- the children that a segment goes down to
+abbrev pub lower : SegmentKind → Data → List (Step × Data)
+lower child v = []
+lower descendant v = children v
+
+-- the children with which the work of these selectors begins, or, where none is left, those to go down to
+abbrev pub opened : SegmentKind → List Selector → Data → List (Step × Data)
+opened kind (sel ∷ more) v = candidates sel v
+opened kind [] v = lower kind v
+
+-- the same where these stages are left
+abbrev pub begun : List Stage → Data → List (Step × Data)
+begun [] v = []
+begun (stage ∷ more) v = opened stage.kind stage.selectors v
+
+-- ---- places
+
+-- A value where the segment of that number is applied: the step that led to it, the number of the selector at work, and
+-- the children that are left of it, or, behind the last selector, those that are left to go down to.
+pub record Frame : Type 0 where
+  pub step : Option Step
+  pub value : Data
+  pub segment : ℕ
+  pub selector : ℕ
+  pub left : List (Step × Data)
+
+-- the children to go down to, where these selectors are left
+abbrev pub lower_left : SegmentKind → List Selector → List (Step × Data) → Data → List (Step × Data)
+lower_left child sels cs v = []
+lower_left descendant [] cs v = cs
+lower_left descendant (sel ∷ more) cs v = children v
+
+-- the location of a place above which the location is that
+abbrev pub here : List Step → Frame → List Step
+here above p = above ++ option_to_list p.step
+
+-- the location of the last of these places
+abbrev pub stack_path : List Step → List Frame → List Step
+stack_path above [] = above
+stack_path above (p ∷ ps) = stack_path (here above p) ps
+
+-- what is left, where `admit` tells which children a selector admits
+module _ (admit : Selector → List (Step × Data) → List (Step × Data)) where
+  -- what the selectors have still to select, the first of them from these
+  abbrev pub picks_left : List Selector → List (Step × Data) → Data → List (Step × Data)
+  picks_left [] cs v = []
+  picks_left (sel ∷ more) cs v = admit sel cs ++ flat_map (λ s. admit s (candidates s v)) more
+
+  -- the children still to go to, each with the number of the segment that is applied there
+  abbrev pub tasks : ℕ → SegmentKind → List Selector → List (Step × Data) → Data → List (ℕ × (Step × Data))
+  tasks number kind sels cs v = map (λ c. (number + 1, c)) (picks_left sels cs v) ++ map (λ c. (number, c)) (lower_left kind sels cs v)
+
+  abbrev pub frame_tasks : Stage → Frame → List (ℕ × (Step × Data))
+  frame_tasks stage p = tasks p.segment stage.kind (drop p.selector stage.selectors) p.left p.value
+
+  -- `before` for each visit of a value, and `leaf` for each node that is given
+  module _ {A : Type 0} (before : List A) (leaf : Located → List A) where
+    -- all that the stages make of a node
+    abbrev pub visit : List Stage → Located → List A
+    visit [] n = before ++ leaf n
+    visit (stage ∷ more) n =
+        flat_map (λ m. before ++ flat_map (λ c. visit more (placed m.location c)) (flat_map (λ s. admit s (candidates s m.value)) stage.selectors)) (reached stage.kind n)
+
+    -- the same of a place where the first of these stages has done part of its work
+    abbrev pub visit_rest : List Stage → List Stage → List Step → Frame → List A
+    visit_rest all [] above p = leaf (record { location = above; value = p.value })
+    visit_rest all (stage ∷ more) above p = flat_map (λ (x : ℕ × (Step × Data)). visit (drop x.0 all) (placed above x.1)) (frame_tasks stage p)
+
+    abbrev pub visit_place : List Stage → List Step → Frame → List A
+    visit_place all above p = visit_rest all (drop p.segment all) above p
+
+    -- the last place comes first
+    abbrev pub visit_stack : List Stage → List Step → List Frame → List A
+    visit_stack all above [] = []
+    visit_stack all above (p ∷ ps) = visit_stack all (here above p) ps ++ visit_place all (here above p) p
+
+-- the nodes that the places have still to give
+abbrev pub rest_of : FunctionSet → Data → List Stage → List Frame → List Located
+rest_of F top all ps = visit_stack (admitted F top) [] (λ n. n ∷ []) all [] ps
+
+-- how many steps are left at most, were all filters to admit all
+abbrev pub work : List Stage → List Frame → ℕ
+work all ps = length {A = ℕ} (visit_stack unfiltered (0 ∷ 0 ∷ []) (λ n. 0 ∷ []) all [] ps) + length ps
+
+-- the list is some front and then the other
+abbrev pub EndsIn : {A : Type 0} → List A → List A → Type 0
+EndsIn {A} xs ys = (front : List A) × (xs ≡ front ++ ys)
+
+-- ---- stacks
+
+-- what is left at a place are children of its value
+abbrev pub IsOfValue : Frame → Type 0
+IsOfValue p = All (λ (c : Step × Data). child_at p.value c.0 ≡ Some c.1) p.left
+
+-- each place is at a child of the value of the place below it
+abbrev pub IsChain : Data → List Frame → Type 0
+IsChain v [] = Unit {0}
+IsChain v (p ∷ ps) = (s : Step) × (p.step ≡ Some s) × (child_at v s ≡ Some p.value) × IsOfValue p × IsChain p.value ps
+
+-- the first place is at the start
+abbrev pub IsStack : Data → List Frame → Type 0
+IsStack start [] = Unit {0}
+IsStack start (p ∷ ps) = (p.step ≡ None) × (p.value ≡ start) × IsOfValue p × IsChain p.value ps
+
+-- the last place is where the stages end, at that value
+abbrev pub EndsAt : List Stage → List Frame → Data → Type 0
+EndsAt all ps v = (before : List Frame) × (last : Frame) × (ps ≡ before ++ last ∷ []) × (drop last.segment all ≡ []) × (last.value ≡ v)

@@ -1,0 +1,208 @@
+//! Places of a walk: values where a segment is applied.
+
+ghost use Rattle.std.specs.Prelude.{◌≡◌, ◌+◌, ◌<◌, ◌^◌, None, Some, IfOk, IfErr, MatchOption, drop, length, option_map};
+ghost use Rattle.std.specs.List.{All};
+ghost use Rattle.serde_json.specs.Data.{Data};
+ghost use Rattle.serde_json.specs.View.{view};
+ghost use Rattle.serde_json_path_core.specs.Functions.{FunctionSet};
+ghost use Rattle.serde_json_path_core.specs.Cursors.{cursor_left};
+ghost use Rattle.serde_json_path_core.specs.Views.{child_view};
+ghost use Rattle.serde_json_path_core.specs.Rest.{candidates, opened, begun};
+ghost use Rattle.serde_json_path_core.specs.Advances.{Advances, Chooses, ComesTo, IsDone};
+ghost use Rattle.serde_json_path_core.specs.Stages.{choice_view, stage_at, stages_at};
+ghost use Rattle.serde_json_path_core.specs.Places.{frame_of, task_view};
+ghost use Rattle.serde_json_path_core.specs.declared.error.QueryError.TheVariants.{Memory};
+
+use crate::child::{Child, item, member};
+use crate::error::QueryError;
+use crate::evaluation::cursor::Cursor;
+use crate::syntax::checked::Checked;
+use crate::syntax::choice::Choice;
+use crate::syntax::node::{Part, SegmentKind};
+use serde_json::Value;
+use serde_json_path_nodes::PathElement;
+
+/// A value where the segment of that number is applied, with the step that led to it. Its cursor has what is left for
+/// the selector of that number, or, behind the last selector, the children that are left to go down to.
+#[derive(Drop)]
+pub(crate) struct Place<'b> {
+    pub(crate) step: Option<PathElement<'b>>,
+    pub(crate) value: &'b Value,
+    pub(crate) segment: usize,
+    pub(crate) selector: usize,
+    pub(crate) cursor: Cursor<'b>,
+}
+
+/// A child where the segment of that number is applied next.
+#[derive(Clone, Copy)]
+pub(crate) struct Task<'b> {
+    pub(crate) segment: usize,
+    pub(crate) child: Child<'b>,
+}
+
+/// A task, and the place that came to it, moved on.
+#[derive(Drop)]
+pub(crate) struct Ahead<'b> {
+    pub(crate) place: Place<'b>,
+    pub(crate) task: Task<'b>,
+}
+
+/// The children that a selector chooses from.
+fn choose<'b>(choice: Choice<'_>, value: &'b Value) -> Cursor<'b>
+    ensures { cursor_left result ≡ candidates (choice_view choice.entry) (view value.now) }
+{
+    match choice {
+        Choice::Name(name) => Cursor::one(member(value, name)),
+        Choice::Wildcard => Cursor::all(value),
+        Choice::Index(index) => Cursor::one(item(value, index)),
+        Choice::Slice(slice) => Cursor::slice(value, &slice),
+    }
+}
+
+/// The children for the selector of that number, or, behind the last one, those to go down to.
+fn open<'b>(query: &Checked, segment: Part, selector: usize, value: &'b Value) -> Cursor<'b>
+    requires { segment.number < length query.now.nodes.items }
+    ensures { cursor_left result
+        ≡ opened (stage_at query.now.nodes.items segment).kind (drop selector (stage_at query.now.nodes.items segment).selectors) (view value.now) }
+{
+    match query.choice(segment, selector) {
+        Some(choice) => choose(choice, value),
+        None => match query.segment_kind(segment) {
+            SegmentKind::Child => Cursor::none(),
+            SegmentKind::Descendant => Cursor::all(value),
+        },
+    }
+}
+
+/// The children with which the segment of that number begins.
+fn begin<'b>(query: &Checked, segments: &[Part], number: usize, value: &'b Value) -> Cursor<'b>
+    requires { All (λ part. part.number < length query.now.nodes.items) segments.now }
+    ensures { cursor_left result ≡ begun (drop number (stages_at query.now.nodes.items segments.now)) (view value.now) }
+{
+    match segments.get(number) {
+        Some(segment) => open(query, *segment, 0, value),
+        None => Cursor::none(),
+    }
+}
+
+impl<'b> Place<'b> {
+    /// The place where a walk begins.
+    pub(crate) fn start(query: &Checked, segments: &[Part], value: &'b Value) -> Place<'b>
+        requires { All (λ part. part.number < length query.now.nodes.items) segments.now }
+        ensures { frame_of result ≡ record {
+          step = None;
+          value = view value.now;
+          segment = 0;
+          selector = 0;
+          left = begun (stages_at query.now.nodes.items segments.now) (view value.now);
+        } }
+    {
+        Place {
+            step: None,
+            value,
+            segment: 0,
+            selector: 0,
+            cursor: begin(query, segments, 0, value),
+        }
+    }
+
+    /// The place of a task.
+    pub(crate) fn of(query: &Checked, segments: &[Part], task: Task<'b>) -> Place<'b>
+        requires { All (λ part. part.number < length query.now.nodes.items) segments.now }
+        ensures { let c = child_view task.entry.child in
+            frame_of result ≡ record {
+              step = Some c.0;
+              value = c.1;
+              segment = task.entry.segment;
+              selector = 0;
+              left = begun (drop task.entry.segment (stages_at query.now.nodes.items segments.now)) c.1;
+            } }
+    {
+        Place {
+            step: Some(task.child.step),
+            value: task.child.value,
+            segment: task.segment,
+            selector: 0,
+            cursor: begin(query, segments, task.segment, task.child.value),
+        }
+    }
+
+    /// A place like this one; where memory is refused there is none.
+    fn try_clone(&self) -> Result<Place<'b>, QueryError>
+        ensures same { IfOk result (λ place. frame_of place ≡ frame_of self.now) }
+        ensures refused { IfErr result (λ e. e ≡ Memory) }
+    {
+        Ok(Place {
+            step: self.step,
+            value: self.value,
+            segment: self.segment,
+            selector: self.selector,
+            cursor: self.cursor.try_clone()?,
+        })
+    }
+
+    /// Moves on to the next task, if one is left.
+    fn advance(&mut self, query: &Checked, segment: Part) -> Option<Task<'b>>
+        requires within { segment.number < length query.now.nodes.items }
+        requires number { self.old.segment + 1 < 2 ^ 64 }
+        ensures { (F : FunctionSet) (top : Data)
+            → Advances (Unit {0}) F top (stage_at query.now.nodes.items segment) (frame_of self.old) (option_map task_view result) (frame_of self.new) }
+    {
+        while let Some(choice) = query.choice(segment, self.selector) {
+            match give(choice, &mut self.cursor) {
+                Some(child) => {
+                    return Some(Task {
+                        segment: self.segment + 1,
+                        child,
+                    });
+                }
+                None => {
+                    self.selector += 1;
+                    self.cursor = open(query, segment, self.selector, self.value);
+                }
+            }
+        }
+        match query.segment_kind(segment) {
+            SegmentKind::Child => None,
+            SegmentKind::Descendant => match self.cursor.advance() {
+                None => None,
+                Some(child) => Some(Task {
+                    segment: self.segment,
+                    child,
+                }),
+            },
+        }
+    }
+
+    /// The next task, if one is left, and this place moved on to it; the place itself stays.
+    pub(crate) fn ahead(
+        &self,
+        query: &Checked,
+        segment: Part,
+    ) -> Result<Option<Ahead<'b>>, QueryError>
+        requires within { segment.number < length query.now.nodes.items }
+        requires number { self.now.segment + 1 < 2 ^ 64 }
+        ensures refused { IfErr result (λ e. e ≡ Memory) }
+        ensures ahead { IfOk result (λ ahead. MatchOption ahead
+            ((F : FunctionSet) (top : Data) → IsDone (Unit {0}) F top (stage_at query.now.nodes.items segment) (frame_of self.now))
+            (λ a. (F : FunctionSet) (top : Data) → ComesTo (Unit {0}) F top (stage_at query.now.nodes.items segment) (frame_of self.now) (task_view a.task) (frame_of a.place))) }
+    {
+        let mut place = self.try_clone()?;
+        match place.advance(query, segment) {
+            Some(task) => Ok(Some(Ahead { place, task })),
+            None => Ok(None),
+        }
+    }
+}
+
+/// The next child that the selector admits, if one is left.
+fn give<'b>(choice: Choice<'_>, cursor: &mut Cursor<'b>) -> Option<Child<'b>>
+    ensures { (F : FunctionSet) (top : Data)
+        → Chooses (Unit {0}) F top (choice_view choice.entry) (cursor_left cursor.old) (option_map child_view result) (cursor_left cursor.new) }
+{
+    match choice {
+        Choice::Name(_) | Choice::Wildcard | Choice::Index(_) | Choice::Slice(_) => {
+            cursor.advance()
+        }
+    }
+}

@@ -1,0 +1,72 @@
+//! Comparisons (RFC 9535, section 2.3.5.2.2).
+
+ghost use Rattle.std.specs.Prelude.{◌≡◌, ◌||◌};
+ghost use Rattle.std.specs.Ordering.{nat_cmp, is_lt};
+ghost use Rattle.std.specs.Cmp.Lexicographic.{slice_cmp};
+ghost use Rattle.std.specs.Str.{chars};
+ghost use Rattle.serde_json_path_core.specs.Computed.{compare as comparison};
+ghost use Rattle.serde_json_path_core.specs.Literals.{operator_view};
+ghost use Rattle.serde_json_path_core.specs.Operands.{operand_view};
+ghost use Rattle.serde_json_path_core.specs.Sides.{side_view, same_seen, less_seen};
+
+use crate::filter::equality::{same_items, same_members};
+use crate::filter::operand::Operand;
+use crate::filter::side::{Side, side_of};
+use crate::syntax::operator::ComparisonOperator;
+
+/// Whether the comparison holds of what its two sides stand for.
+pub(crate) fn compare(operator: ComparisonOperator, left: &Operand, right: &Operand) -> bool
+    ensures { result ≡ comparison (operator_view operator) (operand_view left.now) (operand_view right.now) }
+{
+    let left = side_of(left);
+    let right = side_of(right);
+    match operator {
+        ComparisonOperator::EqualTo => is_equal(left, right),
+        ComparisonOperator::NotEqualTo => !is_equal(left, right),
+        ComparisonOperator::LessThan => is_less(left, right),
+        ComparisonOperator::LessThanEqualTo => is_less_or_equal(left, right),
+        ComparisonOperator::GreaterThan => is_less(right, left),
+        ComparisonOperator::GreaterThanEqualTo => is_less_or_equal(right, left),
+    }
+}
+
+/// Whether two sides are equal.
+fn is_equal(left: Side, right: Side) -> bool
+    ensures { result ≡ same_seen (side_view left.entry) (side_view right.entry) }
+{
+    match (left, right) {
+        (Side::Nothing, Side::Nothing) | (Side::Null, Side::Null) => true,
+        (Side::Bool(left), Side::Bool(right)) => left == right,
+        (Side::Amount(Some(left)), Side::Amount(Some(right))) => left == right,
+        (Side::Text(left), Side::Text(right)) => left == right,
+        (Side::Array(left), Side::Array(right)) => same_items(left, right),
+        (Side::Object(left), Side::Object(right)) => same_members(left, right),
+        _ => false,
+    }
+}
+
+/// Whether the first side is a text or a number before the second.
+fn is_less(left: Side, right: Side) -> bool
+    ensures { result ≡ less_seen (side_view left.entry) (side_view right.entry) }
+{
+    match (left, right) {
+        (Side::Amount(Some(left)), Side::Amount(Some(right))) => left < right,
+        (Side::Text(left), Side::Text(right)) => comes_before(left, right),
+        _ => false,
+    }
+}
+
+/// Whether the first side is a text or a number before the second, or equal to it.
+fn is_less_or_equal(left: Side, right: Side) -> bool
+    ensures { result ≡ less_seen (side_view left.entry) (side_view right.entry)
+        || same_seen (side_view left.entry) (side_view right.entry) }
+{
+    is_less(left, right) || is_equal(left, right)
+}
+
+/// Whether the first text is before the second, by Unicode scalar values.
+fn comes_before(left: &str, right: &str) -> bool
+    ensures { result ≡ is_lt (slice_cmp nat_cmp (chars left.now) (chars right.now)) }
+{
+    left.chars().cmp(right.chars()).is_lt()
+}

@@ -1,0 +1,66 @@
+//! Equality of values (RFC 9535, section 2.3.5.2.2).
+
+ghost use Rattle.std.specs.Prelude.{◌≡◌};
+ghost use Rattle.serde_json.specs.Find.{as_integer};
+ghost use Rattle.serde_json.specs.View.{view, items_view, members_view, number_view};
+ghost use Rattle.serde_json_path_core.specs.Computed.{same_amount, same_data, same_items as same_items_of, same_members as same_members_of};
+
+use serde_json::{Map, Number, Value};
+
+/// Whether two values are equal.
+#[cycle(same)]
+fn same_values(left: &Value, right: &Value) -> bool
+    ensures { result ≡ same_data (view left.now) (view right.now) }
+{
+    match (left, right) {
+        (Value::Null, Value::Null) => true,
+        (Value::Bool(left), Value::Bool(right)) => *left == *right,
+        (Value::Number(left), Value::Number(right)) => same_numbers(left, right),
+        (Value::String(left), Value::String(right)) => left.as_str() == right.as_str(),
+        (Value::Array(left), Value::Array(right)) => same_items(left, right),
+        (Value::Object(left), Value::Object(right)) => same_members(left, right),
+        _ => false,
+    }
+}
+
+/// Whether two numbers are held as integers and equal.
+fn same_numbers(left: &Number, right: &Number) -> bool
+    ensures { result ≡ same_amount (as_integer (number_view left.now)) (as_integer (number_view right.now)) }
+{
+    match (left.as_i128(), right.as_i128()) {
+        (Some(left), Some(right)) => left == right,
+        _ => false,
+    }
+}
+
+/// Whether two arrays are equal, item by item.
+#[cycle(same)]
+pub(crate) fn same_items(left: &Vec<Value>, right: &Vec<Value>) -> bool
+    ensures { result ≡ same_items_of (items_view left.now.items) (items_view right.now.items) }
+{
+    if left.len() != right.len() {
+        return false;
+    }
+    for (item, other) in left.iter().zip(right.iter()) {
+        if !same_values(item, other) {
+            return false;
+        }
+    }
+    true
+}
+
+/// Whether two objects are equal, by their names and values in order.
+#[cycle(same)]
+pub(crate) fn same_members(left: &Map<String, Value>, right: &Map<String, Value>) -> bool
+    ensures { result ≡ same_members_of (members_view left.now.entries) (members_view right.now.entries) }
+{
+    if left.len() != right.len() {
+        return false;
+    }
+    for ((name, value), (other_name, other)) in left.iter().zip(right.iter()) {
+        if name.as_str() != other_name.as_str() || !same_values(value, other) {
+            return false;
+        }
+    }
+    true
+}

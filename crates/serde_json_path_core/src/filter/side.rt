@@ -1,0 +1,81 @@
+//! What a comparison sees of its operands.
+
+ghost use Rattle.std.specs.Prelude.{◌≡◌};
+ghost use Rattle.serde_json.specs.Data.{number as number_data};
+ghost use Rattle.serde_json.specs.View.{view, number_view};
+ghost use Rattle.serde_json_path_core.specs.Compared.{amount_of, value as a_value, literal_compared};
+ghost use Rattle.serde_json_path_core.specs.Literals.{literal_view};
+ghost use Rattle.serde_json_path_core.specs.Operands.{operand_view};
+ghost use Rattle.serde_json_path_core.specs.Sides.{seen_of, side_view};
+
+use crate::filter::operand::Operand;
+use crate::syntax::literal::{Literal, ONE};
+use serde_json::{Map, Number, Value};
+
+/// What a comparison sees of an operand: the same of a literal and of a value that equals it.
+#[derive(Clone, Copy)]
+pub(crate) enum Side<'s> {
+    /// No value.
+    Nothing,
+    /// The value `null`.
+    Null,
+    /// A truth value.
+    Bool(bool),
+    /// A number: its billionths, or `None` for a value's number that is not held as an integer and equals none.
+    Amount(Option<i128>),
+    /// A text.
+    Text(&'s str),
+    /// An array.
+    Array(&'s Vec<Value>),
+    /// An object.
+    Object(&'s Map<String, Value>),
+}
+
+/// The billionths of a number that is held as an integer; another number has none.
+fn amount(number: &Number) -> Option<i128>
+    ensures { result ≡ amount_of (a_value (number_data (number_view number.now))) }
+{
+    match (number.as_i64(), number.as_u64()) {
+        (Some(whole), _) => Some(whole as i128 * ONE),
+        (None, Some(whole)) => Some(whole as i128 * ONE),
+        (None, None) => None,
+    }
+}
+
+/// The side of a value.
+fn side_of_value(value: &Value) -> Side<'_>
+    ensures { side_view result ≡ seen_of (a_value (view value.now)) }
+{
+    match value {
+        Value::Null => Side::Null,
+        Value::Bool(truth) => Side::Bool(*truth),
+        Value::Number(number) => Side::Amount(amount(number)),
+        Value::String(text) => Side::Text(text.as_str()),
+        Value::Array(items) => Side::Array(items),
+        Value::Object(members) => Side::Object(members),
+    }
+}
+
+/// The side of a literal.
+fn side_of_literal(literal: &Literal) -> Side<'_>
+    ensures { side_view result ≡ seen_of (literal_compared (literal_view literal.now)) }
+{
+    match literal {
+        Literal::String(text) => Side::Text(text.as_str()),
+        Literal::Number(number) => Side::Amount(Some(number.billionths)),
+        Literal::Bool(truth) => Side::Bool(*truth),
+        Literal::Null => Side::Null,
+    }
+}
+
+/// The side of an operand.
+pub(crate) fn side_of<'s>(operand: &'s Operand<'_, '_>) -> Side<'s>
+    ensures { side_view result ≡ seen_of (operand_view operand.now) }
+{
+    match operand {
+        Operand::Nothing => Side::Nothing,
+        Operand::Literal(literal) => side_of_literal(literal),
+        Operand::Node(value) => side_of_value(value),
+        Operand::Made(value) => side_of_value(value),
+    }
+}
