@@ -1,4 +1,5 @@
 pub mod AnswerKinds
+pub mod BoundedParts
 pub mod Bounds
 pub mod Chains
 pub mod ChildSteps
@@ -10,6 +11,7 @@ pub mod Ends
 pub mod Growing
 pub mod Found
 pub mod Heights
+pub mod Joined
 pub mod InLists
 pub mod LastPlaces
 pub mod Listed
