@@ -17,6 +17,7 @@ pub mod LastPlaces
 pub mod Listed
 pub mod Lookups
 pub mod MapOrder
+pub mod MoreSignatures
 pub mod Moves
 pub mod NamedParts
 pub mod Negations

@@ -11,6 +11,8 @@ pub mod Meaning
 pub mod Typing
 pub mod Depth
 pub mod WellFormed
+pub mod Calls
+pub mod Used
 pub mod Text
 pub mod Piece
 pub mod SliceView
