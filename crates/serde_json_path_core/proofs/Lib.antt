@@ -34,5 +34,6 @@ pub mod Started
 pub mod Subtrees
 pub mod Tasks
 pub mod Turns
+pub mod Typings
 pub mod Uncalled
 mod Worked
