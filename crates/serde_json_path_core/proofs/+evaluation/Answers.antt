@@ -1,37 +1,31 @@
-use Rattle.std.proofs.Common.{◌≡◌, ℕ, ◌+◌, ◌<◌, ◌-◌, length, take, [], drop, None, option_map, refl, sym, subst, ap, ◌∙◌, arith}
+use Rattle.std.proofs.Common.{◌≡◌, ℕ, ◌+◌, ◌<◌, ◌-◌, length, take, [], drop, None, option_map, refl, sym, subst, ap, ◌∙◌, arith, ◌∷◌, ◌++◌, ◌||◌, ◌&&◌, get_or, IfOk, rules, filter as keep}
 use Rattle.serde_json.specs.Data.{Data}
 use Rattle.serde_json.specs.View.{view}
-use Rattle.serde_json_path_core.specs.Tree.{child, descendant}
+use Rattle.serde_json_path_nodes.specs.Place.{Step}
+use Rattle.serde_json_path_nodes.specs.Views.{node_value}
+use Rattle.serde_json_path_core.specs.Tree.{child, descendant, kind_of, segments_of}
 use Rattle.serde_json_path_core.specs.Functions.{FunctionSet, plain_functions}
 use Rattle.serde_json_path_core.specs.Cursors.{cursor_left}
-use Rattle.serde_json_path_core.specs.Flat.{segment_kind_view}
+use Rattle.serde_json_path_core.specs.Flat.{segment_kind_view, or_at, ors_in, ands_in, part_query, pieces, pieces_named}
 use Rattle.serde_json_path_core.specs.Scopes.{nodes_of, top_of}
 use Rattle.serde_json_path_core.specs.Places.{frame_of, frames_of, task_view}
-use Rattle.serde_json_path_core.specs.Rest.{rest_of, IsStack}
+use Rattle.serde_json_path_core.specs.Rest.{rest_of, IsStack, Frame, begun, stages}
 use Rattle.serde_json_path_core.specs.Advances.{Advances, IsDone, ComesTo}
 use Rattle.serde_json_path_core.specs.Stages.{choice_view, stage_at, stages_at}
 use Rattle.serde_json_path_core.specs.Views.{child_view}
-use Rattle.std.proofs.Common.{◌∷◌, ◌++◌, ◌||◌, ◌&&◌, get_or, IfOk, rules, filter as keep}
-use Rattle.serde_json_path_nodes.specs.Place.{Step}
-use Rattle.serde_json_path_nodes.specs.Views.{node_value}
-use Rattle.serde_json_path_core.specs.Tree.{kind_of, segments_of}
 use Rattle.serde_json_path_core.specs.Derivation.{start_of}
 use Rattle.serde_json_path_core.specs.Meaning.{first_value}
 use Rattle.serde_json_path_core.specs.Computed as computed
 use Rattle.serde_json_path_core.specs.Computed.{itself, results_from}
-use Rattle.serde_json_path_core.specs.Flat.{or_at, ors_in, ands_in, part_query, pieces, pieces_named}
 use Rattle.serde_json_path_core.specs.PartBounds.{parts_bound}
-use Rattle.serde_json_path_core.specs.Rest.{Frame, begun, stages}
-use Rattle.serde_json_path_core.proofs.BoundedParts.{within_get}
+use Rattle.serde_json_path_core.proofs.BoundedParts.{within_get, within_bound}
 use Rattle.serde_json_path_core.proofs.Joined.{or-part, and-part, keep-yes, keep-no, first-found}
-use Rattle.serde_json_path_core.proofs.Moves.{ends-trans}
+use Rattle.serde_json_path_core.proofs.Moves.{ends-trans, passes-start, passes-over, comes-onward, comes-down, done, chooses-none, chooses-some}
 use Rattle.serde_json_path_core.proofs.Started.{rest-started, results-parts}
 use Rattle.serde_json_path_core.proofs.Bounds.{below_length, past_length}
-use Rattle.serde_json_path_core.proofs.BoundedParts.{within_bound}
 use Rattle.serde_json_path_core.proofs.Chains.{IsTurn, turn-dropped, turn-moved}
 use Rattle.serde_json_path_core.proofs.Found.{found-none, found-some}
 use Rattle.serde_json_path_core.proofs.LastPlaces.{ends_with, sees_last, sees_last_two}
-use Rattle.serde_json_path_core.proofs.Moves.{passes-start, passes-over, comes-onward, comes-down, done, chooses-none, chooses-some}
 use Rattle.serde_json_path_core.proofs.StageLists.{drop-some, drop-none, get-within, missing, stages-from, stages-past}
 use Rattle.serde_json_path_core.proofs.+evaluation.Goals as goal
 
