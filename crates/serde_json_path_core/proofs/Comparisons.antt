@@ -15,10 +15,10 @@ use Rattle.serde_json_path_core.specs.Compared.{Compared, nothing, value, billio
 use Rattle.serde_json_path_core.specs.Computed.{same_amount, rising_amount, same_data, same_items, same_members, is_same, comes_before, compare}
 
 -- a test that fails decides what nothing proves
-never : Decides false ⊥
+pub never : Decides false ⊥
 never = (λ e. true≢false (sym e), λ h. absurd h)
 
-always : Decides true (Unit {0})
+pub always : Decides true (Unit {0})
 always = (λ e. tt, λ h. refl)
 
 Decides-int_lt : (a b : ℤ) → Decides (int_lt a b) (a <ℤ b)

@@ -3,13 +3,21 @@ use Rattle.std.proofs.Common.{◌≡◌, ℕ, zero, suc, ◌+◌, ◌<◌, List,
 use Rattle.std.specs.List.{AllByRecursion}
 use Rattle.std.proofs.lemmas.List.Elements.{recursion_from_All}
 use Rattle.std.proofs.lemmas.Grind.{common_steps}
-use Rattle.serde_json_path_core.specs.Tree.{query, long_hand}
-use Rattle.serde_json_path_core.specs.Piece.{Piece, a_query, a_segment}
+use Rattle.serde_json_path_core.specs.Tree as tree
+use Rattle.serde_json_path_core.specs.Literals.{operator_view}
+use Rattle.serde_json_path_core.specs.Piece.{Piece, a_query, a_segment, a_selector, an_or, an_and, a_basic, a_comparable}
 use Rattle.serde_json_path_core.specs.declared.syntax.node.Node.{Node}
 use Rattle.serde_json_path_core.specs.declared.syntax.node.Node.TheVariants as node
+use Rattle.serde_json_path_core.specs.declared.syntax.node.Segment as segments
 use Rattle.serde_json_path_core.specs.declared.syntax.node.Segment.TheVariants.{DotName, DotWildcard, LongHand}
+use Rattle.serde_json_path_core.specs.declared.syntax.node.Selector as selectors
+use Rattle.serde_json_path_core.specs.declared.syntax.node.Selector.TheVariants as one
+use Rattle.serde_json_path_core.specs.declared.syntax.node.Basic as basics
+use Rattle.serde_json_path_core.specs.declared.syntax.node.Basic.TheVariants.{Paren, NotParen, Relation, Exist, NotExist}
+use Rattle.serde_json_path_core.specs.declared.syntax.node.Comparable as comparables
+use Rattle.serde_json_path_core.specs.declared.syntax.node.Comparable.TheVariants as side
 use Rattle.serde_json_path_core.specs.declared.syntax.node.Part.{Part}
-use Rattle.serde_json_path_core.specs.Flat.{kind_view, segment_kind_view, no_piece, segments_in, selectors_in, piece_in, pieces_named, piece_of, pieces_from, pieces, piece_at, NamesBelow, IsGrown}
+use Rattle.serde_json_path_core.specs.Flat.{kind_view, segment_kind_view, no_piece, query_in, or_in, comparable_in, segments_in, selectors_in, ors_in, ands_in, piece_in, pieces_named, segment_of, selector_of, basic_of, comparable_of, piece_of, pieces_from, pieces, piece_at, segment_numbers, selector_numbers, basic_numbers, comparable_numbers, numbers_of, NamesBelow, IsGrown}
 
 pieces_from-push : (earlier : List Piece) (nodes : List Node) (n : Node) → pieces_from earlier (nodes ++ n ∷ []) ≡ pieces_from earlier nodes ++ piece_of (pieces_from earlier nodes) n ∷ []
 pieces_from-push earlier [] n = refl
@@ -32,14 +40,46 @@ same_named a b bound f [] h = refl
 same_named a b bound f (part ∷ parts) h =
     ap (λ piece. piece ∷ pieces_named a parts) (f part.number h.0) ∙ ap (λ more. piece_in b part.number ∷ more) (same_named a b bound f parts h.1)
 
+module _ (a b : List Piece) (bound : ℕ) (f : (i : ℕ) → i < bound → piece_in a i ≡ piece_in b i) where
+  abbrev AreBelow : List ℕ → Type 0
+  AreBelow numbers = AllByRecursion (λ i. i < bound) numbers
+
+  same_segment : (seg : segments.Segment) → AreBelow (segment_numbers seg) → segment_of a seg ≡ segment_of b seg
+  same_segment (LongHand parts) h = ap (λ named. tree.long_hand (selectors_in named)) (same_named a b bound f parts.items h)
+  same_segment (DotName k) h = refl
+  same_segment DotWildcard h = refl
+
+  same_selector : (sel : selectors.Selector) → AreBelow (selector_numbers sel) → selector_of a sel ≡ selector_of b sel
+  same_selector (one.Filter part) h = ap (λ piece. tree.filter (or_in piece)) (f part.number h.0)
+  same_selector (one.Name k) h = refl
+  same_selector one.Wildcard h = refl
+  same_selector (one.Index i) h = refl
+  same_selector (one.Slice s) h = refl
+
+  same_basic : (e : basics.Basic) → AreBelow (basic_numbers e) → basic_of a e ≡ basic_of b e
+  same_basic (Paren part) h = ap (λ piece. tree.paren (or_in piece)) (f part.number h.0)
+  same_basic (NotParen part) h = ap (λ piece. tree.not_paren (or_in piece)) (f part.number h.0)
+  same_basic (Relation left operator right) h =
+      ap (λ piece. tree.relation (comparable_in piece) (operator_view operator) (comparable_in (piece_in a right.number))) (f left.number h.0)
+      ∙ ap (λ piece. tree.relation (comparable_in (piece_in b left.number)) (operator_view operator) (comparable_in piece)) (f right.number h.1.0)
+  same_basic (Exist part) h = ap (λ piece. tree.exist (query_in piece)) (f part.number h.0)
+  same_basic (NotExist part) h = ap (λ piece. tree.not_exist (query_in piece)) (f part.number h.0)
+
+  same_comparable : (c : comparables.Comparable) → AreBelow (comparable_numbers c) → comparable_of a c ≡ comparable_of b c
+  same_comparable (side.Literal l) h = refl
+  same_comparable (side.Singular part) h = ap (λ piece. tree.singular (query_in piece)) (f part.number h.0)
+
+  same_by_recursion : (n : Node) → AreBelow (numbers_of n) → piece_of a n ≡ piece_of b n
+  same_by_recursion (node.Query start parts) h = ap (λ named. a_query (tree.query (kind_view start) (segments_in named))) (same_named a b bound f parts.items h)
+  same_by_recursion (node.Segment kind seg) h = ap (a_segment (segment_kind_view kind)) (same_segment seg h)
+  same_by_recursion (node.Selector sel) h = ap a_selector (same_selector sel h)
+  same_by_recursion (node.LogicalOr parts) h = ap (λ named. an_or (ors_in named)) (same_named a b bound f parts.items h)
+  same_by_recursion (node.LogicalAnd parts) h = ap (λ named. an_and (ands_in named)) (same_named a b bound f parts.items h)
+  same_by_recursion (node.Basic e) h = ap a_basic (same_basic e h)
+  same_by_recursion (node.Comparable c) h = ap a_comparable (same_comparable c h)
+
 same_piece : (a b : List Piece) (bound : ℕ) → ((i : ℕ) → i < bound → piece_in a i ≡ piece_in b i) → (n : Node) → NamesBelow bound n → piece_of a n ≡ piece_of b n
-same_piece a b bound f (node.Query start parts) h =
-    ap (λ named. a_query (query (kind_view start) (segments_in named))) (same_named a b bound f parts.items (recursion_from_All (λ i. i < bound) _ h))
-same_piece a b bound f (node.Segment kind (LongHand parts)) h =
-    ap (λ named. a_segment (segment_kind_view kind) (long_hand (selectors_in named))) (same_named a b bound f parts.items (recursion_from_All (λ i. i < bound) _ h))
-same_piece a b bound f (node.Segment kind (DotName name)) h = refl
-same_piece a b bound f (node.Segment kind DotWildcard) h = refl
-same_piece a b bound f (node.Selector sel) h = refl
+same_piece a b bound f n h = same_by_recursion a b bound f n (recursion_from_All (λ i. i < bound) (numbers_of n) h)
 
 piece_from : (earlier : List Piece) (nodes : List Node) (i : ℕ) (d : Node) → ((k : ℕ) → k < length nodes → NamesBelow (length earlier + k) (get_or nodes k d)) → i < length nodes
     → piece_in (pieces_from earlier nodes) (length earlier + i) ≡ piece_of (pieces_from earlier nodes) (get_or nodes i d)

@@ -1,4 +1,5 @@
 pub mod AnswerKinds
+pub mod BoundedParts
 pub mod Bounds
 pub mod Chains
 pub mod ChildSteps
@@ -10,11 +11,13 @@ pub mod Ends
 pub mod Growing
 pub mod Found
 pub mod Heights
+pub mod Joined
 pub mod InLists
 pub mod LastPlaces
 pub mod Listed
 pub mod Lookups
 pub mod MapOrder
+pub mod MoreSignatures
 pub mod Moves
 pub mod NamedParts
 pub mod Negations
@@ -31,5 +34,6 @@ pub mod Started
 pub mod Subtrees
 pub mod Tasks
 pub mod Turns
+pub mod Typings
 pub mod Uncalled
 mod Worked

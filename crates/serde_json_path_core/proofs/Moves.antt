@@ -24,7 +24,7 @@ AreOf v cs = All (IsChildOf v) cs
 ends-refl : {A : Type 0} (xs : List A) → EndsIn xs xs
 ends-refl xs = ([], refl)
 
-ends-trans : {A : Type 0} (xs ys zs : List A) → EndsIn xs ys → EndsIn ys zs → EndsIn xs zs
+pub ends-trans : {A : Type 0} (xs ys zs : List A) → EndsIn xs ys → EndsIn ys zs → EndsIn xs zs
 ends-trans xs ys zs a b = (a.0 ++ b.0, a.1 ∙ ap (λ more. a.0 ++ more) b.1 ∙ sym (append_assoc a.0 b.0 zs))
 
 all-end : {A : Type 0} (P : A → Type 0) (front xs : List A) → All P (front ++ xs) → All P xs

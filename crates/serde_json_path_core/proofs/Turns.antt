@@ -34,7 +34,7 @@ work-dropped all ps p stage more d =
     let tasks_of = flat_map of_task (frame_tasks unfiltered stage p) in
     let left = visit_stack unfiltered {A = ℕ} (0 ∷ 0 ∷ []) (λ n. 0 ∷ []) all [] ps in
     let marks : length (visit_stack unfiltered {A = ℕ} (0 ∷ 0 ∷ []) (λ n. 0 ∷ []) all [] (ps ++ p ∷ [])) ≡ length tasks_of + length left =
-    ap length (drops unfiltered (0 ∷ 0 ∷ []) (λ n. 0 ∷ []) all ps p stage more d) ∙ length-append tasks_of left in
+    ap length {y = tasks_of ++ left} (drops unfiltered (0 ∷ 0 ∷ []) (λ n. 0 ∷ []) all ps p stage more d) ∙ length-append tasks_of left in
     let places : length (ps ++ p ∷ []) ≡ length ps + 1 = length-append ps (p ∷ []) in
     omega arith
 
@@ -49,7 +49,7 @@ work-moved all ps p m q stage more front number c d t ms mk qs qk qz qv ql =
     let passed = flat_map of_task front in
     let left = visit_stack unfiltered {A = ℕ} (0 ∷ 0 ∷ []) (λ n. 0 ∷ []) all [] ((ps ++ m ∷ []) ++ q ∷ []) in
     let marks : length (visit_stack unfiltered {A = ℕ} (0 ∷ 0 ∷ []) (λ n. 0 ∷ []) all [] (ps ++ p ∷ [])) ≡ length passed + (2 + length left) =
-    ap length (moves unfiltered (0 ∷ 0 ∷ []) (λ n. 0 ∷ []) all ps p m q stage more front number c d t ms mk qs qk qz qv ql) ∙ length-append passed (0 ∷ 0 ∷ left) ∙ omega arith in
+    ap length {y = passed ++ (0 ∷ 0 ∷ left)} (moves unfiltered (0 ∷ 0 ∷ []) (λ n. 0 ∷ []) all ps p m q stage more front number c d t ms mk qs qk qz qv ql) ∙ length-append passed (0 ∷ 0 ∷ left) ∙ omega arith in
     let before : length (ps ++ p ∷ []) ≡ length ps + 1 = length-append ps (p ∷ []) in
     let after : length ((ps ++ m ∷ []) ++ q ∷ []) ≡ length ps + 2 = length-append (ps ++ m ∷ []) (q ∷ []) ∙ ap (λ k. k + 1) (length-append ps (m ∷ [])) ∙ omega arith in
     omega arith

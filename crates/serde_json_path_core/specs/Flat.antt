@@ -1,15 +1,20 @@
 -- The trees of a vector of nodes, each of which names earlier ones.
 use Rattle.std.specs.Prelude.{ℕ, ◌<◌, List, [], ◌∷◌, ◌++◌, length, map, slice_index_or, string_bytes, Option, Some, None}
 use Rattle.std.specs.List.{All}
-use Rattle.serde_json_path_core.specs.Tree.{QueryKind, root, current, SegmentKind, child, descendant, Query, query, Segments, no_segments, segment, Segment, dot_name, dot_wildcard, long_hand, Selectors, no_selectors, selector, Selector, name, wildcard, index, slice}
+use Rattle.serde_json_path_core.specs.Tree.{QueryKind, root, current, SegmentKind, child, descendant, Query, query, Segments, no_segments, segment, Segment, dot_name, dot_wildcard, long_hand, Selectors, no_selectors, selector, Selector, name, wildcard, index, slice, filter, LogicalOr, no_or, or, LogicalAnd, no_and, and, Basic, paren, not_paren, relation, exist, not_exist, Comparable, literal, singular, null}
 use Rattle.serde_json_path_core.specs.SliceView.{slice_view}
-use Rattle.serde_json_path_core.specs.Piece.{Piece, a_query, a_segment, a_selector}
+use Rattle.serde_json_path_core.specs.Literals.{literal_view, operator_view}
+use Rattle.serde_json_path_core.specs.Piece.{Piece, a_query, a_segment, a_selector, an_or, an_and, a_basic, a_comparable}
 use Rattle.serde_json_path_core.specs.declared.syntax.node.Node.{Node}
 use Rattle.serde_json_path_core.specs.declared.syntax.node.Node.TheVariants as node
 use Rattle.serde_json_path_core.specs.declared.syntax.node.Segment as segments
 use Rattle.serde_json_path_core.specs.declared.syntax.node.Segment.TheVariants.{DotName, DotWildcard, LongHand}
 use Rattle.serde_json_path_core.specs.declared.syntax.node.Selector as selectors
 use Rattle.serde_json_path_core.specs.declared.syntax.node.Selector.TheVariants as one
+use Rattle.serde_json_path_core.specs.declared.syntax.node.Basic as basics
+use Rattle.serde_json_path_core.specs.declared.syntax.node.Basic.TheVariants.{Paren, NotParen, Relation, Exist, NotExist}
+use Rattle.serde_json_path_core.specs.declared.syntax.node.Comparable as comparables
+use Rattle.serde_json_path_core.specs.declared.syntax.node.Comparable.TheVariants as side
 use Rattle.serde_json_path_core.specs.declared.syntax.node.Part.{Part}
 use Rattle.serde_json_path_core.specs.declared.syntax.node.QueryKind as kind
 use Rattle.serde_json_path_core.specs.declared.syntax.node.QueryKind.TheVariants.{Root, Current}
@@ -47,6 +52,22 @@ abbrev pub selector_in : Piece → Selector
 selector_in (a_selector sel) = sel
 selector_in _ = wildcard
 
+abbrev pub or_in : Piece → LogicalOr
+or_in (an_or e) = e
+or_in _ = no_or
+
+abbrev pub and_in : Piece → LogicalAnd
+and_in (an_and e) = e
+and_in _ = no_and
+
+abbrev pub basic_in : Piece → Basic
+basic_in (a_basic b) = b
+basic_in _ = paren no_or
+
+abbrev pub comparable_in : Piece → Comparable
+comparable_in (a_comparable c) = c
+comparable_in _ = literal null
+
 abbrev pub segments_in : List Piece → Segments
 segments_in [] = no_segments
 segments_in (piece ∷ more) = segment (segment_kind_in piece) (segment_in piece) (segments_in more)
@@ -54,6 +75,14 @@ segments_in (piece ∷ more) = segment (segment_kind_in piece) (segment_in piece
 abbrev pub selectors_in : List Piece → Selectors
 selectors_in [] = no_selectors
 selectors_in (piece ∷ more) = selector (selector_in piece) (selectors_in more)
+
+abbrev pub ors_in : List Piece → LogicalOr
+ors_in [] = no_or
+ors_in (piece ∷ more) = or (and_in piece) (ors_in more)
+
+abbrev pub ands_in : List Piece → LogicalAnd
+ands_in [] = no_and
+ands_in (piece ∷ more) = and (basic_in piece) (ands_in more)
 
 -- ---- nodes
 
@@ -70,17 +99,33 @@ segment_of earlier (DotName k) = dot_name (string_bytes k)
 segment_of earlier DotWildcard = dot_wildcard
 segment_of earlier (LongHand parts) = long_hand (selectors_in (pieces_named earlier parts.items))
 
-abbrev pub selector_of : selectors.Selector → Selector
-selector_of (one.Name k) = name (string_bytes k)
-selector_of one.Wildcard = wildcard
-selector_of (one.Index i) = index i
-selector_of (one.Slice s) = slice (slice_view s)
+abbrev pub selector_of : List Piece → selectors.Selector → Selector
+selector_of earlier (one.Name k) = name (string_bytes k)
+selector_of earlier one.Wildcard = wildcard
+selector_of earlier (one.Index i) = index i
+selector_of earlier (one.Slice s) = slice (slice_view s)
+selector_of earlier (one.Filter part) = filter (or_in (piece_in earlier part.number))
+
+abbrev pub basic_of : List Piece → basics.Basic → Basic
+basic_of earlier (Paren part) = paren (or_in (piece_in earlier part.number))
+basic_of earlier (NotParen part) = not_paren (or_in (piece_in earlier part.number))
+basic_of earlier (Relation left operator right) = relation (comparable_in (piece_in earlier left.number)) (operator_view operator) (comparable_in (piece_in earlier right.number))
+basic_of earlier (Exist part) = exist (query_in (piece_in earlier part.number))
+basic_of earlier (NotExist part) = not_exist (query_in (piece_in earlier part.number))
+
+abbrev pub comparable_of : List Piece → comparables.Comparable → Comparable
+comparable_of earlier (side.Literal l) = literal (literal_view l)
+comparable_of earlier (side.Singular part) = singular (query_in (piece_in earlier part.number))
 
 -- the piece that a node makes of earlier ones
 abbrev pub piece_of : List Piece → Node → Piece
 piece_of earlier (node.Query start parts) = a_query (query (kind_view start) (segments_in (pieces_named earlier parts.items)))
 piece_of earlier (node.Segment kind seg) = a_segment (segment_kind_view kind) (segment_of earlier seg)
-piece_of earlier (node.Selector sel) = a_selector (selector_of sel)
+piece_of earlier (node.Selector sel) = a_selector (selector_of earlier sel)
+piece_of earlier (node.LogicalOr parts) = an_or (ors_in (pieces_named earlier parts.items))
+piece_of earlier (node.LogicalAnd parts) = an_and (ands_in (pieces_named earlier parts.items))
+piece_of earlier (node.Basic b) = a_basic (basic_of earlier b)
+piece_of earlier (node.Comparable c) = a_comparable (comparable_of earlier c)
 
 abbrev pub pieces_from : List Piece → List Node → List Piece
 pieces_from earlier [] = earlier
@@ -92,11 +137,27 @@ pieces nodes = pieces_from [] nodes
 abbrev pub piece_at : List Node → ℕ → Piece
 piece_at nodes number = piece_in (pieces nodes) number
 
+abbrev pub or_at : List Node → Part → LogicalOr
+or_at nodes part = or_in (piece_at nodes part.number)
+
+abbrev pub and_at : List Node → Part → LogicalAnd
+and_at nodes part = and_in (piece_at nodes part.number)
+
+abbrev pub basic_at : List Node → Part → Basic
+basic_at nodes part = basic_in (piece_at nodes part.number)
+
+abbrev pub comparable_at : List Node → Part → Comparable
+comparable_at nodes part = comparable_in (piece_at nodes part.number)
+
 -- the segments of so many parts
 abbrev pub segments_at : List Node → List Part → Segments
 segments_at nodes parts = segments_in (pieces_named (pieces nodes) parts)
 
--- the query of a part, or `$` without segments
+-- the query of a part
+abbrev pub part_query : List Node → Part → Query
+part_query nodes part = query_in (piece_at nodes part.number)
+
+-- the same, or `$` without segments
 abbrev pub query_at : List Node → Option Part → Query
 query_at nodes None = query root no_segments
 query_at nodes (Some part) = query_in (piece_at nodes part.number)
@@ -106,13 +167,38 @@ query_at nodes (Some part) = query_in (piece_at nodes part.number)
 abbrev pub numbers : List Part → List ℕ
 numbers parts = map (λ (part : Part). part.number) parts
 
+abbrev pub segment_numbers : segments.Segment → List ℕ
+segment_numbers (LongHand parts) = numbers parts.items
+segment_numbers (DotName k) = []
+segment_numbers DotWildcard = []
+
+abbrev pub selector_numbers : selectors.Selector → List ℕ
+selector_numbers (one.Filter part) = part.number ∷ []
+selector_numbers (one.Name k) = []
+selector_numbers one.Wildcard = []
+selector_numbers (one.Index i) = []
+selector_numbers (one.Slice s) = []
+
+abbrev pub basic_numbers : basics.Basic → List ℕ
+basic_numbers (Paren part) = part.number ∷ []
+basic_numbers (NotParen part) = part.number ∷ []
+basic_numbers (Relation left operator right) = left.number ∷ right.number ∷ []
+basic_numbers (Exist part) = part.number ∷ []
+basic_numbers (NotExist part) = part.number ∷ []
+
+abbrev pub comparable_numbers : comparables.Comparable → List ℕ
+comparable_numbers (side.Literal l) = []
+comparable_numbers (side.Singular part) = part.number ∷ []
+
 -- the numbers that a node names
 abbrev pub numbers_of : Node → List ℕ
 numbers_of (node.Query start parts) = numbers parts.items
-numbers_of (node.Segment kind (LongHand parts)) = numbers parts.items
-numbers_of (node.Segment kind (DotName k)) = []
-numbers_of (node.Segment kind DotWildcard) = []
-numbers_of (node.Selector sel) = []
+numbers_of (node.Segment kind seg) = segment_numbers seg
+numbers_of (node.Selector sel) = selector_numbers sel
+numbers_of (node.LogicalOr parts) = numbers parts.items
+numbers_of (node.LogicalAnd parts) = numbers parts.items
+numbers_of (node.Basic b) = basic_numbers b
+numbers_of (node.Comparable c) = comparable_numbers c
 
 -- the node names numbers below the bound alone
 abbrev pub NamesBelow : ℕ → Node → Type 0

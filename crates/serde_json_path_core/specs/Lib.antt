@@ -11,10 +11,14 @@ pub mod Meaning
 pub mod Typing
 pub mod Depth
 pub mod WellFormed
+pub mod Calls
+pub mod Used
 pub mod Text
 pub mod Piece
 pub mod SliceView
+pub mod Literals
 pub mod Flat
+pub mod PartBounds
 pub mod Parts
 pub mod Selected
 pub mod Computed
@@ -25,9 +29,9 @@ pub mod Advances
 pub mod Stages
 pub mod Courses
 pub mod Cursors
+pub mod Scopes
 pub mod Places
 pub mod Walks
-pub mod Literals
 pub mod Operands
 pub mod Sides
 pub mod Laws

@@ -12,10 +12,10 @@ use Rattle.serde_json_path_core.specs.declared.evaluation.resume.Walk.{Walk}
 
 -- the query, the document's root, and the value where the walk began
 abbrev pub query_of : Walk → Query
-query_of w = tree_of w.query.now
+query_of w = tree_of w.scope.query.now
 
 abbrev pub document_of : Walk → Data
-document_of w = view w.root.now
+document_of w = view w.scope.root.now
 
 abbrev pub beginning_of : Walk → Data
 beginning_of w = view w.start.now

@@ -4,6 +4,7 @@ pub(crate) mod course;
 pub(crate) mod cursor;
 pub(crate) mod place;
 pub(crate) mod resume;
+pub(crate) mod scope;
 pub(crate) mod stack;
 
 ghost use Rattle.std.specs.Prelude.{◌≡◌, List, IfOk, IfErr, map};
@@ -22,6 +23,7 @@ ghost use Rattle.serde_json_path_core.specs.declared.error.QueryError.TheVariant
 use crate::error::QueryError;
 use crate::evaluation::place::Place;
 use crate::evaluation::resume::Walk;
+use crate::evaluation::scope::Scope;
 use crate::syntax::checked::Checked;
 use crate::syntax::node::QueryKind;
 use serde_json::Value;
@@ -29,7 +31,7 @@ use serde_json_path_nodes::{LocatedNodeList, NodeList};
 use std::alloc::Global;
 
 /// The value at which a query of that kind begins.
-fn start<'b>(kind: QueryKind, node: &'b Value, root: &'b Value) -> &'b Value
+pub(crate) fn start<'b>(kind: QueryKind, node: &'b Value, root: &'b Value) -> &'b Value
     ensures { view result.now ≡ start_of (kind_view kind) (view root.now) (view node.now) }
 {
     match kind {
@@ -56,10 +58,9 @@ pub fn walk<'q, 'b>(
     let start = start(query.kind(), node, root);
     let mut places = Vec::new(alloc);
     places.push(Place::start(query, query.segments(), start))?;
+    let scope = Scope { alloc, query, root };
     Ok(Walk {
-        alloc,
-        query,
-        root,
+        scope,
         start,
         places,
     })

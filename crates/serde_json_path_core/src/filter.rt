@@ -2,5 +2,6 @@
 
 pub(crate) mod compare;
 mod equality;
+pub(crate) mod logic;
 pub(crate) mod operand;
 mod side;

@@ -1,10 +1,12 @@
 //! Places of a walk: values where a segment is applied.
 
-ghost use Rattle.std.specs.Prelude.{◌≡◌, ◌+◌, ◌<◌, ◌^◌, None, Some, IfOk, IfErr, MatchOption, drop, length, option_map};
-ghost use Rattle.std.specs.List.{All};
-ghost use Rattle.serde_json.specs.Data.{Data};
+ghost use Rattle.std.specs.Prelude.{◌≡◌, ◌+◌, ◌<◌, ◌≤◌, ◌^◌, None, Some, IfOk, IfErr, MatchOption, drop, length, option_map};
 ghost use Rattle.serde_json.specs.View.{view};
+ghost use Rattle.serde_json_path_core.specs.Tree.{filter};
 ghost use Rattle.serde_json_path_core.specs.Functions.{FunctionSet};
+ghost use Rattle.serde_json_path_core.specs.Flat.{or_at};
+ghost use Rattle.serde_json_path_core.specs.PartBounds.{parts_bound, choice_bound};
+ghost use Rattle.serde_json_path_core.specs.Scopes.{nodes_of, top_of};
 ghost use Rattle.serde_json_path_core.specs.Cursors.{cursor_left};
 ghost use Rattle.serde_json_path_core.specs.Views.{child_view};
 ghost use Rattle.serde_json_path_core.specs.Rest.{candidates, opened, begun};
@@ -16,6 +18,8 @@ ghost use Rattle.serde_json_path_core.specs.declared.error.QueryError.TheVariant
 use crate::child::{Child, item, member};
 use crate::error::QueryError;
 use crate::evaluation::cursor::Cursor;
+use crate::evaluation::scope::Scope;
+use crate::filter::logic::is_true;
 use crate::syntax::checked::Checked;
 use crate::syntax::choice::Choice;
 use crate::syntax::node::{Part, SegmentKind};
@@ -48,14 +52,15 @@ pub(crate) struct Ahead<'b> {
 }
 
 /// The children that a selector chooses from.
-fn choose<'b>(choice: Choice<'_>, value: &'b Value) -> Cursor<'b>
-    ensures { cursor_left result ≡ candidates (choice_view choice.entry) (view value.now) }
+fn choose<'b>(query: &Checked, choice: Choice<'_>, value: &'b Value) -> Cursor<'b>
+    ensures { cursor_left result ≡ candidates (choice_view query.now.nodes.items choice.entry) (view value.now) }
 {
     match choice {
         Choice::Name(name) => Cursor::one(member(value, name)),
         Choice::Wildcard => Cursor::all(value),
         Choice::Index(index) => Cursor::one(item(value, index)),
         Choice::Slice(slice) => Cursor::slice(value, &slice),
+        Choice::Filter(_) => Cursor::all(value),
     }
 }
 
@@ -66,7 +71,7 @@ fn open<'b>(query: &Checked, segment: Part, selector: usize, value: &'b Value) -
         ≡ opened (stage_at query.now.nodes.items segment).kind (drop selector (stage_at query.now.nodes.items segment).selectors) (view value.now) }
 {
     match query.choice(segment, selector) {
-        Some(choice) => choose(choice, value),
+        Some(choice) => choose(query, choice, value),
         None => match query.segment_kind(segment) {
             SegmentKind::Child => Cursor::none(),
             SegmentKind::Descendant => Cursor::all(value),
@@ -76,7 +81,7 @@ fn open<'b>(query: &Checked, segment: Part, selector: usize, value: &'b Value) -
 
 /// The children with which the segment of that number begins.
 fn begin<'b>(query: &Checked, segments: &[Part], number: usize, value: &'b Value) -> Cursor<'b>
-    requires { All (λ part. part.number < length query.now.nodes.items) segments.now }
+    requires { parts_bound segments.now ≤ length query.now.nodes.items }
     ensures { cursor_left result ≡ begun (drop number (stages_at query.now.nodes.items segments.now)) (view value.now) }
 {
     match segments.get(number) {
@@ -88,7 +93,7 @@ fn begin<'b>(query: &Checked, segments: &[Part], number: usize, value: &'b Value
 impl<'b> Place<'b> {
     /// The place where a walk begins.
     pub(crate) fn start(query: &Checked, segments: &[Part], value: &'b Value) -> Place<'b>
-        requires { All (λ part. part.number < length query.now.nodes.items) segments.now }
+        requires { parts_bound segments.now ≤ length query.now.nodes.items }
         ensures { frame_of result ≡ record {
           step = None;
           value = view value.now;
@@ -108,7 +113,7 @@ impl<'b> Place<'b> {
 
     /// The place of a task.
     pub(crate) fn of(query: &Checked, segments: &[Part], task: Task<'b>) -> Place<'b>
-        requires { All (λ part. part.number < length query.now.nodes.items) segments.now }
+        requires { parts_bound segments.now ≤ length query.now.nodes.items }
         ensures { let c = child_view task.entry.child in
             frame_of result ≡ record {
               step = Some c.0;
@@ -142,53 +147,60 @@ impl<'b> Place<'b> {
     }
 
     /// Moves on to the next task, if one is left.
-    fn advance(&mut self, query: &Checked, segment: Part) -> Option<Task<'b>>
-        requires within { segment.number < length query.now.nodes.items }
+    #[cycle(evaluation)]
+    fn advance(
+        &mut self,
+        scope: &Scope<'_, 'b>,
+        segment: Part,
+    ) -> Result<Option<Task<'b>>, QueryError>
+        requires within { segment.number < length (nodes_of scope.now) }
         requires number { self.old.segment + 1 < 2 ^ 64 }
-        ensures { (F : FunctionSet) (top : Data)
-            → Advances (Unit {0}) F top (stage_at query.now.nodes.items segment) (frame_of self.old) (option_map task_view result) (frame_of self.new) }
+        ensures advances { (F : FunctionSet) → IfOk result (λ found.
+            Advances (Unit {0}) F (top_of scope.now) (stage_at (nodes_of scope.now) segment) (frame_of self.old) (option_map task_view found) (frame_of self.new)) }
+        ensures refused { IfErr result (λ e. e ≡ Memory) }
     {
-        while let Some(choice) = query.choice(segment, self.selector) {
-            match give(choice, &mut self.cursor) {
+        while let Some(choice) = scope.query.choice(segment, self.selector) {
+            match give(scope, choice, &mut self.cursor)? {
                 Some(child) => {
-                    return Some(Task {
+                    return Ok(Some(Task {
                         segment: self.segment + 1,
                         child,
-                    });
+                    }));
                 }
                 None => {
                     self.selector += 1;
-                    self.cursor = open(query, segment, self.selector, self.value);
+                    self.cursor = open(scope.query, segment, self.selector, self.value);
                 }
             }
         }
-        match query.segment_kind(segment) {
-            SegmentKind::Child => None,
+        match scope.query.segment_kind(segment) {
+            SegmentKind::Child => Ok(None),
             SegmentKind::Descendant => match self.cursor.advance() {
-                None => None,
-                Some(child) => Some(Task {
+                None => Ok(None),
+                Some(child) => Ok(Some(Task {
                     segment: self.segment,
                     child,
-                }),
+                })),
             },
         }
     }
 
     /// The next task, if one is left, and this place moved on to it; the place itself stays.
+    #[cycle(evaluation)]
     pub(crate) fn ahead(
         &self,
-        query: &Checked,
+        scope: &Scope<'_, 'b>,
         segment: Part,
     ) -> Result<Option<Ahead<'b>>, QueryError>
-        requires within { segment.number < length query.now.nodes.items }
+        requires within { segment.number < length (nodes_of scope.now) }
         requires number { self.now.segment + 1 < 2 ^ 64 }
+        ensures ahead { (F : FunctionSet) → IfOk result (λ ahead. MatchOption ahead
+            (IsDone (Unit {0}) F (top_of scope.now) (stage_at (nodes_of scope.now) segment) (frame_of self.now))
+            (λ a. ComesTo (Unit {0}) F (top_of scope.now) (stage_at (nodes_of scope.now) segment) (frame_of self.now) (task_view a.task) (frame_of a.place))) }
         ensures refused { IfErr result (λ e. e ≡ Memory) }
-        ensures ahead { IfOk result (λ ahead. MatchOption ahead
-            ((F : FunctionSet) (top : Data) → IsDone (Unit {0}) F top (stage_at query.now.nodes.items segment) (frame_of self.now))
-            (λ a. (F : FunctionSet) (top : Data) → ComesTo (Unit {0}) F top (stage_at query.now.nodes.items segment) (frame_of self.now) (task_view a.task) (frame_of a.place))) }
     {
         let mut place = self.try_clone()?;
-        match place.advance(query, segment) {
+        match place.advance(scope, segment)? {
             Some(task) => Ok(Some(Ahead { place, task })),
             None => Ok(None),
         }
@@ -196,13 +208,41 @@ impl<'b> Place<'b> {
 }
 
 /// The next child that the selector admits, if one is left.
-fn give<'b>(choice: Choice<'_>, cursor: &mut Cursor<'b>) -> Option<Child<'b>>
-    ensures { (F : FunctionSet) (top : Data)
-        → Chooses (Unit {0}) F top (choice_view choice.entry) (cursor_left cursor.old) (option_map child_view result) (cursor_left cursor.new) }
+#[cycle(evaluation)]
+fn give<'b>(
+    scope: &Scope<'_, 'b>,
+    choice: Choice<'_>,
+    cursor: &mut Cursor<'b>,
+) -> Result<Option<Child<'b>>, QueryError>
+    requires { choice_bound choice ≤ length (nodes_of scope.now) }
+    ensures chooses { (F : FunctionSet) → IfOk result (λ found.
+        Chooses (Unit {0}) F (top_of scope.now) (choice_view (nodes_of scope.now) choice.entry) (cursor_left cursor.old) (option_map child_view found) (cursor_left cursor.new)) }
+    ensures refused { IfErr result (λ e. e ≡ Memory) }
 {
     match choice {
+        Choice::Filter(test) => give_true(scope, test, cursor),
         Choice::Name(_) | Choice::Wildcard | Choice::Index(_) | Choice::Slice(_) => {
-            cursor.advance()
+            Ok(cursor.advance())
         }
     }
+}
+
+/// The next child for which a logical expression holds, if one is left.
+#[cycle(evaluation)]
+fn give_true<'b>(
+    scope: &Scope<'_, 'b>,
+    test: Part,
+    cursor: &mut Cursor<'b>,
+) -> Result<Option<Child<'b>>, QueryError>
+    requires { test.number < length (nodes_of scope.now) }
+    ensures chooses { (F : FunctionSet) → IfOk result (λ found.
+        Chooses (Unit {0}) F (top_of scope.now) (filter (or_at (nodes_of scope.now) test)) (cursor_left cursor.old) (option_map child_view found) (cursor_left cursor.new)) }
+    ensures refused { IfErr result (λ e. e ≡ Memory) }
+{
+    while let Some(child) = cursor.advance() {
+        if is_true(scope, test, child.value)? {
+            return Ok(Some(child));
+        }
+    }
+    Ok(None)
 }

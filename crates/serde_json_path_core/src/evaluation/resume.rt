@@ -6,11 +6,10 @@ ghost use Rattle.serde_json_path_core.specs.Places.{frames_of};
 
 use crate::error::QueryError;
 use crate::evaluation::place::Place;
+use crate::evaluation::scope::Scope;
 use crate::evaluation::stack::{drop_last, find_next, located_at};
-use crate::syntax::checked::Checked;
 use serde_json::Value;
 use serde_json_path_nodes::LocatedNode;
-use std::alloc::Global;
 
 /// The nodes that a query selects, one at a time, in order.
 ///
@@ -18,9 +17,7 @@ use std::alloc::Global;
 /// [`Walk::next`] that is refused changes nothing of what is still to come, and a later call goes on.
 #[derive(Drop)]
 pub struct Walk<'q, 'b> {
-    pub(crate) alloc: Global,
-    pub(crate) query: &'q Checked,
-    pub(crate) root: &'b Value,
+    pub(crate) scope: Scope<'q, 'b>,
     pub(crate) start: &'b Value,
     pub(crate) places: Vec<Place<'b>>,
     ghost stack: { ∥ IsStack (view start.now) (frames_of places.items) ∥₁ },
@@ -59,10 +56,10 @@ impl<'q, 'b> Walk<'q, 'b> {
         ensures unchanged { IfErr result (λ e. (F : FunctionSet) → rest F self.new ≡ rest F self.old) }
         ensures refused { IfErr result (λ e. e ≡ Memory) }
     {
-        match find_next(self.query, self.query.segments(), &mut self.places)? {
+        match find_next(&self.scope, self.scope.query.segments(), &mut self.places)? {
             None => Ok(None),
             Some(value) => {
-                let node = located_at(self.alloc, self.places.as_slice(), value)?;
+                let node = located_at(self.scope.alloc, self.places.as_slice(), value)?;
                 drop_last(&mut self.places);
                 Ok(Some(node))
             }
@@ -77,7 +74,7 @@ impl<'q, 'b> Walk<'q, 'b> {
             (λ value. (F : FunctionSet) → (node : Located) × (node.value ≡ view value.now) × (rest F self.old ≡ node ∷ rest F self.new))) }
         ensures refused { IfErr result (λ e. e ≡ Memory) }
     {
-        match find_next(self.query, self.query.segments(), &mut self.places)? {
+        match find_next(&self.scope, self.scope.query.segments(), &mut self.places)? {
             None => Ok(None),
             Some(value) => {
                 drop_last(&mut self.places);

@@ -1,11 +1,12 @@
 //! The stack of a walk's places, and its way to the next node.
 
-ghost use Rattle.std.specs.Prelude.{◌≡◌, ◌-◌, ◌<◌, [], ◌∷◌, ◌++◌, IfOk, IfErr, OnOk, OnErr, MatchOption, length, take};
-ghost use Rattle.std.specs.List.{All};
+ghost use Rattle.std.specs.Prelude.{◌≡◌, ◌-◌, ◌<◌, ◌≤◌, [], ◌∷◌, ◌++◌, IfOk, IfErr, OnOk, OnErr, MatchOption, length, take};
 ghost use Rattle.serde_json.specs.Data.{Data};
 ghost use Rattle.serde_json.specs.View.{view};
 ghost use Rattle.serde_json_path_nodes.specs.Views.{located};
 ghost use Rattle.serde_json_path_core.specs.Functions.{FunctionSet};
+ghost use Rattle.serde_json_path_core.specs.PartBounds.{parts_bound};
+ghost use Rattle.serde_json_path_core.specs.Scopes.{nodes_of, top_of};
 ghost use Rattle.serde_json_path_core.specs.Rest.{rest_of, stack_path, EndsAt, IsStack};
 ghost use Rattle.serde_json_path_core.specs.Stages.{stages_at};
 ghost use Rattle.serde_json_path_core.specs.Places.{frames_of};
@@ -13,7 +14,7 @@ ghost use Rattle.serde_json_path_core.specs.declared.error.QueryError.TheVariant
 
 use crate::error::QueryError;
 use crate::evaluation::place::Place;
-use crate::syntax::checked::Checked;
+use crate::evaluation::scope::Scope;
 use crate::syntax::node::Part;
 use serde_json::Value;
 use serde_json_path_nodes::{LocatedNode, NormalizedPath};
@@ -64,26 +65,27 @@ fn push_over<'b>(
 }
 
 /// Goes on until the last place is where the segments end, and answers its value; `None` where no place is left.
+#[cycle(evaluation)]
 pub(crate) fn find_next<'b>(
-    query: &Checked,
+    scope: &Scope<'_, 'b>,
     segments: &[Part],
     places: &mut Vec<Place<'b>>,
 ) -> Result<Option<&'b Value>, QueryError>
-    requires { All (λ part. part.number < length query.now.nodes.items) segments.now }
-    ensures rest { (F : FunctionSet) (top : Data)
-        → rest_of F top (stages_at query.now.nodes.items segments.now) (frames_of places.old.items) ≡ rest_of F top (stages_at query.now.nodes.items segments.now) (frames_of places.new.items) }
+    requires { parts_bound segments.now ≤ length (nodes_of scope.now) }
+    ensures rest { (F : FunctionSet)
+        → rest_of F (top_of scope.now) (stages_at (nodes_of scope.now) segments.now) (frames_of places.old.items) ≡ rest_of F (top_of scope.now) (stages_at (nodes_of scope.now) segments.now) (frames_of places.new.items) }
     ensures found { IfOk result (λ found. MatchOption found (places.new.items ≡ [])
-        (λ value. EndsAt (stages_at query.now.nodes.items segments.now) (frames_of places.new.items) (view value.now))) }
+        (λ value. EndsAt (stages_at (nodes_of scope.now) segments.now) (frames_of places.new.items) (view value.now))) }
     ensures stack { (start : Data) → IsStack start (frames_of places.old.items) → IsStack start (frames_of places.new.items) }
     ensures refused { IfErr result (λ e. e ≡ Memory) }
 {
     while let Some(last) = places.last() {
         match segments.get(last.segment) {
             None => return Ok(Some(last.value)),
-            Some(segment) => match last.ahead(query, *segment)? {
+            Some(segment) => match last.ahead(scope, *segment)? {
                 None => drop_last(places),
                 Some(ahead) => {
-                    let next = Place::of(query, segments, ahead.task);
+                    let next = Place::of(scope.query, segments, ahead.task);
                     push_over(places, ahead.place, next)?;
                 }
             },

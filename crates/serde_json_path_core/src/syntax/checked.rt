@@ -1,6 +1,6 @@
 //! Finished syntax trees.
 
-ghost use Rattle.std.specs.Prelude.{◌<◌, ◌≡◌, ◌+◌, ◌^◌, [], ◌∷◌, IsSome, length, option_map, slice_get};
+ghost use Rattle.std.specs.Prelude.{◌<◌, ◌≤◌, ◌≡◌, IfSome, ◌+◌, ◌^◌, [], ◌∷◌, IsSome, length, option_map, slice_get};
 ghost use Rattle.std.specs.Option.{ForSome};
 ghost use Rattle.serde_json_path_core.specs.Flat.{IsGrown};
 ghost use Rattle.serde_json_path_core.specs.Stages.{choice_view, stage_at};
@@ -23,9 +23,10 @@ pub struct Checked {
 impl Checked {
     ghost use Rattle.std.specs.List.{All};
     ghost use Rattle.serde_json_path_core.specs.Tree.{query, root, no_segments, kind_of, segments_of};
-    ghost use Rattle.serde_json_path_core.specs.Flat.{kind_view, segment_kind_view, query_in, selector_in, selectors_in, piece_at, piece_of, pieces, pieces_named, segments_at, NamesBelow};
+    ghost use Rattle.serde_json_path_core.specs.Flat.{or_at, ors_in, and_at, ands_in, part_query, kind_view, segment_kind_view, query_in, selector_in, selectors_in, piece_at, piece_of, pieces, pieces_named, segments_at, NamesBelow};
     ghost use Rattle.serde_json_path_core.specs.Rest.{selectors_list};
     ghost use Rattle.serde_json_path_core.specs.Parts.{tree_of};
+    ghost use Rattle.serde_json_path_core.specs.PartBounds.{parts_bound, choice_bound};
 
     /// The query `$` without segments. Takes no memory.
     pub fn new(alloc: Global) -> Checked
@@ -64,24 +65,65 @@ impl Checked {
     {
         match self.query {
             None => QueryKind::Root,
-            Some(part) => match self.node(part) {
-                Node::Query { kind, .. } => *kind,
-                _ => QueryKind::Root,
-            },
+            Some(part) => self.part_kind(part),
         }
     }
 
     /// The query's segments, in order.
     pub(crate) fn segments(&self) -> &[Part]
         ensures tree { segments_at self.now.nodes.items result.now ≡ segments_of (tree_of self.now) }
-        ensures within { All (λ part. part.number < length self.now.nodes.items) result.now }
+        ensures within { parts_bound result.now ≤ length self.now.nodes.items }
     {
         match self.query {
             None => &[],
-            Some(part) => match self.node(part) {
-                Node::Query { segments, .. } => segments.as_slice(),
-                _ => &[],
-            },
+            Some(part) => self.part_segments(part),
+        }
+    }
+
+    /// Where the query of a part begins.
+    pub(crate) fn part_kind(&self, query: Part) -> QueryKind
+        requires { query.number < length self.now.nodes.items }
+        ensures { kind_view result ≡ kind_of (part_query self.now.nodes.items query) }
+    {
+        match self.node(query) {
+            Node::Query { kind, .. } => *kind,
+            _ => QueryKind::Root,
+        }
+    }
+
+    /// The segments of the query of a part, in order.
+    pub(crate) fn part_segments(&self, query: Part) -> &[Part]
+        requires { query.number < length self.now.nodes.items }
+        ensures tree { segments_at self.now.nodes.items result.now ≡ segments_of (part_query self.now.nodes.items query) }
+        ensures below { parts_bound result.now ≤ query.number }
+    {
+        match self.node(query) {
+            Node::Query { segments, .. } => segments.as_slice(),
+            _ => &[],
+        }
+    }
+
+    /// What a logical expression is joined of by `||`.
+    pub(crate) fn or_parts(&self, expression: Part) -> &[Part]
+        requires { expression.number < length self.now.nodes.items }
+        ensures tree { or_at self.now.nodes.items expression ≡ ors_in (pieces_named (pieces self.now.nodes.items) result.now) }
+        ensures below { parts_bound result.now ≤ expression.number }
+    {
+        match self.node(expression) {
+            Node::LogicalOr(parts) => parts.as_slice(),
+            _ => &[],
+        }
+    }
+
+    /// What a part of a logical expression is joined of by `&&`.
+    pub(crate) fn and_parts(&self, expression: Part) -> &[Part]
+        requires { expression.number < length self.now.nodes.items }
+        ensures tree { and_at self.now.nodes.items expression ≡ ands_in (pieces_named (pieces self.now.nodes.items) result.now) }
+        ensures below { parts_bound result.now ≤ expression.number }
+    {
+        match self.node(expression) {
+            Node::LogicalAnd(parts) => parts.as_slice(),
+            _ => &[],
         }
     }
 
@@ -99,7 +141,8 @@ impl Checked {
     /// The selector in brackets of that part.
     fn selector(&self, part: Part) -> Choice<'_>
         requires { part.number < length self.now.nodes.items }
-        ensures { choice_view result ≡ selector_in (piece_at self.now.nodes.items part.number) }
+        ensures choice { choice_view self.now.nodes.items result ≡ selector_in (piece_at self.now.nodes.items part.number) }
+        ensures below { choice_bound result ≤ part.number }
     {
         match self.node(part) {
             Node::Selector(selector) => match selector {
@@ -107,6 +150,7 @@ impl Checked {
                 Selector::Wildcard => Choice::Wildcard,
                 Selector::Index(index) => Choice::Index(*index),
                 Selector::Slice(slice) => Choice::Slice(*slice),
+                Selector::Filter(test) => Choice::Filter(*test),
             },
             _ => Choice::Wildcard,
         }
@@ -114,9 +158,10 @@ impl Checked {
 
     /// The selector of that number among those in brackets, from 0.
     fn bracketed(&self, selectors: &[Part], number: usize) -> Option<Choice<'_>>
-        requires { All (λ part. part.number < length self.now.nodes.items) selectors.now }
+        requires { parts_bound selectors.now ≤ length self.now.nodes.items }
         ensures more { IsSome result → number + 1 < 2 ^ 64 }
-        ensures choice { option_map choice_view result ≡ slice_get (selectors_list (selectors_in (pieces_named (pieces self.now.nodes.items) selectors.now))) number }
+        ensures below { IfSome result (λ choice. choice_bound choice ≤ parts_bound selectors.now) }
+        ensures choice { option_map (choice_view self.now.nodes.items) result ≡ slice_get (selectors_list (selectors_in (pieces_named (pieces self.now.nodes.items) selectors.now))) number }
     {
         match selectors.get(number) {
             Some(part) => Some(self.selector(*part)),
@@ -128,7 +173,8 @@ impl Checked {
     pub(crate) fn choice(&self, segment: Part, number: usize) -> Option<Choice<'_>>
         requires { segment.number < length self.now.nodes.items }
         ensures more { IsSome result → number + 1 < 2 ^ 64 }
-        ensures choice { option_map choice_view result ≡ slice_get (stage_at self.now.nodes.items segment).selectors number }
+        ensures below { IfSome result (λ choice. choice_bound choice ≤ segment.number) }
+        ensures choice { option_map (choice_view self.now.nodes.items) result ≡ slice_get (stage_at self.now.nodes.items segment).selectors number }
     {
         match self.node(segment) {
             Node::Segment { segment, .. } => match segment {
@@ -143,8 +189,9 @@ impl Checked {
 
 /// The selector of that number where there is but one.
 fn only<'q>(choice: Choice<'q>, number: usize) -> Option<Choice<'q>>
+    ensures same { IfSome result (λ given. given ≡ choice.entry) }
     ensures more { IsSome result → number + 1 < 2 ^ 64 }
-    ensures choice { option_map choice_view result ≡ slice_get (choice_view choice.entry ∷ []) number }
+    ensures choice { result ≡ slice_get (choice.entry ∷ []) number }
 {
     if number == 0 { Some(choice) } else { None }
 }

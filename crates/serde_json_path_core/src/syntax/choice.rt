@@ -1,5 +1,6 @@
 //! Selectors, wherever they stand.
 
+use crate::syntax::node::Part;
 use crate::syntax::slice::Slice;
 
 /// What one selector of a segment chooses, be it behind dots or in brackets.
@@ -13,4 +14,6 @@ pub(crate) enum Choice<'q> {
     Index(i64),
     /// The items at some positions.
     Slice(Slice),
+    /// The children for which the logical expression of that part holds.
+    Filter(Part),
 }

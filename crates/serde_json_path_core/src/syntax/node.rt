@@ -1,5 +1,7 @@
 //! The nodes of a syntax tree.
 
+use crate::syntax::literal::Literal;
+use crate::syntax::operator::ComparisonOperator;
 use crate::syntax::slice::Slice;
 
 /// Where a query begins (RFC 9535, sections 2.2.1 and 2.3.5.1).
@@ -48,6 +50,36 @@ pub(crate) enum Selector {
     Index(i64),
     /// The items at some positions.
     Slice(Slice),
+    /// The children for which a logical expression holds.
+    Filter(Part),
+}
+
+/// What a logical expression is joined of by `&&`; `!` stands before the negated forms.
+#[derive(Debug, Drop)]
+pub(crate) enum Basic {
+    /// A logical expression in parentheses.
+    Paren(Part),
+    /// The same behind `!`.
+    NotParen(Part),
+    /// A comparison of two comparables.
+    Relation {
+        left: Part,
+        operator: ComparisonOperator,
+        right: Part,
+    },
+    /// A test whether a query selects a node.
+    Exist(Part),
+    /// The same behind `!`.
+    NotExist(Part),
+}
+
+/// A side of a comparison.
+#[derive(Debug, Drop)]
+pub(crate) enum Comparable {
+    /// A literal.
+    Literal(Literal),
+    /// A singular query.
+    Singular(Part),
 }
 
 /// One node of a syntax tree; it names nodes that were made before it.
@@ -65,4 +97,12 @@ pub(crate) enum Node {
     },
     /// A selector.
     Selector(Selector),
+    /// Parts joined by `||`.
+    LogicalOr(Vec<Part>),
+    /// Parts joined by `&&`.
+    LogicalAnd(Vec<Part>),
+    /// A part of an expression that is joined by `&&`.
+    Basic(Basic),
+    /// A side of a comparison.
+    Comparable(Comparable),
 }

@@ -11,14 +11,14 @@ returns-in-Some c =
     let stage = stage_at c.args.query.now.nodes.items c.args.segment in
     c.choose.ensures
     ∙ sym (ap (λ sels. opened stage.kind sels (view c.args.value.now))
-    (drop-some stage.selectors c.args.selector (choice_view c.in-Some.choice) (sym (ap (option_map choice_view) (sym c.in-Some.is) ∙ c.choice.ensures.choice))))
+    (drop-some stage.selectors c.args.selector (choice_view c.args.query.now.nodes.items c.in-Some.choice) (sym (ap (option_map (choice_view c.args.query.now.nodes.items)) (sym c.in-Some.is) ∙ c.choice.ensures.choice))))
 
 pub returns-in-Child : goal.returns-in-Child
 returns-in-Child c =
     let stage = stage_at c.args.query.now.nodes.items c.args.segment in
     c.none.ensures
     ∙ sym (ap (λ sels. opened stage.kind sels (view c.args.value.now))
-    (drop-none stage.selectors c.args.selector (sym (ap (option_map choice_view) (sym c.in-None.is) ∙ c.choice.ensures.choice)))
+    (drop-none stage.selectors c.args.selector (sym (ap (option_map (choice_view c.args.query.now.nodes.items)) (sym c.in-None.is) ∙ c.choice.ensures.choice)))
     ∙ ap (λ kind. opened kind [] (view c.args.value.now)) (sym c.segment_kind.ensures ∙ ap segment_kind_view c.in-Child.is))
 
 pub returns-in-Descendant : goal.returns-in-Descendant
@@ -26,5 +26,5 @@ returns-in-Descendant c =
     let stage = stage_at c.args.query.now.nodes.items c.args.segment in
     c.all.ensures
     ∙ sym (ap (λ sels. opened stage.kind sels (view c.args.value.now))
-    (drop-none stage.selectors c.args.selector (sym (ap (option_map choice_view) (sym c.in-None.is) ∙ c.choice.ensures.choice)))
+    (drop-none stage.selectors c.args.selector (sym (ap (option_map (choice_view c.args.query.now.nodes.items)) (sym c.in-None.is) ∙ c.choice.ensures.choice)))
     ∙ ap (λ kind. opened kind [] (view c.args.value.now)) (sym c.segment_kind.ensures ∙ ap segment_kind_view c.in-Descendant.is))

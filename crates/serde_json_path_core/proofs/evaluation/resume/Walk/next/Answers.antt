@@ -23,48 +23,48 @@ invariant_of-self-in-Some c =
     let ends = found-some _ _ c.in_ok-find_next.field-0 c.in-Some.value c.in-Some.is c.in_ok-find_next.ensures.found in
     record {
       stack = ∥∥₁_map w.stack (λ h.
-          stack-dropped (stages_at w.query.now.nodes.items c.segments.result.now) c.find_next.new.places.items (view c.in-Some.value.now) ends (view w.start.now) c.drop_last.new.places.items c.drop_last.ensures
+          stack-dropped (stages_at w.scope.query.now.nodes.items c.segments.result.now) c.find_next.new.places.items (view c.in-Some.value.now) ends (view w.start.now) c.drop_last.new.places.items c.drop_last.ensures
           (c.find_next.ensures.stack (view w.start.now) h));
     }
 
 pub drop_last-requires : goal.drop_last-requires
 drop_last-requires c =
     let ends = found-some _ _ c.in_ok-find_next.field-0 c.in-Some.value c.in-Some.is c.in_ok-find_next.ensures.found in
-    has-last (stages_at c.args.self.now.query.now.nodes.items c.segments.result.now) c.find_next.new.places.items (view c.in-Some.value.now) ends
+    has-last (stages_at c.args.self.now.scope.query.now.nodes.items c.segments.result.now) c.find_next.new.places.items (view c.in-Some.value.now) ends
 
 pub returns-in_err-find_next-clause-unchanged : goal.returns-in_err-find_next-clause-unchanged
 returns-in_err-find_next-clause-unchanged c =
     let w = c.args.self.now in
     if-err _ c.from_residual.result
-    (λ F. sym (ap (λ segs. rest_of F (view w.root.now) (stages segs) (frames_of w.places.items)) (sym c.segments.ensures.tree)
-    ∙ c.find_next.ensures.rest F (view w.root.now) ∙ ap (λ segs. rest_of F (view w.root.now) (stages segs) (frames_of c.find_next.new.places.items)) c.segments.ensures.tree))
+    (λ F. sym (ap (λ segs. rest_of F (view w.scope.root.now) (stages segs) (frames_of w.places.items)) (sym c.segments.ensures.tree)
+    ∙ c.find_next.ensures.rest F ∙ ap (λ segs. rest_of F (view w.scope.root.now) (stages segs) (frames_of c.find_next.new.places.items)) c.segments.ensures.tree))
 
 pub returns-in_err-node-in-Some-clause-unchanged : goal.returns-in_err-node-in-Some-clause-unchanged
 returns-in_err-node-in-Some-clause-unchanged c =
     let w = c.args.self.now in
     if-err _ c.from_residual-in_err-node-in-Some.result
-    (λ F. sym (ap (λ segs. rest_of F (view w.root.now) (stages segs) (frames_of w.places.items)) (sym c.segments.ensures.tree)
-    ∙ c.find_next.ensures.rest F (view w.root.now) ∙ ap (λ segs. rest_of F (view w.root.now) (stages segs) (frames_of c.find_next.new.places.items)) c.segments.ensures.tree))
+    (λ F. sym (ap (λ segs. rest_of F (view w.scope.root.now) (stages segs) (frames_of w.places.items)) (sym c.segments.ensures.tree)
+    ∙ c.find_next.ensures.rest F ∙ ap (λ segs. rest_of F (view w.scope.root.now) (stages segs) (frames_of c.find_next.new.places.items)) c.segments.ensures.tree))
 
 pub returns-in-None-clause-given : goal.returns-in-None-clause-given
 returns-in-None-clause-given c =
     let w = c.args.self.now in
     let none = ap frames_of (found-none _ _ c.in_ok-find_next.field-0 c.in-None.is c.in_ok-find_next.ensures.found) in
     λ F. (
-      ap (λ segs. rest_of F (view w.root.now) (stages segs) (frames_of w.places.items)) (sym c.segments.ensures.tree)
-          ∙ c.find_next.ensures.rest F (view w.root.now) ∙ ap (rest_of F (view w.root.now) (stages_at w.query.now.nodes.items c.segments.result.now)) none,
-      ap (rest_of F (view w.root.now) (stages (segments_of (query_of w)))) none,
+      ap (λ segs. rest_of F (view w.scope.root.now) (stages segs) (frames_of w.places.items)) (sym c.segments.ensures.tree)
+          ∙ c.find_next.ensures.rest F ∙ ap (rest_of F (view w.scope.root.now) (stages_at w.scope.query.now.nodes.items c.segments.result.now)) none,
+      ap (rest_of F (view w.scope.root.now) (stages (segments_of (query_of w)))) none,
     )
 
 pub returns-in_ok-node-in-Some-clause-given : goal.returns-in_ok-node-in-Some-clause-given
 returns-in_ok-node-in-Some-clause-given c =
     let w = c.args.self.now in
-    let all = stages_at w.query.now.nodes.items c.segments.result.now in
+    let all = stages_at w.scope.query.now.nodes.items c.segments.result.now in
     let left = c.drop_last.new.places.items in
     let ends = found-some _ _ c.in_ok-find_next.field-0 c.in-Some.value c.in-Some.is c.in_ok-find_next.ensures.found in
     let node = c.in_ok-node-in-Some.ensures.node ∙ ap (λ places. record { location = stack_path [] (frames_of places); value = view c.in-Some.value.now }) c.as_slice.ensures.value in
     λ F.
-    ap (λ segs. rest_of F (view w.root.now) (stages segs) (frames_of w.places.items)) (sym c.segments.ensures.tree)
-    ∙ c.find_next.ensures.rest F (view w.root.now) ∙ rest-ends all c.find_next.new.places.items (view c.in-Some.value.now) ends F (view w.root.now) left c.drop_last.ensures
-    ∙ ap (λ n. n ∷ rest_of F (view w.root.now) all (frames_of left)) (sym node)
-    ∙ ap (λ segs. located c.in_ok-node-in-Some.node ∷ rest_of F (view w.root.now) (stages segs) (frames_of left)) c.segments.ensures.tree
+    ap (λ segs. rest_of F (view w.scope.root.now) (stages segs) (frames_of w.places.items)) (sym c.segments.ensures.tree)
+    ∙ c.find_next.ensures.rest F ∙ rest-ends all c.find_next.new.places.items (view c.in-Some.value.now) ends F (view w.scope.root.now) left c.drop_last.ensures
+    ∙ ap (λ n. n ∷ rest_of F (view w.scope.root.now) all (frames_of left)) (sym node)
+    ∙ ap (λ segs. located c.in_ok-node-in-Some.node ∷ rest_of F (view w.scope.root.now) (stages segs) (frames_of left)) c.segments.ensures.tree
