@@ -35,3 +35,4 @@ pub mod Tasks
 pub mod Turns
 pub mod Uncalled
 mod Worked
+pub mod Written

@@ -16,8 +16,12 @@ use std::alloc::Global;
 use std::test::Fail;
 
 /// The part of one segment more: a name behind a dot, or an index in brackets.
-fn part_of(alloc: Global, builder: &mut SyntaxBuilder, segment: &str) -> Result<Part, Fail>
-    ensures made { IfOk result (λ part. (seg : tree.Segment) × IsPart builder.new part (a_segment tree.child seg)) }
+fn part_of(
+    alloc: Global,
+    builder: &mut SyntaxBuilder,
+    segment: &str,
+) -> Result<Part, Fail>
+    ensures made { IfOk result (λ part. (seg : tree.Segment) × IsPart builder.new part (a_segment tree.child seg) × tree.IsSingularSegment seg) }
     ensures keeps { KeepsParts builder.old builder.new }
 {
     match segment.strip_prefix(".") {
