@@ -5,12 +5,12 @@ use Rattle.std.specs.declared.alloc.AllocError.{AllocError}
 use Rattle.std.specs.List.{All, AllByRecursion}
 use Rattle.std.proofs.lemmas.List.Elements.{All-from_recursion, recursion_from_All}
 use Rattle.serde_json_path_core.specs.Tree as tree
-use Rattle.serde_json_path_core.specs.Piece.{Piece, a_query, a_segment}
+use Rattle.serde_json_path_core.specs.Piece.{Piece, a_query, a_segment, an_or, an_and}
 use Rattle.serde_json_path_core.specs.declared.syntax.node.Part.{Part}
 use Rattle.serde_json_path_core.specs.declared.syntax.builder.SyntaxBuilder.{SyntaxBuilder}
-use Rattle.serde_json_path_core.specs.Flat.{piece_in, pieces, pieces_named, selector_in, segments_in, selectors_in, numbers}
+use Rattle.serde_json_path_core.specs.Flat.{piece_in, pieces, pieces_named, selector_in, segments_in, selectors_in, ors_in, ands_in, numbers}
 use Rattle.serde_json_path_core.specs.Rest.{selectors_list}
-use Rattle.serde_json_path_core.specs.Parts.{IsPart, ArePartsFor, ArePartsOf, AreSelectorsOf, KeepsParts, segment_pieces, selector_pieces}
+use Rattle.serde_json_path_core.specs.Parts.{IsPart, ArePartsFor, ArePartsOf, AreSelectorsOf, AreOrPartsOf, AreAndPartsOf, KeepsParts, segment_pieces, selector_pieces, or_pieces, and_pieces}
 
 below_by_recursion : (builder : SyntaxBuilder) (parts : List Part) (ps : List Piece) → ArePartsFor builder parts ps → AllByRecursion (λ number. number < length builder.nodes.items) (numbers parts)
 below_by_recursion builder [] [] h = tt
@@ -70,6 +70,64 @@ long_hand_of_parts old new kind parts made h =
     for_each new made (AreSelectorsOf old parts) (λ sels part. IsPart new part (a_segment kind (tree.long_hand sels)))
     (λ sels named. subst (λ ss. IfOk made (λ part. IsPart new part (a_segment kind (tree.long_hand ss)))) (selectors_are sels)
     (made_of_parts old new parts (λ ps. a_segment kind (tree.long_hand (selectors_in ps))) made h (selector_pieces sels) (selectors_for old parts sels named)))
+
+ors_are : (e : tree.LogicalOr) → ors_in (or_pieces e) ≡ e
+ors_are tree.no_or = refl
+ors_are (tree.or e more) = ap (tree.or e) (ors_are more)
+
+ands_are : (e : tree.LogicalAnd) → ands_in (and_pieces e) ≡ e
+ands_are tree.no_and = refl
+ands_are (tree.and e more) = ap (tree.and e) (ands_are more)
+
+-- the parts of a logical expression stand for their pieces
+pub or_parts_for : (builder : SyntaxBuilder) (parts : List Part) (e : tree.LogicalOr) → AreOrPartsOf builder parts e → ArePartsFor builder parts (or_pieces e)
+or_parts_for builder [] e h = absurd h
+or_parts_for builder (part ∷ parts) e h = h
+
+pub and_parts_for : (builder : SyntaxBuilder) (parts : List Part) (e : tree.LogicalAnd) → AreAndPartsOf builder parts e → ArePartsFor builder parts (and_pieces e)
+and_parts_for builder [] e h = absurd h
+and_parts_for builder (part ∷ parts) e h = h
+
+-- an expression made of the parts' pieces is that of what is joined
+pub or_of_parts : (old new : SyntaxBuilder) (parts : List Part) (made : Result Part AllocError)
+    → IfOk made (λ part. IsPart new part (an_or (ors_in (pieces_named (pieces old.nodes.items) parts))))
+    → IfOk made (λ part. (e : tree.LogicalOr) → AreOrPartsOf old parts e → IsPart new part (an_or e))
+or_of_parts old new parts made h =
+    for_each new made (AreOrPartsOf old parts) (λ e part. IsPart new part (an_or e))
+    (λ e named. subst (λ joined. IfOk made (λ part. IsPart new part (an_or joined))) (ors_are e)
+    (made_of_parts old new parts (λ ps. an_or (ors_in ps)) made h (or_pieces e) (or_parts_for old parts e named)))
+
+pub and_of_parts : (old new : SyntaxBuilder) (parts : List Part) (made : Result Part AllocError)
+    → IfOk made (λ part. IsPart new part (an_and (ands_in (pieces_named (pieces old.nodes.items) parts))))
+    → IfOk made (λ part. (e : tree.LogicalAnd) → AreAndPartsOf old parts e → IsPart new part (an_and e))
+and_of_parts old new parts made h =
+    for_each new made (AreAndPartsOf old parts) (λ e part. IsPart new part (an_and e))
+    (λ e named. subst (λ joined. IfOk made (λ part. IsPart new part (an_and joined))) (ands_are e)
+    (made_of_parts old new parts (λ ps. an_and (ands_in ps)) made h (and_pieces e) (and_parts_for old parts e named)))
+
+-- the number of one good part, and those of two
+pub one_below : (builder : SyntaxBuilder) (part : Part) (piece : Piece) → IsPart builder part piece → All (λ number. number < length builder.nodes.items) (part.number ∷ [])
+one_below builder part piece h = All-from_recursion (λ number. number < length builder.nodes.items) (part.number ∷ []) (h.0, tt)
+
+pub two_below : (builder : SyntaxBuilder) (left right : Part) (a b : Piece) → IsPart builder left a → IsPart builder right b
+    → All (λ number. number < length builder.nodes.items) (left.number ∷ right.number ∷ [])
+two_below builder left right a b first second = All-from_recursion (λ number. number < length builder.nodes.items) (left.number ∷ right.number ∷ []) (first.0, (second.0, tt))
+
+-- a part made of one part's piece is made of what that part stands for
+pub made_of_part : {A : Type 0} (old new : SyntaxBuilder) (named : Part) (piece_for : A → Piece) (make : Piece → Piece) (made : Result Part AllocError)
+    → IfOk made (λ part. IsPart new part (make (piece_in (pieces old.nodes.items) named.number)))
+    → IfOk made (λ part. (x : A) → IsPart old named (piece_for x) → IsPart new part (make (piece_for x)))
+made_of_part old new named piece_for make (Ok part) h = λ x is. subst (λ piece. IsPart new part (make piece)) is.1 h
+made_of_part old new named piece_for make (Err e) h = tt
+
+-- the same of two parts
+pub made_of_two : {A : Type 0} (old new : SyntaxBuilder) (left right : Part) (piece_for : A → Piece) (make : Piece → Piece → Piece) (made : Result Part AllocError)
+    → IfOk made (λ part. IsPart new part (make (piece_in (pieces old.nodes.items) left.number) (piece_in (pieces old.nodes.items) right.number)))
+    → IfOk made (λ part. (x y : A) → IsPart old left (piece_for x) → IsPart old right (piece_for y) → IsPart new part (make (piece_for x) (piece_for y)))
+made_of_two old new left right piece_for make (Ok part) h = λ x y first second.
+    subst (λ piece. IsPart new part (make (piece_for x) piece)) second.1
+    (subst (λ piece. IsPart new part (make piece (piece_in (pieces old.nodes.items) right.number))) first.1 h)
+made_of_two old new left right piece_for make (Err e) h = tt
 
 -- parts whose numbers are below a bound are below a greater one
 pub parts_below : (parts : List Part) (low high : ℕ) → low ≤ high → All (λ number. number < low) (numbers parts) → All (λ (part : Part). part.number < high) parts

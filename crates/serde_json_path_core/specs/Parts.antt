@@ -1,7 +1,7 @@
 -- The parts that a builder has made and the finished tree, as contracts see them.
 use Rattle.std.specs.Prelude.{◌≡◌, ◌<◌, List, [], ◌∷◌, length}
-use Rattle.serde_json_path_core.specs.Tree.{Query, Segments, no_segments, segment, Selectors, no_selectors, selector}
-use Rattle.serde_json_path_core.specs.Piece.{Piece, a_segment, a_selector}
+use Rattle.serde_json_path_core.specs.Tree.{Query, Segments, no_segments, segment, Selectors, no_selectors, selector, LogicalOr, no_or, or, LogicalAnd, no_and, and}
+use Rattle.serde_json_path_core.specs.Piece.{Piece, a_segment, a_selector, an_and, a_basic}
 use Rattle.serde_json_path_core.specs.Flat.{piece_at, query_at}
 use Rattle.serde_json_path_core.specs.declared.syntax.node.Part.{Part}
 use Rattle.serde_json_path_core.specs.declared.syntax.builder.SyntaxBuilder.{SyntaxBuilder}
@@ -30,6 +30,15 @@ abbrev pub selector_pieces : Selectors → List Piece
 selector_pieces no_selectors = []
 selector_pieces (selector sel more) = a_selector sel ∷ selector_pieces more
 
+-- the pieces of what is joined by `||`, and by `&&`
+abbrev pub or_pieces : LogicalOr → List Piece
+or_pieces no_or = []
+or_pieces (or e more) = an_and e ∷ or_pieces more
+
+abbrev pub and_pieces : LogicalAnd → List Piece
+and_pieces no_and = []
+and_pieces (and e more) = a_basic e ∷ and_pieces more
+
 -- the parts stand for the segments, one for each
 abbrev pub ArePartsOf : SyntaxBuilder → List Part → Segments → Type 0
 ArePartsOf builder parts segs = ArePartsFor builder parts (segment_pieces segs)
@@ -38,6 +47,16 @@ ArePartsOf builder parts segs = ArePartsFor builder parts (segment_pieces segs)
 abbrev pub AreSelectorsOf : SyntaxBuilder → List Part → Selectors → Type 0
 AreSelectorsOf builder [] sels = ⊥
 AreSelectorsOf builder (part ∷ parts) sels = ArePartsFor builder (part ∷ parts) (selector_pieces sels)
+
+-- the parts stand for what is joined by `||`, of which there is one at least
+abbrev pub AreOrPartsOf : SyntaxBuilder → List Part → LogicalOr → Type 0
+AreOrPartsOf builder [] e = ⊥
+AreOrPartsOf builder (part ∷ parts) e = ArePartsFor builder (part ∷ parts) (or_pieces e)
+
+-- the parts stand for what is joined by `&&`, of which there is one at least
+abbrev pub AreAndPartsOf : SyntaxBuilder → List Part → LogicalAnd → Type 0
+AreAndPartsOf builder [] e = ⊥
+AreAndPartsOf builder (part ∷ parts) e = ArePartsFor builder (part ∷ parts) (and_pieces e)
 
 -- each part stays good, with its tree
 abbrev pub KeepsParts : SyntaxBuilder → SyntaxBuilder → Type 0

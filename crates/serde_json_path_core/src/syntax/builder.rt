@@ -3,7 +3,11 @@
 ghost use Rattle.serde_json_path_core.specs.Flat.{IsGrown};
 
 use crate::syntax::checked::Checked;
-use crate::syntax::node::{Node, Part, QueryKind, Segment, SegmentKind, Selector};
+use crate::syntax::literal::Literal;
+use crate::syntax::node::{
+    Basic, Comparable, Node, Part, QueryKind, Segment, SegmentKind, Selector,
+};
+use crate::syntax::operator::ComparisonOperator;
 use crate::syntax::slice::Slice;
 use std::alloc::{AllocError, Global};
 
@@ -20,11 +24,12 @@ pub struct SyntaxBuilder {
 impl SyntaxBuilder {
     ghost use Rattle.std.specs.Prelude.{◌≡◌, IfOk, string_bytes, length};
     ghost use Rattle.serde_json_path_core.specs.Tree as tree;
-    ghost use Rattle.serde_json_path_core.specs.Piece.{a_query, a_segment, a_selector};
+    ghost use Rattle.serde_json_path_core.specs.Literals.{literal_view, operator_view};
+    ghost use Rattle.serde_json_path_core.specs.Piece.{a_query, a_segment, a_selector, an_or, an_and, a_basic, a_comparable};
     ghost use Rattle.serde_json_path_core.specs.WellFormed.{IsOptionalInteger};
     ghost use Rattle.serde_json_path_core.specs.Flat.{kind_view, segment_kind_view, NamesBelow, piece_of, pieces};
     ghost use Rattle.serde_json_path_core.specs.SliceView.{slice_view};
-    ghost use Rattle.serde_json_path_core.specs.Parts.{HasNoParts, IsPart, ArePartsOf, AreSelectorsOf, KeepsParts, tree_of};
+    ghost use Rattle.serde_json_path_core.specs.Parts.{HasNoParts, IsPart, ArePartsOf, AreSelectorsOf, AreOrPartsOf, AreAndPartsOf, KeepsParts, tree_of};
 
     /// A builder that has made no part yet. Takes no memory.
     pub fn new(alloc: Global) -> SyntaxBuilder
@@ -115,6 +120,116 @@ impl SyntaxBuilder {
         ensures keeps { KeepsParts self.old self.new }
     {
         self.push(Node::Selector(Selector::Slice(slice)))
+    }
+
+    /// A filter selector `?`, of the children for which a logical expression holds (RFC 9535, section 2.3.5).
+    pub fn filter(&mut self, test: Part) -> Result<Part, AllocError>
+        requires { (e : tree.LogicalOr) × IsPart self.old test (an_or e) }
+        ensures made { IfOk result (λ part. (e : tree.LogicalOr) → IsPart self.old test (an_or e)
+            → IsPart self.new part (a_selector (tree.filter e))) }
+        ensures keeps { KeepsParts self.old self.new }
+    {
+        self.push(Node::Selector(Selector::Filter(test)))
+    }
+
+    /// The logical expression of these parts, in order, with `||` between them (RFC 9535, section 2.3.5.1). There is
+    /// one at least.
+    pub fn logical_or(&mut self, parts: Vec<Part>) -> Result<Part, AllocError>
+        requires { (e : tree.LogicalOr) × AreOrPartsOf self.old parts.items e }
+        ensures made { IfOk result (λ part. (e : tree.LogicalOr) → AreOrPartsOf self.old parts.items e
+            → IsPart self.new part (an_or e)) }
+        ensures keeps { KeepsParts self.old self.new }
+    {
+        self.push(Node::LogicalOr(parts))
+    }
+
+    /// The part of a logical expression with `&&` between these parts, in order (RFC 9535, section 2.3.5.1). There is
+    /// one at least.
+    pub fn logical_and(&mut self, parts: Vec<Part>) -> Result<Part, AllocError>
+        requires { (e : tree.LogicalAnd) × AreAndPartsOf self.old parts.items e }
+        ensures made { IfOk result (λ part. (e : tree.LogicalAnd) → AreAndPartsOf self.old parts.items e
+            → IsPart self.new part (an_and e)) }
+        ensures keeps { KeepsParts self.old self.new }
+    {
+        self.push(Node::LogicalAnd(parts))
+    }
+
+    /// A logical expression in parentheses, as `(@.a || @.b)` (RFC 9535, section 2.3.5.1).
+    pub fn paren(&mut self, inner: Part) -> Result<Part, AllocError>
+        requires { (e : tree.LogicalOr) × IsPart self.old inner (an_or e) }
+        ensures made { IfOk result (λ part. (e : tree.LogicalOr) → IsPart self.old inner (an_or e)
+            → IsPart self.new part (a_basic (tree.paren e))) }
+        ensures keeps { KeepsParts self.old self.new }
+    {
+        self.push(Node::Basic(Basic::Paren(inner)))
+    }
+
+    /// A logical expression in parentheses behind `!`, as `!(@.a || @.b)` (RFC 9535, section 2.3.5.1).
+    pub fn not_paren(&mut self, inner: Part) -> Result<Part, AllocError>
+        requires { (e : tree.LogicalOr) × IsPart self.old inner (an_or e) }
+        ensures made { IfOk result (λ part. (e : tree.LogicalOr) → IsPart self.old inner (an_or e)
+            → IsPart self.new part (a_basic (tree.not_paren e))) }
+        ensures keeps { KeepsParts self.old self.new }
+    {
+        self.push(Node::Basic(Basic::NotParen(inner)))
+    }
+
+    /// The test whether a query selects a node, as `@.a` (RFC 9535, section 2.3.5.1).
+    pub fn exist(&mut self, query: Part) -> Result<Part, AllocError>
+        requires { (q : tree.Query) × IsPart self.old query (a_query q) }
+        ensures made { IfOk result (λ part. (q : tree.Query) → IsPart self.old query (a_query q)
+            → IsPart self.new part (a_basic (tree.exist q))) }
+        ensures keeps { KeepsParts self.old self.new }
+    {
+        self.push(Node::Basic(Basic::Exist(query)))
+    }
+
+    /// The test whether a query selects no node, as `!@.a` (RFC 9535, section 2.3.5.1).
+    pub fn not_exist(&mut self, query: Part) -> Result<Part, AllocError>
+        requires { (q : tree.Query) × IsPart self.old query (a_query q) }
+        ensures made { IfOk result (λ part. (q : tree.Query) → IsPart self.old query (a_query q)
+            → IsPart self.new part (a_basic (tree.not_exist q))) }
+        ensures keeps { KeepsParts self.old self.new }
+    {
+        self.push(Node::Basic(Basic::NotExist(query)))
+    }
+
+    /// A comparison, as `@.a < 1` (RFC 9535, section 2.3.5.1).
+    pub fn relation(
+        &mut self,
+        left: Part,
+        operator: ComparisonOperator,
+        right: Part,
+    ) -> Result<Part, AllocError>
+        requires left { (a : tree.Comparable) × IsPart self.old left (a_comparable a) }
+        requires right { (b : tree.Comparable) × IsPart self.old right (a_comparable b) }
+        ensures made { IfOk result (λ part. (a b : tree.Comparable) → IsPart self.old left (a_comparable a) → IsPart self.old right (a_comparable b)
+            → IsPart self.new part (a_basic (tree.relation a (operator_view operator) b))) }
+        ensures keeps { KeepsParts self.old self.new }
+    {
+        self.push(Node::Basic(Basic::Relation {
+            left,
+            operator,
+            right,
+        }))
+    }
+
+    /// A literal as a side of a comparison (RFC 9535, section 2.3.5.1).
+    pub fn literal(&mut self, literal: Literal) -> Result<Part, AllocError>
+        ensures made { IfOk result (λ part. IsPart self.new part (a_comparable (tree.literal (literal_view literal)))) }
+        ensures keeps { KeepsParts self.old self.new }
+    {
+        self.push(Node::Comparable(Comparable::Literal(literal)))
+    }
+
+    /// A singular query as a side of a comparison, as `@.a[0]` (RFC 9535, section 2.3.5.1).
+    pub fn singular(&mut self, query: Part) -> Result<Part, AllocError>
+        requires { (q : tree.Query) × IsPart self.old query (a_query q) × tree.IsSingular q }
+        ensures made { IfOk result (λ part. (q : tree.Query) → IsPart self.old query (a_query q)
+            → IsPart self.new part (a_comparable (tree.singular q))) }
+        ensures keeps { KeepsParts self.old self.new }
+    {
+        self.push(Node::Comparable(Comparable::Singular(query)))
     }
 
     /// A query of these segments, in order.
