@@ -153,6 +153,17 @@ fn selects_descendants(rt: HostRuntime) -> Result<(), Fail> {
             both,
             r#"$['a'][0] 5;$['a'][1] 3;$['a'][2][0] {"j":4};$['a'][2][1] {"k":6};"#,
         ),
+    ];
+    for (segments, document, want) in rows {
+        let text = selected(rt.alloc(), segments, document)?;
+        assert_eq!(rt; text.as_str(), want, "{segments} of {document}");
+    }
+    Ok(())
+}
+
+#[test]
+fn keeps_each_descendant_that_is_selected_again(rt: HostRuntime) -> Result<(), Fail> {
+    let rows = [
         (
             "..[0,-1]",
             "[[1]]",
