@@ -37,3 +37,4 @@ pub mod Turns
 pub mod Typings
 pub mod Uncalled
 mod Worked
+pub mod Written

@@ -3,9 +3,11 @@
 mod building;
 mod comparisons;
 mod cursor;
+mod filters;
 mod functions;
 mod queries;
 mod walks;
+mod written;
 
 use crate::QueryError;
 use std::test::Fail;
