@@ -15,7 +15,7 @@ ghost use Rattle.serde_json_path_core.specs.Tree.{kind_of};
 ghost use Rattle.serde_json_path_core.specs.Functions.{FunctionSet};
 ghost use Rattle.serde_json_path_core.specs.Derivation.{start_of};
 ghost use Rattle.serde_json_path_core.specs.Flat.{kind_view};
-ghost use Rattle.serde_json_path_core.specs.Walks.{rest, beginning_of};
+ghost use Rattle.serde_json_path_core.specs.Walks.{rest, query_of, document_of, beginning_of};
 ghost use Rattle.serde_json_path_core.specs.Meaning.{IsResult};
 ghost use Rattle.serde_json_path_core.specs.Parts.{tree_of};
 ghost use Rattle.serde_json_path_core.specs.declared.error.QueryError.TheVariants.{Memory};
@@ -52,6 +52,8 @@ pub fn walk<'q, 'b>(
 ) -> Result<Walk<'q, 'b>, QueryError>
     // Under every function set, as no query of these forms calls a function.
     ensures selects { IfOk result (λ walk. (F : FunctionSet) → IsResult F (view root.now) (tree_of query.now) (view node.now) (rest F walk)) }
+    ensures query { IfOk result (λ walk. query_of walk ≡ tree_of query.now) }
+    ensures document { IfOk result (λ walk. document_of walk ≡ view root.now) }
     ensures beginning { IfOk result (λ walk. beginning_of walk ≡ start_of (kind_of (tree_of query.now)) (view root.now) (view node.now)) }
     ensures refused { IfErr result (λ e. e ≡ Memory) }
 {

@@ -24,7 +24,7 @@ pub struct Walk<'q, 'b> {
 }
 
 impl<'q, 'b> Walk<'q, 'b> {
-    ghost use Rattle.std.specs.Prelude.{◌≡◌, ◌+◌, ◌≤◌, [], ◌∷◌, IfOk, IfErr, MatchOption};
+    ghost use Rattle.std.specs.Prelude.{◌≡◌, ◌+◌, ◌≤◌, [], ◌∷◌, IfOk, IfErr, MatchOption, IfNone};
     ghost use Rattle.serde_json.specs.Data.{Data};
     ghost use Rattle.serde_json_path_nodes.specs.Views.{located};
     ghost use Rattle.serde_json_path_nodes.specs.Place.{Located};
@@ -53,6 +53,7 @@ impl<'q, 'b> Walk<'q, 'b> {
         ensures given { IfOk result (λ next. MatchOption next
             ((F : FunctionSet) → (rest F self.old ≡ []) × (rest F self.new ≡ []))
             (λ node. (F : FunctionSet) → rest F self.old ≡ located node ∷ rest F self.new)) }
+        ensures ended { IfOk result (λ next. IfNone next (places_of self.new ≡ 0)) }
         ensures unchanged { IfErr result (λ e. (F : FunctionSet) → rest F self.new ≡ rest F self.old) }
         ensures refused { IfErr result (λ e. e ≡ Memory) }
     {
