@@ -24,7 +24,7 @@ use Rattle.serde_json_path_core.proofs.SlicePositions.{in_sliced}
 
 -- ---- locations
 
-at-append : (v : Data) (ls ms : List Step) → at v (ls ++ ms) ≡ option_and_then (λ d. at d ms) (at v ls)
+pub at-append : (v : Data) (ls ms : List Step) → at v (ls ++ ms) ≡ option_and_then (λ d. at d ms) (at v ls)
 at-append v [] ms = refl
 at-append v (s ∷ ls) ms = by (child_at v s) (λ c. at-append c ls ms)
   where
@@ -314,7 +314,7 @@ module _ (F : FunctionSet) (top : Data) where
           λ e. (arguments F top args (params_of (F.signature f)) v, (g (arguments F top args (params_of (F.signature f)) v)).1 refl, e),
         )
 
-    arguments_right : (args : Arguments) (kinds : List Kind) → AreTypedArguments F.signature args kinds → (v : Data) (ts : List Term)
+    pub arguments_right : (args : Arguments) (kinds : List Kind) → AreTypedArguments F.signature args kinds → (v : Data) (ts : List Term)
         → AreArguments F top args kinds v ts ↔ (ts ≡ arguments F top args kinds v)
     arguments_right no_arguments kinds typed v ts = (λ e. e, λ e. e)
     arguments_right (argument a more) [] typed v ts = absurd typed

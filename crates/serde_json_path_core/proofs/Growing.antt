@@ -1,11 +1,11 @@
 -- The pieces of a growing vector of nodes: what a push makes, and what it keeps.
-use Rattle.std.proofs.Common.{◌≡◌, ℕ, zero, suc, ◌+◌, ◌<◌, List, [], ◌∷◌, ◌++◌, length, map, get_or, refl, sym, ap, ◌∙◌, subst, arith, length-append}
+use Rattle.std.proofs.Common.{◌≡◌, ℕ, zero, suc, ◌+◌, ◌<◌, List, [], ◌∷◌, ◌++◌, length, map, string_bytes, get_or, refl, sym, ap, ◌∙◌, subst, arith, length-append}
 use Rattle.std.specs.List.{AllByRecursion}
 use Rattle.std.proofs.lemmas.List.Elements.{recursion_from_All}
 use Rattle.std.proofs.lemmas.Grind.{common_steps}
 use Rattle.serde_json_path_core.specs.Tree as tree
 use Rattle.serde_json_path_core.specs.Literals.{operator_view}
-use Rattle.serde_json_path_core.specs.Piece.{Piece, a_query, a_segment, a_selector, an_or, an_and, a_basic, a_comparable}
+use Rattle.serde_json_path_core.specs.Piece.{Piece, a_query, a_segment, a_selector, an_or, an_and, a_basic, a_comparable, a_call, an_argument}
 use Rattle.serde_json_path_core.specs.declared.syntax.node.Node.{Node}
 use Rattle.serde_json_path_core.specs.declared.syntax.node.Node.TheVariants as node
 use Rattle.serde_json_path_core.specs.declared.syntax.node.Segment as segments
@@ -13,11 +13,13 @@ use Rattle.serde_json_path_core.specs.declared.syntax.node.Segment.TheVariants.{
 use Rattle.serde_json_path_core.specs.declared.syntax.node.Selector as selectors
 use Rattle.serde_json_path_core.specs.declared.syntax.node.Selector.TheVariants as one
 use Rattle.serde_json_path_core.specs.declared.syntax.node.Basic as basics
-use Rattle.serde_json_path_core.specs.declared.syntax.node.Basic.TheVariants.{Paren, NotParen, Relation, Exist, NotExist}
+use Rattle.serde_json_path_core.specs.declared.syntax.node.Basic.TheVariants.{Paren, NotParen, Relation, Exist, NotExist, Test, NotTest}
 use Rattle.serde_json_path_core.specs.declared.syntax.node.Comparable as comparables
 use Rattle.serde_json_path_core.specs.declared.syntax.node.Comparable.TheVariants as side
+use Rattle.serde_json_path_core.specs.declared.syntax.node.Argument as given
+use Rattle.serde_json_path_core.specs.declared.syntax.node.Argument.TheVariants as given_as
 use Rattle.serde_json_path_core.specs.declared.syntax.node.Part.{Part}
-use Rattle.serde_json_path_core.specs.Flat.{kind_view, segment_kind_view, no_piece, query_in, or_in, comparable_in, segments_in, selectors_in, ors_in, ands_in, piece_in, pieces_named, segment_of, selector_of, basic_of, comparable_of, piece_of, pieces_from, pieces, piece_at, segment_numbers, selector_numbers, basic_numbers, comparable_numbers, numbers_of, NamesBelow, IsGrown}
+use Rattle.serde_json_path_core.specs.Flat.{kind_view, segment_kind_view, no_piece, query_in, or_in, comparable_in, call_in, arguments_in, segments_in, selectors_in, ors_in, ands_in, piece_in, pieces_named, segment_of, selector_of, basic_of, comparable_of, argument_of, piece_of, pieces_from, pieces, piece_at, segment_numbers, selector_numbers, basic_numbers, comparable_numbers, argument_numbers, numbers_of, NamesBelow, IsGrown}
 
 pieces_from-push : (earlier : List Piece) (nodes : List Node) (n : Node) → pieces_from earlier (nodes ++ n ∷ []) ≡ pieces_from earlier nodes ++ piece_of (pieces_from earlier nodes) n ∷ []
 pieces_from-push earlier [] n = refl
@@ -64,10 +66,20 @@ module _ (a b : List Piece) (bound : ℕ) (f : (i : ℕ) → i < bound → piece
       ∙ ap (λ piece. tree.relation (comparable_in (piece_in b left.number)) (operator_view operator) (comparable_in piece)) (f right.number h.1.0)
   same_basic (Exist part) h = ap (λ piece. tree.exist (query_in piece)) (f part.number h.0)
   same_basic (NotExist part) h = ap (λ piece. tree.not_exist (query_in piece)) (f part.number h.0)
+  same_basic (Test part) h = ap (λ piece. tree.test (call_in piece)) (f part.number h.0)
+  same_basic (NotTest part) h = ap (λ piece. tree.not_test (call_in piece)) (f part.number h.0)
 
   same_comparable : (c : comparables.Comparable) → AreBelow (comparable_numbers c) → comparable_of a c ≡ comparable_of b c
   same_comparable (side.Literal l) h = refl
   same_comparable (side.Singular part) h = ap (λ piece. tree.singular (query_in piece)) (f part.number h.0)
+  same_comparable (side.Called part) h = ap (λ piece. tree.called (call_in piece)) (f part.number h.0)
+
+  same_argument : (g : given.Argument) → AreBelow (argument_numbers g) → argument_of a g ≡ argument_of b g
+  same_argument (given_as.Value v) h = refl
+  same_argument (given_as.Number n) h = refl
+  same_argument (given_as.Query part) h = ap (λ piece. tree.query_argument (query_in piece)) (f part.number h.0)
+  same_argument (given_as.Call part) h = ap (λ piece. tree.call_argument (call_in piece)) (f part.number h.0)
+  same_argument (given_as.Logical part) h = ap (λ piece. tree.logical_argument (or_in piece)) (f part.number h.0)
 
   same_by_recursion : (n : Node) → AreBelow (numbers_of n) → piece_of a n ≡ piece_of b n
   same_by_recursion (node.Query start parts) h = ap (λ named. a_query (tree.query (kind_view start) (segments_in named))) (same_named a b bound f parts.items h)
@@ -77,6 +89,8 @@ module _ (a b : List Piece) (bound : ℕ) (f : (i : ℕ) → i < bound → piece
   same_by_recursion (node.LogicalAnd parts) h = ap (λ named. an_and (ands_in named)) (same_named a b bound f parts.items h)
   same_by_recursion (node.Basic e) h = ap a_basic (same_basic e h)
   same_by_recursion (node.Comparable c) h = ap a_comparable (same_comparable c h)
+  same_by_recursion (node.Call k parts) h = ap (λ named. a_call (tree.call (string_bytes k) (arguments_in named))) (same_named a b bound f parts.items h)
+  same_by_recursion (node.Argument g) h = ap an_argument (same_argument g h)
 
 same_piece : (a b : List Piece) (bound : ℕ) → ((i : ℕ) → i < bound → piece_in a i ≡ piece_in b i) → (n : Node) → NamesBelow bound n → piece_of a n ≡ piece_of b n
 same_piece a b bound f n h = same_by_recursion a b bound f n (recursion_from_All (λ i. i < bound) (numbers_of n) h)

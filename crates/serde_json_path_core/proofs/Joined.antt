@@ -1,10 +1,11 @@
 -- Parts of logical expressions one by one, and the first of the nodes that a query selects.
-use Rattle.std.proofs.Common.{◌≡◌, ℕ, ◌+◌, ◌-◌, ◌<◌, List, [], ◌∷◌, drop, take, length, get_or, filter as keep, Bool, true, false, cond, Option, Some, None, MatchOption, IfOk, Result, Ok, Err, option_map, refl, sym, ap}
+use Rattle.std.proofs.Common.{◌≡◌, ℕ, ◌+◌, ◌-◌, ◌<◌, List, [], ◌∷◌, drop, take, length, get_or, filter as keep, Bool, true, false, cond, Option, Some, None, MatchOption, IfOk, Result, Ok, Err, option_map, refl, sym, ap, ◌∙◌}
 use Rattle.std.specs.Borrow.{Bor}
 use Rattle.std.proofs.lemmas.List.{drop_more}
 use Rattle.serde_json.specs.Data.{Data}
 use Rattle.serde_json.specs.View.{view}
 use Rattle.serde_json.specs.declared.value.Value.{Value}
+use Rattle.serde_json_path_nodes.specs.Place.{Located}
 use Rattle.serde_json_path_nodes.specs.Views.{node_value}
 use Rattle.serde_json_path_core.specs.Tree.{or, and}
 use Rattle.serde_json_path_core.specs.Functions.{FunctionSet}
@@ -32,9 +33,11 @@ pub keep-no : {A : Type 0} (p : A → Bool) (x : A) (xs : List A) → p x ≡ fa
 keep-no p x xs e = ap (λ b. cond b (x ∷ keep p xs) (keep p xs)) e
 
 -- where the walk has come to the next node, its value is the first of the rest
-pub first-found : {E : Type 0} (F : FunctionSet) (top : Data) (all : List Stage) (places : List Place) (r : Result (Option (Bor Value)) E)
+pub first-found : {E : Type 0} (Clear : Type 0) (F : FunctionSet) (top : Data) (all : List Stage) (places : List Place) (r : Result (Option (Bor Value)) E) (nodes : List Located)
+    → (Clear → rest_of F top all (frames_of places) ≡ nodes)
     → IfOk r (λ found. MatchOption found (places ≡ []) (λ v. EndsAt all (frames_of places) (view v.now)))
-    → IfOk r (λ found. option_map node_value found ≡ first_value (rest_of F top all (frames_of places)))
-first-found F top all places (Ok None) h = sym (ap (λ ps. first_value (rest_of F top all (frames_of ps))) h)
-first-found F top all places (Ok (Some v)) h = sym (ap first_value (rest-ends all places (view v.now) h F top (take (length places - 1) places) refl))
-first-found F top all places (Err e) h = tt
+    → IfOk r (λ found. Clear → option_map node_value found ≡ first_value nodes)
+first-found Clear F top all places (Ok None) nodes rest h = λ clear. sym (ap first_value (sym (rest clear)) ∙ ap (λ ps. first_value (rest_of F top all (frames_of ps))) h)
+first-found Clear F top all places (Ok (Some v)) nodes rest h = λ clear.
+    sym (ap first_value (sym (rest clear) ∙ rest-ends all places (view v.now) h F top (take (length places - 1) places) refl))
+first-found Clear F top all places (Err e) nodes rest h = tt

@@ -1,4 +1,5 @@
 pub mod AnswerKinds
+pub mod Answered
 pub mod BoundedParts
 pub mod Bounds
 pub mod Chains
@@ -26,15 +27,18 @@ pub mod Order
 pub mod OtherNodes
 pub mod Rests
 pub mod Seen
+pub mod SameSignatures
 pub mod Singular
 pub mod SlicePositions
+pub mod SoundParts
 pub mod Stacks
 pub mod StageLists
+pub mod Standing
 pub mod Started
 pub mod Subtrees
 pub mod Tasks
 pub mod Turns
 pub mod Typings
-pub mod Uncalled
+pub mod WholeQueries
 mod Worked
 pub mod Written

@@ -5,12 +5,12 @@ use Rattle.std.specs.declared.alloc.AllocError.{AllocError}
 use Rattle.std.specs.List.{All, AllByRecursion}
 use Rattle.std.proofs.lemmas.List.Elements.{All-from_recursion, recursion_from_All}
 use Rattle.serde_json_path_core.specs.Tree as tree
-use Rattle.serde_json_path_core.specs.Piece.{Piece, a_query, a_segment, an_or, an_and}
+use Rattle.serde_json_path_core.specs.Piece.{Piece, a_query, a_segment, an_or, an_and, a_call}
 use Rattle.serde_json_path_core.specs.declared.syntax.node.Part.{Part}
 use Rattle.serde_json_path_core.specs.declared.syntax.builder.SyntaxBuilder.{SyntaxBuilder}
-use Rattle.serde_json_path_core.specs.Flat.{piece_in, pieces, pieces_named, selector_in, segments_in, selectors_in, ors_in, ands_in, numbers}
+use Rattle.serde_json_path_core.specs.Flat.{piece_in, pieces, pieces_named, selector_in, segments_in, selectors_in, ors_in, ands_in, arguments_in, numbers}
 use Rattle.serde_json_path_core.specs.Rest.{selectors_list}
-use Rattle.serde_json_path_core.specs.Parts.{IsPart, ArePartsFor, ArePartsOf, AreSelectorsOf, AreOrPartsOf, AreAndPartsOf, KeepsParts, segment_pieces, selector_pieces, or_pieces, and_pieces}
+use Rattle.serde_json_path_core.specs.Parts.{IsPart, ArePartsFor, ArePartsOf, AreSelectorsOf, AreOrPartsOf, AreAndPartsOf, AreArgumentsOf, KeepsParts, segment_pieces, selector_pieces, or_pieces, and_pieces, argument_pieces}
 
 below_by_recursion : (builder : SyntaxBuilder) (parts : List Part) (ps : List Piece) → ArePartsFor builder parts ps → AllByRecursion (λ number. number < length builder.nodes.items) (numbers parts)
 below_by_recursion builder [] [] h = tt
@@ -104,6 +104,19 @@ and_of_parts old new parts made h =
     for_each new made (AreAndPartsOf old parts) (λ e part. IsPart new part (an_and e))
     (λ e named. subst (λ joined. IfOk made (λ part. IsPart new part (an_and joined))) (ands_are e)
     (made_of_parts old new parts (λ ps. an_and (ands_in ps)) made h (and_pieces e) (and_parts_for old parts e named)))
+
+arguments_are : (args : tree.Arguments) → arguments_in (argument_pieces args) ≡ args
+arguments_are tree.no_arguments = refl
+arguments_are (tree.argument a more) = ap (tree.argument a) (arguments_are more)
+
+-- a call made of the parts' pieces is that of the arguments
+pub call_of_parts : (old new : SyntaxBuilder) (name : List ℕ) (parts : List Part) (made : Result Part AllocError)
+    → IfOk made (λ part. IsPart new part (a_call (tree.call name (arguments_in (pieces_named (pieces old.nodes.items) parts)))))
+    → IfOk made (λ part. (args : tree.Arguments) → AreArgumentsOf old parts args → IsPart new part (a_call (tree.call name args)))
+call_of_parts old new name parts made h =
+    for_each new made (AreArgumentsOf old parts) (λ args part. IsPart new part (a_call (tree.call name args)))
+    (λ args named. subst (λ given. IfOk made (λ part. IsPart new part (a_call (tree.call name given)))) (arguments_are args)
+    (made_of_parts old new parts (λ ps. a_call (tree.call name (arguments_in ps))) made h (argument_pieces args) named))
 
 -- the number of one good part, and those of two
 pub one_below : (builder : SyntaxBuilder) (part : Part) (piece : Piece) → IsPart builder part piece → All (λ number. number < length builder.nodes.items) (part.number ∷ [])

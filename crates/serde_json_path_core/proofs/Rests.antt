@@ -4,12 +4,12 @@ use Rattle.std.proofs.lemmas.Bool.{cases_lt}
 use Rattle.std.proofs.lemmas.Grind.{not_there}
 use Rattle.serde_json.specs.Data.{Data}
 use Rattle.serde_json_path_core.specs.Functions.{FunctionSet}
-use Rattle.serde_json_path_core.specs.Rest.{Stage, stack_path, rest_of, EndsAt, IsStack}
+use Rattle.serde_json_path_core.specs.Rest.{Stage, stack_path, rest_of, work, EndsAt, IsStack}
 use Rattle.serde_json_path_core.specs.Places.{frame_of, frames_of}
 use Rattle.serde_json_path_core.specs.declared.evaluation.place.Place.{Place}
 use Rattle.serde_json_path_core.proofs.Chains.{stack-front}
 use Rattle.serde_json_path_core.proofs.Stacks.{located}
-use Rattle.serde_json_path_core.proofs.Turns.{rest-given}
+use Rattle.serde_json_path_core.proofs.Turns.{rest-given, work-given}
 
 -- what stands before the last of some elements
 front-seen : {A B : Type 0} (see : A → B) (xs : List A) (front : List B) (last : B) → map see xs ≡ front ++ last ∷ [] → (0 < length xs) × (map see (take (length xs - 1) xs) ≡ front)
@@ -41,6 +41,12 @@ module _ (all : List Stage) (places : List Place) (v : Data) (ends : EndsAt all 
       ∙ ap (λ w. located (stack_path [] (frames_of places)) w ∷ rest_of F top all ends.0) ends.4
       ∙ ap (λ ps. located (stack_path [] (frames_of places)) v ∷ rest_of F top all ps)
       (sym (ap frames_of e ∙ (front-seen frame_of places ends.0 ends.1 ends.2).1))
+
+  -- without it there is less work
+  pub work-ends : (front : List Place) → front ≡ take (length places - 1) places → work all (frames_of front) < work all (frames_of places)
+  work-ends front e =
+      subst (λ ps. work all ps < work all (frames_of places)) (sym (ap frames_of e ∙ (front-seen frame_of places ends.0 ends.1 ends.2).1))
+      (subst (λ ps. work all ends.0 < work all ps) (sym ends.2) (work-given all ends.0 ends.1 ends.3))
 
   pub stack-dropped : (start : Data) (front : List Place) → front ≡ take (length places - 1) places → IsStack start (frames_of places) → IsStack start (frames_of front)
   stack-dropped start front e h =

@@ -1,5 +1,5 @@
 -- What a walk that begins has left is the result of the segments.
-use Rattle.std.proofs.Common.{◌≡◌, [], ◌∷◌, ◌++◌, map, drop, flat_map, None, option_to_list, refl, ap, ◌∙◌, sym}
+use Rattle.std.proofs.Common.{◌≡◌, [], ◌∷◌, ◌++◌, List, map, drop, flat_map, None, option_to_list, refl, ap, ◌∙◌, sym}
 use Rattle.std.proofs.lemmas.List.{append-nil}
 use Rattle.std.proofs.lemmas.List.Folds.{flat_map-map}
 use Rattle.serde_json.specs.Data.{Data}
@@ -41,12 +41,22 @@ module _ (F : FunctionSet) (top : Data) where
       ∙ sym (flat_map-map (results_from F top more) (placed m.location) (chosen F top seg m.value)))
       (reached kind n)
 
-  pub rest-started : (segs : Segments) (v : Data) (q : Frame) → q.step ≡ None → q.segment ≡ 0 → q.selector ≡ 0 → q.value ≡ v → q.left ≡ begun (stages segs) v
+  rest-started : (segs : Segments) (v : Data) (q : Frame) → q.step ≡ None → q.segment ≡ 0 → q.selector ≡ 0 → q.value ≡ v → q.left ≡ begun (stages segs) v
       → rest_of F top (stages segs) (q ∷ []) ≡ results_from F top segs (located [] v)
   rest-started segs v q t s z w l =
       ap (λ o. visit_rest (admitted F top) [] (λ m. m ∷ []) (stages segs) (drop q.segment (stages segs)) ([] ++ option_to_list o) q) t
       ∙ ap (λ k. visit_rest (admitted F top) [] (λ m. m ∷ []) (stages segs) (drop k (stages segs)) [] q) s
       ∙ sym (enters (admitted F top) [] (λ m. m ∷ []) (stages segs) 0 (stages segs) (located [] v) q refl s z w l) ∙ visit-results segs (located [] v)
 
-  pub results-parts : (q : Query) (v : Data) → results_from F top (segments_of q) (itself (start_of (kind_of q) top v)) ≡ results F top q v
+  results-parts : (q : Query) (v : Data) → results_from F top (segments_of q) (itself (start_of (kind_of q) top v)) ≡ results F top q v
   results-parts (query kind segs) v = refl
+
+  -- the place of a walk that begins has the query's result left
+  pub begun-results : (q : Query) (here start : Data) (segs : Segments) (ps : List Frame) (first : Frame) → segs ≡ segments_of q → start ≡ start_of (kind_of q) top here → ps ≡ first ∷ []
+      → first ≡ record { step = None; value = start; segment = 0; selector = 0; left = begun (stages segs) start }
+      → rest_of F top (stages segs) ps ≡ results F top q here
+  begun-results q here start segs ps first e v p begins =
+      ap (rest_of F top (stages segs)) p
+      ∙ rest-started segs start first (ap (λ (f : Frame). f.step) begins) (ap (λ (f : Frame). f.segment) begins) (ap (λ (f : Frame). f.selector) begins) (ap (λ (f : Frame). f.value) begins)
+      (ap (λ (f : Frame). f.left) begins)
+      ∙ ap (λ w. results_from F top segs (itself w)) v ∙ ap (λ ss. results_from F top ss (itself (start_of (kind_of q) top here))) e ∙ results-parts q here

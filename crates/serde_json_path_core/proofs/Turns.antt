@@ -11,6 +11,15 @@ pub rest-given : (F : FunctionSet) (top : Data) (all : List Stage) (ps : List Fr
     → rest_of F top all (ps ++ p ∷ []) ≡ located (stack_path [] (ps ++ p ∷ [])) p.value ∷ rest_of F top all ps
 rest-given F top all ps p d = gives (admitted F top) [] (λ n. n ∷ []) all ps p d
 
+-- and so there is less work
+pub work-given : (all : List Stage) (ps : List Frame) (p : Frame) → drop p.segment all ≡ [] → work all ps < work all (ps ++ p ∷ [])
+work-given all ps p d =
+    let left = visit_stack unfiltered {A = ℕ} (0 ∷ 0 ∷ []) (λ n. 0 ∷ []) all [] ps in
+    let marks : length (visit_stack unfiltered {A = ℕ} (0 ∷ 0 ∷ []) (λ n. 0 ∷ []) all [] (ps ++ p ∷ [])) ≡ 1 + length left =
+    ap length {y = 0 ∷ left} (gives unfiltered (0 ∷ 0 ∷ []) (λ n. 0 ∷ []) all ps p d) ∙ omega arith in
+    let places : length (ps ++ p ∷ []) ≡ length ps + 1 = length-append ps (p ∷ []) in
+    omega arith
+
 -- it has no task left, and is dropped
 pub rest-dropped : (F : FunctionSet) (top : Data) (all : List Stage) (ps : List Frame) (p : Frame) (stage : Stage) (more : List Stage) → drop p.segment all ≡ stage ∷ more
     → frame_tasks (admitted F top) stage p ≡ [] → rest_of F top all (ps ++ p ∷ []) ≡ rest_of F top all ps

@@ -1,11 +1,22 @@
 -- The calls that a query makes.
-use Rattle.std.specs.Prelude.{◌≡◌, List, IsNone, Some}
+use Rattle.std.specs.Prelude.{◌≡◌, ℕ, List, IsNone, Some}
 use Rattle.serde_json.specs.Data.{Data}
 use Rattle.serde_json_path_nodes.specs.Place.{Step, at}
 use Rattle.serde_json_path_core.specs.Tree.{Query, query, Segments, no_segments, segment, Segment, dot_name, dot_wildcard, long_hand, Selectors, no_selectors, selector, Selector, name, wildcard, index, slice, filter, LogicalOr, no_or, or, LogicalAnd, no_and, and, Basic, paren, not_paren, relation, exist, not_exist, test, not_test, Comparable, literal, singular, called, Call, call, Arguments, no_arguments, argument, Argument, literal_argument, query_argument, call_argument, logical_argument}
 use Rattle.serde_json_path_core.specs.Functions.{Term, FunctionSet}
 use Rattle.serde_json_path_core.specs.Meaning.{params_of, AreArguments}
 use Rattle.serde_json_path_core.specs.Patterns.{IsPromised}
+
+-- the name that is called, and the arguments
+abbrev pub name_of : Call → List ℕ
+name_of (call f args) = f
+
+abbrev pub arguments_of : Call → Arguments
+arguments_of (call f args) = args
+
+-- the value stands at some location of the document
+abbrev pub StandsIn : Data → Data → Type 0
+StandsIn top v = ∥ ((location : List Step) × (at top location ≡ Some v)) ∥₁
 
 -- the fact holds of each call, of those in arguments too
 module _ (Fact : Call → Type 0) where
@@ -77,7 +88,7 @@ module _ (F : FunctionSet) where
   -- with `@` at any value of the document, the meaning of the call's name is promised at the call's arguments
   abbrev pub IsClearCall : Data → Call → Type 0
   IsClearCall top (call f args) =
-      (location : List Step) (v : Data) → at top location ≡ Some v
+      (v : Data) → StandsIn top v
       → (ts : List Term) → AreArguments F top args (params_of (F.signature f)) v ts → IsPromised (F.by_regex f) ts
 
   -- no call of the query goes by `regex` with a pattern that is nested deeper than `regex` takes

@@ -1,10 +1,13 @@
 -- The trees of a vector of nodes, each of which names earlier ones.
-use Rattle.std.specs.Prelude.{ℕ, ◌<◌, List, [], ◌∷◌, ◌++◌, length, map, slice_index_or, string_bytes, Option, Some, None}
+use Rattle.std.specs.Prelude.{ℕ, pos, ◌<◌, List, [], ◌∷◌, ◌++◌, length, map, slice_index_or, string_bytes, Option, Some, None}
 use Rattle.std.specs.List.{All}
-use Rattle.serde_json_path_core.specs.Tree.{QueryKind, root, current, SegmentKind, child, descendant, Query, query, Segments, no_segments, segment, Segment, dot_name, dot_wildcard, long_hand, Selectors, no_selectors, selector, Selector, name, wildcard, index, slice, filter, LogicalOr, no_or, or, LogicalAnd, no_and, and, Basic, paren, not_paren, relation, exist, not_exist, Comparable, literal, singular, null}
+use Rattle.serde_json.specs.Data.{Data, null as null_data, boolean, string}
+use Rattle.serde_json.specs.View.{view}
+use Rattle.serde_json_path_core.specs.Tree.{QueryKind, root, current, SegmentKind, child, descendant, Query, query, Segments, no_segments, segment, Segment, dot_name, dot_wildcard, long_hand, Selectors, no_selectors, selector, Selector, name, wildcard, index, slice, filter, LogicalOr, no_or, or, LogicalAnd, no_and, and, Basic, paren, not_paren, relation, exist, not_exist, test, not_test, Comparable, literal, singular, called, Call, call, Arguments, no_arguments, argument, Argument, literal_argument, query_argument, call_argument, logical_argument, Literal, text, truth, null}
+use Rattle.serde_json_path_core.specs.Tree as tree
 use Rattle.serde_json_path_core.specs.SliceView.{slice_view}
-use Rattle.serde_json_path_core.specs.Literals.{literal_view, operator_view}
-use Rattle.serde_json_path_core.specs.Piece.{Piece, a_query, a_segment, a_selector, an_or, an_and, a_basic, a_comparable}
+use Rattle.serde_json_path_core.specs.Literals.{literal_view, number_amount, operator_view}
+use Rattle.serde_json_path_core.specs.Piece.{Piece, a_query, a_segment, a_selector, an_or, an_and, a_basic, a_comparable, a_call, an_argument}
 use Rattle.serde_json_path_core.specs.declared.syntax.node.Node.{Node}
 use Rattle.serde_json_path_core.specs.declared.syntax.node.Node.TheVariants as node
 use Rattle.serde_json_path_core.specs.declared.syntax.node.Segment as segments
@@ -12,9 +15,11 @@ use Rattle.serde_json_path_core.specs.declared.syntax.node.Segment.TheVariants.{
 use Rattle.serde_json_path_core.specs.declared.syntax.node.Selector as selectors
 use Rattle.serde_json_path_core.specs.declared.syntax.node.Selector.TheVariants as one
 use Rattle.serde_json_path_core.specs.declared.syntax.node.Basic as basics
-use Rattle.serde_json_path_core.specs.declared.syntax.node.Basic.TheVariants.{Paren, NotParen, Relation, Exist, NotExist}
+use Rattle.serde_json_path_core.specs.declared.syntax.node.Basic.TheVariants.{Paren, NotParen, Relation, Exist, NotExist, Test, NotTest}
 use Rattle.serde_json_path_core.specs.declared.syntax.node.Comparable as comparables
 use Rattle.serde_json_path_core.specs.declared.syntax.node.Comparable.TheVariants as side
+use Rattle.serde_json_path_core.specs.declared.syntax.node.Argument as given
+use Rattle.serde_json_path_core.specs.declared.syntax.node.Argument.TheVariants as given_as
 use Rattle.serde_json_path_core.specs.declared.syntax.node.Part.{Part}
 use Rattle.serde_json_path_core.specs.declared.syntax.node.QueryKind as kind
 use Rattle.serde_json_path_core.specs.declared.syntax.node.QueryKind.TheVariants.{Root, Current}
@@ -68,6 +73,14 @@ abbrev pub comparable_in : Piece → Comparable
 comparable_in (a_comparable c) = c
 comparable_in _ = literal null
 
+abbrev pub call_in : Piece → Call
+call_in (a_call c) = c
+call_in _ = call [] no_arguments
+
+abbrev pub argument_in : Piece → Argument
+argument_in (an_argument a) = a
+argument_in _ = literal_argument null
+
 abbrev pub segments_in : List Piece → Segments
 segments_in [] = no_segments
 segments_in (piece ∷ more) = segment (segment_kind_in piece) (segment_in piece) (segments_in more)
@@ -83,6 +96,10 @@ ors_in (piece ∷ more) = or (and_in piece) (ors_in more)
 abbrev pub ands_in : List Piece → LogicalAnd
 ands_in [] = no_and
 ands_in (piece ∷ more) = and (basic_in piece) (ands_in more)
+
+abbrev pub arguments_in : List Piece → Arguments
+arguments_in [] = no_arguments
+arguments_in (piece ∷ more) = argument (argument_in piece) (arguments_in more)
 
 -- ---- nodes
 
@@ -112,10 +129,27 @@ basic_of earlier (NotParen part) = not_paren (or_in (piece_in earlier part.numbe
 basic_of earlier (Relation left operator right) = relation (comparable_in (piece_in earlier left.number)) (operator_view operator) (comparable_in (piece_in earlier right.number))
 basic_of earlier (Exist part) = exist (query_in (piece_in earlier part.number))
 basic_of earlier (NotExist part) = not_exist (query_in (piece_in earlier part.number))
+basic_of earlier (Test part) = test (call_in (piece_in earlier part.number))
+basic_of earlier (NotTest part) = not_test (call_in (piece_in earlier part.number))
 
 abbrev pub comparable_of : List Piece → comparables.Comparable → Comparable
 comparable_of earlier (side.Literal l) = literal (literal_view l)
 comparable_of earlier (side.Singular part) = singular (query_in (piece_in earlier part.number))
+comparable_of earlier (side.Called part) = called (call_in (piece_in earlier part.number))
+
+-- the literal that writes a text, a truth value or null; what no builder makes of one stands for a number that is not whole
+abbrev pub literal_of : Data → Literal
+literal_of (string t) = text t
+literal_of (boolean b) = truth b
+literal_of null_data = null
+literal_of _ = tree.number (pos 1)
+
+abbrev pub argument_of : List Piece → given.Argument → Argument
+argument_of earlier (given_as.Value v) = literal_argument (literal_of (view v))
+argument_of earlier (given_as.Number n) = literal_argument (tree.number (number_amount n))
+argument_of earlier (given_as.Query part) = query_argument (query_in (piece_in earlier part.number))
+argument_of earlier (given_as.Call part) = call_argument (call_in (piece_in earlier part.number))
+argument_of earlier (given_as.Logical part) = logical_argument (or_in (piece_in earlier part.number))
 
 -- the piece that a node makes of earlier ones
 abbrev pub piece_of : List Piece → Node → Piece
@@ -126,6 +160,8 @@ piece_of earlier (node.LogicalOr parts) = an_or (ors_in (pieces_named earlier pa
 piece_of earlier (node.LogicalAnd parts) = an_and (ands_in (pieces_named earlier parts.items))
 piece_of earlier (node.Basic b) = a_basic (basic_of earlier b)
 piece_of earlier (node.Comparable c) = a_comparable (comparable_of earlier c)
+piece_of earlier (node.Call k parts) = a_call (call (string_bytes k) (arguments_in (pieces_named earlier parts.items)))
+piece_of earlier (node.Argument a) = an_argument (argument_of earlier a)
 
 abbrev pub pieces_from : List Piece → List Node → List Piece
 pieces_from earlier [] = earlier
@@ -148,6 +184,12 @@ basic_at nodes part = basic_in (piece_at nodes part.number)
 
 abbrev pub comparable_at : List Node → Part → Comparable
 comparable_at nodes part = comparable_in (piece_at nodes part.number)
+
+abbrev pub call_at : List Node → Part → Call
+call_at nodes part = call_in (piece_at nodes part.number)
+
+abbrev pub argument_at : List Node → Part → Argument
+argument_at nodes part = argument_in (piece_at nodes part.number)
 
 -- the segments of so many parts
 abbrev pub segments_at : List Node → List Part → Segments
@@ -185,10 +227,20 @@ basic_numbers (NotParen part) = part.number ∷ []
 basic_numbers (Relation left operator right) = left.number ∷ right.number ∷ []
 basic_numbers (Exist part) = part.number ∷ []
 basic_numbers (NotExist part) = part.number ∷ []
+basic_numbers (Test part) = part.number ∷ []
+basic_numbers (NotTest part) = part.number ∷ []
 
 abbrev pub comparable_numbers : comparables.Comparable → List ℕ
 comparable_numbers (side.Literal l) = []
 comparable_numbers (side.Singular part) = part.number ∷ []
+comparable_numbers (side.Called part) = part.number ∷ []
+
+abbrev pub argument_numbers : given.Argument → List ℕ
+argument_numbers (given_as.Value v) = []
+argument_numbers (given_as.Number n) = []
+argument_numbers (given_as.Query part) = part.number ∷ []
+argument_numbers (given_as.Call part) = part.number ∷ []
+argument_numbers (given_as.Logical part) = part.number ∷ []
 
 -- the numbers that a node names
 abbrev pub numbers_of : Node → List ℕ
@@ -199,6 +251,8 @@ numbers_of (node.LogicalOr parts) = numbers parts.items
 numbers_of (node.LogicalAnd parts) = numbers parts.items
 numbers_of (node.Basic b) = basic_numbers b
 numbers_of (node.Comparable c) = comparable_numbers c
+numbers_of (node.Call k parts) = numbers parts.items
+numbers_of (node.Argument a) = argument_numbers a
 
 -- the node names numbers below the bound alone
 abbrev pub NamesBelow : ℕ → Node → Type 0

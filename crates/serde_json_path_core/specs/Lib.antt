@@ -29,6 +29,7 @@ pub mod Advances
 pub mod Stages
 pub mod Courses
 pub mod Cursors
+pub mod Sound
 pub mod Scopes
 pub mod Places
 pub mod Walks

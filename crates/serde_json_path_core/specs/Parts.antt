@@ -1,7 +1,9 @@
 -- The parts that a builder has made and the finished tree, as contracts see them.
-use Rattle.std.specs.Prelude.{◌≡◌, ◌<◌, List, [], ◌∷◌, length}
-use Rattle.serde_json_path_core.specs.Tree.{Query, Segments, no_segments, segment, Selectors, no_selectors, selector, LogicalOr, no_or, or, LogicalAnd, no_and, and}
-use Rattle.serde_json_path_core.specs.Piece.{Piece, a_segment, a_selector, an_and, a_basic}
+use Rattle.std.specs.Prelude.{◌≡◌, ◌<◌, ℕ, List, [], ◌∷◌, length}
+use Rattle.serde_json_path_core.specs.Tree.{Query, Segments, no_segments, segment, Selectors, no_selectors, selector, LogicalOr, no_or, or, LogicalAnd, no_and, and, Arguments, no_arguments, argument}
+use Rattle.serde_json_path_core.specs.Functions.{Signature}
+use Rattle.serde_json_path_core.specs.Used.{used_view}
+use Rattle.serde_json_path_core.specs.Piece.{Piece, a_segment, a_selector, an_and, a_basic, an_argument}
 use Rattle.serde_json_path_core.specs.Flat.{piece_at, query_at}
 use Rattle.serde_json_path_core.specs.declared.syntax.node.Part.{Part}
 use Rattle.serde_json_path_core.specs.declared.syntax.builder.SyntaxBuilder.{SyntaxBuilder}
@@ -39,6 +41,11 @@ abbrev pub and_pieces : LogicalAnd → List Piece
 and_pieces no_and = []
 and_pieces (and e more) = a_basic e ∷ and_pieces more
 
+-- the pieces of arguments
+abbrev pub argument_pieces : Arguments → List Piece
+argument_pieces no_arguments = []
+argument_pieces (argument a more) = an_argument a ∷ argument_pieces more
+
 -- the parts stand for the segments, one for each
 abbrev pub ArePartsOf : SyntaxBuilder → List Part → Segments → Type 0
 ArePartsOf builder parts segs = ArePartsFor builder parts (segment_pieces segs)
@@ -58,9 +65,17 @@ abbrev pub AreAndPartsOf : SyntaxBuilder → List Part → LogicalAnd → Type 0
 AreAndPartsOf builder [] e = ⊥
 AreAndPartsOf builder (part ∷ parts) e = ArePartsFor builder (part ∷ parts) (and_pieces e)
 
+-- the parts stand for the arguments, one for each
+abbrev pub AreArgumentsOf : SyntaxBuilder → List Part → Arguments → Type 0
+AreArgumentsOf builder parts args = ArePartsFor builder parts (argument_pieces args)
+
 -- each part stays good, with its tree
 abbrev pub KeepsParts : SyntaxBuilder → SyntaxBuilder → Type 0
 KeepsParts old new = (part : Part) (piece : Piece) → IsPart old part piece → IsPart new part piece
+
+-- the names that a finished query calls, each with the signature under which it is well-typed
+abbrev pub signatures_of : Checked → List (List ℕ × Signature)
+signatures_of checked = used_view checked.used.items
 
 -- the tree of a finished query
 abbrev pub tree_of : Checked → Query

@@ -1,5 +1,5 @@
 -- The trees that one part of a builder may stand for.
-use Rattle.serde_json_path_core.specs.Tree.{Query, SegmentKind, Segment, Selector, LogicalOr, LogicalAnd, Basic, Comparable}
+use Rattle.serde_json_path_core.specs.Tree.{Query, SegmentKind, Segment, Selector, LogicalOr, LogicalAnd, Basic, Comparable, Call, Argument}
 
 pub data Piece : Type 0 where
   a_query : Query → Piece
@@ -9,3 +9,5 @@ pub data Piece : Type 0 where
   an_and : LogicalAnd → Piece
   a_basic : Basic → Piece
   a_comparable : Comparable → Piece
+  a_call : Call → Piece
+  an_argument : Argument → Piece

@@ -5,6 +5,8 @@ use Rattle.serde_json.specs.Data.{Data}
 use Rattle.serde_json_path_nodes.specs.Place.{Step, by_name, child_at, Located}
 use Rattle.serde_json_path_core.specs.Tree.{Segments, no_segments, segment, SegmentKind, child, descendant, Segment, dot_name, dot_wildcard, long_hand, Selectors, no_selectors, selector, Selector, name, wildcard, index, slice, filter}
 use Rattle.serde_json_path_core.specs.Functions.{FunctionSet}
+use Rattle.serde_json_path_core.specs.Calls.{StandsIn}
+use Rattle.serde_json_path_core.specs.Derivation.{IsIn}
 use Rattle.serde_json_path_core.specs.Selected.{child_by, item_at}
 use Rattle.serde_json_path_core.specs.Computed.{children, sliced, reached, placed, is_true}
 
@@ -157,6 +159,18 @@ IsChain v (p ∷ ps) = (s : Step) × (p.step ≡ Some s) × (child_at v s ≡ So
 abbrev pub IsStack : Data → List Frame → Type 0
 IsStack start [] = Unit {0}
 IsStack start (p ∷ ps) = (p.step ≡ None) × (p.value ≡ start) × IsOfValue p × IsChain p.value ps
+
+-- the start stands in the document
+abbrev pub IsStackIn : Data → List Frame → Type 0
+IsStackIn top ps = (start : Data) × StandsIn top start × IsStack start ps
+
+-- the children stand in the document
+abbrev pub StandIn : Data → List (Step × Data) → Type 0
+StandIn top cs = (c : Step × Data) → IsIn c cs → StandsIn top c.1
+
+-- the value stands in the document, and what is left at the place are children of it
+abbrev pub IsInside : Data → Frame → Type 0
+IsInside top p = StandsIn top p.value × IsOfValue p
 
 -- the last place is where the stages end, at that value
 abbrev pub EndsAt : List Stage → List Frame → Data → Type 0

@@ -2,13 +2,33 @@
 use Rattle.std.specs.Prelude.{List}
 use Rattle.serde_json.specs.Data.{Data}
 use Rattle.serde_json.specs.View.{view}
+use Rattle.serde_json_path_core.specs.Tree.{Query}
+use Rattle.serde_json_path_core.specs.Functions.{FunctionSet}
+use Rattle.serde_json_path_core.specs.Parts.{tree_of}
+use Rattle.serde_json_path_core.specs.Calls.{EachCall, GoesWithoutPattern, IsClear}
 use Rattle.serde_json_path_core.specs.declared.syntax.node.Node.{Node}
 use Rattle.serde_json_path_core.specs.declared.evaluation.scope.Scope.{Scope}
 
 -- the nodes of the query's tree
-abbrev pub nodes_of : Scope → List Node
+abbrev pub nodes_of : {F : Type 0} {g : _} → Scope F g → List Node
 nodes_of scope = scope.query.now.nodes.items
 
+-- the query
+abbrev pub query_of : {F : Type 0} {g : _} → Scope F g → Query
+query_of scope = tree_of scope.query.now
+
 -- the document
-abbrev pub top_of : Scope → Data
+abbrev pub top_of : {F : Type 0} {g : _} → Scope F g → Data
 top_of scope = view scope.root.now
+
+-- the function set
+abbrev pub set_of : {F : Type 0} {g : _} → Scope F g → FunctionSet
+set_of {F} {g} scope = g.set scope.functions
+
+-- the meaning of each call of the query is promised
+abbrev pub Clear : {F : Type 0} {g : _} → Scope F g → Type 0
+Clear scope = IsClear (set_of scope) (query_of scope) (top_of scope)
+
+-- no call of the query goes by `regex`
+abbrev pub Plain : {F : Type 0} {g : _} → Scope F g → Type 0
+Plain scope = EachCall (GoesWithoutPattern (set_of scope)) (query_of scope)

@@ -7,23 +7,30 @@ use Rattle.serde_json_path_core.specs.Tree.{Query, segments_of}
 use Rattle.serde_json_path_core.specs.Functions.{FunctionSet}
 use Rattle.serde_json_path_core.specs.Parts.{tree_of}
 use Rattle.serde_json_path_core.specs.Places.{frames_of}
-use Rattle.serde_json_path_core.specs.Rest.{rest_of, stages}
+use Rattle.serde_json_path_core.specs.Rest.{rest_of, stages, work}
 use Rattle.serde_json_path_core.specs.declared.evaluation.resume.Walk.{Walk}
 
--- the query, the document's root, and the value where the walk began
-abbrev pub query_of : Walk → Query
+-- the query, the function set, the document's root, and the value where the walk began
+abbrev pub query_of : {F : Type 0} {g : _} → Walk F g → Query
 query_of w = tree_of w.scope.query.now
 
-abbrev pub document_of : Walk → Data
+abbrev pub set_of : {F : Type 0} {g : _} → Walk F g → FunctionSet
+set_of {F} {g} w = g.set w.scope.functions
+
+abbrev pub document_of : {F : Type 0} {g : _} → Walk F g → Data
 document_of w = view w.scope.root.now
 
-abbrev pub beginning_of : Walk → Data
+abbrev pub beginning_of : {F : Type 0} {g : _} → Walk F g → Data
 beginning_of w = view w.start.now
 
--- the nodes that it has still to give, under a function set
-abbrev pub rest : FunctionSet → Walk → List Located
-rest F w = rest_of F (document_of w) (stages (segments_of (query_of w))) (frames_of w.places.items)
+-- the nodes that it has still to give
+abbrev pub rest : {F : Type 0} {g : _} → Walk F g → List Located
+rest w = rest_of (set_of w) (document_of w) (stages (segments_of (query_of w))) (frames_of w.places.items)
 
 -- how many places its stack holds
-abbrev pub places_of : Walk → ℕ
+abbrev pub places_of : {F : Type 0} {g : _} → Walk F g → ℕ
 places_of w = length w.places.items
+
+-- how many steps are left at most
+abbrev pub steps_of : {F : Type 0} {g : _} → Walk F g → ℕ
+steps_of w = work (stages (segments_of (query_of w))) (frames_of w.places.items)

@@ -12,18 +12,20 @@ ghost use Rattle.serde_json.specs.View.{view};
 ghost use Rattle.serde_json_path_nodes.specs.Place.{Located};
 ghost use Rattle.serde_json_path_nodes.specs.Views.{located_nodes, node_values};
 ghost use Rattle.serde_json_path_core.specs.Tree.{kind_of};
-ghost use Rattle.serde_json_path_core.specs.Functions.{FunctionSet};
+ghost use Rattle.serde_json_path_core.specs.Functions.{Fits};
+ghost use Rattle.serde_json_path_core.specs.Calls.{EachCall, GoesWithoutPattern, IsClear};
 ghost use Rattle.serde_json_path_core.specs.Derivation.{start_of};
 ghost use Rattle.serde_json_path_core.specs.Flat.{kind_view};
-ghost use Rattle.serde_json_path_core.specs.Walks.{rest, query_of, document_of, beginning_of};
+ghost use Rattle.serde_json_path_core.specs.Walks.{rest, query_of, set_of, document_of, beginning_of};
 ghost use Rattle.serde_json_path_core.specs.Meaning.{IsResult};
-ghost use Rattle.serde_json_path_core.specs.Parts.{tree_of};
+ghost use Rattle.serde_json_path_core.specs.Parts.{signatures_of, tree_of};
 ghost use Rattle.serde_json_path_core.specs.declared.error.QueryError.TheVariants.{Memory};
 
 use crate::error::QueryError;
 use crate::evaluation::place::Place;
 use crate::evaluation::resume::Walk;
 use crate::evaluation::scope::Scope;
+use crate::functions::Functions;
 use crate::syntax::checked::Checked;
 use crate::syntax::node::QueryKind;
 use serde_json::Value;
@@ -41,18 +43,22 @@ pub(crate) fn start<'b>(kind: QueryKind, node: &'b Value, root: &'b Value) -> &'
 }
 
 /// A walk over what the query selects in the document with this root, where `@` is the node
-/// (RFC 9535, sections 2.1.2 and 2.5).
+/// (RFC 9535, sections 2.1.2 and 2.5), under a function set that the query fits, which it keeps.
 ///
-/// The nodes and the names of their locations borrow the document. There is no walk only where memory is refused.
-pub fn walk<'q, 'b>(
+/// The nodes and the names of their locations borrow the document. There is no walk only where memory is refused. No
+/// function is called yet.
+pub fn walk<'q, 'b, F: Functions + Drop>(
     alloc: Global,
     query: &'q Checked,
     node: &'b Value,
     root: &'b Value,
-) -> Result<Walk<'q, 'b>, QueryError>
-    // Under every function set, as no query of these forms calls a function.
-    ensures selects { IfOk result (λ walk. (F : FunctionSet) → IsResult F (view root.now) (tree_of query.now) (view node.now) (rest F walk)) }
+    functions: F,
+) -> Result<Walk<'q, 'b, F>, QueryError>
+    requires { Fits (F.set functions) (signatures_of query.now) }
+    ensures selects { IfOk result (λ walk. IsClear (F.set functions) (tree_of query.now) (view root.now)
+        → IsResult (F.set functions) (view root.now) (tree_of query.now) (view node.now) (rest walk)) }
     ensures query { IfOk result (λ walk. query_of walk ≡ tree_of query.now) }
+    ensures set { IfOk result (λ walk. set_of walk ≡ F.set functions) }
     ensures document { IfOk result (λ walk. document_of walk ≡ view root.now) }
     ensures beginning { IfOk result (λ walk. beginning_of walk ≡ start_of (kind_of (tree_of query.now)) (view root.now) (view node.now)) }
     ensures refused { IfErr result (λ e. e ≡ Memory) }
@@ -60,7 +66,12 @@ pub fn walk<'q, 'b>(
     let start = start(query.kind(), node, root);
     let mut places = Vec::new(alloc);
     places.push(Place::start(query, query.segments(), start))?;
-    let scope = Scope { alloc, query, root };
+    let scope = Scope {
+        alloc,
+        query,
+        root,
+        functions,
+    };
     Ok(Walk {
         scope,
         start,
@@ -69,21 +80,23 @@ pub fn walk<'q, 'b>(
 }
 
 /// What the query selects, with locations, in order: in the document with this root, where `@` is the node
-/// (RFC 9535, sections 2.1.2 and 2.5).
+/// (RFC 9535, sections 2.1.2 and 2.5), under a function set that the query fits.
 ///
-/// The nodes and the names of their locations borrow the document. An error comes only where memory is refused; then
-/// there is no list.
-pub fn evaluate_located<'b>(
+/// The nodes and the names of their locations borrow the document. Where an error comes there is no list: `Pattern` comes
+/// only where the query calls a function that stands for `match` or `search`; every other error is of memory.
+pub fn evaluate_located<'b, F: Functions + Drop>(
     alloc: Global,
     query: &Checked,
     node: &'b Value,
     root: &'b Value,
+    functions: F,
 ) -> Result<LocatedNodeList<'b>, QueryError>
-    // Under every function set, as no query of these forms calls a function.
-    ensures selects { IfOk result (λ list. (F : FunctionSet) → IsResult F (view root.now) (tree_of query.now) (view node.now) (located_nodes list)) }
-    ensures refused { IfErr result (λ e. e ≡ Memory) }
+    requires { Fits (F.set functions) (signatures_of query.now) }
+    ensures selects { IfOk result (λ list. IsClear (F.set functions) (tree_of query.now) (view root.now)
+        → IsResult (F.set functions) (view root.now) (tree_of query.now) (view node.now) (located_nodes list)) }
+    ensures refused { IfErr result (λ e. EachCall (GoesWithoutPattern (F.set functions)) (tree_of query.now) → e ≡ Memory) }
 {
-    let mut walk = walk(alloc, query, node, root)?;
+    let mut walk = walk(alloc, query, node, root, functions)?;
     let mut found = Vec::new(alloc);
     'nodes: while let Some(node) = walk.next()? {
         found.push(node)?;
@@ -92,17 +105,19 @@ pub fn evaluate_located<'b>(
 }
 
 /// The values of what the query selects, in order, as [`evaluate_located`] gives them. No location is made.
-pub fn evaluate<'b>(
+pub fn evaluate<'b, F: Functions + Drop>(
     alloc: Global,
     query: &Checked,
     node: &'b Value,
     root: &'b Value,
+    functions: F,
 ) -> Result<NodeList<'b>, QueryError>
-    ensures selects { IfOk result (λ list. (F : FunctionSet)
-        → (nodes : List Located) × IsResult F (view root.now) (tree_of query.now) (view node.now) nodes × (node_values list ≡ map (λ n. n.value) nodes)) }
-    ensures refused { IfErr result (λ e. e ≡ Memory) }
+    requires { Fits (F.set functions) (signatures_of query.now) }
+    ensures selects { IfOk result (λ list. IsClear (F.set functions) (tree_of query.now) (view root.now)
+        → (nodes : List Located) × IsResult (F.set functions) (view root.now) (tree_of query.now) (view node.now) nodes × (node_values list ≡ map (λ n. n.value) nodes)) }
+    ensures refused { IfErr result (λ e. EachCall (GoesWithoutPattern (F.set functions)) (tree_of query.now) → e ≡ Memory) }
 {
-    let mut walk = walk(alloc, query, node, root)?;
+    let mut walk = walk(alloc, query, node, root, functions)?;
     let mut found = Vec::new(alloc);
     'values: while let Some(value) = walk.next_value()? {
         found.push(value)?;

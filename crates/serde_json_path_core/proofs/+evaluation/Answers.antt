@@ -1,105 +1,132 @@
-use Rattle.std.proofs.Common.{◌≡◌, ℕ, ◌+◌, ◌<◌, ◌-◌, length, take, [], drop, None, option_map, refl, sym, subst, ap, ◌∙◌, arith, ◌∷◌, ◌++◌, ◌||◌, ◌&&◌, get_or, IfOk, rules, filter as keep}
+use Rattle.std.proofs.Common.{◌≡◌, ℕ, ◌+◌, ◌<◌, ◌-◌, length, map, take, [], drop, None, option_map, refl, sym, subst, ap, ◌∙◌, arith, ◌∷◌, ◌++◌, ◌||◌, ◌&&◌, get_or, ◌⊎◌, inl, inr, IfOk, rules, filter as keep, append_assoc}
+use Rattle.std.proofs.lemmas.List.{map-append}
+use Rattle.std.proofs.Math.Logic.{∥∥₁_map}
+use Rattle.std.specs.Slice.Iter.{iter_rest}
 use Rattle.serde_json.specs.Data.{Data}
 use Rattle.serde_json.specs.View.{view}
-use Rattle.serde_json_path_nodes.specs.Place.{Step}
+use Rattle.serde_json_path_nodes.specs.Place.{Step, Located}
 use Rattle.serde_json_path_nodes.specs.Views.{node_value}
 use Rattle.serde_json_path_core.specs.Tree.{child, descendant, kind_of, segments_of}
-use Rattle.serde_json_path_core.specs.Functions.{FunctionSet, plain_functions}
 use Rattle.serde_json_path_core.specs.Cursors.{cursor_left}
-use Rattle.serde_json_path_core.specs.Flat.{segment_kind_view, or_at, ors_in, ands_in, part_query, pieces, pieces_named}
-use Rattle.serde_json_path_core.specs.Scopes.{nodes_of, top_of}
+use Rattle.serde_json_path_core.specs.Flat.{segment_kind_view, segment_in, segments_at, piece_at, piece_in, and_in, basic_in, or_at, and_at, ors_in, ands_in, call_at, part_query, pieces, pieces_named}
+use Rattle.serde_json_path_core.specs.Terms.{term_view}
+use Rattle.serde_json_path_core.specs.Calls.{StandsIn}
+use Rattle.serde_json_path_core.specs.Sound.{AreSoundSegments, IsSoundSegment, IsSoundSelector, IsSoundOr, IsSoundAnd, IsSoundBasic}
+use Rattle.serde_json_path_core.specs.Scopes.{Clear, nodes_of, query_of, set_of, top_of}
 use Rattle.serde_json_path_core.specs.Places.{frame_of, frames_of, task_view}
-use Rattle.serde_json_path_core.specs.Rest.{rest_of, IsStack, Frame, begun, stages}
+use Rattle.serde_json_path_core.specs.Rest.{rest_of, stack_path, IsStack, IsStackIn, IsInside, StandIn, Frame}
 use Rattle.serde_json_path_core.specs.Advances.{Advances, IsDone, ComesTo}
 use Rattle.serde_json_path_core.specs.Stages.{choice_view, stage_at, stages_at}
 use Rattle.serde_json_path_core.specs.Views.{child_view}
-use Rattle.serde_json_path_core.specs.Derivation.{start_of}
+use Rattle.serde_json_path_core.specs.Derivation.{start_of, IsIn}
 use Rattle.serde_json_path_core.specs.Meaning.{first_value}
 use Rattle.serde_json_path_core.specs.Computed as computed
-use Rattle.serde_json_path_core.specs.Computed.{itself, results_from}
 use Rattle.serde_json_path_core.specs.PartBounds.{parts_bound}
+use Rattle.serde_json_path_core.proofs.Answered.{given-all, answered}
 use Rattle.serde_json_path_core.proofs.BoundedParts.{within_get, within_bound}
 use Rattle.serde_json_path_core.proofs.Joined.{or-part, and-part, keep-yes, keep-no, first-found}
 use Rattle.serde_json_path_core.proofs.Moves.{ends-trans, passes-start, passes-over, comes-onward, comes-down, done, chooses-none, chooses-some}
-use Rattle.serde_json_path_core.proofs.Started.{rest-started, results-parts}
+use Rattle.serde_json_path_core.proofs.Started.{begun-results}
+use Rattle.serde_json_path_core.proofs.Standing.{left_stands, stack-inside, ends-stand, begun-inside}
+use Rattle.serde_json_path_core.proofs.SoundParts.{sound-segments, sound-segment, sound-selector, sound-and, sound-basic}
 use Rattle.serde_json_path_core.proofs.Bounds.{below_length, past_length}
 use Rattle.serde_json_path_core.proofs.Chains.{IsTurn, turn-dropped, turn-moved}
 use Rattle.serde_json_path_core.proofs.Found.{found-none, found-some}
 use Rattle.serde_json_path_core.proofs.LastPlaces.{ends_with, sees_last, sees_last_two}
+use Rattle.serde_json_path_core.proofs.Rests.{rest-ends, stack-dropped, work-ends}
+use Rattle.serde_json_path_core.proofs.Stacks.{located}
 use Rattle.serde_json_path_core.proofs.StageLists.{drop-some, drop-none, get-within, missing, stages-from, stages-past}
 use Rattle.serde_json_path_core.proofs.+evaluation.Goals as goal
 
+-- ---- places
+
+pub evaluation::place::Place::advance-give-requires : goal.evaluation::place::Place::advance-give-requires
+evaluation::place::Place::advance-give-requires g t c =
+    let scope = c.args.scope.now in
+    let stage = stage_at (nodes_of scope) c.args.segment in
+    let sel = choice_view (nodes_of scope) c.in-Some.choice in
+    let same = c.loop-choice.invariant.1.0 in
+    let sound : IsSoundSelector (set_of scope) (top_of scope) (query_of scope) sel =
+    sound-selector (set_of scope) (top_of scope) (query_of scope) (segment_in (piece_at (nodes_of scope) c.args.segment.number)) c.loop-choice.self.selector sel
+    (sym (ap (option_map (choice_view (nodes_of scope))) (sym c.in-Some.is) ∙ c.choice.ensures.choice)) c.requires.sound in
+    let inside : StandIn (top_of scope) (cursor_left c.loop-choice.self.cursor) =
+    left_stands (top_of scope) (frame_of c.loop-choice.self) (∥∥₁_map c.requires.inside (λ h. (subst (StandsIn (top_of scope)) (sym same.1) h.0, same.3 h.1))) in
+    search rules
+
 pub evaluation::place::Place::advance-loop-choice-init : goal.evaluation::place::Place::advance-loop-choice-init
-evaluation::place::Place::advance-loop-choice-init t c = (refl, λ F. passes-start (Unit {0}) F (top_of c.args.scope.now) (stage_at (nodes_of c.args.scope.now) c.args.segment) (frame_of c.args.self.now))
+evaluation::place::Place::advance-loop-choice-init g t c = (refl, passes-start (Clear c.args.scope.now) (set_of c.args.scope.now) (top_of c.args.scope.now) (stage_at (nodes_of c.args.scope.now) c.args.segment) (frame_of c.args.self.now))
 
 pub evaluation::place::Place::advance-loop-choice-preserved : goal.evaluation::place::Place::advance-loop-choice-preserved
-evaluation::place::Place::advance-loop-choice-preserved t c =
+evaluation::place::Place::advance-loop-choice-preserved g t c =
     let stage = stage_at (nodes_of c.args.scope.now) c.args.segment in
     let sel = choice_view (nodes_of c.args.scope.now) c.in-Some.choice in
     let mid = frame_of c.loop-choice.self in
     let here = drop-some stage.selectors c.loop-choice.self.selector sel (sym (ap (option_map (choice_view (nodes_of c.args.scope.now))) (sym c.in-Some.is) ∙ c.choice.ensures.choice)) in (
       c.loop-choice.invariant.0,
-      λ F.
-          passes-over (Unit {0}) F (top_of c.args.scope.now) stage (frame_of c.args.self.now) mid sel (cursor_left c.open-self.result) (c.loop-choice.invariant.1 F) here
-          (chooses-none (Unit {0}) F (top_of c.args.scope.now) stage child_view sel mid.left (cursor_left c.give.new.cursor) c.in_ok-child.field-0 c.in-None.is (c.in_ok-child.ensures.chooses F)) c.open-self.ensures,
+      passes-over (Clear c.args.scope.now) (set_of c.args.scope.now) (top_of c.args.scope.now) stage (frame_of c.args.self.now) mid sel (cursor_left c.open-self.result) (c.loop-choice.invariant.1) here
+          (chooses-none (Clear c.args.scope.now) (set_of c.args.scope.now) (top_of c.args.scope.now) stage child_view sel mid.left (cursor_left c.give.new.cursor) c.in_ok-child.field-0 c.in-None.is (c.in_ok-child.ensures.chooses)) c.open-self.ensures,
     )
 
 pub evaluation::place::Place::advance-loop-choice-smaller : goal.evaluation::place::Place::advance-loop-choice-smaller
-evaluation::place::Place::advance-loop-choice-smaller t c =
+evaluation::place::Place::advance-loop-choice-smaller g t c =
     let stage = stage_at (nodes_of c.args.scope.now) c.args.segment in
     let within = get-within stage.selectors c.loop-choice.self.selector (choice_view (nodes_of c.args.scope.now) c.in-Some.choice) (sym (ap (option_map (choice_view (nodes_of c.args.scope.now))) (sym c.in-Some.is) ∙ c.choice.ensures.choice)) in
     omega arith
 
 pub evaluation::place::Place::advance-returns-in-Some-2-clause-advances : goal.evaluation::place::Place::advance-returns-in-Some-2-clause-advances
-evaluation::place::Place::advance-returns-in-Some-2-clause-advances t c =
+evaluation::place::Place::advance-returns-in-Some-2-clause-advances g t c =
     let stage = stage_at (nodes_of c.args.scope.now) c.args.segment in
     let sel = choice_view (nodes_of c.args.scope.now) c.in-Some.choice in
     let mid = frame_of c.loop-choice.self in
     let here = drop-some stage.selectors c.loop-choice.self.selector sel (sym (ap (option_map (choice_view (nodes_of c.args.scope.now))) (sym c.in-Some.is) ∙ c.choice.ensures.choice)) in
-    λ F.
-    let chosen = chooses-some (Unit {0}) F (top_of c.args.scope.now) stage child_view sel mid.left (cursor_left c.give.new.cursor) c.in_ok-child.field-0 c.in-Some-2.child c.in-Some-2.is (c.in_ok-child.ensures.chooses F) in
-    comes-onward (Unit {0}) F (top_of c.args.scope.now) stage (frame_of c.args.self.now) mid sel (drop (c.loop-choice.self.selector + 1) stage.selectors) (child_view c.in-Some-2.child) (cursor_left c.give.new.cursor)
-    (c.loop-choice.invariant.1 F) here chosen.0 chosen.1
+    let chosen = chooses-some (Clear c.args.scope.now) (set_of c.args.scope.now) (top_of c.args.scope.now) stage child_view sel mid.left (cursor_left c.give.new.cursor) c.in_ok-child.field-0 c.in-Some-2.child c.in-Some-2.is (c.in_ok-child.ensures.chooses) in
+    comes-onward (Clear c.args.scope.now) (set_of c.args.scope.now) (top_of c.args.scope.now) stage (frame_of c.args.self.now) mid sel (drop (c.loop-choice.self.selector + 1) stage.selectors) (child_view c.in-Some-2.child) (cursor_left c.give.new.cursor)
+    (c.loop-choice.invariant.1) here chosen.0 chosen.1
 
 pub evaluation::place::Place::advance-returns-in-Child-clause-advances : goal.evaluation::place::Place::advance-returns-in-Child-clause-advances
-evaluation::place::Place::advance-returns-in-Child-clause-advances t c =
+evaluation::place::Place::advance-returns-in-Child-clause-advances g t c =
     let stage = stage_at (nodes_of c.args.scope.now) c.args.segment in
     let here = drop-none stage.selectors c.loop-choice.self.selector (missing (choice_view (nodes_of c.args.scope.now)) c.choice.result _ c.in_default.not-Some c.choice.ensures.choice) in
-    λ F. done (Unit {0}) F (top_of c.args.scope.now) stage (frame_of c.args.self.now) (frame_of c.loop-choice.self) (c.loop-choice.invariant.1 F) here
+    done (Clear c.args.scope.now) (set_of c.args.scope.now) (top_of c.args.scope.now) stage (frame_of c.args.self.now) (frame_of c.loop-choice.self) (c.loop-choice.invariant.1) here
     (λ kind. let no : child ≡ descendant = sym (ap segment_kind_view c.in-Child.is) ∙ c.segment_kind.ensures ∙ kind in absurd cc)
 
 pub evaluation::place::Place::advance-returns-in-None-advance-clause-advances : goal.evaluation::place::Place::advance-returns-in-None-advance-clause-advances
-evaluation::place::Place::advance-returns-in-None-advance-clause-advances t c =
+evaluation::place::Place::advance-returns-in-None-advance-clause-advances g t c =
     let stage = stage_at (nodes_of c.args.scope.now) c.args.segment in
     let here = drop-none stage.selectors c.loop-choice.self.selector (missing (choice_view (nodes_of c.args.scope.now)) c.choice.result _ c.in_default.not-Some c.choice.ensures.choice) in
-    λ F. done (Unit {0}) F (top_of c.args.scope.now) stage (frame_of c.args.self.now) (frame_of c.loop-choice.self) (c.loop-choice.invariant.1 F) here (λ kind. c.in-None-advance.ensures.0)
+    done (Clear c.args.scope.now) (set_of c.args.scope.now) (top_of c.args.scope.now) stage (frame_of c.args.self.now) (frame_of c.loop-choice.self) (c.loop-choice.invariant.1) here (λ kind. c.in-None-advance.ensures.0)
 
 pub evaluation::place::Place::advance-returns-in-Some-advance-clause-advances : goal.evaluation::place::Place::advance-returns-in-Some-advance-clause-advances
-evaluation::place::Place::advance-returns-in-Some-advance-clause-advances t c =
+evaluation::place::Place::advance-returns-in-Some-advance-clause-advances g t c =
     let stage = stage_at (nodes_of c.args.scope.now) c.args.segment in
     let here = drop-none stage.selectors c.loop-choice.self.selector (missing (choice_view (nodes_of c.args.scope.now)) c.choice.result _ c.in_default.not-Some c.choice.ensures.choice) in
-    λ F.
-    comes-down (Unit {0}) F (top_of c.args.scope.now) stage (frame_of c.args.self.now) (frame_of c.loop-choice.self) (child_view c.in-Some-advance.child) (cursor_left c.advance.new.self)
-    (c.loop-choice.invariant.1 F) here (sym c.segment_kind.ensures ∙ ap segment_kind_view c.in-Descendant.is) c.in-Some-advance.ensures
+    comes-down (Clear c.args.scope.now) (set_of c.args.scope.now) (top_of c.args.scope.now) stage (frame_of c.args.self.now) (frame_of c.loop-choice.self) (child_view c.in-Some-advance.child) (cursor_left c.advance.new.self)
+    (c.loop-choice.invariant.1) here (sym c.segment_kind.ensures ∙ ap segment_kind_view c.in-Descendant.is) c.in-Some-advance.ensures
+
+pub evaluation::place::Place::ahead-advance-requires : goal.evaluation::place::Place::ahead-advance-requires
+evaluation::place::Place::ahead-advance-requires g t c =
+    let top = top_of c.args.scope.now in
+    let inside : ∥ IsInside top (frame_of c.in_ok-place.place) ∥₁ = subst (λ p. ∥ IsInside top p ∥₁) (sym c.in_ok-place.ensures.same) c.requires.inside in
+    search rules
 
 pub evaluation::place::Place::ahead-returns-in-Some-clause-ahead : goal.evaluation::place::Place::ahead-returns-in-Some-clause-ahead
-evaluation::place::Place::ahead-returns-in-Some-clause-ahead t c =
+evaluation::place::Place::ahead-returns-in-Some-clause-ahead g t c =
     let stage = stage_at (nodes_of c.args.scope.now) c.args.segment in
     let new = frame_of c.advance.new.self in
-    λ F.
-    subst (λ p. ComesTo (Unit {0}) F (top_of c.args.scope.now) stage p (task_view c.in-Some.task) new) c.in_ok-place.ensures.same
-    (subst (λ o. Advances (Unit {0}) F (top_of c.args.scope.now) stage (frame_of c.in_ok-place.place) (option_map task_view o) new) c.in-Some.is (c.in_ok-task.ensures.advances F))
+    subst (λ p. ComesTo (Clear c.args.scope.now) (set_of c.args.scope.now) (top_of c.args.scope.now) stage p (task_view c.in-Some.task) new) c.in_ok-place.ensures.same
+    (subst (λ o. Advances (Clear c.args.scope.now) (set_of c.args.scope.now) (top_of c.args.scope.now) stage (frame_of c.in_ok-place.place) (option_map task_view o) new) c.in-Some.is (c.in_ok-task.ensures.advances))
 
 pub evaluation::place::Place::ahead-returns-in-None-clause-ahead : goal.evaluation::place::Place::ahead-returns-in-None-clause-ahead
-evaluation::place::Place::ahead-returns-in-None-clause-ahead t c =
+evaluation::place::Place::ahead-returns-in-None-clause-ahead g t c =
     let stage = stage_at (nodes_of c.args.scope.now) c.args.segment in
     let new = frame_of c.advance.new.self in
-    λ F.
-    subst (λ p. IsDone (Unit {0}) F (top_of c.args.scope.now) stage p) c.in_ok-place.ensures.same
-    (subst (λ o. Advances (Unit {0}) F (top_of c.args.scope.now) stage (frame_of c.in_ok-place.place) (option_map task_view o) new) c.in-None.is (c.in_ok-task.ensures.advances F))
+    subst (λ p. IsDone (Clear c.args.scope.now) (set_of c.args.scope.now) (top_of c.args.scope.now) stage p) c.in_ok-place.ensures.same
+    (subst (λ o. Advances (Clear c.args.scope.now) (set_of c.args.scope.now) (top_of c.args.scope.now) stage (frame_of c.in_ok-place.place) (option_map task_view o) new) c.in-None.is (c.in_ok-task.ensures.advances))
+
+-- ---- the stack
 
 pub evaluation::stack::find_next-returns-in-None-clause-found : goal.evaluation::stack::find_next-returns-in-None-clause-found
-evaluation::stack::find_next-returns-in-None-clause-found t c =
+evaluation::stack::find_next-returns-in-None-clause-found g t c =
     let items = c.loop-last.places.items in
     let item = c.in-Some.ensures.item in
     let last = c.in-Some.last.now in
@@ -111,174 +138,278 @@ evaluation::stack::find_next-returns-in-None-clause-found t c =
       refl,
     )
 
-dropped : (t : ℕ) (c : goal.evaluation::stack::find_next-After-drop_last t) (F : FunctionSet) → IsTurn (Unit {0}) F (top_of c.args.scope.now) (stages_at (nodes_of c.args.scope.now) c.args.segments.now) (frames_of c.loop-last.places.items) (frames_of c.drop_last.new.places.items)
-dropped t c F =
+pub evaluation::stack::find_next-ahead-requires : goal.evaluation::stack::find_next-ahead-requires
+evaluation::stack::find_next-ahead-requires g t c =
+    let scope = c.args.scope.now in
+    let segment = c.in-Some-get.segment.now in
+    let look = c.in-Some-get.ensures.lookup in
+    let items = c.loop-last.places.items in
+    let item = c.in-Some.ensures.item in
+    let last = c.in-Some.last.now in
+    let ends = ends_with c.deref.result.now items last c.deref.ensures.value item.3.0 item.1 in
+    let below : segment.number < parts_bound c.args.segments.now = within_bound c.args.segments.now last.segment segment (below_length _ _ look.0) look.1 in
+    let sound : IsSoundSegment (set_of scope) (top_of scope) (query_of scope) (segment_in (piece_at (nodes_of scope) segment.number)) =
+    sound-segment (set_of scope) (top_of scope) (query_of scope) (pieces (nodes_of scope)) c.args.segments.now last.segment segment (below_length _ _ look.0) look.1 c.requires.sound in
+    let inside : ∥ IsInside (top_of scope) (frame_of last) ∥₁ =
+    ∥∥₁_map c.requires.inside (λ h.
+        stack-inside (top_of scope) h.0 (frames_of (take (length items - 1) items)) (frame_of last) h.1
+        (subst (IsStack h.0) (sees_last frame_of items (take (length items - 1) items) last ends.1) (c.loop-last.invariant.stack h.0 h.2))) in
+    search rules
+
+dropped : (g : _) (t : ℕ) (c : goal.evaluation::stack::find_next-After-drop_last g t)
+    → IsTurn (Clear c.args.scope.now) (set_of c.args.scope.now) (top_of c.args.scope.now) (stages_at (nodes_of c.args.scope.now) c.args.segments.now) (frames_of c.loop-last.places.items) (frames_of c.drop_last.new.places.items)
+dropped g t c =
+    let scope = c.args.scope.now in
     let items = c.loop-last.places.items in
     let front = take (length items - 1) items in
     let item = c.in-Some.ensures.item in
     let last = c.in-Some.last.now in
     let look = c.in-Some-get.ensures.lookup in
-    let nodes = (nodes_of c.args.scope.now) in
     let segment = c.in-Some-get.segment.now in
     let ends = ends_with c.deref.result.now items last c.deref.ensures.value item.3.0 item.1 in
-    turn-dropped (Unit {0}) F (top_of c.args.scope.now) (stages_at nodes c.args.segments.now) (frames_of items) (frames_of c.drop_last.new.places.items) (frames_of front) (frame_of last) (stage_at nodes segment) _
-    (sees_last frame_of items front last ends.1) (ap frames_of c.drop_last.ensures)
-    (stages-from nodes c.args.segments.now last.segment segment (below_length _ _ look.0) look.1)
-    (found-none _ _ c.in_ok-ahead-in-Some-get.field-0 c.in-None-2.is (c.in_ok-ahead-in-Some-get.ensures.ahead F))
+    turn-dropped (Clear scope) (set_of scope) (top_of scope) (stages_at (nodes_of scope) c.args.segments.now) (frames_of items) (frames_of c.drop_last.new.places.items) (frames_of front) (frame_of last)
+    (stage_at (nodes_of scope) segment) _ (sees_last frame_of items front last ends.1) (ap frames_of c.drop_last.ensures)
+    (stages-from (nodes_of scope) c.args.segments.now last.segment segment (below_length _ _ look.0) look.1)
+    (found-none _ _ c.in_ok-ahead-in-Some-get.field-0 c.in-None-2.is c.in_ok-ahead-in-Some-get.ensures.ahead)
 
 pub evaluation::stack::find_next-loop-last-smaller-in-None-2 : goal.evaluation::stack::find_next-loop-last-smaller-in-None-2
-evaluation::stack::find_next-loop-last-smaller-in-None-2 t c = (dropped t c plain_functions).1
+evaluation::stack::find_next-loop-last-smaller-in-None-2 g t c = (dropped g t c).1
 
 pub evaluation::stack::find_next-loop-last-preserved-in-None-2 : goal.evaluation::stack::find_next-loop-last-preserved-in-None-2
-evaluation::stack::find_next-loop-last-preserved-in-None-2 t c = record {
-  rest = λ F. c.loop-last.invariant.rest F ∙ (dropped t c F).0 tt;
-  stack = λ start h. (dropped t c plain_functions).2 start (c.loop-last.invariant.stack start h);
-}
+evaluation::stack::find_next-loop-last-preserved-in-None-2 g t c =
+    let turn = dropped g t c in
+    record {
+      rest = λ clear. c.loop-last.invariant.rest clear ∙ turn.0 clear;
+      stack = λ start h. turn.2 start (c.loop-last.invariant.stack start h);
+      less = let before = c.loop-last.invariant.less in let now = turn.1 in omega arith;
+    }
 
-moved : (t : ℕ) (c : goal.evaluation::stack::find_next-In_ok-push_over-in-Some-2 t) (F : FunctionSet) → IsTurn (Unit {0}) F (top_of c.args.scope.now) (stages_at (nodes_of c.args.scope.now) c.args.segments.now) (frames_of c.loop-last.places.items) (frames_of c.push_over.new.places.items)
-moved t c F =
+moved : (g : _) (t : ℕ) (c : goal.evaluation::stack::find_next-In_ok-push_over-in-Some-2 g t)
+    → IsTurn (Clear c.args.scope.now) (set_of c.args.scope.now) (top_of c.args.scope.now) (stages_at (nodes_of c.args.scope.now) c.args.segments.now) (frames_of c.loop-last.places.items) (frames_of c.push_over.new.places.items)
+moved g t c =
+    let scope = c.args.scope.now in
     let items = c.loop-last.places.items in
     let front = take (length items - 1) items in
     let item = c.in-Some.ensures.item in
     let last = c.in-Some.last.now in
     let look = c.in-Some-get.ensures.lookup in
-    let nodes = (nodes_of c.args.scope.now) in
     let segment = c.in-Some-get.segment.now in
     let ahead = c.in-Some-2.ahead in
     let task = task_view ahead.task in
     let next = c.of-next.result in
     let ends = ends_with c.deref.result.now items last c.deref.ensures.value item.3.0 item.1 in
-    turn-moved (Unit {0}) F (top_of c.args.scope.now) (stages_at nodes c.args.segments.now) (frames_of items) (frames_of c.push_over.new.places.items) (frames_of front) (frame_of last) (frame_of ahead.place) (frame_of next) (stage_at nodes segment) _
+    turn-moved (Clear scope) (set_of scope) (top_of scope) (stages_at (nodes_of scope) c.args.segments.now) (frames_of items) (frames_of c.push_over.new.places.items) (frames_of front) (frame_of last)
+    (frame_of ahead.place) (frame_of next) (stage_at (nodes_of scope) segment) _
     task.0 task.1 (sees_last frame_of items front last ends.1) (sees_last_two frame_of c.push_over.new.places.items front ahead.place next c.in_ok-push_over-in-Some-2.ensures.ok)
-    (stages-from nodes c.args.segments.now last.segment segment (below_length _ _ look.0) look.1)
-    (found-some _ _ c.in_ok-ahead-in-Some-get.field-0 ahead c.in-Some-2.is (c.in_ok-ahead-in-Some-get.ensures.ahead F)) c.of-next.ensures
+    (stages-from (nodes_of scope) c.args.segments.now last.segment segment (below_length _ _ look.0) look.1)
+    (found-some _ _ c.in_ok-ahead-in-Some-get.field-0 ahead c.in-Some-2.is c.in_ok-ahead-in-Some-get.ensures.ahead) c.of-next.ensures
 
 pub evaluation::stack::find_next-loop-last-smaller : goal.evaluation::stack::find_next-loop-last-smaller
-evaluation::stack::find_next-loop-last-smaller t c = (moved t c plain_functions).1
+evaluation::stack::find_next-loop-last-smaller g t c = (moved g t c).1
 
 pub evaluation::stack::find_next-loop-last-preserved : goal.evaluation::stack::find_next-loop-last-preserved
-evaluation::stack::find_next-loop-last-preserved t c = record {
-  rest = λ F. c.loop-last.invariant.rest F ∙ (moved t c F).0 tt;
-  stack = λ start h. (moved t c plain_functions).2 start (c.loop-last.invariant.stack start h);
-}
-
-pub evaluation::stack::find_next-returns-in_err-push_over-in-Some-2-clause-rest : goal.evaluation::stack::find_next-returns-in_err-push_over-in-Some-2-clause-rest
-evaluation::stack::find_next-returns-in_err-push_over-in-Some-2-clause-rest t c =
-    let all = stages_at (nodes_of c.args.scope.now) c.args.segments.now in
-    λ F. c.loop-last.invariant.rest F ∙ ap (λ items. rest_of F (top_of c.args.scope.now) all (frames_of items)) (sym c.in_err-push_over-in-Some-2.ensures.unchanged)
+evaluation::stack::find_next-loop-last-preserved g t c =
+    let turn = moved g t c in
+    record {
+      rest = λ clear. c.loop-last.invariant.rest clear ∙ turn.0 clear;
+      stack = λ start h. turn.2 start (c.loop-last.invariant.stack start h);
+      less = let before = c.loop-last.invariant.less in let now = turn.1 in omega arith;
+    }
 
 pub evaluation::stack::find_next-returns-in_err-push_over-in-Some-2-clause-stack : goal.evaluation::stack::find_next-returns-in_err-push_over-in-Some-2-clause-stack
-evaluation::stack::find_next-returns-in_err-push_over-in-Some-2-clause-stack t c =
+evaluation::stack::find_next-returns-in_err-push_over-in-Some-2-clause-stack g t c =
     λ start h. subst (λ items. IsStack start (frames_of items)) (sym c.in_err-push_over-in-Some-2.ensures.unchanged) (c.loop-last.invariant.stack start h)
 
-pub evaluation::stack::find_next-ahead-requires : goal.evaluation::stack::find_next-ahead-requires
-evaluation::stack::find_next-ahead-requires t c =
-    let look = c.in-Some-get.ensures.lookup in
-    let w : c.in-Some-get.segment.now.number < parts_bound c.args.segments.now = within_bound c.args.segments.now c.in-Some.last.now.segment c.in-Some-get.segment.now (below_length _ _ look.0) look.1 in
-    search rules
+-- ---- logical expressions
 
 pub filter::logic::is_true-all_true-requires : goal.filter::logic::is_true-all_true-requires
-filter::logic::is_true-all_true-requires t c =
+filter::logic::is_true-all_true-requires g t c =
+    let scope = c.args.scope.now in
     let parts = c.or_parts-part-items.result.now in
-    let w : (get_or parts c.loop-part.part-index (record { number = 0 })).number < parts_bound parts = within_get parts c.loop-part.part-index (record { number = 0 }) c.loop-part-test.true in
+    let i = c.loop-part.part-index in
+    let below : (get_or parts i (record { number = 0 })).number < parts_bound parts = within_get parts i (record { number = 0 }) c.loop-part-test.true in
+    let sound : IsSoundAnd (set_of scope) (top_of scope) (query_of scope) (and_in (piece_in (pieces (nodes_of scope)) (get_or parts i (record { number = 0 })).number)) =
+    sound-and (set_of scope) (top_of scope) (query_of scope) (pieces (nodes_of scope)) parts i (record { number = 0 }) c.loop-part-test.true
+    (subst (IsSoundOr (set_of scope) (top_of scope) (query_of scope)) c.or_parts-part-items.ensures.tree c.requires.sound) in
     search rules
 
 pub filter::logic::is_true-loop-part-preserved : goal.filter::logic::is_true-loop-part-preserved
-filter::logic::is_true-loop-part-preserved t c =
+filter::logic::is_true-loop-part-preserved g t c =
     let ps = pieces (nodes_of c.args.scope.now) in
     let parts = c.or_parts-part-items.result.now in
     let i = c.loop-part.part-index in
     let v = view c.args.value.now in
-    λ F.
-    let holds = computed.is_true F (top_of c.args.scope.now) in
-    c.loop-part.invariant F ∙ ap (λ e. holds e v) (or-part ps parts i (record { number = 0 }) c.loop-part-test.true)
-    ∙ ap (λ b. b || holds (ors_in (pieces_named ps (drop (i + 1) parts))) v) (sym (c.in_ok-all_true.ensures.means F) ∙ c.if-branch.false)
+    let holds = computed.is_true (set_of c.args.scope.now) (top_of c.args.scope.now) in
+    λ clear.
+    c.loop-part.invariant clear ∙ ap (λ e. holds e v) (or-part ps parts i (record { number = 0 }) c.loop-part-test.true)
+    ∙ ap (λ b. b || holds (ors_in (pieces_named ps (drop (i + 1) parts))) v) (sym (c.in_ok-all_true.ensures.means clear) ∙ c.if-branch.false)
 
 pub filter::logic::is_true-returns-then-branch-clause-means : goal.filter::logic::is_true-returns-then-branch-clause-means
-filter::logic::is_true-returns-then-branch-clause-means t c =
+filter::logic::is_true-returns-then-branch-clause-means g t c =
     let ps = pieces (nodes_of c.args.scope.now) in
     let parts = c.or_parts-part-items.result.now in
     let i = c.loop-part.part-index in
     let v = view c.args.value.now in
-    λ F.
-    let holds = computed.is_true F (top_of c.args.scope.now) in
-    sym (c.loop-part.invariant F ∙ ap (λ e. holds e v) (or-part ps parts i (record { number = 0 }) c.loop-part-test.true)
-    ∙ ap (λ b. b || holds (ors_in (pieces_named ps (drop (i + 1) parts))) v) (sym (c.in_ok-all_true.ensures.means F) ∙ c.if-branch.true))
+    let holds = computed.is_true (set_of c.args.scope.now) (top_of c.args.scope.now) in
+    λ clear.
+    sym (c.loop-part.invariant clear ∙ ap (λ e. holds e v) (or-part ps parts i (record { number = 0 }) c.loop-part-test.true)
+    ∙ ap (λ b. b || holds (ors_in (pieces_named ps (drop (i + 1) parts))) v) (sym (c.in_ok-all_true.ensures.means clear) ∙ c.if-branch.true))
 
 pub filter::logic::all_true-basic_true-requires : goal.filter::logic::all_true-basic_true-requires
-filter::logic::all_true-basic_true-requires t c =
+filter::logic::all_true-basic_true-requires g t c =
+    let scope = c.args.scope.now in
     let parts = c.and_parts-part-items.result.now in
-    let w : (get_or parts c.loop-part.part-index (record { number = 0 })).number < parts_bound parts = within_get parts c.loop-part.part-index (record { number = 0 }) c.loop-part-test.true in
+    let i = c.loop-part.part-index in
+    let below : (get_or parts i (record { number = 0 })).number < parts_bound parts = within_get parts i (record { number = 0 }) c.loop-part-test.true in
+    let sound : IsSoundBasic (set_of scope) (top_of scope) (query_of scope) (basic_in (piece_in (pieces (nodes_of scope)) (get_or parts i (record { number = 0 })).number)) =
+    sound-basic (set_of scope) (top_of scope) (query_of scope) (pieces (nodes_of scope)) parts i (record { number = 0 }) c.loop-part-test.true
+    (subst (IsSoundAnd (set_of scope) (top_of scope) (query_of scope)) c.and_parts-part-items.ensures.tree c.requires.sound) in
     search rules
 
 pub filter::logic::all_true-loop-part-preserved : goal.filter::logic::all_true-loop-part-preserved
-filter::logic::all_true-loop-part-preserved t c =
+filter::logic::all_true-loop-part-preserved g t c =
     let ps = pieces (nodes_of c.args.scope.now) in
     let parts = c.and_parts-part-items.result.now in
     let i = c.loop-part.part-index in
     let v = view c.args.value.now in
-    λ F.
-    let holds = computed.all_true F (top_of c.args.scope.now) in
-    c.loop-part.invariant F ∙ ap (λ e. holds e v) (and-part ps parts i (record { number = 0 }) c.loop-part-test.true)
-    ∙ ap (λ b. b && holds (ands_in (pieces_named ps (drop (i + 1) parts))) v) (sym (c.in_ok-basic_true.ensures.means F) ∙ c.if-not-branch.false)
+    let holds = computed.all_true (set_of c.args.scope.now) (top_of c.args.scope.now) in
+    λ clear.
+    c.loop-part.invariant clear ∙ ap (λ e. holds e v) (and-part ps parts i (record { number = 0 }) c.loop-part-test.true)
+    ∙ ap (λ b. b && holds (ands_in (pieces_named ps (drop (i + 1) parts))) v) (sym (c.in_ok-basic_true.ensures.means clear) ∙ c.if-not-branch.false)
 
 pub filter::logic::all_true-returns-then-not-branch-clause-means : goal.filter::logic::all_true-returns-then-not-branch-clause-means
-filter::logic::all_true-returns-then-not-branch-clause-means t c =
+filter::logic::all_true-returns-then-not-branch-clause-means g t c =
     let ps = pieces (nodes_of c.args.scope.now) in
     let parts = c.and_parts-part-items.result.now in
     let i = c.loop-part.part-index in
     let v = view c.args.value.now in
-    λ F.
-    let holds = computed.all_true F (top_of c.args.scope.now) in
-    sym (c.loop-part.invariant F ∙ ap (λ e. holds e v) (and-part ps parts i (record { number = 0 }) c.loop-part-test.true)
-    ∙ ap (λ b. b && holds (ands_in (pieces_named ps (drop (i + 1) parts))) v) (sym (c.in_ok-basic_true.ensures.means F) ∙ c.if-not-branch.true))
+    let holds = computed.all_true (set_of c.args.scope.now) (top_of c.args.scope.now) in
+    λ clear.
+    sym (c.loop-part.invariant clear ∙ ap (λ e. holds e v) (and-part ps parts i (record { number = 0 }) c.loop-part-test.true)
+    ∙ ap (λ b. b && holds (ands_in (pieces_named ps (drop (i + 1) parts))) v) (sym (c.in_ok-basic_true.ensures.means clear) ∙ c.if-not-branch.true))
+
+-- ---- queries in expressions
+
+pub filter::logic::first-find_next-requires : goal.filter::logic::first-find_next-requires
+filter::logic::first-find_next-requires g t c =
+    let scope = c.args.scope.now in
+    let q = part_query (nodes_of scope) c.args.query in
+    let segments = c.part_segments-segments.result.now in
+    let items = c.in_ok-push.ensures.items ∙ ap (λ places. places ++ c.start.result ∷ []) c.new-places.ensures.items in
+    let sound : AreSoundSegments (set_of scope) (top_of scope) (query_of scope) (segments_at (nodes_of scope) segments) =
+    sound-segments (set_of scope) (top_of scope) (query_of scope) q (segments_at (nodes_of scope) segments) c.part_segments-segments.ensures.tree c.requires.sound in
+    let inside : ∥ IsStackIn (top_of scope) (frames_of c.push.new.self.items) ∥₁ =
+    ∣ begun-inside (top_of scope) (kind_of q) (view c.args.value.now) (view c.start-start.result.now) (stages_at (nodes_of scope) segments) (frames_of c.push.new.self.items) (frame_of c.start.result)
+    c.requires.inside (c.start-start.ensures ∙ ap (λ kind. start_of kind (top_of scope) (view c.args.value.now)) c.part_kind.ensures) (ap frames_of items) c.start.ensures ∣₁ in
+    search rules
 
 pub filter::logic::first-returns-clause-means : goal.filter::logic::first-returns-clause-means
-filter::logic::first-returns-clause-means t c =
-    let nodes = nodes_of c.args.scope.now in
-    let top = top_of c.args.scope.now in
-    let q = part_query nodes c.args.query in
+filter::logic::first-returns-clause-means g t c =
+    let scope = c.args.scope.now in
+    let q = part_query (nodes_of scope) c.args.query in
     let here = view c.args.value.now in
-    let start = view c.start-start.result.now in
-    let all = stages_at nodes c.part_segments-segments.result.now in
-    let first = frame_of c.start.result in
+    let segments = c.part_segments-segments.result.now in
     let items = c.in_ok-push.ensures.items ∙ ap (λ places. places ++ c.start.result ∷ []) c.new-places.ensures.items in
-    let begins = c.start.ensures ∙ ap (λ segs. record { step = None; value = start; segment = 0; selector = 0; left = begun (stages segs) start }) c.part_segments-segments.ensures.tree in
-    let is_start : start ≡ start_of (kind_of q) top here = c.start-start.ensures ∙ ap (λ kind. start_of kind top here) c.part_kind.ensures in
-    λ F.
-    let started = rest-started F top (segments_of q) start first (ap (λ (p : Frame). p.step) begins) (ap (λ (p : Frame). p.segment) begins) (ap (λ (p : Frame). p.selector) begins)
-    (ap (λ (p : Frame). p.value) begins) (ap (λ (p : Frame). p.left) begins) in
-    subst (λ ns. IfOk c.find_next.result (λ found. option_map node_value found ≡ first_value ns))
-    (sym (c.find_next.ensures.rest F) ∙ ap (λ places. rest_of F top all (frames_of places)) items
-    ∙ ap (λ segs. rest_of F top (stages segs) (first ∷ [])) c.part_segments-segments.ensures.tree ∙ started
-    ∙ ap (λ v. results_from F top (segments_of q) (itself v)) is_start ∙ results-parts F top q here)
-    (first-found F top all c.find_next.new.places.items c.find_next.result c.find_next.ensures.found)
+    let begun = begun-results (set_of scope) (top_of scope) q here (view c.start-start.result.now) (segments_at (nodes_of scope) segments) (frames_of c.push.new.self.items) (frame_of c.start.result)
+    c.part_segments-segments.ensures.tree (c.start-start.ensures ∙ ap (λ kind. start_of kind (top_of scope) here) c.part_kind.ensures) (ap frames_of items) c.start.ensures in
+    first-found (Clear scope) (set_of scope) (top_of scope) (stages_at (nodes_of scope) segments) c.find_next.new.places.items c.find_next.result (computed.results (set_of scope) (top_of scope) q here)
+    (λ clear. sym (c.find_next.ensures.rest clear) ∙ begun) c.find_next.ensures.found
 
-pub evaluation::place::give_true-loop-child-preserved : goal.evaluation::place::give_true-loop-child-preserved
-evaluation::place::give_true-loop-child-preserved t c =
+-- ---- children that a filter admits
+
+pub evaluation::place::give_true-is_true-requires : goal.evaluation::place::give_true-is_true-requires
+evaluation::place::give_true-is_true-requires g t c =
+    let top = top_of c.args.scope.now in
     let child = child_view c.in-Some.child in
     let left = cursor_left c.advance.new.self in
-    let before = c.loop-child.invariant in (
-      λ F.
-          let test = λ (x : Step × Data). computed.is_true F (top_of c.args.scope.now) (or_at (nodes_of c.args.scope.now) c.args.test) x.1 in
-          before.0 F ∙ ap (keep test) c.in-Some.ensures ∙ keep-no test child left (sym (c.in_ok-is_true.ensures.means F) ∙ c.if-branch.false),
+    let inside : StandsIn top (view c.in-Some.child.value.now) =
+    ends-stand top (cursor_left c.args.cursor.now) (cursor_left c.loop-child.cursor) c.loop-child.invariant.1 c.requires.inside child (subst (IsIn child) (sym c.in-Some.ensures) (inl refl)) in
+    search rules
+
+pub evaluation::place::give_true-loop-child-preserved : goal.evaluation::place::give_true-loop-child-preserved
+evaluation::place::give_true-loop-child-preserved g t c =
+    let child = child_view c.in-Some.child in
+    let left = cursor_left c.advance.new.self in
+    let before = c.loop-child.invariant in
+    let test = λ (x : Step × Data). computed.is_true (set_of c.args.scope.now) (top_of c.args.scope.now) (or_at (nodes_of c.args.scope.now) c.args.test) x.1 in (
+      λ clear. before.0 clear ∙ ap (keep test) c.in-Some.ensures ∙ keep-no test child left (sym (c.in_ok-is_true.ensures.means clear) ∙ c.if-branch.false),
       ends-trans _ _ _ before.1 (child ∷ [], c.in-Some.ensures),
     )
 
 pub evaluation::place::give_true-returns-then-branch-clause-chooses : goal.evaluation::place::give_true-returns-then-branch-clause-chooses
-evaluation::place::give_true-returns-then-branch-clause-chooses t c =
+evaluation::place::give_true-returns-then-branch-clause-chooses g t c =
     let child = child_view c.in-Some.child in
     let left = cursor_left c.advance.new.self in
     let before = c.loop-child.invariant in
-    λ F. (
-      λ clear.
-          let test = λ (x : Step × Data). computed.is_true F (top_of c.args.scope.now) (or_at (nodes_of c.args.scope.now) c.args.test) x.1 in
-          before.0 F ∙ ap (keep test) c.in-Some.ensures ∙ keep-yes test child left (sym (c.in_ok-is_true.ensures.means F) ∙ c.if-branch.true),
+    let test = λ (x : Step × Data). computed.is_true (set_of c.args.scope.now) (top_of c.args.scope.now) (or_at (nodes_of c.args.scope.now) c.args.test) x.1 in (
+      λ clear. before.0 clear ∙ ap (keep test) c.in-Some.ensures ∙ keep-yes test child left (sym (c.in_ok-is_true.ensures.means clear) ∙ c.if-branch.true),
       ends-trans _ _ _ before.1 ([], c.in-Some.ensures),
     )
 
 pub evaluation::place::give_true-returns-clause-chooses : goal.evaluation::place::give_true-returns-clause-chooses
-evaluation::place::give_true-returns-clause-chooses t c =
-    λ F clear.
-    let test = λ (x : Step × Data). computed.is_true F (top_of c.args.scope.now) (or_at (nodes_of c.args.scope.now) c.args.test) x.1 in
-    c.loop-child.invariant.0 F ∙ ap (keep test) c.in_default.ensures.0
+evaluation::place::give_true-returns-clause-chooses g t c =
+    let test = λ (x : Step × Data). computed.is_true (set_of c.args.scope.now) (top_of c.args.scope.now) (or_at (nodes_of c.args.scope.now) c.args.test) x.1 in
+    λ clear. c.loop-child.invariant.0 clear ∙ ap (keep test) c.in_default.ensures.0
+
+-- ---- all nodes of a query
+
+pub filter::logic::all_values-values-init : goal.filter::logic::all_values-values-init
+filter::logic::all_values-values-init g t c =
+    let scope = c.args.scope.now in
+    let q = part_query (nodes_of scope) c.args.query in
+    let here = view c.args.value.now in
+    let start = view c.start-start.result.now in
+    let segments = c.part_segments-segments.result.now in
+    let frames = frames_of c.push.new.self.items in
+    let is_start = c.start-start.ensures ∙ ap (λ kind. start_of kind (top_of scope) here) c.part_kind.ensures in
+    let items = ap frames_of (c.in_ok-push.ensures.items ∙ ap (λ places. places ++ c.start.result ∷ []) c.new-places.ensures.items) in
+    let begun = begun-results (set_of scope) (top_of scope) q here start (segments_at (nodes_of scope) segments) frames (frame_of c.start.result) c.part_segments-segments.ensures.tree is_start items c.start.ensures in
+    let values = map (λ (n : Located). n.value) in
+    record {
+      values = λ clear.
+          ap values (sym begun) ∙ ap (λ found. map node_value found ++ values (rest_of (set_of scope) (top_of scope) (stages_at (nodes_of scope) segments) frames)) (sym c.new-found.ensures.items);
+      inside = ∣ begun-inside (top_of scope) (kind_of q) here start (stages_at (nodes_of scope) segments) frames (frame_of c.start.result) c.requires.inside is_start items c.start.ensures ∣₁;
+    }
+
+pub filter::logic::all_values-values-smaller : goal.filter::logic::all_values-values-smaller
+filter::logic::all_values-values-smaller g t c =
+    let all = stages_at (nodes_of c.args.scope.now) c.part_segments-segments.result.now in
+    let ends = found-some _ _ c.in_ok-node.field-0 c.in-Some.node c.in-Some.is c.in_ok-node.ensures.found in
+    let fewer = work-ends all c.find_next.new.places.items (view c.in-Some.node.now) ends c.drop_last.new.places.items c.drop_last.ensures in
+    let less = c.find_next.ensures.less in
+    omega arith
+
+pub filter::logic::all_values-values-preserved : goal.filter::logic::all_values-values-preserved
+filter::logic::all_values-values-preserved g t c =
+    let scope = c.args.scope.now in
+    let all = stages_at (nodes_of scope) c.part_segments-segments.result.now in
+    let node = c.in-Some.node in
+    let places = c.find_next.new.places.items in
+    let front = c.drop_last.new.places.items in
+    let ends = found-some _ _ c.in_ok-node.field-0 node c.in-Some.is c.in_ok-node.ensures.found in
+    let values = map (λ (n : Located). n.value) in
+    let left = values (rest_of (set_of scope) (top_of scope) all (frames_of front)) in
+    let found = map node_value c.values.found.items in
+    record {
+      values = λ clear.
+          c.values.invariant.values clear
+          ∙ ap (λ ns. found ++ values ns) (c.find_next.ensures.rest clear ∙ rest-ends all places (view node.now) ends (set_of scope) (top_of scope) front c.drop_last.ensures)
+          ∙ sym (append_assoc found (view node.now ∷ []) left)
+          ∙ ap (λ xs. xs ++ left) (sym (ap (map node_value) c.in_ok-push-2.ensures.items ∙ map-append node_value c.values.found.items (node ∷ [])));
+      inside = ∥∥₁_map c.values.invariant.inside (λ h.
+          (h.0, h.1, stack-dropped all places (view node.now) ends h.0 front c.drop_last.ensures (c.find_next.ensures.stack h.0 h.2)));
+    }
+
+-- ---- calls
+
+pub filter::call::answer-returns-clause-means : goal.filter::call::answer-returns-clause-means
+filter::call::answer-returns-clause-means g t c =
+    let scope = c.args.scope.now in
+    let asked = call_at (nodes_of scope) c.args.call in
+    let v = view c.args.value.now in
+    let parts = iter_rest c.loop-argument.argument-iterator.a in
+    let kinds = iter_rest c.loop-argument.argument-iterator.b in
+    let given = map term_view c.loop-argument.given.items in
+    let over : (length parts ≡ 0) ⊎ (length kinds ≡ 0) = elim c.in-None-2.ensures.steps [ inl h ↦ inl h.1.0 | inr h ↦ inr h.1.0 ] in
+    answered (set_of scope) (top_of scope) (Clear scope) asked c.called_name-name.result.now v given c.call.result c.called_name-name.ensures c.requires.sound.0 c.requires.sound.1 c.requires.inside
+    (λ clear. given-all (set_of scope) (top_of scope) (pieces (nodes_of scope)) parts kinds v given _ over (c.loop-argument.invariant.means clear)) c.call.ensures.means

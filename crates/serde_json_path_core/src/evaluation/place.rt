@@ -3,13 +3,13 @@
 ghost use Rattle.std.specs.Prelude.{◌≡◌, ◌+◌, ◌<◌, ◌≤◌, ◌^◌, None, Some, IfOk, IfErr, MatchOption, drop, length, option_map};
 ghost use Rattle.serde_json.specs.View.{view};
 ghost use Rattle.serde_json_path_core.specs.Tree.{filter};
-ghost use Rattle.serde_json_path_core.specs.Functions.{FunctionSet};
-ghost use Rattle.serde_json_path_core.specs.Flat.{or_at};
+ghost use Rattle.serde_json_path_core.specs.Flat.{or_at, piece_at, segment_in};
 ghost use Rattle.serde_json_path_core.specs.PartBounds.{parts_bound, choice_bound};
-ghost use Rattle.serde_json_path_core.specs.Scopes.{nodes_of, top_of};
+ghost use Rattle.serde_json_path_core.specs.Sound.{IsSoundOr, IsSoundSegment, IsSoundSelector};
+ghost use Rattle.serde_json_path_core.specs.Scopes.{Clear, Plain, nodes_of, query_of, set_of, top_of};
 ghost use Rattle.serde_json_path_core.specs.Cursors.{cursor_left};
 ghost use Rattle.serde_json_path_core.specs.Views.{child_view};
-ghost use Rattle.serde_json_path_core.specs.Rest.{candidates, opened, begun};
+ghost use Rattle.serde_json_path_core.specs.Rest.{candidates, opened, begun, IsInside, StandIn};
 ghost use Rattle.serde_json_path_core.specs.Advances.{Advances, Chooses, ComesTo, IsDone};
 ghost use Rattle.serde_json_path_core.specs.Stages.{choice_view, stage_at, stages_at};
 ghost use Rattle.serde_json_path_core.specs.Places.{frame_of, task_view};
@@ -20,6 +20,7 @@ use crate::error::QueryError;
 use crate::evaluation::cursor::Cursor;
 use crate::evaluation::scope::Scope;
 use crate::filter::logic::is_true;
+use crate::functions::Functions;
 use crate::syntax::checked::Checked;
 use crate::syntax::choice::Choice;
 use crate::syntax::node::{Part, SegmentKind};
@@ -148,16 +149,18 @@ impl<'b> Place<'b> {
 
     /// Moves on to the next task, if one is left.
     #[cycle(evaluation)]
-    fn advance(
+    fn advance<F: Functions>(
         &mut self,
-        scope: &Scope<'_, 'b>,
+        scope: &Scope<'_, 'b, F>,
         segment: Part,
     ) -> Result<Option<Task<'b>>, QueryError>
         requires within { segment.number < length (nodes_of scope.now) }
         requires number { self.old.segment + 1 < 2 ^ 64 }
-        ensures advances { (F : FunctionSet) → IfOk result (λ found.
-            Advances (Unit {0}) F (top_of scope.now) (stage_at (nodes_of scope.now) segment) (frame_of self.old) (option_map task_view found) (frame_of self.new)) }
-        ensures refused { IfErr result (λ e. e ≡ Memory) }
+        requires sound { IsSoundSegment (set_of scope.now) (top_of scope.now) (query_of scope.now) (segment_in (piece_at (nodes_of scope.now) segment.number)) }
+        requires inside { ∥ IsInside (top_of scope.now) (frame_of self.old) ∥₁ }
+        ensures advances { IfOk result (λ found.
+            Advances (Clear scope.now) (set_of scope.now) (top_of scope.now) (stage_at (nodes_of scope.now) segment) (frame_of self.old) (option_map task_view found) (frame_of self.new)) }
+        ensures refused { IfErr result (λ e. Plain scope.now → e ≡ Memory) }
     {
         while let Some(choice) = scope.query.choice(segment, self.selector) {
             match give(scope, choice, &mut self.cursor)? {
@@ -187,17 +190,19 @@ impl<'b> Place<'b> {
 
     /// The next task, if one is left, and this place moved on to it; the place itself stays.
     #[cycle(evaluation)]
-    pub(crate) fn ahead(
+    pub(crate) fn ahead<F: Functions>(
         &self,
-        scope: &Scope<'_, 'b>,
+        scope: &Scope<'_, 'b, F>,
         segment: Part,
     ) -> Result<Option<Ahead<'b>>, QueryError>
         requires within { segment.number < length (nodes_of scope.now) }
         requires number { self.now.segment + 1 < 2 ^ 64 }
-        ensures ahead { (F : FunctionSet) → IfOk result (λ ahead. MatchOption ahead
-            (IsDone (Unit {0}) F (top_of scope.now) (stage_at (nodes_of scope.now) segment) (frame_of self.now))
-            (λ a. ComesTo (Unit {0}) F (top_of scope.now) (stage_at (nodes_of scope.now) segment) (frame_of self.now) (task_view a.task) (frame_of a.place))) }
-        ensures refused { IfErr result (λ e. e ≡ Memory) }
+        requires sound { IsSoundSegment (set_of scope.now) (top_of scope.now) (query_of scope.now) (segment_in (piece_at (nodes_of scope.now) segment.number)) }
+        requires inside { ∥ IsInside (top_of scope.now) (frame_of self.now) ∥₁ }
+        ensures ahead { IfOk result (λ ahead. MatchOption ahead
+            (IsDone (Clear scope.now) (set_of scope.now) (top_of scope.now) (stage_at (nodes_of scope.now) segment) (frame_of self.now))
+            (λ a. ComesTo (Clear scope.now) (set_of scope.now) (top_of scope.now) (stage_at (nodes_of scope.now) segment) (frame_of self.now) (task_view a.task) (frame_of a.place))) }
+        ensures refused { IfErr result (λ e. Plain scope.now → e ≡ Memory) }
     {
         let mut place = self.try_clone()?;
         match place.advance(scope, segment)? {
@@ -209,15 +214,17 @@ impl<'b> Place<'b> {
 
 /// The next child that the selector admits, if one is left.
 #[cycle(evaluation)]
-fn give<'b>(
-    scope: &Scope<'_, 'b>,
+fn give<'b, F: Functions>(
+    scope: &Scope<'_, 'b, F>,
     choice: Choice<'_>,
     cursor: &mut Cursor<'b>,
 ) -> Result<Option<Child<'b>>, QueryError>
-    requires { choice_bound choice ≤ length (nodes_of scope.now) }
-    ensures chooses { (F : FunctionSet) → IfOk result (λ found.
-        Chooses (Unit {0}) F (top_of scope.now) (choice_view (nodes_of scope.now) choice.entry) (cursor_left cursor.old) (option_map child_view found) (cursor_left cursor.new)) }
-    ensures refused { IfErr result (λ e. e ≡ Memory) }
+    requires below { choice_bound choice ≤ length (nodes_of scope.now) }
+    requires sound { IsSoundSelector (set_of scope.now) (top_of scope.now) (query_of scope.now) (choice_view (nodes_of scope.now) choice) }
+    requires inside { StandIn (top_of scope.now) (cursor_left cursor.old) }
+    ensures chooses { IfOk result (λ found.
+        Chooses (Clear scope.now) (set_of scope.now) (top_of scope.now) (choice_view (nodes_of scope.now) choice.entry) (cursor_left cursor.old) (option_map child_view found) (cursor_left cursor.new)) }
+    ensures refused { IfErr result (λ e. Plain scope.now → e ≡ Memory) }
 {
     match choice {
         Choice::Filter(test) => give_true(scope, test, cursor),
@@ -229,15 +236,17 @@ fn give<'b>(
 
 /// The next child for which a logical expression holds, if one is left.
 #[cycle(evaluation)]
-fn give_true<'b>(
-    scope: &Scope<'_, 'b>,
+fn give_true<'b, F: Functions>(
+    scope: &Scope<'_, 'b, F>,
     test: Part,
     cursor: &mut Cursor<'b>,
 ) -> Result<Option<Child<'b>>, QueryError>
-    requires { test.number < length (nodes_of scope.now) }
-    ensures chooses { (F : FunctionSet) → IfOk result (λ found.
-        Chooses (Unit {0}) F (top_of scope.now) (filter (or_at (nodes_of scope.now) test)) (cursor_left cursor.old) (option_map child_view found) (cursor_left cursor.new)) }
-    ensures refused { IfErr result (λ e. e ≡ Memory) }
+    requires below { test.number < length (nodes_of scope.now) }
+    requires sound { IsSoundOr (set_of scope.now) (top_of scope.now) (query_of scope.now) (or_at (nodes_of scope.now) test) }
+    requires inside { StandIn (top_of scope.now) (cursor_left cursor.old) }
+    ensures chooses { IfOk result (λ found.
+        Chooses (Clear scope.now) (set_of scope.now) (top_of scope.now) (filter (or_at (nodes_of scope.now) test)) (cursor_left cursor.old) (option_map child_view found) (cursor_left cursor.new)) }
+    ensures refused { IfErr result (λ e. Plain scope.now → e ≡ Memory) }
 {
     while let Some(child) = cursor.advance() {
         if is_true(scope, test, child.value)? {

@@ -1,6 +1,7 @@
 //! Walks that go on from call to call.
 
 ghost use Rattle.serde_json.specs.View.{view};
+ghost use Rattle.serde_json_path_core.specs.Calls.{StandsIn};
 ghost use Rattle.serde_json_path_core.specs.Rest.{IsStack};
 ghost use Rattle.serde_json_path_core.specs.Places.{frames_of};
 
@@ -8,6 +9,7 @@ use crate::error::QueryError;
 use crate::evaluation::place::Place;
 use crate::evaluation::scope::Scope;
 use crate::evaluation::stack::{drop_last, find_next, located_at};
+use crate::functions::Functions;
 use serde_json::Value;
 use serde_json_path_nodes::LocatedNode;
 
@@ -16,21 +18,21 @@ use serde_json_path_nodes::LocatedNode;
 /// A walk keeps no list of nodes: it keeps one place for each level of the document that it is in. A call of
 /// [`Walk::next`] that is refused changes nothing of what is still to come, and a later call goes on.
 #[derive(Drop)]
-pub struct Walk<'q, 'b> {
-    pub(crate) scope: Scope<'q, 'b>,
+pub struct Walk<'q, 'b, F: Functions> {
+    pub(crate) scope: Scope<'q, 'b, F>,
     pub(crate) start: &'b Value,
     pub(crate) places: Vec<Place<'b>>,
+    ghost inside: { StandsIn (view scope.root.now) (view start.now) },
     ghost stack: { ∥ IsStack (view start.now) (frames_of places.items) ∥₁ },
 }
 
-impl<'q, 'b> Walk<'q, 'b> {
-    ghost use Rattle.std.specs.Prelude.{◌≡◌, ◌+◌, ◌≤◌, [], ◌∷◌, IfOk, IfErr, MatchOption, IfNone};
-    ghost use Rattle.serde_json.specs.Data.{Data};
+impl<'q, 'b, F: Functions> Walk<'q, 'b, F> {
+    ghost use Rattle.std.specs.Prelude.{◌≡◌, ◌+◌, ◌<◌, ◌≤◌, [], ◌∷◌, IfOk, IfErr, IfSome, IfNone, MatchOption};
     ghost use Rattle.serde_json_path_nodes.specs.Views.{located};
     ghost use Rattle.serde_json_path_nodes.specs.Place.{Located};
-    ghost use Rattle.serde_json_path_core.specs.Functions.{FunctionSet};
+    ghost use Rattle.serde_json_path_core.specs.Calls.{EachCall, GoesWithoutPattern, IsClear};
     ghost use Rattle.serde_json_path_core.specs.Height.{height};
-    ghost use Rattle.serde_json_path_core.specs.Walks.{query_of, document_of, beginning_of, rest, places_of};
+    ghost use Rattle.serde_json_path_core.specs.Walks.{query_of, set_of, document_of, beginning_of, rest, places_of, steps_of};
     ghost use Rattle.serde_json_path_core.specs.declared.error.QueryError.TheVariants.{Memory};
 
     /// How many places the walk keeps: at most one more than the value where it began is high. Where it keeps none,
@@ -38,26 +40,30 @@ impl<'q, 'b> Walk<'q, 'b> {
     pub fn places(&self) -> usize
         ensures count { result ≡ places_of self.now }
         ensures within { result ≤ height (beginning_of self.now) + 1 }
-        ensures empty { result ≡ 0 → (F : FunctionSet) → rest F self.now ≡ [] }
+        ensures empty { result ≡ 0 → rest self.now ≡ [] }
     {
         self.places.len()
     }
 
     /// The next node with its location, or `None` where there is no more.
     ///
-    /// A refusal, which comes only where memory is refused, leaves what is still to come as it was.
+    /// A refusal leaves what is still to come as it was. `Pattern` comes only where the query calls a function that
+    /// stands for `match` or `search`; every other refusal is of memory.
     pub fn next(&mut self) -> Result<Option<LocatedNode<'b>>, QueryError>
         ensures query { query_of self.new ≡ query_of self.old }
+        ensures set { set_of self.new ≡ set_of self.old }
         ensures document { document_of self.new ≡ document_of self.old }
         ensures beginning { beginning_of self.new ≡ beginning_of self.old }
-        ensures given { IfOk result (λ next. MatchOption next
-            ((F : FunctionSet) → (rest F self.old ≡ []) × (rest F self.new ≡ []))
-            (λ node. (F : FunctionSet) → rest F self.old ≡ located node ∷ rest F self.new)) }
+        ensures given { IfOk result (λ next. IsClear (set_of self.old) (query_of self.old) (document_of self.old) → MatchOption next
+            ((rest self.old ≡ []) × (rest self.new ≡ []))
+            (λ node. rest self.old ≡ located node ∷ rest self.new)) }
         ensures ended { IfOk result (λ next. IfNone next (places_of self.new ≡ 0)) }
-        ensures unchanged { IfErr result (λ e. (F : FunctionSet) → rest F self.new ≡ rest F self.old) }
-        ensures refused { IfErr result (λ e. e ≡ Memory) }
+        ensures nearer { IfOk result (λ next. IfSome next (λ node. steps_of self.new < steps_of self.old)) }
+        ensures unchanged { IfErr result (λ e. IsClear (set_of self.old) (query_of self.old) (document_of self.old) → rest self.new ≡ rest self.old) }
+        ensures refused { IfErr result (λ e. EachCall (GoesWithoutPattern (set_of self.old)) (query_of self.old) → e ≡ Memory) }
     {
-        match find_next(&self.scope, self.scope.query.segments(), &mut self.places)? {
+        let scope = &self.scope;
+        match find_next(scope, scope.query.segments(), &mut self.places)? {
             None => Ok(None),
             Some(value) => {
                 let node = located_at(self.scope.alloc, self.places.as_slice(), value)?;
@@ -69,13 +75,17 @@ impl<'q, 'b> Walk<'q, 'b> {
 
     /// The value of the next node, or `None` where there is no more.
     pub(crate) fn next_value(&mut self) -> Result<Option<&'b Value>, QueryError>
+        ensures query { query_of self.new ≡ query_of self.old }
+        ensures set { set_of self.new ≡ set_of self.old }
         ensures document { document_of self.new ≡ document_of self.old }
-        ensures given { IfOk result (λ next. MatchOption next
-            ((F : FunctionSet) → rest F self.old ≡ [])
-            (λ value. (F : FunctionSet) → (node : Located) × (node.value ≡ view value.now) × (rest F self.old ≡ node ∷ rest F self.new))) }
-        ensures refused { IfErr result (λ e. e ≡ Memory) }
+        ensures given { IfOk result (λ next. IsClear (set_of self.old) (query_of self.old) (document_of self.old) → MatchOption next
+            (rest self.old ≡ [])
+            (λ value. (node : Located) × (node.value ≡ view value.now) × (rest self.old ≡ node ∷ rest self.new))) }
+        ensures nearer { IfOk result (λ next. IfSome next (λ value. steps_of self.new < steps_of self.old)) }
+        ensures refused { IfErr result (λ e. EachCall (GoesWithoutPattern (set_of self.old)) (query_of self.old) → e ≡ Memory) }
     {
-        match find_next(&self.scope, self.scope.query.segments(), &mut self.places)? {
+        let scope = &self.scope;
+        match find_next(scope, scope.query.segments(), &mut self.places)? {
             None => Ok(None),
             Some(value) => {
                 drop_last(&mut self.places);

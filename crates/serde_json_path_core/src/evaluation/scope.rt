@@ -1,13 +1,20 @@
 //! What an evaluation goes by.
 
+ghost use Rattle.serde_json_path_core.specs.Functions.{Fits};
+ghost use Rattle.serde_json_path_core.specs.Parts.{signatures_of};
+
+use crate::functions::Functions;
 use crate::syntax::checked::Checked;
 use serde_json::Value;
 use std::alloc::Global;
 
-/// What an evaluation goes by: where its memory is from, the query and the document's root.
-#[derive(Clone, Copy)]
-pub(crate) struct Scope<'q, 'b> {
+/// What an evaluation goes by: where its memory is from, the query, the document's root, and a function set that the
+/// query fits.
+#[derive(Drop)]
+pub(crate) struct Scope<'q, 'b, F: Functions> {
     pub(crate) alloc: Global,
     pub(crate) query: &'q Checked,
     pub(crate) root: &'b Value,
+    pub(crate) functions: F,
+    ghost fits: { ∥ Fits (F.set functions) (signatures_of query.now) ∥₁ },
 }

@@ -4,10 +4,11 @@ ghost use Rattle.std.specs.Prelude.{◌≡◌, ◌-◌, ◌<◌, ◌≤◌, [], 
 ghost use Rattle.serde_json.specs.Data.{Data};
 ghost use Rattle.serde_json.specs.View.{view};
 ghost use Rattle.serde_json_path_nodes.specs.Views.{located};
-ghost use Rattle.serde_json_path_core.specs.Functions.{FunctionSet};
 ghost use Rattle.serde_json_path_core.specs.PartBounds.{parts_bound};
-ghost use Rattle.serde_json_path_core.specs.Scopes.{nodes_of, top_of};
-ghost use Rattle.serde_json_path_core.specs.Rest.{rest_of, stack_path, EndsAt, IsStack};
+ghost use Rattle.serde_json_path_core.specs.Sound.{AreSoundSegments};
+ghost use Rattle.serde_json_path_core.specs.Scopes.{Clear, Plain, nodes_of, query_of, set_of, top_of};
+ghost use Rattle.serde_json_path_core.specs.Rest.{rest_of, stack_path, work, EndsAt, IsStack, IsStackIn};
+ghost use Rattle.serde_json_path_core.specs.Flat.{segments_at};
 ghost use Rattle.serde_json_path_core.specs.Stages.{stages_at};
 ghost use Rattle.serde_json_path_core.specs.Places.{frames_of};
 ghost use Rattle.serde_json_path_core.specs.declared.error.QueryError.TheVariants.{Memory};
@@ -15,6 +16,7 @@ ghost use Rattle.serde_json_path_core.specs.declared.error.QueryError.TheVariant
 use crate::error::QueryError;
 use crate::evaluation::place::Place;
 use crate::evaluation::scope::Scope;
+use crate::functions::Functions;
 use crate::syntax::node::Part;
 use serde_json::Value;
 use serde_json_path_nodes::{LocatedNode, NormalizedPath};
@@ -66,18 +68,21 @@ fn push_over<'b>(
 
 /// Goes on until the last place is where the segments end, and answers its value; `None` where no place is left.
 #[cycle(evaluation)]
-pub(crate) fn find_next<'b>(
-    scope: &Scope<'_, 'b>,
+pub(crate) fn find_next<'b, F: Functions>(
+    scope: &Scope<'_, 'b, F>,
     segments: &[Part],
     places: &mut Vec<Place<'b>>,
 ) -> Result<Option<&'b Value>, QueryError>
-    requires { parts_bound segments.now ≤ length (nodes_of scope.now) }
-    ensures rest { (F : FunctionSet)
-        → rest_of F (top_of scope.now) (stages_at (nodes_of scope.now) segments.now) (frames_of places.old.items) ≡ rest_of F (top_of scope.now) (stages_at (nodes_of scope.now) segments.now) (frames_of places.new.items) }
+    requires below { parts_bound segments.now ≤ length (nodes_of scope.now) }
+    requires sound { AreSoundSegments (set_of scope.now) (top_of scope.now) (query_of scope.now) (segments_at (nodes_of scope.now) segments.now) }
+    requires inside { ∥ IsStackIn (top_of scope.now) (frames_of places.old.items) ∥₁ }
+    ensures rest { Clear scope.now
+        → rest_of (set_of scope.now) (top_of scope.now) (stages_at (nodes_of scope.now) segments.now) (frames_of places.old.items) ≡ rest_of (set_of scope.now) (top_of scope.now) (stages_at (nodes_of scope.now) segments.now) (frames_of places.new.items) }
+    ensures less { work (stages_at (nodes_of scope.now) segments.now) (frames_of places.new.items) ≤ work (stages_at (nodes_of scope.now) segments.now) (frames_of places.old.items) }
     ensures found { IfOk result (λ found. MatchOption found (places.new.items ≡ [])
         (λ value. EndsAt (stages_at (nodes_of scope.now) segments.now) (frames_of places.new.items) (view value.now))) }
     ensures stack { (start : Data) → IsStack start (frames_of places.old.items) → IsStack start (frames_of places.new.items) }
-    ensures refused { IfErr result (λ e. e ≡ Memory) }
+    ensures refused { IfErr result (λ e. Plain scope.now → e ≡ Memory) }
 {
     while let Some(last) = places.last() {
         match segments.get(last.segment) {

@@ -1,36 +1,43 @@
 //! Logical expressions of filters, and the queries in them.
 
-ghost use Rattle.std.specs.Prelude.{◌≡◌, ◌<◌, Some, IfOk, IfErr, length, option_map};
+ghost use Rattle.std.specs.Prelude.{◌≡◌, ◌<◌, Some, IfOk, IfErr, length, map, option_map};
 ghost use Rattle.serde_json.specs.View.{view};
+ghost use Rattle.serde_json_path_nodes.specs.Place.{Located};
 ghost use Rattle.serde_json_path_nodes.specs.Views.{node_value};
-ghost use Rattle.serde_json_path_core.specs.Functions.{FunctionSet};
+ghost use Rattle.serde_json_path_core.specs.Calls.{StandsIn};
 ghost use Rattle.serde_json_path_core.specs.Meaning.{first_value};
 ghost use Rattle.serde_json_path_core.specs.Computed as computed;
 ghost use Rattle.serde_json_path_core.specs.Flat.{or_at, and_at, basic_at, comparable_at, part_query};
 ghost use Rattle.serde_json_path_core.specs.Operands.{operand_view};
-ghost use Rattle.serde_json_path_core.specs.Scopes.{nodes_of, top_of};
+ghost use Rattle.serde_json_path_core.specs.Sound.{IsSound, IsSoundOr, IsSoundAnd, IsSoundBasic, IsSoundComparable};
+ghost use Rattle.serde_json_path_core.specs.Scopes.{Clear, Plain, nodes_of, query_of, set_of, top_of};
 ghost use Rattle.serde_json_path_core.specs.declared.error.QueryError.TheVariants.{Memory};
 
 use crate::error::QueryError;
 use crate::evaluation::place::Place;
 use crate::evaluation::scope::Scope;
-use crate::evaluation::stack::find_next;
+use crate::evaluation::stack::{drop_last, find_next};
 use crate::evaluation::start;
+use crate::filter::call::{answer, answers_yes, operand_of};
 use crate::filter::compare::compare;
 use crate::filter::operand::Operand;
+use crate::functions::{FunctionValue, Functions};
+use crate::syntax::literal::Literal;
 use crate::syntax::node::{Basic, Comparable, Node, Part};
 use serde_json::Value;
 
 /// Whether a logical expression holds where `@` is the value: whether some part of it does that is joined by `||`.
 #[cycle(evaluation)]
-pub(crate) fn is_true<'b>(
-    scope: &Scope<'_, 'b>,
+pub(crate) fn is_true<'b, F: Functions>(
+    scope: &Scope<'_, 'b, F>,
     expression: Part,
     value: &'b Value,
 ) -> Result<bool, QueryError>
-    requires { expression.number < length (nodes_of scope.now) }
-    ensures means { (F : FunctionSet) → IfOk result (λ holds. holds ≡ computed.is_true F (top_of scope.now) (or_at (nodes_of scope.now) expression) (view value.now)) }
-    ensures refused { IfErr result (λ e. e ≡ Memory) }
+    requires below { expression.number < length (nodes_of scope.now) }
+    requires sound { IsSoundOr (set_of scope.now) (top_of scope.now) (query_of scope.now) (or_at (nodes_of scope.now) expression) }
+    requires inside { StandsIn (top_of scope.now) (view value.now) }
+    ensures means { IfOk result (λ holds. Clear scope.now → holds ≡ computed.is_true (set_of scope.now) (top_of scope.now) (or_at (nodes_of scope.now) expression) (view value.now)) }
+    ensures refused { IfErr result (λ e. Plain scope.now → e ≡ Memory) }
 {
     for part in scope.query.or_parts(expression) {
         if all_true(scope, *part, value)? {
@@ -42,14 +49,16 @@ pub(crate) fn is_true<'b>(
 
 /// Whether all parts of it hold that are joined by `&&`.
 #[cycle(evaluation)]
-fn all_true<'b>(
-    scope: &Scope<'_, 'b>,
+fn all_true<'b, F: Functions>(
+    scope: &Scope<'_, 'b, F>,
     expression: Part,
     value: &'b Value,
 ) -> Result<bool, QueryError>
-    requires { expression.number < length (nodes_of scope.now) }
-    ensures means { (F : FunctionSet) → IfOk result (λ holds. holds ≡ computed.all_true F (top_of scope.now) (and_at (nodes_of scope.now) expression) (view value.now)) }
-    ensures refused { IfErr result (λ e. e ≡ Memory) }
+    requires below { expression.number < length (nodes_of scope.now) }
+    requires sound { IsSoundAnd (set_of scope.now) (top_of scope.now) (query_of scope.now) (and_at (nodes_of scope.now) expression) }
+    requires inside { StandsIn (top_of scope.now) (view value.now) }
+    ensures means { IfOk result (λ holds. Clear scope.now → holds ≡ computed.all_true (set_of scope.now) (top_of scope.now) (and_at (nodes_of scope.now) expression) (view value.now)) }
+    ensures refused { IfErr result (λ e. Plain scope.now → e ≡ Memory) }
 {
     for part in scope.query.and_parts(expression) {
         if !basic_true(scope, *part, value)? {
@@ -61,14 +70,16 @@ fn all_true<'b>(
 
 /// Whether a parenthesis, a comparison or a test holds.
 #[cycle(evaluation)]
-fn basic_true<'b>(
-    scope: &Scope<'_, 'b>,
+fn basic_true<'b, F: Functions>(
+    scope: &Scope<'_, 'b, F>,
     expression: Part,
     value: &'b Value,
 ) -> Result<bool, QueryError>
-    requires { expression.number < length (nodes_of scope.now) }
-    ensures means { (F : FunctionSet) → IfOk result (λ holds. holds ≡ computed.basic_true F (top_of scope.now) (basic_at (nodes_of scope.now) expression) (view value.now)) }
-    ensures refused { IfErr result (λ e. e ≡ Memory) }
+    requires below { expression.number < length (nodes_of scope.now) }
+    requires sound { IsSoundBasic (set_of scope.now) (top_of scope.now) (query_of scope.now) (basic_at (nodes_of scope.now) expression) }
+    requires inside { StandsIn (top_of scope.now) (view value.now) }
+    ensures means { IfOk result (λ holds. Clear scope.now → holds ≡ computed.basic_true (set_of scope.now) (top_of scope.now) (basic_at (nodes_of scope.now) expression) (view value.now)) }
+    ensures refused { IfErr result (λ e. Plain scope.now → e ≡ Memory) }
 {
     match scope.query.node(expression) {
         Node::Basic(basic) => match basic {
@@ -85,6 +96,14 @@ fn basic_true<'b>(
             }
             Basic::Exist(query) => Ok(first(scope, *query, value)?.is_some()),
             Basic::NotExist(query) => Ok(first(scope, *query, value)?.is_none()),
+            Basic::Test(call) => {
+                let answer = answer(scope, *call, value)?;
+                Ok(answers_yes(&answer))
+            }
+            Basic::NotTest(call) => {
+                let answer = answer(scope, *call, value)?;
+                Ok(!answers_yes(&answer))
+            }
         },
         _ => Ok(false),
     }
@@ -92,22 +111,34 @@ fn basic_true<'b>(
 
 /// What a side of a comparison stands for.
 #[cycle(evaluation)]
-fn compared<'q, 'b>(
-    scope: &Scope<'q, 'b>,
+fn compared<'x, 'q: 'x, 'b: 'x, F: Functions>(
+    scope: &Scope<'q, 'b, F>,
     comparable: Part,
     value: &'b Value,
-) -> Result<Operand<'q, 'b>, QueryError>
-    requires { comparable.number < length (nodes_of scope.now) }
-    ensures means { (F : FunctionSet) → IfOk result (λ operand. Some (operand_view operand) ≡ computed.compared F (top_of scope.now) (comparable_at (nodes_of scope.now) comparable) (view value.now)) }
-    ensures refused { IfErr result (λ e. e ≡ Memory) }
+) -> Result<Operand<'x>, QueryError>
+    requires below { comparable.number < length (nodes_of scope.now) }
+    requires sound { IsSoundComparable (set_of scope.now) (top_of scope.now) (query_of scope.now) (comparable_at (nodes_of scope.now) comparable) }
+    requires inside { StandsIn (top_of scope.now) (view value.now) }
+    ensures means { IfOk result (λ operand. Clear scope.now → Some (operand_view operand) ≡ computed.compared (set_of scope.now) (top_of scope.now) (comparable_at (nodes_of scope.now) comparable) (view value.now)) }
+    ensures refused { IfErr result (λ e. Plain scope.now → e ≡ Memory) }
 {
     match scope.query.node(comparable) {
         Node::Comparable(comparable) => match comparable {
-            Comparable::Literal(literal) => Ok(Operand::Literal(literal)),
+            Comparable::Literal(literal) => {
+                let literal: &'x Literal = literal;
+                Ok(Operand::Literal(literal))
+            }
             Comparable::Singular(query) => match first(scope, *query, value)? {
-                Some(node) => Ok(Operand::Node(node)),
+                Some(node) => {
+                    let node: &'x Value = node;
+                    Ok(Operand::Node(node))
+                }
                 None => Ok(Operand::Nothing),
             },
+            Comparable::Called(call) => {
+                let answer: FunctionValue<'x> = answer(scope, *call, value)?;
+                Ok(operand_of(answer))
+            }
         },
         _ => Ok(Operand::Made(Value::Null)),
     }
@@ -115,18 +146,46 @@ fn compared<'q, 'b>(
 
 /// The value of the first node of a query, if it selects one.
 #[cycle(evaluation)]
-fn first<'b>(
-    scope: &Scope<'_, 'b>,
+pub(crate) fn first<'b, F: Functions>(
+    scope: &Scope<'_, 'b, F>,
     query: Part,
     value: &'b Value,
 ) -> Result<Option<&'b Value>, QueryError>
-    requires { query.number < length (nodes_of scope.now) }
-    ensures means { (F : FunctionSet) → IfOk result (λ found. option_map node_value found ≡ first_value (computed.results F (top_of scope.now) (part_query (nodes_of scope.now) query) (view value.now))) }
-    ensures refused { IfErr result (λ e. e ≡ Memory) }
+    requires below { query.number < length (nodes_of scope.now) }
+    requires sound { IsSound (set_of scope.now) (top_of scope.now) (query_of scope.now) (part_query (nodes_of scope.now) query) }
+    requires inside { StandsIn (top_of scope.now) (view value.now) }
+    ensures means { IfOk result (λ found. Clear scope.now → option_map node_value found ≡ first_value (computed.results (set_of scope.now) (top_of scope.now) (part_query (nodes_of scope.now) query) (view value.now))) }
+    ensures refused { IfErr result (λ e. Plain scope.now → e ≡ Memory) }
 {
     let segments = scope.query.part_segments(query);
     let start = start(scope.query.part_kind(query), value, scope.root);
     let mut places = Vec::new(scope.alloc);
     places.push(Place::start(scope.query, segments, start))?;
     find_next(scope, segments, &mut places)
+}
+
+/// The values of all nodes of a query, in order.
+#[cycle(evaluation)]
+pub(crate) fn all_values<'x, 'q: 'x, 'b: 'x, F: Functions>(
+    scope: &Scope<'q, 'b, F>,
+    query: Part,
+    value: &'b Value,
+) -> Result<Vec<&'x Value>, QueryError>
+    requires below { query.number < length (nodes_of scope.now) }
+    requires sound { IsSound (set_of scope.now) (top_of scope.now) (query_of scope.now) (part_query (nodes_of scope.now) query) }
+    requires inside { StandsIn (top_of scope.now) (view value.now) }
+    ensures means { IfOk result (λ found. Clear scope.now → map node_value found.items ≡ map (λ (n : Located). n.value) (computed.results (set_of scope.now) (top_of scope.now) (part_query (nodes_of scope.now) query) (view value.now))) }
+    ensures refused { IfErr result (λ e. Plain scope.now → e ≡ Memory) }
+{
+    let segments = scope.query.part_segments(query);
+    let start = start(scope.query.part_kind(query), value, scope.root);
+    let mut places = Vec::new(scope.alloc);
+    places.push(Place::start(scope.query, segments, start))?;
+    let mut found: Vec<&'x Value> = Vec::new(scope.alloc);
+    'values: while let Some(node) = find_next(scope, segments, &mut places)? {
+        drop_last(&mut places);
+        let node: &'x Value = node;
+        found.push(node)?;
+    }
+    Ok(found)
 }

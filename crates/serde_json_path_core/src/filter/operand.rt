@@ -5,13 +5,13 @@ use serde_json::Value;
 
 /// What a side of a comparison stands for (RFC 9535, section 2.3.5.1). Contracts see a value alike, lent or made.
 #[derive(Drop)]
-pub(crate) enum Operand<'q, 'b> {
+pub(crate) enum Operand<'x> {
     /// No value.
     Nothing,
     /// A literal of the query.
-    Literal(&'q Literal),
-    /// A value of the document.
-    Node(&'b Value),
+    Literal(&'x Literal),
+    /// A value of the document or of the query.
+    Node(&'x Value),
     /// A value that a function has made.
     Made(Value),
 }

@@ -69,7 +69,7 @@ fn side_of_literal(literal: &Literal) -> Side<'_>
 }
 
 /// The side of an operand.
-pub(crate) fn side_of<'s>(operand: &'s Operand<'_, '_>) -> Side<'s>
+pub(crate) fn side_of<'s>(operand: &'s Operand<'_>) -> Side<'s>
     ensures { side_view result ≡ seen_of (operand_view operand.now) }
 {
     match operand {

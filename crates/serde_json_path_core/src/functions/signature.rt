@@ -21,7 +21,7 @@ pub struct Signature {
 }
 
 impl Signature {
-    ghost use Rattle.std.specs.Prelude.{◌≡◌, ◌<◌, ◌↔◌, length, map, IfSome, IsNone};
+    ghost use Rattle.std.specs.Prelude.{◌≡◌, ◌<◌, ◌↔◌, length, map, IfSome, IsNone, IsTrue};
     ghost use Rattle.serde_json_path_core.specs.Terms.{kind_view, signature_view};
 
     /// The signature of these parameters and this result; `None` for more than eight parameters.
@@ -55,5 +55,12 @@ impl Signature {
         ensures { kind_view result ≡ (signature_view self.now).result }
     {
         self.answer
+    }
+
+    /// Whether both have the same parameters and the same result.
+    pub(crate) fn is_same(&self, other: &Signature) -> bool
+        ensures { IsTrue result ↔ (signature_view self.now ≡ signature_view other.now) }
+    {
+        self.params() == other.params() && self.answer == other.answer
     }
 }

@@ -2,13 +2,15 @@
 
 ghost use Rattle.serde_json_path_core.specs.Flat.{IsGrown};
 
+use crate::functions::Signature;
 use crate::syntax::checked::Checked;
 use crate::syntax::literal::Literal;
 use crate::syntax::node::{
-    Basic, Comparable, Node, Part, QueryKind, Segment, SegmentKind, Selector,
+    Argument, Basic, Comparable, Node, Part, QueryKind, Segment, SegmentKind, Selector,
 };
 use crate::syntax::operator::ComparisonOperator;
 use crate::syntax::slice::Slice;
+use serde_json::Value;
 use std::alloc::{AllocError, Global};
 
 /// Makes the parts of a syntax tree, each out of finished ones.
@@ -25,11 +27,12 @@ impl SyntaxBuilder {
     ghost use Rattle.std.specs.Prelude.{◌≡◌, IfOk, string_bytes, length};
     ghost use Rattle.serde_json_path_core.specs.Tree as tree;
     ghost use Rattle.serde_json_path_core.specs.Literals.{literal_view, operator_view};
-    ghost use Rattle.serde_json_path_core.specs.Piece.{a_query, a_segment, a_selector, an_or, an_and, a_basic, a_comparable};
+    ghost use Rattle.serde_json_path_core.specs.Piece.{a_query, a_segment, a_selector, an_or, an_and, a_basic, a_comparable, a_call, an_argument};
     ghost use Rattle.serde_json_path_core.specs.WellFormed.{IsOptionalInteger};
     ghost use Rattle.serde_json_path_core.specs.Flat.{kind_view, segment_kind_view, NamesBelow, piece_of, pieces};
     ghost use Rattle.serde_json_path_core.specs.SliceView.{slice_view};
-    ghost use Rattle.serde_json_path_core.specs.Parts.{HasNoParts, IsPart, ArePartsOf, AreSelectorsOf, AreOrPartsOf, AreAndPartsOf, KeepsParts, tree_of};
+    ghost use Rattle.serde_json_path_core.specs.Parts.{HasNoParts, IsPart, ArePartsOf, AreSelectorsOf, AreOrPartsOf, AreAndPartsOf, AreArgumentsOf, KeepsParts, tree_of, signatures_of};
+    ghost use Rattle.serde_json_path_core.specs.Used.{MayFinish, used_view};
 
     /// A builder that has made no part yet. Takes no memory.
     pub fn new(alloc: Global) -> SyntaxBuilder
@@ -232,6 +235,90 @@ impl SyntaxBuilder {
         self.push(Node::Comparable(Comparable::Singular(query)))
     }
 
+    /// A call as a side of a comparison, as `length(@.a)` (RFC 9535, section 2.3.5.1).
+    pub fn called(&mut self, call: Part) -> Result<Part, AllocError>
+        requires { (c : tree.Call) × IsPart self.old call (a_call c) }
+        ensures made { IfOk result (λ part. (c : tree.Call) → IsPart self.old call (a_call c)
+            → IsPart self.new part (a_comparable (tree.called c))) }
+        ensures keeps { KeepsParts self.old self.new }
+    {
+        self.push(Node::Comparable(Comparable::Called(call)))
+    }
+
+    /// The test of a call's answer, as `match(@.a, 'b')` (RFC 9535, section 2.4.2).
+    pub fn test(&mut self, call: Part) -> Result<Part, AllocError>
+        requires { (c : tree.Call) × IsPart self.old call (a_call c) }
+        ensures made { IfOk result (λ part. (c : tree.Call) → IsPart self.old call (a_call c)
+            → IsPart self.new part (a_basic (tree.test c))) }
+        ensures keeps { KeepsParts self.old self.new }
+    {
+        self.push(Node::Basic(Basic::Test(call)))
+    }
+
+    /// The test of a call's answer behind `!`, as `!match(@.a, 'b')` (RFC 9535, section 2.4.2).
+    pub fn not_test(&mut self, call: Part) -> Result<Part, AllocError>
+        requires { (c : tree.Call) × IsPart self.old call (a_call c) }
+        ensures made { IfOk result (λ part. (c : tree.Call) → IsPart self.old call (a_call c)
+            → IsPart self.new part (a_basic (tree.not_test c))) }
+        ensures keeps { KeepsParts self.old self.new }
+    {
+        self.push(Node::Basic(Basic::NotTest(call)))
+    }
+
+    /// A call of the function of that name with these arguments, in order (RFC 9535, section 2.4).
+    pub fn call(&mut self, name: String, arguments: Vec<Part>) -> Result<Part, AllocError>
+        requires { (args : tree.Arguments) × AreArgumentsOf self.old arguments.items args }
+        ensures made { IfOk result (λ part. (args : tree.Arguments) → AreArgumentsOf self.old arguments.items args
+            → IsPart self.new part (a_call (tree.call (string_bytes name) args))) }
+        ensures keeps { KeepsParts self.old self.new }
+    {
+        self.push(Node::Call { name, arguments })
+    }
+
+    /// A literal as an argument (RFC 9535, section 2.4).
+    pub fn literal_argument(&mut self, literal: Literal) -> Result<Part, AllocError>
+        ensures made { IfOk result (λ part. IsPart self.new part (an_argument (tree.literal_argument (literal_view literal)))) }
+        ensures keeps { KeepsParts self.old self.new }
+    {
+        let argument = match literal {
+            Literal::String(text) => Argument::Value(Value::String(text)),
+            Literal::Number(number) => Argument::Number(number),
+            Literal::Bool(truth) => Argument::Value(Value::Bool(truth)),
+            Literal::Null => Argument::Value(Value::Null),
+        };
+        self.push(Node::Argument(argument))
+    }
+
+    /// A query as an argument (RFC 9535, section 2.4).
+    pub fn query_argument(&mut self, query: Part) -> Result<Part, AllocError>
+        requires { (q : tree.Query) × IsPart self.old query (a_query q) }
+        ensures made { IfOk result (λ part. (q : tree.Query) → IsPart self.old query (a_query q)
+            → IsPart self.new part (an_argument (tree.query_argument q))) }
+        ensures keeps { KeepsParts self.old self.new }
+    {
+        self.push(Node::Argument(Argument::Query(query)))
+    }
+
+    /// A call as an argument (RFC 9535, section 2.4).
+    pub fn call_argument(&mut self, call: Part) -> Result<Part, AllocError>
+        requires { (c : tree.Call) × IsPart self.old call (a_call c) }
+        ensures made { IfOk result (λ part. (c : tree.Call) → IsPart self.old call (a_call c)
+            → IsPart self.new part (an_argument (tree.call_argument c))) }
+        ensures keeps { KeepsParts self.old self.new }
+    {
+        self.push(Node::Argument(Argument::Call(call)))
+    }
+
+    /// A logical expression as an argument (RFC 9535, section 2.4).
+    pub fn logical_argument(&mut self, expression: Part) -> Result<Part, AllocError>
+        requires { (e : tree.LogicalOr) × IsPart self.old expression (an_or e) }
+        ensures made { IfOk result (λ part. (e : tree.LogicalOr) → IsPart self.old expression (an_or e)
+            → IsPart self.new part (an_argument (tree.logical_argument e))) }
+        ensures keeps { KeepsParts self.old self.new }
+    {
+        self.push(Node::Argument(Argument::Logical(expression)))
+    }
+
     /// A query of these segments, in order.
     pub fn query(&mut self, kind: QueryKind, segments: Vec<Part>) -> Result<Part, AllocError>
         requires { (segs : tree.Segments) × ArePartsOf self.old segments.items segs }
@@ -243,10 +330,15 @@ impl SyntaxBuilder {
     }
 
     /// The finished tree, which is that of the part. Takes no memory.
-    pub fn finish(self, part: Part) -> Checked
-        requires { (segs : tree.Segments) × IsPart self part (a_query (tree.query tree.root segs)) }
-        ensures { (q : tree.Query) → IsPart self part (a_query q) → tree_of result ≡ q }
+    ///
+    /// `used` has the names that the query calls, each once, with the signatures under which it is well-typed
+    /// (RFC 9535, section 2.4.3). The query begins at the root, and at most 128 filters, parentheses and calls stand
+    /// within each other.
+    pub fn finish(self, part: Part, used: Vec<(String, Signature)>) -> Checked
+        requires { (q : tree.Query) × IsPart self part (a_query q) × MayFinish (used_view used.items) q }
+        ensures tree { (q : tree.Query) → IsPart self part (a_query q) → tree_of result ≡ q }
+        ensures used { signatures_of result ≡ used_view used.items }
     {
-        Checked::of(self.nodes, part)
+        Checked::of(self.nodes, part, used)
     }
 }

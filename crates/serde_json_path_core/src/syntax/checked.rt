@@ -2,52 +2,89 @@
 
 ghost use Rattle.std.specs.Prelude.{◌<◌, ◌≤◌, ◌≡◌, IfSome, ◌+◌, ◌^◌, [], ◌∷◌, IsSome, length, option_map, slice_get};
 ghost use Rattle.std.specs.Option.{ForSome};
-ghost use Rattle.serde_json_path_core.specs.Flat.{IsGrown};
+ghost use Rattle.serde_json_path_core.specs.Tree.{kind_of, root};
+ghost use Rattle.serde_json_path_core.specs.Typing.{IsTyped};
+ghost use Rattle.serde_json_path_core.specs.Depth.{depth};
+ghost use Rattle.serde_json_path_core.specs.Used.{deepest, signature_in, used_view};
+ghost use Rattle.serde_json_path_core.specs.Flat.{IsGrown, query_at};
 ghost use Rattle.serde_json_path_core.specs.Stages.{choice_view, stage_at};
 
+use crate::functions::Functions;
+use crate::functions::Signature;
 use crate::syntax::choice::Choice;
 use crate::syntax::node::{Node, Part, QueryKind, Segment, SegmentKind, Selector};
 use std::alloc::Global;
 
 /// A well-typed query from the document's root.
 ///
-/// Contracts see it as its syntax tree.
+/// Contracts see it as its syntax tree and the signatures of the functions that it calls.
 #[derive(Drop)]
 pub struct Checked {
     pub(crate) nodes: Vec<Node>,
     pub(crate) query: Option<Part>,
+    pub(crate) used: Vec<(String, Signature)>,
     ghost grown: { IsGrown nodes.items },
     ghost within: { ForSome query (λ part. part.number < length nodes.items) },
+    ghost rooted: { kind_of (query_at nodes.items query) ≡ root },
+    ghost typed: { ∥ IsTyped (signature_in (used_view used.items)) (query_at nodes.items query) ∥₁ },
+    ghost shallow: { depth (query_at nodes.items query) ≤ deepest },
 }
 
 impl Checked {
     ghost use Rattle.std.specs.List.{All};
-    ghost use Rattle.serde_json_path_core.specs.Tree.{query, root, no_segments, kind_of, segments_of};
-    ghost use Rattle.serde_json_path_core.specs.Flat.{or_at, ors_in, and_at, ands_in, part_query, kind_view, segment_kind_view, query_in, selector_in, selectors_in, piece_at, piece_of, pieces, pieces_named, segments_at, NamesBelow};
+    ghost use Rattle.std.specs.Prelude.{◌↔◌, IsTrue};
+    ghost use Rattle.serde_json_path_core.specs.Tree.{query, no_segments, segments_of};
+    ghost use Rattle.serde_json_path_core.specs.Functions.{Fits};
+    ghost use Rattle.serde_json_path_core.specs.Calls.{arguments_of, name_of};
+    ghost use Rattle.serde_json_path_core.specs.Used.{MayFinish};
+    ghost use Rattle.serde_json_path_core.specs.Flat.{or_at, ors_in, and_at, ands_in, call_at, arguments_in, part_query, kind_view, segment_kind_view, query_in, selector_in, selectors_in, piece_at, piece_of, pieces, pieces_named, segments_at, NamesBelow};
     ghost use Rattle.serde_json_path_core.specs.Rest.{selectors_list};
-    ghost use Rattle.serde_json_path_core.specs.Parts.{tree_of};
+    ghost use Rattle.serde_json_path_core.specs.Parts.{tree_of, signatures_of};
     ghost use Rattle.serde_json_path_core.specs.PartBounds.{parts_bound, choice_bound};
 
     /// The query `$` without segments. Takes no memory.
     pub fn new(alloc: Global) -> Checked
-        ensures { tree_of result ≡ query root no_segments }
+        ensures tree { tree_of result ≡ query root no_segments }
+        ensures used { signatures_of result ≡ [] }
     {
         Checked {
             nodes: Vec::new(alloc),
             query: None,
+            used: Vec::new(alloc),
         }
     }
 
     /// The tree of that part.
-    pub(crate) fn of(nodes: Vec<Node>, part: Part) -> Checked
+    pub(crate) fn of(nodes: Vec<Node>, part: Part, used: Vec<(String, Signature)>) -> Checked
         requires grown { IsGrown nodes.items }
         requires within { part.number < length nodes.items }
-        ensures { tree_of result ≡ query_in (piece_at nodes.items part.number) }
+        requires complete { MayFinish (used_view used.items) (query_in (piece_at nodes.items part.number)) }
+        ensures tree { tree_of result ≡ query_in (piece_at nodes.items part.number) }
+        ensures used { signatures_of result ≡ used_view used.items }
     {
         Checked {
             nodes,
             query: Some(part),
+            used,
         }
+    }
+
+    /// Whether the set declares each function that the query calls, with the signature under which the query is
+    /// well-typed (RFC 9535, section 2.4.3). Takes no memory.
+    pub fn fits<F: Functions>(&self, functions: &F) -> bool
+        ensures { IsTrue result ↔ Fits (F.set functions.now) (signatures_of self.now) }
+    {
+        for (name, signature) in self.used.iter() {
+            match functions.signature(name.as_str()) {
+                None => return false,
+                Some(declared) => {
+                    if !declared.is_same(signature) {
+                        return false;
+                    }
+                }
+            }
+        }
+        true
     }
 
     /// The node of a part.
@@ -123,6 +160,29 @@ impl Checked {
     {
         match self.node(expression) {
             Node::LogicalAnd(parts) => parts.as_slice(),
+            _ => &[],
+        }
+    }
+
+    /// The name that a call calls.
+    pub(crate) fn called_name(&self, call: Part) -> &str
+        requires { call.number < length self.now.nodes.items }
+        ensures { result.now ≡ name_of (call_at self.now.nodes.items call) }
+    {
+        match self.node(call) {
+            Node::Call { name, .. } => name.as_str(),
+            _ => "",
+        }
+    }
+
+    /// The arguments of a call, in order.
+    pub(crate) fn arguments(&self, call: Part) -> &[Part]
+        requires { call.number < length self.now.nodes.items }
+        ensures tree { arguments_of (call_at self.now.nodes.items call) ≡ arguments_in (pieces_named (pieces self.now.nodes.items) result.now) }
+        ensures below { parts_bound result.now ≤ call.number }
+    {
+        match self.node(call) {
+            Node::Call { arguments, .. } => arguments.as_slice(),
             _ => &[],
         }
     }

@@ -1,8 +1,9 @@
 //! The nodes of a syntax tree.
 
-use crate::syntax::literal::Literal;
+use crate::syntax::literal::{Literal, NumberLiteral};
 use crate::syntax::operator::ComparisonOperator;
 use crate::syntax::slice::Slice;
+use serde_json::Value;
 
 /// Where a query begins (RFC 9535, sections 2.2.1 and 2.3.5.1).
 #[derive(Clone, Copy, Debug, PartialEq, Eq)]
@@ -71,6 +72,10 @@ pub(crate) enum Basic {
     Exist(Part),
     /// The same behind `!`.
     NotExist(Part),
+    /// A test of a call's answer.
+    Test(Part),
+    /// The same behind `!`.
+    NotTest(Part),
 }
 
 /// A side of a comparison.
@@ -80,6 +85,23 @@ pub(crate) enum Comparable {
     Literal(Literal),
     /// A singular query.
     Singular(Part),
+    /// A call.
+    Called(Part),
+}
+
+/// An argument of a call.
+#[derive(Debug, Drop)]
+pub(crate) enum Argument {
+    /// A literal, but no number, as the value that it writes.
+    Value(Value),
+    /// A number literal.
+    Number(NumberLiteral),
+    /// A query.
+    Query(Part),
+    /// A call.
+    Call(Part),
+    /// A logical expression.
+    Logical(Part),
 }
 
 /// One node of a syntax tree; it names nodes that were made before it.
@@ -105,4 +127,11 @@ pub(crate) enum Node {
     Basic(Basic),
     /// A side of a comparison.
     Comparable(Comparable),
+    /// A call of a function.
+    Call {
+        name: String,
+        arguments: Vec<Part>,
+    },
+    /// An argument of a call.
+    Argument(Argument),
 }

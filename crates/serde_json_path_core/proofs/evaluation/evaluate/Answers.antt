@@ -1,42 +1,53 @@
-use Rattle.std.proofs.Common.{◌≡◌, ◌+◌, [], ◌∷◌, ◌++◌, map, length, sym, subst, ap, ◌∙◌, arith, append_assoc}
+use Rattle.std.proofs.Common.{◌≡◌, [], ◌∷◌, ◌++◌, map, IfErr, sym, subst, ap, ◌∙◌, append_assoc, rules}
 use Rattle.std.proofs.lemmas.List.{append-nil, map-append}
 use Rattle.serde_json.specs.View.{view}
 use Rattle.serde_json_path_nodes.specs.Place.{Located}
 use Rattle.serde_json_path_nodes.specs.Views.{node_value}
-use Rattle.serde_json_path_core.specs.Functions.{plain_functions}
+use Rattle.serde_json_path_core.specs.Calls.{EachCall, GoesWithoutPattern}
 use Rattle.serde_json_path_core.specs.Meaning.{IsResult}
 use Rattle.serde_json_path_core.specs.Parts.{tree_of}
-use Rattle.serde_json_path_core.specs.Walks.{rest}
+use Rattle.serde_json_path_core.specs.Walks.{document_of, query_of, rest, set_of}
+use Rattle.serde_json_path_core.specs.declared.error.QueryError.TheVariants.{Memory}
 use Rattle.serde_json_path_core.proofs.Found.{found-none, found-some}
+use Rattle.serde_json_path_core.proofs.WholeQueries.{clear-there}
 use Rattle.serde_json_path_core.proofs.evaluation.evaluate.Goals as goal
 
-pub values-smaller : goal.values-smaller
-values-smaller c =
-    let given = found-some _ _ c.in_ok-value.field-0 c.in-Some.value c.in-Some.is c.in_ok-value.ensures.given plain_functions in
-    let longer : length (rest plain_functions c.values.walk) ≡ length (rest plain_functions c.next_value.new.self) + 1 = ap length given.2 ∙ omega arith in
-    omega arith
+pub returns-in_err-value-clause-refused : goal.returns-in_err-value-clause-refused
+returns-in_err-value-clause-refused g c =
+    let w = c.values.walk in
+    let r = c.from_residual-in_err-value.result in
+    let there : IfErr r (λ e. EachCall (GoesWithoutPattern (set_of w)) (query_of w) → e ≡ Memory) = search rules in
+    subst (λ F. IfErr r (λ e. EachCall (GoesWithoutPattern F) (tree_of c.args.query.now) → e ≡ Memory)) c.values.invariant.set
+    (subst (λ q. IfErr r (λ e. EachCall (GoesWithoutPattern (set_of w)) q → e ≡ Memory)) c.values.invariant.query there)
 
 pub values-preserved : goal.values-preserved
-values-preserved c =
+values-preserved g c =
     let value = c.in-Some.value in
-    λ F.
-    let given = found-some _ _ c.in_ok-value.field-0 value c.in-Some.is c.in_ok-value.ensures.given F in
-    let before = c.values.invariant F in
-    let left = rest F c.next_value.new.self in (
-      before.0 ++ given.0 ∷ [],
-      subst (IsResult F (view c.args.root.now) (tree_of c.args.query.now) (view c.args.node.now))
-          (ap (λ more. before.0 ++ more) given.2 ∙ sym (append_assoc before.0 (given.0 ∷ []) left)) before.1,
-      ap (map node_value) c.in_ok-push.ensures.items ∙ map-append node_value c.values.found.items (value ∷ [])
-          ∙ ap (λ values. values ++ view value.now ∷ []) before.2 ∙ ap (λ v. map (λ (n : Located). n.value) before.0 ++ v ∷ []) (sym given.1)
-          ∙ sym (map-append (λ (n : Located). n.value) before.0 (given.0 ∷ [])),
-    )
+    let before = c.values.invariant in
+    let left = rest c.next_value.new.self in
+    let nodes = IsResult (g.F.Functions.set c.args.functions) (view c.args.root.now) (tree_of c.args.query.now) (view c.args.node.now) in
+    record {
+      set = c.next_value.ensures.set ∙ before.set;
+      query = c.next_value.ensures.query ∙ before.query;
+      document = c.next_value.ensures.document ∙ before.document;
+      selected = λ clear.
+          let given = found-some _ _ c.in_ok-value.field-0 value c.in-Some.is (c.in_ok-value.ensures.given (clear-there (g.F.Functions.set c.args.functions) (set_of c.values.walk) (tree_of c.args.query.now) (query_of c.values.walk) (view c.args.root.now) (document_of c.values.walk) before.set before.query before.document clear)) in
+          let found = before.selected clear in (
+            found.0 ++ given.0 ∷ [],
+            subst nodes (ap (λ more. found.0 ++ more) given.2 ∙ sym (append_assoc found.0 (given.0 ∷ []) left)) found.1,
+            ap (map node_value) c.in_ok-push.ensures.items ∙ map-append node_value c.values.found.items (value ∷ [])
+                ∙ ap (λ values. values ++ view value.now ∷ []) found.2 ∙ ap (λ v. map (λ (n : Located). n.value) found.0 ++ v ∷ []) (sym given.1)
+                ∙ sym (map-append (λ (n : Located). n.value) found.0 (given.0 ∷ [])),
+          );
+    }
 
 pub returns-clause-selects : goal.returns-clause-selects
-returns-clause-selects c =
-    λ F.
-    let none = found-none _ _ c.in_ok-value.field-0 c.in_default.is c.in_ok-value.ensures.given F in
-    let before = c.values.invariant F in (
-      before.0,
-      subst (IsResult F (view c.args.root.now) (tree_of c.args.query.now) (view c.args.node.now)) (ap (λ more. before.0 ++ more) none ∙ append-nil before.0) before.1,
-      c.from.ensures ∙ before.2,
+returns-clause-selects g c =
+    let before = c.values.invariant in
+    λ clear.
+    let none = found-none _ _ c.in_ok-value.field-0 c.in_default.is (c.in_ok-value.ensures.given (clear-there (g.F.Functions.set c.args.functions) (set_of c.values.walk) (tree_of c.args.query.now) (query_of c.values.walk) (view c.args.root.now) (document_of c.values.walk) before.set before.query before.document clear)) in
+    let found = before.selected clear in (
+      found.0,
+      subst (IsResult (g.F.Functions.set c.args.functions) (view c.args.root.now) (tree_of c.args.query.now) (view c.args.node.now)) (ap (λ more. found.0 ++ more) none ∙ append-nil found.0) found.1,
+      c.from.ensures ∙ found.2,
     )

@@ -1,0 +1,62 @@
+-- Values that stand in the document: those of a walk's places, and their children.
+use Rattle.std.proofs.Common.{◌≡◌, List, [], ◌∷◌, ◌++◌, option_and_then, None, Some, inl, inr, refl, sym, ap, subst, ◌∙◌}
+use Rattle.std.specs.List.{AllByRecursion}
+use Rattle.std.proofs.lemmas.List.Elements.{recursion_from_All}
+use Rattle.std.proofs.Math.Logic.{∥∥₁_map, ∥∥₁_elim, ∥∥₁_prop}
+use Rattle.serde_json.specs.Data.{Data}
+use Rattle.serde_json_path_nodes.specs.Place.{Step, child_at, at}
+use Rattle.serde_json_path_core.specs.Tree.{QueryKind, root, current}
+use Rattle.serde_json_path_core.specs.Derivation.{IsIn, start_of}
+use Rattle.serde_json_path_core.specs.Calls.{StandsIn}
+use Rattle.serde_json_path_core.specs.Rest.{Stage, Frame, begun, EndsIn, IsOfValue, IsChain, IsStack, IsStackIn, IsInside, StandIn}
+use Rattle.serde_json_path_core.proofs.Chains.{stack-started}
+use Rattle.serde_json_path_core.proofs.Derived.{at-append}
+use Rattle.serde_json_path_core.proofs.InLists.{in_append}
+
+pub root_stands : (top : Data) → StandsIn top top
+root_stands top = ∣ ([], refl) ∣₁
+
+-- where a query begins
+pub start_stands : (kind : QueryKind) (top here : Data) → StandsIn top here → StandsIn top (start_of kind top here)
+start_stands root top here h = root_stands top
+start_stands current top here h = h
+
+pub child_stands : (top v : Data) (s : Step) (c : Data) → child_at v s ≡ Some c → StandsIn top v → StandsIn top c
+child_stands top v s c leads h =
+    ∥∥₁_map h (λ l. (
+      l.0 ++ s ∷ [],
+      at-append top l.0 (s ∷ []) ∙ ap (option_and_then (λ d. at d (s ∷ []))) l.1 ∙ ap (option_and_then (λ d. at d [])) leads,
+    ))
+
+-- ---- places
+
+is_in-all : {A : Type 0} (P : A → Type 0) (xs : List A) (x : A) → IsIn x xs → AllByRecursion P xs → P x
+is_in-all P [] x h all = absurd h
+is_in-all P (y ∷ ys) x (inl e) all = subst P (sym e) all.0
+is_in-all P (y ∷ ys) x (inr h) all = is_in-all P ys x h all.1
+
+-- what is left at a place
+pub left_stands : (top : Data) (p : Frame) → ∥ IsInside top p ∥₁ → StandIn top p.left
+left_stands top p h = λ c i.
+    ∥∥₁_elim h ∥∥₁_prop (λ inside.
+    child_stands top p.value c.0 c.1
+    (is_in-all (λ (d : Step × Data). child_at p.value d.0 ≡ Some d.1) p.left c i (recursion_from_All (λ (d : Step × Data). child_at p.value d.0 ≡ Some d.1) p.left inside.1)) inside.0)
+
+chain-inside : (top v : Data) (ps : List Frame) (p : Frame) → StandsIn top v → IsChain v (ps ++ p ∷ []) → IsInside top p
+chain-inside top v [] p stands h = (child_stands top v h.0 p.value h.2 stands, h.3)
+chain-inside top v (q ∷ qs) p stands h = chain-inside top q.value qs p (child_stands top v h.0 q.value h.2 stands) h.4
+
+-- the last place of a stack
+pub stack-inside : (top start : Data) (ps : List Frame) (p : Frame) → StandsIn top start → IsStack start (ps ++ p ∷ []) → IsInside top p
+stack-inside top start [] p stands h = (subst (StandsIn top) (sym h.1) stands, h.2)
+stack-inside top start (q ∷ qs) p stands h = chain-inside top q.value qs p (subst (StandsIn top) (sym h.1) stands) h.3
+
+-- what is left of children that stand there
+pub ends-stand : (top : Data) (xs ys : List (Step × Data)) → EndsIn xs ys → StandIn top xs → StandIn top ys
+ends-stand top xs ys ends h = λ c i. h c (subst (IsIn c) (sym ends.1) ((in_append c ends.0 ys).1 (inr i)))
+
+-- the place of a walk that begins
+pub begun-inside : (top : Data) (kind : QueryKind) (here start : Data) (all : List Stage) (ps : List Frame) (first : Frame) → StandsIn top here → start ≡ start_of kind top here → ps ≡ first ∷ []
+    → first ≡ record { step = None; value = start; segment = 0; selector = 0; left = begun all start } → IsStackIn top ps
+begun-inside top kind here start all ps first stands v p begins =
+    (start, subst (StandsIn top) (sym v) (start_stands kind top here stands), subst (IsStack start) (sym p) (stack-started all start first begins))

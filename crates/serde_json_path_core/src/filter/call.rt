@@ -1,0 +1,156 @@
+//! Calls of functions in filters (RFC 9535, section 2.4).
+
+ghost use Rattle.std.specs.Prelude.{◌≡◌, ◌<◌, Some, IfOk, IfErr, length};
+ghost use Rattle.serde_json.specs.View.{view};
+ghost use Rattle.serde_json_path_core.specs.Functions.{kind_of_term, of_value};
+ghost use Rattle.serde_json_path_core.specs.Operands.{operand_view};
+ghost use Rattle.serde_json_path_core.specs.Terms.{kind_view, term_view};
+ghost use Rattle.serde_json_path_core.specs.Typing.{result_kind};
+ghost use Rattle.serde_json_path_core.specs.Calls.{StandsIn};
+ghost use Rattle.serde_json_path_core.specs.Computed as computed;
+ghost use Rattle.serde_json_path_core.specs.Flat.{argument_at, call_at, part_query};
+ghost use Rattle.serde_json_path_core.specs.Sound.{IsSound, IsSoundArgument, IsSoundCall};
+ghost use Rattle.serde_json_path_core.specs.Scopes.{Clear, Plain, nodes_of, query_of, set_of, top_of};
+ghost use Rattle.serde_json_path_core.specs.declared.error.QueryError.TheVariants.{Memory};
+
+use crate::error::QueryError;
+use crate::evaluation::scope::Scope;
+use crate::filter::logic::{all_values, first, is_true};
+use crate::filter::operand::Operand;
+use crate::functions::Functions;
+use crate::functions::{FunctionArgType, FunctionValue, LogicalType, NodesType, ValueType};
+use crate::syntax::node::{Argument, Node, Part};
+use serde_json::Value;
+
+/// Whether an answer as a test holds (RFC 9535, section 2.4.2).
+pub(crate) fn answers_yes(answer: &FunctionValue<'_>) -> bool
+    ensures { result ≡ computed.answers_yes (term_view answer.now) }
+{
+    match answer {
+        FunctionValue::Value(_) => false,
+        FunctionValue::Nodes(nodes) => !nodes.is_empty(),
+        FunctionValue::Logical(truth) => *truth == LogicalType::True,
+    }
+}
+
+/// An answer of type Value as a side of a comparison (RFC 9535, section 2.4.2).
+pub(crate) fn operand_of<'x>(answer: FunctionValue<'x>) -> Operand<'x>
+    requires { kind_of_term (term_view answer) ≡ of_value }
+    ensures { Some (operand_view result) ≡ computed.answer_compared (term_view answer.entry) }
+{
+    match answer {
+        FunctionValue::Value(ValueType::Value(value)) => Operand::Made(value),
+        FunctionValue::Value(ValueType::Node(value)) => Operand::Node(value),
+        FunctionValue::Value(ValueType::Nothing) => Operand::Nothing,
+        FunctionValue::Nodes(_) | FunctionValue::Logical(_) => unreachable!(),
+    }
+}
+
+/// An answer as an argument of that type (RFC 9535, section 2.4.2).
+fn answer_as<'x>(answer: FunctionValue<'x>, kind: FunctionArgType) -> FunctionValue<'x>
+    ensures { term_view result ≡ computed.answer_as (kind_view kind) (term_view answer.entry) }
+{
+    match kind {
+        FunctionArgType::Value | FunctionArgType::Nodelist => answer,
+        FunctionArgType::Logical => {
+            FunctionValue::Logical(LogicalType::from(answers_yes(&answer)))
+        }
+    }
+}
+
+/// The answer of a call, where `@` is the value.
+#[cycle(evaluation)]
+pub(crate) fn answer<'x, 'q: 'x, 'b: 'x, F: Functions>(
+    scope: &Scope<'q, 'b, F>,
+    call: Part,
+    value: &'b Value,
+) -> Result<FunctionValue<'x>, QueryError>
+    requires below { call.number < length (nodes_of scope.now) }
+    requires sound { IsSoundCall (set_of scope.now) (top_of scope.now) (query_of scope.now) (call_at (nodes_of scope.now) call) }
+    requires inside { StandsIn (top_of scope.now) (view value.now) }
+    ensures kind { IfOk result (λ answer. Some (kind_of_term (term_view answer)) ≡ result_kind (set_of scope.now).signature (call_at (nodes_of scope.now) call)) }
+    ensures means { IfOk result (λ answer. Clear scope.now → term_view answer ≡ computed.answer (set_of scope.now) (top_of scope.now) (call_at (nodes_of scope.now) call) (view value.now)) }
+    ensures refused { IfErr result (λ e. Plain scope.now → e ≡ Memory) }
+{
+    let name = scope.query.called_name(call);
+    let signature = match scope.functions.signature(name) {
+        Some(signature) => signature,
+        None => unreachable!(),
+    };
+    let mut given: Vec<FunctionValue<'x>> = Vec::new(scope.alloc);
+    for (argument, kind) in scope.query.arguments(call).iter().zip(signature.params().iter()) {
+        let term: FunctionValue<'x> = argument_as(scope, *argument, *kind, value)?;
+        given.push(term)?;
+    }
+    scope.functions.call(scope.alloc, name, given)
+}
+
+/// An argument as a parameter of that type takes it (RFC 9535, section 2.4.3).
+#[cycle(evaluation)]
+fn argument_as<'x, 'q: 'x, 'b: 'x, F: Functions>(
+    scope: &Scope<'q, 'b, F>,
+    argument: Part,
+    kind: FunctionArgType,
+    value: &'b Value,
+) -> Result<FunctionValue<'x>, QueryError>
+    requires below { argument.number < length (nodes_of scope.now) }
+    requires sound { IsSoundArgument (set_of scope.now) (top_of scope.now) (query_of scope.now) (kind_view kind) (argument_at (nodes_of scope.now) argument) }
+    requires inside { StandsIn (top_of scope.now) (view value.now) }
+    ensures kind { IfOk result (λ term. kind_of_term (term_view term) ≡ kind_view kind) }
+    ensures means { IfOk result (λ term. Clear scope.now → term_view term ≡ computed.argument_as (set_of scope.now) (top_of scope.now) (argument_at (nodes_of scope.now) argument) (kind_view kind) (view value.now)) }
+    ensures refused { IfErr result (λ e. Plain scope.now → e ≡ Memory) }
+{
+    match scope.query.node(argument) {
+        Node::Argument(argument) => match argument {
+            Argument::Value(literal) => {
+                let literal: &'x Value = literal;
+                Ok(FunctionValue::Value(ValueType::Node(literal)))
+            }
+            Argument::Number(number) => Ok(FunctionValue::Value(ValueType::Value(number.value()))),
+            Argument::Query(query) => result_as(scope, *query, kind, value),
+            Argument::Call(call) => {
+                let answer: FunctionValue<'x> = answer(scope, *call, value)?;
+                Ok(answer_as(answer, kind))
+            }
+            Argument::Logical(test) => {
+                let holds = is_true(scope, *test, value)?;
+                Ok(FunctionValue::Logical(LogicalType::from(holds)))
+            }
+        },
+        _ => Ok(FunctionValue::Value(ValueType::Value(Value::Null))),
+    }
+}
+
+/// A query's result as an argument of that type (RFC 9535, section 2.4.3).
+#[cycle(evaluation)]
+fn result_as<'x, 'q: 'x, 'b: 'x, F: Functions>(
+    scope: &Scope<'q, 'b, F>,
+    query: Part,
+    kind: FunctionArgType,
+    value: &'b Value,
+) -> Result<FunctionValue<'x>, QueryError>
+    requires below { query.number < length (nodes_of scope.now) }
+    requires sound { IsSound (set_of scope.now) (top_of scope.now) (query_of scope.now) (part_query (nodes_of scope.now) query) }
+    requires inside { StandsIn (top_of scope.now) (view value.now) }
+    ensures kind { IfOk result (λ term. kind_of_term (term_view term) ≡ kind_view kind) }
+    ensures means { IfOk result (λ term. Clear scope.now → term_view term ≡ computed.result_as (kind_view kind) (computed.results (set_of scope.now) (top_of scope.now) (part_query (nodes_of scope.now) query) (view value.now))) }
+    ensures refused { IfErr result (λ e. Plain scope.now → e ≡ Memory) }
+{
+    match kind {
+        FunctionArgType::Value => match first(scope, query, value)? {
+            Some(node) => {
+                let node: &'x Value = node;
+                Ok(FunctionValue::Value(ValueType::Node(node)))
+            }
+            None => Ok(FunctionValue::Value(ValueType::Nothing)),
+        },
+        FunctionArgType::Nodelist => {
+            let nodes: Vec<&'x Value> = all_values(scope, query, value)?;
+            Ok(FunctionValue::Nodes(NodesType::from(nodes)))
+        }
+        FunctionArgType::Logical => {
+            let exists = first(scope, query, value)?.is_some();
+            Ok(FunctionValue::Logical(LogicalType::from(exists)))
+        }
+    }
+}
