@@ -10,6 +10,7 @@ pub mod Derived
 pub mod Descents
 pub mod Ends
 pub mod Growing
+pub mod Finished
 pub mod Found
 pub mod Heights
 pub mod Joined

@@ -13,6 +13,7 @@ pub mod Depth
 pub mod WellFormed
 pub mod Calls
 pub mod Used
+pub mod Uncalled
 pub mod Text
 pub mod Piece
 pub mod SliceView
