@@ -14,6 +14,8 @@ pub mod WellFormed
 pub mod Calls
 pub mod Used
 pub mod Uncalled
+pub mod Samples
+pub mod Called
 pub mod Text
 pub mod Piece
 pub mod SliceView

@@ -1,13 +1,9 @@
 //! Queries that are built out of parts, their walks and results, and the pieces that they stand on.
 
-mod building;
+mod calls;
 mod comparisons;
-mod cursor;
-mod filters;
 mod functions;
-mod queries;
-mod walks;
-mod written;
+mod samples;
 
 use crate::QueryError;
 use std::test::Fail;

@@ -1,0 +1,61 @@
+//! A function set of the tests.
+
+ghost use Rattle.serde_json_path_core.specs.Samples.{sample_functions};
+
+use crate::QueryError;
+use crate::functions::FunctionArgType::{Logical, Nodelist};
+use crate::functions::{
+    FunctionArgType, FunctionValue, Functions, LogicalType, Signature, ValueType,
+};
+use serde_json::Value;
+use std::alloc::Global;
+
+/// `first` gives the value of the first node, `length` one more than there are nodes, `kids` its nodes, `both` whether
+/// both are true, `none` Nothing, and `refuse` is refused for memory.
+#[derive(Clone, Copy)]
+pub(crate) struct Samples;
+
+impl Functions for Samples {
+    ghost use Rattle.serde_json_path_core.specs.Samples.{sample_keeps_types};
+
+    ghost set = { λ _. sample_functions };
+
+    ghost typed = { λ _. sample_keeps_types };
+
+    fn signature(&self, name: &str) -> Option<Signature> {
+        match name {
+            "first" | "length" => Signature::new(&[Nodelist], FunctionArgType::Value),
+            "kids" => Signature::new(&[Nodelist], Nodelist),
+            "both" => Signature::new(&[Logical, Logical], Logical),
+            "none" => Signature::new(&[], FunctionArgType::Value),
+            "refuse" => Signature::new(&[], Logical),
+            _ => None,
+        }
+    }
+
+    fn call<'b>(
+        &self,
+        alloc: Global,
+        name: &str,
+        mut args: Vec<FunctionValue<'b>>,
+    ) -> Result<FunctionValue<'b>, QueryError> {
+        match (name, args.pop(), args.pop()) {
+            ("first", Some(FunctionValue::Nodes(nodes)), None) => match nodes.first() {
+                Some(node) => Ok(FunctionValue::Value(ValueType::Node(node))),
+                None => Ok(FunctionValue::Value(ValueType::Nothing)),
+            },
+            ("length", Some(FunctionValue::Nodes(nodes)), None) => {
+                let more = Value::from(nodes.len() as u64 + 1);
+                Ok(FunctionValue::Value(ValueType::Value(more)))
+            }
+            ("kids", Some(FunctionValue::Nodes(nodes)), None) => Ok(FunctionValue::Nodes(nodes)),
+            ("both", Some(FunctionValue::Logical(b)), Some(FunctionValue::Logical(a))) => {
+                let both = a == LogicalType::True && b == LogicalType::True;
+                Ok(FunctionValue::Logical(LogicalType::from(both)))
+            }
+            ("none", None, None) => Ok(FunctionValue::Value(ValueType::Nothing)),
+            ("refuse", None, None) => Err(QueryError::Memory),
+            _ => unreachable!(),
+        }
+    }
+}
