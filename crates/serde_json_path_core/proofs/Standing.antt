@@ -1,14 +1,14 @@
 -- Values that stand in the document: those of a walk's places, and their children.
-use Rattle.std.proofs.Common.{◌≡◌, List, [], ◌∷◌, ◌++◌, option_and_then, None, Some, inl, inr, refl, sym, ap, subst, ◌∙◌}
+use Rattle.std.proofs.Common.{◌≡◌, List, [], ◌∷◌, ◌++◌, option_and_then, Some, inl, inr, refl, sym, ap, subst, ◌∙◌}
 use Rattle.std.specs.List.{AllByRecursion}
 use Rattle.std.proofs.lemmas.List.Elements.{recursion_from_All}
 use Rattle.std.proofs.Math.Logic.{∥∥₁_map, ∥∥₁_elim, ∥∥₁_prop}
 use Rattle.serde_json.specs.Data.{Data}
 use Rattle.serde_json_path_nodes.specs.Place.{Step, child_at, at}
-use Rattle.serde_json_path_core.specs.Tree.{QueryKind, root, current}
+use Rattle.serde_json_path_core.specs.Tree.{QueryKind, root, current, Query, query}
 use Rattle.serde_json_path_core.specs.Derivation.{IsIn, start_of}
 use Rattle.serde_json_path_core.specs.Calls.{StandsIn}
-use Rattle.serde_json_path_core.specs.Rest.{Stage, Frame, begun, EndsIn, IsOfValue, IsChain, IsStack, IsStackIn, IsInside, StandIn}
+use Rattle.serde_json_path_core.specs.Rest.{Frame, place_of, stages, EndsIn, IsOfValue, IsChain, IsStack, IsStackIn, IsInside, StandIn}
 use Rattle.serde_json_path_core.proofs.Chains.{stack-started}
 use Rattle.serde_json_path_core.proofs.Derived.{at-append}
 use Rattle.serde_json_path_core.proofs.InLists.{in_append}
@@ -56,7 +56,6 @@ pub ends-stand : (top : Data) (xs ys : List (Step × Data)) → EndsIn xs ys →
 ends-stand top xs ys ends h = λ c i. h c (subst (IsIn c) (sym ends.1) ((in_append c ends.0 ys).1 (inr i)))
 
 -- the place of a walk that begins
-pub begun-inside : (top : Data) (kind : QueryKind) (here start : Data) (all : List Stage) (ps : List Frame) (first : Frame) → StandsIn top here → start ≡ start_of kind top here → ps ≡ first ∷ []
-    → first ≡ record { step = None; value = start; segment = 0; selector = 0; left = begun all start } → IsStackIn top ps
-begun-inside top kind here start all ps first stands v p begins =
-    (start, subst (StandsIn top) (sym v) (start_stands kind top here stands), subst (IsStack start) (sym p) (stack-started all start first begins))
+pub begun-inside : (top : Data) (q : Query) (here : Data) (ps : List Frame) (first : Frame) → StandsIn top here → ps ≡ first ∷ [] → first ≡ place_of top q here → IsStackIn top ps
+begun-inside top (query kind segs) here ps first stands p begins =
+    (start_of kind top here, start_stands kind top here stands, subst (IsStack (start_of kind top here)) (sym p) (stack-started (stages segs) (start_of kind top here) first begins))

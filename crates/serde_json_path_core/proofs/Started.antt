@@ -8,9 +8,16 @@ use Rattle.serde_json_path_core.specs.Functions.{FunctionSet}
 use Rattle.serde_json_path_core.specs.Tree.{Query, query, kind_of, segments_of, Segments, no_segments, segment, Segment, dot_name, dot_wildcard, long_hand, Selectors, no_selectors, selector, Selector, name, wildcard, index, slice, filter}
 use Rattle.serde_json_path_core.specs.Derivation.{start_of}
 use Rattle.serde_json_path_core.specs.Computed.{itself, results, placed, reached, results_from, chosen, chosen_by, selected}
-use Rattle.serde_json_path_core.specs.Rest.{Frame, candidates, admitted, begun, selectors_of, selectors_list, stages, visit, visit_rest, rest_of}
+use Rattle.serde_json_path_core.specs.Rest.{Frame, candidates, admitted, begun, place_of, selectors_of, selectors_list, stages, visit, visit_rest, rest_of}
 use Rattle.serde_json_path_core.proofs.InLists.{flat_map-same}
 use Rattle.serde_json_path_core.proofs.Stacks.{located, enters}
+
+-- the place of these segments at that start is where the query begins
+pub begun-place : (top : Data) (q : Query) (here start : Data) (segs : Segments) (first : Frame) → segs ≡ segments_of q → start ≡ start_of (kind_of q) top here
+    → first ≡ record { step = None; value = start; segment = 0; selector = 0; left = begun (stages segs) start } → first ≡ place_of top q here
+begun-place top (query kind more) here start segs first e v f =
+    f ∙ ap (λ ss. record { step = None; value = start; segment = 0; selector = 0; left = begun (stages ss) start }) e
+    ∙ ap (λ w. record { step = None; value = w; segment = 0; selector = 0; left = begun (stages more) w }) v
 
 module _ (F : FunctionSet) (top : Data) where
   selected-admitted : (sel : Selector) (v : Data) → admitted F top sel (candidates sel v) ≡ selected F top sel v
@@ -48,15 +55,10 @@ module _ (F : FunctionSet) (top : Data) where
       ∙ ap (λ k. visit_rest (admitted F top) [] (λ m. m ∷ []) (stages segs) (drop k (stages segs)) [] q) s
       ∙ sym (enters (admitted F top) [] (λ m. m ∷ []) (stages segs) 0 (stages segs) (located [] v) q refl s z w l) ∙ visit-results segs (located [] v)
 
-  results-parts : (q : Query) (v : Data) → results_from F top (segments_of q) (itself (start_of (kind_of q) top v)) ≡ results F top q v
-  results-parts (query kind segs) v = refl
-
   -- the place of a walk that begins has the query's result left
-  pub begun-results : (q : Query) (here start : Data) (segs : Segments) (ps : List Frame) (first : Frame) → segs ≡ segments_of q → start ≡ start_of (kind_of q) top here → ps ≡ first ∷ []
-      → first ≡ record { step = None; value = start; segment = 0; selector = 0; left = begun (stages segs) start }
+  pub begun-results : (q : Query) (here : Data) (segs : Segments) (ps : List Frame) (first : Frame) → segs ≡ segments_of q → ps ≡ first ∷ [] → first ≡ place_of top q here
       → rest_of F top (stages segs) ps ≡ results F top q here
-  begun-results q here start segs ps first e v p begins =
-      ap (rest_of F top (stages segs)) p
-      ∙ rest-started segs start first (ap (λ (f : Frame). f.step) begins) (ap (λ (f : Frame). f.segment) begins) (ap (λ (f : Frame). f.selector) begins) (ap (λ (f : Frame). f.value) begins)
-      (ap (λ (f : Frame). f.left) begins)
-      ∙ ap (λ w. results_from F top segs (itself w)) v ∙ ap (λ ss. results_from F top ss (itself (start_of (kind_of q) top here))) e ∙ results-parts q here
+  begun-results (query kind more) here segs ps first e p begins =
+      ap (λ ss. rest_of F top (stages ss) ps) e ∙ ap (rest_of F top (stages more)) p
+      ∙ rest-started more (start_of kind top here) first (ap (λ (f : Frame). f.step) begins) (ap (λ (f : Frame). f.segment) begins) (ap (λ (f : Frame). f.selector) begins)
+      (ap (λ (f : Frame). f.value) begins) (ap (λ (f : Frame). f.left) begins)

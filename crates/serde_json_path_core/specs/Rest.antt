@@ -3,10 +3,10 @@ use Rattle.std.specs.Prelude.{◌≡◌, ℕ, ◌+◌, List, [], ◌∷◌, ◌+
 use Rattle.std.specs.List.{All}
 use Rattle.serde_json.specs.Data.{Data}
 use Rattle.serde_json_path_nodes.specs.Place.{Step, by_name, child_at, Located}
-use Rattle.serde_json_path_core.specs.Tree.{Segments, no_segments, segment, SegmentKind, child, descendant, Segment, dot_name, dot_wildcard, long_hand, Selectors, no_selectors, selector, Selector, name, wildcard, index, slice, filter}
+use Rattle.serde_json_path_core.specs.Tree.{Query, query, Segments, no_segments, segment, SegmentKind, child, descendant, Segment, dot_name, dot_wildcard, long_hand, Selectors, no_selectors, selector, Selector, name, wildcard, index, slice, filter}
 use Rattle.serde_json_path_core.specs.Functions.{FunctionSet}
 use Rattle.serde_json_path_core.specs.Calls.{StandsIn}
-use Rattle.serde_json_path_core.specs.Derivation.{IsIn}
+use Rattle.serde_json_path_core.specs.Derivation.{IsIn, start_of}
 use Rattle.serde_json_path_core.specs.Selected.{child_by, item_at}
 use Rattle.serde_json_path_core.specs.Computed.{children, sliced, reached, placed, is_true}
 
@@ -81,6 +81,11 @@ pub record Frame : Type 0 where
   pub segment : ℕ
   pub selector : ℕ
   pub left : List (Step × Data)
+
+-- the place where a query begins, where `@` is v
+abbrev pub place_of : Data → Query → Data → Frame
+place_of top (query kind segs) v =
+    record { step = None; value = start_of kind top v; segment = 0; selector = 0; left = begun (stages segs) (start_of kind top v) }
 
 -- the children to go down to, where these selectors are left
 abbrev pub lower_left : SegmentKind → List Selector → List (Step × Data) → Data → List (Step × Data)

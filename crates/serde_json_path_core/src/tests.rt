@@ -1,9 +1,15 @@
 //! Queries that are built out of parts, their walks and results, and the pieces that they stand on.
 
+mod building;
 mod calls;
 mod comparisons;
+mod cursor;
+mod filters;
 mod functions;
+mod queries;
 mod samples;
+mod walks;
+mod written;
 
 use crate::QueryError;
 use std::test::Fail;

@@ -6,7 +6,7 @@ use Rattle.serde_json.specs.Data.{Data}
 use Rattle.serde_json.specs.View.{view}
 use Rattle.serde_json_path_nodes.specs.Place.{Step, Located}
 use Rattle.serde_json_path_nodes.specs.Views.{node_value}
-use Rattle.serde_json_path_core.specs.Tree.{child, descendant, kind_of, segments_of}
+use Rattle.serde_json_path_core.specs.Tree.{child, descendant}
 use Rattle.serde_json_path_core.specs.Cursors.{cursor_left}
 use Rattle.serde_json_path_core.specs.Flat.{segment_kind_view, segment_in, segments_at, piece_at, piece_in, and_in, basic_in, or_at, and_at, ors_in, ands_in, call_at, part_query, pieces, pieces_named}
 use Rattle.serde_json_path_core.specs.Terms.{term_view}
@@ -18,7 +18,7 @@ use Rattle.serde_json_path_core.specs.Rest.{rest_of, stack_path, IsStack, IsStac
 use Rattle.serde_json_path_core.specs.Advances.{Advances, IsDone, ComesTo}
 use Rattle.serde_json_path_core.specs.Stages.{choice_view, stage_at, stages_at}
 use Rattle.serde_json_path_core.specs.Views.{child_view}
-use Rattle.serde_json_path_core.specs.Derivation.{start_of, IsIn}
+use Rattle.serde_json_path_core.specs.Derivation.{IsIn}
 use Rattle.serde_json_path_core.specs.Meaning.{first_value}
 use Rattle.serde_json_path_core.specs.Computed as computed
 use Rattle.serde_json_path_core.specs.PartBounds.{parts_bound}
@@ -295,12 +295,11 @@ filter::logic::first-find_next-requires g t c =
     let scope = c.args.scope.now in
     let q = part_query (nodes_of scope) c.args.query in
     let segments = c.part_segments-segments.result.now in
-    let items = c.in_ok-push.ensures.items ∙ ap (λ places. places ++ c.start.result ∷ []) c.new-places.ensures.items in
+    let items = ap frames_of (c.in_ok-push.ensures.items ∙ ap (λ places. places ++ c.begun.result ∷ []) c.new-places.ensures.items) in
     let sound : AreSoundSegments (set_of scope) (top_of scope) (query_of scope) (segments_at (nodes_of scope) segments) =
     sound-segments (set_of scope) (top_of scope) (query_of scope) q (segments_at (nodes_of scope) segments) c.part_segments-segments.ensures.tree c.requires.sound in
     let inside : ∥ IsStackIn (top_of scope) (frames_of c.push.new.self.items) ∥₁ =
-    ∣ begun-inside (top_of scope) (kind_of q) (view c.args.value.now) (view c.start-start.result.now) (stages_at (nodes_of scope) segments) (frames_of c.push.new.self.items) (frame_of c.start.result)
-    c.requires.inside (c.start-start.ensures ∙ ap (λ kind. start_of kind (top_of scope) (view c.args.value.now)) c.part_kind.ensures) (ap frames_of items) c.start.ensures ∣₁ in
+    ∣ begun-inside (top_of scope) q (view c.args.value.now) (frames_of c.push.new.self.items) (frame_of c.begun.result) c.requires.inside items c.begun.ensures ∣₁ in
     search rules
 
 pub filter::logic::first-returns-clause-means : goal.filter::logic::first-returns-clause-means
@@ -309,11 +308,11 @@ filter::logic::first-returns-clause-means g t c =
     let q = part_query (nodes_of scope) c.args.query in
     let here = view c.args.value.now in
     let segments = c.part_segments-segments.result.now in
-    let items = c.in_ok-push.ensures.items ∙ ap (λ places. places ++ c.start.result ∷ []) c.new-places.ensures.items in
-    let begun = begun-results (set_of scope) (top_of scope) q here (view c.start-start.result.now) (segments_at (nodes_of scope) segments) (frames_of c.push.new.self.items) (frame_of c.start.result)
-    c.part_segments-segments.ensures.tree (c.start-start.ensures ∙ ap (λ kind. start_of kind (top_of scope) here) c.part_kind.ensures) (ap frames_of items) c.start.ensures in
+    let items = ap frames_of (c.in_ok-push.ensures.items ∙ ap (λ places. places ++ c.begun.result ∷ []) c.new-places.ensures.items) in
+    let begins = begun-results (set_of scope) (top_of scope) q here (segments_at (nodes_of scope) segments) (frames_of c.push.new.self.items) (frame_of c.begun.result)
+    c.part_segments-segments.ensures.tree items c.begun.ensures in
     first-found (Clear scope) (set_of scope) (top_of scope) (stages_at (nodes_of scope) segments) c.find_next.new.places.items c.find_next.result (computed.results (set_of scope) (top_of scope) q here)
-    (λ clear. sym (c.find_next.ensures.rest clear) ∙ begun) c.find_next.ensures.found
+    (λ clear. sym (c.find_next.ensures.rest clear) ∙ begins) c.find_next.ensures.found
 
 -- ---- children that a filter admits
 
@@ -358,17 +357,15 @@ filter::logic::all_values-values-init g t c =
     let scope = c.args.scope.now in
     let q = part_query (nodes_of scope) c.args.query in
     let here = view c.args.value.now in
-    let start = view c.start-start.result.now in
     let segments = c.part_segments-segments.result.now in
     let frames = frames_of c.push.new.self.items in
-    let is_start = c.start-start.ensures ∙ ap (λ kind. start_of kind (top_of scope) here) c.part_kind.ensures in
-    let items = ap frames_of (c.in_ok-push.ensures.items ∙ ap (λ places. places ++ c.start.result ∷ []) c.new-places.ensures.items) in
-    let begun = begun-results (set_of scope) (top_of scope) q here start (segments_at (nodes_of scope) segments) frames (frame_of c.start.result) c.part_segments-segments.ensures.tree is_start items c.start.ensures in
+    let items = ap frames_of (c.in_ok-push.ensures.items ∙ ap (λ places. places ++ c.begun.result ∷ []) c.new-places.ensures.items) in
+    let begins = begun-results (set_of scope) (top_of scope) q here (segments_at (nodes_of scope) segments) frames (frame_of c.begun.result) c.part_segments-segments.ensures.tree items c.begun.ensures in
     let values = map (λ (n : Located). n.value) in
     record {
       values = λ clear.
-          ap values (sym begun) ∙ ap (λ found. map node_value found ++ values (rest_of (set_of scope) (top_of scope) (stages_at (nodes_of scope) segments) frames)) (sym c.new-found.ensures.items);
-      inside = ∣ begun-inside (top_of scope) (kind_of q) here start (stages_at (nodes_of scope) segments) frames (frame_of c.start.result) c.requires.inside is_start items c.start.ensures ∣₁;
+          ap values (sym begins) ∙ ap (λ found. map node_value found ++ values (rest_of (set_of scope) (top_of scope) (stages_at (nodes_of scope) segments) frames)) (sym c.new-found.ensures.items);
+      inside = ∣ begun-inside (top_of scope) q here frames (frame_of c.begun.result) c.requires.inside items c.begun.ensures ∣₁;
     }
 
 pub filter::logic::all_values-values-smaller : goal.filter::logic::all_values-values-smaller

@@ -9,6 +9,8 @@ ghost use Rattle.serde_json_path_core.specs.Meaning.{first_value};
 ghost use Rattle.serde_json_path_core.specs.Computed as computed;
 ghost use Rattle.serde_json_path_core.specs.Flat.{or_at, and_at, basic_at, comparable_at, part_query};
 ghost use Rattle.serde_json_path_core.specs.Operands.{operand_view};
+ghost use Rattle.serde_json_path_core.specs.Places.{frame_of};
+ghost use Rattle.serde_json_path_core.specs.Rest.{place_of};
 ghost use Rattle.serde_json_path_core.specs.Sound.{IsSound, IsSoundOr, IsSoundAnd, IsSoundBasic, IsSoundComparable};
 ghost use Rattle.serde_json_path_core.specs.Scopes.{Clear, Plain, nodes_of, query_of, set_of, top_of};
 ghost use Rattle.serde_json_path_core.specs.declared.error.QueryError.TheVariants.{Memory};
@@ -144,6 +146,15 @@ fn compared<'x, 'q: 'x, 'b: 'x, F: Functions>(
     }
 }
 
+/// The place where a query begins.
+fn begun<'b, F: Functions>(scope: &Scope<'_, 'b, F>, query: Part, value: &'b Value) -> Place<'b>
+    requires { query.number < length (nodes_of scope.now) }
+    ensures { frame_of result ≡ place_of (top_of scope.now) (part_query (nodes_of scope.now) query) (view value.now) }
+{
+    let start = start(scope.query.part_kind(query), value, scope.root);
+    Place::start(scope.query, scope.query.part_segments(query), start)
+}
+
 /// The value of the first node of a query, if it selects one.
 #[cycle(evaluation)]
 pub(crate) fn first<'b, F: Functions>(
@@ -158,9 +169,8 @@ pub(crate) fn first<'b, F: Functions>(
     ensures refused { IfErr result (λ e. Plain scope.now → e ≡ Memory) }
 {
     let segments = scope.query.part_segments(query);
-    let start = start(scope.query.part_kind(query), value, scope.root);
     let mut places = Vec::new(scope.alloc);
-    places.push(Place::start(scope.query, segments, start))?;
+    places.push(begun(scope, query, value))?;
     find_next(scope, segments, &mut places)
 }
 
@@ -178,9 +188,8 @@ pub(crate) fn all_values<'x, 'q: 'x, 'b: 'x, F: Functions>(
     ensures refused { IfErr result (λ e. Plain scope.now → e ≡ Memory) }
 {
     let segments = scope.query.part_segments(query);
-    let start = start(scope.query.part_kind(query), value, scope.root);
     let mut places = Vec::new(scope.alloc);
-    places.push(Place::start(scope.query, segments, start))?;
+    places.push(begun(scope, query, value))?;
     let mut found: Vec<&'x Value> = Vec::new(scope.alloc);
     'values: while let Some(node) = find_next(scope, segments, &mut places)? {
         drop_last(&mut places);

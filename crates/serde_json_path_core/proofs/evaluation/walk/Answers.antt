@@ -1,9 +1,8 @@
 use Rattle.std.proofs.Common.{◌≡◌, [], ◌∷◌, ◌++◌, sym, subst, ap, ◌∙◌}
 use Rattle.serde_json.specs.View.{view}
-use Rattle.serde_json_path_core.specs.Tree.{kind_of, segments_of}
 use Rattle.serde_json_path_core.specs.Derivation.{start_of}
 use Rattle.serde_json_path_core.specs.Calls.{StandsIn}
-use Rattle.serde_json_path_core.specs.Computed.{results}
+use Rattle.serde_json_path_core.specs.Flat.{segments_at}
 use Rattle.serde_json_path_core.specs.Parts.{signatures_of, tree_of}
 use Rattle.serde_json_path_core.specs.Places.{frame_of, frames_of}
 use Rattle.serde_json_path_core.specs.Rest.{rest_of, stages, IsStack}
@@ -12,7 +11,7 @@ use Rattle.serde_json_path_core.specs.Meaning.{IsResult}
 use Rattle.serde_json_path_core.proofs.Chains.{stack-started}
 use Rattle.serde_json_path_core.proofs.Listed.{computed_result}
 use Rattle.serde_json_path_core.proofs.Standing.{root_stands}
-use Rattle.serde_json_path_core.proofs.Started.{begun-results}
+use Rattle.serde_json_path_core.proofs.Started.{begun-place, begun-results}
 use Rattle.serde_json_path_core.proofs.WholeQueries.{whole-sound}
 use Rattle.serde_json_path_core.proofs.evaluation.walk.Goals as goal
 
@@ -38,9 +37,11 @@ returns-clause-selects g c =
     let top = view c.args.root.now in
     let here = view c.args.node.now in
     let places = c.push.new.self.items in
+    let segs = segments_at q.nodes.items c.segments.result.now in
     let items = c.in_ok-push.ensures.items ∙ ap (λ places. places ++ c.start.result ∷ []) c.new-places.ensures.items in
-    let begun = begun-results F top tree here (view c.start-start.result.now) _ (frames_of places) (frame_of c.start.result) c.segments.ensures.tree
-    (c.start-start.ensures ∙ ap (λ kind. start_of kind top here) c.kind.ensures) (ap frames_of items) c.start.ensures in
+    let first = begun-place top tree here (view c.start-start.result.now) segs (frame_of c.start.result) c.segments.ensures.tree
+    (c.start-start.ensures ∙ ap (λ kind. start_of kind top here) c.kind.ensures) c.start.ensures in
+    let begun = begun-results F top tree here segs (frames_of places) (frame_of c.start.result) c.segments.ensures.tree (ap frames_of items) first in
     λ clear.
     subst (IsResult F top tree here) (sym begun ∙ ap (λ segs. rest_of F top (stages segs) (frames_of places)) c.segments.ensures.tree)
     (computed_result F top tree here (whole-sound F top (signatures_of q) tree ∣ c.requires ∣₁ q.typed).0)

@@ -1,0 +1,31 @@
+use Rattle.serde_json_path_core.specs.Tree as tree
+use Rattle.serde_json_path_core.specs.Flat.{segment_kind_view}
+use Rattle.serde_json_path_core.proofs.Written.{one_selector, one_segment}
+use Rattle.serde_json_path_core.proofs.tests.written.filtered.Goals as goal
+
+pub long_hand-requires : goal.long_hand-requires
+long_hand-requires c =
+    let e = c.in_ok-test.ensures.made in
+    let sel = tree.filter e.0 in
+    (tree.selector sel tree.no_selectors, one_selector c.filter.new.self _ _ c.in_ok-selector.selector sel c.new-selectors.ensures.items c.in_ok-push.ensures.items (c.in_ok-selector.ensures.made e.0 e.1))
+
+pub query-requires : goal.query-requires
+query-requires c =
+    let e = c.in_ok-test.ensures.made in
+    let sel = tree.filter e.0 in
+    let sels = tree.selector sel tree.no_selectors in
+    let named = one_selector c.filter.new.self _ _ c.in_ok-selector.selector sel c.new-selectors.ensures.items c.in_ok-push.ensures.items (c.in_ok-selector.ensures.made e.0 e.1) in
+    let kind = segment_kind_view c.args.kind in
+    let seg = tree.long_hand sels in
+    (tree.segment kind seg tree.no_segments, one_segment c.long_hand.new.self _ _ c.in_ok-segment.segment kind seg c.new-segments.ensures.items c.in_ok-push-2.ensures.items (c.in_ok-segment.ensures.made sels named))
+
+pub finish-requires : goal.finish-requires
+finish-requires c =
+    let e = c.in_ok-test.ensures.made in
+    let sel = tree.filter e.0 in
+    let sels = tree.selector sel tree.no_selectors in
+    let named = one_selector c.filter.new.self _ _ c.in_ok-selector.selector sel c.new-selectors.ensures.items c.in_ok-push.ensures.items (c.in_ok-selector.ensures.made e.0 e.1) in
+    let kind = segment_kind_view c.args.kind in
+    let seg = tree.long_hand sels in
+    let segs = tree.segment kind seg tree.no_segments in
+    (segs, c.in_ok-query.ensures.made segs (one_segment c.long_hand.new.self _ _ c.in_ok-segment.segment kind seg c.new-segments.ensures.items c.in_ok-push-2.ensures.items (c.in_ok-segment.ensures.made sels named)))

@@ -1,0 +1,260 @@
+//! What queries select, on small documents.
+
+use crate::tests::building::{printed, query_of};
+use crate::{Checked, QueryKind, SegmentKind, SyntaxBuilder, evaluate, evaluate_located};
+use serde_json::Value;
+use serde_json_path_nodes::NodeList;
+use std::alloc::Global;
+use std::test::Fail;
+
+/// What the segments select from a document, with locations.
+fn selected(alloc: Global, segments: &str, document: &str) -> Result<String, Fail> {
+    let root = Value::from_str(alloc, document)?;
+    let query = query_of(alloc, segments)?;
+    printed(alloc, &evaluate_located(alloc, &query, &root, &root)?)
+}
+
+#[test]
+fn selects_one_node_at_most(rt: HostRuntime) -> Result<(), Fail> {
+    let nested = r#"{"foo": {"bar": ["baz", 42]}}"#;
+    let list = r#"["a", "b"]"#;
+    let odd = r#"{"it's": {"\u00e9": null}, "0": 1}"#;
+    let rows = [
+        ("", nested, r#"$ {"foo":{"bar":["baz",42]}};"#),
+        ("", "null", "$ null;"),
+        (".foo .bar [0]", nested, r#"$['foo']['bar'][0] "baz";"#),
+        (".foo .bar [-1]", nested, "$['foo']['bar'][1] 42;"),
+        (".bar .foo", nested, ""),
+        ("[-1]", list, r#"$[1] "b";"#),
+        ("[-2]", list, r#"$[0] "a";"#),
+        ("[-3]", list, ""),
+        (".a [5]", r#"{"a": [0, 1]}"#, ""),
+        ("[0]", odd, ""),
+        (".0", list, ""),
+        (".it's .é", odd, r"$['it\'s']['é'] null;"),
+        ("['foo'] ['bar'] [1]", nested, "$['foo']['bar'][1] 42;"),
+        ("['bar']", nested, ""),
+        ("[0]", r#""a""#, ""),
+    ];
+    for (segments, document, want) in rows {
+        let text = selected(rt.alloc(), segments, document)?;
+        assert_eq!(rt; text.as_str(), want, "{segments} of {document}");
+    }
+    Ok(())
+}
+
+#[test]
+fn selects_by_wildcards(rt: HostRuntime) -> Result<(), Fail> {
+    let both = r#"{"o": {"k": 2, "j": 1}, "a": [5, 3]}"#;
+    let rows = [
+        (".*", both, r#"$['a'] [5,3];$['o'] {"j":1,"k":2};"#),
+        ("[*]", both, r#"$['a'] [5,3];$['o'] {"j":1,"k":2};"#),
+        (".o [*]", both, "$['o']['j'] 1;$['o']['k'] 2;"),
+        (".o .*", both, "$['o']['j'] 1;$['o']['k'] 2;"),
+        (
+            ".o [*,*]",
+            both,
+            "$['o']['j'] 1;$['o']['k'] 2;$['o']['j'] 1;$['o']['k'] 2;",
+        ),
+        (".a [*]", both, "$['a'][0] 5;$['a'][1] 3;"),
+        (
+            ".*",
+            r#"{"b":1,"\u00e9":2,"a":3,"B":4,"aa":5}"#,
+            "$['B'] 4;$['a'] 3;$['aa'] 5;$['b'] 1;$['é'] 2;",
+        ),
+        (".* .*", "[[1],{},[],2]", "$[0][0] 1;"),
+        ("[*]", "7", ""),
+        (".*", r#""ab""#, ""),
+        (".*", "[]", ""),
+    ];
+    for (segments, document, want) in rows {
+        let text = selected(rt.alloc(), segments, document)?;
+        assert_eq!(rt; text.as_str(), want, "{segments} of {document}");
+    }
+    Ok(())
+}
+
+#[test]
+fn selects_by_slices(rt: HostRuntime) -> Result<(), Fail> {
+    let letters = r#"["a","b","c","d","e","f","g"]"#;
+    let rows = [
+        ("[1:3]", letters, r#"$[1] "b";$[2] "c";"#),
+        ("[5:]", letters, r#"$[5] "f";$[6] "g";"#),
+        ("[1:5:2]", letters, r#"$[1] "b";$[3] "d";"#),
+        ("[5:1:-2]", letters, r#"$[5] "f";$[3] "d";"#),
+        (
+            "[::-1]",
+            letters,
+            r#"$[6] "g";$[5] "f";$[4] "e";$[3] "d";$[2] "c";$[1] "b";$[0] "a";"#,
+        ),
+        ("[::0]", letters, ""),
+        ("[1:5:-1]", letters, ""),
+        ("[:]", r#"{"a":1}"#, ""),
+        (
+            "[-9007199254740991:9007199254740991]",
+            "[1,2]",
+            "$[0] 1;$[1] 2;",
+        ),
+        (
+            "[9007199254740991:-9007199254740991:-1]",
+            "[1,2]",
+            "$[1] 2;$[0] 1;",
+        ),
+        ("[::9007199254740991]", "[1,2]", "$[0] 1;"),
+        ("[::-9007199254740991]", "[1,2]", "$[1] 2;"),
+        ("[9007199254740991]", "[1,2]", ""),
+        ("[-9007199254740991]", "[1,2]", ""),
+    ];
+    for (segments, document, want) in rows {
+        let text = selected(rt.alloc(), segments, document)?;
+        assert_eq!(rt; text.as_str(), want, "{segments} of {document}");
+    }
+    Ok(())
+}
+
+#[test]
+fn selects_by_several_selectors(rt: HostRuntime) -> Result<(), Fail> {
+    let letters = r#"["a","b","c","d","e","f","g"]"#;
+    let rows = [
+        ("[0,3]", letters, r#"$[0] "a";$[3] "d";"#),
+        ("[0:2,5]", letters, r#"$[0] "a";$[1] "b";$[5] "f";"#),
+        ("[0,0]", letters, r#"$[0] "a";$[0] "a";"#),
+        ("['a','a']", r#"{"a":1}"#, "$['a'] 1;$['a'] 1;"),
+        ("['b','a']", r#"{"a":1,"b":2}"#, "$['b'] 2;$['a'] 1;"),
+        ("['a',0] [-1,'b']", r#"{"a":{"b":[3]}}"#, "$['a']['b'] [3];"),
+        ("[0,'a',*]", "[1]", "$[0] 1;$[0] 1;"),
+    ];
+    for (segments, document, want) in rows {
+        let text = selected(rt.alloc(), segments, document)?;
+        assert_eq!(rt; text.as_str(), want, "{segments} of {document}");
+    }
+    Ok(())
+}
+
+#[test]
+fn selects_descendants(rt: HostRuntime) -> Result<(), Fail> {
+    let bazs = r#"{"foo":{"bar":{"baz":1},"baz":2},"baz":3}"#;
+    let both = r#"{"o": {"j": 1, "k": 2}, "a": [5, 3, [{"j": 4}, {"k": 6}]]}"#;
+    let rows = [
+        (
+            "..baz",
+            bazs,
+            "$['baz'] 3;$['foo']['baz'] 2;$['foo']['bar']['baz'] 1;",
+        ),
+        ("..j", both, "$['a'][2][0]['j'] 4;$['o']['j'] 1;"),
+        ("..[0]", both, r#"$['a'][0] 5;$['a'][2][0] {"j":4};"#),
+        (
+            ".o ..[*,*]",
+            both,
+            "$['o']['j'] 1;$['o']['k'] 2;$['o']['j'] 1;$['o']['k'] 2;",
+        ),
+        (
+            ".a ..[0,1]",
+            both,
+            r#"$['a'][0] 5;$['a'][1] 3;$['a'][2][0] {"j":4};$['a'][2][1] {"k":6};"#,
+        ),
+    ];
+    for (segments, document, want) in rows {
+        let text = selected(rt.alloc(), segments, document)?;
+        assert_eq!(rt; text.as_str(), want, "{segments} of {document}");
+    }
+    Ok(())
+}
+
+#[test]
+fn keeps_each_descendant_that_is_selected_again(rt: HostRuntime) -> Result<(), Fail> {
+    let rows = [
+        (
+            "..[0,-1]",
+            "[[1]]",
+            "$[0] [1];$[0] [1];$[0][0] 1;$[0][0] 1;",
+        ),
+        (
+            "..* ..*",
+            "[[[1]]]",
+            "$[0][0] [1];$[0][0][0] 1;$[0][0][0] 1;",
+        ),
+        ("..*", "[[1],2]", "$[0] [1];$[1] 2;$[0][0] 1;"),
+        (
+            "..['a']",
+            r#"{"a":{"a":7}}"#,
+            r#"$['a'] {"a":7};$['a']['a'] 7;"#,
+        ),
+        (
+            "..[::-1]",
+            "[1,[2,3]]",
+            "$[1] [2,3];$[0] 1;$[1][1] 3;$[1][0] 2;",
+        ),
+        ("..*", "7", ""),
+    ];
+    for (segments, document, want) in rows {
+        let text = selected(rt.alloc(), segments, document)?;
+        assert_eq!(rt; text.as_str(), want, "{segments} of {document}");
+    }
+    Ok(())
+}
+
+/// The values of a list, with a `;` behind each.
+fn printed_values(alloc: Global, nodes: &NodeList) -> Result<String, Fail> {
+    let mut text = String::new(alloc);
+    for node in nodes.iter() {
+        text.push_str(node.to_string(alloc)?.as_str())?;
+        text.push_str(";")?;
+    }
+    Ok(text)
+}
+
+#[test]
+fn gives_values_alone(rt: HostRuntime) -> Result<(), Fail> {
+    let alloc = rt.alloc();
+    let document = r#"{"o": {"j": 1, "k": 2}, "a": [5, 3, [{"j": 4}, {"k": 6}]]}"#;
+    let root = Value::from_str(alloc, document)?;
+    let rows = [
+        ("", r#"{"a":[5,3,[{"j":4},{"k":6}]],"o":{"j":1,"k":2}};"#),
+        ("..j", "4;1;"),
+        (".a ..[0,1]", r#"5;3;{"j":4};{"k":6};"#),
+        (".o [*,*]", "1;2;1;2;"),
+        (".x", ""),
+    ];
+    for (segments, want) in rows {
+        let query = query_of(alloc, segments)?;
+        let nodes = evaluate(alloc, &query, &root, &root)?;
+        assert_eq!(rt; printed_values(alloc, &nodes)?.as_str(), want, "{segments}");
+    }
+    Ok(())
+}
+
+#[test]
+fn begins_at_the_root(rt: HostRuntime) -> Result<(), Fail> {
+    let alloc = rt.alloc();
+    let root = Value::from_str(alloc, "[1]")?;
+    let node = Value::from_str(alloc, "2")?;
+    let whole = Checked::new(alloc);
+    let first = query_of(alloc, "[0]")?;
+    for (query, want) in [(&whole, "$ [1];"), (&first, "$[0] 1;")] {
+        let text = printed(alloc, &evaluate_located(alloc, query, &node, &root)?)?;
+        assert_eq!(rt; text.as_str(), want);
+    }
+    Ok(())
+}
+
+/// The query `$['a','b']`, for which the part of `'b'` is made first.
+fn made_from_the_end(alloc: Global) -> Result<Checked, Fail> {
+    let mut builder = SyntaxBuilder::new(alloc);
+    let second = builder.name(String::from_str(alloc, "b")?)?;
+    let first = builder.name(String::from_str(alloc, "a")?)?;
+    let selectors = vec![in alloc; first, second]?;
+    let segment = builder.long_hand(SegmentKind::Child, selectors)?;
+    let query = builder.query(QueryKind::Root, vec![in alloc; segment]?)?;
+    Ok(builder.finish(query))
+}
+
+#[test]
+fn parts_stand_in_the_order_of_the_bracket(rt: HostRuntime) -> Result<(), Fail> {
+    let alloc = rt.alloc();
+    let root = Value::from_str(alloc, r#"{"b":2,"a":1}"#)?;
+    let query = made_from_the_end(alloc)?;
+    let text = printed(alloc, &evaluate_located(alloc, &query, &root, &root)?)?;
+    assert_eq!(rt; text.as_str(), "$['a'] 1;$['b'] 2;");
+    Ok(())
+}

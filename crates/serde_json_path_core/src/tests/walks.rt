@@ -1,0 +1,58 @@
+//! Walks, one node at a time.
+
+use crate::tests::building::{printed_node, query_of};
+use crate::{Walk, walk};
+use serde_json::Value;
+use std::alloc::Global;
+use std::test::Fail;
+
+/// The next node, or an empty text; where the first call is refused, what the second one gives.
+fn next_printed(alloc: Global, walk: &mut Walk<'_, '_>) -> Result<String, Fail> {
+    let next = match walk.next() {
+        Ok(next) => next,
+        Err(_) => walk.next()?,
+    };
+    match next {
+        Some(node) => printed_node(alloc, &node),
+        None => Ok(String::new(alloc)),
+    }
+}
+
+#[test]
+fn gives_one_node_after_the_other(rt: HostRuntime) -> Result<(), Fail> {
+    let alloc = rt.alloc();
+    let query = query_of(alloc, "['a','a']")?;
+    let root = Value::from_str(alloc, r#"{"a":1}"#)?;
+    let mut walk = walk(alloc, &query, &root, &root)?;
+    for want in ["$['a'] 1", "$['a'] 1", "", ""] {
+        let text = next_printed(alloc, &mut walk)?;
+        assert_eq!(rt; text.as_str(), want);
+    }
+    Ok(())
+}
+
+/// An array of so many zeros.
+fn zeros(alloc: Global, number: usize) -> Result<Value, Fail> {
+    let mut items = Vec::new(alloc);
+    for _ in 0..number {
+        items.push(Value::from(0))?;
+    }
+    Ok(Value::Array(items))
+}
+
+#[test]
+fn keeps_few_places(rt: HostRuntime) -> Result<(), Fail> {
+    let alloc = rt.alloc();
+    let query = query_of(alloc, "..*")?;
+    let root = zeros(alloc, 1000)?;
+    let mut walk = walk(alloc, &query, &root, &root)?;
+    for number in 0..1000 {
+        let text = next_printed(alloc, &mut walk)?;
+        let want = format!(in alloc; "$[{number}] 0")?;
+        assert_eq!(rt; text.as_str(), want.as_str());
+        assert!(rt; walk.places() <= 2, "behind {number}");
+    }
+    assert!(rt; walk.next()?.is_none());
+    assert_eq!(rt; walk.places(), 0);
+    Ok(())
+}
