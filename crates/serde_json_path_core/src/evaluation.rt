@@ -11,7 +11,6 @@ ghost use Rattle.std.specs.Prelude.{◌≡◌, List, IfOk, IfErr, map};
 ghost use Rattle.serde_json.specs.View.{view};
 ghost use Rattle.serde_json_path_nodes.specs.Place.{Located};
 ghost use Rattle.serde_json_path_nodes.specs.Views.{located_nodes, node_values};
-ghost use Rattle.serde_json_path_core.specs.Tree.{kind_of};
 ghost use Rattle.serde_json_path_core.specs.Functions.{Fits};
 ghost use Rattle.serde_json_path_core.specs.Calls.{EachCall, GoesWithoutPattern, IsClear};
 ghost use Rattle.serde_json_path_core.specs.Derivation.{start_of};
@@ -60,7 +59,7 @@ pub fn walk<'q, 'b, F: Functions + Drop>(
     ensures query { IfOk result (λ walk. query_of walk ≡ tree_of query.now) }
     ensures set { IfOk result (λ walk. set_of walk ≡ F.set functions) }
     ensures document { IfOk result (λ walk. document_of walk ≡ view root.now) }
-    ensures beginning { IfOk result (λ walk. beginning_of walk ≡ start_of (kind_of (tree_of query.now)) (view root.now) (view node.now)) }
+    ensures beginning { IfOk result (λ walk. beginning_of walk ≡ view root.now) }
     ensures refused { IfErr result (λ e. e ≡ Memory) }
 {
     let start = start(query.kind(), node, root);

@@ -29,6 +29,10 @@ invariant_of-result g c =
       stack = ∣ subst (λ places. IsStack start (frames_of places)) (sym items) (stack-started (stages_at c.args.query.now.nodes.items c.segments.result.now) start (frame_of c.start.result) c.start.ensures) ∣₁;
     }
 
+pub returns-clause-beginning : goal.returns-clause-beginning
+returns-clause-beginning g c =
+    c.start-start.ensures ∙ ap (λ kind. start_of kind (view c.args.root.now) (view c.args.node.now)) (c.kind.ensures ∙ c.args.query.now.rooted)
+
 pub returns-clause-selects : goal.returns-clause-selects
 returns-clause-selects g c =
     let F = g.F.Functions.set c.args.functions in
