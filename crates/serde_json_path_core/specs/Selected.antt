@@ -1,8 +1,8 @@
 -- The one child that a segment of one name or one index selects, and the one node that such segments lead to, computed.
 use Rattle.std.specs.Prelude.{ℕ, ◌+◌, ◌-◌, nat_lt, ℤ, pos, negsuc, List, [], ◌∷◌, ◌++◌, Option, Some, None, option_map, option_and_then, if◌then◌else◌}
 use Rattle.serde_json.specs.Data.{Data, array}
-use Rattle.serde_json_path_nodes.specs.Place.{Step, by_name, by_position, child_at, Located}
 use Rattle.serde_json.specs.Events.{items_len}
+use Rattle.serde_json_path_nodes.specs.Place.{Step, by_name, by_position, child_at, Located}
 use Rattle.serde_json_path_core.specs.Tree.{Segments, no_segments, segment, Segment, dot_name, long_hand, no_selectors, selector, name, index}
 
 -- the child at that step, with the step

@@ -14,7 +14,7 @@ use std::cmp::Ordering;
 pub struct LocatedNode<'b> {
     location: NormalizedPath<'b>,
     node: &'b Value,
-    // Where the node stood in its list, while `LocatedNodeList::dedup` works; else it says nothing.
+    /// Where the node stood in its list, while `LocatedNodeList::dedup` works; else it says nothing.
     place: usize,
 }
 
@@ -47,14 +47,14 @@ impl<'b> LocatedNode<'b> {
         self.node
     }
 
-    // The place that was noted last.
+    /// The place that was noted last.
     pub(crate) fn place(&self) -> usize
         ensures { result ≡ self.now.place }
     {
         self.place
     }
 
-    // Notes where the node stands in its list.
+    /// Notes where the node stands in its list.
     pub(crate) fn note_place(&mut self, place: usize)
         ensures noted { self.new.place ≡ place }
         ensures same { located self.new ≡ located self.old }
@@ -62,7 +62,7 @@ impl<'b> LocatedNode<'b> {
         self.place = place;
     }
 
-    // By location, and by the noted place where the location is the same.
+    /// By location, and by the noted place where the location is the same.
     pub(crate) fn compare(&self, other: &LocatedNode<'b>) -> Ordering
         ensures { result ≡ node_cmp self.now other.now }
     {

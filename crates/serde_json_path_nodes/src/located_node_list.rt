@@ -120,7 +120,7 @@ impl<'b> LocatedNodeList<'b> {
     }
 }
 
-// Notes in each node its place.
+/// Notes in each node its place.
 fn note_places<'b>(nodes: &mut [LocatedNode<'b>])
     ensures noted { HasPlaces nodes.new }
     ensures same { map located nodes.new ≡ map located nodes.old }

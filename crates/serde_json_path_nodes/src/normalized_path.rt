@@ -97,7 +97,7 @@ impl<'b> NormalizedPath<'b> {
         Ok(text)
     }
 
-    // A total order in which only equal locations tie.
+    /// A total order in which only equal locations tie.
     pub(crate) fn compare(&self, other: &NormalizedPath<'b>) -> Ordering
         ensures { result ≡ location_cmp self.now other.now }
     {
@@ -154,7 +154,7 @@ impl<'b> fmt::Display for NormalizedPath<'b> {
     }
 }
 
-// Appends a name as it stands in a pointer.
+/// Appends a name as it stands in a pointer.
 fn push_in_pointer(text: &mut String, name: &str) -> Result<(), AllocError>
     ensures { OnOk result (string_bytes text.new ≡ string_bytes text.old ++ flat_map in_pointer name.now) }
 {

@@ -17,7 +17,7 @@ impl<'b> PathElement<'b> {
     ghost use Rattle.serde_json_path_nodes.specs.StepOrder.{step_cmp};
     ghost use Rattle.serde_json_path_nodes.specs.Views.{step_view};
 
-    // Names stand before positions, names in the order of their bytes.
+    /// Names stand before positions, names in the order of their bytes.
     pub(crate) fn compare(&self, other: &PathElement<'b>) -> Ordering
         ensures { result ≡ step_cmp (step_view self.now) (step_view other.now) }
     {

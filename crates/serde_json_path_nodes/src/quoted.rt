@@ -6,7 +6,7 @@ ghost use Rattle.serde_json_path_nodes.specs.Text.{quoted};
 use crate::escape::escaped;
 use std::fmt;
 
-// A name in single quotes, with the escapes of `escaped`.
+/// A name in single quotes, with the escapes of `escaped`.
 #[derive(Clone, Copy)]
 pub(crate) struct Quoted<'b>(pub(crate) &'b str);
 
