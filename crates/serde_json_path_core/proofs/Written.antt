@@ -1,4 +1,4 @@
--- Short lists of parts, as they are pushed one by one, and short trees that call no function.
+-- Short lists of parts, as they are pushed one by one, and the trees of tests, which call no function.
 use Rattle.std.proofs.Common.{◌≡◌, ◌<◌, ◌≤◌, ℕ, ◌+◌, List, [], ◌∷◌, ◌++◌, length, arith, sym, subst}
 use Rattle.std.specs.Prelude.{String}
 use Rattle.std.specs.Global.{Global}
@@ -35,7 +35,7 @@ pub one_and : (builder : SyntaxBuilder) (xs : List Part) (part : Part) (a : tree
 one_and builder xs part a e is =
     subst (λ (zs : List Part). AreOrPartsOf builder zs (tree.or a tree.no_or)) (sym e) (is, tt)
 
--- ---- trees of one part or of two
+-- ---- what is made of trees that call nothing calls nothing
 
 pub uncalled_selectors : (deep : ℕ) (sel : tree.Selector) (more : tree.Selectors) → IsUncalledSelector deep sel → AreUncalledSelectors deep more
     → AreUncalledSelectors deep (tree.selector sel more)
@@ -55,7 +55,7 @@ pub uncalled_relation : (deep : ℕ) (a b : tree.Comparable) (operator : tree.Op
     → IsUncalledBasic deep (tree.relation a operator b)
 uncalled_relation deep a b operator h also = (λ s. (h.0 s, also.0 s), λ f. (h.1 f, also.1 f), (let one = h.2 in let other = also.2 in omega arith))
 
--- a parenthesis and a filter stand around the expression
+-- parentheses or a filter around an expression
 pub uncalled_paren : (deep : ℕ) (e : tree.LogicalOr) → IsUncalledOr deep e → IsUncalledBasic (deep + 1) (tree.paren e)
 uncalled_paren deep e h = (h.0, h.1, (let inner = h.2 in omega arith))
 
@@ -64,10 +64,6 @@ uncalled_not_paren deep e h = (h.0, h.1, (let inner = h.2 in omega arith))
 
 pub uncalled_filter : (deep : ℕ) (e : tree.LogicalOr) → IsUncalledOr deep e → IsUncalledSelector (deep + 1) (tree.filter e)
 uncalled_filter deep e h = (h.0, h.1, (let inner = h.2 in omega arith))
-
--- what is nested less deep
-pub uncalled_deeper : (low high : ℕ) (e : tree.LogicalOr) → low ≤ high → IsUncalledOr low e → IsUncalledOr high e
-uncalled_deeper low high e le h = (h.0, h.1, (let inner = h.2 in omega arith))
 
 -- ---- one part more
 

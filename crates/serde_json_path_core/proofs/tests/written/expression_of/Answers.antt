@@ -1,5 +1,5 @@
 use Rattle.serde_json_path_core.specs.Tree as tree
-use Rattle.serde_json_path_core.proofs.Written.{uncalled_paren, uncalled_not_paren, uncalled_deeper}
+use Rattle.serde_json_path_core.proofs.Written.{uncalled_paren, uncalled_not_paren}
 use Rattle.serde_json_path_core.proofs.tests.written.expression_of.Goals as goal
 
 pub returns-in_err-basic-clause-keeps : goal.returns-in_err-basic-clause-keeps
