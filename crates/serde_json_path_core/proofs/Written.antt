@@ -1,62 +1,95 @@
--- Short lists of parts, as they are pushed one by one.
-use Rattle.std.proofs.Common.{◌≡◌, ◌<◌, List, [], ◌∷◌, ◌++◌, length, arith, sym, ap, ◌∙◌, subst}
+-- Short lists of parts, as they are pushed one by one, and the trees of tests, which call no function.
+use Rattle.std.proofs.Common.{◌≡◌, ◌<◌, ◌≤◌, ℕ, ◌+◌, List, [], ◌∷◌, ◌++◌, length, arith, sym, subst}
+use Rattle.std.specs.Prelude.{String}
+use Rattle.std.specs.Global.{Global}
 use Rattle.serde_json_path_core.specs.Tree as tree
 use Rattle.serde_json_path_core.specs.Piece.{a_segment, a_selector, an_and, a_basic}
 use Rattle.serde_json_path_core.specs.Parts.{IsPart, ArePartsFor, ArePartsOf, AreSelectorsOf, AreOrPartsOf, AreAndPartsOf, KeepsParts, or_pieces, and_pieces}
+use Rattle.serde_json_path_core.specs.Uncalled.{AreUncalledSegments, IsUncalledSegment, AreUncalledSelectors, IsUncalledSelector, IsUncalledOr, IsUncalledAnd, IsUncalledBasic, IsUncalledComparable}
+use Rattle.serde_json_path_core.specs.Used.{MayFinish, used_view, deepest}
+use Rattle.serde_json_path_core.specs.declared.functions.signature.Signature as declared
 use Rattle.serde_json_path_core.specs.declared.syntax.node.Part.{Part}
 use Rattle.serde_json_path_core.specs.declared.syntax.builder.SyntaxBuilder.{SyntaxBuilder}
+use Rattle.serde_json_path_core.proofs.Finished.{uncalled_finished}
 
-one_pushed : (xs ys : List Part) (part : Part) → ys ≡ [] → xs ≡ ys ++ part ∷ [] → xs ≡ part ∷ []
-one_pushed xs ys part e f = f ∙ ap (λ (zs : List Part). zs ++ part ∷ []) e
-
-pub one_selector : (builder : SyntaxBuilder) (xs ys : List Part) (part : Part) (sel : tree.Selector)
-    → ys ≡ [] → xs ≡ ys ++ part ∷ [] → IsPart builder part (a_selector sel) → AreSelectorsOf builder xs (tree.selector sel tree.no_selectors)
-one_selector builder xs ys part sel e f is =
-    subst (λ (zs : List Part). AreSelectorsOf builder zs (tree.selector sel tree.no_selectors)) (sym (one_pushed xs ys part e f)) (is, tt)
+pub one_selector : (builder : SyntaxBuilder) (xs : List Part) (part : Part) (sel : tree.Selector)
+    → xs ≡ part ∷ [] → IsPart builder part (a_selector sel) → AreSelectorsOf builder xs (tree.selector sel tree.no_selectors)
+one_selector builder xs part sel e is =
+    subst (λ (zs : List Part). AreSelectorsOf builder zs (tree.selector sel tree.no_selectors)) (sym e) (is, tt)
 
 pub no_segments : (builder : SyntaxBuilder) (xs : List Part) → xs ≡ [] → ArePartsOf builder xs tree.no_segments
 no_segments builder xs e = subst (λ (zs : List Part). ArePartsOf builder zs tree.no_segments) (sym e) tt
 
-pub one_segment : (builder : SyntaxBuilder) (xs ys : List Part) (part : Part) (kind : tree.SegmentKind) (seg : tree.Segment)
-    → ys ≡ [] → xs ≡ ys ++ part ∷ [] → IsPart builder part (a_segment kind seg) → ArePartsOf builder xs (tree.segment kind seg tree.no_segments)
-one_segment builder xs ys part kind seg e f is =
-    subst (λ (zs : List Part). ArePartsOf builder zs (tree.segment kind seg tree.no_segments)) (sym (one_pushed xs ys part e f)) (is, tt)
+pub one_segment : (builder : SyntaxBuilder) (xs : List Part) (part : Part) (kind : tree.SegmentKind) (seg : tree.Segment)
+    → xs ≡ part ∷ [] → IsPart builder part (a_segment kind seg) → ArePartsOf builder xs (tree.segment kind seg tree.no_segments)
+one_segment builder xs part kind seg e is =
+    subst (λ (zs : List Part). ArePartsOf builder zs (tree.segment kind seg tree.no_segments)) (sym e) (is, tt)
 
-pub two_segments : (builder : SyntaxBuilder) (zs xs ys : List Part) (first second : Part) (kind : tree.SegmentKind) (seg : tree.Segment) (last : tree.SegmentKind) (end : tree.Segment)
-    → ys ≡ [] → xs ≡ ys ++ first ∷ [] → zs ≡ xs ++ second ∷ [] → IsPart builder first (a_segment kind seg) → IsPart builder second (a_segment last end)
-    → ArePartsOf builder zs (tree.segment kind seg (tree.segment last end tree.no_segments))
-two_segments builder zs xs ys first second kind seg last end e f g is also =
-    subst (λ (ps : List Part). ArePartsOf builder ps (tree.segment kind seg (tree.segment last end tree.no_segments)))
-    (sym (g ∙ ap (λ (ps : List Part). ps ++ second ∷ []) (one_pushed xs ys first e f))) (is, (also, tt))
+pub one_basic : (builder : SyntaxBuilder) (xs : List Part) (part : Part) (b : tree.Basic)
+    → xs ≡ part ∷ [] → IsPart builder part (a_basic b) → AreAndPartsOf builder xs (tree.and b tree.no_and)
+one_basic builder xs part b e is =
+    subst (λ (zs : List Part). AreAndPartsOf builder zs (tree.and b tree.no_and)) (sym e) (is, tt)
 
-pub one_basic : (builder : SyntaxBuilder) (xs ys : List Part) (part : Part) (b : tree.Basic)
-    → ys ≡ [] → xs ≡ ys ++ part ∷ [] → IsPart builder part (a_basic b) → AreAndPartsOf builder xs (tree.and b tree.no_and)
-one_basic builder xs ys part b e f is =
-    subst (λ (zs : List Part). AreAndPartsOf builder zs (tree.and b tree.no_and)) (sym (one_pushed xs ys part e f)) (is, tt)
+pub one_and : (builder : SyntaxBuilder) (xs : List Part) (part : Part) (a : tree.LogicalAnd)
+    → xs ≡ part ∷ [] → IsPart builder part (an_and a) → AreOrPartsOf builder xs (tree.or a tree.no_or)
+one_and builder xs part a e is =
+    subst (λ (zs : List Part). AreOrPartsOf builder zs (tree.or a tree.no_or)) (sym e) (is, tt)
 
-pub one_and : (builder : SyntaxBuilder) (xs ys : List Part) (part : Part) (a : tree.LogicalAnd)
-    → ys ≡ [] → xs ≡ ys ++ part ∷ [] → IsPart builder part (an_and a) → AreOrPartsOf builder xs (tree.or a tree.no_or)
-one_and builder xs ys part a e f is =
-    subst (λ (zs : List Part). AreOrPartsOf builder zs (tree.or a tree.no_or)) (sym (one_pushed xs ys part e f)) (is, tt)
+-- ---- what is made of trees that call nothing calls nothing
 
--- one part more
-pub basics_push : (old new : SyntaxBuilder) (parts : List Part) (e : tree.LogicalAnd) (part : Part) (b : tree.Basic)
-    → KeepsParts old new → ArePartsFor old parts (and_pieces e) → IsPart new part (a_basic b) → (all : tree.LogicalAnd) × ArePartsFor new (parts ++ part ∷ []) (and_pieces all)
-basics_push old new [] tree.no_and part b keeps h is = (tree.and b tree.no_and, (is, tt))
-basics_push old new [] (tree.and c more) part b keeps h is = absurd h
-basics_push old new (p ∷ parts) tree.no_and part b keeps h is = absurd h
-basics_push old new (p ∷ parts) (tree.and c more) part b keeps h is =
-    let rest = basics_push old new parts more part b keeps h.1 is in
-    (tree.and c rest.0, (keeps p (a_basic c) h.0, rest.1))
+pub uncalled_selectors : (deep : ℕ) (sel : tree.Selector) (more : tree.Selectors) → IsUncalledSelector deep sel → AreUncalledSelectors deep more
+    → AreUncalledSelectors deep (tree.selector sel more)
+uncalled_selectors deep sel more h also = (λ s. (h.0 s, also.0 s), λ f. (h.1 f, also.1 f), (let one = h.2 in let others = also.2 in omega arith))
 
-pub ands_push : (old new : SyntaxBuilder) (parts : List Part) (e : tree.LogicalOr) (part : Part) (a : tree.LogicalAnd)
-    → KeepsParts old new → ArePartsFor old parts (or_pieces e) → IsPart new part (an_and a) → (all : tree.LogicalOr) × ArePartsFor new (parts ++ part ∷ []) (or_pieces all)
-ands_push old new [] tree.no_or part a keeps h is = (tree.or a tree.no_or, (is, tt))
-ands_push old new [] (tree.or c more) part a keeps h is = absurd h
-ands_push old new (p ∷ parts) tree.no_or part a keeps h is = absurd h
-ands_push old new (p ∷ parts) (tree.or c more) part a keeps h is =
-    let rest = ands_push old new parts more part a keeps h.1 is in
-    (tree.or c rest.0, (keeps p (an_and c) h.0, rest.1))
+pub uncalled_segments : (deep : ℕ) (kind : tree.SegmentKind) (seg : tree.Segment) (more : tree.Segments) → IsUncalledSegment deep seg → AreUncalledSegments deep more
+    → AreUncalledSegments deep (tree.segment kind seg more)
+uncalled_segments deep kind seg more h also = (λ s. (h.0 s, also.0 s), λ f. (h.1 f, also.1 f), (let one = h.2 in let others = also.2 in omega arith))
+
+pub uncalled_and : (deep : ℕ) (b : tree.Basic) (more : tree.LogicalAnd) → IsUncalledBasic deep b → IsUncalledAnd deep more → IsUncalledAnd deep (tree.and b more)
+uncalled_and deep b more h also = (λ s. (h.0 s, also.0 s), λ f. (h.1 f, also.1 f), (let one = h.2 in let others = also.2 in omega arith))
+
+pub uncalled_or : (deep : ℕ) (a : tree.LogicalAnd) (more : tree.LogicalOr) → IsUncalledAnd deep a → IsUncalledOr deep more → IsUncalledOr deep (tree.or a more)
+uncalled_or deep a more h also = (λ s. (h.0 s, also.0 s), λ f. (h.1 f, also.1 f), (let one = h.2 in let others = also.2 in omega arith))
+
+pub uncalled_relation : (deep : ℕ) (a b : tree.Comparable) (operator : tree.Operator) → IsUncalledComparable deep a → IsUncalledComparable deep b
+    → IsUncalledBasic deep (tree.relation a operator b)
+uncalled_relation deep a b operator h also = (λ s. (h.0 s, also.0 s), λ f. (h.1 f, also.1 f), (let one = h.2 in let other = also.2 in omega arith))
+
+-- parentheses or a filter around an expression
+pub uncalled_paren : (deep : ℕ) (e : tree.LogicalOr) → IsUncalledOr deep e → IsUncalledBasic (deep + 1) (tree.paren e)
+uncalled_paren deep e h = (h.0, h.1, (let inner = h.2 in omega arith))
+
+pub uncalled_not_paren : (deep : ℕ) (e : tree.LogicalOr) → IsUncalledOr deep e → IsUncalledBasic (deep + 1) (tree.not_paren e)
+uncalled_not_paren deep e h = (h.0, h.1, (let inner = h.2 in omega arith))
+
+pub uncalled_filter : (deep : ℕ) (e : tree.LogicalOr) → IsUncalledOr deep e → IsUncalledSelector (deep + 1) (tree.filter e)
+uncalled_filter deep e h = (h.0, h.1, (let inner = h.2 in omega arith))
+
+-- ---- one part more
+
+pub basics_push : (old new : SyntaxBuilder) (deep : ℕ) (parts : List Part) (e : tree.LogicalAnd) (part : Part) (b : tree.Basic)
+    → KeepsParts old new → ArePartsFor old parts (and_pieces e) → IsUncalledAnd deep e → IsPart new part (a_basic b) → IsUncalledBasic deep b
+    → (all : tree.LogicalAnd) × ArePartsFor new (parts ++ part ∷ []) (and_pieces all) × IsUncalledAnd deep all
+basics_push old new deep [] tree.no_and part b keeps h none is uncalled = (tree.and b tree.no_and, (is, tt), uncalled_and deep b tree.no_and uncalled none)
+basics_push old new deep [] (tree.and c more) part b keeps h none is uncalled = absurd h
+basics_push old new deep (p ∷ parts) tree.no_and part b keeps h none is uncalled = absurd h
+basics_push old new deep (p ∷ parts) (tree.and c more) part b keeps h none is uncalled =
+    let first : IsUncalledBasic deep c = (λ s. (none.0 s).0, λ f. (none.1 f).0, (let both = none.2 in omega arith)) in
+    let others : IsUncalledAnd deep more = (λ s. (none.0 s).1, λ f. (none.1 f).1, (let both = none.2 in omega arith)) in
+    let rest = basics_push old new deep parts more part b keeps h.1 others is uncalled in
+    (tree.and c rest.0, (keeps p (a_basic c) h.0, rest.1), uncalled_and deep c rest.0 first rest.2)
+
+pub ands_push : (old new : SyntaxBuilder) (deep : ℕ) (parts : List Part) (e : tree.LogicalOr) (part : Part) (a : tree.LogicalAnd)
+    → KeepsParts old new → ArePartsFor old parts (or_pieces e) → IsUncalledOr deep e → IsPart new part (an_and a) → IsUncalledAnd deep a
+    → (all : tree.LogicalOr) × ArePartsFor new (parts ++ part ∷ []) (or_pieces all) × IsUncalledOr deep all
+ands_push old new deep [] tree.no_or part a keeps h none is uncalled = (tree.or a tree.no_or, (is, tt), uncalled_or deep a tree.no_or uncalled none)
+ands_push old new deep [] (tree.or c more) part a keeps h none is uncalled = absurd h
+ands_push old new deep (p ∷ parts) tree.no_or part a keeps h none is uncalled = absurd h
+ands_push old new deep (p ∷ parts) (tree.or c more) part a keeps h none is uncalled =
+    let first : IsUncalledAnd deep c = (λ s. (none.0 s).0, λ f. (none.1 f).0, (let both = none.2 in omega arith)) in
+    let others : IsUncalledOr deep more = (λ s. (none.0 s).1, λ f. (none.1 f).1, (let both = none.2 in omega arith)) in
+    let rest = ands_push old new deep parts more part a keeps h.1 others is uncalled in
+    (tree.or c rest.0, (keeps p (an_and c) h.0, rest.1), uncalled_or deep c rest.0 first rest.2)
 
 -- where there is a part, they are those of an expression
 pub some_basics : (builder : SyntaxBuilder) (parts : List Part) (e : tree.LogicalAnd) → 0 < length parts → ArePartsFor builder parts (and_pieces e) → AreAndPartsOf builder parts e
@@ -66,3 +99,9 @@ some_basics builder (p ∷ parts) e some h = h
 pub some_ands : (builder : SyntaxBuilder) (parts : List Part) (e : tree.LogicalOr) → 0 < length parts → ArePartsFor builder parts (or_pieces e) → AreOrPartsOf builder parts e
 some_ands builder [] e some h = omega (arith, some)
 some_ands builder (p ∷ parts) e some h = h
+
+-- a query that calls nothing may be finished without signatures
+pub finished_without_calls : (used : List (String Global × declared.Signature)) (deep : ℕ) (segs : tree.Segments) → used ≡ [] → deep ≤ deepest → AreUncalledSegments deep segs
+    → MayFinish (used_view used) (tree.query tree.root segs)
+finished_without_calls used deep segs none le h =
+    subst (λ (us : List (String Global × declared.Signature)). MayFinish (used_view us) (tree.query tree.root segs)) (sym none) (uncalled_finished deep segs le h)

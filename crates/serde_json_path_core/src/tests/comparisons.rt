@@ -29,7 +29,7 @@ fn holding(alloc: Global, left: &Operand, right: &Operand) -> Result<String, Fai
 }
 
 /// The value of a document, and Nothing for an empty one.
-fn operand_of<'q, 'b>(alloc: Global, document: &str) -> Result<Operand<'q, 'b>, Fail> {
+fn operand_of<'x>(alloc: Global, document: &str) -> Result<Operand<'x>, Fail> {
     if document.is_empty() {
         return Ok(Operand::Nothing);
     }

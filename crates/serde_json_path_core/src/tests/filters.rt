@@ -1,5 +1,6 @@
 //! What filters select (RFC 9535, section 2.3.5).
 
+use crate::functions::Builtin;
 use crate::tests::building::printed_node;
 use crate::tests::written::filtered;
 use crate::{SegmentKind, evaluate_located, walk};
@@ -16,7 +17,7 @@ fn selected(
 ) -> Result<String, Fail> {
     let root = Value::from_str(alloc, document)?;
     let query = filtered(alloc, kind, expression)?;
-    let nodes = evaluate_located(alloc, &query, &root, &root)?;
+    let nodes = evaluate_located(alloc, &query, &root, &root, Builtin)?;
     let mut text = String::new(alloc);
     for node in nodes.iter() {
         text.push_str(" ")?;
@@ -174,7 +175,7 @@ fn a_filter_is_walked_node_by_node(rt: HostRuntime) -> Result<(), Fail> {
     let alloc = rt.alloc();
     let root = Value::from_str(alloc, r#"[{"a": 1}, 2, {"b": 3}, {"a": [4]}]"#)?;
     let query = filtered(alloc, SegmentKind::Child, "@.a")?;
-    let mut walk = walk(alloc, &query, &root, &root)?;
+    let mut walk = walk(alloc, &query, &root, &root, Builtin)?;
     for want in [r#"$[0] {"a":1}"#, r#"$[3] {"a":[4]}"#] {
         let node = walk.next()?.ok_or("no node")?;
         assert_eq!(rt; printed_node(alloc, &node)?.as_str(), want);

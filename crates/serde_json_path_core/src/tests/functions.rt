@@ -8,6 +8,7 @@ use crate::functions::{
     Builtin, FunctionArgType, FunctionValue, Functions, LogicalType, NodesType, Signature,
     ValueType,
 };
+use crate::tests::building::query_of;
 use serde_json::Value;
 use std::alloc::Global;
 use std::test::Fail;
@@ -104,5 +105,12 @@ fn types_by_default(rt: HostRuntime) -> Result<(), Fail> {
     assert_eq!(rt; LogicalType::from(true), LogicalType::True);
     assert_eq!(rt; LogicalType::from(false), LogicalType::False);
     assert!(rt; ValueType::default().as_value().is_none());
+    Ok(())
+}
+
+#[test]
+fn a_query_without_calls_fits(rt: HostRuntime) -> Result<(), Fail> {
+    let query = query_of(rt.alloc(), ".a [*]")?;
+    assert!(rt; query.fits(&Builtin));
     Ok(())
 }

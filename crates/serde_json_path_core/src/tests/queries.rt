@@ -1,5 +1,9 @@
 //! What queries select, on small documents.
 
+ghost use Rattle.std.specs.Prelude.{◌≡◌, [], IfOk};
+ghost use Rattle.serde_json_path_core.specs.Parts.{signatures_of};
+
+use crate::functions::Builtin;
 use crate::tests::building::{printed, query_of};
 use crate::{Checked, QueryKind, SegmentKind, SyntaxBuilder, evaluate, evaluate_located};
 use serde_json::Value;
@@ -11,7 +15,8 @@ use std::test::Fail;
 fn selected(alloc: Global, segments: &str, document: &str) -> Result<String, Fail> {
     let root = Value::from_str(alloc, document)?;
     let query = query_of(alloc, segments)?;
-    printed(alloc, &evaluate_located(alloc, &query, &root, &root)?)
+    let nodes = evaluate_located(alloc, &query, &root, &root, Builtin)?;
+    printed(alloc, &nodes)
 }
 
 #[test]
@@ -218,7 +223,7 @@ fn gives_values_alone(rt: HostRuntime) -> Result<(), Fail> {
     ];
     for (segments, want) in rows {
         let query = query_of(alloc, segments)?;
-        let nodes = evaluate(alloc, &query, &root, &root)?;
+        let nodes = evaluate(alloc, &query, &root, &root, Builtin)?;
         assert_eq!(rt; printed_values(alloc, &nodes)?.as_str(), want, "{segments}");
     }
     Ok(())
@@ -231,22 +236,24 @@ fn begins_at_the_root(rt: HostRuntime) -> Result<(), Fail> {
     let node = Value::from_str(alloc, "2")?;
     let whole = Checked::new(alloc);
     let first = query_of(alloc, "[0]")?;
-    for (query, want) in [(&whole, "$ [1];"), (&first, "$[0] 1;")] {
-        let text = printed(alloc, &evaluate_located(alloc, query, &node, &root)?)?;
-        assert_eq!(rt; text.as_str(), want);
-    }
+    let nodes = evaluate_located(alloc, &whole, &node, &root, Builtin)?;
+    assert_eq!(rt; printed(alloc, &nodes)?.as_str(), "$ [1];");
+    let nodes = evaluate_located(alloc, &first, &node, &root, Builtin)?;
+    assert_eq!(rt; printed(alloc, &nodes)?.as_str(), "$[0] 1;");
     Ok(())
 }
 
 /// The query `$['a','b']`, for which the part of `'b'` is made first.
-fn made_from_the_end(alloc: Global) -> Result<Checked, Fail> {
+fn made_from_the_end(alloc: Global) -> Result<Checked, Fail>
+    ensures { IfOk result (λ query. signatures_of query ≡ []) }
+{
     let mut builder = SyntaxBuilder::new(alloc);
     let second = builder.name(String::from_str(alloc, "b")?)?;
     let first = builder.name(String::from_str(alloc, "a")?)?;
     let selectors = vec![in alloc; first, second]?;
     let segment = builder.long_hand(SegmentKind::Child, selectors)?;
     let query = builder.query(QueryKind::Root, vec![in alloc; segment]?)?;
-    Ok(builder.finish(query))
+    Ok(builder.finish(query, Vec::new(alloc)))
 }
 
 #[test]
@@ -254,7 +261,7 @@ fn parts_stand_in_the_order_of_the_bracket(rt: HostRuntime) -> Result<(), Fail> 
     let alloc = rt.alloc();
     let root = Value::from_str(alloc, r#"{"b":2,"a":1}"#)?;
     let query = made_from_the_end(alloc)?;
-    let text = printed(alloc, &evaluate_located(alloc, &query, &root, &root)?)?;
-    assert_eq!(rt; text.as_str(), "$['a'] 1;$['b'] 2;");
+    let nodes = evaluate_located(alloc, &query, &root, &root, Builtin)?;
+    assert_eq!(rt; printed(alloc, &nodes)?.as_str(), "$['a'] 1;$['b'] 2;");
     Ok(())
 }

@@ -1,5 +1,6 @@
 //! Walks, one node at a time.
 
+use crate::functions::Builtin;
 use crate::tests::building::{printed_node, query_of};
 use crate::{Walk, walk};
 use serde_json::Value;
@@ -7,7 +8,7 @@ use std::alloc::Global;
 use std::test::Fail;
 
 /// The next node, or an empty text; where the first call is refused, what the second one gives.
-fn next_printed(alloc: Global, walk: &mut Walk<'_, '_>) -> Result<String, Fail> {
+fn next_printed(alloc: Global, walk: &mut Walk<'_, '_, Builtin>) -> Result<String, Fail> {
     let next = match walk.next() {
         Ok(next) => next,
         Err(_) => walk.next()?,
@@ -23,7 +24,7 @@ fn gives_one_node_after_the_other(rt: HostRuntime) -> Result<(), Fail> {
     let alloc = rt.alloc();
     let query = query_of(alloc, "['a','a']")?;
     let root = Value::from_str(alloc, r#"{"a":1}"#)?;
-    let mut walk = walk(alloc, &query, &root, &root)?;
+    let mut walk = walk(alloc, &query, &root, &root, Builtin)?;
     for want in ["$['a'] 1", "$['a'] 1", "", ""] {
         let text = next_printed(alloc, &mut walk)?;
         assert_eq!(rt; text.as_str(), want);
@@ -45,7 +46,7 @@ fn keeps_few_places(rt: HostRuntime) -> Result<(), Fail> {
     let alloc = rt.alloc();
     let query = query_of(alloc, "..*")?;
     let root = zeros(alloc, 1000)?;
-    let mut walk = walk(alloc, &query, &root, &root)?;
+    let mut walk = walk(alloc, &query, &root, &root, Builtin)?;
     for number in 0..1000 {
         let text = next_printed(alloc, &mut walk)?;
         let want = format!(in alloc; "$[{number}] 0")?;

@@ -3,11 +3,12 @@
 //! A query in a filter has one name or index at most, as `@.a` and `@0`. Operators stand between spaces. A whole expression
 //! may stand in parentheses, with `!` before them.
 
-ghost use Rattle.std.specs.Prelude.{IfOk};
+ghost use Rattle.std.specs.Prelude.{◌≡◌, [], IfOk};
 ghost use Rattle.serde_json_path_core.specs.Tree as tree;
 ghost use Rattle.serde_json_path_core.specs.Flat.{kind_view};
 ghost use Rattle.serde_json_path_core.specs.Piece.{a_query, a_segment, an_or, an_and, a_basic, a_comparable};
-ghost use Rattle.serde_json_path_core.specs.Parts.{IsPart, KeepsParts};
+ghost use Rattle.serde_json_path_core.specs.Parts.{IsPart, KeepsParts, signatures_of};
+ghost use Rattle.serde_json_path_core.specs.Uncalled.{AreUncalledSegments, IsUncalledAnd, IsUncalledBasic, IsUncalledComparable, IsUncalledOr, IsUncalledSegment};
 
 use crate::ComparisonOperator::{
     EqualTo, GreaterThan, GreaterThanEqualTo, LessThan, LessThanEqualTo, NotEqualTo,
@@ -25,7 +26,7 @@ pub(crate) fn step_of(
     builder: &mut SyntaxBuilder,
     segment: &str,
 ) -> Result<Part, Fail>
-    ensures made { IfOk result (λ part. (seg : tree.Segment) × IsPart builder.new part (a_segment tree.child seg) × tree.IsSingularSegment seg) }
+    ensures made { IfOk result (λ part. (seg : tree.Segment) × IsPart builder.new part (a_segment tree.child seg) × tree.IsSingularSegment seg × IsUncalledSegment 0 seg) }
     ensures keeps { KeepsParts builder.old builder.new }
 {
     match segment.strip_prefix(".") {
@@ -36,9 +37,7 @@ pub(crate) fn step_of(
         None => {
             let index = segment.parse::<i8>()?;
             let selector = builder.index(index as i64)?;
-            let mut selectors = Vec::new(alloc);
-            selectors.push(selector)?;
-            Ok(builder.long_hand(SegmentKind::Child, selectors)?)
+            Ok(builder.long_hand(SegmentKind::Child, vec![in alloc; selector]?)?)
         }
     }
 }
@@ -59,16 +58,14 @@ fn singular_of(
     kind: QueryKind,
     step: &str,
 ) -> Result<Part, Fail>
-    ensures made { IfOk result (λ part. (segs : tree.Segments) × IsPart builder.new part (a_query (tree.query (kind_view kind) segs)) × tree.AreSingular segs) }
+    ensures made { IfOk result (λ part. (segs : tree.Segments) × IsPart builder.new part (a_query (tree.query (kind_view kind) segs)) × tree.AreSingular segs × AreUncalledSegments 0 segs) }
     ensures keeps { KeepsParts builder.old builder.new }
 {
     if step.is_empty() {
         return Ok(builder.query(kind, Vec::new(alloc))?);
     }
     let step = step_of(alloc, builder, step)?;
-    let mut steps = Vec::new(alloc);
-    steps.push(step)?;
-    Ok(builder.query(kind, steps)?)
+    Ok(builder.query(kind, vec![in alloc; step]?)?)
 }
 
 /// The number of a text with at most one digit behind the point.
@@ -100,7 +97,7 @@ fn literal_of(alloc: Global, text: &str) -> Result<Literal, Fail> {
 
 /// A side of a comparison.
 fn comparable_of(alloc: Global, builder: &mut SyntaxBuilder, text: &str) -> Result<Part, Fail>
-    ensures made { IfOk result (λ part. (c : tree.Comparable) × IsPart builder.new part (a_comparable c)) }
+    ensures made { IfOk result (λ part. (c : tree.Comparable) × IsPart builder.new part (a_comparable c) × IsUncalledComparable 0 c) }
     ensures keeps { KeepsParts builder.old builder.new }
 {
     match begun(text) {
@@ -140,7 +137,7 @@ fn relation_of(
     operator: ComparisonOperator,
     right: &str,
 ) -> Result<Part, Fail>
-    ensures made { IfOk result (λ part. (b : tree.Basic) × IsPart builder.new part (a_basic b)) }
+    ensures made { IfOk result (λ part. (b : tree.Basic) × IsPart builder.new part (a_basic b) × IsUncalledBasic 0 b) }
     ensures keeps { KeepsParts builder.old builder.new }
 {
     let left = comparable_of(alloc, builder, left)?;
@@ -150,7 +147,7 @@ fn relation_of(
 
 /// A test whether a query selects a node, or none behind `!`.
 fn test_of(alloc: Global, builder: &mut SyntaxBuilder, text: &str) -> Result<Part, Fail>
-    ensures made { IfOk result (λ part. (b : tree.Basic) × IsPart builder.new part (a_basic b)) }
+    ensures made { IfOk result (λ part. (b : tree.Basic) × IsPart builder.new part (a_basic b) × IsUncalledBasic 0 b) }
     ensures keeps { KeepsParts builder.old builder.new }
 {
     match text.strip_prefix("!") {
@@ -169,7 +166,7 @@ fn test_of(alloc: Global, builder: &mut SyntaxBuilder, text: &str) -> Result<Par
 
 /// A comparison or a test.
 fn basic_of(alloc: Global, builder: &mut SyntaxBuilder, text: &str) -> Result<Part, Fail>
-    ensures made { IfOk result (λ part. (b : tree.Basic) × IsPart builder.new part (a_basic b)) }
+    ensures made { IfOk result (λ part. (b : tree.Basic) × IsPart builder.new part (a_basic b) × IsUncalledBasic 0 b) }
     ensures keeps { KeepsParts builder.old builder.new }
 {
     match sides(text) {
@@ -180,7 +177,7 @@ fn basic_of(alloc: Global, builder: &mut SyntaxBuilder, text: &str) -> Result<Pa
 
 /// The part of a logical expression with `&&` between its parts.
 fn and_of(alloc: Global, builder: &mut SyntaxBuilder, text: &str) -> Result<Part, Fail>
-    ensures made { IfOk result (λ part. (e : tree.LogicalAnd) × IsPart builder.new part (an_and e)) }
+    ensures made { IfOk result (λ part. (e : tree.LogicalAnd) × IsPart builder.new part (an_and e) × IsUncalledAnd 0 e) }
     ensures keeps { KeepsParts builder.old builder.new }
 {
     let mut parts = Vec::new(alloc);
@@ -196,7 +193,7 @@ fn and_of(alloc: Global, builder: &mut SyntaxBuilder, text: &str) -> Result<Part
 
 /// The logical expression of a text, with `||` between its parts.
 fn or_of(alloc: Global, builder: &mut SyntaxBuilder, text: &str) -> Result<Part, Fail>
-    ensures made { IfOk result (λ part. (e : tree.LogicalOr) × IsPart builder.new part (an_or e)) }
+    ensures made { IfOk result (λ part. (e : tree.LogicalOr) × IsPart builder.new part (an_or e) × IsUncalledOr 0 e) }
     ensures keeps { KeepsParts builder.old builder.new }
 {
     let mut parts = Vec::new(alloc);
@@ -212,21 +209,17 @@ fn or_of(alloc: Global, builder: &mut SyntaxBuilder, text: &str) -> Result<Part,
 
 /// The expression of that one part alone.
 fn alone(alloc: Global, builder: &mut SyntaxBuilder, basic: Part) -> Result<Part, Fail>
-    requires { (b : tree.Basic) × IsPart builder.old basic (a_basic b) }
-    ensures made { IfOk result (λ part. (e : tree.LogicalOr) × IsPart builder.new part (an_or e)) }
+    requires { (b : tree.Basic) × IsPart builder.old basic (a_basic b) × IsUncalledBasic 1 b }
+    ensures made { IfOk result (λ part. (e : tree.LogicalOr) × IsPart builder.new part (an_or e) × IsUncalledOr 1 e) }
     ensures keeps { KeepsParts builder.old builder.new }
 {
-    let mut basics = Vec::new(alloc);
-    basics.push(basic)?;
-    let joined = builder.logical_and(basics)?;
-    let mut parts = Vec::new(alloc);
-    parts.push(joined)?;
-    Ok(builder.logical_or(parts)?)
+    let joined = builder.logical_and(vec![in alloc; basic]?)?;
+    Ok(builder.logical_or(vec![in alloc; joined]?)?)
 }
 
 /// The expression of a text, the whole of which may stand in parentheses.
 fn expression_of(alloc: Global, builder: &mut SyntaxBuilder, text: &str) -> Result<Part, Fail>
-    ensures made { IfOk result (λ part. (e : tree.LogicalOr) × IsPart builder.new part (an_or e)) }
+    ensures made { IfOk result (λ part. (e : tree.LogicalOr) × IsPart builder.new part (an_or e) × IsUncalledOr 1 e) }
     ensures keeps { KeepsParts builder.old builder.new }
 {
     if let Some(inner) = text.strip_prefix("!(") {
@@ -243,15 +236,13 @@ fn expression_of(alloc: Global, builder: &mut SyntaxBuilder, text: &str) -> Resu
 }
 
 /// The query `$[?..]` or `$..[?..]` of that expression.
-pub(crate) fn filtered(alloc: Global, kind: SegmentKind, text: &str) -> Result<Checked, Fail> {
+pub(crate) fn filtered(alloc: Global, kind: SegmentKind, text: &str) -> Result<Checked, Fail>
+    ensures { IfOk result (λ query. signatures_of query ≡ []) }
+{
     let mut builder = SyntaxBuilder::new(alloc);
     let test = expression_of(alloc, &mut builder, text)?;
     let selector = builder.filter(test)?;
-    let mut selectors = Vec::new(alloc);
-    selectors.push(selector)?;
-    let segment = builder.long_hand(kind, selectors)?;
-    let mut segments = Vec::new(alloc);
-    segments.push(segment)?;
-    let query = builder.query(QueryKind::Root, segments)?;
-    Ok(builder.finish(query))
+    let segment = builder.long_hand(kind, vec![in alloc; selector]?)?;
+    let query = builder.query(QueryKind::Root, vec![in alloc; segment]?)?;
+    Ok(builder.finish(query, Vec::new(alloc)))
 }

@@ -1,9 +1,10 @@
-use Rattle.std.proofs.Common.{◌≡◌, List, [], ◌∷◌, sym, subst, string_bytes}
+use Rattle.std.proofs.Common.{◌≡◌, List, [], ◌∷◌, sym, subst, arith, string_bytes}
 use Rattle.serde_json_path_core.specs.Tree as tree
-use Rattle.serde_json_path_core.specs.Piece.{a_selector, a_segment}
-use Rattle.serde_json_path_core.specs.Parts.{AreSelectorsOf, ArePartsOf, IsPart, KeepsParts}
+use Rattle.serde_json_path_core.specs.Piece.{a_selector}
+use Rattle.serde_json_path_core.specs.Parts.{AreSelectorsOf, IsPart, KeepsParts}
 use Rattle.serde_json_path_core.specs.declared.syntax.node.Part.{Part}
 use Rattle.serde_json_path_core.specs.declared.syntax.builder.SyntaxBuilder.{SyntaxBuilder}
+use Rattle.serde_json_path_core.proofs.Written.{one_segment, finished_without_calls}
 use Rattle.serde_json_path_core.proofs.tests.queries.made_from_the_end.Goals as goal
 
 -- a bracket of two selectors, the second of which was made first
@@ -11,11 +12,6 @@ two_selectors : (old new : SyntaxBuilder) (parts : List Part) (first second : Pa
     → IsPart old second (a_selector b) → IsPart new first (a_selector a) → AreSelectorsOf new parts (tree.selector a (tree.selector b tree.no_selectors))
 two_selectors old new parts first second a b keeps e is_b is_a =
     subst (λ ps. AreSelectorsOf new ps (tree.selector a (tree.selector b tree.no_selectors))) (sym e) (is_a, (keeps second (a_selector b) is_b, tt))
-
--- a query of one segment
-one_segment : (builder : SyntaxBuilder) (parts : List Part) (part : Part) (seg : tree.Segment) → parts ≡ part ∷ [] → IsPart builder part (a_segment tree.child seg)
-    → ArePartsOf builder parts (tree.segment tree.child seg tree.no_segments)
-one_segment builder parts part seg e is = subst (λ ps. ArePartsOf builder ps (tree.segment tree.child seg tree.no_segments)) (sym e) (is, tt)
 
 pub long_hand-requires : goal.long_hand-requires
 long_hand-requires c =
@@ -32,7 +28,7 @@ query-requires c =
     let both = tree.selector a (tree.selector b tree.no_selectors) in
     let named = two_selectors c.name.new.self c.name-2.new.self c.in_ok-selectors.selectors.items c.in_ok-first.first c.in_ok-second.second a b c.name-2.ensures.keeps c.in_ok-selectors.ensures.items c.in_ok-second.ensures.made c.in_ok-first.ensures.made in (
       tree.segment tree.child (tree.long_hand both) tree.no_segments,
-      one_segment c.long_hand.new.self c.in_ok-vec.field-0.items c.in_ok-segment.segment (tree.long_hand both) c.in_ok-vec.ensures.items (c.in_ok-segment.ensures.made both named),
+      one_segment c.long_hand.new.self c.in_ok-vec.field-0.items c.in_ok-segment.segment tree.child (tree.long_hand both) c.in_ok-vec.ensures.items (c.in_ok-segment.ensures.made both named),
     )
 
 pub finish-requires : goal.finish-requires
@@ -42,6 +38,7 @@ finish-requires c =
     let both = tree.selector a (tree.selector b tree.no_selectors) in
     let named = two_selectors c.name.new.self c.name-2.new.self c.in_ok-selectors.selectors.items c.in_ok-first.first c.in_ok-second.second a b c.name-2.ensures.keeps c.in_ok-selectors.ensures.items c.in_ok-second.ensures.made c.in_ok-first.ensures.made in
     let segs = tree.segment tree.child (tree.long_hand both) tree.no_segments in (
-      segs,
-      c.in_ok-query.ensures.made segs (one_segment c.long_hand.new.self c.in_ok-vec.field-0.items c.in_ok-segment.segment (tree.long_hand both) c.in_ok-vec.ensures.items (c.in_ok-segment.ensures.made both named)),
+      tree.query tree.root segs,
+      c.in_ok-query.ensures.made segs (one_segment c.long_hand.new.self c.in_ok-vec.field-0.items c.in_ok-segment.segment tree.child (tree.long_hand both) c.in_ok-vec.ensures.items (c.in_ok-segment.ensures.made both named)),
+      finished_without_calls _ 0 segs c.new.ensures.items (omega arith) (λ s. ((tt, (tt, tt)), tt), λ f. ((tt, (tt, tt)), tt), omega arith),
     )
