@@ -1,4 +1,4 @@
-use Rattle.std.proofs.Common.{◌≡◌, ℕ, ◌+◌, ◌<◌, ◌-◌, length, map, take, [], drop, None, option_map, refl, sym, subst, ap, ◌∙◌, arith, ◌∷◌, ◌++◌, ◌||◌, ◌&&◌, get_or, ◌⊎◌, inl, inr, IfOk, rules, filter as keep, append_assoc}
+use Rattle.std.proofs.Common.{◌≡◌, ℕ, ◌+◌, ◌<◌, ◌-◌, length, map, take, [], drop, option_map, refl, sym, subst, ap, ◌∙◌, arith, ◌∷◌, ◌++◌, ◌||◌, ◌&&◌, get_or, ◌⊎◌, inl, inr, rules, filter as keep, append_assoc}
 use Rattle.std.proofs.lemmas.List.{map-append}
 use Rattle.std.proofs.Math.Logic.{∥∥₁_map}
 use Rattle.std.specs.Slice.Iter.{iter_rest}
@@ -8,18 +8,17 @@ use Rattle.serde_json_path_nodes.specs.Place.{Step, Located}
 use Rattle.serde_json_path_nodes.specs.Views.{node_value}
 use Rattle.serde_json_path_core.specs.Tree.{child, descendant}
 use Rattle.serde_json_path_core.specs.Cursors.{cursor_left}
-use Rattle.serde_json_path_core.specs.Flat.{segment_kind_view, segment_in, segments_at, piece_at, piece_in, and_in, basic_in, or_at, and_at, ors_in, ands_in, call_at, part_query, pieces, pieces_named}
+use Rattle.serde_json_path_core.specs.Flat.{segment_kind_view, segment_in, segments_at, piece_at, piece_in, and_in, basic_in, or_at, ors_in, ands_in, call_at, part_query, pieces, pieces_named}
 use Rattle.serde_json_path_core.specs.Terms.{term_view}
 use Rattle.serde_json_path_core.specs.Calls.{StandsIn}
 use Rattle.serde_json_path_core.specs.Sound.{AreSoundSegments, IsSoundSegment, IsSoundSelector, IsSoundOr, IsSoundAnd, IsSoundBasic}
 use Rattle.serde_json_path_core.specs.Scopes.{Clear, nodes_of, query_of, set_of, top_of}
 use Rattle.serde_json_path_core.specs.Places.{frame_of, frames_of, task_view}
-use Rattle.serde_json_path_core.specs.Rest.{rest_of, stack_path, IsStack, IsStackIn, IsInside, StandIn, Frame}
+use Rattle.serde_json_path_core.specs.Rest.{rest_of, IsStack, IsStackIn, IsInside, StandIn}
 use Rattle.serde_json_path_core.specs.Advances.{Advances, IsDone, ComesTo}
 use Rattle.serde_json_path_core.specs.Stages.{choice_view, stage_at, stages_at}
 use Rattle.serde_json_path_core.specs.Views.{child_view}
 use Rattle.serde_json_path_core.specs.Derivation.{IsIn}
-use Rattle.serde_json_path_core.specs.Meaning.{first_value}
 use Rattle.serde_json_path_core.specs.Computed as computed
 use Rattle.serde_json_path_core.specs.PartBounds.{parts_bound}
 use Rattle.serde_json_path_core.proofs.Answered.{given-all, answered}
@@ -34,7 +33,6 @@ use Rattle.serde_json_path_core.proofs.Chains.{IsTurn, turn-dropped, turn-moved}
 use Rattle.serde_json_path_core.proofs.Found.{found-none, found-some}
 use Rattle.serde_json_path_core.proofs.LastPlaces.{ends_with, sees_last, sees_last_two}
 use Rattle.serde_json_path_core.proofs.Rests.{rest-ends, stack-dropped, work-ends}
-use Rattle.serde_json_path_core.proofs.Stacks.{located}
 use Rattle.serde_json_path_core.proofs.StageLists.{drop-some, drop-none, get-within, missing, stages-from, stages-past}
 use Rattle.serde_json_path_core.proofs.+evaluation.Goals as goal
 
@@ -152,8 +150,8 @@ evaluation::stack::find_next-ahead-requires g t c =
     sound-segment (set_of scope) (top_of scope) (query_of scope) (pieces (nodes_of scope)) c.args.segments.now last.segment segment (below_length _ _ look.0) look.1 c.requires.sound in
     let inside : ∥ IsInside (top_of scope) (frame_of last) ∥₁ =
     ∥∥₁_map c.requires.inside (λ h.
-        stack-inside (top_of scope) h.0 (frames_of (take (length items - 1) items)) (frame_of last) h.1
-        (subst (IsStack h.0) (sees_last frame_of items (take (length items - 1) items) last ends.1) (c.loop-last.invariant.stack h.0 h.2))) in
+    stack-inside (top_of scope) h.0 (frames_of (take (length items - 1) items)) (frame_of last) h.1
+    (subst (IsStack h.0) (sees_last frame_of items (take (length items - 1) items) last ends.1) (c.loop-last.invariant.stack h.0 h.2))) in
     search rules
 
 dropped : (g : _) (t : ℕ) (c : goal.evaluation::stack::find_next-After-drop_last g t)

@@ -17,8 +17,9 @@ use crate::error::QueryError;
 use crate::evaluation::scope::Scope;
 use crate::filter::logic::{all_values, first, is_true};
 use crate::filter::operand::Operand;
-use crate::functions::Functions;
-use crate::functions::{FunctionArgType, FunctionValue, LogicalType, NodesType, ValueType};
+use crate::functions::{
+    FunctionArgType, FunctionValue, Functions, LogicalType, NodesType, ValueType,
+};
 use crate::syntax::node::{Argument, Node, Part};
 use serde_json::Value;
 
@@ -78,7 +79,12 @@ pub(crate) fn answer<'x, 'q: 'x, 'b: 'x, F: Functions>(
         None => unreachable!(),
     };
     let mut given: Vec<FunctionValue<'x>> = Vec::new(scope.alloc);
-    for (argument, kind) in scope.query.arguments(call).iter().zip(signature.params().iter()) {
+    for (argument, kind) in scope
+        .query
+        .arguments(call)
+        .iter()
+        .zip(signature.params().iter())
+    {
         let term: FunctionValue<'x> = argument_as(scope, *argument, *kind, value)?;
         given.push(term)?;
     }

@@ -9,8 +9,7 @@ ghost use Rattle.serde_json_path_core.specs.Used.{deepest, signature_in, used_vi
 ghost use Rattle.serde_json_path_core.specs.Flat.{IsGrown, query_at};
 ghost use Rattle.serde_json_path_core.specs.Stages.{choice_view, stage_at};
 
-use crate::functions::Functions;
-use crate::functions::Signature;
+use crate::functions::{Functions, Signature};
 use crate::syntax::choice::Choice;
 use crate::syntax::node::{Node, Part, QueryKind, Segment, SegmentKind, Selector};
 use std::alloc::Global;

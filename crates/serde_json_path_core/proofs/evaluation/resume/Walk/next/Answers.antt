@@ -1,4 +1,4 @@
-use Rattle.std.proofs.Common.{[], rules, arith, ◌+◌, ◌<◌, ◌≤◌, ◌∷◌, sym, subst, ap, ◌∙◌}
+use Rattle.std.proofs.Common.{[], rules, arith, ◌<◌, ◌∷◌, sym, subst, ap, ◌∙◌}
 use Rattle.std.proofs.Math.Logic.{∥∥₁_map}
 use Rattle.serde_json.specs.View.{view}
 use Rattle.serde_json_path_nodes.specs.Views.{located}
