@@ -2,6 +2,7 @@ pub mod Complete
 pub mod Decoding
 pub mod FirstByte
 pub mod Many
+pub mod OpenForms
 pub mod OpenTexts
 pub mod Parses
 pub mod PartLists

@@ -1,16 +1,15 @@
 -- The texts of the open segments, and what they read as.
-use Rattle.std.proofs.Common.{◌≡◌, ℕ, ◌≤◌, pos, negsuc, true, false, max, List, [], ◌∷◌, ◌++◌, Option, refl, sym, ap, subst, ◌∙◌, arith}
+use Rattle.std.proofs.Common.{◌≡◌, ℕ, ◌≤◌, pos, negsuc, true, false, List, [], ◌∷◌, ◌++◌, Option, refl, sym, ap, subst, ◌∙◌, arith}
 use Rattle.std.proofs.lemmas.List.{append-nil}
 use Rattle.std.proofs.lemmas.Int.{ints}
 use Rattle.serde_json_path_core.specs.Tree.{largest, query, root, Segments, no_segments, segment, child, descendant, Segment, dot_name, dot_wildcard, long_hand, selector, no_selectors, index, name, wildcard, slice, filter}
 use Rattle.serde_json_path_core.specs.Functions.{Signature}
-use Rattle.serde_json_path_core.specs.Typing.{AreTypedSegments}
-use Rattle.serde_json_path_core.specs.Depth.{segments_depth}
 use Rattle.serde_json_path.specs.Lexical.{IsBlank, IsName, IsDecimal}
 use Rattle.serde_json_path.specs.Grammar.{ReadSegments, ReadsSegment, ReadSelectors}
 use Rattle.serde_json_path.specs.Accepted.{IsAccepted}
 use Rattle.serde_json_path.specs.Open.{HasNoBlank, IsOpenSegment, AreOpenSegments}
 use Rattle.serde_json_path.specs.Parsing.{child_segments}
+use Rattle.serde_json_path.proofs.OpenForms.{typed, shallow}
 
 pub record IsPosition (text : List ℕ) (n : ℕ) : Type 0 where
   pub decimal : IsDecimal text n
@@ -99,40 +98,24 @@ read_segments (segment child seg more) t o b h =
       (h.1, h.2, reads_segment h.1 seg o.0 (no_blank_front h.1 h.2 rest) h.4, tail.2, h.6 ∙ ap (λ (x : List ℕ). x ++ (h.1 ++ h.2)) k),
     )
 
--- ---- typing, nesting and acceptance
+-- ---- the open forms, and acceptance
 
-module _ (signature : List ℕ → Option Signature) where
-  typed : (t : List ℕ) (ss : List Segment) → Joined IsSegmentText t ss → AreTypedSegments signature (child_segments ss)
-  typed t [] h = tt
-  typed t (dot_name bytes ∷ ss) h = (tt, typed h.1 ss h.3)
-  typed t (long_hand (selector (index (pos n)) no_selectors) ∷ ss) h = ((tt, tt), typed h.1 ss h.3)
-  typed t (long_hand (selector (index (pos n)) (selector sel more)) ∷ ss) h = absurd h.2
-  typed t (long_hand (selector (index (negsuc n)) more) ∷ ss) h = absurd h.2
-  typed t (long_hand (selector (name k) more) ∷ ss) h = absurd h.2
-  typed t (long_hand (selector wildcard more) ∷ ss) h = absurd h.2
-  typed t (long_hand (selector (slice s) more) ∷ ss) h = absurd h.2
-  typed t (long_hand (selector (filter e) more) ∷ ss) h = absurd h.2
-  typed t (long_hand no_selectors ∷ ss) h = absurd h.2
-  typed t (dot_wildcard ∷ ss) h = absurd h.2
+-- what reads as such a text is of the open forms
+pub joined_open : (t : List ℕ) (ss : List Segment) → Joined IsSegmentText t ss → AreOpenSegments (child_segments ss)
+joined_open t [] h = tt
+joined_open t (dot_name bytes ∷ ss) h = (tt, joined_open h.1 ss h.3)
+joined_open t (long_hand (selector (index (pos n)) no_selectors) ∷ ss) h = (tt, joined_open h.1 ss h.3)
+joined_open t (long_hand (selector (index (pos n)) (selector sel more)) ∷ ss) h = absurd h.2
+joined_open t (long_hand (selector (index (negsuc n)) more) ∷ ss) h = absurd h.2
+joined_open t (long_hand (selector (name k) more) ∷ ss) h = absurd h.2
+joined_open t (long_hand (selector wildcard more) ∷ ss) h = absurd h.2
+joined_open t (long_hand (selector (slice s) more) ∷ ss) h = absurd h.2
+joined_open t (long_hand (selector (filter e) more) ∷ ss) h = absurd h.2
+joined_open t (long_hand no_selectors ∷ ss) h = absurd h.2
+joined_open t (dot_wildcard ∷ ss) h = absurd h.2
 
-  shallow : (t : List ℕ) (ss : List Segment) → Joined IsSegmentText t ss → segments_depth (child_segments ss) ≡ 0
-  shallow t [] h = refl
-  shallow t (dot_name bytes ∷ ss) h = ap (max 0) (shallow h.1 ss h.3)
-  shallow t (long_hand (selector (index (pos n)) no_selectors) ∷ ss) h = ap (max 0) (shallow h.1 ss h.3)
-  shallow t (long_hand (selector (index (pos n)) (selector sel more)) ∷ ss) h = absurd h.2
-  shallow t (long_hand (selector (index (negsuc n)) more) ∷ ss) h = absurd h.2
-  shallow t (long_hand (selector (name k) more) ∷ ss) h = absurd h.2
-  shallow t (long_hand (selector wildcard more) ∷ ss) h = absurd h.2
-  shallow t (long_hand (selector (slice s) more) ∷ ss) h = absurd h.2
-  shallow t (long_hand (selector (filter e) more) ∷ ss) h = absurd h.2
-  shallow t (long_hand no_selectors ∷ ss) h = absurd h.2
-  shallow t (dot_wildcard ∷ ss) h = absurd h.2
-
-  -- `$` and the texts of open segments are accepted
-  pub accepted : (t a : List ℕ) (ss : List Segment) → t ≡ 36 ∷ a → Joined IsSegmentText a ss → IsAccepted signature t (query root (child_segments ss))
-  accepted t a ss e h = record {
-    reads = (a, segments_read a ss h, e);
-    from_root = refl;
-    typed = typed a ss h;
-    shallow = omega (arith, shallow a ss h);
-  }
+-- `$` and the texts of open segments are accepted
+pub accepted : (signature : List ℕ → Option Signature) (t a : List ℕ) (ss : List Segment) → t ≡ 36 ∷ a → Joined IsSegmentText a ss → IsAccepted signature t (query root (child_segments ss))
+accepted signature t a ss e h =
+    let o = joined_open a ss h in
+    record { reads = (a, segments_read a ss h, e); from_root = refl; typed = typed signature (child_segments ss) o; shallow = omega (arith, shallow (child_segments ss) o) }

@@ -10,8 +10,9 @@ use Rattle.serde_json_path.specs.declared.error.ParseErrorKind.TheVariants.{Expe
 use Rattle.serde_json_path.specs.declared.error.Place.TheVariants as place
 use Rattle.serde_json_path.specs.Lexical.{begins, is_digit, is_name_first, is_name_char, value_from, IsName}
 use Rattle.serde_json_path_core.specs.Tree.{largest, Segment, dot_name, dot_wildcard, long_hand, selector, no_selectors, index, name, wildcard, slice, filter}
-use Rattle.serde_json_path.proofs.OpenTexts.{IsPosition, IsSegmentText, Joined}
-use Rattle.serde_json_path.specs.Parsing.{Parsed, ◌>>=◌, refusal, front, behind, name_at, int_at, index_segment, bracket_at, dot_at, segment_at, opens, many_at, many, segments_at, path_at}
+use Rattle.serde_json_path.specs.Open.{AreOpenSegments}
+use Rattle.serde_json_path.proofs.OpenTexts.{IsPosition, IsSegmentText, Joined, joined_open}
+use Rattle.serde_json_path.specs.Parsing.{Parsed, ◌>>=◌, refusal, front, behind, name_at, int_at, index_segment, bracket_at, dot_at, segment_at, opens, many_at, many, segments_at, child_segments, path_at}
 use Rattle.serde_json_path.proofs.Many as m
 
 -- ---- tools
@@ -187,6 +188,10 @@ pub segments_sound : (cs : List ℕ) (x : List Segment × List ℕ) → segments
 unfolding many
 segments_sound cs x e = many_sound IsSegmentText (begins opens) segment_at segment_sound (length cs) cs x e
 
+-- the segments that are read are of the open forms
+pub segments_open : (cs : List ℕ) (x : List Segment × List ℕ) → segments_at cs ≡ Ok x → AreOpenSegments (child_segments x.0)
+segments_open cs x e = let r = segments_sound cs x e in joined_open r.text x.0 r.is_so
+
 nothing : (cs : List ℕ) → (length cs == 0) ≡ true → cs ≡ []
 nothing cs e = nil_from_length cs (eqb-true (length cs) 0 e)
 
@@ -199,3 +204,6 @@ path_sound cs x e =
     let r = segments_sound (drop 1 cs) b.0 b.1 in
     subst (λ (ss : List Segment). (a : List ℕ) × Joined IsSegmentText a ss × (cs ≡ 36 ∷ a)) (ok_is b.0.0 x k.1)
     (r.text, r.is_so, after_one 36 cs g.0 ∙ ap (λ (l : List ℕ). 36 ∷ l) (r.split ∙ ap (λ (l : List ℕ). r.text ++ l) (nothing b.0.1 k.0) ∙ append-nil r.text))
+
+pub path_open : (cs : List ℕ) (x : List Segment) → path_at cs ≡ Ok x → AreOpenSegments (child_segments x)
+path_open cs x e = let r = path_sound cs x e in joined_open r.0 x r.1

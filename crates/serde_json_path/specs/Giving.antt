@@ -1,10 +1,10 @@
 -- What a function of the parser returned is what reading gives.
-use Rattle.std.specs.Prelude.{◌≡◌, ℕ, true, length, ◌≤◌, ◌+◌, ◌-◌, List, Vec, Result, Ok, Err}
+use Rattle.std.specs.Prelude.{◌≡◌, ℕ, true, length, ◌≤◌, ◌+◌, ◌-◌, List, [], Vec, Result, Ok, Err}
 use Rattle.std.specs.declared.alloc.Global.{Global}
 use Rattle.serde_json_path_core.specs.Tree.{Query, query, root, Segment}
 use Rattle.serde_json_path_core.specs.Tree as tree
 use Rattle.serde_json_path_core.specs.Piece.{a_segment}
-use Rattle.serde_json_path_core.specs.Parts.{IsPart, ArePartsOf, tree_of}
+use Rattle.serde_json_path_core.specs.Parts.{IsPart, ArePartsOf, signatures_of, tree_of}
 use Rattle.serde_json_path_core.specs.declared.syntax.node.Part.{Part}
 use Rattle.serde_json_path_core.specs.declared.syntax.builder.SyntaxBuilder.{SyntaxBuilder}
 use Rattle.serde_json_path_core.specs.declared.syntax.checked.Checked.{Checked}
@@ -40,9 +40,9 @@ abbrev pub MakesSegments : {S : Type 0} {g : Ghosts S} → SyntaxBuilder → Res
 MakesSegments builder (Ok parts) reader read = (ss : List Segment) × ArePartsOf builder parts.items (child_segments ss) × (read ≡ Ok (ss, left reader))
 MakesSegments builder (Err e) reader read = Fails e read
 
--- The tree is that of the segments that reading gives.
+-- The tree is that of the segments that reading gives, and the query calls nothing.
 abbrev pub GivesQuery : Result Checked Stop → Result (List Segment) Refusal → Type 0
-GivesQuery (Ok checked) read = (ss : List Segment) × (tree_of checked ≡ query root (child_segments ss)) × (read ≡ Ok ss)
+GivesQuery (Ok checked) read = (ss : List Segment) × (tree_of checked ≡ query root (child_segments ss)) × (read ≡ Ok ss) × (signatures_of checked ≡ [])
 GivesQuery (Err e) read = Fails e read
 
 -- a refusal, and not want of memory

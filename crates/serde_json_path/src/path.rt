@@ -1,16 +1,20 @@
 //! Paths.
 
-ghost use Rattle.std.specs.Prelude.{◌≡◌, IfOk, IfErr};
+ghost use Rattle.std.specs.Prelude.{◌≡◌, [], IfOk, IfErr};
 ghost use Rattle.serde_json.specs.View.{view};
 ghost use Rattle.serde_json_path_nodes.specs.Views.{located_nodes};
+ghost use Rattle.serde_json_path_core.specs.Tree.{segments_of};
 ghost use Rattle.serde_json_path_core.specs.Functions.{FunctionSet, builtin_signature};
 ghost use Rattle.serde_json_path_core.specs.Meaning.{IsResult};
+ghost use Rattle.serde_json_path_core.specs.Parts.{signatures_of, tree_of};
 ghost use Rattle.serde_json_path_core.specs.declared.error.QueryError.TheVariants.{Memory};
+ghost use Rattle.serde_json_path.specs.Open.{AreOpenSegments};
 
 use crate::error::ParseError;
 use crate::parser::parse_source;
 use crate::source::TextSource;
 use serde_json::Value;
+use serde_json_path_core::functions::Builtin;
 use serde_json_path_core::{Checked, QueryError, evaluate_located};
 use serde_json_path_nodes::LocatedNodeList;
 use std::alloc::Global;
@@ -26,6 +30,8 @@ use std::alloc::Global;
 #[derive(Drop)]
 pub struct JsonPath {
     pub(crate) checked: Checked,
+    ghost calls_nothing: { signatures_of checked ≡ [] },
+    ghost open_forms: { ∥ AreOpenSegments (segments_of (tree_of checked)) ∥₁ },
 }
 
 impl JsonPath {
@@ -53,6 +59,6 @@ impl JsonPath {
         ensures selects { IfOk result (λ list. (F : FunctionSet) → IsResult F (view value.now) (path_tree self.now) (view value.now) (located_nodes list)) }
         ensures refused { IfErr result (λ e. e ≡ Memory) }
     {
-        evaluate_located(alloc, &self.checked, value, value)
+        evaluate_located(alloc, &self.checked, value, value, Builtin)
     }
 }

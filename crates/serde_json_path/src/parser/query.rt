@@ -60,5 +60,5 @@ pub(crate) fn query<S: PathSource>(
         return Err(reader.refuse(ParseErrorKind::TextAfterPath, Place::Path));
     }
     let part = builder.query(QueryKind::Root, parts)?;
-    Ok(builder.finish(part))
+    Ok(builder.finish(part, Vec::new(alloc)))
 }

@@ -1,7 +1,11 @@
 use Rattle.std.proofs.Common.{◌≡◌, ◌-◌, ◌^◌, ◌<◌, length, sym, ap, subst, ◌∙◌, arith, false}
+use Rattle.serde_json_path_core.specs.Tree.{segments_of}
 use Rattle.serde_json_path_core.specs.Functions.{builtin_signature}
 use Rattle.serde_json_path.specs.Giving.{Fails, IsRefused}
 use Rattle.serde_json_path.specs.Parsing.{path_at, opens_behind_root}
+use Rattle.serde_json_path.specs.Open.{AreOpenSegments}
+use Rattle.serde_json_path.specs.Reading.{left}
+use Rattle.serde_json_path.proofs.Sound.{path_open}
 use Rattle.serde_json_path.proofs.Parses.{too_long, parsed, refused, within}
 use Rattle.serde_json_path.proofs.parser.parse_source.Goals as goal
 
@@ -34,3 +38,11 @@ returns-in-Err-clause-parse g c =
     (refused builtin_signature text c.len.ensures.utf8 short c.in-Err.stop c.len-total.result total
     (subst (λ cs. Fails c.in-Err.stop (path_at cs)) c.new-reader.ensures.left c.in-Err.ensures.gives)
     (subst (λ cs. opens_behind_root cs ≡ false → IsRefused c.in-Err.stop) c.new-reader.ensures.left c.in-Err.ensures.spares))
+
+pub invariant_of-result : goal.invariant_of-result
+invariant_of-result g c =
+    let read = c.in-Ok.ensures.gives in
+    record {
+      calls_nothing = read.3;
+      open_forms = ∣ subst (λ q. AreOpenSegments (segments_of q)) (sym read.1) (path_open (left c.new-reader.result) read.0 read.2) ∣₁;
+    }
