@@ -79,7 +79,7 @@ both_typed (value v ∷ ts) = refl
 both_typed (nodes ds ∷ ts) = refl
 
 -- the parameters of one of these names, and what it gives
-IsKept : Option Signature → (List Term → Term) → Type 0
+abbrev IsKept : Option Signature → (List Term → Term) → Type 0
 IsKept o meaning = (s : Signature) → o ≡ Some s → (length s.params ≤ 8) × ((ts : List Term) → map kind_of_term ts ≡ s.params → kind_of_term (meaning ts) ≡ s.result)
 
 kept : (params : List Kind) (result : Kind) (meaning : List Term → Term) → length params ≤ 8 → ((ts : List Term) → kind_of_term (meaning ts) ≡ result)
@@ -89,13 +89,13 @@ kept params result meaning few typed s e =
     (subst (λ (x : Signature). length x.params ≤ 8) same few, λ ts h. typed ts ∙ ap (λ (x : Signature). x.result) same)
 
 by_name : (a b c d e f : Bool) → IsKept (
-      if a then Some (record { params = of_nodes ∷ []; result = of_value })
-      else if b then Some (record { params = of_nodes ∷ []; result = of_value })
-      else if c then Some (record { params = of_nodes ∷ []; result = of_nodes })
-      else if d then Some (record { params = of_logical ∷ of_logical ∷ []; result = of_logical })
-      else if e then Some (record { params = []; result = of_value })
-      else if f then Some (record { params = []; result = of_logical })
-      else None
+    if a then Some (record { params = of_nodes ∷ []; result = of_value })
+    else if b then Some (record { params = of_nodes ∷ []; result = of_value })
+    else if c then Some (record { params = of_nodes ∷ []; result = of_nodes })
+    else if d then Some (record { params = of_logical ∷ of_logical ∷ []; result = of_logical })
+    else if e then Some (record { params = []; result = of_value })
+    else if f then Some (record { params = []; result = of_logical })
+    else None
     ) (λ ts. if a then first_meaning ts else if b then more_meaning ts else if c then kids_meaning ts else if d then both_meaning ts else if e then value None else logical true)
 by_name true b c d e f = kept (of_nodes ∷ []) of_value first_meaning (omega arith) first_typed
 by_name false true c d e f = kept (of_nodes ∷ []) of_value more_meaning (omega arith) more_typed
