@@ -79,7 +79,7 @@ both_typed (value v ∷ ts) = refl
 both_typed (nodes ds ∷ ts) = refl
 
 -- the parameters of one of these names, and what it gives
-IsKept : Option Signature → (List Term → Term) → Type 0
+abbrev IsKept : Option Signature → (List Term → Term) → Type 0
 IsKept o meaning = (s : Signature) → o ≡ Some s → (length s.params ≤ 8) × ((ts : List Term) → map kind_of_term ts ≡ s.params → kind_of_term (meaning ts) ≡ s.result)
 
 kept : (params : List Kind) (result : Kind) (meaning : List Term → Term) → length params ≤ 8 → ((ts : List Term) → kind_of_term (meaning ts) ≡ result)
