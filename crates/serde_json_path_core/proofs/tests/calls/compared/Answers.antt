@@ -2,18 +2,18 @@ use Rattle.std.proofs.Common.{sym, ap, ◌∙◌}
 use Rattle.serde_json_path_core.specs.Tree as tree
 use Rattle.serde_json_path_core.specs.Terms.{kind_view, signature_view}
 use Rattle.serde_json_path_core.specs.Piece.{a_comparable}
-use Rattle.serde_json_path_core.specs.Compared.{operator_view}
+use Rattle.serde_json_path_core.specs.Literals.{operator_view}
 use Rattle.serde_json_path_core.proofs.CalledTrees.{relation_of}
 use Rattle.serde_json_path_core.proofs.tests.calls.compared.Goals as goal
 
 pub called-requires : goal.called-requires
 called-requires c = (c.requires.call.0, c.requires.call.1)
 
-pub relation-requires-left : goal.relation-requires-left
-relation-requires-left c = (tree.called c.requires.call.0, c.in_ok-left-in-Value.ensures.made c.requires.call.0 c.requires.call.1)
+pub relation-requires-clause-left : goal.relation-requires-clause-left
+relation-requires-clause-left c = (tree.called c.requires.call.0, c.in_ok-left-in-Value.ensures.made c.requires.call.0 c.requires.call.1)
 
-pub relation-requires-right : goal.relation-requires-right
-relation-requires-right c = (c.requires.right.0, c.called.ensures.keeps c.args.right (a_comparable c.requires.right.0) c.requires.right.1)
+pub relation-requires-clause-right : goal.relation-requires-clause-right
+relation-requires-clause-right c = (c.requires.right.0, c.called.ensures.keeps c.args.right (a_comparable c.requires.right.0) c.requires.right.1)
 
 pub returns-in_ok-relation-in-Value-clause-made : goal.returns-in_ok-relation-in-Value-clause-made
 returns-in_ok-relation-in-Value-clause-made c =
