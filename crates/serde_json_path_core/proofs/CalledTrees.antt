@@ -34,12 +34,6 @@ module _ (f : List ℕ) (s : Signature) where
       (λ h. is.2.0 h.0, λ g other. (is.2.1 g other, u.1 g), omega (arith, is.2.2, u.2)),
     )
 
-  pub test_of : (c : Call) → IsTestKind (Some s.result) → IsCallOf f s c → IsTestOf f s (test c)
-  test_of c k is = ((is.0, subst IsTestKind (sym (result_of c is.1)) k), is.2)
-
-  pub not_test_of : (c : Call) → IsTestKind (Some s.result) → IsCallOf f s c → IsTestOf f s (not_test c)
-  not_test_of c k is = ((is.0, subst IsTestKind (sym (result_of c is.1)) k), is.2)
-
   pub alone_of : (b : Basic) → IsTestOf f s b → IsExpressionOf f s (or (and b no_and) no_or)
   alone_of b is = (((is.0, tt), tt), (λ h. is.1.0 h.0.0, λ g other. ((is.1.1 g other, tt), tt), omega (arith, is.1.2)))
 
