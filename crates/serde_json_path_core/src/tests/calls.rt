@@ -1,10 +1,10 @@
 //! What filters with calls select (RFC 9535, section 2.4).
 
-ghost use Rattle.std.specs.Prelude.{◌≡◌, [], ◌∷◌, IfOk};
+ghost use Rattle.std.specs.Prelude.{◌≡◌, [], ◌∷◌, map, IfOk, IsTrue};
 ghost use Rattle.serde_json_path_core.specs.Tree as tree;
 ghost use Rattle.serde_json_path_core.specs.Functions.{Fits};
 ghost use Rattle.serde_json_path_core.specs.Samples.{sample_functions};
-ghost use Rattle.serde_json_path_core.specs.Terms.{signature_view};
+ghost use Rattle.serde_json_path_core.specs.Terms.{kind_view, signature_view};
 ghost use Rattle.serde_json_path_core.specs.Piece.{a_query, a_basic, a_comparable, a_call, an_or};
 ghost use Rattle.serde_json_path_core.specs.Parts.{IsPart, KeepsParts, signatures_of};
 ghost use Rattle.serde_json_path_core.specs.Uncalled.{IsUncalled, IsUncalledComparable};
@@ -64,6 +64,13 @@ fn query_of(alloc: Global, builder: &mut SyntaxBuilder, asked: Asked) -> Result<
     }
 }
 
+/// Whether a signature has these parameters.
+fn takes(signature: &Signature, params: &[FunctionArgType]) -> bool
+    ensures { IsTrue result → (signature_view signature.now).params ≡ map kind_view params.now }
+{
+    signature.params() == params
+}
+
 /// The call of a function of one node list.
 fn call_of_nodes(
     alloc: Global,
@@ -75,15 +82,13 @@ fn call_of_nodes(
     ensures made { IfOk result (λ part. (c : tree.Call) × IsPart builder.new part (a_call c) × IsCallOf name.now (signature_view signature.now) c) }
     ensures keeps { IfOk result (λ part. KeepsParts builder.old builder.new) }
 {
-    match signature.params() {
-        [FunctionArgType::Nodelist] => {
-            let query = query_of(alloc, builder, asked)?;
-            let argument = builder.query_argument(query)?;
-            let name = String::from_str(alloc, name)?;
-            Ok(builder.call(name, vec![in alloc; argument]?)?)
-        }
-        _ => Err(Fail::from("no function of one node list")),
+    if !takes(signature, &[FunctionArgType::Nodelist]) {
+        return Err(Fail::from("no function of one node list"));
     }
+    let query = query_of(alloc, builder, asked)?;
+    let argument = builder.query_argument(query)?;
+    let name = String::from_str(alloc, name)?;
+    Ok(builder.call(name, vec![in alloc; argument]?)?)
 }
 
 /// The call of a function without parameters.
@@ -96,13 +101,11 @@ fn call_of_none(
     ensures made { IfOk result (λ part. (c : tree.Call) × IsPart builder.new part (a_call c) × IsCallOf name.now (signature_view signature.now) c) }
     ensures keeps { IfOk result (λ part. KeepsParts builder.old builder.new) }
 {
-    match signature.params() {
-        [] => {
-            let name = String::from_str(alloc, name)?;
-            Ok(builder.call(name, Vec::new(alloc))?)
-        }
-        _ => Err(Fail::from("no function without parameters")),
+    if !takes(signature, &[]) {
+        return Err(Fail::from("no function without parameters"));
     }
+    let name = String::from_str(alloc, name)?;
+    Ok(builder.call(name, Vec::new(alloc))?)
 }
 
 /// A whole number as a side of a comparison.

@@ -39,22 +39,34 @@ impl Functions for Samples {
         name: &str,
         mut args: Vec<FunctionValue<'b>>,
     ) -> Result<FunctionValue<'b>, QueryError> {
-        match (name, args.pop(), args.pop()) {
-            ("first", Some(FunctionValue::Nodes(nodes)), None) => match nodes.first() {
-                Some(node) => Ok(FunctionValue::Value(ValueType::Node(node))),
-                None => Ok(FunctionValue::Value(ValueType::Nothing)),
+        match name {
+            "first" => match args.pop() {
+                Some(FunctionValue::Nodes(nodes)) => match nodes.first() {
+                    Some(node) => Ok(FunctionValue::Value(ValueType::Node(node))),
+                    None => Ok(FunctionValue::Value(ValueType::Nothing)),
+                },
+                _ => unreachable!(),
             },
-            ("length", Some(FunctionValue::Nodes(nodes)), None) => {
-                let more = Value::from(nodes.len() as u64 + 1);
-                Ok(FunctionValue::Value(ValueType::Value(more)))
-            }
-            ("kids", Some(FunctionValue::Nodes(nodes)), None) => Ok(FunctionValue::Nodes(nodes)),
-            ("both", Some(FunctionValue::Logical(b)), Some(FunctionValue::Logical(a))) => {
-                let both = a == LogicalType::True && b == LogicalType::True;
-                Ok(FunctionValue::Logical(LogicalType::from(both)))
-            }
-            ("none", None, None) => Ok(FunctionValue::Value(ValueType::Nothing)),
-            ("refuse", None, None) => Err(QueryError::Memory),
+            "length" => match args.pop() {
+                Some(FunctionValue::Nodes(nodes)) => {
+                    let more = Value::from(nodes.len() as u64 + 1);
+                    Ok(FunctionValue::Value(ValueType::Value(more)))
+                }
+                _ => unreachable!(),
+            },
+            "kids" => match args.pop() {
+                Some(FunctionValue::Nodes(nodes)) => Ok(FunctionValue::Nodes(nodes)),
+                _ => unreachable!(),
+            },
+            "both" => match (args.pop(), args.pop()) {
+                (Some(FunctionValue::Logical(b)), Some(FunctionValue::Logical(a))) => {
+                    let both = a == LogicalType::True && b == LogicalType::True;
+                    Ok(FunctionValue::Logical(LogicalType::from(both)))
+                }
+                _ => unreachable!(),
+            },
+            "none" => Ok(FunctionValue::Value(ValueType::Nothing)),
+            "refuse" => Err(QueryError::Memory),
             _ => unreachable!(),
         }
     }
