@@ -19,7 +19,7 @@ long_hand-requires c =
     let e = c.requires in
     let sel = tree.filter e.0 in
     let sels = tree.selector sel tree.no_selectors in
-    let selectors = one_selector c.filter.new.self _ [] c.in_ok-selector.selector sel refl c.in_ok-vec.ensures.items (c.in_ok-selector.ensures.made e.0 e.1) in
+    let selectors = one_selector c.filter.new.self _ c.in_ok-selector.selector sel c.in_ok-vec.ensures.items (c.in_ok-selector.ensures.made e.0 e.1) in
     (sels, selectors)
 
 pub query-requires : goal.query-requires
@@ -27,10 +27,10 @@ query-requires c =
     let e = c.requires in
     let sel = tree.filter e.0 in
     let sels = tree.selector sel tree.no_selectors in
-    let selectors = one_selector c.filter.new.self _ [] c.in_ok-selector.selector sel refl c.in_ok-vec.ensures.items (c.in_ok-selector.ensures.made e.0 e.1) in
+    let selectors = one_selector c.filter.new.self _ c.in_ok-selector.selector sel c.in_ok-vec.ensures.items (c.in_ok-selector.ensures.made e.0 e.1) in
     let seg = tree.long_hand sels in
     let segs = tree.segment tree.child seg tree.no_segments in
-    let segments = one_segment c.long_hand.new.self _ [] c.in_ok-segment.segment tree.child seg refl c.in_ok-vec-2.ensures.items (c.in_ok-segment.ensures.made sels selectors) in
+    let segments = one_segment c.long_hand.new.self _ c.in_ok-segment.segment tree.child seg c.in_ok-vec-2.ensures.items (c.in_ok-segment.ensures.made sels selectors) in
     (segs, segments)
 
 pub finish-requires : goal.finish-requires
@@ -38,10 +38,10 @@ finish-requires c =
     let e = c.requires in
     let sel = tree.filter e.0 in
     let sels = tree.selector sel tree.no_selectors in
-    let selectors = one_selector c.filter.new.self _ [] c.in_ok-selector.selector sel refl c.in_ok-vec.ensures.items (c.in_ok-selector.ensures.made e.0 e.1) in
+    let selectors = one_selector c.filter.new.self _ c.in_ok-selector.selector sel c.in_ok-vec.ensures.items (c.in_ok-selector.ensures.made e.0 e.1) in
     let seg = tree.long_hand sels in
     let segs = tree.segment tree.child seg tree.no_segments in
-    let segments = one_segment c.long_hand.new.self _ [] c.in_ok-segment.segment tree.child seg refl c.in_ok-vec-2.ensures.items (c.in_ok-segment.ensures.made sels selectors) in
+    let segments = one_segment c.long_hand.new.self _ c.in_ok-segment.segment tree.child seg c.in_ok-vec-2.ensures.items (c.in_ok-segment.ensures.made sels selectors) in
     let q = tree.query tree.root segs in
     let finishes = filter_query_finishes c.args.name.now (signature_view c.args.signature) e.0 e.2 in
     (q, c.in_ok-query.ensures.made segs segments, subst (λ (used : List (List ℕ × Signature)). MayFinish used q) (sym (is_used _ _ c.args.signature c.args.name.now c.in_ok-used.ensures.items c.in_ok-from_str.ensures.ok)) finishes)
