@@ -5,4 +5,4 @@ use Rattle.serde_json_path_core.specs.Used.{deepest, signature_in, MayFinish}
 use Rattle.serde_json_path_core.specs.Uncalled.{AreUncalledSegments}
 
 pub uncalled_finished : (deep : ℕ) (segs : Segments) → deep ≤ deepest → AreUncalledSegments deep segs → MayFinish [] (query root segs)
-uncalled_finished deep segs le h = (refl, h.0 (signature_in []), (let below = h.2 in omega arith), tt, λ f. (λ i. absurd i, λ calls. absurd (calls (h.1 f))))
+uncalled_finished deep segs le h = (refl, h.0 (signature_in []), (let below = h.2 in omega arith), (tt, λ f. (λ i. absurd i, λ calls. absurd (calls (h.1 f)))))
