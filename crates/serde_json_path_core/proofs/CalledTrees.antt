@@ -20,19 +20,19 @@ module _ (f : List ℕ) (s : Signature) where
 
   pub call_of_query : (q : Query) → s.params ≡ of_nodes ∷ [] → IsUncalled 0 q → IsCallOf f s (call f (argument (query_argument q) no_arguments))
   call_of_query q e u = (
-      (s, signature_of, subst (AreTypedArguments (signature_in ((f, s) ∷ [])) (argument (query_argument q) no_arguments)) (sym e) (u.0 (signature_in ((f, s) ∷ [])), refl)),
-      refl,
-      (λ h. h.0 refl, λ g other. (other, (u.1 g, tt)), omega (arith, u.2)),
-    )
+    (s, signature_of, subst (AreTypedArguments (signature_in ((f, s) ∷ [])) (argument (query_argument q) no_arguments)) (sym e) (u.0 (signature_in ((f, s) ∷ [])), refl)),
+    refl,
+    (λ h. h.0 refl, λ g other. (other, (u.1 g, tt)), omega (arith, u.2)),
+  )
 
   pub call_of_nothing : s.params ≡ [] → IsCallOf f s (call f no_arguments)
   call_of_nothing e = ((s, signature_of, e), refl, (λ h. h.0 refl, λ g other. (other, tt), omega arith))
 
   pub relation_of : (c : Call) (op : Operator) (a : Comparable) → s.result ≡ of_value → IsCallOf f s c → IsUncalledComparable 0 a → IsTestOf f s (relation (called c) op a)
   relation_of c op a e is u = (
-      ((is.0, result_of c is.1 ∙ ap Some e), u.0 (signature_in ((f, s) ∷ []))),
-      (λ h. is.2.0 h.0, λ g other. (is.2.1 g other, u.1 g), omega (arith, is.2.2, u.2)),
-    )
+    ((is.0, result_of c is.1 ∙ ap Some e), u.0 (signature_in ((f, s) ∷ []))),
+    (λ h. is.2.0 h.0, λ g other. (is.2.1 g other, u.1 g), omega (arith, is.2.2, u.2)),
+  )
 
   pub alone_of : (b : Basic) → IsTestOf f s b → IsExpressionOf f s (or (and b no_and) no_or)
   alone_of b is = (((is.0, tt), tt), (λ h. is.1.0 h.0.0, λ g other. ((is.1.1 g other, tt), tt), omega (arith, is.1.2)))
@@ -40,15 +40,15 @@ module _ (f : List ℕ) (s : Signature) where
   -- behind a query that is asked for, joined by `&&` or by `||`
   pub and_of : (q : Query) (b : Basic) → IsUncalled 0 q → IsTestOf f s b → IsExpressionOf f s (or (and (exist q) (and b no_and)) no_or)
   and_of q b u is = (
-      ((u.0 (signature_in ((f, s) ∷ [])), (is.0, tt)), tt),
-      (λ h. is.1.0 h.0.1.0, λ g other. ((u.1 g, (is.1.1 g other, tt)), tt), omega (arith, is.1.2, u.2)),
-    )
+    ((u.0 (signature_in ((f, s) ∷ [])), (is.0, tt)), tt),
+    (λ h. is.1.0 h.0.1.0, λ g other. ((u.1 g, (is.1.1 g other, tt)), tt), omega (arith, is.1.2, u.2)),
+  )
 
   pub or_of : (q : Query) (b : Basic) → IsUncalled 0 q → IsTestOf f s b → IsExpressionOf f s (or (and (exist q) no_and) (or (and b no_and) no_or))
   or_of q b u is = (
-      ((u.0 (signature_in ((f, s) ∷ [])), tt), ((is.0, tt), tt)),
-      (λ h. is.1.0 h.1.0.0, λ g other. ((u.1 g, tt), ((is.1.1 g other, tt), tt)), omega (arith, is.1.2, u.2)),
-    )
+    ((u.0 (signature_in ((f, s) ∷ [])), tt), ((is.0, tt), tt)),
+    (λ h. is.1.0 h.1.0.0, λ g other. ((u.1 g, tt), ((is.1.1 g other, tt), tt)), omega (arith, is.1.2, u.2)),
+  )
 
   -- the query `$[?..]` of such an expression
   abbrev pub filter_query : LogicalOr → Query
@@ -64,11 +64,11 @@ module _ (f : List ℕ) (s : Signature) where
 
   pub filter_query_finishes : (e : LogicalOr) → IsExpressionOf f s e → MayFinish ((f, s) ∷ []) (filter_query e)
   filter_query_finishes e is = (
-      refl,
-      ((is.0, tt), tt),
-      omega (arith, is.1.2),
-      ((λ y h. absurd h, tt), λ g. (by g, λ calls. inl (called_is e is g calls))),
-    )
+    refl,
+    ((is.0, tt), tt),
+    omega (arith, is.1.2),
+    ((λ y h. absurd h, tt), λ g. (by g, λ calls. inl (called_is e is g calls))),
+  )
     where
       by : (g : List ℕ) → (g ≡ f) ⊎ ⊥ → Calls (filter_query e) g
       by g (inl same) = λ h. is.1.0 (subst (λ k. EachInOr (λ c. name_of c ≢ k) e) same h.0.0)

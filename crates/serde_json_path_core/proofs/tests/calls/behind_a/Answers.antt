@@ -97,11 +97,11 @@ returns-in_ok-logical_or-2-clause-made c =
 pub returns-in_ok-logical_or-clause-keeps : goal.returns-in_ok-logical_or-clause-keeps
 returns-in_ok-logical_or-clause-keeps c =
     λ part piece h.
-        c.logical_or.ensures.keeps part piece
-        (c.logical_and-then-either.ensures.keeps part piece (c.logical_and.ensures.keeps part piece (c.exist.ensures.keeps part piece (c.in_ok-query.ensures.keeps part piece h))))
+    c.logical_or.ensures.keeps part piece
+    (c.logical_and-then-either.ensures.keeps part piece (c.logical_and.ensures.keeps part piece (c.exist.ensures.keeps part piece (c.in_ok-query.ensures.keeps part piece h))))
 
 pub returns-in_ok-logical_or-2-clause-keeps : goal.returns-in_ok-logical_or-2-clause-keeps
 returns-in_ok-logical_or-2-clause-keeps c =
     λ part piece h.
-        c.logical_or-else-either.ensures.keeps part piece
-        (c.logical_and-else-either.ensures.keeps part piece (c.exist.ensures.keeps part piece (c.in_ok-query.ensures.keeps part piece h)))
+    c.logical_or-else-either.ensures.keeps part piece
+    (c.logical_and-else-either.ensures.keeps part piece (c.exist.ensures.keeps part piece (c.in_ok-query.ensures.keeps part piece h)))
