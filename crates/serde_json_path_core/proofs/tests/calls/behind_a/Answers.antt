@@ -1,10 +1,9 @@
-use Rattle.std.proofs.Common.{List, [], ◌∷◌, refl, sym, subst}
+use Rattle.std.proofs.Common.{List, [], refl, sym, subst}
 use Rattle.serde_json_path_core.specs.Tree as tree
 use Rattle.serde_json_path_core.specs.Terms.{signature_view}
 use Rattle.serde_json_path_core.specs.Piece.{a_basic, an_and}
-use Rattle.serde_json_path_core.specs.Parts.{AreAndPartsOf, AreOrPartsOf, IsPart}
+use Rattle.serde_json_path_core.specs.Parts.{AreAndPartsOf, AreOrPartsOf}
 use Rattle.serde_json_path_core.specs.declared.syntax.node.Part.{Part}
-use Rattle.serde_json_path_core.specs.declared.syntax.builder.SyntaxBuilder.{SyntaxBuilder}
 use Rattle.serde_json_path_core.proofs.Written.{one_basic, one_and}
 use Rattle.serde_json_path_core.proofs.CalledTrees.{and_of, or_of}
 use Rattle.serde_json_path_core.proofs.tests.calls.behind_a.Goals as goal

@@ -1,4 +1,4 @@
-use Rattle.std.proofs.Common.{List, [], ◌∷◌, ℕ, string_bytes, sym, subst}
+use Rattle.std.proofs.Common.{List, ℕ, string_bytes, sym, subst}
 use Rattle.serde_json_path_core.specs.Tree as tree
 use Rattle.serde_json_path_core.specs.Parts.{AreArgumentsOf}
 use Rattle.serde_json_path_core.specs.Terms.{signature_view}

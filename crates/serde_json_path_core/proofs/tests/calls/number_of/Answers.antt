@@ -1,5 +1,4 @@
 use Rattle.std.proofs.Common.{arith}
-use Rattle.serde_json_path_core.specs.Tree as tree
 use Rattle.serde_json_path_core.proofs.tests.calls.number_of.Goals as goal
 
 pub returns-clause-made : goal.returns-clause-made
