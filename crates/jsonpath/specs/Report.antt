@@ -7,7 +7,7 @@ use Rattle.serde_json.specs.Written.{has_float, compact_text}
 use Rattle.serde_json_path_nodes.specs.Place.{Located}
 use Rattle.serde_json_path_nodes.specs.Text.{normal}
 use Rattle.serde_json_path_core.specs.Tree.{Query}
-use Rattle.serde_json_path_core.specs.Functions.{FunctionSet, builtin_signature}
+use Rattle.serde_json_path_functions.specs.Functions.{FunctionSet, builtin_signature}
 use Rattle.serde_json_path_core.specs.Meaning.{IsResult}
 use Rattle.serde_json_path.specs.Accepted.{IsAccepted}
 

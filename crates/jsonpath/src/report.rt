@@ -4,7 +4,7 @@ ghost use Rattle.std.specs.Prelude.{◌≡◌, ◌++◌, ℕ, List, IfOk, OnOk, 
 ghost use Rattle.serde_json.specs.Data.{Data};
 ghost use Rattle.serde_json.specs.View.{view};
 ghost use Rattle.serde_json_path_nodes.specs.Views.{located, located_nodes};
-ghost use Rattle.serde_json_path_core.specs.Functions.{builtin_signature};
+ghost use Rattle.serde_json_path_functions.specs.Functions.{builtin_signature};
 ghost use Rattle.serde_json_path.specs.Parse.{IsParseOf};
 ghost use Rattle.serde_json_path.specs.declared.error.ParseError as path_error;
 ghost use Rattle.jsonpath.specs.Report.{ReadsAs, IsLineOf, AreLinesOf, IsReportOf};

@@ -2,7 +2,7 @@
 
 ghost use Rattle.std.specs.Prelude.{◌≡◌, ◌≢◌, ◌↔◌, ◌⊎◌, ℕ, List, length, IfSome, OnOk};
 ghost use Rattle.std.specs.Io.KnownBytes.{Appends, IsAtEnd};
-ghost use Rattle.serde_json_path_core.specs.Functions.{builtin_signature};
+ghost use Rattle.serde_json_path_functions.specs.Functions.{builtin_signature};
 ghost use Rattle.serde_json_path.specs.Parse.{IsParseOf};
 ghost use Rattle.serde_json_path.specs.declared.error.ParseError.{ParseError};
 ghost use Rattle.jsonpath.specs.Report.{IsReportOf};

@@ -6,7 +6,7 @@ use Rattle.std.proofs.lemmas.Grind.{not_there}
 use Rattle.serde_json.specs.Data.{Data}
 use Rattle.serde_json_path_nodes.specs.Place.{Step, Located}
 use Rattle.serde_json_path_core.specs.Tree.{Query, query, root, segments_of, Segments, no_segments, segment, child, descendant, Segment, dot_name, dot_wildcard, long_hand, selector, no_selectors, index, name, wildcard, slice, filter, Call}
-use Rattle.serde_json_path_core.specs.Functions.{Signature, FunctionSet}
+use Rattle.serde_json_path_functions.specs.Functions.{Signature, FunctionSet}
 use Rattle.serde_json_path_core.specs.Typing.{IsTypedSegment, AreTypedSegments}
 use Rattle.serde_json_path_core.specs.Depth.{segment_depth, segments_depth}
 use Rattle.serde_json_path_core.specs.Calls.{name_of, EachCall, EachInSegment, EachInSegments}

@@ -3,7 +3,7 @@ use Rattle.std.proofs.Common.{◌≡◌, ℕ, ◌≤◌, pos, negsuc, true, fals
 use Rattle.std.proofs.lemmas.List.{append-nil}
 use Rattle.std.proofs.lemmas.Int.{ints}
 use Rattle.serde_json_path_core.specs.Tree.{largest, query, root, Segments, no_segments, segment, child, descendant, Segment, dot_name, dot_wildcard, long_hand, selector, no_selectors, index, name, wildcard, slice, filter}
-use Rattle.serde_json_path_core.specs.Functions.{Signature}
+use Rattle.serde_json_path_functions.specs.Functions.{Signature}
 use Rattle.serde_json_path.specs.Lexical.{IsBlank, IsName, IsDecimal}
 use Rattle.serde_json_path.specs.Grammar.{ReadSegments, ReadsSegment, ReadSelectors}
 use Rattle.serde_json_path.specs.Accepted.{IsAccepted}

@@ -6,7 +6,7 @@ use Rattle.std.proofs.lemmas.List.{length-append}
 use Rattle.std.proofs.Math.Seq.{take-append_seam}
 use Rattle.std.proofs.lemmas.Str.{IsCharBoundary-start, chars-encodes, scalars-chars}
 use Rattle.serde_json_path_core.specs.Tree.{Query, query, root, current, Segment}
-use Rattle.serde_json_path_core.specs.Functions.{Signature}
+use Rattle.serde_json_path_functions.specs.Functions.{Signature}
 use Rattle.serde_json_path.specs.declared.error.Refusal.{Refusal}
 use Rattle.serde_json_path.specs.declared.error.Stop.{Stop}
 use Rattle.serde_json_path.specs.declared.error.Stop.TheVariants as stops

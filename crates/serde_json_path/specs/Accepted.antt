@@ -1,7 +1,7 @@
 -- The typed grammar: which text is accepted, and with which tree.
 use Rattle.std.specs.Prelude.{◌≡◌, ℕ, ◌≤◌, List, Option}
 use Rattle.serde_json_path_core.specs.Tree.{Query, root, kind_of}
-use Rattle.serde_json_path_core.specs.Functions.{Signature}
+use Rattle.serde_json_path_functions.specs.Functions.{Signature}
 use Rattle.serde_json_path_core.specs.Typing.{IsTyped}
 use Rattle.serde_json_path_core.specs.Depth.{depth}
 use Rattle.serde_json_path.specs.Grammar.{Reads}

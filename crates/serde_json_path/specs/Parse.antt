@@ -2,7 +2,7 @@
 use Rattle.std.specs.Prelude.{◌≡◌, ◌≢◌, ◌==◌, ℕ, ◌-◌, ◌^◌, ◌<◌, ◌≤◌, ◌⊎◌, ◌↔◌, Bool, false, List, ◌∷◌, ◌++◌, length, take, Option, Result, IfOk, IfErr, IsErrAnd}
 use Rattle.std.specs.Str.{chars, IsCharBoundary}
 use Rattle.serde_json_path_core.specs.Tree.{Query}
-use Rattle.serde_json_path_core.specs.Functions.{Signature}
+use Rattle.serde_json_path_functions.specs.Functions.{Signature}
 use Rattle.serde_json_path.specs.declared.error.ParseErrorKind.TheVariants.{ExpectedRoot, TextAfterPath, NoMemory}
 use Rattle.serde_json_path.specs.declared.error.ParseError.{ParseError}
 use Rattle.serde_json_path.specs.declared.path.JsonPath.{JsonPath}

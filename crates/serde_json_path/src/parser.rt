@@ -7,7 +7,7 @@ mod reader;
 mod segment;
 
 ghost use Rattle.std.specs.Prelude.{◌≡◌, ◌+◌, ◌-◌, ◌*◌, ◌^◌, ◌≤◌, max, true, length, IfErr};
-ghost use Rattle.serde_json_path_core.specs.Functions.{builtin_signature};
+ghost use Rattle.serde_json_path_functions.specs.Functions.{builtin_signature};
 ghost use Rattle.serde_json_path.specs.Errors.{kind_of, position_of, is_told_at_next};
 ghost use Rattle.serde_json_path.specs.Parse.{IsParseOf};
 

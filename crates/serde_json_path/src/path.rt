@@ -4,10 +4,10 @@ ghost use Rattle.std.specs.Prelude.{◌≡◌, [], IfOk, IfErr};
 ghost use Rattle.serde_json.specs.View.{view};
 ghost use Rattle.serde_json_path_nodes.specs.Views.{located_nodes};
 ghost use Rattle.serde_json_path_core.specs.Tree.{segments_of};
-ghost use Rattle.serde_json_path_core.specs.Functions.{FunctionSet, builtin_signature};
+ghost use Rattle.serde_json_path_functions.specs.Functions.{FunctionSet, builtin_signature};
 ghost use Rattle.serde_json_path_core.specs.Meaning.{IsResult};
 ghost use Rattle.serde_json_path_core.specs.Parts.{signatures_of, tree_of};
-ghost use Rattle.serde_json_path_core.specs.declared.error.QueryError.TheVariants.{Memory};
+ghost use Rattle.serde_json_path_functions.specs.declared.error.QueryError.TheVariants.{Memory};
 ghost use Rattle.serde_json_path.specs.Open.{AreOpenSegments};
 
 use crate::error::ParseError;

@@ -3,18 +3,18 @@ use Rattle.std.proofs.Common.{◌≡◌, ◌⊎◌, ℕ, List, [], ◌∷◌, �
 use Rattle.std.proofs.lemmas.List.{append-nil}
 use Rattle.serde_json.specs.Data.{Data}
 use Rattle.serde_json_path_core.specs.Tree.{Call, call, Arguments, no_arguments, argument}
-use Rattle.serde_json_path_core.specs.Functions.{Kind, Term, FunctionSet}
-use Rattle.serde_json_path_core.specs.Terms.{kind_view, term_view}
+use Rattle.serde_json_path_functions.specs.Functions.{Kind, Term, FunctionSet}
+use Rattle.serde_json_path_functions.specs.Terms.{kind_view, term_view}
 use Rattle.serde_json_path_core.specs.Meaning.{params_of}
 use Rattle.serde_json_path_core.specs.Typing.{IsTypedCall, AreTypedArguments}
-use Rattle.serde_json_path_core.specs.Patterns.{IsPromised}
+use Rattle.serde_json_path_functions.specs.Patterns.{IsPromised}
 use Rattle.serde_json_path_core.specs.Calls.{StandsIn, EachFrom, IsClearCall, arguments_of, name_of}
 use Rattle.serde_json_path_core.specs.Computed.{answer, arguments}
 use Rattle.serde_json_path_core.specs.Piece.{Piece}
 use Rattle.serde_json_path_core.specs.Flat.{arguments_in, pieces_named}
 use Rattle.serde_json_path_core.specs.declared.syntax.node.Part.{Part}
-use Rattle.serde_json_path_core.specs.declared.functions.types.FunctionArgType.{FunctionArgType}
-use Rattle.serde_json_path_core.specs.declared.functions.types.FunctionValue.{FunctionValue}
+use Rattle.serde_json_path_functions.specs.declared.types.FunctionArgType.{FunctionArgType}
+use Rattle.serde_json_path_functions.specs.declared.types.FunctionValue.{FunctionValue}
 use Rattle.serde_json_path_core.proofs.Derived.{arguments_right}
 
 module _ (F : FunctionSet) (top : Data) where

@@ -2,7 +2,7 @@
 use Rattle.std.proofs.Common.{◌≡◌, ◌≢◌, ◌⊎◌, ℕ, List, [], ◌∷◌, inl, inr, Bool, true, false, Some, None, option_map, bytes_eq, if◌then◌else◌, refl, sym, ap, subst, ◌∙◌, arith, true≢false}
 use Rattle.std.proofs.lemmas.Slice.Eq.{bytes_eq-Decides}
 use Rattle.serde_json_path_core.specs.Tree.{Query, query, root, no_segments, segment, child, long_hand, no_selectors, selector, filter, LogicalOr, no_or, or, no_and, and, Basic, relation, exist, Comparable, called, Operator, Call, call, no_arguments, argument, query_argument}
-use Rattle.serde_json_path_core.specs.Functions.{of_value, of_nodes, Signature}
+use Rattle.serde_json_path_functions.specs.Functions.{of_value, of_nodes, Signature}
 use Rattle.serde_json_path_core.specs.Typing.{AreTypedArguments, result_kind}
 use Rattle.serde_json_path_core.specs.Calls.{EachInOr, name_of}
 use Rattle.serde_json_path_core.specs.Used.{signature_in, Calls, MayFinish}

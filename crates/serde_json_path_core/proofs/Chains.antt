@@ -4,7 +4,7 @@ use Rattle.std.specs.List.{All}
 use Rattle.std.proofs.lemmas.List.Elements.{All-nil}
 use Rattle.serde_json.specs.Data.{Data}
 use Rattle.serde_json_path_nodes.specs.Place.{Step, child_at}
-use Rattle.serde_json_path_core.specs.Functions.{FunctionSet}
+use Rattle.serde_json_path_functions.specs.Functions.{FunctionSet}
 use Rattle.serde_json_path_core.specs.Height.{height}
 use Rattle.serde_json_path_core.specs.Rest.{Stage, Frame, begun, rest_of, work, IsOfValue, IsChain, IsStack}
 use Rattle.serde_json_path_core.specs.Advances.{IsSamePlace, ComesTo, IsDone}

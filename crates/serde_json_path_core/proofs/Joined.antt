@@ -8,7 +8,7 @@ use Rattle.serde_json.specs.declared.value.Value.{Value}
 use Rattle.serde_json_path_nodes.specs.Place.{Located}
 use Rattle.serde_json_path_nodes.specs.Views.{node_value}
 use Rattle.serde_json_path_core.specs.Tree.{or, and}
-use Rattle.serde_json_path_core.specs.Functions.{FunctionSet}
+use Rattle.serde_json_path_functions.specs.Functions.{FunctionSet}
 use Rattle.serde_json_path_core.specs.Meaning.{first_value}
 use Rattle.serde_json_path_core.specs.Piece.{Piece}
 use Rattle.serde_json_path_core.specs.Flat.{and_in, basic_in, ors_in, ands_in, piece_in, pieces_named}

@@ -29,7 +29,6 @@ pub mod Order
 pub mod OtherNodes
 pub mod Rests
 pub mod Seen
-pub mod SameSignatures
 pub mod Singular
 pub mod SlicePositions
 pub mod SoundParts

@@ -3,7 +3,7 @@ use Rattle.std.proofs.Common.{◌≡◌, List, flat_map, map, ◌↔◌, IsTrue,
 use Rattle.serde_json.specs.Data.{Data}
 use Rattle.serde_json_path_nodes.specs.Place.{Located}
 use Rattle.serde_json_path_core.specs.Tree.{Query, SegmentKind, Segments, segment, Segment, LogicalOr, Comparable, Call}
-use Rattle.serde_json_path_core.specs.Functions.{FunctionSet, Term}
+use Rattle.serde_json_path_functions.specs.Functions.{FunctionSet, Term}
 use Rattle.serde_json_path_core.specs.Compared.{Compared}
 use Rattle.serde_json_path_core.specs.Meaning.{Holds, Exists, IsResult, IsComparedAs, Answers}
 use Rattle.serde_json_path_core.specs.Typing.{IsTyped, IsTypedOr, IsTypedComparable, IsTypedCall}

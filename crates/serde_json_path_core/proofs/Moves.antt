@@ -4,7 +4,7 @@ use Rattle.std.specs.List.{All}
 use Rattle.std.proofs.lemmas.List.Elements.{All-nil, All-from_recursion, recursion_from_All}
 use Rattle.serde_json.specs.Data.{Data}
 use Rattle.serde_json_path_nodes.specs.Place.{Step, child_at}
-use Rattle.serde_json_path_core.specs.Functions.{FunctionSet}
+use Rattle.serde_json_path_functions.specs.Functions.{FunctionSet}
 use Rattle.serde_json_path_core.specs.Tree.{SegmentKind, child, descendant, Selector, name, wildcard, index, slice, filter}
 use Rattle.serde_json_path_core.specs.Rest.{Stage, Frame, candidates, admitted, unfiltered, opened, tasks, EndsIn}
 use Rattle.serde_json_path_core.specs.Advances.{Chooses, Passes, ComesTo, IsDone}

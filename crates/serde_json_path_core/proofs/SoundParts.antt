@@ -3,7 +3,7 @@ use Rattle.std.proofs.Common.{◌≡◌, ℕ, zero, suc, ◌<◌, List, [], ◌�
 use Rattle.std.proofs.lemmas.Option.{none-some, same_Some}
 use Rattle.serde_json.specs.Data.{Data}
 use Rattle.serde_json_path_core.specs.Tree.{Query, query, Segments, segments_of, Segment, dot_name, dot_wildcard, long_hand, Selectors, no_selectors, selector, Selector, name, wildcard}
-use Rattle.serde_json_path_core.specs.Functions.{FunctionSet}
+use Rattle.serde_json_path_functions.specs.Functions.{FunctionSet}
 use Rattle.serde_json_path_core.specs.Typing.{AreTypedSelectors}
 use Rattle.serde_json_path_core.specs.Calls.{EachInSelectors}
 use Rattle.serde_json_path_core.specs.Piece.{Piece}

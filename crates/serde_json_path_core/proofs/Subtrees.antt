@@ -6,7 +6,7 @@ use Rattle.std.proofs.lemmas.Simd.{map-map}
 use Rattle.serde_json.specs.Data.{Data}
 use Rattle.serde_json_path_nodes.specs.Place.{Step, StepBefore, Located}
 use Rattle.serde_json_path_core.specs.Tree.{Query, query, current, Segments, segment, child, descendant, Segment}
-use Rattle.serde_json_path_core.specs.Functions.{FunctionSet}
+use Rattle.serde_json_path_functions.specs.Functions.{FunctionSet}
 use Rattle.serde_json_path_core.specs.Meaning.{IsResult}
 use Rattle.serde_json_path_core.specs.Typing.{IsTyped}
 use Rattle.serde_json_path_core.specs.Selected.{beneath}

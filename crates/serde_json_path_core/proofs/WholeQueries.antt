@@ -3,7 +3,7 @@ use Rattle.std.proofs.Common.{◌≡◌, ℕ, List, sym, subst}
 use Rattle.std.proofs.Math.Logic.{∥∥₁_map₂}
 use Rattle.serde_json.specs.Data.{Data}
 use Rattle.serde_json_path_core.specs.Tree.{Query}
-use Rattle.serde_json_path_core.specs.Functions.{Signature, FunctionSet, Fits}
+use Rattle.serde_json_path_functions.specs.Functions.{Signature, FunctionSet, Fits}
 use Rattle.serde_json_path_core.specs.Used.{signature_in}
 use Rattle.serde_json_path_core.specs.Typing.{IsTyped}
 use Rattle.serde_json_path_core.specs.Calls.{IsClear}

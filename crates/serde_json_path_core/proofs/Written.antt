@@ -7,7 +7,7 @@ use Rattle.serde_json_path_core.specs.Piece.{a_segment, a_selector, an_and, a_ba
 use Rattle.serde_json_path_core.specs.Parts.{IsPart, ArePartsFor, ArePartsOf, AreSelectorsOf, AreOrPartsOf, AreAndPartsOf, KeepsParts, or_pieces, and_pieces}
 use Rattle.serde_json_path_core.specs.Uncalled.{AreUncalledSegments, IsUncalledSegment, AreUncalledSelectors, IsUncalledSelector, IsUncalledOr, IsUncalledAnd, IsUncalledBasic, IsUncalledComparable}
 use Rattle.serde_json_path_core.specs.Used.{MayFinish, used_view, deepest}
-use Rattle.serde_json_path_core.specs.declared.functions.signature.Signature as declared
+use Rattle.serde_json_path_functions.specs.declared.signature.Signature as declared
 use Rattle.serde_json_path_core.specs.declared.syntax.node.Part.{Part}
 use Rattle.serde_json_path_core.specs.declared.syntax.builder.SyntaxBuilder.{SyntaxBuilder}
 use Rattle.serde_json_path_core.proofs.Finished.{uncalled_finished}

@@ -1,7 +1,7 @@
 -- Trees that call one name alone, and well-typed under its signature.
 use Rattle.std.specs.Prelude.{◌≡◌, ◌≢◌, ◌≤◌, ℕ, List, [], ◌∷◌}
 use Rattle.serde_json_path_core.specs.Tree.{LogicalOr, Basic, Call}
-use Rattle.serde_json_path_core.specs.Functions.{Signature}
+use Rattle.serde_json_path_functions.specs.Functions.{Signature}
 use Rattle.serde_json_path_core.specs.Typing.{IsTypedOr, IsTypedBasic, IsTypedCall}
 use Rattle.serde_json_path_core.specs.Depth.{or_depth, basic_depth, call_depth}
 use Rattle.serde_json_path_core.specs.Calls.{EachInOr, EachInBasic, EachFrom, name_of}

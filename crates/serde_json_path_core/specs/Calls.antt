@@ -3,9 +3,9 @@ use Rattle.std.specs.Prelude.{◌≡◌, ℕ, List, IsNone, Some}
 use Rattle.serde_json.specs.Data.{Data}
 use Rattle.serde_json_path_nodes.specs.Place.{Step, at}
 use Rattle.serde_json_path_core.specs.Tree.{Query, query, Segments, no_segments, segment, Segment, dot_name, dot_wildcard, long_hand, Selectors, no_selectors, selector, Selector, name, wildcard, index, slice, filter, LogicalOr, no_or, or, LogicalAnd, no_and, and, Basic, paren, not_paren, relation, exist, not_exist, test, not_test, Comparable, literal, singular, called, Call, call, Arguments, no_arguments, argument, Argument, literal_argument, query_argument, call_argument, logical_argument}
-use Rattle.serde_json_path_core.specs.Functions.{Term, FunctionSet}
+use Rattle.serde_json_path_functions.specs.Functions.{Term, FunctionSet}
 use Rattle.serde_json_path_core.specs.Meaning.{params_of, AreArguments}
-use Rattle.serde_json_path_core.specs.Patterns.{IsPromised}
+use Rattle.serde_json_path_functions.specs.Patterns.{IsPromised}
 
 -- the name that is called, and the arguments
 abbrev pub name_of : Call → List ℕ

@@ -3,7 +3,7 @@ use Rattle.std.specs.Prelude.{◌≡◌, ◌≤◌, List, [], ◌∷◌, ◌++�
 use Rattle.serde_json.specs.Data.{Data}
 use Rattle.serde_json_path_nodes.specs.Place.{Step, child_at, StepBefore, Located}
 use Rattle.serde_json_path_core.specs.Tree.{Query, query, current, Segments, segment, child, descendant, Segment, relation, equal, not_equal, less, less_or_equal, Comparable, IsSingular}
-use Rattle.serde_json_path_core.specs.Functions.{FunctionSet, KeepsTypes}
+use Rattle.serde_json_path_functions.specs.Functions.{FunctionSet, KeepsTypes}
 use Rattle.serde_json_path_core.specs.Derivation.{IsIn, IsInOrder}
 use Rattle.serde_json_path_core.specs.Selected.{beneath}
 use Rattle.serde_json_path_core.specs.Meaning.{HoldsBasic, IsResult}

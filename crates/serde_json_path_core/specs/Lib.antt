@@ -1,10 +1,5 @@
 pub mod Tree
 pub mod Slices
-pub mod Functions
-pub mod BuiltinTypes
-pub mod Patterns
-pub mod Terms
-pub mod Errors
 pub mod Compared
 pub mod Derivation
 pub mod Meaning

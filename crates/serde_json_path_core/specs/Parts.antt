@@ -1,7 +1,7 @@
 -- The parts that a builder has made and the finished tree, as contracts see them.
 use Rattle.std.specs.Prelude.{◌≡◌, ◌<◌, ℕ, List, [], ◌∷◌, length}
 use Rattle.serde_json_path_core.specs.Tree.{Query, Segments, no_segments, segment, Selectors, no_selectors, selector, LogicalOr, no_or, or, LogicalAnd, no_and, and, Arguments, no_arguments, argument}
-use Rattle.serde_json_path_core.specs.Functions.{Signature}
+use Rattle.serde_json_path_functions.specs.Functions.{Signature}
 use Rattle.serde_json_path_core.specs.Used.{used_view}
 use Rattle.serde_json_path_core.specs.Piece.{Piece, a_segment, a_selector, an_and, a_basic, an_argument}
 use Rattle.serde_json_path_core.specs.Flat.{piece_at, query_at}

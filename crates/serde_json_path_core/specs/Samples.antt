@@ -1,7 +1,7 @@
 -- A function set of the tests: what its names mean, and that it keeps types.
 use Rattle.std.proofs.Common.{◌≡◌, ◌≤◌, ◌+◌, ◌&&◌, ℕ, List, [], ◌∷◌, length, map, Bool, true, false, Option, Some, None, bytes_eq, codes, if◌then◌else◌, refl, ap, ◌∙◌, subst, arith, slice_get}
 use Rattle.std.proofs.lemmas.Option.{same_Some}
-use Rattle.serde_json_path_core.specs.Functions.{Kind, of_value, of_nodes, of_logical, Signature, Term, value, nodes, logical, counted, kind_of_term, FunctionSet, KeepsTypes}
+use Rattle.serde_json_path_functions.specs.Functions.{Kind, of_value, of_nodes, of_logical, Signature, Term, value, nodes, logical, counted, kind_of_term, FunctionSet, KeepsTypes}
 
 abbrev pub sample_signature : List ℕ → Option Signature
 sample_signature name =

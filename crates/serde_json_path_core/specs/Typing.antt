@@ -2,7 +2,7 @@
 -- of a form that it takes, and stands where its result may stand.
 use Rattle.std.specs.Prelude.{◌≡◌, ℕ, ℤ, pos, ◌*ℤ◌, List, [], ◌∷◌, ◌⊎◌, Option, Some, option_map}
 use Rattle.serde_json_path_core.specs.Tree.{Query, query, Segments, no_segments, segment, Segment, dot_name, dot_wildcard, long_hand, Selectors, no_selectors, selector, Selector, name, wildcard, index, slice, filter, LogicalOr, no_or, or, LogicalAnd, no_and, and, Basic, paren, not_paren, relation, exist, not_exist, test, not_test, Comparable, literal, singular, called, Call, call, Arguments, no_arguments, argument, Argument, literal_argument, query_argument, call_argument, logical_argument, Literal, text, number, truth, null, IsSingular}
-use Rattle.serde_json_path_core.specs.Functions.{Kind, of_value, of_nodes, of_logical, Signature}
+use Rattle.serde_json_path_functions.specs.Functions.{Kind, of_value, of_nodes, of_logical, Signature}
 
 -- a literal that a parameter of type Value takes: by this project's own rule a number is whole
 abbrev pub IsValueLiteral : Literal → Type 0

@@ -1,7 +1,7 @@
 -- Trees that call no function: they are well-typed under each signature.
 use Rattle.std.specs.Prelude.{◌≢◌, ◌≤◌, ℕ, List, Option}
 use Rattle.serde_json_path_core.specs.Tree.{Query, Segments, Segment, Selectors, Selector, LogicalOr, LogicalAnd, Basic, Comparable, Call}
-use Rattle.serde_json_path_core.specs.Functions.{Signature}
+use Rattle.serde_json_path_functions.specs.Functions.{Signature}
 use Rattle.serde_json_path_core.specs.Typing.{IsTyped, AreTypedSegments, IsTypedSegment, AreTypedSelectors, IsTypedSelector, IsTypedOr, IsTypedAnd, IsTypedBasic, IsTypedComparable}
 use Rattle.serde_json_path_core.specs.Depth.{depth, segments_depth, segment_depth, selectors_depth, selector_depth, or_depth, and_depth, basic_depth, comparable_depth}
 use Rattle.serde_json_path_core.specs.Calls.{EachCall, EachInSegments, EachInSegment, EachInSelectors, EachInSelector, EachInOr, EachInAnd, EachInBasic, EachInComparable, name_of}

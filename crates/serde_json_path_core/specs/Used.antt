@@ -2,13 +2,13 @@
 use Rattle.std.specs.Prelude.{◌≡◌, ◌≢◌, ◌≤◌, ◌↔◌, ℕ, List, [], ◌∷◌, map, Option, Some, None, if◌then◌else◌, bytes_eq, string_bytes, String}
 use Rattle.std.specs.Global.{Global}
 use Rattle.serde_json_path_core.specs.Tree.{Query, root, kind_of}
-use Rattle.serde_json_path_core.specs.Functions.{Signature}
-use Rattle.serde_json_path_core.specs.Terms.{signature_view}
+use Rattle.serde_json_path_functions.specs.Functions.{Signature}
+use Rattle.serde_json_path_functions.specs.Terms.{signature_view}
 use Rattle.serde_json_path_core.specs.Derivation.{IsIn, IsInOrder}
 use Rattle.serde_json_path_core.specs.Typing.{IsTyped}
 use Rattle.serde_json_path_core.specs.Depth.{depth}
 use Rattle.serde_json_path_core.specs.Calls.{EachCall, name_of}
-use Rattle.serde_json_path_core.specs.declared.functions.signature.Signature as declared
+use Rattle.serde_json_path_functions.specs.declared.signature.Signature as declared
 
 -- the names and signatures of a list of both
 abbrev pub used_view : List (String Global × declared.Signature) → List (List ℕ × Signature)

@@ -4,7 +4,7 @@ use Rattle.serde_json.specs.Data.{Data}
 use Rattle.serde_json.specs.View.{view}
 use Rattle.serde_json_path_nodes.specs.Place.{Located}
 use Rattle.serde_json_path_core.specs.Tree.{Query, segments_of}
-use Rattle.serde_json_path_core.specs.Functions.{FunctionSet}
+use Rattle.serde_json_path_functions.specs.Functions.{FunctionSet}
 use Rattle.serde_json_path_core.specs.Parts.{tree_of}
 use Rattle.serde_json_path_core.specs.Places.{frames_of}
 use Rattle.serde_json_path_core.specs.Rest.{rest_of, stages, work}

@@ -4,7 +4,7 @@ ghost use Rattle.std.specs.Prelude.{◌≡◌, List};
 ghost use Rattle.serde_json.specs.Data.{Data};
 ghost use Rattle.serde_json_path_nodes.specs.Place.{Located};
 ghost use Rattle.serde_json_path_core.specs.Tree.{Query, segments_of};
-ghost use Rattle.serde_json_path_core.specs.Functions.{FunctionSet};
+ghost use Rattle.serde_json_path_functions.specs.Functions.{FunctionSet};
 ghost use Rattle.serde_json_path_core.specs.Derivation.{Triple, Before};
 ghost use Rattle.serde_json_path_core.specs.Meaning.{IsResult};
 ghost use Rattle.serde_json_path_core.specs.Laws.{SingularQuerySelectsAtMostOne, NotEqualNegatesEqual, LessOrEqualIsEither, DescendantsInDocumentOrder};

@@ -9,7 +9,7 @@ use Rattle.serde_json_path_nodes.specs.Views.{node_value}
 use Rattle.serde_json_path_core.specs.Tree.{child, descendant}
 use Rattle.serde_json_path_core.specs.Cursors.{cursor_left}
 use Rattle.serde_json_path_core.specs.Flat.{segment_kind_view, segment_in, segments_at, piece_at, piece_in, and_in, basic_in, or_at, ors_in, ands_in, call_at, part_query, pieces, pieces_named}
-use Rattle.serde_json_path_core.specs.Terms.{term_view}
+use Rattle.serde_json_path_functions.specs.Terms.{term_view}
 use Rattle.serde_json_path_core.specs.Calls.{StandsIn}
 use Rattle.serde_json_path_core.specs.Sound.{AreSoundSegments, IsSoundSegment, IsSoundSelector, IsSoundOr, IsSoundAnd, IsSoundBasic}
 use Rattle.serde_json_path_core.specs.Scopes.{Clear, nodes_of, query_of, set_of, top_of}

@@ -5,8 +5,8 @@ use Rattle.serde_json.specs.Data.{Data}
 use Rattle.serde_json.specs.View.{view}
 use Rattle.serde_json_path_nodes.specs.Place.{Step, Located}
 use Rattle.serde_json_path_nodes.specs.Views.{node_value}
-use Rattle.serde_json_path_core.specs.Functions.{kind_of_term}
-use Rattle.serde_json_path_core.specs.Terms.{kind_view, term_view}
+use Rattle.serde_json_path_functions.specs.Functions.{kind_of_term}
+use Rattle.serde_json_path_functions.specs.Terms.{kind_view, term_view}
 use Rattle.serde_json_path_core.specs.Calls.{arguments_of, name_of}
 use Rattle.serde_json_path_core.specs.Meaning.{params_of}
 use Rattle.serde_json_path_core.specs.Computed as computed

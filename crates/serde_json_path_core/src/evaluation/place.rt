@@ -13,18 +13,17 @@ ghost use Rattle.serde_json_path_core.specs.Rest.{candidates, opened, begun, IsI
 ghost use Rattle.serde_json_path_core.specs.Advances.{Advances, Chooses, ComesTo, IsDone};
 ghost use Rattle.serde_json_path_core.specs.Stages.{choice_view, stage_at, stages_at};
 ghost use Rattle.serde_json_path_core.specs.Places.{frame_of, task_view};
-ghost use Rattle.serde_json_path_core.specs.declared.error.QueryError.TheVariants.{Memory};
+ghost use Rattle.serde_json_path_functions.specs.declared.error.QueryError.TheVariants.{Memory};
 
 use crate::child::{Child, item, member};
-use crate::error::QueryError;
 use crate::evaluation::cursor::Cursor;
 use crate::evaluation::scope::Scope;
 use crate::filter::logic::is_true;
-use crate::functions::Functions;
 use crate::syntax::checked::Checked;
 use crate::syntax::choice::Choice;
 use crate::syntax::node::{Part, SegmentKind};
 use serde_json::Value;
+use serde_json_path_functions::{Functions, QueryError};
 use serde_json_path_nodes::PathElement;
 
 /// A value where the segment of that number is applied, with the step that led to it. Its cursor has what is left for

@@ -5,12 +5,11 @@ ghost use Rattle.serde_json_path_core.specs.Calls.{StandsIn};
 ghost use Rattle.serde_json_path_core.specs.Rest.{IsStack};
 ghost use Rattle.serde_json_path_core.specs.Places.{frames_of};
 
-use crate::error::QueryError;
 use crate::evaluation::place::Place;
 use crate::evaluation::scope::Scope;
 use crate::evaluation::stack::{drop_last, find_next, located_at};
-use crate::functions::Functions;
 use serde_json::Value;
+use serde_json_path_functions::{Functions, QueryError};
 use serde_json_path_nodes::LocatedNode;
 
 /// The nodes that a query selects, one at a time, in order.
@@ -33,7 +32,7 @@ impl<'q, 'b, F: Functions> Walk<'q, 'b, F> {
     ghost use Rattle.serde_json_path_core.specs.Calls.{EachCall, GoesWithoutPattern, IsClear};
     ghost use Rattle.serde_json_path_core.specs.Height.{height};
     ghost use Rattle.serde_json_path_core.specs.Walks.{query_of, set_of, document_of, beginning_of, rest, places_of, steps_of};
-    ghost use Rattle.serde_json_path_core.specs.declared.error.QueryError.TheVariants.{Memory};
+    ghost use Rattle.serde_json_path_functions.specs.declared.error.QueryError.TheVariants.{Memory};
 
     /// How many places the walk keeps: at most one more than the value where it began is high. Where it keeps none,
     /// nothing is still to come.

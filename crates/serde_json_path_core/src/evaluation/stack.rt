@@ -11,14 +11,13 @@ ghost use Rattle.serde_json_path_core.specs.Rest.{rest_of, stack_path, work, End
 ghost use Rattle.serde_json_path_core.specs.Flat.{segments_at};
 ghost use Rattle.serde_json_path_core.specs.Stages.{stages_at};
 ghost use Rattle.serde_json_path_core.specs.Places.{frames_of};
-ghost use Rattle.serde_json_path_core.specs.declared.error.QueryError.TheVariants.{Memory};
+ghost use Rattle.serde_json_path_functions.specs.declared.error.QueryError.TheVariants.{Memory};
 
-use crate::error::QueryError;
 use crate::evaluation::place::Place;
 use crate::evaluation::scope::Scope;
-use crate::functions::Functions;
 use crate::syntax::node::Part;
 use serde_json::Value;
+use serde_json_path_functions::{Functions, QueryError};
 use serde_json_path_nodes::{LocatedNode, NormalizedPath};
 use std::alloc::Global;
 

@@ -13,9 +13,8 @@ ghost use Rattle.serde_json_path_core.specs.Places.{frame_of};
 ghost use Rattle.serde_json_path_core.specs.Rest.{place_of};
 ghost use Rattle.serde_json_path_core.specs.Sound.{IsSound, IsSoundOr, IsSoundAnd, IsSoundBasic, IsSoundComparable};
 ghost use Rattle.serde_json_path_core.specs.Scopes.{Clear, Plain, nodes_of, query_of, set_of, top_of};
-ghost use Rattle.serde_json_path_core.specs.declared.error.QueryError.TheVariants.{Memory};
+ghost use Rattle.serde_json_path_functions.specs.declared.error.QueryError.TheVariants.{Memory};
 
-use crate::error::QueryError;
 use crate::evaluation::place::Place;
 use crate::evaluation::scope::Scope;
 use crate::evaluation::stack::{drop_last, find_next};
@@ -23,10 +22,10 @@ use crate::evaluation::start;
 use crate::filter::call::{answer, answers_yes, operand_of};
 use crate::filter::compare::compare;
 use crate::filter::operand::Operand;
-use crate::functions::{FunctionValue, Functions};
 use crate::syntax::literal::Literal;
 use crate::syntax::node::{Basic, Comparable, Node, Part};
 use serde_json::Value;
+use serde_json_path_functions::{FunctionValue, Functions, QueryError};
 
 /// Whether a logical expression holds where `@` is the value: whether some part of it does that is joined by `||`.
 #[cycle(evaluation)]

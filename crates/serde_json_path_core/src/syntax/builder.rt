@@ -2,7 +2,6 @@
 
 ghost use Rattle.serde_json_path_core.specs.Flat.{IsGrown};
 
-use crate::functions::Signature;
 use crate::syntax::checked::Checked;
 use crate::syntax::literal::Literal;
 use crate::syntax::node::{
@@ -11,6 +10,7 @@ use crate::syntax::node::{
 use crate::syntax::operator::ComparisonOperator;
 use crate::syntax::slice::Slice;
 use serde_json::Value;
+use serde_json_path_functions::Signature;
 use std::alloc::{AllocError, Global};
 
 /// Makes the parts of a syntax tree, each out of finished ones.

@@ -9,9 +9,9 @@ ghost use Rattle.serde_json_path_core.specs.Used.{deepest, signature_in, used_vi
 ghost use Rattle.serde_json_path_core.specs.Flat.{IsGrown, query_at};
 ghost use Rattle.serde_json_path_core.specs.Stages.{choice_view, stage_at};
 
-use crate::functions::{Functions, Signature};
 use crate::syntax::choice::Choice;
 use crate::syntax::node::{Node, Part, QueryKind, Segment, SegmentKind, Selector};
+use serde_json_path_functions::{Functions, Signature};
 use std::alloc::Global;
 
 /// A well-typed query from the document's root.
@@ -33,7 +33,7 @@ impl Checked {
     ghost use Rattle.std.specs.List.{All};
     ghost use Rattle.std.specs.Prelude.{◌↔◌, IsTrue};
     ghost use Rattle.serde_json_path_core.specs.Tree.{query, no_segments, segments_of};
-    ghost use Rattle.serde_json_path_core.specs.Functions.{Fits};
+    ghost use Rattle.serde_json_path_functions.specs.Functions.{Fits};
     ghost use Rattle.serde_json_path_core.specs.Calls.{arguments_of, name_of};
     ghost use Rattle.serde_json_path_core.specs.Used.{MayFinish};
     ghost use Rattle.serde_json_path_core.specs.Flat.{or_at, ors_in, and_at, ands_in, call_at, arguments_in, part_query, kind_view, segment_kind_view, query_in, selector_in, selectors_in, piece_at, piece_of, pieces, pieces_named, segments_at, NamesBelow};

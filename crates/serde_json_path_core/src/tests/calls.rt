@@ -2,22 +2,22 @@
 
 ghost use Rattle.std.specs.Prelude.{◌≡◌, [], ◌∷◌, map, IfOk, IsTrue};
 ghost use Rattle.serde_json_path_core.specs.Tree as tree;
-ghost use Rattle.serde_json_path_core.specs.Functions.{Fits};
+ghost use Rattle.serde_json_path_functions.specs.Functions.{Fits};
 ghost use Rattle.serde_json_path_core.specs.Samples.{sample_functions};
-ghost use Rattle.serde_json_path_core.specs.Terms.{kind_view, signature_view};
+ghost use Rattle.serde_json_path_functions.specs.Terms.{kind_view, signature_view};
 ghost use Rattle.serde_json_path_core.specs.Piece.{a_query, a_basic, a_comparable, a_call, an_or};
 ghost use Rattle.serde_json_path_core.specs.Parts.{IsPart, KeepsParts, signatures_of};
 ghost use Rattle.serde_json_path_core.specs.Uncalled.{IsUncalled, IsUncalledComparable};
 ghost use Rattle.serde_json_path_core.specs.Called.{IsCallOf, IsExpressionOf, IsTestOf};
 
 use crate::ComparisonOperator::{EqualTo, GreaterThan};
-use crate::functions::{Builtin, FunctionArgType, Functions, Signature};
 use crate::tests::samples::Samples;
 use crate::{
     Checked, ComparisonOperator, Literal, NumberLiteral, Part, QueryError, QueryKind, SegmentKind,
     SyntaxBuilder, evaluate_located, walk,
 };
 use serde_json::Value;
+use serde_json_path_functions::{Builtin, FunctionArgType, Functions, Signature};
 use serde_json_path_nodes::LocatedNodeList;
 use std::alloc::Global;
 use std::test::Fail;

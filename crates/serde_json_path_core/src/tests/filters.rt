@@ -1,10 +1,10 @@
 //! What filters select (RFC 9535, section 2.3.5).
 
-use crate::functions::Builtin;
 use crate::tests::building::printed_node;
 use crate::tests::written::filtered;
 use crate::{SegmentKind, evaluate_located, walk};
 use serde_json::Value;
+use serde_json_path_functions::Builtin;
 use std::alloc::Global;
 use std::test::Fail;
 

@@ -3,10 +3,10 @@
 ghost use Rattle.std.specs.Prelude.{◌≡◌, [], IfOk};
 ghost use Rattle.serde_json_path_core.specs.Parts.{signatures_of};
 
-use crate::functions::Builtin;
 use crate::tests::building::{printed, query_of};
 use crate::{Checked, QueryKind, SegmentKind, SyntaxBuilder, evaluate, evaluate_located};
 use serde_json::Value;
+use serde_json_path_functions::Builtin;
 use serde_json_path_nodes::NodeList;
 use std::alloc::Global;
 use std::test::Fail;

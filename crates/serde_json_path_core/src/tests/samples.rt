@@ -3,11 +3,11 @@
 ghost use Rattle.serde_json_path_core.specs.Samples.{sample_functions};
 
 use crate::QueryError;
-use crate::functions::FunctionArgType::{Logical, Nodelist};
-use crate::functions::{
+use serde_json::Value;
+use serde_json_path_functions::FunctionArgType::{Logical, Nodelist};
+use serde_json_path_functions::{
     FunctionArgType, FunctionValue, Functions, LogicalType, Signature, ValueType,
 };
-use serde_json::Value;
 use std::alloc::Global;
 
 /// `first` gives the value of the first node, `length` one more than there are nodes, `kids` its nodes, `both` whether

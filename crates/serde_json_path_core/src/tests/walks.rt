@@ -1,9 +1,9 @@
 //! Walks, one node at a time.
 
-use crate::functions::Builtin;
 use crate::tests::building::{printed_node, query_of};
 use crate::{Walk, walk};
 use serde_json::Value;
+use serde_json_path_functions::Builtin;
 use std::alloc::Global;
 use std::test::Fail;
 

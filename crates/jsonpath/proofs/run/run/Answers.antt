@@ -1,5 +1,5 @@
 use Rattle.std.proofs.Common.{Err, sym, ap, subst, ◌∙◌}
-use Rattle.serde_json_path_core.specs.Functions.{builtin_signature}
+use Rattle.serde_json_path_functions.specs.Functions.{builtin_signature}
 use Rattle.serde_json_path.specs.Parse.{IsParseOf}
 use Rattle.jsonpath.specs.Report.{IsReportOf}
 use Rattle.jsonpath.proofs.Runs.{one_word, whole_read, refused_path}

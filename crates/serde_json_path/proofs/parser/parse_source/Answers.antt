@@ -1,6 +1,6 @@
 use Rattle.std.proofs.Common.{◌≡◌, ◌-◌, ◌^◌, ◌<◌, length, sym, ap, subst, ◌∙◌, arith, false}
 use Rattle.serde_json_path_core.specs.Tree.{segments_of}
-use Rattle.serde_json_path_core.specs.Functions.{builtin_signature}
+use Rattle.serde_json_path_functions.specs.Functions.{builtin_signature}
 use Rattle.serde_json_path.specs.Giving.{Fails, IsRefused}
 use Rattle.serde_json_path.specs.Parsing.{path_at, opens_behind_root}
 use Rattle.serde_json_path.specs.Open.{AreOpenSegments}

@@ -3,9 +3,9 @@ use Rattle.std.proofs.lemmas.Result.{IfOk-weaker, IfErr-weaker}
 use Rattle.serde_json.specs.View.{view}
 use Rattle.serde_json_path_nodes.specs.Views.{located_nodes}
 use Rattle.serde_json_path_core.specs.Tree.{segments_of}
-use Rattle.serde_json_path_core.specs.Functions.{plain_functions}
+use Rattle.serde_json_path_functions.specs.Functions.{plain_functions}
 use Rattle.serde_json_path_core.specs.Calls.{GoesWithoutPattern, IsClearCall}
-use Rattle.serde_json_path_core.specs.declared.error.QueryError.TheVariants.{Memory}
+use Rattle.serde_json_path_functions.specs.declared.error.QueryError.TheVariants.{Memory}
 use Rattle.serde_json_path.specs.Paths.{path_tree}
 use Rattle.serde_json_path.proofs.OpenForms.{are_open, each_of_query, same_result}
 use Rattle.serde_json_path.proofs.path.JsonPath.query_located.Goals as goal

@@ -1,6 +1,6 @@
 use Rattle.std.proofs.Common.{[], refl}
 use Rattle.serde_json_path_core.specs.Tree as tree
-use Rattle.serde_json_path_core.specs.Terms.{signature_view}
+use Rattle.serde_json_path_functions.specs.Terms.{signature_view}
 use Rattle.serde_json_path_core.proofs.Written.{one_basic, one_and}
 use Rattle.serde_json_path_core.proofs.CalledTrees.{alone_of}
 use Rattle.serde_json_path_core.proofs.tests.calls.alone.Goals as goal

@@ -1,6 +1,6 @@
 use Rattle.std.proofs.Common.{List, [], refl, sym, subst}
 use Rattle.serde_json_path_core.specs.Tree as tree
-use Rattle.serde_json_path_core.specs.Terms.{signature_view}
+use Rattle.serde_json_path_functions.specs.Terms.{signature_view}
 use Rattle.serde_json_path_core.specs.Piece.{a_basic, an_and}
 use Rattle.serde_json_path_core.specs.Parts.{AreAndPartsOf, AreOrPartsOf}
 use Rattle.serde_json_path_core.specs.declared.syntax.node.Part.{Part}

@@ -1,7 +1,7 @@
 use Rattle.std.proofs.Common.{List, ℕ, string_bytes, sym, subst}
 use Rattle.serde_json_path_core.specs.Tree as tree
 use Rattle.serde_json_path_core.specs.Parts.{AreArgumentsOf}
-use Rattle.serde_json_path_core.specs.Terms.{signature_view}
+use Rattle.serde_json_path_functions.specs.Terms.{signature_view}
 use Rattle.serde_json_path_core.specs.Called.{IsCallOf}
 use Rattle.serde_json_path_core.specs.declared.syntax.node.Part.{Part}
 use Rattle.serde_json_path_core.proofs.CalledTrees.{call_of_query}

@@ -1,6 +1,6 @@
 use Rattle.std.proofs.Common.{sym, ap, ◌∙◌}
 use Rattle.serde_json_path_core.specs.Tree as tree
-use Rattle.serde_json_path_core.specs.Terms.{kind_view, signature_view}
+use Rattle.serde_json_path_functions.specs.Terms.{kind_view, signature_view}
 use Rattle.serde_json_path_core.specs.Piece.{a_comparable}
 use Rattle.serde_json_path_core.specs.Literals.{operator_view}
 use Rattle.serde_json_path_core.proofs.CalledTrees.{relation_of}

@@ -1,10 +1,10 @@
 use Rattle.std.proofs.Common.{◌≡◌, ℕ, List, [], ◌∷◌, string_bytes, String, refl, sym, ap, subst, ◌∙◌}
 use Rattle.std.specs.Global.{Global}
 use Rattle.serde_json_path_core.specs.Tree as tree
-use Rattle.serde_json_path_core.specs.Functions.{Signature}
-use Rattle.serde_json_path_core.specs.Terms.{signature_view}
+use Rattle.serde_json_path_functions.specs.Functions.{Signature}
+use Rattle.serde_json_path_functions.specs.Terms.{signature_view}
 use Rattle.serde_json_path_core.specs.Used.{used_view, MayFinish}
-use Rattle.serde_json_path_core.specs.declared.functions.signature.Signature as declared
+use Rattle.serde_json_path_functions.specs.declared.signature.Signature as declared
 use Rattle.serde_json_path_core.proofs.Written.{one_selector, one_segment}
 use Rattle.serde_json_path_core.proofs.CalledTrees.{filter_query_finishes}
 use Rattle.serde_json_path_core.proofs.tests.calls.filtered.Goals as goal

@@ -1,5 +1,5 @@
 use Rattle.std.proofs.Common.{sym, ◌∙◌}
-use Rattle.serde_json_path_core.proofs.SameSignatures.{all_decided}
+use Rattle.serde_json_path_functions.proofs.SameSignatures.{all_decided}
 use Rattle.serde_json_path_core.proofs.tests.calls.takes.Goals as goal
 
 pub returns : goal.returns

@@ -1,5 +1,5 @@
 use Rattle.std.specs.Prelude.{◌↔◌, drop}
-use Rattle.serde_json_path_core.specs.Functions.{Fits}
+use Rattle.serde_json_path_functions.specs.Functions.{Fits}
 use Rattle.serde_json_path_core.specs.Used.{used_view}
 use Rattle.serde_json_path_core.specs.Parts.{signatures_of}
 use Rattle.serde_json_path_core.proofs.syntax.checked.Checked.fits.Given as goal

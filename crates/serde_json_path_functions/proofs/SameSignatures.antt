@@ -1,0 +1,39 @@
+-- The test of two signatures tells whether they are one, and so does that of each signature that a query keeps.
+use Rattle.std.proofs.Common.{◌≡◌, List, [], ◌∷◌, drop, map, Bool, true, false, ◌&&◌, true≢false, Option, Some, None, IsTrue, refl, sym, ap, ◌∙◌}
+use Rattle.std.specs.Bool.{Decides}
+use Rattle.std.specs.Cmp.Lexicographic.{pointwise}
+use Rattle.std.proofs.lemmas.Bool.Decides.{Decides-and}
+use Rattle.std.proofs.lemmas.Option.{same_Some, none-some}
+use Rattle.serde_json_path_functions.specs.Functions.{Kind, of_value, of_nodes, of_logical, Signature, FunctionSet, Fits}
+use Rattle.serde_json_path_functions.specs.Terms.{kind_view}
+use Rattle.serde_json_path_functions.specs.declared.types.FunctionArgType.{FunctionArgType}
+use Rattle.serde_json_path_functions.specs.declared.types.FunctionArgType.TheVariants as kind
+use Rattle.serde_json_path_functions.specs.contracts.types.FunctionArgTypePartialEq.TheImpl.{eq-value}
+
+pub kinds_decided : (a b : FunctionArgType) → Decides (eq-value.it a b) (kind_view a ≡ kind_view b)
+kinds_decided kind.Value kind.Value = (λ e. refl, λ e. refl)
+kinds_decided kind.Value kind.Nodelist = (λ e. absurd (true≢false (sym e)), λ e. absurd cc)
+kinds_decided kind.Value kind.Logical = (λ e. absurd (true≢false (sym e)), λ e. absurd cc)
+kinds_decided kind.Nodelist kind.Value = (λ e. absurd (true≢false (sym e)), λ e. absurd cc)
+kinds_decided kind.Nodelist kind.Nodelist = (λ e. refl, λ e. refl)
+kinds_decided kind.Nodelist kind.Logical = (λ e. absurd (true≢false (sym e)), λ e. absurd cc)
+kinds_decided kind.Logical kind.Value = (λ e. absurd (true≢false (sym e)), λ e. absurd cc)
+kinds_decided kind.Logical kind.Nodelist = (λ e. absurd (true≢false (sym e)), λ e. absurd cc)
+kinds_decided kind.Logical kind.Logical = (λ e. refl, λ e. refl)
+
+same_list : (a b : Kind) (xs ys : List Kind) (s r : Bool) → Decides s (a ≡ b) → Decides r (xs ≡ ys) → Decides (s && r) ((a ∷ xs) ≡ (b ∷ ys))
+same_list a b xs ys s r d e =
+    let both = Decides-and s r d e in
+    (λ t i. let h = both.0 t in h.0 i ∷ h.1 i, λ f. both.1 (let g : a ≡ b = cc in g, let g : xs ≡ ys = cc in g))
+
+pub all_decided : (ks ls : List FunctionArgType) → Decides (pointwise eq-value.it ks ls) (map kind_view ks ≡ map kind_view ls)
+all_decided [] [] = (λ e. refl, λ e. refl)
+all_decided [] (l ∷ ls) = (λ e. absurd (true≢false (sym e)), λ e. absurd cc)
+all_decided (k ∷ ks) [] = (λ e. absurd (true≢false (sym e)), λ e. absurd cc)
+all_decided (k ∷ ks) (l ∷ ls) = same_list (kind_view k) (kind_view l) (map kind_view ks) (map kind_view ls) (eq-value.it k l) (pointwise eq-value.it ks ls) (kinds_decided k l) (all_decided ks ls)
+
+-- two signatures are one where their parameters and their results are
+pub signature_decided : (s t : Signature) (p q : Bool) → Decides p (s.params ≡ t.params) → Decides q (s.result ≡ t.result) → Decides (p && q) (s ≡ t)
+signature_decided s t p q d e =
+    let both = Decides-and p q d e in
+    (λ h i. let k = both.0 h in record { params = k.0 i; result = k.1 i }, λ f. both.1 (ap (λ (u : Signature). u.params) f, ap (λ (u : Signature). u.result) f))

@@ -1,0 +1,5 @@
+pub mod Functions
+pub mod BuiltinTypes
+pub mod Patterns
+pub mod Terms
+pub mod Errors

@@ -1,0 +1,63 @@
+//! Sets of functions.
+
+ghost use Rattle.std.specs.Prelude.{◌≡◌, IfOk, IsSome, Err, map, option_map};
+ghost use Rattle.serde_json_path_functions.specs.Functions.{FunctionSet, Takes, Gives, KeepsTypes};
+ghost use Rattle.serde_json_path_functions.specs.Patterns.{IsPromised};
+ghost use Rattle.serde_json_path_functions.specs.Terms.{term_view, signature_view};
+ghost use Rattle.serde_json_path_functions.specs.declared.error.QueryError.TheVariants.{Pattern};
+
+use crate::error::QueryError;
+use crate::signature::Signature;
+use crate::types::FunctionValue;
+use std::alloc::Global;
+
+/// A set of functions, which filters call by name (RFC 9535, section 2.4).
+///
+/// What the set declares and what its names mean is stated once, and does not change. A call's Ok is the stated meaning
+/// of the name at the arguments. For a name that stands for the built-in `match` or `search` this is promised only where
+/// the text that is built of the pattern is not nested deeper than `regex` takes.
+pub trait Functions {
+    /// The set that contracts see.
+    ghost set: { Self → FunctionSet };
+
+    /// Meanings have the declared types.
+    ghost typed: { (functions : Self) → KeepsTypes (set functions) };
+
+    /// The signature of a name, or `None` for a name that the set does not declare.
+    fn signature(&self, name: &str) -> Option<Signature>
+        ensures { option_map signature_view result ≡ (set self.now).signature name.now };
+
+    /// The answer of a declared name to arguments of the declared types.
+    ///
+    /// `Pattern` may be answered by a name that stands for the built-in `match` or `search` alone, `Memory` by each.
+    fn call<'b>(
+        &self,
+        alloc: Global,
+        name: &str,
+        args: Vec<FunctionValue<'b>>,
+    ) -> Result<FunctionValue<'b>, QueryError>
+        requires { Takes ((set self.now).signature name.now) (map term_view args.items) }
+        ensures means { IfOk result (λ answer. IsPromised ((set self.now).by_regex name.now) (map term_view args.entry.items)
+            → term_view answer ≡ (set self.now).meaning name.now (map term_view args.entry.items)) }
+        ensures typed_answer { IfOk result (λ answer. Gives ((set self.now).signature name.now) (term_view answer)) }
+        ensures pattern { result ≡ Err Pattern → IsSome ((set self.now).by_regex name.now) };
+}
+
+impl<F: Functions> Functions for &F {
+    ghost set = { λ functions. F.set functions.now };
+
+    ghost typed = { λ functions. F.typed functions.now };
+
+    fn signature(&self, name: &str) -> Option<Signature> {
+        (**self).signature(name)
+    }
+
+    fn call<'b>(
+        &self,
+        alloc: Global,
+        name: &str,
+        args: Vec<FunctionValue<'b>>,
+    ) -> Result<FunctionValue<'b>, QueryError> {
+        (**self).call(alloc, name, args)
+    }
+}
