@@ -9,7 +9,7 @@ use Rattle.serde_json_path_core.specs.Calls.{EachInSelectors}
 use Rattle.serde_json_path_core.specs.Piece.{Piece}
 use Rattle.serde_json_path_core.specs.Flat.{piece_in, pieces_named, segment_in, segments_in, and_in, ors_in, basic_in, ands_in}
 use Rattle.serde_json_path_core.specs.Rest.{selectors_list, selectors_of}
-use Rattle.serde_json_path_core.specs.Sound.{Stands, IsSound, AreSoundSegments, IsSoundSegment, IsSoundSelector, IsSoundOr, IsSoundAnd, IsSoundBasic}
+use Rattle.serde_json_path_core.specs.Sound.{IsSoundPart, IsSound, AreSoundSegments, IsSoundSegment, IsSoundSelector, IsSoundOr, IsSoundAnd, IsSoundBasic}
 use Rattle.serde_json_path_core.specs.declared.syntax.node.Part.{Part}
 
 module _ (F : FunctionSet) (top : Data) (q : Query) where
@@ -37,7 +37,7 @@ module _ (F : FunctionSet) (top : Data) (q : Query) where
   sound-basic ps (p ∷ parts) (suc i) d h s = sound-basic ps parts i d (omega (arith, h)) (s.0.1, λ c. (s.1 c).1, λ c. (s.2 c).1)
 
   sound-bracketed : (sels : Selectors) (n : ℕ) (sel : Selector) → slice_get (selectors_list sels) n ≡ Some sel
-      → Stands F top q (AreTypedSelectors F.signature sels) (λ Fact. EachInSelectors Fact sels) → IsSoundSelector F top q sel
+      → IsSoundPart F top q (AreTypedSelectors F.signature sels) (λ Fact. EachInSelectors Fact sels) → IsSoundSelector F top q sel
   sound-bracketed no_selectors n sel e h = absurd (none-some sel e)
   sound-bracketed (selector first more) zero sel e h = subst (IsSoundSelector F top q) (same_Some first sel e) (h.0.0, λ c. (h.1 c).0, λ c. (h.2 c).0)
   sound-bracketed (selector first more) (suc n) sel e h = sound-bracketed more n sel e (h.0.1, λ c. (h.1 c).1, λ c. (h.2 c).1)

@@ -8,7 +8,7 @@ use Rattle.serde_json_path_nodes.specs.Place.{Step, child_at, at}
 use Rattle.serde_json_path_core.specs.Tree.{QueryKind, root, current, Query, query}
 use Rattle.serde_json_path_core.specs.Derivation.{IsIn, start_of}
 use Rattle.serde_json_path_core.specs.Calls.{StandsIn}
-use Rattle.serde_json_path_core.specs.Rest.{Frame, place_of, stages, EndsIn, IsOfValue, IsChain, IsStack, IsStackIn, IsInside, StandIn}
+use Rattle.serde_json_path_core.specs.Rest.{Frame, place_of, stages, EndsIn, IsOfValue, IsChain, IsStack, IsStackIn, IsInside, AllStandIn}
 use Rattle.serde_json_path_core.proofs.Chains.{stack-started}
 use Rattle.serde_json_path_core.proofs.Derived.{at-append}
 use Rattle.serde_json_path_core.proofs.InLists.{in_append}
@@ -36,7 +36,7 @@ is_in-all P (y ∷ ys) x (inl e) all = subst P (sym e) all.0
 is_in-all P (y ∷ ys) x (inr h) all = is_in-all P ys x h all.1
 
 -- what is left at a place
-pub left_stands : (top : Data) (p : Frame) → ∥ IsInside top p ∥₁ → StandIn top p.left
+pub left_stands : (top : Data) (p : Frame) → ∥ IsInside top p ∥₁ → AllStandIn top p.left
 left_stands top p h = λ c i.
     ∥∥₁_elim h ∥∥₁_prop (λ inside.
     child_stands top p.value c.0 c.1
@@ -52,7 +52,7 @@ stack-inside top start [] p stands h = (subst (StandsIn top) (sym h.1) stands, h
 stack-inside top start (q ∷ qs) p stands h = chain-inside top q.value qs p (subst (StandsIn top) (sym h.1) stands) h.3
 
 -- what is left of children that stand there
-pub ends-stand : (top : Data) (xs ys : List (Step × Data)) → EndsIn xs ys → StandIn top xs → StandIn top ys
+pub ends-stand : (top : Data) (xs ys : List (Step × Data)) → EndsIn xs ys → AllStandIn top xs → AllStandIn top ys
 ends-stand top xs ys ends h = λ c i. h c (subst (IsIn c) (sym ends.1) ((in_append c ends.0 ys).1 (inr i)))
 
 -- the place of a walk that begins

@@ -170,8 +170,8 @@ abbrev pub IsStackIn : Data → List Frame → Type 0
 IsStackIn top ps = (start : Data) × StandsIn top start × IsStack start ps
 
 -- the children stand in the document
-abbrev pub StandIn : Data → List (Step × Data) → Type 0
-StandIn top cs = (c : Step × Data) → IsIn c cs → StandsIn top c.1
+abbrev pub AllStandIn : Data → List (Step × Data) → Type 0
+AllStandIn top cs = (c : Step × Data) → IsIn c cs → StandsIn top c.1
 
 -- the value stands in the document, and what is left at the place are children of it
 abbrev pub IsInside : Data → Frame → Type 0

@@ -30,5 +30,5 @@ abbrev pub Clear : {F : Type 0} {g : _} → Scope F g → Type 0
 Clear scope = IsClear (set_of scope) (query_of scope) (top_of scope)
 
 -- no call of the query goes by `regex`
-abbrev pub Plain : {F : Type 0} {g : _} → Scope F g → Type 0
-Plain scope = EachCall (GoesWithoutPattern (set_of scope)) (query_of scope)
+abbrev pub WithoutPatterns : {F : Type 0} {g : _} → Scope F g → Type 0
+WithoutPatterns scope = EachCall (GoesWithoutPattern (set_of scope)) (query_of scope)

@@ -9,39 +9,39 @@ use Rattle.serde_json_path_core.specs.Calls.{EachCall, EachInSegments, EachInSeg
 
 module _ (F : FunctionSet) (top : Data) (q : Query) where
   -- the part is well-typed, and its calls are those of the query
-  abbrev pub Stands : Type 0 → ((Call → Type 0) → Type 0) → Type 0
-  Stands typed each = typed × (IsClear F q top → each (IsClearCall F top)) × (EachCall (GoesWithoutPattern F) q → each (GoesWithoutPattern F))
+  abbrev pub IsSoundPart : Type 0 → ((Call → Type 0) → Type 0) → Type 0
+  IsSoundPart typed each = typed × (IsClear F q top → each (IsClearCall F top)) × (EachCall (GoesWithoutPattern F) q → each (GoesWithoutPattern F))
 
   abbrev pub IsSound : Query → Type 0
-  IsSound p = Stands (IsTyped F.signature p) (λ Fact. EachCall Fact p)
+  IsSound p = IsSoundPart (IsTyped F.signature p) (λ Fact. EachCall Fact p)
 
   abbrev pub AreSoundSegments : Segments → Type 0
-  AreSoundSegments segs = Stands (AreTypedSegments F.signature segs) (λ Fact. EachInSegments Fact segs)
+  AreSoundSegments segs = IsSoundPart (AreTypedSegments F.signature segs) (λ Fact. EachInSegments Fact segs)
 
   abbrev pub IsSoundSegment : Segment → Type 0
-  IsSoundSegment seg = Stands (IsTypedSegment F.signature seg) (λ Fact. EachInSegment Fact seg)
+  IsSoundSegment seg = IsSoundPart (IsTypedSegment F.signature seg) (λ Fact. EachInSegment Fact seg)
 
   abbrev pub IsSoundSelector : Selector → Type 0
-  IsSoundSelector sel = Stands (IsTypedSelector F.signature sel) (λ Fact. EachInSelector Fact sel)
+  IsSoundSelector sel = IsSoundPart (IsTypedSelector F.signature sel) (λ Fact. EachInSelector Fact sel)
 
   abbrev pub IsSoundOr : LogicalOr → Type 0
-  IsSoundOr e = Stands (IsTypedOr F.signature e) (λ Fact. EachInOr Fact e)
+  IsSoundOr e = IsSoundPart (IsTypedOr F.signature e) (λ Fact. EachInOr Fact e)
 
   abbrev pub IsSoundAnd : LogicalAnd → Type 0
-  IsSoundAnd e = Stands (IsTypedAnd F.signature e) (λ Fact. EachInAnd Fact e)
+  IsSoundAnd e = IsSoundPart (IsTypedAnd F.signature e) (λ Fact. EachInAnd Fact e)
 
   abbrev pub IsSoundBasic : Basic → Type 0
-  IsSoundBasic b = Stands (IsTypedBasic F.signature b) (λ Fact. EachInBasic Fact b)
+  IsSoundBasic b = IsSoundPart (IsTypedBasic F.signature b) (λ Fact. EachInBasic Fact b)
 
   abbrev pub IsSoundComparable : Comparable → Type 0
-  IsSoundComparable c = Stands (IsTypedComparable F.signature c) (λ Fact. EachInComparable Fact c)
+  IsSoundComparable c = IsSoundPart (IsTypedComparable F.signature c) (λ Fact. EachInComparable Fact c)
 
   abbrev pub IsSoundCall : Call → Type 0
-  IsSoundCall c = Stands (IsTypedCall F.signature c) (λ Fact. EachFrom Fact c)
+  IsSoundCall c = IsSoundPart (IsTypedCall F.signature c) (λ Fact. EachFrom Fact c)
 
   -- the arguments, and one of them, as parameters of these types take them
   abbrev pub AreSoundArguments : List Kind → Arguments → Type 0
-  AreSoundArguments kinds args = Stands (AreTypedArguments F.signature args kinds) (λ Fact. EachInArguments Fact args)
+  AreSoundArguments kinds args = IsSoundPart (AreTypedArguments F.signature args kinds) (λ Fact. EachInArguments Fact args)
 
   abbrev pub IsSoundArgument : Kind → Argument → Type 0
-  IsSoundArgument kind a = Stands (IsTypedArgument F.signature a kind) (λ Fact. EachInArgument Fact a)
+  IsSoundArgument kind a = IsSoundPart (IsTypedArgument F.signature a kind) (λ Fact. EachInArgument Fact a)

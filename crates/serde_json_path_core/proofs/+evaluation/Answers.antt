@@ -14,7 +14,7 @@ use Rattle.serde_json_path_core.specs.Calls.{StandsIn}
 use Rattle.serde_json_path_core.specs.Sound.{AreSoundSegments, IsSoundSegment, IsSoundSelector, IsSoundOr, IsSoundAnd, IsSoundBasic}
 use Rattle.serde_json_path_core.specs.Scopes.{Clear, nodes_of, query_of, set_of, top_of}
 use Rattle.serde_json_path_core.specs.Places.{frame_of, frames_of, task_view}
-use Rattle.serde_json_path_core.specs.Rest.{rest_of, IsStack, IsStackIn, IsInside, StandIn}
+use Rattle.serde_json_path_core.specs.Rest.{rest_of, IsStack, IsStackIn, IsInside, AllStandIn}
 use Rattle.serde_json_path_core.specs.Advances.{Advances, IsDone, ComesTo}
 use Rattle.serde_json_path_core.specs.Stages.{choice_view, stage_at, stages_at}
 use Rattle.serde_json_path_core.specs.Views.{child_view}
@@ -47,7 +47,7 @@ evaluation::place::Place::advance-give-requires g t c =
     let sound : IsSoundSelector (set_of scope) (top_of scope) (query_of scope) sel =
     sound-selector (set_of scope) (top_of scope) (query_of scope) (segment_in (piece_at (nodes_of scope) c.args.segment.number)) c.loop-choice.self.selector sel
     (sym (ap (option_map (choice_view (nodes_of scope))) (sym c.in-Some.is) ∙ c.choice.ensures.choice)) c.requires.sound in
-    let inside : StandIn (top_of scope) (cursor_left c.loop-choice.self.cursor) =
+    let inside : AllStandIn (top_of scope) (cursor_left c.loop-choice.self.cursor) =
     left_stands (top_of scope) (frame_of c.loop-choice.self) (∥∥₁_map c.requires.inside (λ h. (subst (StandsIn (top_of scope)) (sym same.1) h.0, same.3 h.1))) in
     search rules
 
@@ -293,11 +293,11 @@ filter::logic::first-find_next-requires g t c =
     let scope = c.args.scope.now in
     let q = part_query (nodes_of scope) c.args.query in
     let segments = c.part_segments-segments.result.now in
-    let items = ap frames_of (c.in_ok-push.ensures.items ∙ ap (λ places. places ++ c.begun.result ∷ []) c.new-places.ensures.items) in
+    let items = ap frames_of (c.in_ok-push.ensures.items ∙ ap (λ places. places ++ c.first_place.result ∷ []) c.new-places.ensures.items) in
     let sound : AreSoundSegments (set_of scope) (top_of scope) (query_of scope) (segments_at (nodes_of scope) segments) =
     sound-segments (set_of scope) (top_of scope) (query_of scope) q (segments_at (nodes_of scope) segments) c.part_segments-segments.ensures.tree c.requires.sound in
     let inside : ∥ IsStackIn (top_of scope) (frames_of c.push.new.self.items) ∥₁ =
-    ∣ begun-inside (top_of scope) q (view c.args.value.now) (frames_of c.push.new.self.items) (frame_of c.begun.result) c.requires.inside items c.begun.ensures ∣₁ in
+    ∣ begun-inside (top_of scope) q (view c.args.value.now) (frames_of c.push.new.self.items) (frame_of c.first_place.result) c.requires.inside items c.first_place.ensures ∣₁ in
     search rules
 
 pub filter::logic::first-returns-clause-means : goal.filter::logic::first-returns-clause-means
@@ -306,9 +306,9 @@ filter::logic::first-returns-clause-means g t c =
     let q = part_query (nodes_of scope) c.args.query in
     let here = view c.args.value.now in
     let segments = c.part_segments-segments.result.now in
-    let items = ap frames_of (c.in_ok-push.ensures.items ∙ ap (λ places. places ++ c.begun.result ∷ []) c.new-places.ensures.items) in
-    let begins = begun-results (set_of scope) (top_of scope) q here (segments_at (nodes_of scope) segments) (frames_of c.push.new.self.items) (frame_of c.begun.result)
-    c.part_segments-segments.ensures.tree items c.begun.ensures in
+    let items = ap frames_of (c.in_ok-push.ensures.items ∙ ap (λ places. places ++ c.first_place.result ∷ []) c.new-places.ensures.items) in
+    let begins = begun-results (set_of scope) (top_of scope) q here (segments_at (nodes_of scope) segments) (frames_of c.push.new.self.items) (frame_of c.first_place.result)
+    c.part_segments-segments.ensures.tree items c.first_place.ensures in
     first-found (Clear scope) (set_of scope) (top_of scope) (stages_at (nodes_of scope) segments) c.find_next.new.places.items c.find_next.result (computed.results (set_of scope) (top_of scope) q here)
     (λ clear. sym (c.find_next.ensures.rest clear) ∙ begins) c.find_next.ensures.found
 
@@ -357,13 +357,13 @@ filter::logic::all_values-values-init g t c =
     let here = view c.args.value.now in
     let segments = c.part_segments-segments.result.now in
     let frames = frames_of c.push.new.self.items in
-    let items = ap frames_of (c.in_ok-push.ensures.items ∙ ap (λ places. places ++ c.begun.result ∷ []) c.new-places.ensures.items) in
-    let begins = begun-results (set_of scope) (top_of scope) q here (segments_at (nodes_of scope) segments) frames (frame_of c.begun.result) c.part_segments-segments.ensures.tree items c.begun.ensures in
+    let items = ap frames_of (c.in_ok-push.ensures.items ∙ ap (λ places. places ++ c.first_place.result ∷ []) c.new-places.ensures.items) in
+    let begins = begun-results (set_of scope) (top_of scope) q here (segments_at (nodes_of scope) segments) frames (frame_of c.first_place.result) c.part_segments-segments.ensures.tree items c.first_place.ensures in
     let values = map (λ (n : Located). n.value) in
     record {
       values = λ clear.
           ap values (sym begins) ∙ ap (λ found. map node_value found ++ values (rest_of (set_of scope) (top_of scope) (stages_at (nodes_of scope) segments) frames)) (sym c.new-found.ensures.items);
-      inside = ∣ begun-inside (top_of scope) q here frames (frame_of c.begun.result) c.requires.inside items c.begun.ensures ∣₁;
+      inside = ∣ begun-inside (top_of scope) q here frames (frame_of c.first_place.result) c.requires.inside items c.first_place.ensures ∣₁;
     }
 
 pub filter::logic::all_values-values-smaller : goal.filter::logic::all_values-values-smaller

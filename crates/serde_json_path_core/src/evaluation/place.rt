@@ -6,10 +6,10 @@ ghost use Rattle.serde_json_path_core.specs.Tree.{filter};
 ghost use Rattle.serde_json_path_core.specs.Flat.{or_at, piece_at, segment_in};
 ghost use Rattle.serde_json_path_core.specs.PartBounds.{parts_bound, choice_bound};
 ghost use Rattle.serde_json_path_core.specs.Sound.{IsSoundOr, IsSoundSegment, IsSoundSelector};
-ghost use Rattle.serde_json_path_core.specs.Scopes.{Clear, Plain, nodes_of, query_of, set_of, top_of};
+ghost use Rattle.serde_json_path_core.specs.Scopes.{Clear, WithoutPatterns, nodes_of, query_of, set_of, top_of};
 ghost use Rattle.serde_json_path_core.specs.Cursors.{cursor_left};
 ghost use Rattle.serde_json_path_core.specs.Views.{child_view};
-ghost use Rattle.serde_json_path_core.specs.Rest.{candidates, opened, begun, IsInside, StandIn};
+ghost use Rattle.serde_json_path_core.specs.Rest.{candidates, opened, begun, IsInside, AllStandIn};
 ghost use Rattle.serde_json_path_core.specs.Advances.{Advances, Chooses, ComesTo, IsDone};
 ghost use Rattle.serde_json_path_core.specs.Stages.{choice_view, stage_at, stages_at};
 ghost use Rattle.serde_json_path_core.specs.Places.{frame_of, task_view};
@@ -159,7 +159,7 @@ impl<'b> Place<'b> {
         requires inside { ∥ IsInside (top_of scope.now) (frame_of self.old) ∥₁ }
         ensures advances { IfOk result (λ found.
             Advances (Clear scope.now) (set_of scope.now) (top_of scope.now) (stage_at (nodes_of scope.now) segment) (frame_of self.old) (option_map task_view found) (frame_of self.new)) }
-        ensures refused { IfErr result (λ e. Plain scope.now → e ≡ Memory) }
+        ensures refused { IfErr result (λ e. WithoutPatterns scope.now → e ≡ Memory) }
     {
         while let Some(choice) = scope.query.choice(segment, self.selector) {
             match give(scope, choice, &mut self.cursor)? {
@@ -201,7 +201,7 @@ impl<'b> Place<'b> {
         ensures ahead { IfOk result (λ ahead. MatchOption ahead
             (IsDone (Clear scope.now) (set_of scope.now) (top_of scope.now) (stage_at (nodes_of scope.now) segment) (frame_of self.now))
             (λ a. ComesTo (Clear scope.now) (set_of scope.now) (top_of scope.now) (stage_at (nodes_of scope.now) segment) (frame_of self.now) (task_view a.task) (frame_of a.place))) }
-        ensures refused { IfErr result (λ e. Plain scope.now → e ≡ Memory) }
+        ensures refused { IfErr result (λ e. WithoutPatterns scope.now → e ≡ Memory) }
     {
         let mut place = self.try_clone()?;
         match place.advance(scope, segment)? {
@@ -220,10 +220,10 @@ fn give<'b, F: Functions>(
 ) -> Result<Option<Child<'b>>, QueryError>
     requires below { choice_bound choice ≤ length (nodes_of scope.now) }
     requires sound { IsSoundSelector (set_of scope.now) (top_of scope.now) (query_of scope.now) (choice_view (nodes_of scope.now) choice) }
-    requires inside { StandIn (top_of scope.now) (cursor_left cursor.old) }
+    requires inside { AllStandIn (top_of scope.now) (cursor_left cursor.old) }
     ensures chooses { IfOk result (λ found.
         Chooses (Clear scope.now) (set_of scope.now) (top_of scope.now) (choice_view (nodes_of scope.now) choice.entry) (cursor_left cursor.old) (option_map child_view found) (cursor_left cursor.new)) }
-    ensures refused { IfErr result (λ e. Plain scope.now → e ≡ Memory) }
+    ensures refused { IfErr result (λ e. WithoutPatterns scope.now → e ≡ Memory) }
 {
     match choice {
         Choice::Filter(test) => give_true(scope, test, cursor),
@@ -242,10 +242,10 @@ fn give_true<'b, F: Functions>(
 ) -> Result<Option<Child<'b>>, QueryError>
     requires below { test.number < length (nodes_of scope.now) }
     requires sound { IsSoundOr (set_of scope.now) (top_of scope.now) (query_of scope.now) (or_at (nodes_of scope.now) test) }
-    requires inside { StandIn (top_of scope.now) (cursor_left cursor.old) }
+    requires inside { AllStandIn (top_of scope.now) (cursor_left cursor.old) }
     ensures chooses { IfOk result (λ found.
         Chooses (Clear scope.now) (set_of scope.now) (top_of scope.now) (filter (or_at (nodes_of scope.now) test)) (cursor_left cursor.old) (option_map child_view found) (cursor_left cursor.new)) }
-    ensures refused { IfErr result (λ e. Plain scope.now → e ≡ Memory) }
+    ensures refused { IfErr result (λ e. WithoutPatterns scope.now → e ≡ Memory) }
 {
     while let Some(child) = cursor.advance() {
         if is_true(scope, test, child.value)? {

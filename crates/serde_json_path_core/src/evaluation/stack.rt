@@ -6,7 +6,7 @@ ghost use Rattle.serde_json.specs.View.{view};
 ghost use Rattle.serde_json_path_nodes.specs.Views.{located};
 ghost use Rattle.serde_json_path_core.specs.PartBounds.{parts_bound};
 ghost use Rattle.serde_json_path_core.specs.Sound.{AreSoundSegments};
-ghost use Rattle.serde_json_path_core.specs.Scopes.{Clear, Plain, nodes_of, query_of, set_of, top_of};
+ghost use Rattle.serde_json_path_core.specs.Scopes.{Clear, WithoutPatterns, nodes_of, query_of, set_of, top_of};
 ghost use Rattle.serde_json_path_core.specs.Rest.{rest_of, stack_path, work, EndsAt, IsStack, IsStackIn};
 ghost use Rattle.serde_json_path_core.specs.Flat.{segments_at};
 ghost use Rattle.serde_json_path_core.specs.Stages.{stages_at};
@@ -81,7 +81,7 @@ pub(crate) fn find_next<'b, F: Functions>(
     ensures found { IfOk result (λ found. MatchOption found (places.new.items ≡ [])
         (λ value. EndsAt (stages_at (nodes_of scope.now) segments.now) (frames_of places.new.items) (view value.now))) }
     ensures stack { (start : Data) → IsStack start (frames_of places.old.items) → IsStack start (frames_of places.new.items) }
-    ensures refused { IfErr result (λ e. Plain scope.now → e ≡ Memory) }
+    ensures refused { IfErr result (λ e. WithoutPatterns scope.now → e ≡ Memory) }
 {
     while let Some(last) = places.last() {
         match segments.get(last.segment) {

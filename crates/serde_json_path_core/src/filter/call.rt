@@ -10,7 +10,7 @@ ghost use Rattle.serde_json_path_core.specs.Calls.{StandsIn};
 ghost use Rattle.serde_json_path_core.specs.Computed as computed;
 ghost use Rattle.serde_json_path_core.specs.Flat.{argument_at, call_at, part_query};
 ghost use Rattle.serde_json_path_core.specs.Sound.{IsSound, IsSoundArgument, IsSoundCall};
-ghost use Rattle.serde_json_path_core.specs.Scopes.{Clear, Plain, nodes_of, query_of, set_of, top_of};
+ghost use Rattle.serde_json_path_core.specs.Scopes.{Clear, WithoutPatterns, nodes_of, query_of, set_of, top_of};
 ghost use Rattle.serde_json_path_functions.specs.declared.error.QueryError.TheVariants.{Memory};
 
 use crate::evaluation::scope::Scope;
@@ -70,7 +70,7 @@ pub(crate) fn answer<'x, 'q: 'x, 'b: 'x, F: Functions>(
     requires inside { StandsIn (top_of scope.now) (view value.now) }
     ensures kind { IfOk result (λ answer. Some (kind_of_term (term_view answer)) ≡ result_kind (set_of scope.now).signature (call_at (nodes_of scope.now) call)) }
     ensures means { IfOk result (λ answer. Clear scope.now → term_view answer ≡ computed.answer (set_of scope.now) (top_of scope.now) (call_at (nodes_of scope.now) call) (view value.now)) }
-    ensures refused { IfErr result (λ e. Plain scope.now → e ≡ Memory) }
+    ensures refused { IfErr result (λ e. WithoutPatterns scope.now → e ≡ Memory) }
 {
     let name = scope.query.called_name(call);
     let signature = match scope.functions.signature(name) {
@@ -103,7 +103,7 @@ fn argument_as<'x, 'q: 'x, 'b: 'x, F: Functions>(
     requires inside { StandsIn (top_of scope.now) (view value.now) }
     ensures kind { IfOk result (λ term. kind_of_term (term_view term) ≡ kind_view kind) }
     ensures means { IfOk result (λ term. Clear scope.now → term_view term ≡ computed.argument_as (set_of scope.now) (top_of scope.now) (argument_at (nodes_of scope.now) argument) (kind_view kind) (view value.now)) }
-    ensures refused { IfErr result (λ e. Plain scope.now → e ≡ Memory) }
+    ensures refused { IfErr result (λ e. WithoutPatterns scope.now → e ≡ Memory) }
 {
     match scope.query.node(argument) {
         Node::Argument(argument) => match argument {
@@ -139,7 +139,7 @@ fn result_as<'x, 'q: 'x, 'b: 'x, F: Functions>(
     requires inside { StandsIn (top_of scope.now) (view value.now) }
     ensures kind { IfOk result (λ term. kind_of_term (term_view term) ≡ kind_view kind) }
     ensures means { IfOk result (λ term. Clear scope.now → term_view term ≡ computed.result_as (kind_view kind) (computed.results (set_of scope.now) (top_of scope.now) (part_query (nodes_of scope.now) query) (view value.now))) }
-    ensures refused { IfErr result (λ e. Plain scope.now → e ≡ Memory) }
+    ensures refused { IfErr result (λ e. WithoutPatterns scope.now → e ≡ Memory) }
 {
     match kind {
         FunctionArgType::Value => match first(scope, query, value)? {

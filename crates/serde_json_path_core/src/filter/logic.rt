@@ -12,7 +12,7 @@ ghost use Rattle.serde_json_path_core.specs.Operands.{operand_view};
 ghost use Rattle.serde_json_path_core.specs.Places.{frame_of};
 ghost use Rattle.serde_json_path_core.specs.Rest.{place_of};
 ghost use Rattle.serde_json_path_core.specs.Sound.{IsSound, IsSoundOr, IsSoundAnd, IsSoundBasic, IsSoundComparable};
-ghost use Rattle.serde_json_path_core.specs.Scopes.{Clear, Plain, nodes_of, query_of, set_of, top_of};
+ghost use Rattle.serde_json_path_core.specs.Scopes.{Clear, WithoutPatterns, nodes_of, query_of, set_of, top_of};
 ghost use Rattle.serde_json_path_functions.specs.declared.error.QueryError.TheVariants.{Memory};
 
 use crate::evaluation::place::Place;
@@ -38,7 +38,7 @@ pub(crate) fn is_true<'b, F: Functions>(
     requires sound { IsSoundOr (set_of scope.now) (top_of scope.now) (query_of scope.now) (or_at (nodes_of scope.now) expression) }
     requires inside { StandsIn (top_of scope.now) (view value.now) }
     ensures means { IfOk result (λ holds. Clear scope.now → holds ≡ computed.is_true (set_of scope.now) (top_of scope.now) (or_at (nodes_of scope.now) expression) (view value.now)) }
-    ensures refused { IfErr result (λ e. Plain scope.now → e ≡ Memory) }
+    ensures refused { IfErr result (λ e. WithoutPatterns scope.now → e ≡ Memory) }
 {
     for part in scope.query.or_parts(expression) {
         if all_true(scope, *part, value)? {
@@ -59,7 +59,7 @@ fn all_true<'b, F: Functions>(
     requires sound { IsSoundAnd (set_of scope.now) (top_of scope.now) (query_of scope.now) (and_at (nodes_of scope.now) expression) }
     requires inside { StandsIn (top_of scope.now) (view value.now) }
     ensures means { IfOk result (λ holds. Clear scope.now → holds ≡ computed.all_true (set_of scope.now) (top_of scope.now) (and_at (nodes_of scope.now) expression) (view value.now)) }
-    ensures refused { IfErr result (λ e. Plain scope.now → e ≡ Memory) }
+    ensures refused { IfErr result (λ e. WithoutPatterns scope.now → e ≡ Memory) }
 {
     for part in scope.query.and_parts(expression) {
         if !basic_true(scope, *part, value)? {
@@ -80,7 +80,7 @@ fn basic_true<'b, F: Functions>(
     requires sound { IsSoundBasic (set_of scope.now) (top_of scope.now) (query_of scope.now) (basic_at (nodes_of scope.now) expression) }
     requires inside { StandsIn (top_of scope.now) (view value.now) }
     ensures means { IfOk result (λ holds. Clear scope.now → holds ≡ computed.basic_true (set_of scope.now) (top_of scope.now) (basic_at (nodes_of scope.now) expression) (view value.now)) }
-    ensures refused { IfErr result (λ e. Plain scope.now → e ≡ Memory) }
+    ensures refused { IfErr result (λ e. WithoutPatterns scope.now → e ≡ Memory) }
 {
     match scope.query.node(expression) {
         Node::Basic(basic) => match basic {
@@ -121,7 +121,7 @@ fn compared<'x, 'q: 'x, 'b: 'x, F: Functions>(
     requires sound { IsSoundComparable (set_of scope.now) (top_of scope.now) (query_of scope.now) (comparable_at (nodes_of scope.now) comparable) }
     requires inside { StandsIn (top_of scope.now) (view value.now) }
     ensures means { IfOk result (λ operand. Clear scope.now → Some (operand_view operand) ≡ computed.compared (set_of scope.now) (top_of scope.now) (comparable_at (nodes_of scope.now) comparable) (view value.now)) }
-    ensures refused { IfErr result (λ e. Plain scope.now → e ≡ Memory) }
+    ensures refused { IfErr result (λ e. WithoutPatterns scope.now → e ≡ Memory) }
 {
     match scope.query.node(comparable) {
         Node::Comparable(comparable) => match comparable {
@@ -146,7 +146,11 @@ fn compared<'x, 'q: 'x, 'b: 'x, F: Functions>(
 }
 
 /// The place where a query begins.
-fn begun<'b, F: Functions>(scope: &Scope<'_, 'b, F>, query: Part, value: &'b Value) -> Place<'b>
+fn first_place<'b, F: Functions>(
+    scope: &Scope<'_, 'b, F>,
+    query: Part,
+    value: &'b Value,
+) -> Place<'b>
     requires { query.number < length (nodes_of scope.now) }
     ensures { frame_of result ≡ place_of (top_of scope.now) (part_query (nodes_of scope.now) query) (view value.now) }
 {
@@ -165,11 +169,11 @@ pub(crate) fn first<'b, F: Functions>(
     requires sound { IsSound (set_of scope.now) (top_of scope.now) (query_of scope.now) (part_query (nodes_of scope.now) query) }
     requires inside { StandsIn (top_of scope.now) (view value.now) }
     ensures means { IfOk result (λ found. Clear scope.now → option_map node_value found ≡ first_value (computed.results (set_of scope.now) (top_of scope.now) (part_query (nodes_of scope.now) query) (view value.now))) }
-    ensures refused { IfErr result (λ e. Plain scope.now → e ≡ Memory) }
+    ensures refused { IfErr result (λ e. WithoutPatterns scope.now → e ≡ Memory) }
 {
     let segments = scope.query.part_segments(query);
     let mut places = Vec::new(scope.alloc);
-    places.push(begun(scope, query, value))?;
+    places.push(first_place(scope, query, value))?;
     find_next(scope, segments, &mut places)
 }
 
@@ -184,11 +188,11 @@ pub(crate) fn all_values<'x, 'q: 'x, 'b: 'x, F: Functions>(
     requires sound { IsSound (set_of scope.now) (top_of scope.now) (query_of scope.now) (part_query (nodes_of scope.now) query) }
     requires inside { StandsIn (top_of scope.now) (view value.now) }
     ensures means { IfOk result (λ found. Clear scope.now → map node_value found.items ≡ map (λ (n : Located). n.value) (computed.results (set_of scope.now) (top_of scope.now) (part_query (nodes_of scope.now) query) (view value.now))) }
-    ensures refused { IfErr result (λ e. Plain scope.now → e ≡ Memory) }
+    ensures refused { IfErr result (λ e. WithoutPatterns scope.now → e ≡ Memory) }
 {
     let segments = scope.query.part_segments(query);
     let mut places = Vec::new(scope.alloc);
-    places.push(begun(scope, query, value))?;
+    places.push(first_place(scope, query, value))?;
     let mut found: Vec<&'x Value> = Vec::new(scope.alloc);
     'values: while let Some(node) = find_next(scope, segments, &mut places)? {
         drop_last(&mut places);

@@ -5,7 +5,7 @@ use Rattle.serde_json_path_core.specs.Flat.{part_query, segments_at}
 use Rattle.serde_json_path_core.specs.Places.{frame_of}
 use Rattle.serde_json_path_core.specs.Scopes.{nodes_of, top_of}
 use Rattle.serde_json_path_core.proofs.Started.{begun-place}
-use Rattle.serde_json_path_core.proofs.filter.logic.begun.Goals as goal
+use Rattle.serde_json_path_core.proofs.filter.logic.first_place.Goals as goal
 
 pub returns : goal.returns
 returns g c =
