@@ -6,7 +6,7 @@ use Rattle.serde_json_path_functions.specs.Functions.{of_value, of_nodes, Signat
 use Rattle.serde_json_path_core.specs.Typing.{AreTypedArguments, result_kind}
 use Rattle.serde_json_path_core.specs.Calls.{EachInOr, name_of}
 use Rattle.serde_json_path_core.specs.Used.{signature_in, Calls, MayFinish}
-use Rattle.serde_json_path_core.specs.Uncalled.{IsUncalled, IsUncalledComparable}
+use Rattle.serde_json_path_core.specs.CallFree.{IsCallFree, IsCallFreeComparable}
 use Rattle.serde_json_path_core.specs.Called.{IsCallOf, IsTestOf, IsExpressionOf}
 
 module _ (f : List ℕ) (s : Signature) where
@@ -18,7 +18,7 @@ module _ (f : List ℕ) (s : Signature) where
   result_of (call g args) e =
       ap (λ h. option_map (λ (t : Signature). t.result) (signature_in ((f, s) ∷ []) h)) e ∙ ap (option_map (λ (t : Signature). t.result)) signature_of
 
-  pub call_of_query : (q : Query) → s.params ≡ of_nodes ∷ [] → IsUncalled 0 q → IsCallOf f s (call f (argument (query_argument q) no_arguments))
+  pub call_of_query : (q : Query) → s.params ≡ of_nodes ∷ [] → IsCallFree 0 q → IsCallOf f s (call f (argument (query_argument q) no_arguments))
   call_of_query q e u = (
     (s, signature_of, subst (AreTypedArguments (signature_in ((f, s) ∷ [])) (argument (query_argument q) no_arguments)) (sym e) (u.0 (signature_in ((f, s) ∷ [])), refl)),
     refl,
@@ -28,7 +28,7 @@ module _ (f : List ℕ) (s : Signature) where
   pub call_of_nothing : s.params ≡ [] → IsCallOf f s (call f no_arguments)
   call_of_nothing e = ((s, signature_of, e), refl, (λ h. h.0 refl, λ g other. (other, tt), omega arith))
 
-  pub relation_of : (c : Call) (op : Operator) (a : Comparable) → s.result ≡ of_value → IsCallOf f s c → IsUncalledComparable 0 a → IsTestOf f s (relation (called c) op a)
+  pub relation_of : (c : Call) (op : Operator) (a : Comparable) → s.result ≡ of_value → IsCallOf f s c → IsCallFreeComparable 0 a → IsTestOf f s (relation (called c) op a)
   relation_of c op a e is u = (
     ((is.0, result_of c is.1 ∙ ap Some e), u.0 (signature_in ((f, s) ∷ []))),
     (λ h. is.2.0 h.0, λ g other. (is.2.1 g other, u.1 g), omega (arith, is.2.2, u.2)),
@@ -38,13 +38,13 @@ module _ (f : List ℕ) (s : Signature) where
   alone_of b is = (((is.0, tt), tt), (λ h. is.1.0 h.0.0, λ g other. ((is.1.1 g other, tt), tt), omega (arith, is.1.2)))
 
   -- behind a query that is asked for, joined by `&&` or by `||`
-  pub and_of : (q : Query) (b : Basic) → IsUncalled 0 q → IsTestOf f s b → IsExpressionOf f s (or (and (exist q) (and b no_and)) no_or)
+  pub and_of : (q : Query) (b : Basic) → IsCallFree 0 q → IsTestOf f s b → IsExpressionOf f s (or (and (exist q) (and b no_and)) no_or)
   and_of q b u is = (
     ((u.0 (signature_in ((f, s) ∷ [])), (is.0, tt)), tt),
     (λ h. is.1.0 h.0.1.0, λ g other. ((u.1 g, (is.1.1 g other, tt)), tt), omega (arith, is.1.2, u.2)),
   )
 
-  pub or_of : (q : Query) (b : Basic) → IsUncalled 0 q → IsTestOf f s b → IsExpressionOf f s (or (and (exist q) no_and) (or (and b no_and) no_or))
+  pub or_of : (q : Query) (b : Basic) → IsCallFree 0 q → IsTestOf f s b → IsExpressionOf f s (or (and (exist q) no_and) (or (and b no_and) no_or))
   or_of q b u is = (
     ((u.0 (signature_in ((f, s) ∷ [])), tt), ((is.0, tt), tt)),
     (λ h. is.1.0 h.1.0.0, λ g other. ((u.1 g, tt), ((is.1.1 g other, tt), tt)), omega (arith, is.1.2, u.2)),

@@ -5,12 +5,12 @@ use Rattle.std.specs.Global.{Global}
 use Rattle.serde_json_path_core.specs.Tree as tree
 use Rattle.serde_json_path_core.specs.Piece.{a_segment, a_selector, an_and, a_basic}
 use Rattle.serde_json_path_core.specs.Parts.{IsPart, ArePartsFor, ArePartsOf, AreSelectorsOf, AreOrPartsOf, AreAndPartsOf, KeepsParts, or_pieces, and_pieces}
-use Rattle.serde_json_path_core.specs.Uncalled.{AreUncalledSegments, IsUncalledSegment, AreUncalledSelectors, IsUncalledSelector, IsUncalledOr, IsUncalledAnd, IsUncalledBasic, IsUncalledComparable}
+use Rattle.serde_json_path_core.specs.CallFree.{AreCallFreeSegments, IsCallFreeSegment, AreCallFreeSelectors, IsCallFreeSelector, IsCallFreeOr, IsCallFreeAnd, IsCallFreeBasic, IsCallFreeComparable}
 use Rattle.serde_json_path_core.specs.Used.{MayFinish, used_view, deepest}
 use Rattle.serde_json_path_functions.specs.declared.signature.Signature as declared
 use Rattle.serde_json_path_core.specs.declared.syntax.node.Part.{Part}
 use Rattle.serde_json_path_core.specs.declared.syntax.builder.SyntaxBuilder.{SyntaxBuilder}
-use Rattle.serde_json_path_core.proofs.Finished.{uncalled_finished}
+use Rattle.serde_json_path_core.proofs.Finished.{call_free_finished}
 
 pub one_selector : (builder : SyntaxBuilder) (xs : List Part) (part : Part) (sel : tree.Selector)
     → xs ≡ part ∷ [] → IsPart builder part (a_selector sel) → AreSelectorsOf builder xs (tree.selector sel tree.no_selectors)
@@ -37,59 +37,59 @@ one_and builder xs part a e is =
 
 -- ---- what is made of trees that call nothing calls nothing
 
-pub uncalled_selectors : (deep : ℕ) (sel : tree.Selector) (more : tree.Selectors) → IsUncalledSelector deep sel → AreUncalledSelectors deep more
-    → AreUncalledSelectors deep (tree.selector sel more)
-uncalled_selectors deep sel more h also = (λ s. (h.0 s, also.0 s), λ f. (h.1 f, also.1 f), (let one = h.2 in let others = also.2 in omega arith))
+pub call_free_selectors : (deep : ℕ) (sel : tree.Selector) (more : tree.Selectors) → IsCallFreeSelector deep sel → AreCallFreeSelectors deep more
+    → AreCallFreeSelectors deep (tree.selector sel more)
+call_free_selectors deep sel more h also = (λ s. (h.0 s, also.0 s), λ f. (h.1 f, also.1 f), (let one = h.2 in let others = also.2 in omega arith))
 
-pub uncalled_segments : (deep : ℕ) (kind : tree.SegmentKind) (seg : tree.Segment) (more : tree.Segments) → IsUncalledSegment deep seg → AreUncalledSegments deep more
-    → AreUncalledSegments deep (tree.segment kind seg more)
-uncalled_segments deep kind seg more h also = (λ s. (h.0 s, also.0 s), λ f. (h.1 f, also.1 f), (let one = h.2 in let others = also.2 in omega arith))
+pub call_free_segments : (deep : ℕ) (kind : tree.SegmentKind) (seg : tree.Segment) (more : tree.Segments) → IsCallFreeSegment deep seg → AreCallFreeSegments deep more
+    → AreCallFreeSegments deep (tree.segment kind seg more)
+call_free_segments deep kind seg more h also = (λ s. (h.0 s, also.0 s), λ f. (h.1 f, also.1 f), (let one = h.2 in let others = also.2 in omega arith))
 
-pub uncalled_and : (deep : ℕ) (b : tree.Basic) (more : tree.LogicalAnd) → IsUncalledBasic deep b → IsUncalledAnd deep more → IsUncalledAnd deep (tree.and b more)
-uncalled_and deep b more h also = (λ s. (h.0 s, also.0 s), λ f. (h.1 f, also.1 f), (let one = h.2 in let others = also.2 in omega arith))
+pub call_free_and : (deep : ℕ) (b : tree.Basic) (more : tree.LogicalAnd) → IsCallFreeBasic deep b → IsCallFreeAnd deep more → IsCallFreeAnd deep (tree.and b more)
+call_free_and deep b more h also = (λ s. (h.0 s, also.0 s), λ f. (h.1 f, also.1 f), (let one = h.2 in let others = also.2 in omega arith))
 
-pub uncalled_or : (deep : ℕ) (a : tree.LogicalAnd) (more : tree.LogicalOr) → IsUncalledAnd deep a → IsUncalledOr deep more → IsUncalledOr deep (tree.or a more)
-uncalled_or deep a more h also = (λ s. (h.0 s, also.0 s), λ f. (h.1 f, also.1 f), (let one = h.2 in let others = also.2 in omega arith))
+pub call_free_or : (deep : ℕ) (a : tree.LogicalAnd) (more : tree.LogicalOr) → IsCallFreeAnd deep a → IsCallFreeOr deep more → IsCallFreeOr deep (tree.or a more)
+call_free_or deep a more h also = (λ s. (h.0 s, also.0 s), λ f. (h.1 f, also.1 f), (let one = h.2 in let others = also.2 in omega arith))
 
-pub uncalled_relation : (deep : ℕ) (a b : tree.Comparable) (operator : tree.Operator) → IsUncalledComparable deep a → IsUncalledComparable deep b
-    → IsUncalledBasic deep (tree.relation a operator b)
-uncalled_relation deep a b operator h also = (λ s. (h.0 s, also.0 s), λ f. (h.1 f, also.1 f), (let one = h.2 in let other = also.2 in omega arith))
+pub call_free_relation : (deep : ℕ) (a b : tree.Comparable) (operator : tree.Operator) → IsCallFreeComparable deep a → IsCallFreeComparable deep b
+    → IsCallFreeBasic deep (tree.relation a operator b)
+call_free_relation deep a b operator h also = (λ s. (h.0 s, also.0 s), λ f. (h.1 f, also.1 f), (let one = h.2 in let other = also.2 in omega arith))
 
 -- parentheses or a filter around an expression
-pub uncalled_paren : (deep : ℕ) (e : tree.LogicalOr) → IsUncalledOr deep e → IsUncalledBasic (deep + 1) (tree.paren e)
-uncalled_paren deep e h = (h.0, h.1, (let inner = h.2 in omega arith))
+pub call_free_paren : (deep : ℕ) (e : tree.LogicalOr) → IsCallFreeOr deep e → IsCallFreeBasic (deep + 1) (tree.paren e)
+call_free_paren deep e h = (h.0, h.1, (let inner = h.2 in omega arith))
 
-pub uncalled_not_paren : (deep : ℕ) (e : tree.LogicalOr) → IsUncalledOr deep e → IsUncalledBasic (deep + 1) (tree.not_paren e)
-uncalled_not_paren deep e h = (h.0, h.1, (let inner = h.2 in omega arith))
+pub call_free_not_paren : (deep : ℕ) (e : tree.LogicalOr) → IsCallFreeOr deep e → IsCallFreeBasic (deep + 1) (tree.not_paren e)
+call_free_not_paren deep e h = (h.0, h.1, (let inner = h.2 in omega arith))
 
-pub uncalled_filter : (deep : ℕ) (e : tree.LogicalOr) → IsUncalledOr deep e → IsUncalledSelector (deep + 1) (tree.filter e)
-uncalled_filter deep e h = (h.0, h.1, (let inner = h.2 in omega arith))
+pub call_free_filter : (deep : ℕ) (e : tree.LogicalOr) → IsCallFreeOr deep e → IsCallFreeSelector (deep + 1) (tree.filter e)
+call_free_filter deep e h = (h.0, h.1, (let inner = h.2 in omega arith))
 
 -- ---- one part more
 
 pub basics_push : (old new : SyntaxBuilder) (deep : ℕ) (parts : List Part) (e : tree.LogicalAnd) (part : Part) (b : tree.Basic)
-    → KeepsParts old new → ArePartsFor old parts (and_pieces e) → IsUncalledAnd deep e → IsPart new part (a_basic b) → IsUncalledBasic deep b
-    → (all : tree.LogicalAnd) × ArePartsFor new (parts ++ part ∷ []) (and_pieces all) × IsUncalledAnd deep all
-basics_push old new deep [] tree.no_and part b keeps h none is uncalled = (tree.and b tree.no_and, (is, tt), uncalled_and deep b tree.no_and uncalled none)
-basics_push old new deep [] (tree.and c more) part b keeps h none is uncalled = absurd h
-basics_push old new deep (p ∷ parts) tree.no_and part b keeps h none is uncalled = absurd h
-basics_push old new deep (p ∷ parts) (tree.and c more) part b keeps h none is uncalled =
-    let first : IsUncalledBasic deep c = (λ s. (none.0 s).0, λ f. (none.1 f).0, (let both = none.2 in omega arith)) in
-    let others : IsUncalledAnd deep more = (λ s. (none.0 s).1, λ f. (none.1 f).1, (let both = none.2 in omega arith)) in
-    let rest = basics_push old new deep parts more part b keeps h.1 others is uncalled in
-    (tree.and c rest.0, (keeps p (a_basic c) h.0, rest.1), uncalled_and deep c rest.0 first rest.2)
+    → KeepsParts old new → ArePartsFor old parts (and_pieces e) → IsCallFreeAnd deep e → IsPart new part (a_basic b) → IsCallFreeBasic deep b
+    → (all : tree.LogicalAnd) × ArePartsFor new (parts ++ part ∷ []) (and_pieces all) × IsCallFreeAnd deep all
+basics_push old new deep [] tree.no_and part b keeps h none is call_free = (tree.and b tree.no_and, (is, tt), call_free_and deep b tree.no_and call_free none)
+basics_push old new deep [] (tree.and c more) part b keeps h none is call_free = absurd h
+basics_push old new deep (p ∷ parts) tree.no_and part b keeps h none is call_free = absurd h
+basics_push old new deep (p ∷ parts) (tree.and c more) part b keeps h none is call_free =
+    let first : IsCallFreeBasic deep c = (λ s. (none.0 s).0, λ f. (none.1 f).0, (let both = none.2 in omega arith)) in
+    let others : IsCallFreeAnd deep more = (λ s. (none.0 s).1, λ f. (none.1 f).1, (let both = none.2 in omega arith)) in
+    let rest = basics_push old new deep parts more part b keeps h.1 others is call_free in
+    (tree.and c rest.0, (keeps p (a_basic c) h.0, rest.1), call_free_and deep c rest.0 first rest.2)
 
 pub ands_push : (old new : SyntaxBuilder) (deep : ℕ) (parts : List Part) (e : tree.LogicalOr) (part : Part) (a : tree.LogicalAnd)
-    → KeepsParts old new → ArePartsFor old parts (or_pieces e) → IsUncalledOr deep e → IsPart new part (an_and a) → IsUncalledAnd deep a
-    → (all : tree.LogicalOr) × ArePartsFor new (parts ++ part ∷ []) (or_pieces all) × IsUncalledOr deep all
-ands_push old new deep [] tree.no_or part a keeps h none is uncalled = (tree.or a tree.no_or, (is, tt), uncalled_or deep a tree.no_or uncalled none)
-ands_push old new deep [] (tree.or c more) part a keeps h none is uncalled = absurd h
-ands_push old new deep (p ∷ parts) tree.no_or part a keeps h none is uncalled = absurd h
-ands_push old new deep (p ∷ parts) (tree.or c more) part a keeps h none is uncalled =
-    let first : IsUncalledAnd deep c = (λ s. (none.0 s).0, λ f. (none.1 f).0, (let both = none.2 in omega arith)) in
-    let others : IsUncalledOr deep more = (λ s. (none.0 s).1, λ f. (none.1 f).1, (let both = none.2 in omega arith)) in
-    let rest = ands_push old new deep parts more part a keeps h.1 others is uncalled in
-    (tree.or c rest.0, (keeps p (an_and c) h.0, rest.1), uncalled_or deep c rest.0 first rest.2)
+    → KeepsParts old new → ArePartsFor old parts (or_pieces e) → IsCallFreeOr deep e → IsPart new part (an_and a) → IsCallFreeAnd deep a
+    → (all : tree.LogicalOr) × ArePartsFor new (parts ++ part ∷ []) (or_pieces all) × IsCallFreeOr deep all
+ands_push old new deep [] tree.no_or part a keeps h none is call_free = (tree.or a tree.no_or, (is, tt), call_free_or deep a tree.no_or call_free none)
+ands_push old new deep [] (tree.or c more) part a keeps h none is call_free = absurd h
+ands_push old new deep (p ∷ parts) tree.no_or part a keeps h none is call_free = absurd h
+ands_push old new deep (p ∷ parts) (tree.or c more) part a keeps h none is call_free =
+    let first : IsCallFreeAnd deep c = (λ s. (none.0 s).0, λ f. (none.1 f).0, (let both = none.2 in omega arith)) in
+    let others : IsCallFreeOr deep more = (λ s. (none.0 s).1, λ f. (none.1 f).1, (let both = none.2 in omega arith)) in
+    let rest = ands_push old new deep parts more part a keeps h.1 others is call_free in
+    (tree.or c rest.0, (keeps p (an_and c) h.0, rest.1), call_free_or deep c rest.0 first rest.2)
 
 -- where there is a part, they are those of an expression
 pub some_basics : (builder : SyntaxBuilder) (parts : List Part) (e : tree.LogicalAnd) → 0 < length parts → ArePartsFor builder parts (and_pieces e) → AreAndPartsOf builder parts e
@@ -101,7 +101,7 @@ some_ands builder [] e some h = omega (arith, some)
 some_ands builder (p ∷ parts) e some h = h
 
 -- a query that calls nothing may be finished without signatures
-pub finished_without_calls : (used : List (String Global × declared.Signature)) (deep : ℕ) (segs : tree.Segments) → used ≡ [] → deep ≤ deepest → AreUncalledSegments deep segs
+pub finished_without_calls : (used : List (String Global × declared.Signature)) (deep : ℕ) (segs : tree.Segments) → used ≡ [] → deep ≤ deepest → AreCallFreeSegments deep segs
     → MayFinish (used_view used) (tree.query tree.root segs)
 finished_without_calls used deep segs none le h =
-    subst (λ (us : List (String Global × declared.Signature)). MayFinish (used_view us) (tree.query tree.root segs)) (sym none) (uncalled_finished deep segs le h)
+    subst (λ (us : List (String Global × declared.Signature)). MayFinish (used_view us) (tree.query tree.root segs)) (sym none) (call_free_finished deep segs le h)

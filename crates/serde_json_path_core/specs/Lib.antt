@@ -8,7 +8,7 @@ pub mod Depth
 pub mod WellFormed
 pub mod Calls
 pub mod Used
-pub mod Uncalled
+pub mod CallFree
 pub mod Samples
 pub mod Called
 pub mod Text

@@ -5,7 +5,7 @@ ghost use Rattle.serde_json_path_core.specs.Tree as tree;
 ghost use Rattle.serde_json_path_core.specs.Piece.{a_segment, a_selector};
 ghost use Rattle.serde_json_path_core.specs.WellFormed.{IsOptionalInteger};
 ghost use Rattle.serde_json_path_core.specs.Parts.{AreSelectorsOf, IsPart, KeepsParts, signatures_of};
-ghost use Rattle.serde_json_path_core.specs.Uncalled.{AreUncalledSelectors, IsUncalledSegment, IsUncalledSelector};
+ghost use Rattle.serde_json_path_core.specs.CallFree.{AreCallFreeSelectors, IsCallFreeSegment, IsCallFreeSelector};
 
 use crate::{Checked, Part, QueryKind, SegmentKind, Slice, SyntaxBuilder};
 use serde_json_path_nodes::{LocatedNode, LocatedNodeList};
@@ -51,7 +51,7 @@ fn slice(text: &str) -> Result<Slice, Fail>
 
 /// The part of one selector: `*`, a name in single quotes, a slice or an index.
 fn selector_of(alloc: Global, builder: &mut SyntaxBuilder, text: &str) -> Result<Part, Fail>
-    ensures made { IfOk result (λ part. (sel : tree.Selector) × IsPart builder.new part (a_selector sel) × IsUncalledSelector 0 sel) }
+    ensures made { IfOk result (λ part. (sel : tree.Selector) × IsPart builder.new part (a_selector sel) × IsCallFreeSelector 0 sel) }
     ensures keeps { KeepsParts builder.old builder.new }
 {
     if text == "*" {
@@ -71,7 +71,7 @@ fn selector_of(alloc: Global, builder: &mut SyntaxBuilder, text: &str) -> Result
 
 /// The parts of selectors with commas between them.
 fn selectors_of(alloc: Global, builder: &mut SyntaxBuilder, text: &str) -> Result<Vec<Part>, Fail>
-    ensures made { IfOk result (λ parts. (sels : tree.Selectors) × AreSelectorsOf builder.new parts.items sels × AreUncalledSelectors 0 sels) }
+    ensures made { IfOk result (λ parts. (sels : tree.Selectors) × AreSelectorsOf builder.new parts.items sels × AreCallFreeSelectors 0 sels) }
     ensures keeps { KeepsParts builder.old builder.new }
 {
     let mut parts = Vec::new(alloc);
@@ -87,7 +87,7 @@ fn selectors_of(alloc: Global, builder: &mut SyntaxBuilder, text: &str) -> Resul
 
 /// The part of one segment: a name or `*` behind one dot or two, or a bracket, also behind two dots.
 fn segment_of(alloc: Global, builder: &mut SyntaxBuilder, text: &str) -> Result<Part, Fail>
-    ensures made { IfOk result (λ part. (kind : tree.SegmentKind) × (seg : tree.Segment) × IsPart builder.new part (a_segment kind seg) × IsUncalledSegment 0 seg) }
+    ensures made { IfOk result (λ part. (kind : tree.SegmentKind) × (seg : tree.Segment) × IsPart builder.new part (a_segment kind seg) × IsCallFreeSegment 0 seg) }
     ensures keeps { KeepsParts builder.old builder.new }
 {
     let kind = if text.starts_with("..") {

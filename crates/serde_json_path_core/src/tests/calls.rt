@@ -7,7 +7,7 @@ ghost use Rattle.serde_json_path_core.specs.Samples.{sample_functions};
 ghost use Rattle.serde_json_path_functions.specs.Terms.{kind_view, signature_view};
 ghost use Rattle.serde_json_path_core.specs.Piece.{a_query, a_basic, a_comparable, a_call, an_or};
 ghost use Rattle.serde_json_path_core.specs.Parts.{IsPart, KeepsParts, signatures_of};
-ghost use Rattle.serde_json_path_core.specs.Uncalled.{IsUncalled, IsUncalledComparable};
+ghost use Rattle.serde_json_path_core.specs.CallFree.{IsCallFree, IsCallFreeComparable};
 ghost use Rattle.serde_json_path_core.specs.Called.{IsCallOf, IsExpressionOf, IsTestOf};
 
 use crate::ComparisonOperator::{EqualTo, GreaterThan};
@@ -37,7 +37,7 @@ enum Asked<'t> {
 
 /// The part of a query.
 fn query_of(alloc: Global, builder: &mut SyntaxBuilder, asked: Asked) -> Result<Part, Fail>
-    ensures made { IfOk result (λ part. (q : tree.Query) × IsPart builder.new part (a_query q) × IsUncalled 0 q) }
+    ensures made { IfOk result (λ part. (q : tree.Query) × IsPart builder.new part (a_query q) × IsCallFree 0 q) }
     ensures keeps { IfOk result (λ part. KeepsParts builder.old builder.new) }
 {
     match asked {
@@ -110,7 +110,7 @@ fn call_of_none(
 
 /// A whole number as a side of a comparison.
 fn number_of(builder: &mut SyntaxBuilder, number: i8) -> Result<Part, Fail>
-    ensures made { IfOk result (λ part. (a : tree.Comparable) × IsPart builder.new part (a_comparable a) × IsUncalledComparable 0 a) }
+    ensures made { IfOk result (λ part. (a : tree.Comparable) × IsPart builder.new part (a_comparable a) × IsCallFreeComparable 0 a) }
     ensures keeps { IfOk result (λ part. KeepsParts builder.old builder.new) }
 {
     let number = NumberLiteral::from_billionths(number as i128 * 1_000_000_000);
@@ -119,7 +119,7 @@ fn number_of(builder: &mut SyntaxBuilder, number: i8) -> Result<Part, Fail>
 
 /// The query `@.name` as a side of a comparison.
 fn member_of(alloc: Global, builder: &mut SyntaxBuilder, name: &str) -> Result<Part, Fail>
-    ensures made { IfOk result (λ part. (a : tree.Comparable) × IsPart builder.new part (a_comparable a) × IsUncalledComparable 0 a) }
+    ensures made { IfOk result (λ part. (a : tree.Comparable) × IsPart builder.new part (a_comparable a) × IsCallFreeComparable 0 a) }
     ensures keeps { IfOk result (λ part. KeepsParts builder.old builder.new) }
 {
     let name = String::from_str(alloc, name)?;
@@ -138,7 +138,7 @@ fn compared(
     right: Part,
 ) -> Result<Part, Fail>
     requires call { (c : tree.Call) × IsPart builder.old call (a_call c) × IsCallOf name.now (signature_view signature.now) c }
-    requires right { (a : tree.Comparable) × IsPart builder.old right (a_comparable a) × IsUncalledComparable 0 a }
+    requires right { (a : tree.Comparable) × IsPart builder.old right (a_comparable a) × IsCallFreeComparable 0 a }
     ensures made { IfOk result (λ part. (b : tree.Basic) × IsPart builder.new part (a_basic b) × IsTestOf name.now (signature_view signature.now) b) }
     ensures keeps { IfOk result (λ part. KeepsParts builder.old builder.new) }
 {

@@ -8,7 +8,7 @@ ghost use Rattle.serde_json_path_core.specs.Tree as tree;
 ghost use Rattle.serde_json_path_core.specs.Flat.{kind_view};
 ghost use Rattle.serde_json_path_core.specs.Piece.{a_query, a_segment, an_or, an_and, a_basic, a_comparable};
 ghost use Rattle.serde_json_path_core.specs.Parts.{IsPart, KeepsParts, signatures_of};
-ghost use Rattle.serde_json_path_core.specs.Uncalled.{AreUncalledSegments, IsUncalledAnd, IsUncalledBasic, IsUncalledComparable, IsUncalledOr, IsUncalledSegment};
+ghost use Rattle.serde_json_path_core.specs.CallFree.{AreCallFreeSegments, IsCallFreeAnd, IsCallFreeBasic, IsCallFreeComparable, IsCallFreeOr, IsCallFreeSegment};
 
 use crate::ComparisonOperator::{
     EqualTo, GreaterThan, GreaterThanEqualTo, LessThan, LessThanEqualTo, NotEqualTo,
@@ -26,7 +26,7 @@ pub(crate) fn step_of(
     builder: &mut SyntaxBuilder,
     segment: &str,
 ) -> Result<Part, Fail>
-    ensures made { IfOk result (λ part. (seg : tree.Segment) × IsPart builder.new part (a_segment tree.child seg) × tree.IsSingularSegment seg × IsUncalledSegment 0 seg) }
+    ensures made { IfOk result (λ part. (seg : tree.Segment) × IsPart builder.new part (a_segment tree.child seg) × tree.IsSingularSegment seg × IsCallFreeSegment 0 seg) }
     ensures keeps { KeepsParts builder.old builder.new }
 {
     match segment.strip_prefix(".") {
@@ -58,7 +58,7 @@ fn singular_of(
     kind: QueryKind,
     step: &str,
 ) -> Result<Part, Fail>
-    ensures made { IfOk result (λ part. (segs : tree.Segments) × IsPart builder.new part (a_query (tree.query (kind_view kind) segs)) × tree.AreSingular segs × AreUncalledSegments 0 segs) }
+    ensures made { IfOk result (λ part. (segs : tree.Segments) × IsPart builder.new part (a_query (tree.query (kind_view kind) segs)) × tree.AreSingular segs × AreCallFreeSegments 0 segs) }
     ensures keeps { KeepsParts builder.old builder.new }
 {
     if step.is_empty() {
@@ -97,7 +97,7 @@ fn literal_of(alloc: Global, text: &str) -> Result<Literal, Fail> {
 
 /// A side of a comparison.
 fn comparable_of(alloc: Global, builder: &mut SyntaxBuilder, text: &str) -> Result<Part, Fail>
-    ensures made { IfOk result (λ part. (c : tree.Comparable) × IsPart builder.new part (a_comparable c) × IsUncalledComparable 0 c) }
+    ensures made { IfOk result (λ part. (c : tree.Comparable) × IsPart builder.new part (a_comparable c) × IsCallFreeComparable 0 c) }
     ensures keeps { KeepsParts builder.old builder.new }
 {
     match begun(text) {
@@ -137,7 +137,7 @@ fn relation_of(
     operator: ComparisonOperator,
     right: &str,
 ) -> Result<Part, Fail>
-    ensures made { IfOk result (λ part. (b : tree.Basic) × IsPart builder.new part (a_basic b) × IsUncalledBasic 0 b) }
+    ensures made { IfOk result (λ part. (b : tree.Basic) × IsPart builder.new part (a_basic b) × IsCallFreeBasic 0 b) }
     ensures keeps { KeepsParts builder.old builder.new }
 {
     let left = comparable_of(alloc, builder, left)?;
@@ -147,7 +147,7 @@ fn relation_of(
 
 /// A test whether a query selects a node, or none behind `!`.
 fn test_of(alloc: Global, builder: &mut SyntaxBuilder, text: &str) -> Result<Part, Fail>
-    ensures made { IfOk result (λ part. (b : tree.Basic) × IsPart builder.new part (a_basic b) × IsUncalledBasic 0 b) }
+    ensures made { IfOk result (λ part. (b : tree.Basic) × IsPart builder.new part (a_basic b) × IsCallFreeBasic 0 b) }
     ensures keeps { KeepsParts builder.old builder.new }
 {
     match text.strip_prefix("!") {
@@ -166,7 +166,7 @@ fn test_of(alloc: Global, builder: &mut SyntaxBuilder, text: &str) -> Result<Par
 
 /// A comparison or a test.
 fn basic_of(alloc: Global, builder: &mut SyntaxBuilder, text: &str) -> Result<Part, Fail>
-    ensures made { IfOk result (λ part. (b : tree.Basic) × IsPart builder.new part (a_basic b) × IsUncalledBasic 0 b) }
+    ensures made { IfOk result (λ part. (b : tree.Basic) × IsPart builder.new part (a_basic b) × IsCallFreeBasic 0 b) }
     ensures keeps { KeepsParts builder.old builder.new }
 {
     match sides(text) {
@@ -177,7 +177,7 @@ fn basic_of(alloc: Global, builder: &mut SyntaxBuilder, text: &str) -> Result<Pa
 
 /// The part of a logical expression with `&&` between its parts.
 fn and_of(alloc: Global, builder: &mut SyntaxBuilder, text: &str) -> Result<Part, Fail>
-    ensures made { IfOk result (λ part. (e : tree.LogicalAnd) × IsPart builder.new part (an_and e) × IsUncalledAnd 0 e) }
+    ensures made { IfOk result (λ part. (e : tree.LogicalAnd) × IsPart builder.new part (an_and e) × IsCallFreeAnd 0 e) }
     ensures keeps { KeepsParts builder.old builder.new }
 {
     let mut parts = Vec::new(alloc);
@@ -193,7 +193,7 @@ fn and_of(alloc: Global, builder: &mut SyntaxBuilder, text: &str) -> Result<Part
 
 /// The logical expression of a text, with `||` between its parts.
 fn or_of(alloc: Global, builder: &mut SyntaxBuilder, text: &str) -> Result<Part, Fail>
-    ensures made { IfOk result (λ part. (e : tree.LogicalOr) × IsPart builder.new part (an_or e) × IsUncalledOr 0 e) }
+    ensures made { IfOk result (λ part. (e : tree.LogicalOr) × IsPart builder.new part (an_or e) × IsCallFreeOr 0 e) }
     ensures keeps { KeepsParts builder.old builder.new }
 {
     let mut parts = Vec::new(alloc);
@@ -209,8 +209,8 @@ fn or_of(alloc: Global, builder: &mut SyntaxBuilder, text: &str) -> Result<Part,
 
 /// The expression of that one part alone.
 fn alone(alloc: Global, builder: &mut SyntaxBuilder, basic: Part) -> Result<Part, Fail>
-    requires { (b : tree.Basic) × IsPart builder.old basic (a_basic b) × IsUncalledBasic 1 b }
-    ensures made { IfOk result (λ part. (e : tree.LogicalOr) × IsPart builder.new part (an_or e) × IsUncalledOr 1 e) }
+    requires { (b : tree.Basic) × IsPart builder.old basic (a_basic b) × IsCallFreeBasic 1 b }
+    ensures made { IfOk result (λ part. (e : tree.LogicalOr) × IsPart builder.new part (an_or e) × IsCallFreeOr 1 e) }
     ensures keeps { KeepsParts builder.old builder.new }
 {
     let joined = builder.logical_and(vec![in alloc; basic]?)?;
@@ -219,7 +219,7 @@ fn alone(alloc: Global, builder: &mut SyntaxBuilder, basic: Part) -> Result<Part
 
 /// The expression of a text, the whole of which may stand in parentheses.
 fn expression_of(alloc: Global, builder: &mut SyntaxBuilder, text: &str) -> Result<Part, Fail>
-    ensures made { IfOk result (λ part. (e : tree.LogicalOr) × IsPart builder.new part (an_or e) × IsUncalledOr 1 e) }
+    ensures made { IfOk result (λ part. (e : tree.LogicalOr) × IsPart builder.new part (an_or e) × IsCallFreeOr 1 e) }
     ensures keeps { KeepsParts builder.old builder.new }
 {
     if let Some(inner) = text.strip_prefix("!(") {

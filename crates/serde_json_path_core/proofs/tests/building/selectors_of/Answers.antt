@@ -2,24 +2,24 @@ use Rattle.std.proofs.Common.{rules, ◌<◌, List, [], ◌∷◌, ◌++◌, len
 use Rattle.serde_json_path_core.specs.Tree.{Selectors, no_selectors, selector, Selector}
 use Rattle.serde_json_path_core.specs.Piece.{a_selector}
 use Rattle.serde_json_path_core.specs.Parts.{IsPart, ArePartsFor, AreSelectorsOf, KeepsParts, selector_pieces}
-use Rattle.serde_json_path_core.specs.Uncalled.{AreUncalledSelectors, IsUncalledSelector}
+use Rattle.serde_json_path_core.specs.CallFree.{AreCallFreeSelectors, IsCallFreeSelector}
 use Rattle.serde_json_path_core.specs.declared.syntax.node.Part.{Part}
 use Rattle.serde_json_path_core.specs.declared.syntax.builder.SyntaxBuilder.{SyntaxBuilder}
-use Rattle.serde_json_path_core.proofs.Written.{uncalled_selectors}
+use Rattle.serde_json_path_core.proofs.Written.{call_free_selectors}
 use Rattle.serde_json_path_core.proofs.tests.building.selectors_of.Goals as goal
 
 -- one part more
 selectors_push : (old new : SyntaxBuilder) (parts : List Part) (sels : Selectors) (part : Part) (sel : Selector)
-    → KeepsParts old new → ArePartsFor old parts (selector_pieces sels) → AreUncalledSelectors 0 sels → IsPart new part (a_selector sel) → IsUncalledSelector 0 sel
-    → (all : Selectors) × ArePartsFor new (parts ++ part ∷ []) (selector_pieces all) × AreUncalledSelectors 0 all
-selectors_push old new [] no_selectors part sel keeps h none is uncalled = (selector sel no_selectors, (is, tt), uncalled_selectors 0 sel no_selectors uncalled none)
-selectors_push old new [] (selector s more) part sel keeps h none is uncalled = absurd h
-selectors_push old new (p ∷ parts) no_selectors part sel keeps h none is uncalled = absurd h
-selectors_push old new (p ∷ parts) (selector s more) part sel keeps h none is uncalled =
-    let first : IsUncalledSelector 0 s = (λ t. (none.0 t).0, λ f. (none.1 f).0, (let both = none.2 in omega arith)) in
-    let others : AreUncalledSelectors 0 more = (λ t. (none.0 t).1, λ f. (none.1 f).1, (let both = none.2 in omega arith)) in
-    let rest = selectors_push old new parts more part sel keeps h.1 others is uncalled in
-    (selector s rest.0, (keeps p (a_selector s) h.0, rest.1), uncalled_selectors 0 s rest.0 first rest.2)
+    → KeepsParts old new → ArePartsFor old parts (selector_pieces sels) → AreCallFreeSelectors 0 sels → IsPart new part (a_selector sel) → IsCallFreeSelector 0 sel
+    → (all : Selectors) × ArePartsFor new (parts ++ part ∷ []) (selector_pieces all) × AreCallFreeSelectors 0 all
+selectors_push old new [] no_selectors part sel keeps h none is call_free = (selector sel no_selectors, (is, tt), call_free_selectors 0 sel no_selectors call_free none)
+selectors_push old new [] (selector s more) part sel keeps h none is call_free = absurd h
+selectors_push old new (p ∷ parts) no_selectors part sel keeps h none is call_free = absurd h
+selectors_push old new (p ∷ parts) (selector s more) part sel keeps h none is call_free =
+    let first : IsCallFreeSelector 0 s = (λ t. (none.0 t).0, λ f. (none.1 f).0, (let both = none.2 in omega arith)) in
+    let others : AreCallFreeSelectors 0 more = (λ t. (none.0 t).1, λ f. (none.1 f).1, (let both = none.2 in omega arith)) in
+    let rest = selectors_push old new parts more part sel keeps h.1 others is call_free in
+    (selector s rest.0, (keeps p (a_selector s) h.0, rest.1), call_free_selectors 0 s rest.0 first rest.2)
 
 -- one part at least
 selectors_in_brackets : (builder : SyntaxBuilder) (parts : List Part) (sels : Selectors) → 0 < length parts → ArePartsFor builder parts (selector_pieces sels) → AreSelectorsOf builder parts sels
@@ -39,7 +39,7 @@ loop-selector-preserved c =
     let pushed = selectors_push c.loop-selector.builder c.selector_of.new.builder c.loop-selector.parts.items earlier.0 c.in_ok-part.part made.0 c.in_ok-part.ensures.keeps earlier.1 earlier.2 made.1 made.2 in
     record {
       keeps = λ part piece h. c.selector_of.ensures.keeps part piece (c.loop-selector.invariant.keeps part piece h);
-      made = subst (λ (xs : List Part). (sels : Selectors) × ArePartsFor c.selector_of.new.builder xs (selector_pieces sels) × AreUncalledSelectors 0 sels) (sym {A = List Part} c.in_ok-push.ensures.items) pushed;
+      made = subst (λ (xs : List Part). (sels : Selectors) × ArePartsFor c.selector_of.new.builder xs (selector_pieces sels) × AreCallFreeSelectors 0 sels) (sym {A = List Part} c.in_ok-push.ensures.items) pushed;
     }
 
 pub returns-in_err-part-clause-keeps : goal.returns-in_err-part-clause-keeps

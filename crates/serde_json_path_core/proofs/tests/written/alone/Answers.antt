@@ -1,6 +1,6 @@
 use Rattle.std.proofs.Common.{arith}
 use Rattle.serde_json_path_core.specs.Tree as tree
-use Rattle.serde_json_path_core.proofs.Written.{one_basic, one_and, uncalled_and, uncalled_or}
+use Rattle.serde_json_path_core.proofs.Written.{one_basic, one_and, call_free_and, call_free_or}
 use Rattle.serde_json_path_core.proofs.tests.written.alone.Goals as goal
 
 pub logical_and-requires : goal.logical_and-requires
@@ -26,7 +26,7 @@ returns-clause-made c =
     let e = tree.or a tree.no_or in (
       e,
       c.in_ok-logical_or.ensures.made e (one_and c.logical_and.new.self _ c.in_ok-joined.joined a c.in_ok-vec-2.ensures.items made),
-      uncalled_or 1 a tree.no_or (uncalled_and 1 b.0 tree.no_and b.2 (λ s. tt, λ f. tt, omega arith)) (λ s. tt, λ f. tt, omega arith),
+      call_free_or 1 a tree.no_or (call_free_and 1 b.0 tree.no_and b.2 (λ s. tt, λ f. tt, omega arith)) (λ s. tt, λ f. tt, omega arith),
     )
 
 pub returns-clause-keeps : goal.returns-clause-keeps

@@ -1,7 +1,7 @@
 use Rattle.std.proofs.Common.{arith}
 use Rattle.serde_json_path_core.specs.Tree as tree
 use Rattle.serde_json_path_core.specs.Flat.{segment_kind_view}
-use Rattle.serde_json_path_core.proofs.Written.{one_selector, one_segment, uncalled_selectors, uncalled_segments, uncalled_filter, finished_without_calls}
+use Rattle.serde_json_path_core.proofs.Written.{one_selector, one_segment, call_free_selectors, call_free_segments, call_free_filter, finished_without_calls}
 use Rattle.serde_json_path_core.proofs.tests.written.filtered.Goals as goal
 
 pub long_hand-requires : goal.long_hand-requires
@@ -29,8 +29,8 @@ finish-requires c =
     let kind = segment_kind_view c.args.kind in
     let seg = tree.long_hand sels in
     let segs = tree.segment kind seg tree.no_segments in
-    let uncalled = uncalled_selectors 2 sel tree.no_selectors (uncalled_filter 1 e.0 e.2) (λ s. tt, λ f. tt, omega arith) in (
+    let call_free = call_free_selectors 2 sel tree.no_selectors (call_free_filter 1 e.0 e.2) (λ s. tt, λ f. tt, omega arith) in (
       tree.query tree.root segs,
       c.in_ok-query.ensures.made segs (one_segment c.long_hand.new.self _ c.in_ok-segment.segment kind seg c.in_ok-vec-2.ensures.items (c.in_ok-segment.ensures.made sels named)),
-      finished_without_calls _ 2 segs c.new.ensures.items (omega arith) (uncalled_segments 2 kind seg tree.no_segments uncalled (λ s. tt, λ f. tt, omega arith)),
+      finished_without_calls _ 2 segs c.new.ensures.items (omega arith) (call_free_segments 2 kind seg tree.no_segments call_free (λ s. tt, λ f. tt, omega arith)),
     )

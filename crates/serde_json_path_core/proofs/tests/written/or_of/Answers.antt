@@ -1,7 +1,7 @@
 use Rattle.std.proofs.Common.{◌<◌, List, length, sym, subst, rules, arith}
 use Rattle.serde_json_path_core.specs.Tree as tree
 use Rattle.serde_json_path_core.specs.Parts.{ArePartsFor, or_pieces}
-use Rattle.serde_json_path_core.specs.Uncalled.{IsUncalledOr}
+use Rattle.serde_json_path_core.specs.CallFree.{IsCallFreeOr}
 use Rattle.serde_json_path_core.specs.declared.syntax.node.Part.{Part}
 use Rattle.serde_json_path_core.proofs.Written.{ands_push, some_ands}
 use Rattle.serde_json_path_core.proofs.tests.written.or_of.Goals as goal
@@ -15,7 +15,7 @@ loop-part-preserved c =
     let earlier = c.loop-part.invariant in
     let made = c.in_ok-part.ensures.made in
     let pushed = ands_push c.loop-part.builder c.and_of.new.builder 0 c.loop-part.parts.items earlier.0.0 c.in_ok-part.part made.0 c.in_ok-part.ensures.keeps earlier.0.1 earlier.0.2 made.1 made.2 in (
-      subst (λ (xs : List Part). (e : tree.LogicalOr) × ArePartsFor c.and_of.new.builder xs (or_pieces e) × IsUncalledOr 0 e) (sym {A = List Part} c.in_ok-push.ensures.items) pushed,
+      subst (λ (xs : List Part). (e : tree.LogicalOr) × ArePartsFor c.and_of.new.builder xs (or_pieces e) × IsCallFreeOr 0 e) (sym {A = List Part} c.in_ok-push.ensures.items) pushed,
       λ part piece h. c.in_ok-part.ensures.keeps part piece (earlier.1 part piece h),
     )
 

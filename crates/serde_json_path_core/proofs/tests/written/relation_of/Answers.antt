@@ -1,7 +1,7 @@
 use Rattle.serde_json_path_core.specs.Tree as tree
 use Rattle.serde_json_path_core.specs.Literals.{operator_view}
 use Rattle.serde_json_path_core.specs.Piece.{a_comparable}
-use Rattle.serde_json_path_core.proofs.Written.{uncalled_relation}
+use Rattle.serde_json_path_core.proofs.Written.{call_free_relation}
 use Rattle.serde_json_path_core.proofs.tests.written.relation_of.Goals as goal
 
 pub returns-in_err-right-clause-keeps : goal.returns-in_err-right-clause-keeps
@@ -21,7 +21,7 @@ returns-clause-made c =
     let right = c.in_ok-right.ensures.made in (
       tree.relation left.0 (operator_view c.args.operator) right.0,
       c.in_ok-relation.ensures.made left.0 right.0 (c.comparable_of-2.ensures.keeps c.in_ok-left.left (a_comparable left.0) left.1) right.1,
-      uncalled_relation 0 left.0 right.0 (operator_view c.args.operator) left.2 right.2,
+      call_free_relation 0 left.0 right.0 (operator_view c.args.operator) left.2 right.2,
     )
 
 pub returns-clause-keeps : goal.returns-clause-keeps

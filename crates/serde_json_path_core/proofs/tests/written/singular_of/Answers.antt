@@ -1,6 +1,6 @@
 use Rattle.std.proofs.Common.{arith}
 use Rattle.serde_json_path_core.specs.Tree as tree
-use Rattle.serde_json_path_core.proofs.Written.{no_segments, one_segment, uncalled_segments}
+use Rattle.serde_json_path_core.proofs.Written.{no_segments, one_segment, call_free_segments}
 use Rattle.serde_json_path_core.proofs.tests.written.singular_of.Goals as goal
 
 pub query-requires : goal.query-requires
@@ -27,7 +27,7 @@ returns-clause-made c =
       segs,
       c.in_ok-query-2.ensures.made segs (one_segment c.step_of.new.builder _ c.in_ok-step.step tree.child made.0 c.in_ok-vec.ensures.items made.1),
       (made.2, tt),
-      uncalled_segments 0 tree.child made.0 tree.no_segments made.3 (λ s. tt, λ f. tt, omega arith),
+      call_free_segments 0 tree.child made.0 tree.no_segments made.3 (λ s. tt, λ f. tt, omega arith),
     )
 
 pub returns-clause-keeps : goal.returns-clause-keeps
