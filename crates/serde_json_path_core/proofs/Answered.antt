@@ -2,8 +2,8 @@
 use Rattle.std.proofs.Common.{◌≡◌, ◌⊎◌, ℕ, List, [], ◌∷◌, ◌++◌, length, map, inl, inr, Result, Ok, Err, IfOk, refl, sym, ap, subst, ◌∙◌}
 use Rattle.std.proofs.lemmas.List.{append-nil}
 use Rattle.serde_json.specs.Data.{Data}
-use Rattle.serde_json_path_core.specs.Tree.{Call, call, Arguments, no_arguments, argument}
-use Rattle.serde_json_path_functions.specs.Functions.{Kind, Term, FunctionSet}
+use Rattle.serde_json_path_core.specs.Tree.{Call, call, Arguments}
+use Rattle.serde_json_path_functions.specs.Functions.{Term, FunctionSet}
 use Rattle.serde_json_path_functions.specs.Terms.{kind_view, term_view}
 use Rattle.serde_json_path_core.specs.Meaning.{params_of}
 use Rattle.serde_json_path_core.specs.Typing.{IsTypedCall, AreTypedArguments}

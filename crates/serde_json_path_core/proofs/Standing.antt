@@ -8,7 +8,7 @@ use Rattle.serde_json_path_nodes.specs.Place.{Step, child_at, at}
 use Rattle.serde_json_path_core.specs.Tree.{QueryKind, root, current, Query, query}
 use Rattle.serde_json_path_core.specs.Derivation.{IsIn, start_of}
 use Rattle.serde_json_path_core.specs.Calls.{StandsIn}
-use Rattle.serde_json_path_core.specs.Rest.{Frame, place_of, stages, EndsIn, IsOfValue, IsChain, IsStack, IsStackIn, IsInside, AllStandIn}
+use Rattle.serde_json_path_core.specs.Rest.{Frame, place_of, stages, EndsIn, IsChain, IsStack, IsStackIn, IsInside, AllStandIn}
 use Rattle.serde_json_path_core.proofs.Chains.{stack-started}
 use Rattle.serde_json_path_core.proofs.Derived.{at-append}
 use Rattle.serde_json_path_core.proofs.InLists.{in_append}
