@@ -9,6 +9,7 @@ pub mod Comparisons
 pub mod Courses
 pub mod Derived
 pub mod Descents
+pub mod EachCalls
 pub mod Ends
 pub mod Growing
 pub mod Finished

@@ -5,6 +5,7 @@ ghost use Rattle.serde_json.specs.Data.{Data};
 ghost use Rattle.serde_json_path_nodes.specs.Place.{Located};
 ghost use Rattle.serde_json_path_core.specs.Tree.{Query, segments_of};
 ghost use Rattle.serde_json_path_functions.specs.Functions.{FunctionSet};
+ghost use Rattle.serde_json_path_core.specs.Calls.{EachCall, GoesWithoutPattern, IsClear};
 ghost use Rattle.serde_json_path_core.specs.Derivation.{Triple, Before};
 ghost use Rattle.serde_json_path_core.specs.Meaning.{IsResult};
 ghost use Rattle.serde_json_path_core.specs.Laws.{SingularQuerySelectsAtMostOne, NotEqualNegatesEqual, LessOrEqualIsEither, DescendantsInDocumentOrder};
@@ -49,4 +50,10 @@ pub fn law_less_or_equal_is_either()
 /// The RFC leaves the order of an object's members open; here it is that of the bytes of their names.
 pub fn law_descendants_in_document_order()
     ensures { DescendantsInDocumentOrder }
+{}
+
+/// A query of which no call stands for `match` or `search` is clear: what the evaluation promises of such a query it
+/// promises without a premise.
+pub fn law_clear_without_patterns()
+    ensures { (F : FunctionSet) (q : Query) (top : Data) → EachCall (GoesWithoutPattern F) q → IsClear F q top }
 {}
