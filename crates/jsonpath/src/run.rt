@@ -25,7 +25,7 @@ const QUERY_REFUSED: u8 = 3;
 const USAGE: u8 = 64;
 
 /// Tells a refusal in one line, and answers its status. Where the line cannot be written the status stays.
-fn refuse<E: Write>(err: &mut E, e: &ReportError) -> u8
+pub(crate) fn refuse<E: Write>(err: &mut E, e: &ReportError) -> u8
     ensures { result ≡ status_of e.now }
 {
     match e {

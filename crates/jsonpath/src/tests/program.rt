@@ -1,6 +1,8 @@
 //! Runs of the program over a reader and writers in memory.
 
-use crate::run::run;
+use crate::report::ReportError;
+use crate::run::{refuse, run};
+use serde_json_path::QueryError;
 use std::alloc::Global;
 use std::io;
 use std::io::{Read, Write};
@@ -132,5 +134,19 @@ fn failing_reads_and_writes(rt: HostRuntime) -> Result<(), Fail> {
         &mut Broken,
     );
     assert_eq!(rt; status, 3);
+    Ok(())
+}
+
+#[test]
+fn tells_refused_queries(rt: HostRuntime) -> Result<(), Fail> {
+    for (error, line) in [
+        (QueryError::Memory, "jsonpath: query: no memory\n"),
+        (QueryError::Pattern, "jsonpath: query: pattern refused\n"),
+    ] {
+        let mut err = Vec::new(rt.alloc());
+        let status = refuse(&mut err, &ReportError::Query(error));
+        assert_eq!(rt; status, 3);
+        assert_eq!(rt; err.as_slice(), line.as_bytes());
+    }
     Ok(())
 }
