@@ -9,4 +9,5 @@ pub mod PartLists
 pub mod Places
 pub mod Runs
 pub mod Sound
+pub mod StringTexts
 mod Worked

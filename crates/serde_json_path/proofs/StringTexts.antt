@@ -1,0 +1,246 @@
+-- What is read as a string is one, and each string is read.
+use Rattle.std.proofs.Common.{◌≡◌, ℕ, ◌+◌, ◌-◌, ◌*◌, ◌<◌, ◌≤◌, ◌⊎◌, inl, inr, Bool, true, false, cond, ◌&&◌, true≢false, List, [], ◌∷◌, ◌++◌, length, drop, Option, Some, None, Ok, Err, refl, sym, ap, subst, ◌∙◌, append_assoc, arith}
+use Rattle.std.specs.Prelude.{nat_le, ◌==◌, not, codes}
+use Rattle.std.specs.Str.{encode_utf8_all}
+use Rattle.std.proofs.lemmas.Bool.{eqb-true}
+use Rattle.std.proofs.lemmas.List.{length-append}
+use Rattle.std.proofs.lemmas.Option.{same_Some, none-some}
+use Rattle.serde_json_path.specs.declared.error.ParseErrorKind.TheVariants.{ExpectedEndingQuote, BadEscape, ControlCharacter}
+use Rattle.serde_json_path.specs.declared.error.Place.TheVariants as place
+use Rattle.serde_json_path.specs.Lexical.{begins, is_digit, hexadecimal_of, IsHex4, IsHighSurrogate, IsLowSurrogate, pair_of, escaped_by, is_plain, IsPiece, plain, quote_escape, letter_escape, hex_escape, pair_escape, ArePieces, IsQuote, IsString}
+use Rattle.serde_json_path.specs.Parsing.{Parsed, ◌>>=◌, refusal, many_at, many}
+use Rattle.serde_json_path.specs.Strings.{is_hexadecimal, hexadecimal_value, head, hexadecimal_at, hex4_at, is_high, is_low, low_at, unicode_at, is_letter_escape, letter_value, escape_at, is_control, piece_at, is_inside, string_at}
+use Rattle.serde_json_path.proofs.Many as m
+use Rattle.serde_json_path.proofs.OpenTexts.{Joined}
+use Rattle.serde_json_path.proofs.Sound.{Read, bind_ok, chosen, guard, done, ok_is, after_one, many_sound}
+use Rattle.serde_json_path.proofs.Complete.{Again, many_again}
+
+both_true : (a b : Bool) → (a && b) ≡ true → (a ≡ true) × (b ≡ true)
+both_true true b e = (refl, e)
+both_true false b e = absurd cc
+
+-- ---- hexadecimal digits
+
+hexadecimal_is : (c : ℕ) → is_hexadecimal c ≡ true → hexadecimal_of c ≡ Some (hexadecimal_value c)
+hexadecimal_is c e = by_digit (is_digit c) refl
+  where
+    by_small : (b : Bool) → (nat_le 97 c && nat_le c 102) ≡ b → is_digit c ≡ false → (nat_le 65 c && nat_le c 70) ≡ false → hexadecimal_of c ≡ Some (hexadecimal_value c)
+    by_small true s d l =
+        let from = (both_true (nat_le 97 c) (nat_le c 102) s).0 in
+        let past_digits : nat_le c 57 ≡ false = grind (arith, from) in
+        let past_letters : nat_le c 70 ≡ false = grind (arith, from) in
+        rw (d, l, s, past_digits, past_letters) refl
+    by_small false s d l = let none : is_hexadecimal c ≡ false = rw (d, l, s) refl in absurd (true≢false (sym e ∙ none))
+
+    by_large : (b : Bool) → (nat_le 65 c && nat_le c 70) ≡ b → is_digit c ≡ false → hexadecimal_of c ≡ Some (hexadecimal_value c)
+    by_large true l d =
+        let within = both_true (nat_le 65 c) (nat_le c 70) l in
+        let past_digits : nat_le c 57 ≡ false = grind (arith, within.0) in
+        rw (d, l, past_digits, within.1) refl
+    by_large false l d = by_small (nat_le 97 c && nat_le c 102) refl d l
+
+    by_digit : (b : Bool) → is_digit c ≡ b → hexadecimal_of c ≡ Some (hexadecimal_value c)
+    by_digit true d = rw (d, (both_true (nat_le 48 c) (nat_le c 57) d).1) refl
+    by_digit false d = by_large (nat_le 65 c && nat_le c 70) refl d
+
+hexadecimal_sound : (escape cs : List ℕ) (x : ℕ × List ℕ) → hexadecimal_at escape cs ≡ Ok x → (c : ℕ) × (cs ≡ c ∷ x.1) × (hexadecimal_of c ≡ Some x.0)
+unfolding hexadecimal_at
+hexadecimal_sound escape [] x e = absurd cc
+hexadecimal_sound escape (c ∷ cs) x e =
+    let g = guard (is_hexadecimal c) (refusal BadEscape place.LongHand escape) (done (hexadecimal_value c, cs)) x e in
+    let same = ok_is (hexadecimal_value c, cs) x g.1 in
+    (c, ap (λ (y : ℕ × List ℕ). c ∷ y.1) same, hexadecimal_is c g.0 ∙ ap (λ (y : ℕ × List ℕ). Some y.0) same)
+
+hex4_sound : (escape cs : List ℕ) (x : ℕ × List ℕ) → hex4_at escape cs ≡ Ok x → Read IsHex4 cs x
+unfolding hex4_at
+hex4_sound escape cs x e =
+    let a = bind_ok (hexadecimal_at escape cs) _ x e in
+    let b = bind_ok (hexadecimal_at escape a.0.1) _ x a.2 in
+    let c = bind_ok (hexadecimal_at escape b.0.1) _ x b.2 in
+    let d = bind_ok (hexadecimal_at escape c.0.1) _ x c.2 in
+    let p = hexadecimal_sound escape cs a.0 a.1 in
+    let q = hexadecimal_sound escape a.0.1 b.0 b.1 in
+    let r = hexadecimal_sound escape b.0.1 c.0 c.1 in
+    let s = hexadecimal_sound escape c.0.1 d.0 d.1 in
+    subst (Read IsHex4 cs) (ok_is ((((4096 * a.0.0) + (256 * b.0.0)) + (16 * c.0.0)) + d.0.0, d.0.1) x d.2) (record {
+      text = p.0 ∷ q.0 ∷ r.0 ∷ s.0 ∷ [];
+      is_so = (p.0, q.0, r.0, s.0, a.0.0, b.0.0, c.0.0, d.0.0, refl, p.2, q.2, r.2, s.2, refl);
+      split = p.1 ∙ ap (λ (l : List ℕ). p.0 ∷ l) (q.1 ∙ ap (λ (l : List ℕ). q.0 ∷ l) (r.1 ∙ ap (λ (l : List ℕ). r.0 ∷ l) s.1));
+    })
+
+-- ---- what is read is a piece
+
+high_of : (n : ℕ) → is_high n ≡ true → IsHighSurrogate n
+high_of n e = let h = both_true (nat_le 0xd800 n) (nat_le n 0xdbff) e in (grind (arith, h.0), grind (arith, h.1))
+
+low_of : (n : ℕ) → is_low n ≡ true → IsLowSurrogate n
+low_of n e = let h = both_true (nat_le 0xdc00 n) (nat_le n 0xdfff) e in (grind (arith, h.0), grind (arith, h.1))
+
+-- no surrogate
+scalar_of : (n : ℕ) → is_high n ≡ false → is_low n ≡ false → (n < 0xd800) ⊎ (0xdfff < n)
+scalar_of n h l = by_least (nat_le 0xd800 n) refl
+  where
+    by_greatest : (b : Bool) → nat_le n 0xdbff ≡ b → nat_le 0xd800 n ≡ true → (n < 0xd800) ⊎ (0xdfff < n)
+    by_greatest true g least = let high : is_high n ≡ true = rw (least, g) refl in absurd (true≢false (sym high ∙ h))
+    by_greatest false g least = by_last (nat_le n 0xdfff) refl
+      where
+        by_last : (b : Bool) → nat_le n 0xdfff ≡ b → (n < 0xd800) ⊎ (0xdfff < n)
+        by_last true last =
+            let first : nat_le 0xdc00 n ≡ true = grind (arith, g) in
+            let low : is_low n ≡ true = rw (first, last) refl in
+            absurd (true≢false (sym low ∙ l))
+        by_last false last = inr (grind (arith, last))
+
+    by_least : (b : Bool) → nat_le 0xd800 n ≡ b → (n < 0xd800) ⊎ (0xdfff < n)
+    by_least true least = by_greatest (nat_le n 0xdbff) refl least
+    by_least false least = inl (grind (arith, least))
+
+-- behind a backslash and `u`
+pub record ReadsUnicode (quote : ℕ) (cs : List ℕ) (x : ℕ × List ℕ) : Type 0 where
+  pub text : List ℕ
+  pub is_so : IsPiece quote (92 ∷ 117 ∷ text) x.0
+  pub split : cs ≡ text ++ x.1
+
+pair_sound : (quote : ℕ) (escape cs : List ℕ) (high : ℕ × List ℕ) (x : ℕ × List ℕ) → Read IsHex4 cs high → is_high high.0 ≡ true → low_at escape high.0 high.1 ≡ Ok x
+    → ReadsUnicode quote cs x
+unfolding low_at
+pair_sound quote escape cs high x first h e =
+    let bad : Parsed ℕ = Err (refusal BadEscape place.LongHand escape) in
+    let tail : ℕ × List ℕ → Parsed ℕ = λ l. cond (is_low l.0) (Ok (pair_of high.0 l.0, l.1)) bad in
+    let slash = guard (begins (λ c. c == 92) high.1) (refusal BadEscape place.LongHand escape) (cond (begins (λ c. c == 117) (drop 1 high.1)) (hex4_at escape (drop 1 (drop 1 high.1)) >>= tail) bad) x e in
+    let letter = guard (begins (λ c. c == 117) (drop 1 high.1)) (refusal BadEscape place.LongHand escape) (hex4_at escape (drop 1 (drop 1 high.1)) >>= tail) x slash.1 in
+    let four = bind_ok (hex4_at escape (drop 1 (drop 1 high.1))) tail x letter.1 in
+    let low = guard (is_low four.0.0) (refusal BadEscape place.LongHand escape) (done (pair_of high.0 four.0.0, four.0.1)) x four.2 in
+    let second = hex4_sound escape (drop 1 (drop 1 high.1)) four.0 four.1 in
+    let here : high.1 ≡ 92 ∷ 117 ∷ (second.text ++ four.0.1) =
+    after_one 92 high.1 slash.0 ∙ ap (λ (l : List ℕ). 92 ∷ l) (after_one 117 (drop 1 high.1) letter.0 ∙ ap (λ (l : List ℕ). 117 ∷ l) second.split) in
+    subst (ReadsUnicode quote cs) (ok_is (pair_of high.0 four.0.0, four.0.1) x low.1) (record {
+      text = first.text ++ (92 ∷ 117 ∷ second.text);
+      is_so = pair_escape first.text second.text high.0 four.0.0 first.is_so second.is_so (high_of high.0 h) (low_of four.0.0 low.0);
+      split = first.split ∙ ap (λ (l : List ℕ). first.text ++ l) here ∙ sym (append_assoc first.text (92 ∷ 117 ∷ second.text) four.0.1);
+    })
+
+unicode_sound : (quote : ℕ) (escape cs : List ℕ) (x : ℕ × List ℕ) → unicode_at escape cs ≡ Ok x → ReadsUnicode quote cs x
+unfolding unicode_at
+unicode_sound quote escape cs x e =
+    let bad : Parsed ℕ = Err (refusal BadEscape place.LongHand escape) in
+    let four = bind_ok (hex4_at escape cs) (λ h. cond (is_high h.0) (low_at escape h.0 h.1) (cond (is_low h.0) bad (Ok (h.0, h.1)))) x e in
+    let first = hex4_sound escape cs four.0 four.1 in
+    elim (chosen (is_high four.0.0) (low_at escape four.0.0 four.0.1) (cond (is_low four.0.0) bad (Ok (four.0.0, four.0.1))) (Ok x) four.2) [
+      | inl a ↦ pair_sound quote escape cs four.0 x first a.0 a.1
+      | inr a ↦ elim (chosen (is_low four.0.0) bad (done (four.0.0, four.0.1)) (Ok x) a.1) [
+        | inl b ↦ absurd (let no : bad ≡ Ok x = b.1 in cc)
+        | inr b ↦ subst (ReadsUnicode quote cs) (ok_is (four.0.0, four.0.1) x b.1) (record {
+          text = first.text;
+          is_so = hex_escape first.text four.0.0 first.is_so (scalar_of four.0.0 a.0 b.0);
+          split = first.split;
+        })
+      ]
+    ]
+
+-- a letter behind a backslash, but for the quote
+letter_is : (quote letter : ℕ) → is_letter_escape quote letter ≡ true → (letter == quote) ≡ false → escaped_by letter ≡ Some (letter_value letter)
+letter_is quote letter e q = by_b (letter == 98) refl
+  where
+    by_slash : (b : Bool) → (letter == 92) ≡ b → (letter == 98) ≡ false → (letter == 102) ≡ false → (letter == 110) ≡ false → (letter == 114) ≡ false → (letter == 116) ≡ false → (letter == 47) ≡ false → escaped_by letter ≡ Some (letter_value letter)
+    by_slash true h b f n r t s = rw (b, f, n, r, t, s, h) (ap (λ (c : ℕ). Some c) (sym (eqb-true letter 92 h)))
+    by_slash false h b f n r t s = let none : is_letter_escape quote letter ≡ false = rw (b, f, n, r, t, s, h, q) refl in absurd (true≢false (sym e ∙ none))
+
+    by_solidus : (b : Bool) → (letter == 47) ≡ b → (letter == 98) ≡ false → (letter == 102) ≡ false → (letter == 110) ≡ false → (letter == 114) ≡ false → (letter == 116) ≡ false → escaped_by letter ≡ Some (letter_value letter)
+    by_solidus true h b f n r t = rw (b, f, n, r, t, h) (ap (λ (c : ℕ). Some c) (sym (eqb-true letter 47 h)))
+    by_solidus false h b f n r t = by_slash (letter == 92) refl b f n r t h
+
+    by_t : (b : Bool) → (letter == 116) ≡ b → (letter == 98) ≡ false → (letter == 102) ≡ false → (letter == 110) ≡ false → (letter == 114) ≡ false → escaped_by letter ≡ Some (letter_value letter)
+    by_t true h b f n r = rw (b, f, n, r, h) refl
+    by_t false h b f n r = by_solidus (letter == 47) refl b f n r h
+
+    by_r : (b : Bool) → (letter == 114) ≡ b → (letter == 98) ≡ false → (letter == 102) ≡ false → (letter == 110) ≡ false → escaped_by letter ≡ Some (letter_value letter)
+    by_r true h b f n = rw (b, f, n, h) refl
+    by_r false h b f n = by_t (letter == 116) refl b f n h
+
+    by_n : (b : Bool) → (letter == 110) ≡ b → (letter == 98) ≡ false → (letter == 102) ≡ false → escaped_by letter ≡ Some (letter_value letter)
+    by_n true h b f = rw (b, f, h) refl
+    by_n false h b f = by_r (letter == 114) refl b f h
+
+    by_f : (b : Bool) → (letter == 102) ≡ b → (letter == 98) ≡ false → escaped_by letter ≡ Some (letter_value letter)
+    by_f true h b = rw (b, h) refl
+    by_f false h b = by_n (letter == 110) refl b h
+
+    by_b : (b : Bool) → (letter == 98) ≡ b → escaped_by letter ≡ Some (letter_value letter)
+    by_b true h = rw h refl
+    by_b false h = by_f (letter == 102) refl h
+
+quote_itself : (quote : ℕ) → IsQuote quote → letter_value quote ≡ quote
+quote_itself quote (inl e) = subst (λ q. letter_value q ≡ q) (sym e) refl
+quote_itself quote (inr e) = subst (λ q. letter_value q ≡ q) (sym e) refl
+
+letter_sound : (quote letter : ℕ) → IsQuote quote → is_letter_escape quote letter ≡ true → IsPiece quote (92 ∷ letter ∷ []) (letter_value letter)
+letter_sound quote letter is e = by_quote (letter == quote) refl
+  where
+    by_quote : (b : Bool) → (letter == quote) ≡ b → IsPiece quote (92 ∷ letter ∷ []) (letter_value letter)
+    by_quote true q =
+        let same = eqb-true letter quote q in
+        subst (λ (c : ℕ). IsPiece quote (92 ∷ c ∷ []) (letter_value c)) (sym same) (subst (IsPiece quote (92 ∷ quote ∷ [])) (sym (quote_itself quote is)) quote_escape)
+    by_quote false q = letter_escape letter (letter_value letter) (letter_is quote letter e q)
+
+first_is : (p : ℕ → Bool) (cs : List ℕ) → begins p cs ≡ true → (cs ≡ head cs ∷ drop 1 cs) × (p (head cs) ≡ true)
+first_is p [] e = absurd cc
+first_is p (c ∷ cs) e = (refl, e)
+
+escape_sound : (quote : ℕ) (cs : List ℕ) (x : ℕ × List ℕ) → IsQuote quote → begins (λ c. c == 92) cs ≡ true → escape_at quote cs ≡ Ok x → Read (IsPiece quote) cs x
+unfolding escape_at
+escape_sound quote cs x is slash e =
+    let bad : Parsed ℕ = Err (refusal BadEscape place.LongHand cs) in
+    let letter : Parsed ℕ = Ok (letter_value (head (drop 1 cs)), drop 1 (drop 1 cs)) in
+    let here = after_one 92 cs slash in
+    elim (chosen (begins (λ c. c == 117) (drop 1 cs)) (unicode_at cs (drop 1 (drop 1 cs))) (cond (begins (is_letter_escape quote) (drop 1 cs)) letter bad) (Ok x) e) [
+      | inl a ↦
+          let read = unicode_sound quote cs (drop 1 (drop 1 cs)) x a.1 in
+          record {
+            text = 92 ∷ 117 ∷ read.text;
+            is_so = read.is_so;
+            split = here ∙ ap (λ (l : List ℕ). 92 ∷ l) (after_one 117 (drop 1 cs) a.0 ∙ ap (λ (l : List ℕ). 117 ∷ l) read.split);
+          }
+      | inr a ↦
+          let g = guard (begins (is_letter_escape quote) (drop 1 cs)) (refusal BadEscape place.LongHand cs) letter x a.1 in
+          let first = first_is (is_letter_escape quote) (drop 1 cs) g.0 in
+          subst (Read (IsPiece quote) cs) (ok_is (letter_value (head (drop 1 cs)), drop 1 (drop 1 cs)) x g.1) (record {
+            text = 92 ∷ head (drop 1 cs) ∷ [];
+            is_so = letter_sound quote (head (drop 1 cs)) is first.1;
+            split = here ∙ ap (λ (l : List ℕ). 92 ∷ l) first.0;
+          })
+    ]
+
+plain_is : (quote c : ℕ) → is_inside quote c ≡ true → (c == 92) ≡ false → is_control c ≡ false → is_plain quote c ≡ true
+plain_is quote c inside slash control = let least : nat_le 32 c ≡ true = grind (arith, control) in rw (least, slash, inside) refl
+
+piece_sound : (quote : ℕ) → IsQuote quote → (cs : List ℕ) (x : ℕ × List ℕ) → begins (is_inside quote) cs ≡ true → piece_at quote cs ≡ Ok x → Read (IsPiece quote) cs x
+unfolding piece_at
+piece_sound quote is [] x i e = absurd cc
+piece_sound quote is (c ∷ cs) x i e =
+    let bad : Parsed ℕ = Err (refusal ControlCharacter place.LongHand (c ∷ cs)) in
+    elim (chosen (c == 92) (escape_at quote (c ∷ cs)) (cond (is_control c) bad (Ok (c, cs))) (Ok x) e) [
+      | inl a ↦ escape_sound quote (c ∷ cs) x is a.0 a.1
+      | inr a ↦ elim (chosen (is_control c) bad (done (c, cs)) (Ok x) a.1) [
+        | inl b ↦ absurd (let no : bad ≡ Ok x = b.1 in cc)
+        | inr b ↦ subst (Read (IsPiece quote) (c ∷ cs)) (ok_is (c, cs) x b.1) (record { text = c ∷ []; is_so = plain c (plain_is quote c i a.0 b.0); split = refl })
+      ]
+    ]
+
+pieces_joined : (quote : ℕ) (t cs : List ℕ) → Joined (IsPiece quote) t cs → ArePieces quote t cs
+pieces_joined quote t [] h = h
+pieces_joined quote t (c ∷ cs) h = (h.0, h.1, h.2, pieces_joined quote h.1 cs h.3, h.4)
+
+-- behind the opening quote
+pub string_sound : (quote : ℕ) (cs : List ℕ) (x : List ℕ × List ℕ) → IsQuote quote → string_at quote cs ≡ Ok x → Read IsString (quote ∷ cs) x
+unfolding string_at many
+string_sound quote cs x is e =
+    let unended : List ℕ × List ℕ → Parsed (List ℕ) = λ s. Err (refusal ExpectedEndingQuote place.LongHand s.1) in
+    let pieces = bind_ok (many (begins (is_inside quote)) (piece_at quote) cs) (λ s. cond (begins (λ c. c == quote) s.1) (Ok (encode_utf8_all s.0, drop 1 s.1)) (unended s)) x e in
+    let g = guard (begins (λ c. c == quote) pieces.0.1) (refusal ExpectedEndingQuote place.LongHand pieces.0.1) (done (encode_utf8_all pieces.0.0, drop 1 pieces.0.1)) x pieces.2 in
+    let r = many_sound (IsPiece quote) (begins (is_inside quote)) (piece_at quote) (piece_sound quote is) (length cs) cs pieces.0 pieces.1 in
+    subst (Read IsString (quote ∷ cs)) (ok_is (encode_utf8_all pieces.0.0, drop 1 pieces.0.1) x g.1) (record {
+      text = quote ∷ (r.text ++ (quote ∷ []));
+      is_so = (quote, r.text, pieces.0.0, is, pieces_joined quote r.text pieces.0.0 r.is_so, refl, refl);
+      split = ap (λ (l : List ℕ). quote ∷ l) (r.split ∙ ap (λ (l : List ℕ). r.text ++ l) (after_one quote pieces.0.1 g.0) ∙ sym (append_assoc r.text (quote ∷ []) (drop 1 pieces.0.1)));
+    })
