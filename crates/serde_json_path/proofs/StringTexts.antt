@@ -2,7 +2,7 @@
 use Rattle.std.proofs.Common.{◌≡◌, ℕ, ◌+◌, ◌-◌, ◌*◌, ◌<◌, ◌≤◌, ◌⊎◌, inl, inr, Bool, true, false, cond, ◌&&◌, true≢false, List, [], ◌∷◌, ◌++◌, length, drop, Option, Some, None, Ok, Err, refl, sym, ap, subst, ◌∙◌, append_assoc, arith}
 use Rattle.std.specs.Prelude.{nat_le, ◌==◌, not, codes}
 use Rattle.std.specs.Str.{encode_utf8_all}
-use Rattle.std.proofs.lemmas.Bool.{eqb-true}
+use Rattle.std.proofs.lemmas.Bool.{eqb-true, eq-eqb}
 use Rattle.std.proofs.lemmas.List.{length-append}
 use Rattle.std.proofs.lemmas.Option.{same_Some, none-some}
 use Rattle.serde_json_path.specs.declared.error.ParseErrorKind.TheVariants.{ExpectedEndingQuote, BadEscape, ControlCharacter}
@@ -244,3 +244,188 @@ string_sound quote cs x is e =
       is_so = (quote, r.text, pieces.0.0, is, pieces_joined quote r.text pieces.0.0 r.is_so, refl, refl);
       split = ap (λ (l : List ℕ). quote ∷ l) (r.split ∙ ap (λ (l : List ℕ). r.text ++ l) (after_one quote pieces.0.1 g.0) ∙ sym (append_assoc r.text (quote ∷ []) (drop 1 pieces.0.1)));
     })
+
+-- ---- each string is read
+
+value_known : (c n : ℕ) → hexadecimal_of c ≡ Some n → (is_hexadecimal c ≡ true) × (hexadecimal_value c ≡ n)
+value_known c n e = by_digit (is_digit c) refl
+  where
+    known : is_hexadecimal c ≡ true → (is_hexadecimal c ≡ true) × (hexadecimal_value c ≡ n)
+    known h = (h, same_Some (hexadecimal_value c) n (sym (hexadecimal_is c h) ∙ e))
+
+    by_small : (b : Bool) → (nat_le 97 c && nat_le c 102) ≡ b → is_digit c ≡ false → (nat_le 65 c && nat_le c 70) ≡ false → (is_hexadecimal c ≡ true) × (hexadecimal_value c ≡ n)
+    by_small true s d l = known (rw (d, l, s) refl)
+    by_small false s d l = let none : hexadecimal_of c ≡ None = rw (d, l, s) refl in absurd (none-some n (sym none ∙ e))
+
+    by_large : (b : Bool) → (nat_le 65 c && nat_le c 70) ≡ b → is_digit c ≡ false → (is_hexadecimal c ≡ true) × (hexadecimal_value c ≡ n)
+    by_large true l d = known (rw (d, l) refl)
+    by_large false l d = by_small (nat_le 97 c && nat_le c 102) refl d l
+
+    by_digit : (b : Bool) → is_digit c ≡ b → (is_hexadecimal c ≡ true) × (hexadecimal_value c ≡ n)
+    by_digit true d = known (rw d refl)
+    by_digit false d = by_large (nat_le 65 c && nat_le c 70) refl d
+
+hexadecimal_again : (escape rest : List ℕ) (c n : ℕ) → hexadecimal_of c ≡ Some n → hexadecimal_at escape (c ∷ rest) ≡ Ok (n, rest)
+unfolding hexadecimal_at
+hexadecimal_again escape rest c n e = let k = value_known c n e in rw (k.0, k.1) refl
+
+hex4_again : (escape t : List ℕ) (n : ℕ) (rest : List ℕ) → IsHex4 t n → hex4_at escape (t ++ rest) ≡ Ok (n, rest)
+unfolding hex4_at
+hex4_again escape t n rest (a, b, c, d, p, q, r, s, text, first, second, third, fourth, value) =
+    ap (λ (l : List ℕ). hex4_at escape (l ++ rest)) text
+    ∙ rw (
+      hexadecimal_again escape (b ∷ c ∷ d ∷ rest) a p first,
+      hexadecimal_again escape (c ∷ d ∷ rest) b q second,
+      hexadecimal_again escape (d ∷ rest) c r third,
+      hexadecimal_again escape rest d s fourth
+    ) (ap (λ (m : ℕ). Ok (m, rest)) (sym value))
+
+high_again : (n : ℕ) → IsHighSurrogate n → is_high n ≡ true
+high_again n h = let least : nat_le 0xd800 n ≡ true = grind (arith, h.0) in let greatest : nat_le n 0xdbff ≡ true = grind (arith, h.1) in rw (least, greatest) refl
+
+low_again : (n : ℕ) → IsLowSurrogate n → is_low n ≡ true
+low_again n h = let least : nat_le 0xdc00 n ≡ true = grind (arith, h.0) in let greatest : nat_le n 0xdfff ≡ true = grind (arith, h.1) in rw (least, greatest) refl
+
+and_not : (a b : Bool) → b ≡ false → (a && b) ≡ false
+and_not true b e = e
+and_not false b e = refl
+
+no_surrogate : (n : ℕ) → (n < 0xd800) ⊎ (0xdfff < n) → (is_high n ≡ false) × (is_low n ≡ false)
+no_surrogate n (inl below) =
+    let high : nat_le 0xd800 n ≡ false = grind (arith, below) in
+    let low : nat_le 0xdc00 n ≡ false = grind (arith, below) in
+    (rw high refl, rw low refl)
+no_surrogate n (inr above) =
+    (and_not (nat_le 0xd800 n) (nat_le n 0xdbff) (grind (arith, above)), and_not (nat_le 0xdc00 n) (nat_le n 0xdfff) (grind (arith, above)))
+
+plain_parts : (a b d : Bool) → (a && not b && not d) ≡ true → (a ≡ true) × (b ≡ false) × (d ≡ false)
+plain_parts true false false e = (refl, refl, refl)
+plain_parts true false true e = absurd cc
+plain_parts true true d e = absurd cc
+plain_parts false b d e = absurd cc
+
+-- a letter behind a backslash, whatever the quote
+letter_again : (quote letter c : ℕ) (rest : List ℕ) → escaped_by letter ≡ Some c → piece_at quote (92 ∷ letter ∷ rest) ≡ Ok (c, rest)
+unfolding piece_at escape_at
+letter_again quote letter c rest e = by_b (letter == 98) refl
+  where
+    Asked : Type 0
+    Asked = piece_at quote (92 ∷ letter ∷ rest) ≡ Ok (c, rest)
+
+    known : (k v : ℕ) → letter ≡ k → escaped_by k ≡ Some v → piece_at quote (92 ∷ k ∷ rest) ≡ Ok (v, rest) → Asked
+    known k v same is read =
+        ap (λ (l : ℕ). piece_at quote (92 ∷ l ∷ rest)) same ∙ read ∙ ap (λ (w : ℕ). Ok (w, rest)) (same_Some v c (sym is ∙ ap escaped_by (sym same) ∙ e))
+
+    by_slash : (b : Bool) → (letter == 92) ≡ b → (letter == 98) ≡ false → (letter == 102) ≡ false → (letter == 110) ≡ false → (letter == 114) ≡ false → (letter == 116) ≡ false → (letter == 47) ≡ false → Asked
+    by_slash true h b f n r t s = known 92 92 (eqb-true letter 92 h) refl refl
+    by_slash false h b f n r t s = let none : escaped_by letter ≡ None = rw (b, f, n, r, t, s, h) refl in absurd (none-some c (sym none ∙ e))
+
+    by_solidus : (b : Bool) → (letter == 47) ≡ b → (letter == 98) ≡ false → (letter == 102) ≡ false → (letter == 110) ≡ false → (letter == 114) ≡ false → (letter == 116) ≡ false → Asked
+    by_solidus true h b f n r t = known 47 47 (eqb-true letter 47 h) refl refl
+    by_solidus false h b f n r t = by_slash (letter == 92) refl b f n r t h
+
+    by_t : (b : Bool) → (letter == 116) ≡ b → (letter == 98) ≡ false → (letter == 102) ≡ false → (letter == 110) ≡ false → (letter == 114) ≡ false → Asked
+    by_t true h b f n r = known 116 9 (eqb-true letter 116 h) refl refl
+    by_t false h b f n r = by_solidus (letter == 47) refl b f n r h
+
+    by_r : (b : Bool) → (letter == 114) ≡ b → (letter == 98) ≡ false → (letter == 102) ≡ false → (letter == 110) ≡ false → Asked
+    by_r true h b f n = known 114 13 (eqb-true letter 114 h) refl refl
+    by_r false h b f n = by_t (letter == 116) refl b f n h
+
+    by_n : (b : Bool) → (letter == 110) ≡ b → (letter == 98) ≡ false → (letter == 102) ≡ false → Asked
+    by_n true h b f = known 110 10 (eqb-true letter 110 h) refl refl
+    by_n false h b f = by_r (letter == 114) refl b f h
+
+    by_f : (b : Bool) → (letter == 102) ≡ b → (letter == 98) ≡ false → Asked
+    by_f true h b = known 102 12 (eqb-true letter 102 h) refl refl
+    by_f false h b = by_n (letter == 110) refl b h
+
+    by_b : (b : Bool) → (letter == 98) ≡ b → Asked
+    by_b true h = known 98 8 (eqb-true letter 98 h) refl refl
+    by_b false h = by_f (letter == 102) refl h
+
+quote_again : (quote : ℕ) (rest : List ℕ) → IsQuote quote → piece_at quote (92 ∷ quote ∷ rest) ≡ Ok (quote, rest)
+unfolding piece_at escape_at
+quote_again quote rest (inl e) = subst (λ (q : ℕ). piece_at q (92 ∷ q ∷ rest) ≡ Ok (q, rest)) (sym e) refl
+quote_again quote rest (inr e) = subst (λ (q : ℕ). piece_at q (92 ∷ q ∷ rest) ≡ Ok (q, rest)) (sym e) refl
+
+hex_again : (quote : ℕ) (digits : List ℕ) (c : ℕ) (rest : List ℕ) → IsHex4 digits c → (c < 0xd800) ⊎ (0xdfff < c) → piece_at quote (92 ∷ 117 ∷ (digits ++ rest)) ≡ Ok (c, rest)
+unfolding piece_at escape_at unicode_at
+hex_again quote digits c rest h side =
+    let none = no_surrogate c side in
+    rw (hex4_again (92 ∷ 117 ∷ (digits ++ rest)) digits c rest h, none.0, none.1) refl
+
+pair_again : (quote : ℕ) (a b : List ℕ) (high low : ℕ) (rest : List ℕ) → IsHex4 a high → IsHex4 b low → IsHighSurrogate high → IsLowSurrogate low
+    → piece_at quote (92 ∷ 117 ∷ (a ++ (92 ∷ 117 ∷ (b ++ rest)))) ≡ Ok (pair_of high low, rest)
+unfolding piece_at escape_at unicode_at low_at
+pair_again quote a b high low rest first second h l =
+    let whole = 92 ∷ 117 ∷ (a ++ (92 ∷ 117 ∷ (b ++ rest))) in
+    rw (hex4_again whole a high (92 ∷ 117 ∷ (b ++ rest)) first, high_again high h, hex4_again whole b low rest second, low_again low l) refl
+
+piece_again : (quote : ℕ) → IsQuote quote → (t : List ℕ) (c : ℕ) (rest : List ℕ) → IsPiece quote t c → piece_at quote (t ++ rest) ≡ Ok (c, rest)
+unfolding piece_at
+piece_again quote is t c rest (plain d e) =
+    let parts = plain_parts (nat_le 32 d) (d == 92) (d == quote) e in
+    let control : is_control d ≡ false = grind (arith, parts.0) in
+    rw (parts.1, control) refl
+piece_again quote is t c rest quote_escape = quote_again quote rest is
+piece_again quote is t c rest (letter_escape letter d e) = letter_again quote letter d rest e
+piece_again quote is t c rest (hex_escape digits d h side) = hex_again quote digits d rest h side
+piece_again quote is t c rest (pair_escape a b high low first second h l) =
+    ap (λ (x : List ℕ). piece_at quote (92 ∷ 117 ∷ x)) (append_assoc a (92 ∷ 117 ∷ b) rest) ∙ pair_again quote a b high low rest first second h l
+
+slash_inside : (quote : ℕ) → IsQuote quote → is_inside quote 92 ≡ true
+slash_inside quote (inl e) = subst (λ (q : ℕ). is_inside q 92 ≡ true) (sym e) refl
+slash_inside quote (inr e) = subst (λ (q : ℕ). is_inside q 92 ≡ true) (sym e) refl
+
+piece_begins : (quote : ℕ) → IsQuote quote → (t : List ℕ) (c : ℕ) (rest : List ℕ) → IsPiece quote t c → begins (is_inside quote) (t ++ rest) ≡ true
+piece_begins quote is t c rest (plain d e) = let parts = plain_parts (nat_le 32 d) (d == 92) (d == quote) e in rw parts.2 refl
+piece_begins quote is t c rest quote_escape = slash_inside quote is
+piece_begins quote is t c rest (letter_escape letter d e) = slash_inside quote is
+piece_begins quote is t c rest (hex_escape digits d h side) = slash_inside quote is
+piece_begins quote is t c rest (pair_escape a b high low first second h l) = slash_inside quote is
+
+piece_some : (quote : ℕ) (t : List ℕ) (c : ℕ) → IsPiece quote t c → 0 < length t
+piece_some quote t c (plain d e) = omega arith
+piece_some quote t c quote_escape = omega arith
+piece_some quote t c (letter_escape letter d e) = omega arith
+piece_some quote t c (hex_escape digits d h side) = omega arith
+piece_some quote t c (pair_escape a b high low first second h l) = omega arith
+
+some_left : (p : ℕ → Bool) (cs : List ℕ) → begins p cs ≡ true → 0 < length cs
+some_left p [] e = absurd cc
+some_left p (c ∷ cs) e = omega arith
+
+pub piece_takes : (quote : ℕ) → IsQuote quote → m.Takes (begins (is_inside quote)) (piece_at quote)
+piece_takes quote is = record {
+  shorter = λ cs rest x i e.
+      let r = piece_sound quote is cs (x, rest) i e in
+      let some = piece_some quote r.text x r.is_so in
+      let sum = ap length r.split ∙ length-append r.text rest in
+      omega (arith, some, sum);
+  some = λ cs i. some_left (is_inside quote) cs i;
+}
+
+pieces_law : (quote : ℕ) → IsQuote quote → Again (IsPiece quote) (begins (is_inside quote)) (piece_at quote) (λ rest. Unit {0})
+pieces_law quote is = record {
+  takes = piece_takes quote is;
+  again = λ t x rest h stops. piece_again quote is t x rest h;
+  starts = piece_begins quote is;
+  stops = λ t x rest h. tt;
+}
+
+joined_pieces : (quote : ℕ) (t cs : List ℕ) → ArePieces quote t cs → Joined (IsPiece quote) t cs
+joined_pieces quote t [] h = h
+joined_pieces quote t (c ∷ cs) h = (h.0, h.1, h.2, joined_pieces quote h.1 cs h.3, h.4)
+
+quote_ends : (quote : ℕ) → (quote == quote) ≡ true
+quote_ends quote = eq-eqb quote quote refl
+
+-- a string is read behind its opening quote
+pub string_again : (t bytes rest : List ℕ) → IsString t bytes → (quote : ℕ) × (inner : List ℕ) × IsQuote quote × (t ≡ quote ∷ inner) × (string_at quote (inner ++ rest) ≡ Ok (bytes, rest))
+unfolding string_at
+string_again t bytes rest (quote, inside, characters, is, pieces, text, value) =
+    let inner = inside ++ (quote ∷ []) in
+    let ends : is_inside quote quote ≡ false = rw (quote_ends quote) refl in
+    let read = many_again (IsPiece quote) (begins (is_inside quote)) (piece_at quote) (λ rest. Unit {0}) (pieces_law quote is) inside characters (quote ∷ rest) (joined_pieces quote inside characters pieces) tt ends in
+    (quote, inner, is, text, ap (string_at quote) (append_assoc inside (quote ∷ []) rest) ∙ rw (read, quote_ends quote) (ap (λ (b : List ℕ). Ok (b, rest)) (sym value)))
