@@ -10,4 +10,5 @@ pub mod Places
 pub mod Runs
 pub mod Sound
 pub mod StringTexts
+pub mod StringLoops
 mod Worked
