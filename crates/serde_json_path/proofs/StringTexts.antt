@@ -277,7 +277,7 @@ hex4_again escape t n rest (a, b, c, d, p, q, r, s, text, first, second, third, 
       hexadecimal_again escape (b ∷ c ∷ d ∷ rest) a p first,
       hexadecimal_again escape (c ∷ d ∷ rest) b q second,
       hexadecimal_again escape (d ∷ rest) c r third,
-      hexadecimal_again escape rest d s fourth
+      hexadecimal_again escape rest d s fourth,
     ) (ap (λ (m : ℕ). Ok (m, rest)) (sym value))
 
 high_again : (n : ℕ) → IsHighSurrogate n → is_high n ≡ true

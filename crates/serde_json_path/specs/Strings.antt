@@ -43,9 +43,9 @@ is_low n = nat_le 0xdc00 n && nat_le n 0xdfff
 unfoldable pub low_at : List ℕ → ℕ → List ℕ → Parsed ℕ
 low_at escape high cs =
     if begins (λ c. c == 92) cs then
-      (if begins (λ c. c == 117) (drop 1 cs) then
-        (hex4_at escape (drop 1 (drop 1 cs)) >>= λ l. if is_low l.0 then Ok (pair_of high l.0, l.1) else Err (refusal BadEscape place.LongHand escape))
-      else Err (refusal BadEscape place.LongHand escape))
+    (if begins (λ c. c == 117) (drop 1 cs) then
+    (hex4_at escape (drop 1 (drop 1 cs)) >>= λ l. if is_low l.0 then Ok (pair_of high l.0, l.1) else Err (refusal BadEscape place.LongHand escape))
+    else Err (refusal BadEscape place.LongHand escape))
     else Err (refusal BadEscape place.LongHand escape)
 
 -- behind `\u`

@@ -65,11 +65,7 @@ fn hex4<S: PathSource>(reader: &mut Reader<'_, S>, start: usize) -> Result<u32, 
 
 /// The character of a pair of surrogates, behind the high one.
 #[tactic(auto, unfolding(crate::specs::Strings::low_at))]
-fn low<S: PathSource>(
-    reader: &mut Reader<'_, S>,
-    start: usize,
-    high: u32,
-) -> Result<char, Stop>
+fn low<S: PathSource>(reader: &mut Reader<'_, S>, start: usize, high: u32) -> Result<char, Stop>
     requires { is_high high ≡ true }
     ensures moves { Moves reader.old reader.new }
     ensures near { IsNear result reader.new }
