@@ -9,4 +9,6 @@ pub mod PartLists
 pub mod Places
 pub mod Runs
 pub mod Sound
+pub mod StringTexts
+pub mod StringLoops
 mod Worked

@@ -8,6 +8,7 @@ pub mod Looking
 pub mod Ahead
 pub mod Reading
 pub mod Parsing
+pub mod Strings
 pub mod Giving
 pub mod Open
 pub mod Paths

@@ -5,6 +5,8 @@ mod error;
 mod parser;
 mod path;
 mod source;
+#[cfg(test)]
+mod tests;
 
 pub use error::{ParseError, ParseErrorKind};
 pub use parser::parse_source;

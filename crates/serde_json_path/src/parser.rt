@@ -1,9 +1,9 @@
 //! Reading a path, from left to right and each byte once.
 
 mod decode;
-mod primitive;
+pub(crate) mod primitive;
 mod query;
-mod reader;
+pub(crate) mod reader;
 mod segment;
 
 ghost use Rattle.std.specs.Prelude.{◌≡◌, ◌+◌, ◌-◌, ◌*◌, ◌^◌, ◌≤◌, max, true, length, IfErr};

@@ -2,3 +2,4 @@
 
 pub(crate) mod int;
 pub(crate) mod name;
+pub(crate) mod string;

@@ -5,6 +5,7 @@ ghost use Rattle.std.specs.Str.{is_utf8, chars};
 ghost use Rattle.std.specs.Char.{IsScalar};
 ghost use Rattle.serde_json_path.specs.Lexical.{begins, is_digit, is_name_first, is_name_char};
 ghost use Rattle.serde_json_path.specs.Ahead.{IsAhead};
+ghost use Rattle.serde_json_path.specs.Strings.{is_hexadecimal, is_letter_escape, is_control, is_inside};
 
 use crate::error::{ParseErrorKind, Place, Refusal, Stop};
 use crate::parser::decode::{byte_at, character_at};
@@ -125,6 +126,51 @@ impl<'s, S: PathSource> Reader<'s, S> {
         ensures { result ≡ begins is_name_char (left self.now) }
     {
         self.sees_name_first() || self.sees_digit()
+    }
+
+    /// Whether a hexadecimal digit is next.
+    pub(crate) fn sees_hexadecimal(&self) -> bool
+        ensures { result ≡ begins is_hexadecimal (left self.now) }
+    {
+        match self.peek() {
+            Some(next) => next.is_ascii_hexdigit(),
+            None => false,
+        }
+    }
+
+    /// Whether a character is next that stands behind a backslash for one character, in a string of these quotes; not
+    /// for `u`.
+    pub(crate) fn sees_letter_escape(&self, quote: u8) -> bool
+        requires { quote < 128 }
+        ensures { result ≡ begins (is_letter_escape quote) (left self.now) }
+    {
+        match self.peek() {
+            Some(next) => {
+                matches!(next, b'b' | b'f' | b'n' | b'r' | b't' | b'/' | b'\\') || next == quote
+            }
+            None => false,
+        }
+    }
+
+    /// Whether a control character is next.
+    pub(crate) fn sees_control(&self) -> bool
+        ensures { result ≡ begins is_control (left self.now) }
+    {
+        match self.peek() {
+            Some(next) => next < 32,
+            None => false,
+        }
+    }
+
+    /// Whether a string of these quotes goes on here.
+    pub(crate) fn sees_inside(&self, quote: u8) -> bool
+        requires { quote < 128 }
+        ensures { result ≡ begins (is_inside quote) (left self.now) }
+    {
+        match self.peek() {
+            Some(next) => next != quote,
+            None => false,
+        }
     }
 
     /// Whether a segment begins here.

@@ -1,0 +1,3 @@
+//! The pieces of a path's text.
+
+mod strings;
