@@ -3,6 +3,7 @@
 
 mod builtin;
 mod error;
+mod patterns;
 mod set;
 mod signature;
 #[cfg(test)]
