@@ -1,4 +1,5 @@
 pub mod Functions
+pub mod BothTypes
 pub mod BuiltinTypes
 pub mod Patterns
 pub mod Terms

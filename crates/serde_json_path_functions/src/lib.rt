@@ -1,6 +1,7 @@
 //! Functions of filters, their arguments and answers (RFC 9535, section 2.4), and why a query is refused.
 #![tactic(auto)]
 
+mod both;
 mod builtin;
 mod error;
 mod patterns;
@@ -10,6 +11,7 @@ mod signature;
 mod tests;
 mod types;
 
+pub use both::Both;
 pub use builtin::Builtin;
 pub use error::QueryError;
 pub use set::Functions;
