@@ -1,10 +1,9 @@
 -- The test of two signatures tells whether they are one, and so does that of each signature that a query keeps.
-use Rattle.std.proofs.Common.{◌≡◌, List, [], ◌∷◌, drop, map, Bool, true, false, ◌&&◌, true≢false, Option, Some, None, IsTrue, refl, sym, ap, ◌∙◌}
+use Rattle.std.proofs.Common.{◌≡◌, List, [], ◌∷◌, map, Bool, ◌&&◌, true≢false, refl, sym, ap}
 use Rattle.std.specs.Bool.{Decides}
 use Rattle.std.specs.Cmp.Lexicographic.{pointwise}
 use Rattle.std.proofs.lemmas.Bool.Decides.{Decides-and}
-use Rattle.std.proofs.lemmas.Option.{same_Some, none-some}
-use Rattle.serde_json_path_functions.specs.Functions.{Kind, of_value, of_nodes, of_logical, Signature, FunctionSet, Fits}
+use Rattle.serde_json_path_functions.specs.Functions.{Kind, Signature}
 use Rattle.serde_json_path_functions.specs.Terms.{kind_view}
 use Rattle.serde_json_path_functions.specs.declared.types.FunctionArgType.{FunctionArgType}
 use Rattle.serde_json_path_functions.specs.declared.types.FunctionArgType.TheVariants as kind

@@ -1,7 +1,12 @@
 -- The built-in functions keep their types.
-use Rattle.std.proofs.Common.{◌≡◌, ◌≤◌, List, [], ◌∷◌, length, map, Bool, true, false, Option, Some, None, bytes_eq, codes, if◌then◌else◌, refl, ap, ◌∙◌, subst, arith}
+use Rattle.std.proofs.Common.{◌≡◌, ℕ, ◌≤◌, List, [], ◌∷◌, length, Bool, true, false, true≢false, Option, Some, None, IsSome, bytes_eq, codes, if◌then◌else◌, inl, inr, refl, sym, ap, ◌∙◌, subst, arith}
+use Rattle.std.proofs.lemmas.Bool.{cases_Bool}
 use Rattle.std.proofs.lemmas.Option.{same_Some}
-use Rattle.serde_json_path_functions.specs.Functions.{of_value, of_nodes, Signature, Term, value, nodes, logical, kind_of_term, KeepsTypes, length_meaning, count_meaning, value_meaning, plain_functions}
+use Rattle.std.proofs.lemmas.Slice.Eq.{bytes_eq-Decides}
+use Rattle.serde_json.specs.Data.{string}
+use Rattle.serde_json_path_functions.specs.BothTypes.{Keeps}
+use Rattle.serde_json_path_functions.specs.Functions.{of_value, of_nodes, of_logical, Signature, Term, value, nodes, logical, kind_of_term, Matching, whole_text, any_part, KeepsTypes, first_signature, length_meaning, count_meaning, value_meaning, plain_meaning, plain_signature, pattern_signature, builtin_by_regex}
+use Rattle.serde_json_path_functions.specs.Patterns.{pattern_meaning, meaning_by, builtin_functions}
 
 length_typed : (ts : List Term) → kind_of_term (length_meaning ts) ≡ of_value
 length_typed [] = refl
@@ -24,22 +29,62 @@ value_typed (nodes ds ∷ t ∷ ts) = refl
 value_typed (value v ∷ ts) = refl
 value_typed (logical b ∷ ts) = refl
 
-abbrev signature_by : Bool → Bool → Bool → Option Signature
-signature_by a b c =
+pattern_typed : (matching : Matching) (ts : List Term) → kind_of_term (pattern_meaning matching ts) ≡ of_logical
+pattern_typed matching (value (Some (string text)) ∷ value (Some (string pattern)) ∷ []) = refl
+pattern_typed matching _ = refl
+
+declared_keeps : (declared : Signature) (meaning : List Term → Term) → length declared.params ≤ 8
+    → ((ts : List Term) → kind_of_term (meaning ts) ≡ declared.result) → Keeps (Some declared) meaning
+declared_keeps declared meaning few typed s e =
+    let same = same_Some declared s e in (subst (λ x. length x.params ≤ 8) same few, λ ts h. typed ts ∙ ap (λ x. x.result) same)
+
+abbrev plain_by : Bool → Bool → Bool → Option Signature
+plain_by a b c =
     if a then Some (record { params = of_value ∷ []; result = of_value })
     else if b then Some (record { params = of_nodes ∷ []; result = of_value })
     else if c then Some (record { params = of_nodes ∷ []; result = of_value })
     else None
 
-abbrev meaning_by : Bool → Bool → List Term → Term
-meaning_by a b ts = if a then length_meaning ts else if b then count_meaning ts else value_meaning ts
+plain_keeps : (a b c : Bool) → Keeps (plain_by a b c) (λ ts. if a then length_meaning ts else if b then count_meaning ts else value_meaning ts)
+plain_keeps true b c = declared_keeps _ length_meaning (omega arith) length_typed
+plain_keeps false true c = declared_keeps _ count_meaning (omega arith) count_typed
+plain_keeps false false true = declared_keeps _ value_meaning (omega arith) value_typed
+plain_keeps false false false = λ s e. absurd cc
 
-kept : (a b c : Bool) (s : Signature) → signature_by a b c ≡ Some s
-    → (length s.params ≤ 8) × ((ts : List Term) → map kind_of_term ts ≡ s.params → kind_of_term (meaning_by a b ts) ≡ s.result)
-kept true b c s e = let same = same_Some _ s e in (subst (λ x. length x.params ≤ 8) same (omega arith), λ ts h. length_typed ts ∙ ap (λ x. x.result) same)
-kept false true c s e = let same = same_Some _ s e in (subst (λ x. length x.params ≤ 8) same (omega arith), λ ts h. count_typed ts ∙ ap (λ x. x.result) same)
-kept false false true s e = let same = same_Some _ s e in (subst (λ x. length x.params ≤ 8) same (omega arith), λ ts h. value_typed ts ∙ ap (λ x. x.result) same)
-kept false false false s e = absurd cc
+abbrev pattern_by : Bool → Bool → Option Signature
+pattern_by d e =
+    if d then Some (record { params = of_value ∷ of_value ∷ []; result = of_logical })
+    else if e then Some (record { params = of_value ∷ of_value ∷ []; result = of_logical })
+    else None
 
-pub plain_keeps_types : KeepsTypes plain_functions
-plain_keeps_types name s e = kept (bytes_eq name (codes "length")) (bytes_eq name (codes "count")) (bytes_eq name (codes "value")) s e
+abbrev matching_by : Bool → Bool → Option Matching
+matching_by d e = if d then Some whole_text else if e then Some any_part else None
+
+pattern_keeps : (d e : Bool) (plain : List Term → Term) → Keeps (pattern_by d e) (λ ts. meaning_by (matching_by d e) (plain ts) ts)
+pattern_keeps true e plain = declared_keeps _ (pattern_meaning whole_text) (omega arith) (pattern_typed whole_text)
+pattern_keeps false true plain = declared_keeps _ (pattern_meaning any_part) (omega arith) (pattern_typed any_part)
+pattern_keeps false false plain = λ s e. absurd cc
+
+-- a plain name goes without `regex`
+goes_without : (name : List ℕ) → IsSome (plain_signature name) → builtin_by_regex name ≡ None
+goes_without name plain =
+    elim (cases_Bool (bytes_eq name (codes "match"))) [
+      | inl is_match ↦ absurd (true≢false (sym (subst (λ n. IsSome (plain_signature n)) ((bytes_eq-Decides name (codes "match")).0 is_match) plain)))
+      | inr no_match ↦ elim (cases_Bool (bytes_eq name (codes "search"))) [
+        | inl is_search ↦ absurd (true≢false (sym (subst (λ n. IsSome (plain_signature n)) ((bytes_eq-Decides name (codes "search")).0 is_search) plain)))
+        | inr no_search ↦ rw (no_match, no_search) refl
+      ]
+    ]
+
+either_keeps : (o p : Option Signature) (r : Option Matching) (plain : List Term → Term) → Keeps o plain → Keeps p (λ ts. meaning_by r (plain ts) ts)
+    → (IsSome o → r ≡ None) → Keeps (first_signature o p) (λ ts. meaning_by r (plain ts) ts)
+either_keeps None p r plain first second apart = second
+either_keeps (Some q) p r plain first second apart =
+    subst (λ x. Keeps (Some q) (λ ts. meaning_by x (plain ts) ts)) (sym (apart refl)) first
+
+pub builtin_keeps_types : KeepsTypes builtin_functions
+builtin_keeps_types name =
+    either_keeps (plain_signature name) (pattern_signature name) (builtin_by_regex name) (plain_meaning name)
+    (plain_keeps (bytes_eq name (codes "length")) (bytes_eq name (codes "count")) (bytes_eq name (codes "value")))
+    (pattern_keeps (bytes_eq name (codes "match")) (bytes_eq name (codes "search")) (plain_meaning name))
+    (goes_without name)

@@ -140,7 +140,3 @@ plain_meaning name ts =
     if bytes_eq name (codes "length") then length_meaning ts
     else if bytes_eq name (codes "count") then count_meaning ts
     else value_meaning ts
-
--- the set of `length`, `count` and `value`
-abbrev pub plain_functions : FunctionSet
-plain_functions = record { signature = plain_signature; meaning = plain_meaning; by_regex = λ name. None }

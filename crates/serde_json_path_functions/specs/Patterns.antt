@@ -1,9 +1,9 @@
 -- The patterns of `match` and `search`, as `regex` reads them (RFC 9535, sections 2.4.6 and 2.4.7).
-use Rattle.std.specs.Prelude.{ℕ, ◌≤◌, List, [], ◌∷◌, ◌++◌, Option, Some, IfSome, codes, chars}
+use Rattle.std.specs.Prelude.{ℕ, ◌≤◌, List, [], ◌∷◌, ◌++◌, Bool, false, Option, None, Some, IfSome, is_some, option_and_then, codes, chars}
 use Rattle.regex_syntax.specs.Grammar.{read}
-use Rattle.regex.specs.Patterns.{default_config}
+use Rattle.regex.specs.Patterns.{default_config, find_str}
 use Rattle.serde_json.specs.Data.{string}
-use Rattle.serde_json_path_functions.specs.Functions.{Term, value, Matching, whole_text, any_part}
+use Rattle.serde_json_path_functions.specs.Functions.{Term, value, logical, Matching, whole_text, any_part, FunctionSet, builtin_signature, builtin_by_regex, plain_meaning}
 
 -- the text that is built of an argument
 abbrev pub built_text : Matching → List ℕ → List ℕ
@@ -18,3 +18,25 @@ IsWithinNesting text = IfSome (read default_config (chars text)) (λ (re, names)
 abbrev pub IsPromised : Option Matching → List Term → Type 0
 IsPromised (Some matching) (value (Some (string text)) ∷ value (Some (string pattern)) ∷ []) = IsWithinNesting (built_text matching pattern)
 IsPromised _ _ = Unit {0}
+
+-- `regex` reads the text as a pattern, and finds it in the other text
+abbrev pub is_found : List ℕ → List ℕ → Bool
+is_found pattern text = is_some (option_and_then (λ (re, names). find_str re.value text 0) (read default_config (chars pattern)))
+
+-- `match` and `search` of a text and a pattern, which are texts both, or else false (sections 2.4.6 and 2.4.7)
+abbrev pub pattern_meaning : Matching → List Term → Term
+pattern_meaning matching (value (Some (string text)) ∷ value (Some (string pattern)) ∷ []) = logical (is_found (built_text matching pattern) text)
+pattern_meaning _ _ = logical false
+
+-- what a name means that goes by `regex`, or goes without
+abbrev pub meaning_by : Option Matching → Term → List Term → Term
+meaning_by None plain ts = plain
+meaning_by (Some matching) plain ts = pattern_meaning matching ts
+
+-- the set of `length`, `count`, `value`, `match` and `search`
+abbrev pub builtin_functions : FunctionSet
+builtin_functions = record {
+  signature = builtin_signature;
+  meaning = λ name ts. meaning_by (builtin_by_regex name) (plain_meaning name ts) ts;
+  by_regex = builtin_by_regex;
+}

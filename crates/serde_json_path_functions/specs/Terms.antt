@@ -3,7 +3,8 @@ use Rattle.std.specs.Prelude.{List, map, take, Bool, true, false, Option, Some, 
 use Rattle.serde_json.specs.Data.{Data}
 use Rattle.serde_json.specs.View.{view}
 use Rattle.serde_json_path_nodes.specs.Views.{node_value}
-use Rattle.serde_json_path_functions.specs.Functions.{Kind, of_value, of_nodes, of_logical, Signature, Term, value, nodes, logical}
+use Rattle.serde_json_path_functions.specs.Functions.{Kind, of_value, of_nodes, of_logical, Signature, Term, value, nodes, logical, whole_text, any_part}
+use Rattle.serde_json_path_functions.specs.Functions as spec
 use Rattle.serde_json_path_functions.specs.declared.types.FunctionArgType.{FunctionArgType}
 use Rattle.serde_json_path_functions.specs.declared.types.FunctionArgType.TheVariants as kind
 use Rattle.serde_json_path_functions.specs.declared.types.LogicalType.{LogicalType}
@@ -14,6 +15,8 @@ use Rattle.serde_json_path_functions.specs.declared.types.NodesType.{NodesType}
 use Rattle.serde_json_path_functions.specs.declared.types.FunctionValue.{FunctionValue}
 use Rattle.serde_json_path_functions.specs.declared.types.FunctionValue.TheVariants as function
 use Rattle.serde_json_path_functions.specs.declared.signature.Signature as declared
+use Rattle.serde_json_path_functions.specs.declared.patterns.Matching.{Matching}
+use Rattle.serde_json_path_functions.specs.declared.patterns.Matching.TheVariants.{WholeText, AnyPart}
 
 abbrev pub kind_view : FunctionArgType → Kind
 kind_view kind.Value = of_value
@@ -40,3 +43,7 @@ term_view (function.Logical b) = logical (truth_view b)
 
 abbrev pub signature_view : declared.Signature → Signature
 signature_view s = record { params = map kind_view (take s.count s.types); result = kind_view s.answer }
+
+abbrev pub matching_view : Matching → spec.Matching
+matching_view WholeText = whole_text
+matching_view AnyPart = any_part

@@ -1,19 +1,21 @@
-//! The built-in functions (RFC 9535, sections 2.4.4, 2.4.5 and 2.4.8).
+//! The built-in functions (RFC 9535, sections 2.4.4 to 2.4.8).
 
-ghost use Rattle.std.specs.Prelude.{◌≡◌, length};
+ghost use Rattle.std.specs.Prelude.{◌≡◌, [], ◌∷◌, length, map, IfOk};
 ghost use Rattle.std.specs.Str.{chars};
-ghost use Rattle.serde_json_path_functions.specs.Functions.{counted, length_of, value_of_one, plain_functions};
-ghost use Rattle.serde_json_path_functions.specs.Terms.{term_view, value_view, nodes_view};
+ghost use Rattle.serde_json_path_functions.specs.Functions.{value, logical, of_logical, kind_of_term, Takes, plain_signature, plain_meaning, counted, length_of, value_of_one};
+ghost use Rattle.serde_json_path_functions.specs.Patterns.{IsPromised, pattern_meaning};
+ghost use Rattle.serde_json_path_functions.specs.Terms.{term_view, value_view, nodes_view, matching_view};
 ghost use Rattle.serde_json_path_functions.specs.Functions as spec;
 
 use crate::error::QueryError;
+use crate::patterns::{Matching, is_found};
 use crate::set::Functions;
 use crate::signature::Signature;
-use crate::types::{FunctionArgType, FunctionValue, NodesType, ValueType};
+use crate::types::{FunctionArgType, FunctionValue, LogicalType, NodesType, ValueType};
 use serde_json::Value;
 use std::alloc::Global;
 
-/// The built-in functions `length`, `count` and `value`.
+/// The built-in functions `length`, `count`, `value`, `match` and `search`.
 #[derive(Clone, Copy, Debug)]
 pub struct Builtin;
 
@@ -53,12 +55,66 @@ fn value_of_one<'b>(nodes: &NodesType<'b>) -> ValueType<'b>
     }
 }
 
+/// What `length`, `count` or `value` gives.
+fn plain_answer<'b>(name: &str, mut args: Vec<FunctionValue<'b>>) -> ValueType<'b>
+    requires { Takes (plain_signature name.now) (map term_view args.items) }
+    ensures { value (value_view result) ≡ plain_meaning name.now (map term_view args.entry.items) }
+{
+    match (name, args.pop()) {
+        ("length", Some(FunctionValue::Value(value))) => length(&value),
+        ("count", Some(FunctionValue::Nodes(nodes))) => counted(nodes.len()),
+        ("value", Some(FunctionValue::Nodes(nodes))) => value_of_one(&nodes),
+        _ => unreachable!(),
+    }
+}
+
+/// Whether a text matches a pattern; false unless both are texts.
+fn texts_match(
+    alloc: Global,
+    matching: Matching,
+    text: &ValueType,
+    pattern: &ValueType,
+) -> Result<bool, QueryError>
+    ensures { IfOk result (λ found. let terms = value (value_view text.now) ∷ value (value_view pattern.now) ∷ [] in
+        IsPromised (Some (matching_view matching)) terms → logical found ≡ pattern_meaning (matching_view matching) terms) }
+{
+    match (text.as_value(), pattern.as_value()) {
+        (Some(Value::String(text)), Some(Value::String(pattern))) => {
+            is_found(alloc, matching, pattern.as_str(), text.as_str())
+        }
+        _ => Ok(false),
+    }
+}
+
+/// What `match` or `search` gives; false unless there are two arguments.
+fn pattern_answer<'b>(
+    alloc: Global,
+    matching: Matching,
+    args: &[FunctionValue<'b>],
+) -> Result<FunctionValue<'b>, QueryError>
+    ensures means { IfOk result (λ answer. IsPromised (Some (matching_view matching)) (map term_view args.now)
+        → term_view answer ≡ pattern_meaning (matching_view matching) (map term_view args.now)) }
+    ensures typed_answer { IfOk result (λ answer. kind_of_term (term_view answer) ≡ of_logical) }
+{
+    let found = match args {
+        [text, pattern] => match (text, pattern) {
+            (FunctionValue::Value(text), FunctionValue::Value(pattern)) => {
+                texts_match(alloc, matching, text, pattern)?
+            }
+            _ => false,
+        },
+        _ => false,
+    };
+    Ok(FunctionValue::Logical(LogicalType::from(found)))
+}
+
 impl Functions for Builtin {
-    ghost use Rattle.serde_json_path_functions.specs.BuiltinTypes.{plain_keeps_types};
+    ghost use Rattle.serde_json_path_functions.specs.BuiltinTypes.{builtin_keeps_types};
+    ghost use Rattle.serde_json_path_functions.specs.Patterns.{builtin_functions};
 
-    ghost set = { λ _. plain_functions };
+    ghost set = { λ _. builtin_functions };
 
-    ghost typed = { λ _. plain_keeps_types };
+    ghost typed = { λ _. builtin_keeps_types };
 
     fn signature(&self, name: &str) -> Option<Signature> {
         match name {
@@ -66,6 +122,10 @@ impl Functions for Builtin {
             "count" | "value" => {
                 Signature::new(&[FunctionArgType::Nodelist], FunctionArgType::Value)
             }
+            "match" | "search" => Signature::new(
+                &[FunctionArgType::Value, FunctionArgType::Value],
+                FunctionArgType::Logical,
+            ),
             _ => None,
         }
     }
@@ -74,19 +134,12 @@ impl Functions for Builtin {
         &self,
         alloc: Global,
         name: &str,
-        mut args: Vec<FunctionValue<'b>>,
+        args: Vec<FunctionValue<'b>>,
     ) -> Result<FunctionValue<'b>, QueryError> {
-        match (name, args.pop()) {
-            ("length", Some(FunctionValue::Value(value))) => {
-                Ok(FunctionValue::Value(length(&value)))
-            }
-            ("count", Some(FunctionValue::Nodes(nodes))) => {
-                Ok(FunctionValue::Value(counted(nodes.len())))
-            }
-            ("value", Some(FunctionValue::Nodes(nodes))) => {
-                Ok(FunctionValue::Value(value_of_one(&nodes)))
-            }
-            _ => unreachable!(),
+        match name {
+            "match" => pattern_answer(alloc, Matching::WholeText, args.as_slice()),
+            "search" => pattern_answer(alloc, Matching::AnyPart, args.as_slice()),
+            _ => Ok(FunctionValue::Value(plain_answer(name, args))),
         }
     }
 }

@@ -1,6 +1,8 @@
-//! Types of functions, what the built-in functions answer, and errors.
+//! Types of functions, what the built-in functions answer, sets of functions, and errors.
 
+mod both;
 mod functions;
+mod patterns;
 
 use crate::QueryError;
 use std::test::Fail;

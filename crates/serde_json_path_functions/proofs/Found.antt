@@ -1,0 +1,40 @@
+-- What `regex` finds is what the specification's reading of a pattern finds.
+use Rattle.std.proofs.Common.{◌≡◌, ℕ, ◌<◌, ◌≤◌, ◌⊎◌, List, length, get_or, true, false, Option, None, Some, IfSome, IsSomeAnd, is_some, option_and_then, inl, inr, refl, arith}
+use Rattle.std.specs.Str.{chars}
+use Rattle.regex_syntax.specs.Brackets.{Nested}
+use Rattle.regex_syntax.specs.Grammar.{Names, group_count, read}
+use Rattle.regex_syntax.specs.declared.error.ErrorKind.{ErrorKind}
+use Rattle.regex_syntax.specs.declared.error.ErrorKind.TheVariants.{OutOfMemory}
+use Rattle.regex.specs.Patterns.{Re, SameCaptures, Reads, Refuses, default_config, find_str}
+use Rattle.regex.specs.Strings.{regex_pattern, regex_source, regex_config, IsReadFromSource}
+use Rattle.regex.specs.declared.string.regex.Regex.{Regex}
+use Rattle.regex.proofs.ForCallers.{is_match_alike}
+use Rattle.serde_json_path_functions.specs.Patterns.{IsWithinNesting, is_found}
+
+found_alike : (o : Option (Nested Re × Names)) (most : ℕ) (a : Re) (names : Names) (text : List ℕ) → ((k : ℕ) → get_or text k 0 < 256) →
+    IsSomeAnd o (λ (re, found). (re.depth ≤ most) × SameCaptures a re.value × (names ≡ found) × (group_count a ≤ length names)) →
+    is_some (find_str a text 0) ≡ is_some (option_and_then (λ (re, names). find_str re.value text 0) o)
+found_alike None most a names text bytes h = absurd h
+found_alike (Some found) most a names text bytes h = is_match_alike h.1 text bytes true 0
+
+-- a compiled pattern is found where the text that it was compiled from says so
+pub found_as_read : (r : Regex) (source text : List ℕ) → regex_source r ≡ source → regex_config r ≡ default_config → IsReadFromSource r →
+    ((k : ℕ) → get_or text k 0 < 256) → is_some (find_str (regex_pattern r) text 0) ≡ is_found source text
+unfolding Reads
+found_as_read r source text is_source is_default is_read bytes =
+    found_alike (read default_config (chars source)) default_config.nest_limit _ _ text bytes (rw (is_source, is_default) at is_read)
+
+none_found : {A : Type 0} (o : Option (Nested Re × Names)) (most : ℕ) (text : List ℕ) → IfSome o (λ (re, names). re.depth ≤ most) →
+    (o ≡ None) ⊎ (A × IfSome o (λ (re, names). most < re.depth)) →
+    false ≡ is_some (option_and_then (λ (re, names). find_str re.value text 0) o)
+none_found None most text within refused = refl
+none_found (Some found) most text within (inl none) = absurd cc
+none_found (Some found) most text within (inr deep) = absurd (omega arith)
+
+-- a text that the grammar refuses, and not as nested too deep, is found nowhere
+pub refused_is_not_found : (source text : List ℕ) (kind : ErrorKind) → Refuses default_config source kind → (kind ≡ OutOfMemory → ⊥) →
+    IsWithinNesting source → false ≡ is_found source text
+unfolding Refuses
+refused_is_not_found source text kind (inl memory) other within = absurd (other memory)
+refused_is_not_found source text kind (inr refused) other within =
+    none_found (read default_config (chars source)) default_config.nest_limit text within refused

@@ -1,0 +1,45 @@
+//! Two sets of functions, one before the other.
+
+use crate::error::QueryError;
+use crate::set::Functions;
+use crate::signature::Signature;
+use crate::types::FunctionValue;
+use std::alloc::Global;
+
+/// The functions of the first set, and then those of the second whose names the first does not declare.
+///
+/// Functions of one's own stand before the built-in ones, and in place of those of the same name, in:
+///
+/// ```text
+/// let functions = Both(&own, Builtin);
+/// ```
+#[derive(Debug, Drop)]
+pub struct Both<A, B>(pub A, pub B);
+
+impl<A: Functions, B: Functions> Functions for Both<A, B> {
+    ghost use Rattle.serde_json_path_functions.specs.BothTypes.{both_keeps_types};
+    ghost use Rattle.serde_json_path_functions.specs.Functions.{both};
+
+    ghost set = { λ functions. both (A.set functions.0) (B.set functions.1) };
+
+    ghost typed = { λ functions. both_keeps_types (A.set functions.0) (B.set functions.1) (A.typed functions.0) (B.typed functions.1) };
+
+    fn signature(&self, name: &str) -> Option<Signature> {
+        match self.0.signature(name) {
+            Some(signature) => Some(signature),
+            None => self.1.signature(name),
+        }
+    }
+
+    fn call<'b>(
+        &self,
+        alloc: Global,
+        name: &str,
+        args: Vec<FunctionValue<'b>>,
+    ) -> Result<FunctionValue<'b>, QueryError> {
+        match self.0.signature(name) {
+            Some(_) => self.0.call(alloc, name, args),
+            None => self.1.call(alloc, name, args),
+        }
+    }
+}
