@@ -11,4 +11,5 @@ pub mod Runs
 pub mod Sound
 pub mod StringTexts
 pub mod StringLoops
+pub mod StringPlaces
 mod Worked

@@ -35,24 +35,24 @@ pub record Stands (cs : List ℕ) (r : Refusal) : Type 0 where
 err_is : {A : Type 0} (d r : Refusal) (read : Result A Refusal) → read ≡ Err d → read ≡ Err r → d ≡ r
 err_is d r read e f = cc
 
-here : {A : Type 0} (kind : ParseErrorKind) (at : declared.Place) (cs : List ℕ) (read : Result A Refusal) (r : Refusal) → is_inner kind ≡ true → read ≡ Err (refusal kind at cs) → read ≡ Err r → Stands cs r
+pub here : {A : Type 0} (kind : ParseErrorKind) (at : declared.Place) (cs : List ℕ) (read : Result A Refusal) (r : Refusal) → is_inner kind ≡ true → read ≡ Err (refusal kind at cs) → read ≡ Err r → Stands cs r
 here kind at cs read r inner e h =
     let same : refusal kind at cs ≡ r = err_is (refusal kind at cs) r read e h in
     record { before = []; rest = cs; split = refl; left = sym (ap (λ (g : Refusal). g.left) same); inner = subst (λ (g : Refusal). is_inner g.kind ≡ true) same inner }
 
-further : (cs t rest : List ℕ) (r : Refusal) → cs ≡ t ++ rest → Stands rest r → Stands cs r
+pub further : (cs t rest : List ℕ) (r : Refusal) → cs ≡ t ++ rest → Stands rest r → Stands cs r
 further cs t rest r e s = record { before = t ++ s.before; rest = s.rest; split = e ∙ ap (λ (l : List ℕ). t ++ l) s.split ∙ sym (append_assoc t s.before s.rest); left = s.left; inner = s.inner }
 
-bind_stands : {A B : Type 0} (cs : List ℕ) (read : Result A Refusal) (next : A → Result B Refusal) (r : Refusal) → ((d : Refusal) → read ≡ Err d → Stands cs d) → ((x : A) → read ≡ Ok x → next x ≡ Err r → Stands cs r) → (read >>= next) ≡ Err r → Stands cs r
+pub bind_stands : {A B : Type 0} (cs : List ℕ) (read : Result A Refusal) (next : A → Result B Refusal) (r : Refusal) → ((d : Refusal) → read ≡ Err d → Stands cs d) → ((x : A) → read ≡ Ok x → next x ≡ Err r → Stands cs r) → (read >>= next) ≡ Err r → Stands cs r
 bind_stands cs (Ok x) next r a b e = b x refl e
 bind_stands cs (Err d) next r a b e = let same : d ≡ r = cc in a r (ap (λ (x : Refusal). Err x) same)
 
 -- a test with a refusal behind it
-guard_stands : {A : Type 0} (cs : List ℕ) (b : Bool) (x : Result A Refusal) (kind : ParseErrorKind) (at : declared.Place) (r : Refusal) → is_inner kind ≡ true → (x ≡ Err r → Stands cs r) → cond b x (Err (refusal kind at cs)) ≡ Err r → Stands cs r
+pub guard_stands : {A : Type 0} (cs : List ℕ) (b : Bool) (x : Result A Refusal) (kind : ParseErrorKind) (at : declared.Place) (r : Refusal) → is_inner kind ≡ true → (x ≡ Err r → Stands cs r) → cond b x (Err (refusal kind at cs)) ≡ Err r → Stands cs r
 guard_stands cs true x kind at r inner h e = h e
 guard_stands cs false x kind at r inner h e = here kind at cs (Err (refusal kind at cs)) r inner refl e
 
-no_refusal : {A : Type 0} (cs : List ℕ) (y : A) (r : Refusal) → done y ≡ Err r → Stands cs r
+pub no_refusal : {A : Type 0} (cs : List ℕ) (y : A) (r : Refusal) → done y ≡ Err r → Stands cs r
 no_refusal cs y r e = absurd cc
 
 name_stands : (at : declared.Place) (cs : List ℕ) (r : Refusal) → name_at at cs ≡ Err r → Stands cs r
@@ -89,7 +89,7 @@ segment_stands cs r e = elim (chosen (begins (λ c. c == 46) cs) (dot_at (drop 1
 ]
 
 module _ {A : Type 0} (is : List ℕ → A → Type 0) (more : List ℕ → Bool) (item : List ℕ → Parsed A) (sound : (cs : List ℕ) (x : A × List ℕ) → more cs ≡ true → item cs ≡ Ok x → Read is cs x) (stands : (cs : List ℕ) (r : Refusal) → item cs ≡ Err r → Stands cs r) where
-  many_stands : (n : ℕ) (cs : List ℕ) (r : Refusal) → many_at more item n cs ≡ Err r → Stands cs r
+  pub many_stands : (n : ℕ) (cs : List ℕ) (r : Refusal) → many_at more item n cs ≡ Err r → Stands cs r
   unfolding many_at
   many_stands zero cs r e = no_refusal cs _ r e
   many_stands (suc n) cs r e = elim (chosen (more cs) (item cs >>= λ a. many_at more item n a.1 >>= λ b. Ok (a.0 ∷ b.0, b.1)) (done ([], cs)) (Err r) e) [

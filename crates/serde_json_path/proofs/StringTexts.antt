@@ -214,7 +214,7 @@ escape_sound quote cs x is slash e =
 plain_is : (quote c : ℕ) → is_inside quote c ≡ true → (c == 92) ≡ false → is_control c ≡ false → is_plain quote c ≡ true
 plain_is quote c inside slash control = let least : nat_le 32 c ≡ true = grind (arith, control) in rw (least, slash, inside) refl
 
-piece_sound : (quote : ℕ) → IsQuote quote → (cs : List ℕ) (x : ℕ × List ℕ) → begins (is_inside quote) cs ≡ true → piece_at quote cs ≡ Ok x → Read (IsPiece quote) cs x
+pub piece_sound : (quote : ℕ) → IsQuote quote → (cs : List ℕ) (x : ℕ × List ℕ) → begins (is_inside quote) cs ≡ true → piece_at quote cs ≡ Ok x → Read (IsPiece quote) cs x
 unfolding piece_at
 piece_sound quote is [] x i e = absurd cc
 piece_sound quote is (c ∷ cs) x i e =

@@ -3,7 +3,7 @@ use Rattle.std.proofs.lemmas.Result.{IfOk-weaker, IfErr-weaker}
 use Rattle.serde_json.specs.View.{view}
 use Rattle.serde_json_path_nodes.specs.Views.{located_nodes}
 use Rattle.serde_json_path_core.specs.Tree.{segments_of}
-use Rattle.serde_json_path_functions.specs.Functions.{plain_functions}
+use Rattle.serde_json_path_functions.specs.Patterns.{builtin_functions}
 use Rattle.serde_json_path_core.specs.Calls.{GoesWithoutPattern, IsClearCall}
 use Rattle.serde_json_path_functions.specs.declared.error.QueryError.TheVariants.{Memory}
 use Rattle.serde_json_path.specs.Paths.{path_tree}
@@ -16,11 +16,11 @@ returns-clause-selects c =
     let document = view c.args.value.now in
     let open_forms = are_open (segments_of tree) c.args.self.now.open_forms in
     IfOk-weaker c.evaluate_located.result _ _
-    (λ list result F. same_result plain_functions F document tree open_forms document (located_nodes list) (result (each_of_query (IsClearCall plain_functions document) tree open_forms)))
+    (λ list result F. same_result builtin_functions F document tree open_forms document (located_nodes list) (result (each_of_query (IsClearCall builtin_functions document) tree open_forms)))
     c.evaluate_located.ensures.selects
 
 pub returns-clause-refused : goal.returns-clause-refused
 returns-clause-refused c =
     let tree = path_tree c.args.self.now in
-    let without = each_of_query (GoesWithoutPattern plain_functions) tree (are_open (segments_of tree) c.args.self.now.open_forms) in
+    let without = each_of_query (GoesWithoutPattern builtin_functions) tree (are_open (segments_of tree) c.args.self.now.open_forms) in
     IfErr-weaker c.evaluate_located.result _ (λ e. e ≡ Memory) (λ e memory. memory without) c.evaluate_located.ensures.refused
