@@ -3,35 +3,30 @@
 use crate::tests::building::locations;
 use crate::tests::walks::gives_each;
 use crate::tests::written::filtered;
-use crate::{SegmentKind, evaluate_located, walk};
+use crate::{evaluate_located, walk};
 use serde_json::Value;
 use serde_json_path_functions::Builtin;
 use std::alloc::Global;
 use std::process::Abort;
 use std::test::Fail;
 
-/// The locations of what a segment with that filter selects in the document.
-fn selected(
-    alloc: Global,
-    kind: SegmentKind,
-    expression: &str,
-    document: &str,
-) -> Result<String, Fail> {
+/// The locations of what a filter with that expression selects in the document, behind `$`, `$..` or `$` with one step.
+fn selected(alloc: Global, before: &str, expression: &str, document: &str) -> Result<String, Fail> {
     let root = Value::from_str(alloc, document)?;
-    let query = filtered(alloc, kind, expression)?;
+    let query = filtered(alloc, before, expression)?;
     let nodes = evaluate_located(alloc, &query, &root, &root, Builtin)?;
     locations(alloc, &nodes)
 }
 
-/// Each row has the expression of a filter, a document, and the locations of what a segment with the filter selects there.
+/// Each row has the expression of a filter, a document, and the locations of what the filter selects there.
 fn selects_each(
     rt: &impl Abort,
     alloc: Global,
-    kind: SegmentKind,
+    before: &str,
     rows: &[(&str, &str, &str)],
 ) -> Result<(), Fail> {
     for &(expression, document, want) in rows {
-        let text = selected(alloc, kind, expression, document)?;
+        let text = selected(alloc, before, expression, document)?;
         assert_eq!(rt; text.as_str(), want, "of {expression} in {document}");
     }
     Ok(())
@@ -55,7 +50,7 @@ fn tests_whether_a_query_selects_a_node(rt: HostRuntime) -> Result<(), Fail> {
         ("@.a", r#""a""#, ""),
         ("@.a", r#"{"a": 1}"#, ""),
     ];
-    selects_each(&rt, rt.alloc(), SegmentKind::Child, rows)
+    selects_each(&rt, rt.alloc(), "$", rows)
 }
 
 #[test]
@@ -72,7 +67,7 @@ fn compares_what_is_missing(rt: HostRuntime) -> Result<(), Fail> {
         ("@.a != null", DOCUMENT, " $[0] $[2] $[3] $[4]"),
         ("null == @.b", DOCUMENT, " $[3]"),
     ];
-    selects_each(&rt, rt.alloc(), SegmentKind::Child, rows)
+    selects_each(&rt, rt.alloc(), "$", rows)
 }
 
 #[test]
@@ -91,7 +86,7 @@ fn compares_numbers(rt: HostRuntime) -> Result<(), Fail> {
         ("1 == 1", DOCUMENT, " $[0] $[1] $[2] $[3]"),
         ("1 > 1.5", DOCUMENT, ""),
     ];
-    selects_each(&rt, rt.alloc(), SegmentKind::Child, rows)
+    selects_each(&rt, rt.alloc(), "$", rows)
 }
 
 #[test]
@@ -118,8 +113,11 @@ fn joins_tests(rt: HostRuntime) -> Result<(), Fail> {
         ),
         ("@.a && @.b && @.c", DOCUMENT, " $[7]"),
         ("@.a == 0 && !@.b", DOCUMENT, " $[4] $[5]"),
+        ("(@.a || @.b) && @.c", DOCUMENT, " $[3] $[5] $[7]"),
+        ("@.a && (@.b || @.c)", DOCUMENT, " $[5] $[6] $[7]"),
+        ("@.a && !(@.b || @.c)", DOCUMENT, " $[4]"),
     ];
-    selects_each(&rt, rt.alloc(), SegmentKind::Child, rows)
+    selects_each(&rt, rt.alloc(), "$", rows)
 }
 
 #[test]
@@ -145,7 +143,7 @@ fn compares_texts_and_whole_values(rt: HostRuntime) -> Result<(), Fail> {
         ("@ == true", r#"[true, false, 1, "true"]"#, " $[0]"),
         ("@ != false", "[true, false, 0]", " $[0] $[2]"),
     ];
-    selects_each(&rt, rt.alloc(), SegmentKind::Child, rows)
+    selects_each(&rt, rt.alloc(), "$", rows)
 }
 
 #[test]
@@ -160,14 +158,30 @@ fn filters_go_down(rt: HostRuntime) -> Result<(), Fail> {
         ("@.x == 1", DOCUMENT, " $['a'][0] $['b']['x'][0]"),
         ("@ == 2", DOCUMENT, " $['a'][0]['y']['x'] $['a'][1]['x']"),
     ];
-    selects_each(&rt, rt.alloc(), SegmentKind::Descendant, rows)
+    selects_each(&rt, rt.alloc(), "$..", rows)
+}
+
+#[test]
+fn asks_the_inner_node_in_an_inner_filter(rt: HostRuntime) -> Result<(), Fail> {
+    let rows = &[("@[?@ > 1]", "[[1],[2],[0,3]]", " $[1] $[2]")];
+    selects_each(&rt, rt.alloc(), "$", rows)
+}
+
+#[test]
+fn asks_the_root_in_an_inner_filter(rt: HostRuntime) -> Result<(), Fail> {
+    let rows = &[(
+        "@.b[?@ == $.x]",
+        r#"{"x":1,"a":[{"b":[0,1]},{"b":[2]}]}"#,
+        " $['a'][0]",
+    )];
+    selects_each(&rt, rt.alloc(), "$.a", rows)
 }
 
 #[test]
 fn a_filter_is_walked_node_by_node(rt: HostRuntime) -> Result<(), Fail> {
     let alloc = rt.alloc();
     let root = Value::from_str(alloc, r#"[{"a": 1}, 2, {"b": 3}, {"a": [4]}]"#)?;
-    let query = filtered(alloc, SegmentKind::Child, "@.a")?;
+    let query = filtered(alloc, "$", "@.a")?;
     let mut walk = walk(alloc, &query, &root, &root, Builtin)?;
     let wanted = &[r#"$[0] {"a":1}"#, r#"$[3] {"a":[4]}"#, "", ""];
     gives_each(&rt, alloc, &mut walk, wanted)

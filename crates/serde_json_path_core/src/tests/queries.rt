@@ -195,27 +195,25 @@ fn printed_values(alloc: Global, nodes: &NodeList) -> Result<String, Fail> {
     Ok(text)
 }
 
-/// The values that the segments select.
-fn values(alloc: Global, segments: &str, root: &Value) -> Result<String, Fail> {
+/// The values that the segments select from a document.
+fn values(alloc: Global, segments: &str, document: &str) -> Result<String, Fail> {
+    let root = Value::from_str(alloc, document)?;
     let query = query_of(alloc, segments)?;
-    let nodes = evaluate(alloc, &query, root, root, Builtin)?;
+    let nodes = evaluate(alloc, &query, &root, &root, Builtin)?;
     printed_values(alloc, &nodes)
 }
 
 #[test]
 fn gives_values_alone(rt: HostRuntime) -> Result<(), Fail> {
-    let alloc = rt.alloc();
     let document = r#"{"o": {"j": 1, "k": 2}, "a": [5, 3, [{"j": 4}, {"k": 6}]]}"#;
-    let root = Value::from_str(alloc, document)?;
-    let rows = [
+    for &(segments, want) in &[
         ("", r#"{"a":[5,3,[{"j":4},{"k":6}]],"o":{"j":1,"k":2}};"#),
         ("..j", "4;1;"),
         (".a ..[0,1]", r#"5;3;{"j":4};{"k":6};"#),
         (".o [*,*]", "1;2;1;2;"),
         (".x", ""),
-    ];
-    for (segments, want) in rows {
-        let text = values(alloc, segments, &root)?;
+    ] {
+        let text = values(rt.alloc(), segments, document)?;
         assert_eq!(rt; text.as_str(), want, "{segments}");
     }
     Ok(())
