@@ -37,7 +37,7 @@ fn bound(text: &str) -> Result<Option<i64>, Fail>
 }
 
 /// The slice `start:end` or `start:end:step`.
-fn slice(text: &str) -> Result<Slice, Fail>
+pub(crate) fn slice(text: &str) -> Result<Slice, Fail>
     ensures { IfOk result (λ s. IsOptionalInteger s.start × IsOptionalInteger s.end × IsOptionalInteger s.step) }
 {
     let (start, rest) = text.split_once(":").unwrap_or((text, ""));
@@ -135,6 +135,16 @@ pub(crate) fn printed(alloc: Global, nodes: &LocatedNodeList) -> Result<String, 
     for node in nodes.iter() {
         text.push_str(printed_node(alloc, node)?.as_str())?;
         text.push_str(";")?;
+    }
+    Ok(text)
+}
+
+/// The locations of nodes, with a space before each.
+pub(crate) fn locations(alloc: Global, nodes: &LocatedNodeList) -> Result<String, Fail> {
+    let mut text = String::new(alloc);
+    for node in nodes.iter() {
+        text.push_str(" ")?;
+        text.push_str(node.location().to_text(alloc)?.as_str())?;
     }
     Ok(text)
 }

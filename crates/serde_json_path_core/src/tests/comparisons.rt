@@ -8,7 +8,11 @@ use crate::filter::operand::Operand;
 use crate::{Literal, NumberLiteral};
 use serde_json::Value;
 use std::alloc::Global;
+use std::process::Abort;
 use std::test::Fail;
+
+/// The billionths of the greatest number, 2^64 - 1.
+const GREATEST: i128 = 18_446_744_073_709_551_615_000_000_000;
 
 /// The operators that hold between the operands, with a space behind each.
 fn holding(alloc: Global, left: &Operand, right: &Operand) -> Result<String, Fail> {
@@ -36,6 +40,32 @@ fn operand_of<'x>(alloc: Global, document: &str) -> Result<Operand<'x>, Fail> {
     Ok(Operand::Made(Value::from_str(alloc, document)?))
 }
 
+/// The operators that hold between the values of two documents.
+fn holding_between(alloc: Global, left: &str, right: &str) -> Result<String, Fail> {
+    let left = operand_of(alloc, left)?;
+    let right = operand_of(alloc, right)?;
+    holding(alloc, &left, &right)
+}
+
+/// Each row has two documents, and the operators that hold between their values.
+fn hold_between_each(
+    rt: &impl Abort,
+    alloc: Global,
+    rows: &[(&str, &str, &str)],
+) -> Result<(), Fail> {
+    for &(left, right, want) in rows {
+        let text = holding_between(alloc, left, right)?;
+        assert_eq!(rt; text.as_str(), want, "of {left} and {right}");
+    }
+    Ok(())
+}
+
+/// The operators that hold between a document's value and a literal.
+fn holding_with(alloc: Global, document: &str, literal: &Literal) -> Result<String, Fail> {
+    let left = operand_of(alloc, document)?;
+    holding(alloc, &left, &Operand::Literal(literal))
+}
+
 /// The literal of that many billionths.
 fn number(billionths: i128) -> Result<Literal, Fail> {
     let number = NumberLiteral::from_billionths(billionths).ok_or("out of range")?;
@@ -44,8 +74,7 @@ fn number(billionths: i128) -> Result<Literal, Fail> {
 
 #[test]
 fn compares_numbers_and_what_is_missing(rt: HostRuntime) -> Result<(), Fail> {
-    let alloc = rt.alloc();
-    let rows = [
+    let rows = &[
         ("", "", "== <= >= "),
         ("", "null", "!= "),
         ("1", "", "!= "),
@@ -60,17 +89,12 @@ fn compares_numbers_and_what_is_missing(rt: HostRuntime) -> Result<(), Fail> {
         ("1.5", "2", "!= "),
         ("13", r#""13""#, "!= "),
     ];
-    for (left, right, want) in rows {
-        let text = holding(alloc, &operand_of(alloc, left)?, &operand_of(alloc, right)?)?;
-        assert_eq!(rt; text.as_str(), want, "of {left} and {right}");
-    }
-    Ok(())
+    hold_between_each(&rt, rt.alloc(), rows)
 }
 
 #[test]
 fn compares_texts_by_characters(rt: HostRuntime) -> Result<(), Fail> {
-    let alloc = rt.alloc();
-    let rows = [
+    let rows = &[
         (r#""""#, r#""a""#, "!= < <= "),
         (r#""a""#, r#""\u0061""#, "== <= >= "),
         (r#""ab""#, r#""a""#, "!= > >= "),
@@ -80,25 +104,20 @@ fn compares_texts_by_characters(rt: HostRuntime) -> Result<(), Fail> {
         (r#""\ud83d\ude00""#, r#""\uffff""#, "!= > >= "),
         (r#""\ue000""#, r#""\ud800\udc00""#, "!= < <= "),
     ];
-    for (left, right, want) in rows {
-        let text = holding(alloc, &operand_of(alloc, left)?, &operand_of(alloc, right)?)?;
-        assert_eq!(rt; text.as_str(), want, "of {left} and {right}");
-    }
-    Ok(())
+    hold_between_each(&rt, rt.alloc(), rows)
 }
 
 #[test]
 fn compares_other_values_by_equality(rt: HostRuntime) -> Result<(), Fail> {
-    let alloc = rt.alloc();
-    let nested = r#"[1, [2, {"a": null}], "b"]"#;
-    let rows = [
+    const NESTED: &str = r#"[1, [2, {"a": null}], "b"]"#;
+    let rows = &[
         ("null", "null", "== <= >= "),
         ("true", "true", "== <= >= "),
         ("true", "false", "!= "),
         ("false", "null", "!= "),
         ("[]", "{}", "!= "),
-        (nested, nested, "== <= >= "),
-        (nested, r#"[1, [2, {"a": 0}], "b"]"#, "!= "),
+        (NESTED, NESTED, "== <= >= "),
+        (NESTED, r#"[1, [2, {"a": 0}], "b"]"#, "!= "),
         ("[1, 2]", "[1, 2, 3]", "!= "),
         ("[1, 2]", "[2, 1]", "!= "),
         ("[1.5]", "[1.5]", "!= "),
@@ -110,36 +129,42 @@ fn compares_other_values_by_equality(rt: HostRuntime) -> Result<(), Fail> {
         (r#"{"a": 1}"#, r#"{"a": 1, "b": 2}"#, "!= "),
         (r#"{"a": 1}"#, r#"{"b": 1}"#, "!= "),
     ];
-    for (left, right, want) in rows {
-        let text = holding(alloc, &operand_of(alloc, left)?, &operand_of(alloc, right)?)?;
-        assert_eq!(rt; text.as_str(), want, "of {left} and {right}");
+    hold_between_each(&rt, rt.alloc(), rows)
+}
+
+/// Each row has a document, a number in billionths, and the operators that hold between their values.
+fn hold_with_each_number(
+    rt: &impl Abort,
+    alloc: Global,
+    rows: &[(&str, i128, &str)],
+) -> Result<(), Fail> {
+    for &(document, billionths, want) in rows {
+        let literal = number(billionths)?;
+        let text = holding_with(alloc, document, &literal)?;
+        assert_eq!(rt; text.as_str(), want, "of {document} and {billionths}");
     }
     Ok(())
 }
 
 #[test]
 fn compares_values_with_numbers_of_the_query(rt: HostRuntime) -> Result<(), Fail> {
-    let alloc = rt.alloc();
-    let greatest = 18_446_744_073_709_551_615_000_000_000i128;
-    let rows = [
+    let rows = &[
         ("1", 1_000_000_000, "== <= >= "),
         ("1", 1_500_000_000, "!= < <= "),
         ("2", 1_500_000_000, "!= > >= "),
         ("-2", -1_500_000_000, "!= < <= "),
         ("0", -1, "!= > >= "),
         ("1.5", 1_500_000_000, "!= "),
-        ("18446744073709551615", greatest, "== <= >= "),
+        ("18446744073709551615", GREATEST, "== <= >= "),
         (r#""1""#, 1_000_000_000, "!= "),
         ("", 0, "!= "),
     ];
-    for (document, billionths, want) in rows {
-        let literal = number(billionths)?;
-        let left = operand_of(alloc, document)?;
-        let text = holding(alloc, &left, &Operand::Literal(&literal))?;
-        assert_eq!(rt; text.as_str(), want, "of {document} and {billionths}");
-    }
-    assert!(rt; NumberLiteral::from_billionths(greatest + 1).is_none());
-    Ok(())
+    hold_with_each_number(&rt, rt.alloc(), rows)
+}
+
+#[test]
+fn refuses_a_number_above_the_greatest(rt: HostRuntime) {
+    assert!(rt; NumberLiteral::from_billionths(GREATEST + 1).is_none());
 }
 
 #[test]
@@ -156,23 +181,36 @@ fn compares_values_with_other_literals(rt: HostRuntime) -> Result<(), Fail> {
         ),
     ];
     for (document, literal, want) in rows {
-        let left = operand_of(alloc, document)?;
-        let text = holding(alloc, &left, &Operand::Literal(&literal))?;
+        let text = holding_with(alloc, document, &literal)?;
         assert_eq!(rt; text.as_str(), want, "of {document}");
     }
     Ok(())
 }
 
 #[test]
-fn compares_literals_and_nodes(rt: HostRuntime) -> Result<(), Fail> {
-    let alloc = rt.alloc();
+fn compares_literals(rt: HostRuntime) -> Result<(), Fail> {
     let half = number(500_000_000)?;
-    let document = Value::from_str(alloc, "[0.5]")?;
-    let literals = holding(alloc, &Operand::Literal(&half), &Operand::Literal(&half))?;
-    assert_eq!(rt; literals.as_str(), "== <= >= ");
-    let nodes = holding(alloc, &Operand::Node(&document), &Operand::Node(&document))?;
-    assert_eq!(rt; nodes.as_str(), "!= ");
+    let text = holding(
+        rt.alloc(),
+        &Operand::Literal(&half),
+        &Operand::Literal(&half),
+    )?;
+    assert_eq!(rt; text.as_str(), "== <= >= ");
     Ok(())
+}
+
+#[test]
+fn compares_nodes(rt: HostRuntime) -> Result<(), Fail> {
+    let half = Value::from_str(rt.alloc(), "[0.5]")?;
+    let text = holding(rt.alloc(), &Operand::Node(&half), &Operand::Node(&half))?;
+    assert_eq!(rt; text.as_str(), "!= ");
+    Ok(())
+}
+
+/// The whole part of that many billionths.
+fn whole_part_of(alloc: Global, billionths: i128) -> Result<String, Fail> {
+    let number = NumberLiteral::from_billionths(billionths).ok_or("out of range")?;
+    Ok(number.value().to_string(alloc)?)
 }
 
 #[test]
@@ -181,13 +219,9 @@ fn whole_part_of_a_number(rt: HostRuntime) -> Result<(), Fail> {
         (1_999_999_999, "1"),
         (-1_500_000_000, "-1"),
         (-999_999_999, "0"),
-        (
-            18_446_744_073_709_551_615_000_000_000i128,
-            "18446744073709551615",
-        ),
+        (GREATEST, "18446744073709551615"),
     ] {
-        let literal = NumberLiteral::from_billionths(billionths).ok_or("out of range")?;
-        let text = literal.value().to_string(rt.alloc())?;
+        let text = whole_part_of(rt.alloc(), billionths)?;
         assert_eq!(rt; text.as_str(), want, "of {billionths}");
     }
     Ok(())

@@ -9,6 +9,7 @@ use serde_json::Value;
 use serde_json_path_functions::Builtin;
 use serde_json_path_nodes::NodeList;
 use std::alloc::Global;
+use std::process::Abort;
 use std::test::Fail;
 
 /// What the segments select from a document, with locations.
@@ -19,49 +20,54 @@ fn selected(alloc: Global, segments: &str, document: &str) -> Result<String, Fai
     printed(alloc, &nodes)
 }
 
-#[test]
-fn selects_one_node_at_most(rt: HostRuntime) -> Result<(), Fail> {
-    let nested = r#"{"foo": {"bar": ["baz", 42]}}"#;
-    let list = r#"["a", "b"]"#;
-    let odd = r#"{"it's": {"\u00e9": null}, "0": 1}"#;
-    let rows = [
-        ("", nested, r#"$ {"foo":{"bar":["baz",42]}};"#),
-        ("", "null", "$ null;"),
-        (".foo .bar [0]", nested, r#"$['foo']['bar'][0] "baz";"#),
-        (".foo .bar [-1]", nested, "$['foo']['bar'][1] 42;"),
-        (".bar .foo", nested, ""),
-        ("[-1]", list, r#"$[1] "b";"#),
-        ("[-2]", list, r#"$[0] "a";"#),
-        ("[-3]", list, ""),
-        (".a [5]", r#"{"a": [0, 1]}"#, ""),
-        ("[0]", odd, ""),
-        (".0", list, ""),
-        (".it's .é", odd, r"$['it\'s']['é'] null;"),
-        ("['foo'] ['bar'] [1]", nested, "$['foo']['bar'][1] 42;"),
-        ("['bar']", nested, ""),
-        ("[0]", r#""a""#, ""),
-    ];
-    for (segments, document, want) in rows {
-        let text = selected(rt.alloc(), segments, document)?;
+/// Each row has the segments of a query, a document, and what they select there.
+fn selects_each(rt: &impl Abort, alloc: Global, rows: &[(&str, &str, &str)]) -> Result<(), Fail> {
+    for &(segments, document, want) in rows {
+        let text = selected(alloc, segments, document)?;
         assert_eq!(rt; text.as_str(), want, "{segments} of {document}");
     }
     Ok(())
 }
 
 #[test]
+fn selects_one_node_at_most(rt: HostRuntime) -> Result<(), Fail> {
+    const NESTED: &str = r#"{"foo": {"bar": ["baz", 42]}}"#;
+    const LIST: &str = r#"["a", "b"]"#;
+    const ODD: &str = r#"{"it's": {"\u00e9": null}, "0": 1}"#;
+    let rows = &[
+        ("", NESTED, r#"$ {"foo":{"bar":["baz",42]}};"#),
+        ("", "null", "$ null;"),
+        (".foo .bar [0]", NESTED, r#"$['foo']['bar'][0] "baz";"#),
+        (".foo .bar [-1]", NESTED, "$['foo']['bar'][1] 42;"),
+        (".bar .foo", NESTED, ""),
+        ("[-1]", LIST, r#"$[1] "b";"#),
+        ("[-2]", LIST, r#"$[0] "a";"#),
+        ("[-3]", LIST, ""),
+        (".a [5]", r#"{"a": [0, 1]}"#, ""),
+        ("[0]", ODD, ""),
+        (".0", LIST, ""),
+        (".it's .é", ODD, r"$['it\'s']['é'] null;"),
+        ("['foo'] ['bar'] [1]", NESTED, "$['foo']['bar'][1] 42;"),
+        ("['bar']", NESTED, ""),
+        ("[0]", r#""a""#, ""),
+    ];
+    selects_each(&rt, rt.alloc(), rows)
+}
+
+#[test]
 fn selects_by_wildcards(rt: HostRuntime) -> Result<(), Fail> {
-    let both = r#"{"o": {"k": 2, "j": 1}, "a": [5, 3]}"#;
-    let rows = [
-        (".*", both, r#"$['a'] [5,3];$['o'] {"j":1,"k":2};"#),
-        ("[*]", both, r#"$['a'] [5,3];$['o'] {"j":1,"k":2};"#),
-        (".o [*]", both, "$['o']['j'] 1;$['o']['k'] 2;"),
-        (".o .*", both, "$['o']['j'] 1;$['o']['k'] 2;"),
+    const BOTH: &str = r#"{"o": {"k": 2, "j": 1}, "a": [5, 3]}"#;
+    let rows = &[
+        (".*", BOTH, r#"$['a'] [5,3];$['o'] {"j":1,"k":2};"#),
+        ("[*]", BOTH, r#"$['a'] [5,3];$['o'] {"j":1,"k":2};"#),
+        (".o [*]", BOTH, "$['o']['j'] 1;$['o']['k'] 2;"),
+        (".o .*", BOTH, "$['o']['j'] 1;$['o']['k'] 2;"),
         (
             ".o [*,*]",
-            both,
+            BOTH,
             "$['o']['j'] 1;$['o']['k'] 2;$['o']['j'] 1;$['o']['k'] 2;",
         ),
-        (".a [*]", both, "$['a'][0] 5;$['a'][1] 3;"),
+        (".a [*]", BOTH, "$['a'][0] 5;$['a'][1] 3;"),
         (
             ".*",
             r#"{"b":1,"\u00e9":2,"a":3,"B":4,"aa":5}"#,
@@ -72,28 +78,24 @@ fn selects_by_wildcards(rt: HostRuntime) -> Result<(), Fail> {
         (".*", r#""ab""#, ""),
         (".*", "[]", ""),
     ];
-    for (segments, document, want) in rows {
-        let text = selected(rt.alloc(), segments, document)?;
-        assert_eq!(rt; text.as_str(), want, "{segments} of {document}");
-    }
-    Ok(())
+    selects_each(&rt, rt.alloc(), rows)
 }
 
 #[test]
 fn selects_by_slices(rt: HostRuntime) -> Result<(), Fail> {
-    let letters = r#"["a","b","c","d","e","f","g"]"#;
-    let rows = [
-        ("[1:3]", letters, r#"$[1] "b";$[2] "c";"#),
-        ("[5:]", letters, r#"$[5] "f";$[6] "g";"#),
-        ("[1:5:2]", letters, r#"$[1] "b";$[3] "d";"#),
-        ("[5:1:-2]", letters, r#"$[5] "f";$[3] "d";"#),
+    const LETTERS: &str = r#"["a","b","c","d","e","f","g"]"#;
+    let rows = &[
+        ("[1:3]", LETTERS, r#"$[1] "b";$[2] "c";"#),
+        ("[5:]", LETTERS, r#"$[5] "f";$[6] "g";"#),
+        ("[1:5:2]", LETTERS, r#"$[1] "b";$[3] "d";"#),
+        ("[5:1:-2]", LETTERS, r#"$[5] "f";$[3] "d";"#),
         (
             "[::-1]",
-            letters,
+            LETTERS,
             r#"$[6] "g";$[5] "f";$[4] "e";$[3] "d";$[2] "c";$[1] "b";$[0] "a";"#,
         ),
-        ("[::0]", letters, ""),
-        ("[1:5:-1]", letters, ""),
+        ("[::0]", LETTERS, ""),
+        ("[1:5:-1]", LETTERS, ""),
         ("[:]", r#"{"a":1}"#, ""),
         (
             "[-9007199254740991:9007199254740991]",
@@ -110,65 +112,53 @@ fn selects_by_slices(rt: HostRuntime) -> Result<(), Fail> {
         ("[9007199254740991]", "[1,2]", ""),
         ("[-9007199254740991]", "[1,2]", ""),
     ];
-    for (segments, document, want) in rows {
-        let text = selected(rt.alloc(), segments, document)?;
-        assert_eq!(rt; text.as_str(), want, "{segments} of {document}");
-    }
-    Ok(())
+    selects_each(&rt, rt.alloc(), rows)
 }
 
 #[test]
 fn selects_by_several_selectors(rt: HostRuntime) -> Result<(), Fail> {
-    let letters = r#"["a","b","c","d","e","f","g"]"#;
-    let rows = [
-        ("[0,3]", letters, r#"$[0] "a";$[3] "d";"#),
-        ("[0:2,5]", letters, r#"$[0] "a";$[1] "b";$[5] "f";"#),
-        ("[0,0]", letters, r#"$[0] "a";$[0] "a";"#),
+    const LETTERS: &str = r#"["a","b","c","d","e","f","g"]"#;
+    let rows = &[
+        ("[0,3]", LETTERS, r#"$[0] "a";$[3] "d";"#),
+        ("[0:2,5]", LETTERS, r#"$[0] "a";$[1] "b";$[5] "f";"#),
+        ("[0,0]", LETTERS, r#"$[0] "a";$[0] "a";"#),
         ("['a','a']", r#"{"a":1}"#, "$['a'] 1;$['a'] 1;"),
         ("['b','a']", r#"{"a":1,"b":2}"#, "$['b'] 2;$['a'] 1;"),
         ("['a',0] [-1,'b']", r#"{"a":{"b":[3]}}"#, "$['a']['b'] [3];"),
         ("[0,'a',*]", "[1]", "$[0] 1;$[0] 1;"),
     ];
-    for (segments, document, want) in rows {
-        let text = selected(rt.alloc(), segments, document)?;
-        assert_eq!(rt; text.as_str(), want, "{segments} of {document}");
-    }
-    Ok(())
+    selects_each(&rt, rt.alloc(), rows)
 }
 
 #[test]
 fn selects_descendants(rt: HostRuntime) -> Result<(), Fail> {
-    let bazs = r#"{"foo":{"bar":{"baz":1},"baz":2},"baz":3}"#;
-    let both = r#"{"o": {"j": 1, "k": 2}, "a": [5, 3, [{"j": 4}, {"k": 6}]]}"#;
-    let rows = [
+    const BAZS: &str = r#"{"foo":{"bar":{"baz":1},"baz":2},"baz":3}"#;
+    const BOTH: &str = r#"{"o": {"j": 1, "k": 2}, "a": [5, 3, [{"j": 4}, {"k": 6}]]}"#;
+    let rows = &[
         (
             "..baz",
-            bazs,
+            BAZS,
             "$['baz'] 3;$['foo']['baz'] 2;$['foo']['bar']['baz'] 1;",
         ),
-        ("..j", both, "$['a'][2][0]['j'] 4;$['o']['j'] 1;"),
-        ("..[0]", both, r#"$['a'][0] 5;$['a'][2][0] {"j":4};"#),
+        ("..j", BOTH, "$['a'][2][0]['j'] 4;$['o']['j'] 1;"),
+        ("..[0]", BOTH, r#"$['a'][0] 5;$['a'][2][0] {"j":4};"#),
         (
             ".o ..[*,*]",
-            both,
+            BOTH,
             "$['o']['j'] 1;$['o']['k'] 2;$['o']['j'] 1;$['o']['k'] 2;",
         ),
         (
             ".a ..[0,1]",
-            both,
+            BOTH,
             r#"$['a'][0] 5;$['a'][1] 3;$['a'][2][0] {"j":4};$['a'][2][1] {"k":6};"#,
         ),
     ];
-    for (segments, document, want) in rows {
-        let text = selected(rt.alloc(), segments, document)?;
-        assert_eq!(rt; text.as_str(), want, "{segments} of {document}");
-    }
-    Ok(())
+    selects_each(&rt, rt.alloc(), rows)
 }
 
 #[test]
 fn keeps_each_descendant_that_is_selected_again(rt: HostRuntime) -> Result<(), Fail> {
-    let rows = [
+    let rows = &[
         (
             "..[0,-1]",
             "[[1]]",
@@ -192,11 +182,7 @@ fn keeps_each_descendant_that_is_selected_again(rt: HostRuntime) -> Result<(), F
         ),
         ("..*", "7", ""),
     ];
-    for (segments, document, want) in rows {
-        let text = selected(rt.alloc(), segments, document)?;
-        assert_eq!(rt; text.as_str(), want, "{segments} of {document}");
-    }
-    Ok(())
+    selects_each(&rt, rt.alloc(), rows)
 }
 
 /// The values of a list, with a `;` behind each.
@@ -209,22 +195,26 @@ fn printed_values(alloc: Global, nodes: &NodeList) -> Result<String, Fail> {
     Ok(text)
 }
 
+/// The values that the segments select from a document.
+fn values(alloc: Global, segments: &str, document: &str) -> Result<String, Fail> {
+    let root = Value::from_str(alloc, document)?;
+    let query = query_of(alloc, segments)?;
+    let nodes = evaluate(alloc, &query, &root, &root, Builtin)?;
+    printed_values(alloc, &nodes)
+}
+
 #[test]
 fn gives_values_alone(rt: HostRuntime) -> Result<(), Fail> {
-    let alloc = rt.alloc();
     let document = r#"{"o": {"j": 1, "k": 2}, "a": [5, 3, [{"j": 4}, {"k": 6}]]}"#;
-    let root = Value::from_str(alloc, document)?;
-    let rows = [
+    for &(segments, want) in &[
         ("", r#"{"a":[5,3,[{"j":4},{"k":6}]],"o":{"j":1,"k":2}};"#),
         ("..j", "4;1;"),
         (".a ..[0,1]", r#"5;3;{"j":4};{"k":6};"#),
         (".o [*,*]", "1;2;1;2;"),
         (".x", ""),
-    ];
-    for (segments, want) in rows {
-        let query = query_of(alloc, segments)?;
-        let nodes = evaluate(alloc, &query, &root, &root, Builtin)?;
-        assert_eq!(rt; printed_values(alloc, &nodes)?.as_str(), want, "{segments}");
+    ] {
+        let text = values(rt.alloc(), segments, document)?;
+        assert_eq!(rt; text.as_str(), want, "{segments}");
     }
     Ok(())
 }

@@ -5,6 +5,7 @@ use crate::{Walk, walk};
 use serde_json::Value;
 use serde_json_path_functions::Builtin;
 use std::alloc::Global;
+use std::process::Abort;
 use std::test::Fail;
 
 /// The next node, or an empty text; where the first call is refused, what the second one gives.
@@ -19,17 +20,27 @@ fn next_printed(alloc: Global, walk: &mut Walk<'_, '_, Builtin>) -> Result<Strin
     }
 }
 
+/// The walk gives these nodes, one after the other, with an empty text for none.
+pub(crate) fn gives_each(
+    rt: &impl Abort,
+    alloc: Global,
+    walk: &mut Walk<'_, '_, Builtin>,
+    wanted: &[&str],
+) -> Result<(), Fail> {
+    for &want in wanted {
+        let text = next_printed(alloc, walk)?;
+        assert_eq!(rt; text.as_str(), want);
+    }
+    Ok(())
+}
+
 #[test]
 fn gives_one_node_after_the_other(rt: HostRuntime) -> Result<(), Fail> {
     let alloc = rt.alloc();
     let query = query_of(alloc, "['a','a']")?;
     let root = Value::from_str(alloc, r#"{"a":1}"#)?;
     let mut walk = walk(alloc, &query, &root, &root, Builtin)?;
-    for want in ["$['a'] 1", "$['a'] 1", "", ""] {
-        let text = next_printed(alloc, &mut walk)?;
-        assert_eq!(rt; text.as_str(), want);
-    }
-    Ok(())
+    gives_each(&rt, alloc, &mut walk, &["$['a'] 1", "$['a'] 1", "", ""])
 }
 
 /// An array of so many zeros.

@@ -1,13 +1,14 @@
 //! Queries of one filter out of short texts, for the tables of tests.
 //!
-//! A query in a filter has one name or index at most, as `@.a` and `@0`. Operators stand between spaces. A whole expression
-//! may stand in parentheses, with `!` before them.
+//! A query in a filter has one name or index at most, as `@.a` and `@0`. Operators stand between spaces. An expression in
+//! parentheses, with `!` before them or without, stands alone or has one test before it or behind it, joined by `&&`. A filter
+//! in a filter stands alone, as `@.a[?@ == 1]`.
 
-ghost use Rattle.std.specs.Prelude.{◌≡◌, [], IfOk};
+ghost use Rattle.std.specs.Prelude.{◌≡◌, ℕ, ◌+◌, [], IfOk};
 ghost use Rattle.serde_json_path_core.specs.Tree as tree;
 ghost use Rattle.serde_json_path_core.specs.Flat.{kind_view};
 ghost use Rattle.serde_json_path_core.specs.Piece.{a_query, a_segment, an_or, an_and, a_basic, a_comparable};
-ghost use Rattle.serde_json_path_core.specs.Parts.{IsPart, KeepsParts, signatures_of};
+ghost use Rattle.serde_json_path_core.specs.Parts.{AreAndPartsOf, IsPart, KeepsParts, signatures_of};
 ghost use Rattle.serde_json_path_core.specs.CallFree.{AreCallFreeSegments, IsCallFreeAnd, IsCallFreeBasic, IsCallFreeComparable, IsCallFreeOr, IsCallFreeSegment};
 
 use crate::ComparisonOperator::{
@@ -207,42 +208,132 @@ fn or_of(alloc: Global, builder: &mut SyntaxBuilder, text: &str) -> Result<Part,
     Ok(builder.logical_or(parts)?)
 }
 
-/// The expression of that one part alone.
-fn alone(alloc: Global, builder: &mut SyntaxBuilder, basic: Part) -> Result<Part, Fail>
-    requires { (b : tree.Basic) × IsPart builder.old basic (a_basic b) × IsCallFreeBasic 1 b }
+/// The expression of these parts of `&&`.
+fn joined(alloc: Global, builder: &mut SyntaxBuilder, parts: Vec<Part>) -> Result<Part, Fail>
+    requires { (e : tree.LogicalAnd) × AreAndPartsOf builder.old parts.items e × IsCallFreeAnd 1 e }
     ensures made { IfOk result (λ part. (e : tree.LogicalOr) × IsPart builder.new part (an_or e) × IsCallFreeOr 1 e) }
     ensures keeps { KeepsParts builder.old builder.new }
 {
-    let joined = builder.logical_and(vec![in alloc; basic]?)?;
+    let joined = builder.logical_and(parts)?;
     Ok(builder.logical_or(vec![in alloc; joined]?)?)
 }
 
-/// The expression of a text, the whole of which may stand in parentheses.
+/// An expression in parentheses, with `!` before them or without.
+fn paren_of(
+    alloc: Global,
+    builder: &mut SyntaxBuilder,
+    inner: &str,
+    negated: bool,
+) -> Result<Part, Fail>
+    ensures made { IfOk result (λ part. (b : tree.Basic) × IsPart builder.new part (a_basic b) × IsCallFreeBasic 1 b) }
+    ensures keeps { KeepsParts builder.old builder.new }
+{
+    let inner = or_of(alloc, builder, inner)?;
+    if negated {
+        Ok(builder.not_paren(inner)?)
+    } else {
+        Ok(builder.paren(inner)?)
+    }
+}
+
+/// The expression of a part and of what stands before it or behind it, one test at most.
+fn beside(
+    alloc: Global,
+    builder: &mut SyntaxBuilder,
+    before: &str,
+    part: Part,
+    behind: &str,
+) -> Result<Part, Fail>
+    requires { (b : tree.Basic) × IsPart builder.old part (a_basic b) × IsCallFreeBasic 1 b }
+    ensures made { IfOk result (λ part. (e : tree.LogicalOr) × IsPart builder.new part (an_or e) × IsCallFreeOr 1 e) }
+    ensures keeps { KeepsParts builder.old builder.new }
+{
+    if let Some((test, _)) = before.split_once(" && ") {
+        let test = basic_of(alloc, builder, test)?;
+        return joined(alloc, builder, vec![in alloc; test, part]?);
+    }
+    match behind.strip_prefix(" && ") {
+        Some(test) => {
+            let test = basic_of(alloc, builder, test)?;
+            joined(alloc, builder, vec![in alloc; part, test]?)
+        }
+        None => joined(alloc, builder, vec![in alloc; part]?),
+    }
+}
+
+/// The query of at most one name or index with a filter behind it.
+fn query_of_filter(
+    alloc: Global,
+    builder: &mut SyntaxBuilder,
+    kind: QueryKind,
+    step: &str,
+    filter_kind: SegmentKind,
+    test: Part,
+) -> Result<Part, Fail>
+    requires { (e : tree.LogicalOr) × IsPart builder.old test (an_or e) }
+    ensures made { IfOk result (λ part. (deep : ℕ) (e : tree.LogicalOr) → IsPart builder.old test (an_or e) → IsCallFreeOr deep e
+        → (segs : tree.Segments) × IsPart builder.new part (a_query (tree.query (kind_view kind) segs)) × AreCallFreeSegments (deep + 1) segs) }
+    ensures keeps { KeepsParts builder.old builder.new }
+{
+    let selector = builder.filter(test)?;
+    let filter = builder.long_hand(filter_kind, vec![in alloc; selector]?)?;
+    if step.is_empty() {
+        return Ok(builder.query(kind, vec![in alloc; filter]?)?);
+    }
+    let step = step_of(alloc, builder, step)?;
+    Ok(builder.query(kind, vec![in alloc; step, filter]?)?)
+}
+
+/// The test whether a query with a filter at its end selects a node.
+fn filter_test_of(
+    alloc: Global,
+    builder: &mut SyntaxBuilder,
+    query: &str,
+    inner: &str,
+) -> Result<Part, Fail>
+    ensures made { IfOk result (λ part. (b : tree.Basic) × IsPart builder.new part (a_basic b) × IsCallFreeBasic 1 b) }
+    ensures keeps { KeepsParts builder.old builder.new }
+{
+    let (kind, step) = begun(query).ok_or("no query")?;
+    let inner = or_of(alloc, builder, inner)?;
+    let query = query_of_filter(alloc, builder, kind, step, SegmentKind::Child, inner)?;
+    Ok(builder.exist(query)?)
+}
+
+/// The expression of a text, which may have one filter or one pair of parentheses.
 fn expression_of(alloc: Global, builder: &mut SyntaxBuilder, text: &str) -> Result<Part, Fail>
     ensures made { IfOk result (λ part. (e : tree.LogicalOr) × IsPart builder.new part (an_or e) × IsCallFreeOr 1 e) }
     ensures keeps { KeepsParts builder.old builder.new }
 {
-    if let Some(inner) = text.strip_prefix("!(") {
-        let inner = or_of(alloc, builder, inner.trim_end_matches(')'))?;
-        let basic = builder.not_paren(inner)?;
-        return alone(alloc, builder, basic);
+    if let Some((query, rest)) = text.split_once("[?") {
+        let test = filter_test_of(alloc, builder, query, rest.trim_end_matches(']'))?;
+        return beside(alloc, builder, "", test, "");
     }
-    if let Some(inner) = text.strip_prefix("(") {
-        let inner = or_of(alloc, builder, inner.trim_end_matches(')'))?;
-        let basic = builder.paren(inner)?;
-        return alone(alloc, builder, basic);
+    match text.split_once("(") {
+        Some((before, rest)) => {
+            let (inner, behind) = rest.split_once(")").ok_or("no end")?;
+            let paren = paren_of(alloc, builder, inner, before.ends_with("!"))?;
+            beside(alloc, builder, before, paren, behind)
+        }
+        None => or_of(alloc, builder, text),
     }
-    or_of(alloc, builder, text)
 }
 
-/// The query `$[?..]` or `$..[?..]` of that expression.
-pub(crate) fn filtered(alloc: Global, kind: SegmentKind, text: &str) -> Result<Checked, Fail>
+/// The kind of a filter's segment, and the step before it.
+fn place_of(before: &str) -> (SegmentKind, &str) {
+    match before.strip_suffix("..") {
+        Some(step) => (SegmentKind::Descendant, step),
+        None => (SegmentKind::Child, before),
+    }
+}
+
+/// The query of a filter with that expression behind `$`, `$..` or `$` with one name or index.
+pub(crate) fn filtered(alloc: Global, before: &str, text: &str) -> Result<Checked, Fail>
     ensures { IfOk result (λ query. signatures_of query ≡ []) }
 {
+    let (kind, step) = place_of(before.strip_prefix("$").ok_or("no root")?);
     let mut builder = SyntaxBuilder::new(alloc);
     let test = expression_of(alloc, &mut builder, text)?;
-    let selector = builder.filter(test)?;
-    let segment = builder.long_hand(kind, vec![in alloc; selector]?)?;
-    let query = builder.query(QueryKind::Root, vec![in alloc; segment]?)?;
+    let query = query_of_filter(alloc, &mut builder, QueryKind::Root, step, kind, test)?;
     Ok(builder.finish(query, Vec::new(alloc)))
 }
