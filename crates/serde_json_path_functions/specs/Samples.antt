@@ -1,5 +1,5 @@
 -- A function set of the tests: what its names mean, and that it keeps types.
-use Rattle.std.proofs.Common.{◌≡◌, ◌≤◌, ℕ, List, [], ◌∷◌, length, Bool, true, false, ◌||◌, Option, Some, None, bytes_eq, codes, if◌then◌else◌, refl, ap, subst, arith}
+use Rattle.std.proofs.Common.{◌≤◌, ℕ, List, [], ◌∷◌, length, Bool, true, false, ◌||◌, Option, Some, None, bytes_eq, codes, if◌then◌else◌, ap, subst, arith}
 use Rattle.std.proofs.lemmas.Option.{same_Some}
 use Rattle.serde_json.specs.Data.{boolean}
 use Rattle.serde_json_path_functions.specs.BothTypes.{Keeps}

@@ -8,7 +8,7 @@ use std::alloc::Global;
 
 /// The functions of the first set, and then those of the second whose names the first does not declare.
 ///
-/// Functions of one's own stand before the built-in ones, and in place of those of the same name, in:
+/// A `Both<&F, Builtin>` puts functions of one's own before the built-in ones, in place of those of the same name:
 ///
 /// ```text
 /// let functions = Both(&own, Builtin);
