@@ -219,17 +219,23 @@ fn gives_values_alone(rt: HostRuntime) -> Result<(), Fail> {
     Ok(())
 }
 
+/// What the query selects in `[1]`, asked at the node `2`, which is no part of it.
+fn selected_elsewhere(alloc: Global, query: &Checked) -> Result<String, Fail>
+    requires { signatures_of query.now ≡ [] }
+{
+    let root = Value::from_str(alloc, "[1]")?;
+    let node = Value::from_str(alloc, "2")?;
+    let nodes = evaluate_located(alloc, query, &node, &root, Builtin)?;
+    printed(alloc, &nodes)
+}
+
 #[test]
 fn begins_at_the_root(rt: HostRuntime) -> Result<(), Fail> {
     let alloc = rt.alloc();
-    let root = Value::from_str(alloc, "[1]")?;
-    let node = Value::from_str(alloc, "2")?;
-    let whole = Checked::new(alloc);
-    let first = query_of(alloc, "[0]")?;
-    let nodes = evaluate_located(alloc, &whole, &node, &root, Builtin)?;
-    assert_eq!(rt; printed(alloc, &nodes)?.as_str(), "$ [1];");
-    let nodes = evaluate_located(alloc, &first, &node, &root, Builtin)?;
-    assert_eq!(rt; printed(alloc, &nodes)?.as_str(), "$[0] 1;");
+    let whole = selected_elsewhere(alloc, &Checked::new(alloc))?;
+    assert_eq!(rt; whole.as_str(), "$ [1];");
+    let first = selected_elsewhere(alloc, &query_of(alloc, "[0]")?)?;
+    assert_eq!(rt; first.as_str(), "$[0] 1;");
     Ok(())
 }
 

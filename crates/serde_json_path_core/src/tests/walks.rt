@@ -52,6 +52,20 @@ fn zeros(alloc: Global, number: usize) -> Result<Value, Fail> {
     Ok(Value::Array(items))
 }
 
+/// The walk gives the zero at that position, and keeps two places at most.
+fn gives_zero(
+    rt: &impl Abort,
+    alloc: Global,
+    walk: &mut Walk<'_, '_, Builtin>,
+    number: usize,
+) -> Result<(), Fail> {
+    let text = next_printed(alloc, walk)?;
+    let want = format!(in alloc; "$[{number}] 0")?;
+    assert_eq!(rt; text.as_str(), want.as_str());
+    assert!(rt; walk.places() <= 2, "behind {number}");
+    Ok(())
+}
+
 #[test]
 fn keeps_few_places(rt: HostRuntime) -> Result<(), Fail> {
     let alloc = rt.alloc();
@@ -59,10 +73,7 @@ fn keeps_few_places(rt: HostRuntime) -> Result<(), Fail> {
     let root = zeros(alloc, 1000)?;
     let mut walk = walk(alloc, &query, &root, &root, Builtin)?;
     for number in 0..1000 {
-        let text = next_printed(alloc, &mut walk)?;
-        let want = format!(in alloc; "$[{number}] 0")?;
-        assert_eq!(rt; text.as_str(), want.as_str());
-        assert!(rt; walk.places() <= 2, "behind {number}");
+        gives_zero(&rt, alloc, &mut walk, number)?;
     }
     assert!(rt; walk.next()?.is_none());
     assert_eq!(rt; walk.places(), 0);
