@@ -1,25 +1,23 @@
 -- Trees that call some names, out of the parts that they are built of.
-use Rattle.std.proofs.Common.{◌≡◌, ◌≢◌, ◌≤◌, ◌<◌, ◌⊎◌, ◌↔◌, ℕ, ◌+◌, max, List, [], ◌∷◌, ◌++◌, map, inl, inr, Bool, true, false, Option, Some, None, option_map, Result, Ok, Err, IfOk, bytes_eq, if◌then◌else◌, String, string_bytes, refl, sym, ap, subst, ◌∙◌, arith, true≢false}
+use Rattle.std.proofs.Common.{◌≡◌, ◌≢◌, ◌≤◌, ◌⊎◌, ℕ, ◌+◌, max, List, [], ◌∷◌, ◌++◌, inl, inr, Bool, true, false, Option, Some, None, option_map, Result, Ok, Err, IfOk, bytes_eq, if◌then◌else◌, String, string_bytes, refl, sym, ap, subst, ◌∙◌, arith, true≢false}
 use Rattle.std.specs.Global.{Global}
 use Rattle.std.proofs.lemmas.List.{append-nil, map-append}
-use Rattle.std.proofs.lemmas.Option.{none-some, same_Some}
+use Rattle.std.proofs.lemmas.Option.{none-some}
 use Rattle.std.proofs.lemmas.Slice.Eq.{bytes_eq-Decides}
-use Rattle.serde_json_path_core.specs.Tree.{Query, query, root, no_segments, segment, child, long_hand, no_selectors, selector, filter, LogicalOr, no_or, or, no_and, and, Basic, paren, relation, exist, test, not_test, Comparable, called, Operator, Call, call, Arguments, no_arguments, argument, Argument, query_argument, call_argument}
+use Rattle.serde_json_path_core.specs.Tree.{Query, query, root, no_segments, segment, child, long_hand, no_selectors, selector, filter, LogicalOr, no_or, or, no_and, and, Basic, test, Call, call, Arguments, query_argument, call_argument}
 use Rattle.serde_json_path_functions.specs.Functions.{Kind, of_value, of_nodes, of_logical, Signature}
 use Rattle.serde_json_path_functions.specs.Terms.{kind_view, signature_view}
 use Rattle.serde_json_path_functions.specs.declared.types.FunctionArgType.{FunctionArgType}
 use Rattle.serde_json_path_functions.specs.declared.types.FunctionArgType.TheVariants as kinds
-use Rattle.serde_json_path_core.specs.Typing.{IsTestKind, IsTyped, IsTypedOr, IsTypedBasic, IsTypedComparable, IsTypedCall, AreTypedArguments, IsTypedArgument, TakesResult, result_kind}
-use Rattle.serde_json_path_core.specs.Depth.{depth, or_depth, basic_depth, comparable_depth, call_depth, arguments_depth, argument_depth}
-use Rattle.serde_json_path_core.specs.Derivation.{IsIn, IsInOrder}
-use Rattle.serde_json_path_core.specs.Piece.{a_call, an_argument}
-use Rattle.serde_json_path_core.specs.Parts.{IsPart, KeepsParts}
-use Rattle.serde_json_path_core.specs.Used.{signature_in, used_view, Calls, MayFinish}
+use Rattle.serde_json_path_core.specs.Typing.{IsTestKind, IsTypedOr, IsTypedBasic, IsTypedCall, AreTypedArguments, IsTypedArgument, result_kind}
+use Rattle.serde_json_path_core.specs.Depth.{depth, or_depth, basic_depth, call_depth, arguments_depth}
+use Rattle.serde_json_path_core.specs.Derivation.{IsIn}
+use Rattle.serde_json_path_core.specs.Parts.{KeepsParts}
+use Rattle.serde_json_path_core.specs.Used.{signature_in, used_view, MayFinish}
 use Rattle.serde_json_path_core.specs.CallFree.{IsCallFree}
-use Rattle.serde_json_path_core.specs.CalledNames.{called_names, called_in_or, called_in_basic, called_in_comparable, called_from, called_in_arguments, called_in_argument}
-use Rattle.serde_json_path_core.specs.Called.{names_in, HasEach, IsMade, AreUsed, AddsUse}
+use Rattle.serde_json_path_core.specs.CalledNames.{called_names, called_in_or, called_in_basic, called_from, called_in_arguments}
+use Rattle.serde_json_path_core.specs.Called.{names_in, IsMade, AreUsed, AddsUse}
 use Rattle.serde_json_path_functions.specs.declared.signature.Signature as declared
-use Rattle.serde_json_path_core.specs.declared.syntax.node.Part.{Part}
 use Rattle.serde_json_path_core.specs.declared.syntax.builder.SyntaxBuilder.{SyntaxBuilder}
 use Rattle.serde_json_path_core.proofs.InLists.{in_append, in_map, in_order-append}
 use Rattle.serde_json_path_core.proofs.CalledNames.{each_named, calls_named, no_names}

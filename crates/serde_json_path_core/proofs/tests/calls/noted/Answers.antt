@@ -1,4 +1,4 @@
-use Rattle.std.proofs.Common.{List, ℕ, String, Some, option_map, sym, ap, subst, ◌∙◌}
+use Rattle.std.proofs.Common.{List, String, Some, option_map, sym, ap, ◌∙◌}
 use Rattle.std.specs.Global.{Global}
 use Rattle.serde_json_path_functions.specs.Terms.{signature_view}
 use Rattle.serde_json_path_core.specs.Used.{used_view, signature_in}
