@@ -2,6 +2,7 @@ pub mod AnswerKinds
 pub mod Answered
 pub mod BoundedParts
 pub mod Bounds
+pub mod CalledNames
 pub mod CalledTrees
 pub mod Chains
 pub mod ChildSteps

@@ -11,6 +11,7 @@ pub mod Used
 pub mod CallFree
 pub mod Samples
 pub mod Called
+pub mod CalledNames
 pub mod Text
 pub mod Piece
 pub mod SliceView
