@@ -21,30 +21,30 @@ hex4_stands : (escape cs : List ℕ) (r : Refusal) → hex4_at escape cs ≡ Err
 unfolding hex4_at
 hex4_stands escape cs r e =
     bind_stands escape (hexadecimal_at escape cs) _ r (hexadecimal_stands escape cs) (λ a p f.
-      bind_stands escape (hexadecimal_at escape a.1) _ r (hexadecimal_stands escape a.1) (λ b q g.
-        bind_stands escape (hexadecimal_at escape b.1) _ r (hexadecimal_stands escape b.1) (λ c s h.
-          bind_stands escape (hexadecimal_at escape c.1) _ r (hexadecimal_stands escape c.1) (λ d t k. no_refusal escape _ r k) h) g) f) e
+    bind_stands escape (hexadecimal_at escape a.1) _ r (hexadecimal_stands escape a.1) (λ b q g.
+    bind_stands escape (hexadecimal_at escape b.1) _ r (hexadecimal_stands escape b.1) (λ c s h.
+    bind_stands escape (hexadecimal_at escape c.1) _ r (hexadecimal_stands escape c.1) (λ d t k. no_refusal escape _ r k) h) g) f) e
 
 low_stands : (escape : List ℕ) (high : ℕ) (cs : List ℕ) (r : Refusal) → low_at escape high cs ≡ Err r → Stands escape r
 unfolding low_at
 low_stands escape high cs r e =
     guard_stands escape (begins (λ c. c == 92) cs) _ BadEscape place.LongHand r refl (λ f.
-      guard_stands escape (begins (λ c. c == 117) (drop 1 cs)) _ BadEscape place.LongHand r refl (λ g.
-        bind_stands escape (hex4_at escape (drop 1 (drop 1 cs))) _ r (hex4_stands escape (drop 1 (drop 1 cs))) (λ l s h.
-          guard_stands escape (is_low l.0) (done (pair_of high l.0, l.1)) BadEscape place.LongHand r refl (no_refusal escape _ r) h) g) f) e
+    guard_stands escape (begins (λ c. c == 117) (drop 1 cs)) _ BadEscape place.LongHand r refl (λ g.
+    bind_stands escape (hex4_at escape (drop 1 (drop 1 cs))) _ r (hex4_stands escape (drop 1 (drop 1 cs))) (λ l s h.
+    guard_stands escape (is_low l.0) (done (pair_of high l.0, l.1)) BadEscape place.LongHand r refl (no_refusal escape _ r) h) g) f) e
 
 unicode_stands : (escape cs : List ℕ) (r : Refusal) → unicode_at escape cs ≡ Err r → Stands escape r
 unfolding unicode_at
 unicode_stands escape cs r e =
     let bad : Parsed ℕ = Err (refusal BadEscape place.LongHand escape) in
     bind_stands escape (hex4_at escape cs) _ r (hex4_stands escape cs) (λ h s f.
-      elim (chosen (is_high h.0) (low_at escape h.0 h.1) (cond (is_low h.0) bad (Ok (h.0, h.1))) (Err r) f) [
-        | inl a ↦ low_stands escape h.0 h.1 r a.1
-        | inr a ↦ elim (chosen (is_low h.0) bad (done (h.0, h.1)) (Err r) a.1) [
-          | inl b ↦ here BadEscape place.LongHand escape bad r refl refl b.1
-          | inr b ↦ no_refusal escape _ r b.1
-        ]
-      ]) e
+    elim (chosen (is_high h.0) (low_at escape h.0 h.1) (cond (is_low h.0) bad (Ok (h.0, h.1))) (Err r) f) [
+      | inl a ↦ low_stands escape h.0 h.1 r a.1
+      | inr a ↦ elim (chosen (is_low h.0) bad (done (h.0, h.1)) (Err r) a.1) [
+        | inl b ↦ here BadEscape place.LongHand escape bad r refl refl b.1
+        | inr b ↦ no_refusal escape _ r b.1
+      ]
+    ]) e
 
 escape_stands : (quote : ℕ) (cs : List ℕ) (r : Refusal) → escape_at quote cs ≡ Err r → Stands cs r
 unfolding escape_at
@@ -74,6 +74,6 @@ string_stands quote is cs r e =
     bind_stands cs (many (begins (is_inside quote)) (piece_at quote) cs) _ r
     (λ d f. many_stands (IsPiece quote) (begins (is_inside quote)) (piece_at quote) (piece_sound quote is) (piece_stands quote) (length cs) cs d f)
     (λ s f h.
-      let read = many_sound (IsPiece quote) (begins (is_inside quote)) (piece_at quote) (piece_sound quote is) (length cs) cs s f in
-      further cs read.text s.1 r read.split
-      (guard_stands s.1 (begins (λ c. c == quote) s.1) (done (encode_utf8_all s.0, drop 1 s.1)) ExpectedEndingQuote place.LongHand r refl (no_refusal s.1 _ r) h)) e
+    let read = many_sound (IsPiece quote) (begins (is_inside quote)) (piece_at quote) (piece_sound quote is) (length cs) cs s f in
+    further cs read.text s.1 r read.split
+    (guard_stands s.1 (begins (λ c. c == quote) s.1) (done (encode_utf8_all s.0, drop 1 s.1)) ExpectedEndingQuote place.LongHand r refl (no_refusal s.1 _ r) h)) e
