@@ -8,6 +8,7 @@ sample_signature name =
     if bytes_eq name (codes "first") then Some (record { params = of_nodes ∷ []; result = of_value })
     else if bytes_eq name (codes "length") then Some (record { params = of_nodes ∷ []; result = of_value })
     else if bytes_eq name (codes "kids") then Some (record { params = of_nodes ∷ []; result = of_nodes })
+    else if bytes_eq name (codes "match") then Some (record { params = of_nodes ∷ []; result = of_nodes })
     else if bytes_eq name (codes "both") then Some (record { params = of_logical ∷ of_logical ∷ []; result = of_logical })
     else if bytes_eq name (codes "none") then Some (record { params = []; result = of_value })
     else if bytes_eq name (codes "refuse") then Some (record { params = []; result = of_logical })
@@ -38,6 +39,7 @@ sample_meaning name ts =
     if bytes_eq name (codes "first") then first_meaning ts
     else if bytes_eq name (codes "length") then more_meaning ts
     else if bytes_eq name (codes "kids") then kids_meaning ts
+    else if bytes_eq name (codes "match") then kids_meaning ts
     else if bytes_eq name (codes "both") then both_meaning ts
     else if bytes_eq name (codes "none") then value None
     else logical true
@@ -88,24 +90,26 @@ kept params result meaning few typed s e =
     let same = same_Some (record { params = params; result = result }) s e in
     (subst (λ (x : Signature). length x.params ≤ 8) same few, λ ts h. typed ts ∙ ap (λ (x : Signature). x.result) same)
 
-by_name : (a b c d e f : Bool) → IsKept (
+by_name : (a b c m d e f : Bool) → IsKept (
     if a then Some (record { params = of_nodes ∷ []; result = of_value })
     else if b then Some (record { params = of_nodes ∷ []; result = of_value })
     else if c then Some (record { params = of_nodes ∷ []; result = of_nodes })
+    else if m then Some (record { params = of_nodes ∷ []; result = of_nodes })
     else if d then Some (record { params = of_logical ∷ of_logical ∷ []; result = of_logical })
     else if e then Some (record { params = []; result = of_value })
     else if f then Some (record { params = []; result = of_logical })
     else None
-    ) (λ ts. if a then first_meaning ts else if b then more_meaning ts else if c then kids_meaning ts else if d then both_meaning ts else if e then value None else logical true)
-by_name true b c d e f = kept (of_nodes ∷ []) of_value first_meaning (omega arith) first_typed
-by_name false true c d e f = kept (of_nodes ∷ []) of_value more_meaning (omega arith) more_typed
-by_name false false true d e f = kept (of_nodes ∷ []) of_nodes kids_meaning (omega arith) kids_typed
-by_name false false false true e f = kept (of_logical ∷ of_logical ∷ []) of_logical both_meaning (omega arith) both_typed
-by_name false false false false true f = kept [] of_value (λ ts. value None) (omega arith) (λ ts. refl)
-by_name false false false false false true = kept [] of_logical (λ ts. logical true) (omega arith) (λ ts. refl)
-by_name false false false false false false = λ s e. absurd cc
+    ) (λ ts. if a then first_meaning ts else if b then more_meaning ts else if c then kids_meaning ts else if m then kids_meaning ts else if d then both_meaning ts else if e then value None else logical true)
+by_name true b c m d e f = kept (of_nodes ∷ []) of_value first_meaning (omega arith) first_typed
+by_name false true c m d e f = kept (of_nodes ∷ []) of_value more_meaning (omega arith) more_typed
+by_name false false true m d e f = kept (of_nodes ∷ []) of_nodes kids_meaning (omega arith) kids_typed
+by_name false false false true d e f = kept (of_nodes ∷ []) of_nodes kids_meaning (omega arith) kids_typed
+by_name false false false false true e f = kept (of_logical ∷ of_logical ∷ []) of_logical both_meaning (omega arith) both_typed
+by_name false false false false false true f = kept [] of_value (λ ts. value None) (omega arith) (λ ts. refl)
+by_name false false false false false false true = kept [] of_logical (λ ts. logical true) (omega arith) (λ ts. refl)
+by_name false false false false false false false = λ s e. absurd cc
 
 pub sample_keeps_types : KeepsTypes sample_functions
 sample_keeps_types name s e =
-    by_name (bytes_eq name (codes "first")) (bytes_eq name (codes "length")) (bytes_eq name (codes "kids")) (bytes_eq name (codes "both")) (bytes_eq name (codes "none"))
+    by_name (bytes_eq name (codes "first")) (bytes_eq name (codes "length")) (bytes_eq name (codes "kids")) (bytes_eq name (codes "match")) (bytes_eq name (codes "both")) (bytes_eq name (codes "none"))
     (bytes_eq name (codes "refuse")) s e

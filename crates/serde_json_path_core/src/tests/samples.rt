@@ -10,7 +10,7 @@ use serde_json_path_functions::{
 };
 use std::alloc::Global;
 
-/// `first` gives the value of the first node, `length` one more than there are nodes, `kids` its nodes, `both` whether
+/// `first` gives the value of the first node, `length` one more than there are nodes, `kids` and `match` their nodes, `both` whether
 /// both are true, `none` Nothing, and `refuse` is refused for memory.
 #[derive(Clone, Copy)]
 pub(crate) struct Samples;
@@ -25,7 +25,7 @@ impl Functions for Samples {
     fn signature(&self, name: &str) -> Option<Signature> {
         match name {
             "first" | "length" => Signature::new(&[Nodelist], FunctionArgType::Value),
-            "kids" => Signature::new(&[Nodelist], Nodelist),
+            "kids" | "match" => Signature::new(&[Nodelist], Nodelist),
             "both" => Signature::new(&[Logical, Logical], Logical),
             "none" => Signature::new(&[], FunctionArgType::Value),
             "refuse" => Signature::new(&[], Logical),
@@ -54,7 +54,7 @@ impl Functions for Samples {
                 }
                 _ => unreachable!(),
             },
-            "kids" => match args.pop() {
+            "kids" | "match" => match args.pop() {
                 Some(FunctionValue::Nodes(nodes)) => Ok(FunctionValue::Nodes(nodes)),
                 _ => unreachable!(),
             },
