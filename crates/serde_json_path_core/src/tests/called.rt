@@ -97,6 +97,25 @@ pub(crate) fn text_argument(
     })
 }
 
+/// A whole number as an argument.
+pub(crate) fn number_argument(
+    alloc: Global,
+    builder: &mut SyntaxBuilder,
+    number: i8,
+) -> Result<Built, Fail>
+    ensures made { IfOk result (λ built. IsMadeArgument builder.new built.part (kind_view built.kind) (used_view built.calls.items) built.deep) }
+    ensures keeps { IfOk result (λ built. KeepsParts builder.old builder.new) }
+{
+    let number = NumberLiteral::from_billionths(number as i128 * 1_000_000_000);
+    let part = builder.literal_argument(Literal::Number(number.ok_or("out of range")?))?;
+    Ok(Built {
+        part,
+        kind: FunctionArgType::Value,
+        calls: Vec::new(alloc),
+        deep: 0,
+    })
+}
+
 /// A query as an argument for a node list or for a truth value.
 pub(crate) fn query_argument(
     alloc: Global,

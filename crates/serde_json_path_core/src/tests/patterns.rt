@@ -3,16 +3,41 @@
 ghost use Rattle.std.specs.Prelude.{IfOk};
 ghost use Rattle.serde_json_path_functions.specs.Functions.{Fits};
 ghost use Rattle.serde_json_path_functions.specs.Patterns.{builtin_functions};
+ghost use Rattle.serde_json_path_functions.specs.Terms.{kind_view};
 ghost use Rattle.serde_json_path_core.specs.Parts.{signatures_of};
+ghost use Rattle.serde_json_path_core.specs.Used.{used_view};
+ghost use Rattle.serde_json_path_core.specs.Called.{IsMadeArgument};
 
 use crate::tests::called::{
-    alone, call_of_two, filtered, selected, tested, text_argument, value_argument,
+    Built, alone, call_of_two, filtered, number_argument, selected, tested, text_argument,
+    value_argument,
 };
 use crate::{Checked, SyntaxBuilder};
 use serde_json_path_functions::{Builtin, Functions};
 use std::alloc::Global;
 use std::process::Abort;
 use std::test::Fail;
+
+/// The query `$[?function(text, pattern)]`, or with `!` before the call.
+fn of_arguments(
+    alloc: Global,
+    builder: SyntaxBuilder,
+    function: &str,
+    text: Built,
+    pattern: Built,
+    negated: bool,
+) -> Result<Checked, Fail>
+    requires text { IsMadeArgument builder text.part (kind_view text.kind) (used_view text.calls.items) text.deep }
+    requires pattern { IsMadeArgument builder pattern.part (kind_view pattern.kind) (used_view pattern.calls.items) pattern.deep }
+    ensures { IfOk result (λ checked. Fits builtin_functions (signatures_of checked)) }
+{
+    let mut builder = builder;
+    let signature = Builtin.signature(function).ok_or("not declared")?;
+    let call = call_of_two(alloc, &mut builder, function, &signature, text, pattern)?;
+    let test = tested(&mut builder, call, negated)?;
+    let expression = alone(alloc, &mut builder, test)?;
+    filtered(alloc, builder, &Builtin, expression)
+}
 
 /// The query `$[?function(@.member, 'pattern')]`, with `@` alone for no member, or with `!` before the call.
 fn of_pattern(
@@ -24,14 +49,20 @@ fn of_pattern(
 ) -> Result<Checked, Fail>
     ensures { IfOk result (λ checked. Fits builtin_functions (signatures_of checked)) }
 {
-    let signature = Builtin.signature(function).ok_or("not declared")?;
     let mut builder = SyntaxBuilder::new(alloc);
     let text = value_argument(alloc, &mut builder, member)?;
     let pattern = text_argument(alloc, &mut builder, pattern)?;
-    let call = call_of_two(alloc, &mut builder, function, &signature, text, pattern)?;
-    let test = tested(&mut builder, call, negated)?;
-    let expression = alone(alloc, &mut builder, test)?;
-    filtered(alloc, builder, &Builtin, expression)
+    of_arguments(alloc, builder, function, text, pattern, negated)
+}
+
+/// The query `$[?function(@, number)]`.
+fn of_number(alloc: Global, function: &str, number: i8) -> Result<Checked, Fail>
+    ensures { IfOk result (λ checked. Fits builtin_functions (signatures_of checked)) }
+{
+    let mut builder = SyntaxBuilder::new(alloc);
+    let text = value_argument(alloc, &mut builder, "")?;
+    let pattern = number_argument(alloc, &mut builder, number)?;
+    of_arguments(alloc, builder, function, text, pattern, false)
 }
 
 /// Each row has the function, the member and the pattern of a filter, a document, and the locations of what the filter
@@ -76,4 +107,15 @@ fn what_is_no_pattern_matches_nothing(rt: HostRuntime) -> Result<(), Fail> {
         ("search", "", "(", r#"["a"]"#, " $[0]"),
     ];
     selects_each(&rt, rt.alloc(), true, rows)
+}
+
+#[test]
+fn a_number_is_no_pattern(rt: HostRuntime) -> Result<(), Fail> {
+    let alloc = rt.alloc();
+    for function in ["match", "search"] {
+        let query = of_number(alloc, function, 1)?;
+        let text = selected(alloc, &query, Builtin, r#"["1"]"#)?;
+        assert_eq!(rt; text.as_str(), "", "by {function}");
+    }
+    Ok(())
 }
