@@ -4,7 +4,7 @@ use Rattle.std.specs.Global.{Global}
 use Rattle.std.proofs.lemmas.List.{append-nil, map-append}
 use Rattle.std.proofs.lemmas.Option.{none-some}
 use Rattle.std.proofs.lemmas.Slice.Eq.{bytes_eq-Decides}
-use Rattle.serde_json_path_core.specs.Tree.{Query, query, root, no_segments, segment, child, long_hand, no_selectors, selector, filter, LogicalOr, no_or, or, no_and, and, Basic, test, Call, call, Arguments, query_argument, call_argument}
+use Rattle.serde_json_path_core.specs.Tree.{Query, query, root, no_segments, segment, child, long_hand, no_selectors, selector, filter, LogicalOr, no_or, or, no_and, and, Basic, Call, call, Arguments, query_argument, call_argument}
 use Rattle.serde_json_path_functions.specs.Functions.{Kind, of_value, of_nodes, of_logical, Signature}
 use Rattle.serde_json_path_functions.specs.Terms.{kind_view, signature_view}
 use Rattle.serde_json_path_functions.specs.declared.types.FunctionArgType.{FunctionArgType}
