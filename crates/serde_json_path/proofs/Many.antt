@@ -5,7 +5,7 @@ use Rattle.serde_json_path.specs.declared.error.Refusal.{Refusal}
 use Rattle.serde_json_path.specs.declared.error.Stop.{Stop}
 use Rattle.serde_json_path.specs.declared.error.Stop.TheVariants as stops
 use Rattle.serde_json_path.specs.Giving.{Fails}
-use Rattle.serde_json_path.specs.Parsing.{Parsed, ◌>>=◌, many_at, many}
+use Rattle.serde_json_path.specs.Parsed.{Parsed, ◌>>=◌, many_at, many}
 
 -- what was read before, and what is still read
 abbrev pub with_front : {A : Type 0} → List A → Parsed (List A) → Parsed (List A)

@@ -1,14 +1,64 @@
--- The front of a list whose elements pass a test, one by one; and the value of digits, one by one.
+-- The front of a list whose elements pass a test, and what is behind it; and the value of digits, one by one.
 use Rattle.std.proofs.Common.{◌≡◌, ℕ, ◌+◌, ◌-◌, ◌*◌, ◌<◌, ◌≤◌, min, Bool, true, false, List, [], ◌∷◌, ◌++◌, length, refl, sym, ap, ◌∙◌, append_assoc, inl, inr, arith}
 use Rattle.std.proofs.lemmas.Bool.{cases_lt}
 use Rattle.std.specs.Str.{encode_utf8_all}
 use Rattle.std.specs.Prelude.{encode_utf8}
+use Rattle.std.specs.List.{AllByRecursion}
 use Rattle.serde_json_path.specs.Lexical.{begins, is_digit, value_from}
-use Rattle.serde_json_path.specs.Parsing.{front, behind}
+use Rattle.serde_json_path.specs.Parsed.{front, behind}
 
-pub there : (p : ℕ → Bool) (cs : List ℕ) → begins p cs ≡ true → 0 < length cs
-there p [] e = absurd cc
-there p (c ∷ cs) e = omega arith
+-- ---- what begins a list
+
+pub some_begun : (p : ℕ → Bool) (t : List ℕ) → begins p t ≡ true → 0 < length t
+some_begun p [] e = absurd cc
+some_begun p (c ∷ t) e = omega arith
+
+-- a list begins as its front does, where that is there
+pub begins_front : (p : ℕ → Bool) (b : Bool) (t rest : List ℕ) → 0 < length t → begins p t ≡ b → begins p (t ++ rest) ≡ b
+begins_front p b [] rest l e = absurd (omega arith)
+begins_front p b (c ∷ t) rest l e = e
+
+-- ---- a front and what is behind it
+
+-- the front and what is behind it are the whole
+pub whole : (p : ℕ → Bool) (cs : List ℕ) → cs ≡ front p cs ++ behind p cs
+whole p [] = refl
+whole p (c ∷ cs) = by_test (p c) refl (whole p cs)
+  where
+    by_test : (b : Bool) → p c ≡ b → cs ≡ front p cs ++ behind p cs → c ∷ cs ≡ front p (c ∷ cs) ++ behind p (c ∷ cs)
+    by_test true e h = rw e (ap (λ (l : List ℕ). c ∷ l) h)
+    by_test false e h = rw e refl
+
+pub front_each : (p : ℕ → Bool) (cs : List ℕ) → AllByRecursion (λ c. p c ≡ true) (front p cs)
+front_each p [] = tt
+front_each p (c ∷ cs) = by_test (p c) refl (front_each p cs)
+  where
+    by_test : (b : Bool) → p c ≡ b → AllByRecursion (λ c. p c ≡ true) (front p cs) → AllByRecursion (λ c. p c ≡ true) (front p (c ∷ cs))
+    by_test true e h = rw e (e, h)
+    by_test false e h = rw e tt
+
+-- the front begins as the list does
+pub front_begins : (p q : ℕ → Bool) (cs : List ℕ) → ((c : ℕ) → q c ≡ true → p c ≡ true) → begins q cs ≡ true → begins q (front p cs) ≡ true
+front_begins p q [] sub e = absurd cc
+front_begins p q (c ∷ cs) sub e = rw (sub c e) e
+
+pub front_begins_not : (p q : ℕ → Bool) (cs : List ℕ) → begins q cs ≡ false → begins q (front p cs) ≡ false
+front_begins_not p q [] e = refl
+front_begins_not p q (c ∷ cs) e = by_test (p c) refl
+  where
+    by_test : (b : Bool) → p c ≡ b → begins q (front p (c ∷ cs)) ≡ false
+    by_test true t = rw t e
+    by_test false t = rw t refl
+
+pub front_all : (p : ℕ → Bool) (t rest : List ℕ) → AllByRecursion (λ c. p c ≡ true) t → begins p rest ≡ false → front p (t ++ rest) ≡ t
+front_all p [] [] h e = refl
+front_all p [] (c ∷ rest) h e = rw e refl
+front_all p (c ∷ t) rest h e = rw h.0 (ap (λ (l : List ℕ). c ∷ l) (front_all p t rest h.1 e))
+
+pub behind_all : (p : ℕ → Bool) (t rest : List ℕ) → AllByRecursion (λ c. p c ≡ true) t → begins p rest ≡ false → behind p (t ++ rest) ≡ rest
+behind_all p [] [] h e = refl
+behind_all p [] (c ∷ rest) h e = rw e refl
+behind_all p (c ∷ t) rest h e = rw h.0 (behind_all p t rest h.1 e)
 
 pub front_more : (p : ℕ → Bool) (cs ds : List ℕ) (c : ℕ) → cs ≡ c ∷ ds → begins p cs ≡ true → front p cs ≡ c ∷ front p ds
 front_more p cs ds c e t = let k : p c ≡ true = sym (ap (begins p) e) ∙ t in ap (front p) e ∙ rw k refl
@@ -28,6 +78,8 @@ behind_end p (c ∷ cs) t = rw t refl
 pub taken : (p : ℕ → Bool) (cs ds : List ℕ) (c : ℕ) (text whole : List ℕ) → cs ≡ c ∷ ds → begins p cs ≡ true
     → text ++ encode_utf8_all (front p cs) ≡ whole → (text ++ encode_utf8 c) ++ encode_utf8_all (front p ds) ≡ whole
 taken p cs ds c text whole e t h = append_assoc text (encode_utf8 c) (encode_utf8_all (front p ds)) ∙ ap (λ (l : List ℕ). text ++ encode_utf8_all l) (sym (front_more p cs ds c e t)) ∙ h
+
+-- ---- the value of digits
 
 pub value_grows : (n m : ℕ) (ds : List ℕ) → n ≤ m → value_from n ds ≤ value_from m ds
 value_grows n m [] h = h

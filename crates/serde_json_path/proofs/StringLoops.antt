@@ -9,7 +9,7 @@ use Rattle.serde_json_path.specs.declared.error.Stop.{Stop}
 use Rattle.serde_json_path.specs.declared.error.Stop.TheVariants as stops
 use Rattle.serde_json_path.specs.Giving.{Fails}
 use Rattle.serde_json_path.specs.Lexical.{begins, IsQuote}
-use Rattle.serde_json_path.specs.Parsing.{Parsed, ◌>>=◌, refusal, many}
+use Rattle.serde_json_path.specs.Parsed.{Parsed, ◌>>=◌, refusal, many}
 use Rattle.serde_json_path.specs.Strings.{piece_at, is_inside}
 use Rattle.serde_json_path.proofs.Many as m
 use Rattle.serde_json_path.proofs.StringTexts.{piece_takes}

@@ -6,11 +6,11 @@ use Rattle.serde_json_path.specs.declared.error.ParseErrorKind.TheVariants.{Expe
 use Rattle.serde_json_path.specs.declared.error.Place.TheVariants as place
 use Rattle.serde_json_path.specs.declared.error.Refusal.{Refusal}
 use Rattle.serde_json_path.specs.Lexical.{begins, pair_of, IsPiece, IsQuote}
-use Rattle.serde_json_path.specs.Parsing.{Parsed, ◌>>=◌, refusal, many}
+use Rattle.serde_json_path.specs.Parsed.{Parsed, ◌>>=◌, refusal, many}
 use Rattle.serde_json_path.specs.Strings.{is_hexadecimal, hexadecimal_value, head, hexadecimal_at, hex4_at, is_high, is_low, low_at, unicode_at, is_letter_escape, letter_value, escape_at, is_control, piece_at, is_inside, string_at}
-use Rattle.serde_json_path.proofs.Sound.{chosen, done, many_sound}
+use Rattle.serde_json_path.proofs.Steps.{chosen, done, many_sound}
 use Rattle.serde_json_path.proofs.StringTexts.{piece_sound}
-use Rattle.serde_json_path.proofs.Places.{Stands, here, further, bind_stands, guard_stands, no_refusal, many_stands}
+use Rattle.serde_json_path.proofs.Stands.{Stands, here, further, bind_stands, guard_stands, no_refusal, many_stands}
 
 hexadecimal_stands : (escape cs : List ℕ) (r : Refusal) → hexadecimal_at escape cs ≡ Err r → Stands escape r
 unfolding hexadecimal_at

@@ -2,22 +2,17 @@
 use Rattle.std.proofs.Common.{◌≡◌, ℕ, ◌+◌, ◌-◌, ◌*◌, ◌<◌, ◌≤◌, ◌⊎◌, inl, inr, Bool, true, false, cond, ◌&&◌, true≢false, List, [], ◌∷◌, ◌++◌, length, drop, Option, Some, None, Ok, Err, refl, sym, ap, subst, ◌∙◌, append_assoc, arith}
 use Rattle.std.specs.Prelude.{nat_le, ◌==◌, not, codes}
 use Rattle.std.specs.Str.{encode_utf8_all}
-use Rattle.std.proofs.lemmas.Bool.{eqb-true, eq-eqb}
+use Rattle.std.proofs.lemmas.Bool.{eqb-true, eq-eqb, and_parts}
 use Rattle.std.proofs.lemmas.List.{length-append}
 use Rattle.std.proofs.lemmas.Option.{same_Some, none-some}
 use Rattle.serde_json_path.specs.declared.error.ParseErrorKind.TheVariants.{ExpectedEndingQuote, BadEscape, ControlCharacter}
 use Rattle.serde_json_path.specs.declared.error.Place.TheVariants as place
 use Rattle.serde_json_path.specs.Lexical.{begins, is_digit, hexadecimal_of, IsHex4, IsHighSurrogate, IsLowSurrogate, pair_of, escaped_by, is_plain, IsPiece, plain, quote_escape, letter_escape, hex_escape, pair_escape, ArePieces, IsQuote, IsString}
-use Rattle.serde_json_path.specs.Parsing.{Parsed, ◌>>=◌, refusal, many_at, many}
+use Rattle.serde_json_path.specs.Parsed.{Parsed, ◌>>=◌, refusal, many_at, many}
 use Rattle.serde_json_path.specs.Strings.{is_hexadecimal, hexadecimal_value, head, hexadecimal_at, hex4_at, is_high, is_low, low_at, unicode_at, is_letter_escape, letter_value, escape_at, is_control, piece_at, is_inside, string_at}
 use Rattle.serde_json_path.proofs.Many as m
-use Rattle.serde_json_path.proofs.OpenTexts.{Joined}
-use Rattle.serde_json_path.proofs.Sound.{Read, bind_ok, chosen, guard, done, ok_is, after_one, many_sound}
-use Rattle.serde_json_path.proofs.Complete.{Again, many_again}
-
-both_true : (a b : Bool) → (a && b) ≡ true → (a ≡ true) × (b ≡ true)
-both_true true b e = (refl, e)
-both_true false b e = absurd cc
+use Rattle.serde_json_path.proofs.Runs.{some_begun}
+use Rattle.serde_json_path.proofs.Steps.{Read, bind_ok, chosen, guard, done, ok_is, after_one, many_sound, Again, many_again}
 
 -- ---- hexadecimal digits
 
@@ -26,7 +21,7 @@ hexadecimal_is c e = by_digit (is_digit c) refl
   where
     by_small : (b : Bool) → (nat_le 97 c && nat_le c 102) ≡ b → is_digit c ≡ false → (nat_le 65 c && nat_le c 70) ≡ false → hexadecimal_of c ≡ Some (hexadecimal_value c)
     by_small true s d l =
-        let from = (both_true (nat_le 97 c) (nat_le c 102) s).0 in
+        let from = (and_parts (nat_le 97 c) (nat_le c 102) s).0 in
         let past_digits : nat_le c 57 ≡ false = grind (arith, from) in
         let past_letters : nat_le c 70 ≡ false = grind (arith, from) in
         rw (d, l, s, past_digits, past_letters) refl
@@ -34,13 +29,13 @@ hexadecimal_is c e = by_digit (is_digit c) refl
 
     by_large : (b : Bool) → (nat_le 65 c && nat_le c 70) ≡ b → is_digit c ≡ false → hexadecimal_of c ≡ Some (hexadecimal_value c)
     by_large true l d =
-        let within = both_true (nat_le 65 c) (nat_le c 70) l in
+        let within = and_parts (nat_le 65 c) (nat_le c 70) l in
         let past_digits : nat_le c 57 ≡ false = grind (arith, within.0) in
         rw (d, l, past_digits, within.1) refl
     by_large false l d = by_small (nat_le 97 c && nat_le c 102) refl d l
 
     by_digit : (b : Bool) → is_digit c ≡ b → hexadecimal_of c ≡ Some (hexadecimal_value c)
-    by_digit true d = rw (d, (both_true (nat_le 48 c) (nat_le c 57) d).1) refl
+    by_digit true d = rw (d, (and_parts (nat_le 48 c) (nat_le c 57) d).1) refl
     by_digit false d = by_large (nat_le 65 c && nat_le c 70) refl d
 
 hexadecimal_sound : (escape cs : List ℕ) (x : ℕ × List ℕ) → hexadecimal_at escape cs ≡ Ok x → (c : ℕ) × (cs ≡ c ∷ x.1) × (hexadecimal_of c ≡ Some x.0)
@@ -71,10 +66,10 @@ hex4_sound escape cs x e =
 -- ---- what is read is a piece
 
 high_of : (n : ℕ) → is_high n ≡ true → IsHighSurrogate n
-high_of n e = let h = both_true (nat_le 0xd800 n) (nat_le n 0xdbff) e in (grind (arith, h.0), grind (arith, h.1))
+high_of n e = let h = and_parts (nat_le 0xd800 n) (nat_le n 0xdbff) e in (grind (arith, h.0), grind (arith, h.1))
 
 low_of : (n : ℕ) → is_low n ≡ true → IsLowSurrogate n
-low_of n e = let h = both_true (nat_le 0xdc00 n) (nat_le n 0xdfff) e in (grind (arith, h.0), grind (arith, h.1))
+low_of n e = let h = and_parts (nat_le 0xdc00 n) (nat_le n 0xdfff) e in (grind (arith, h.0), grind (arith, h.1))
 
 -- no surrogate
 scalar_of : (n : ℕ) → is_high n ≡ false → is_low n ≡ false → (n < 0xd800) ⊎ (0xdfff < n)
@@ -227,10 +222,6 @@ piece_sound quote is (c ∷ cs) x i e =
       ]
     ]
 
-pieces_joined : (quote : ℕ) (t cs : List ℕ) → Joined (IsPiece quote) t cs → ArePieces quote t cs
-pieces_joined quote t [] h = h
-pieces_joined quote t (c ∷ cs) h = (h.0, h.1, h.2, pieces_joined quote h.1 cs h.3, h.4)
-
 -- behind the opening quote
 pub string_sound : (quote : ℕ) (cs : List ℕ) (x : List ℕ × List ℕ) → IsQuote quote → string_at quote cs ≡ Ok x → Read IsString (quote ∷ cs) x
 unfolding string_at many
@@ -241,7 +232,7 @@ string_sound quote cs x is e =
     let r = many_sound (IsPiece quote) (begins (is_inside quote)) (piece_at quote) (piece_sound quote is) (length cs) cs pieces.0 pieces.1 in
     subst (Read IsString (quote ∷ cs)) (ok_is (encode_utf8_all pieces.0.0, drop 1 pieces.0.1) x g.1) (record {
       text = quote ∷ (r.text ++ (quote ∷ []));
-      is_so = (quote, r.text, pieces.0.0, is, pieces_joined quote r.text pieces.0.0 r.is_so, refl, refl);
+      is_so = (quote, r.text, pieces.0.0, is, r.is_so, refl, refl);
       split = ap (λ (l : List ℕ). quote ∷ l) (r.split ∙ ap (λ (l : List ℕ). r.text ++ l) (after_one quote pieces.0.1 g.0) ∙ sym (append_assoc r.text (quote ∷ []) (drop 1 pieces.0.1)));
     })
 
@@ -392,10 +383,6 @@ piece_some quote t c (letter_escape letter d e) = omega arith
 piece_some quote t c (hex_escape digits d h side) = omega arith
 piece_some quote t c (pair_escape a b high low first second h l) = omega arith
 
-some_left : (p : ℕ → Bool) (cs : List ℕ) → begins p cs ≡ true → 0 < length cs
-some_left p [] e = absurd cc
-some_left p (c ∷ cs) e = omega arith
-
 pub piece_takes : (quote : ℕ) → IsQuote quote → m.Takes (begins (is_inside quote)) (piece_at quote)
 piece_takes quote is = record {
   shorter = λ cs rest x i e.
@@ -403,7 +390,7 @@ piece_takes quote is = record {
       let some = piece_some quote r.text x r.is_so in
       let sum = ap length r.split ∙ length-append r.text rest in
       omega (arith, some, sum);
-  some = λ cs i. some_left (is_inside quote) cs i;
+  some = λ cs i. some_begun (is_inside quote) cs i;
 }
 
 pieces_law : (quote : ℕ) → IsQuote quote → Again (IsPiece quote) (begins (is_inside quote)) (piece_at quote) (λ rest. Unit {0})
@@ -414,10 +401,6 @@ pieces_law quote is = record {
   stops = λ t x rest h. tt;
 }
 
-joined_pieces : (quote : ℕ) (t cs : List ℕ) → ArePieces quote t cs → Joined (IsPiece quote) t cs
-joined_pieces quote t [] h = h
-joined_pieces quote t (c ∷ cs) h = (h.0, h.1, h.2, joined_pieces quote h.1 cs h.3, h.4)
-
 quote_ends : (quote : ℕ) → (quote == quote) ≡ true
 quote_ends quote = eq-eqb quote quote refl
 
@@ -427,5 +410,5 @@ unfolding string_at
 string_again t bytes rest (quote, inside, characters, is, pieces, text, value) =
     let inner = inside ++ (quote ∷ []) in
     let ends : is_inside quote quote ≡ false = rw (quote_ends quote) refl in
-    let read = many_again (IsPiece quote) (begins (is_inside quote)) (piece_at quote) (λ rest. Unit {0}) (pieces_law quote is) inside characters (quote ∷ rest) (joined_pieces quote inside characters pieces) tt ends in
+    let read = many_again (IsPiece quote) (begins (is_inside quote)) (piece_at quote) (λ rest. Unit {0}) (pieces_law quote is) inside characters (quote ∷ rest) pieces tt ends in
     (quote, inner, is, text, ap (string_at quote) (append_assoc inside (quote ∷ []) rest) ∙ rw (read, quote_ends quote) (ap (λ (b : List ℕ). Ok (b, rest)) (sym value)))

@@ -1,10 +1,10 @@
 -- What a function of the parser returned is what reading gives.
 use Rattle.std.specs.Prelude.{◌≡◌, ℕ, true, length, ◌≤◌, ◌+◌, ◌-◌, List, [], Vec, Result, Ok, Err}
+use Rattle.std.specs.Str.{encode_utf8_all}
 use Rattle.std.specs.declared.alloc.Global.{Global}
-use Rattle.serde_json_path_core.specs.Tree.{Query, query, root, Segment}
-use Rattle.serde_json_path_core.specs.Tree as tree
-use Rattle.serde_json_path_core.specs.Piece.{a_segment}
-use Rattle.serde_json_path_core.specs.Parts.{IsPart, ArePartsOf, signatures_of, tree_of}
+use Rattle.serde_json_path_core.specs.Tree.{Query, query, root, SegmentKind, Segments, Segment, Selector}
+use Rattle.serde_json_path_core.specs.Piece.{a_segment, a_selector}
+use Rattle.serde_json_path_core.specs.Parts.{IsPart, ArePartsOf, AreSelectorsOf, signatures_of, tree_of}
 use Rattle.serde_json_path_core.specs.declared.syntax.node.Part.{Part}
 use Rattle.serde_json_path_core.specs.declared.syntax.builder.SyntaxBuilder.{SyntaxBuilder}
 use Rattle.serde_json_path_core.specs.declared.syntax.checked.Checked.{Checked}
@@ -18,7 +18,8 @@ use Rattle.serde_json_path.specs.declared.error.ParseError.{ParseError}
 use Rattle.serde_json_path.specs.declared.source.PathSource.{Ghosts}
 use Rattle.serde_json_path.specs.declared.parser.reader.Reader.{Reader}
 use Rattle.serde_json_path.specs.Reading.{left, seen, told}
-use Rattle.serde_json_path.specs.Parsing.{Parsed, child_segments}
+use Rattle.serde_json_path.specs.Parsed.{Parsed, past_blanks}
+use Rattle.serde_json_path.specs.Parsing.{selector_list, segment_list}
 
 -- it stops with what reading refuses, unless memory was refused
 abbrev pub Fails : {Y : Type 0} → Stop → Result Y Refusal → Type 0
@@ -30,19 +31,32 @@ abbrev pub Gives : {X Y S : Type 0} {g : Ghosts S} → (X → Y) → Result X St
 Gives view (Ok x) reader read = read ≡ Ok (view x, left reader)
 Gives view (Err e) reader read = Fails e read
 
+-- The part that was made stands for the selector that reading gives.
+abbrev pub MakesSelector : {S : Type 0} {g : Ghosts S} → SyntaxBuilder → Result Part Stop → Reader S g → Parsed Selector → Type 0
+MakesSelector builder (Ok part) reader read = (s : Selector) × IsPart builder part (a_selector s) × (read ≡ Ok (s, left reader))
+MakesSelector builder (Err e) reader read = Fails e read
+
+-- The parts that were made stand for the selectors that reading gives.
+abbrev pub MakesSelectors : {S : Type 0} {g : Ghosts S} → SyntaxBuilder → Result (Vec Part Global) Stop → Reader S g → Parsed (List Selector) → Type 0
+MakesSelectors builder (Ok parts) reader read = (ss : List Selector) × AreSelectorsOf builder parts.items (selector_list ss) × (read ≡ Ok (ss, left reader))
+MakesSelectors builder (Err e) reader read = Fails e read
+
 -- The part that was made stands for the segment that reading gives.
-abbrev pub MakesSegment : {S : Type 0} {g : Ghosts S} → SyntaxBuilder → Result Part Stop → Reader S g → Parsed Segment → Type 0
-MakesSegment builder (Ok part) reader read = (s : Segment) × IsPart builder part (a_segment tree.child s) × (read ≡ Ok (s, left reader))
+abbrev pub MakesSegment : {S : Type 0} {g : Ghosts S} → SyntaxBuilder → Result Part Stop → Reader S g → Parsed (SegmentKind × Segment) → Type 0
+MakesSegment builder (Ok part) reader read = (s : SegmentKind × Segment) × IsPart builder part (a_segment s.0 s.1) × (read ≡ Ok (s, left reader))
 MakesSegment builder (Err e) reader read = Fails e read
 
--- The parts that were made stand for the segments that reading gives.
-abbrev pub MakesSegments : {S : Type 0} {g : Ghosts S} → SyntaxBuilder → Result (Vec Part Global) Stop → Reader S g → Parsed (List Segment) → Type 0
-MakesSegments builder (Ok parts) reader read = (ss : List Segment) × ArePartsOf builder parts.items (child_segments ss) × (read ≡ Ok (ss, left reader))
+-- The parts that were made stand for the segments that reading gives. So many bytes are left behind the last one, and
+-- the reader stands behind the blanks there.
+abbrev pub MakesSegments : {S : Type 0} {g : Ghosts S} → SyntaxBuilder → Result (Vec Part Global × ℕ) Stop → Reader S g → Parsed (List (SegmentKind × Segment)) → Type 0
+MakesSegments builder (Ok parts) reader read =
+    (ss : List (SegmentKind × Segment)) × (rest : List ℕ) × ArePartsOf builder parts.0.items (segment_list ss)
+    × (parts.1 ≡ length (encode_utf8_all rest)) × (left reader ≡ past_blanks rest) × (read ≡ Ok (ss, rest))
 MakesSegments builder (Err e) reader read = Fails e read
 
 -- The tree is that of the segments that reading gives, and the query calls nothing.
-abbrev pub GivesQuery : Result Checked Stop → Result (List Segment) Refusal → Type 0
-GivesQuery (Ok checked) read = (ss : List Segment) × (tree_of checked ≡ query root (child_segments ss)) × (read ≡ Ok ss) × (signatures_of checked ≡ [])
+abbrev pub GivesQuery : Result Checked Stop → Result Segments Refusal → Type 0
+GivesQuery (Ok checked) read = (segs : Segments) × (tree_of checked ≡ query root segs) × (read ≡ Ok segs) × (signatures_of checked ≡ [])
 GivesQuery (Err e) read = Fails e read
 
 -- a refusal, and not want of memory

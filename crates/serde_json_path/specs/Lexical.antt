@@ -10,6 +10,11 @@ use Rattle.serde_json_path_core.specs.WellFormed.{IsLiteralAmount}
 abbrev pub AllPass : (ℕ → Bool) → List ℕ → Type 0
 AllPass p text = AllByRecursion (λ c. p c ≡ true) text
 
+-- the text is the joining of the texts of these
+abbrev pub Joined : {A : Type 0} → (List ℕ → A → Type 0) → List ℕ → List A → Type 0
+Joined is text [] = text ≡ []
+Joined is text (x ∷ xs) = (a b : List ℕ) × is a x × Joined is b xs × (text ≡ a ++ b)
+
 -- the text begins with a character that passes the test
 abbrev pub begins : (ℕ → Bool) → List ℕ → Bool
 begins p [] = false
@@ -154,10 +159,9 @@ pub data IsPiece (quote : ℕ) : List ℕ → ℕ → Type 0 where
   hex_escape : (digits : List ℕ) (c : ℕ) → IsHex4 digits c → (c < 0xd800) ⊎ (0xdfff < c) → IsPiece quote (codes "\\u" ++ digits) c
   pair_escape : (a b : List ℕ) (high low : ℕ) → IsHex4 a high → IsHex4 b low → IsHighSurrogate high → IsLowSurrogate low → IsPiece quote ((codes "\\u" ++ a) ++ (codes "\\u" ++ b)) (pair_of high low)
 
--- the text is a joining of pieces that stand for these characters
+-- the text is the joining of pieces that stand for these characters
 abbrev pub ArePieces : ℕ → List ℕ → List ℕ → Type 0
-ArePieces quote text [] = text ≡ []
-ArePieces quote text (c ∷ cs) = (a b : List ℕ) × IsPiece quote a c × ArePieces quote b cs × (text ≡ a ++ b)
+ArePieces quote text characters = Joined (IsPiece quote) text characters
 
 abbrev pub IsQuote : ℕ → Type 0
 IsQuote quote = (quote ≡ 39) ⊎ (quote ≡ 34)

@@ -7,8 +7,9 @@ pub mod Errors
 pub mod Looking
 pub mod Ahead
 pub mod Reading
-pub mod Parsing
+pub mod Parsed
 pub mod Strings
+pub mod Parsing
 pub mod Giving
 pub mod Open
 pub mod Paths

@@ -27,9 +27,9 @@ pub record IsParseOf (signature : List ℕ → Option Signature) (text : List �
   -- what is accepted is in the typed grammar, with this tree
   pub accepted : IfOk result (λ path. IsAccepted signature (chars text) (path_tree path))
   -- and no other of the open forms
-  pub only : IfOk result (λ path. (q : Query) → IsOpen (chars text) q → IsAccepted signature (chars text) q → q ≡ path_tree path)
+  pub only : IfOk result (λ path. (q : Query) → IsOpen q → IsAccepted signature (chars text) q → q ≡ path_tree path)
   -- a refusal, unless memory was refused, means that no tree of the open forms is accepted
-  pub refused : IfErr result (λ e. kind_of e ≢ NoMemory → (q : Query) → IsOpen (chars text) q → IsAccepted signature (chars text) q → ⊥)
+  pub refused : IfErr result (λ e. kind_of e ≢ NoMemory → (q : Query) → IsOpen q → IsAccepted signature (chars text) q → ⊥)
   -- a missing root is told exactly where the text does not begin with `$`
   pub missing_root : IsErrAnd result (λ e. kind_of e ≡ ExpectedRoot) ↔ ((length text < 2 ^ 64 - 1) × (begins is_dollar (chars text) ≡ false))
   -- text behind the path is told only where the bytes before the position are an accepted text

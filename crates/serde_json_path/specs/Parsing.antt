@@ -1,101 +1,147 @@
--- Reading from left to right by one character of look-ahead, with the first refusal that is met: what the parser
--- computes, on lists of characters.
-use Rattle.std.specs.Prelude.{ℕ, zero, suc, ◌==◌, ◌||◌, ◌&&◌, pos, Bool, List, [], ◌∷◌, length, drop, Result, Ok, Err, nat_le, if◌then◌else◌}
+-- Reading a path from left to right by one character of look-ahead: what the parser computes, on lists of characters.
+use Rattle.std.specs.Prelude.{ℕ, zero, suc, ℤ, pos, negsuc, ◌==◌, ◌||◌, ◌&&◌, Bool, List, [], ◌∷◌, length, drop, Option, Some, None, Result, Ok, Err, nat_le, if◌then◌else◌}
 use Rattle.std.specs.Str.{encode_utf8_all}
-use Rattle.serde_json_path_core.specs.Tree.{largest, child, Segments, no_segments, segment, Segment, dot_name, long_hand, selector, no_selectors, index}
-use Rattle.serde_json_path.specs.declared.error.ParseErrorKind.{ParseErrorKind}
+use Rattle.serde_json_path_core.specs.Tree.{largest, SegmentKind, child, descendant, Segments, no_segments, segment, Segment, dot_name, dot_wildcard, long_hand, Selectors, selector, no_selectors, Selector, name, wildcard, index, slice, Slice}
 use Rattle.serde_json_path.specs.declared.error.ParseErrorKind.TheVariants.{ExpectedRoot, BadMemberName, ExpectedClosingBracket, ExpectedSelector, IntegerOutOfRange, TextAfterPath}
 use Rattle.serde_json_path.specs.declared.error.Place as declared
 use Rattle.serde_json_path.specs.declared.error.Place.TheVariants as place
 use Rattle.serde_json_path.specs.declared.error.Refusal.{Refusal}
 use Rattle.serde_json_path.specs.Lexical.{begins, is_digit, is_name_first, is_name_char, value_from}
+use Rattle.serde_json_path.specs.Parsed.{Parsed, ◌>>=◌, refusal, front, behind, past_blanks, many}
+use Rattle.serde_json_path.specs.Strings.{string_at}
 
--- what was read and the characters behind it, or the first refusal
-abbrev pub Parsed : Type 0 → Type 0
-Parsed A = Result (A × List ℕ) Refusal
-
-infixl 10 ◌>>=◌
-abbrev pub ◌>>=◌ : {A B : Type 0} → Result A Refusal → (A → Result B Refusal) → Result B Refusal
-(Ok x) >>= f = f x
-(Err e) >>= f = Err e
-
--- a refusal at the first of these characters
-abbrev pub refusal : ParseErrorKind → declared.Place → List ℕ → Refusal
-refusal kind here cs = record { kind = kind; place = here; left = length (encode_utf8_all cs) }
-
--- the longest front whose characters pass the test, and what is behind it
-abbrev pub front : (ℕ → Bool) → List ℕ → List ℕ
-front p [] = []
-front p (c ∷ cs) = if p c then c ∷ front p cs else []
-
-abbrev pub behind : (ℕ → Bool) → List ℕ → List ℕ
-behind p [] = []
-behind p (c ∷ cs) = if p c then behind p cs else c ∷ cs
-
--- ---- the pieces
+-- ---- names and integers
 
 unfoldable pub name_at : declared.Place → List ℕ → Parsed (List ℕ)
 name_at here cs =
     if begins is_name_first cs then Ok (encode_utf8_all (front is_name_char cs), behind is_name_char cs)
     else Err (refusal BadMemberName here cs)
 
--- a position: an integer without `-`
-unfoldable pub int_at : List ℕ → Parsed ℕ
+-- a digit that may stand first, behind `-` too
+abbrev pub is_first_digit : ℕ → Bool
+is_first_digit c = nat_le 49 c && nat_le c 57
+
+-- the digits of an integer that begins at start; they are read whole before their range is judged
+unfoldable pub digits_at : List ℕ → List ℕ → Parsed ℕ
+digits_at start cs =
+    if nat_le (value_from 0 (front is_digit cs)) largest then Ok (value_from 0 (front is_digit cs), behind is_digit cs)
+    else Err (refusal IntegerOutOfRange place.LongHand start)
+
+-- -n
+abbrev pub negative : ℕ → ℤ
+negative zero = pos 0
+negative (suc n) = negsuc n
+
+unfoldable pub int_at : List ℕ → Parsed ℤ
 int_at cs =
-    if begins (λ c. c == 48) cs then Ok (0, drop 1 cs)
-    else if begins is_digit cs then
-    (if nat_le (value_from 0 (front is_digit cs)) largest then Ok (value_from 0 (front is_digit cs), behind is_digit cs)
-    else Err (refusal IntegerOutOfRange place.LongHand cs))
+    if begins (λ c. c == 45) cs then
+    (if begins is_first_digit (drop 1 cs) then (digits_at cs (drop 1 cs) >>= λ n. Ok (negative n.0, n.1)) else Err (refusal ExpectedSelector place.LongHand cs))
+    else if begins (λ c. c == 48) cs then Ok (pos 0, drop 1 cs)
+    else if begins is_first_digit cs then (digits_at cs cs >>= λ n. Ok (pos n.0, n.1))
     else Err (refusal ExpectedSelector place.LongHand cs)
+
+-- ---- slices and selectors, each with the blanks behind it
+
+abbrev pub begins_int : ℕ → Bool
+begins_int c = c == 45 || is_digit c
+
+-- a part of a slice, or nothing
+unfoldable pub bound_at : List ℕ → Parsed (Option ℤ)
+bound_at cs = if begins begins_int cs then (int_at cs >>= λ i. Ok (Some i.0, past_blanks i.1)) else Ok (None, cs)
+
+-- a second colon and a step, or nothing
+unfoldable pub step_at : List ℕ → Parsed (Option ℤ)
+step_at cs = if begins (λ c. c == 58) cs then bound_at (past_blanks (drop 1 cs)) else Ok (None, cs)
+
+-- behind a slice's start and its first colon
+unfoldable pub slice_at : Option ℤ → List ℕ → Parsed Slice
+slice_at start cs =
+    bound_at (past_blanks cs) >>= λ end. step_at end.1 >>= λ step. Ok (record { start = start; end = end.0; step = step.0 }, step.1)
+
+-- an index, or a slice that begins with an integer
+unfoldable pub position_at : List ℕ → Parsed Selector
+position_at cs = int_at cs >>= λ i.
+    if begins (λ c. c == 58) (past_blanks i.1) then (slice_at (Some i.0) (drop 1 (past_blanks i.1)) >>= λ s. Ok (slice s.0, s.1))
+    else Ok (index i.0, past_blanks i.1)
+
+-- behind the opening quote
+unfoldable pub quoted_at : ℕ → List ℕ → Parsed Selector
+quoted_at quote cs = string_at quote cs >>= λ text. Ok (name text.0, past_blanks text.1)
+
+unfoldable pub selector_at : List ℕ → Parsed Selector
+selector_at cs =
+    if begins (λ c. c == 39) cs then quoted_at 39 (drop 1 cs)
+    else if begins (λ c. c == 34) cs then quoted_at 34 (drop 1 cs)
+    else if begins (λ c. c == 42) cs then Ok (wildcard, past_blanks (drop 1 cs))
+    else if begins (λ c. c == 58) cs then (slice_at None (drop 1 cs) >>= λ s. Ok (slice s.0, s.1))
+    else position_at cs
 
 -- ---- segments
 
-abbrev pub index_segment : ℕ → Segment
-index_segment n = long_hand (selector (index (pos n)) no_selectors)
+-- at a comma
+unfoldable pub next_selector_at : List ℕ → Parsed Selector
+next_selector_at cs = selector_at (past_blanks (drop 1 cs))
+
+unfoldable pub selectors_at : List ℕ → Parsed (List Selector)
+selectors_at cs =
+    selector_at (past_blanks cs) >>= λ s. many (begins (λ c. c == 44)) next_selector_at s.1 >>= λ ss. Ok (s.0 ∷ ss.0, ss.1)
+
+abbrev pub selector_list : List Selector → Selectors
+selector_list [] = no_selectors
+selector_list (s ∷ ss) = selector s (selector_list ss)
 
 -- behind `[`
 unfoldable pub bracket_at : List ℕ → Parsed Segment
-bracket_at cs = do
-  i ← int_at cs
-  if begins (λ c. c == 93) i.1 then Ok (index_segment i.0, drop 1 i.1) else Err (refusal ExpectedClosingBracket place.LongHand i.1)
+bracket_at cs = selectors_at cs >>= λ ss.
+    if begins (λ c. c == 93) ss.1 then Ok (long_hand (selector_list ss.0), drop 1 ss.1) else Err (refusal ExpectedClosingBracket place.LongHand ss.1)
+
+-- behind `.` or `..`
+unfoldable pub dotted_at : declared.Place → List ℕ → Parsed Segment
+dotted_at here cs =
+    if begins (λ c. c == 42) cs then Ok (dot_wildcard, drop 1 cs) else (name_at here cs >>= λ n. Ok (dot_name n.0, n.1))
+
+-- behind `..`
+unfoldable pub descendant_at : List ℕ → Parsed Segment
+descendant_at cs = if begins (λ c. c == 91) cs then bracket_at (drop 1 cs) else dotted_at place.Path cs
+
+-- a segment and its kind
+abbrev pub of_kind : SegmentKind → Parsed Segment → Parsed (SegmentKind × Segment)
+of_kind kind read = read >>= λ s. Ok ((kind, s.0), s.1)
 
 -- behind `.`
-unfoldable pub dot_at : List ℕ → Parsed Segment
-dot_at cs = do
-  n ← name_at place.DotMemberName cs
-  Ok (dot_name n.0, n.1)
+unfoldable pub dot_at : List ℕ → Parsed (SegmentKind × Segment)
+dot_at cs = if begins (λ c. c == 46) cs then of_kind descendant (descendant_at (drop 1 cs)) else of_kind child (dotted_at place.DotMemberName cs)
 
 -- at `.` or `[`
-unfoldable pub segment_at : List ℕ → Parsed Segment
-segment_at cs = if begins (λ c. c == 46) cs then dot_at (drop 1 cs) else bracket_at (drop 1 cs)
+unfoldable pub segment_at : List ℕ → Parsed (SegmentKind × Segment)
+segment_at cs = if begins (λ c. c == 46) cs then dot_at (drop 1 cs) else of_kind child (bracket_at (drop 1 cs))
 
 abbrev pub opens : ℕ → Bool
 opens c = c == 46 || c == 91
 
--- as many items as there are while more says that one begins, and at most fuel of them
-unfoldable pub many_at : {A : Type 0} → (List ℕ → Bool) → (List ℕ → Parsed A) → ℕ → List ℕ → Parsed (List A)
-many_at more item zero cs = Ok ([], cs)
-many_at more item (suc fuel) cs =
-    if more cs then (item cs >>= λ x. many_at more item fuel x.1 >>= λ xs. Ok (x.0 ∷ xs.0, xs.1)) else Ok ([], cs)
+-- a segment begins behind blanks
+abbrev pub opens_next : List ℕ → Bool
+opens_next cs = begins opens (past_blanks cs)
 
-unfoldable pub many : {A : Type 0} → (List ℕ → Bool) → (List ℕ → Parsed A) → List ℕ → Parsed (List A)
-many more item cs = many_at more item (length cs) cs
+-- blanks and a segment
+unfoldable pub next_segment_at : List ℕ → Parsed (SegmentKind × Segment)
+next_segment_at cs = segment_at (past_blanks cs)
 
-abbrev pub segments_at : List ℕ → Parsed (List Segment)
-segments_at cs = many (begins opens) segment_at cs
+abbrev pub segments_at : List ℕ → Parsed (List (SegmentKind × Segment))
+segments_at cs = many opens_next next_segment_at cs
+
+abbrev pub segment_list : List (SegmentKind × Segment) → Segments
+segment_list [] = no_segments
+segment_list (s ∷ ss) = segment s.0 s.1 (segment_list ss)
 
 -- ---- the whole text
 
-abbrev pub child_segments : List Segment → Segments
-child_segments [] = no_segments
-child_segments (s ∷ ss) = segment child s (child_segments ss)
-
-unfoldable pub path_at : List ℕ → Result (List Segment) Refusal
+unfoldable pub path_at : List ℕ → Result Segments Refusal
 path_at cs =
     if begins (λ c. c == 36) cs then
-    (segments_at (drop 1 cs) >>= λ ss. if length ss.1 == 0 then Ok ss.0 else Err (refusal TextAfterPath place.Path ss.1))
+    (segments_at (drop 1 cs) >>= λ ss. if length ss.1 == 0 then Ok (segment_list ss.0) else Err (refusal TextAfterPath place.Path ss.1))
     else Err (refusal ExpectedRoot place.Path cs)
 
--- a segment begins at once behind `$`
+-- a segment begins behind `$` and blanks
 abbrev pub opens_behind_root : List ℕ → Bool
-opens_behind_root cs = begins (λ c. c == 36) cs && begins opens (drop 1 cs)
+opens_behind_root cs = begins (λ c. c == 36) cs && opens_next (drop 1 cs)

@@ -5,7 +5,7 @@ use Rattle.std.specs.Str.{encode_utf8_all}
 use Rattle.serde_json_path.specs.declared.error.ParseErrorKind.TheVariants.{ExpectedEndingQuote, BadEscape, ControlCharacter}
 use Rattle.serde_json_path.specs.declared.error.Place.TheVariants as place
 use Rattle.serde_json_path.specs.Lexical.{begins, is_digit, pair_of}
-use Rattle.serde_json_path.specs.Parsing.{Parsed, ◌>>=◌, refusal, many}
+use Rattle.serde_json_path.specs.Parsed.{Parsed, ◌>>=◌, refusal, many}
 
 -- ---- hexadecimal digits
 

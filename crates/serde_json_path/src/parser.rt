@@ -5,6 +5,8 @@ pub(crate) mod primitive;
 mod query;
 pub(crate) mod reader;
 mod segment;
+mod selector;
+mod slice;
 
 ghost use Rattle.std.specs.Prelude.{◌≡◌, ◌+◌, ◌-◌, ◌*◌, ◌^◌, ◌≤◌, max, true, length, IfErr};
 ghost use Rattle.serde_json_path_functions.specs.Functions.{builtin_signature};

@@ -1,9 +1,9 @@
 //! A text that is read character by character, and each byte looked at once.
 
-ghost use Rattle.std.specs.Prelude.{◌≡◌, ◌==◌, ◌<◌, ◌≤◌, ◌+◌, ◌-◌, ◌^◌, ◌∷◌, length, slice_get, drop, true, max};
+ghost use Rattle.std.specs.Prelude.{◌≡◌, ◌==◌, ◌<◌, ◌≤◌, ◌+◌, ◌-◌, ◌^◌, ◌∷◌, ℕ, length, slice_get, drop, true, max};
 ghost use Rattle.std.specs.Str.{is_utf8, chars};
 ghost use Rattle.std.specs.Char.{IsScalar};
-ghost use Rattle.serde_json_path.specs.Lexical.{begins, is_digit, is_name_first, is_name_char};
+ghost use Rattle.serde_json_path.specs.Lexical.{begins, is_blank, is_digit, is_name_first, is_name_char};
 ghost use Rattle.serde_json_path.specs.Ahead.{IsAhead};
 ghost use Rattle.serde_json_path.specs.Strings.{is_hexadecimal, is_letter_escape, is_control, is_inside};
 
@@ -25,7 +25,8 @@ pub(crate) struct Reader<'s, S: PathSource> {
 
 impl<'s, S: PathSource> Reader<'s, S> {
     ghost use Rattle.std.specs.Str.{encode_utf8_all};
-    ghost use Rattle.serde_json_path.specs.Parsing.{refusal, opens};
+    ghost use Rattle.serde_json_path.specs.Parsed.{refusal, past_blanks};
+    ghost use Rattle.serde_json_path.specs.Parsing.{is_first_digit, begins_int, opens};
     ghost use Rattle.serde_json_path.specs.Reading.{told, left, seen, Moves};
     ghost use Rattle.serde_json_path.specs.Giving.{StopsNear};
 
@@ -90,6 +91,18 @@ impl<'s, S: PathSource> Reader<'s, S> {
         })
     }
 
+    /// A refusal at the ASCII character that was just taken.
+    pub(crate) fn refuse_before(&self, kind: ParseErrorKind, place: Place) -> Stop
+        ensures value { (c : ℕ) → c < 128 → result ≡ Stop.Refused (refusal kind place (c ∷ left self.now)) }
+        ensures near { StopsNear result self.now }
+    {
+        Stop::Refused(Refusal {
+            kind,
+            place,
+            left: self.bytes_left() + 1,
+        })
+    }
+
     /// Whether this ASCII character is next.
     pub(crate) fn sees(&self, b: u8) -> bool
         requires { b < 128 }
@@ -101,6 +114,26 @@ impl<'s, S: PathSource> Reader<'s, S> {
         }
     }
 
+    /// Whether a blank is next.
+    pub(crate) fn sees_blank(&self) -> bool
+        ensures { result ≡ begins is_blank (left self.now) }
+    {
+        match self.peek() {
+            Some(next) => matches!(next, b' ' | b'\t' | b'\n' | b'\r'),
+            None => false,
+        }
+    }
+
+    /// Takes the blanks that are next.
+    pub(crate) fn skip_blanks(&mut self)
+        ensures moves { Moves self.old self.new }
+        ensures left { left self.new ≡ past_blanks (left self.old) }
+    {
+        while self.sees_blank() {
+            self.take_char();
+        }
+    }
+
     /// Whether a digit is next.
     pub(crate) fn sees_digit(&self) -> bool
         ensures { result ≡ begins is_digit (left self.now) }
@@ -109,6 +142,23 @@ impl<'s, S: PathSource> Reader<'s, S> {
             Some(next) => next.is_ascii_digit(),
             None => false,
         }
+    }
+
+    /// Whether a digit is next that is not `0`.
+    pub(crate) fn sees_first_digit(&self) -> bool
+        ensures { result ≡ begins is_first_digit (left self.now) }
+    {
+        match self.peek() {
+            Some(next) => next >= b'1' && next <= b'9',
+            None => false,
+        }
+    }
+
+    /// Whether an integer begins here.
+    pub(crate) fn sees_int(&self) -> bool
+        ensures { result ≡ begins begins_int (left self.now) }
+    {
+        self.sees(b'-') || self.sees_digit()
     }
 
     /// Whether a member name begins here.

@@ -1,35 +1,27 @@
 //! Integers.
 
-ghost use Rattle.std.specs.Prelude.{◌≡◌, ◌≤◌, IfOk};
-ghost use Rattle.serde_json_path_core.specs.Tree.{largest};
+ghost use Rattle.std.specs.Prelude.{◌≡◌, ◌≤◌, List, ℕ, length, IfOk};
+ghost use Rattle.std.specs.Str.{encode_utf8_all};
+ghost use Rattle.serde_json_path_core.specs.Tree.{largest, IsInteger};
 ghost use Rattle.serde_json_path.specs.Giving.{Gives, IsNear};
-ghost use Rattle.serde_json_path.specs.Parsing.{int_at};
+ghost use Rattle.serde_json_path.specs.Parsing.{digits_at, int_at};
 ghost use Rattle.serde_json_path.specs.Reading.{left, Moves};
 
 use crate::error::{ParseErrorKind, Place, Refusal, Stop};
 use crate::parser::reader::Reader;
 use crate::source::PathSource;
 
-/// The greatest index: 2^53 - 1.
+/// The greatest integer: 2^53 - 1.
 const LARGEST: u64 = 9_007_199_254_740_991;
 
-/// An integer without `-`, of 0 to 2^53 - 1 (RFC 9535, section 2.3.3.1). Its digits are read whole before its range is
-/// judged.
-#[tactic(auto, unfolding(crate::specs::Parsing::int_at))]
-pub(crate) fn int<S: PathSource>(reader: &mut Reader<'_, S>) -> Result<u64, Stop>
+/// The digits of an integer that has so many bytes from its start on. They are read whole before their range is judged.
+#[tactic(auto, unfolding(crate::specs::Parsing::digits_at))]
+fn digits<S: PathSource>(reader: &mut Reader<'_, S>, start: usize) -> Result<u64, Stop>
     ensures moves { Moves reader.old reader.new }
     ensures near { IsNear result reader.new }
-    ensures gives { Gives (λ n. n) result reader.new (int_at (left reader.old)) }
+    ensures gives { (cs : List ℕ) → start ≡ length (encode_utf8_all cs) → Gives (λ n. n) result reader.new (digits_at cs (left reader.old)) }
     ensures range { IfOk result (λ n. n ≤ largest) }
 {
-    let start = reader.bytes_left();
-    if reader.sees(b'0') {
-        reader.take_char();
-        return Ok(0);
-    }
-    if !reader.sees_digit() {
-        return Err(reader.refuse(ParseErrorKind::ExpectedSelector, Place::LongHand));
-    }
     let mut n: u64 = 0;
     while reader.sees_digit() {
         let digit = reader.take_char() as u64 - 48;
@@ -43,4 +35,32 @@ pub(crate) fn int<S: PathSource>(reader: &mut Reader<'_, S>) -> Result<u64, Stop
         }));
     }
     Ok(n)
+}
+
+/// An integer of -(2^53 - 1) to 2^53 - 1 (RFC 9535, section 2.3.3.1): an index, or a part of a slice.
+#[tactic(auto, unfolding(crate::specs::Parsing::int_at))]
+pub(crate) fn int<S: PathSource>(reader: &mut Reader<'_, S>) -> Result<i64, Stop>
+    ensures moves { Moves reader.old reader.new }
+    ensures near { IsNear result reader.new }
+    ensures gives { Gives (λ i. i) result reader.new (int_at (left reader.old)) }
+    ensures range { IfOk result (λ i. IsInteger i) }
+{
+    let start = reader.bytes_left();
+    if reader.sees(b'-') {
+        reader.take_char();
+        if !reader.sees_first_digit() {
+            return Err(reader.refuse_before(ParseErrorKind::ExpectedSelector, Place::LongHand));
+        }
+        let amount = digits(reader, start)?;
+        return Ok(-(amount as i64));
+    }
+    if reader.sees(b'0') {
+        reader.take_char();
+        return Ok(0);
+    }
+    if !reader.sees_first_digit() {
+        return Err(reader.refuse(ParseErrorKind::ExpectedSelector, Place::LongHand));
+    }
+    let amount = digits(reader, start)?;
+    Ok(amount as i64)
 }

@@ -1,6 +1,6 @@
 use Rattle.std.proofs.Common.{◌≡◌, ◌^◌, ◌-◌, min, length}
 use Rattle.serde_json_path.specs.Lexical.{is_digit, value_from}
-use Rattle.serde_json_path.specs.Parsing.{front, behind}
+use Rattle.serde_json_path.specs.Parsed.{front, behind}
 use Rattle.serde_json_path.specs.Reading.{left, Moves}
 use Rattle.serde_json_path.proofs.parser.primitive.int.int.Given as goal
 

@@ -2,7 +2,7 @@ use Rattle.std.proofs.Common.{◌≡◌, ◌++◌, length}
 use Rattle.std.specs.Prelude.{string_bytes}
 use Rattle.std.specs.Str.{encode_utf8_all}
 use Rattle.serde_json_path.specs.Lexical.{is_name_char}
-use Rattle.serde_json_path.specs.Parsing.{front, behind}
+use Rattle.serde_json_path.specs.Parsed.{front, behind}
 use Rattle.serde_json_path.specs.Reading.{left, Moves}
 use Rattle.serde_json_path.proofs.parser.primitive.name.name.Given as goal
 

@@ -1,7 +1,7 @@
 use Rattle.std.proofs.Common.{◌≡◌, length}
 use Rattle.std.specs.Prelude.{string_bytes}
 use Rattle.serde_json_path.specs.Lexical.{begins}
-use Rattle.serde_json_path.specs.Parsing.{many}
+use Rattle.serde_json_path.specs.Parsed.{many}
 use Rattle.serde_json_path.specs.Reading.{left, Moves}
 use Rattle.serde_json_path.specs.Strings.{piece_at, is_inside, string_at}
 use Rattle.serde_json_path.proofs.StringLoops.{with_text}

@@ -1,0 +1,136 @@
+//! Selectors.
+
+ghost use Rattle.std.specs.Prelude.{◌≡◌, ◌==◌, ℕ, true};
+ghost use Rattle.serde_json_path_core.specs.Parts.{KeepsParts};
+ghost use Rattle.serde_json_path.specs.Giving.{MakesSelector, MakesSelectors, IsNear};
+ghost use Rattle.serde_json_path.specs.Lexical.{begins, IsQuote};
+ghost use Rattle.serde_json_path.specs.Parsing.{position_at, quoted_at, selector_at, next_selector_at, selectors_at};
+ghost use Rattle.serde_json_path.specs.Reading.{left, Moves};
+
+use crate::error::Stop;
+use crate::parser::primitive::int::int;
+use crate::parser::primitive::string::string;
+use crate::parser::reader::Reader;
+use crate::parser::slice::rest_of_slice;
+use crate::source::PathSource;
+use serde_json_path_core::{Part, SyntaxBuilder};
+use std::alloc::Global;
+
+/// An index, or a slice that begins with an integer, and the blanks behind it (RFC 9535, sections 2.3.3 and 2.3.4).
+#[tactic(auto, unfolding(crate::specs::Parsing::position_at))]
+fn position<S: PathSource>(
+    builder: &mut SyntaxBuilder,
+    reader: &mut Reader<'_, S>,
+) -> Result<Part, Stop>
+    ensures moves { Moves reader.old reader.new }
+    ensures near { IsNear result reader.new }
+    ensures keeps { KeepsParts builder.old builder.new }
+    ensures gives { MakesSelector builder.new result reader.new (position_at (left reader.old)) }
+{
+    let start = int(reader)?;
+    reader.skip_blanks();
+    if reader.sees(b':') {
+        reader.take_char();
+        let slice = rest_of_slice(reader, Some(start))?;
+        let selector = builder.slice(slice)?;
+        return Ok(selector);
+    }
+    let selector = builder.index(start)?;
+    Ok(selector)
+}
+
+/// A name selector behind its opening quote, and the blanks behind it (RFC 9535, section 2.3.1).
+#[tactic(auto, unfolding(crate::specs::Parsing::quoted_at))]
+fn quoted<S: PathSource>(
+    alloc: Global,
+    builder: &mut SyntaxBuilder,
+    reader: &mut Reader<'_, S>,
+    quote: u8,
+) -> Result<Part, Stop>
+    requires { IsQuote quote }
+    ensures moves { Moves reader.old reader.new }
+    ensures near { IsNear result reader.new }
+    ensures keeps { KeepsParts builder.old builder.new }
+    ensures gives { MakesSelector builder.new result reader.new (quoted_at quote (left reader.old)) }
+{
+    let text = string(alloc, reader, quote)?;
+    reader.skip_blanks();
+    let selector = builder.name(text)?;
+    Ok(selector)
+}
+
+/// A selector and the blanks behind it (RFC 9535, section 2.3).
+#[tactic(auto, unfolding(crate::specs::Parsing::selector_at))]
+fn selector<S: PathSource>(
+    alloc: Global,
+    builder: &mut SyntaxBuilder,
+    reader: &mut Reader<'_, S>,
+) -> Result<Part, Stop>
+    ensures moves { Moves reader.old reader.new }
+    ensures near { IsNear result reader.new }
+    ensures keeps { KeepsParts builder.old builder.new }
+    ensures gives { MakesSelector builder.new result reader.new (selector_at (left reader.old)) }
+{
+    if reader.sees(b'\'') {
+        reader.take_char();
+        return quoted(alloc, builder, reader, b'\'');
+    }
+    if reader.sees(b'"') {
+        reader.take_char();
+        return quoted(alloc, builder, reader, b'"');
+    }
+    if reader.sees(b'*') {
+        reader.take_char();
+        reader.skip_blanks();
+        let wildcard = builder.wildcard()?;
+        return Ok(wildcard);
+    }
+    if reader.sees(b':') {
+        reader.take_char();
+        let slice = rest_of_slice(reader, None)?;
+        let selector = builder.slice(slice)?;
+        return Ok(selector);
+    }
+    position(builder, reader)
+}
+
+/// A comma and a selector, and the blanks behind them.
+#[tactic(auto, unfolding(crate::specs::Parsing::next_selector_at))]
+fn next_selector<S: PathSource>(
+    alloc: Global,
+    builder: &mut SyntaxBuilder,
+    reader: &mut Reader<'_, S>,
+) -> Result<Part, Stop>
+    requires { begins (λ c. c == 44) (left reader.old) ≡ true }
+    ensures moves { Moves reader.old reader.new }
+    ensures near { IsNear result reader.new }
+    ensures keeps { KeepsParts builder.old builder.new }
+    ensures gives { MakesSelector builder.new result reader.new (next_selector_at (left reader.old)) }
+{
+    reader.take_char();
+    reader.skip_blanks();
+    selector(alloc, builder, reader)
+}
+
+/// The selectors behind a bracket, with commas between them and blanks round them (RFC 9535, section 2.5.1).
+#[tactic(auto, unfolding(crate::specs::Parsing::selectors_at))]
+pub(crate) fn selectors<S: PathSource>(
+    alloc: Global,
+    builder: &mut SyntaxBuilder,
+    reader: &mut Reader<'_, S>,
+) -> Result<Vec<Part>, Stop>
+    ensures moves { Moves reader.old reader.new }
+    ensures near { IsNear result reader.new }
+    ensures keeps { KeepsParts builder.old builder.new }
+    ensures gives { MakesSelectors builder.new result reader.new (selectors_at (left reader.old)) }
+{
+    reader.skip_blanks();
+    let first = selector(alloc, builder, reader)?;
+    let mut parts = Vec::new(alloc);
+    parts.push(first)?;
+    'selectors: while reader.sees(b',') {
+        let part = next_selector(alloc, builder, reader)?;
+        parts.push(part)?;
+    }
+    Ok(parts)
+}
