@@ -4,6 +4,12 @@ pub mod Many
 pub mod Runs
 pub mod Steps
 pub mod Stands
+pub mod Blanks
+pub mod SelectorTexts
+pub mod BracketTexts
+pub mod SegmentTexts
+pub mod PathTexts
+pub mod SelectorPlaces
 pub mod StringTexts
 pub mod StringLoops
 pub mod StringPlaces

@@ -5,7 +5,7 @@ use Rattle.std.specs.Str.{chars, IsUtf8, IsCharBoundary, encode_utf8_all, all_sc
 use Rattle.std.proofs.lemmas.List.{length-append}
 use Rattle.std.proofs.Math.Seq.{take-append_seam}
 use Rattle.std.proofs.lemmas.Str.{IsCharBoundary-start, chars-encodes, scalars-chars}
-use Rattle.serde_json_path_core.specs.Tree.{Query, query, root, current, Segment}
+use Rattle.serde_json_path_core.specs.Tree.{Query, query, root, current, Segments}
 use Rattle.serde_json_path_functions.specs.Functions.{Signature}
 use Rattle.serde_json_path.specs.declared.error.Refusal.{Refusal}
 use Rattle.serde_json_path.specs.declared.error.Stop.{Stop}
@@ -13,43 +13,40 @@ use Rattle.serde_json_path.specs.declared.error.Stop.TheVariants as stops
 use Rattle.serde_json_path.specs.declared.error.ParseErrorKind.{ParseErrorKind}
 use Rattle.serde_json_path.specs.declared.error.ParseErrorKind.TheVariants.{ExpectedRoot, TextAfterPath, NoMemory}
 use Rattle.serde_json_path.specs.declared.path.JsonPath.{JsonPath}
-use Rattle.serde_json_path.specs.Lexical.{begins, is_blank, IsBlank}
+use Rattle.serde_json_path.specs.Lexical.{begins}
 use Rattle.serde_json_path.specs.Accepted.{IsAccepted}
-use Rattle.serde_json_path.specs.Open.{HasNoBlank, IsOpen}
+use Rattle.serde_json_path.specs.Open.{IsOpen}
 use Rattle.serde_json_path.specs.Paths.{path_tree}
-use Rattle.serde_json_path.specs.Parsing.{opens, child_segments, path_at, opens_behind_root}
+use Rattle.serde_json_path.specs.Parsing.{opens, opens_next, path_at, opens_behind_root}
 use Rattle.serde_json_path.specs.Giving.{Fails, IsRefused, IsWithin, error_of}
 use Rattle.serde_json_path.specs.Parse.{is_dollar, NeedsNoMemory, IsParseOf}
-use Rattle.serde_json_path.proofs.OpenTexts.{accepted, read_segments}
-use Rattle.serde_json_path.proofs.Sound.{path_sound, ok_is}
-use Rattle.serde_json_path.proofs.Complete.{path_again}
-use Rattle.serde_json_path.proofs.Places.{NoRoot, TextBehind, SegmentRefused, is_inner, path_refused, boundary}
+use Rattle.serde_json_path.proofs.Blanks.{past_all}
+use Rattle.serde_json_path.proofs.OpenForms.{typed, shallow}
+use Rattle.serde_json_path.proofs.PathTexts.{path_sound, path_again}
+use Rattle.serde_json_path.proofs.Places.{NoRoot, TextBehind, SegmentRefused, path_refused, boundary}
+use Rattle.serde_json_path.proofs.SegmentTexts.{AreSegmentsText}
+use Rattle.serde_json_path.proofs.Stands.{is_inner}
+use Rattle.serde_json_path.proofs.Steps.{ok_is}
+
+-- what is read is accepted
+accepted : (signature : List ℕ → Option Signature) (cs a : List ℕ) (segs : Segments) → cs ≡ 36 ∷ a → AreSegmentsText a segs → IsAccepted signature cs (query root segs)
+accepted signature cs a segs e h = record { reads = (a, h.1, e); from_root = refl; typed = typed signature segs h.0; shallow = omega (arith, shallow segs h.0) }
 
 -- an accepted tree of the open forms is what is read
-pub open_read : (signature : List ℕ → Option Signature) (cs : List ℕ) (q : Query) → IsOpen cs q → IsAccepted signature cs q
-    → (ss : List Segment) × (q ≡ query root (child_segments ss)) × (path_at cs ≡ Ok ss)
+pub open_read : (signature : List ℕ → Option Signature) (cs : List ℕ) (q : Query) → IsOpen q → IsAccepted signature cs q
+    → (segs : Segments) × (q ≡ query root segs) × (path_at cs ≡ Ok segs)
 open_read signature cs (query current segs) o h = let e : current ≡ root = h.from_root in absurd cc
-open_read signature cs (query root segs) o h =
-    let r = h.reads in
-    let found = read_segments segs r.0 o.1 (subst HasNoBlank r.2 o.0).1 r.1 in
-    (found.0, ap (query root) found.1, path_again cs r.0 found.0 found.2 r.2)
+open_read signature cs (query root segs) o h = let r = h.reads in (segs, refl, path_again cs r.0 segs (o, r.1) r.2)
 
--- ---- blanks and `$`
+-- ---- what needs no memory
 
 apart : (b : Bool) → b ≡ true → b ≡ false → ⊥
 apart b t f = let e : true ≡ false = sym t ∙ f in cc
 
-blank_opens_not : (c : ℕ) → is_blank c ≡ true → opens c ≡ false
-blank_opens_not c e = grind (arith, e)
-
-blanks_open_not : (blanks rest : List ℕ) → IsBlank blanks → begins opens rest ≡ false → begins opens (blanks ++ rest) ≡ false
-blanks_open_not [] rest h e = e
-blanks_open_not (c ∷ blanks) rest h e = blank_opens_not c h.0
-
 -- where nothing is to be kept no segment begins behind `$`
 needs_none : (cs : List ℕ) → NeedsNoMemory cs → opens_behind_root cs ≡ false
-needs_none cs (inl h) = ap (λ b. b && begins opens (drop 1 cs)) h
-needs_none cs (inr h) = ap opens_behind_root h.2 ∙ blanks_open_not h.0 h.1 h.3 h.5
+needs_none cs (inl h) = ap (λ b. b && opens_next (drop 1 cs)) h
+needs_none cs (inr h) = ap opens_behind_root h.2 ∙ ap (begins opens) (past_all h.0 h.1 h.3 h.4) ∙ h.5
 
 -- ---- the text before text that stands behind a path
 
@@ -104,9 +101,9 @@ module _ (signature : List ℕ → Option Signature) (text : List ℕ) (u : IsUt
         no_memory = λ e. let f = of_kind r TextAfterPath NoMemory kind e in cc;
         root_missing = ((λ e. absurd (let f = of_kind r TextAfterPath ExpectedRoot kind e in cc)), (λ e. absurd (apart (begins is_dollar (chars text)) (ap (begins is_dollar) h.split) e)));
         after = λ e. (
-          query root (child_segments h.segments),
-          subst (λ (cs : List ℕ). IsAccepted signature cs (query root (child_segments h.segments))) (sym (path_before text h.path h.rest r.left u h.split left))
-              (accepted signature (36 ∷ h.path) h.path h.segments refl h.joined),
+          query root h.segments,
+          subst (λ (cs : List ℕ). IsAccepted signature cs (query root h.segments)) (sym (path_before text h.path h.rest r.left u h.split left))
+              (accepted signature (36 ∷ h.path) h.path h.segments refl h.are),
         );
         placed = (b.0, b.1);
       }
@@ -147,12 +144,12 @@ module _ (signature : List ℕ → Option Signature) (text : List ℕ) (u : IsUt
     too_long = λ e. refl;
   }
 
-  pub parsed : (short : length text < 2 ^ 64 - 1) (ss : List Segment) (path : JsonPath) → path_tree path ≡ query root (child_segments ss) → path_at (chars text) ≡ Ok ss → IsParseOf signature text (Ok path)
-  parsed short ss path tree e =
-      let s = path_sound (chars text) ss e in
+  pub parsed : (short : length text < 2 ^ 64 - 1) (segs : Segments) (path : JsonPath) → path_tree path ≡ query root segs → path_at (chars text) ≡ Ok segs → IsParseOf signature text (Ok path)
+  parsed short segs path tree e =
+      let s = path_sound (chars text) segs e in
       record {
-        accepted = subst (IsAccepted signature (chars text)) (sym tree) (accepted signature (chars text) s.0 ss s.2 s.1);
-        only = λ q o a. let f = open_read signature (chars text) q o a in f.1 ∙ ap (λ (xs : List Segment). query root (child_segments xs)) (ok_is f.0 ss (sym f.2 ∙ e)) ∙ sym tree;
+        accepted = subst (IsAccepted signature (chars text)) (sym tree) (accepted signature (chars text) s.0 segs s.2 s.1);
+        only = λ q o a. let f = open_read signature (chars text) q o a in f.1 ∙ ap (query root) (ok_is f.0 segs (sym f.2 ∙ e)) ∙ sym tree;
         refused = tt;
         missing_root = ((λ h. absurd h), (λ h. apart (begins is_dollar (chars text)) (ap (begins is_dollar) s.2) h.1));
         text_after = tt;

@@ -1,0 +1,43 @@
+-- Blanks at the start of a text.
+use Rattle.std.proofs.Common.{◌≡◌, ℕ, ◌≤◌, Bool, true, false, List, [], ◌∷◌, ◌++◌, length, refl, sym, ap, ◌∙◌, arith}
+use Rattle.std.proofs.lemmas.List.{length-append}
+use Rattle.serde_json_path.specs.Lexical.{begins, is_blank, IsBlank}
+use Rattle.serde_json_path.specs.Parsed.{front, past_blanks}
+use Rattle.serde_json_path.proofs.Runs.{whole, front_each, behind_end}
+
+pub past_some : (k rest : List ℕ) → IsBlank k → past_blanks (k ++ rest) ≡ past_blanks rest
+past_some [] rest h = refl
+past_some (c ∷ k) rest h = rw h.0 (past_some k rest h.1)
+
+pub past_all : (k rest : List ℕ) → IsBlank k → begins is_blank rest ≡ false → past_blanks (k ++ rest) ≡ rest
+past_all k rest h e = past_some k rest h ∙ behind_end is_blank rest e
+
+-- behind the blanks is none
+pub none_left : (cs : List ℕ) → begins is_blank (past_blanks cs) ≡ false
+none_left [] = refl
+none_left (c ∷ cs) = by_test (is_blank c) refl (none_left cs)
+  where
+    by_test : (b : Bool) → is_blank c ≡ b → begins is_blank (past_blanks cs) ≡ false → begins is_blank (past_blanks (c ∷ cs)) ≡ false
+    by_test true e h = rw e h
+    by_test false e h = rw e e
+
+pub past_twice : (cs : List ℕ) → past_blanks (past_blanks cs) ≡ past_blanks cs
+past_twice cs = behind_end is_blank (past_blanks cs) (none_left cs)
+
+-- the blanks themselves
+abbrev pub blanks_of : List ℕ → List ℕ
+blanks_of cs = front is_blank cs
+
+pub are_blank : (cs : List ℕ) → IsBlank (blanks_of cs)
+are_blank cs = front_each is_blank cs
+
+pub split_blanks : (cs : List ℕ) → cs ≡ blanks_of cs ++ past_blanks cs
+split_blanks cs = whole is_blank cs
+
+pub no_longer : (cs : List ℕ) → length (past_blanks cs) ≤ length cs
+no_longer cs = omega (arith, ap length (split_blanks cs), length-append (blanks_of cs) (past_blanks cs))
+
+-- what no blank is, the first character of blanks and a text is not either, if that of the text is not
+pub begins_not : (p : ℕ → Bool) (k rest : List ℕ) → ((c : ℕ) → is_blank c ≡ true → p c ≡ false) → IsBlank k → begins p rest ≡ false → begins p (k ++ rest) ≡ false
+begins_not p [] rest none h e = e
+begins_not p (c ∷ k) rest none h e = none c h.0

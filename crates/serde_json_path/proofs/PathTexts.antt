@@ -1,0 +1,62 @@
+-- What is read as a whole path is one without filters, and each of those is read.
+use Rattle.std.proofs.Common.{◌≡◌, ℕ, true, false, cond, List, [], ◌∷◌, ◌++◌, length, drop, Result, Ok, Err, refl, sym, ap, subst, ◌∙◌}
+use Rattle.std.specs.Prelude.{◌==◌}
+use Rattle.std.proofs.lemmas.List.{append-nil, nil_from_length}
+use Rattle.std.proofs.lemmas.Bool.{eqb-true}
+use Rattle.serde_json_path_core.specs.Tree.{SegmentKind, Segments, Segment}
+use Rattle.serde_json_path.specs.declared.error.ParseErrorKind.TheVariants.{ExpectedRoot, TextAfterPath}
+use Rattle.serde_json_path.specs.declared.error.Place.TheVariants as place
+use Rattle.serde_json_path.specs.declared.error.Refusal.{Refusal}
+use Rattle.serde_json_path.specs.declared.error.Stop.{Stop}
+use Rattle.serde_json_path.specs.declared.error.Stop.TheVariants as stops
+use Rattle.serde_json_path.specs.Giving.{Fails}
+use Rattle.serde_json_path.specs.Lexical.{begins}
+use Rattle.serde_json_path.specs.Open.{AreOpenSegments}
+use Rattle.serde_json_path.specs.Parsed.{Parsed, ◌>>=◌, refusal}
+use Rattle.serde_json_path.specs.Parsing.{segments_at, segment_list, path_at}
+use Rattle.serde_json_path.proofs.SegmentTexts.{AreSegmentsText, segments_sound, segments_again, same_segments}
+use Rattle.serde_json_path.proofs.Steps.{bind_ok, guard, done, ok_is, after_one}
+
+-- the end of a text whose segments were read
+abbrev at_end : Parsed (List (SegmentKind × Segment)) → Result Segments Refusal
+at_end read = read >>= λ ss. cond (length ss.1 == 0) (Ok (segment_list ss.0)) (Err (refusal TextAfterPath place.Path ss.1))
+
+nothing : (cs : List ℕ) → (length cs == 0) ≡ true → cs ≡ []
+nothing cs e = nil_from_length cs (eqb-true (length cs) 0 e)
+
+pub path_sound : (cs : List ℕ) (segs : Segments) → path_at cs ≡ Ok segs → (a : List ℕ) × AreSegmentsText a segs × (cs ≡ 36 ∷ a)
+unfolding path_at
+path_sound cs segs e =
+    let g = guard (begins (λ c. c == 36) cs) (refusal ExpectedRoot place.Path cs) (at_end (segments_at (drop 1 cs))) segs e in
+    let b = bind_ok (segments_at (drop 1 cs)) (λ ss. cond (length ss.1 == 0) (Ok (segment_list ss.0)) (Err (refusal TextAfterPath place.Path ss.1))) segs g.1 in
+    let k = guard (length b.0.1 == 0) (refusal TextAfterPath place.Path b.0.1) (done (segment_list b.0.0)) segs b.2 in
+    let r = segments_sound (drop 1 cs) b.0 b.1 in
+    subst (λ (ss : Segments). (a : List ℕ) × AreSegmentsText a ss × (cs ≡ 36 ∷ a)) (ok_is (segment_list b.0.0) segs k.1)
+    (r.text, r.is_so, after_one 36 cs g.0 ∙ ap (λ (l : List ℕ). 36 ∷ l) (r.split ∙ ap (λ (l : List ℕ). r.text ++ l) (nothing b.0.1 k.0) ∙ append-nil r.text))
+
+pub path_open : (cs : List ℕ) (segs : Segments) → path_at cs ≡ Ok segs → AreOpenSegments segs
+path_open cs segs e = (path_sound cs segs e).1.0
+
+pub path_again : (t a : List ℕ) (segs : Segments) → AreSegmentsText a segs → t ≡ 36 ∷ a → path_at t ≡ Ok segs
+unfolding path_at
+path_again t a segs h e =
+    let all = ap segments_at (sym (append-nil a)) ∙ segments_again a segs [] h refl refl in
+    ap path_at e ∙ rw all (ap (λ (ss : Segments). Ok ss) (same_segments segs))
+
+-- ---- the steps of the code
+
+rooted : (cs ds : List ℕ) (c : ℕ) → begins (λ d. d == 36) cs ≡ true → cs ≡ c ∷ ds → path_at cs ≡ at_end (segments_at ds)
+unfolding path_at
+rooted cs ds c b e = rw b (ap (λ (l : List ℕ). at_end (segments_at (drop 1 l))) e)
+
+module _ (cs ds rest : List ℕ) (c : ℕ) (ss : List (SegmentKind × Segment)) (root : begins (λ d. d == 36) cs ≡ true) (split : cs ≡ c ∷ ds) (read : segments_at ds ≡ Ok (ss, rest)) where
+  pub path_ends : (length rest == 0) ≡ true → path_at cs ≡ Ok (segment_list ss)
+  path_ends e = rooted cs ds c root split ∙ ap at_end read ∙ rw e refl
+
+  pub text_behind : (length rest == 0) ≡ false → path_at cs ≡ Err (refusal TextAfterPath place.Path rest)
+  text_behind e = rooted cs ds c root split ∙ ap at_end read ∙ rw e refl
+
+-- a refusal of the segments is that of the text
+pub segments_fail : (cs ds : List ℕ) (c : ℕ) (s : Stop) → begins (λ d. d == 36) cs ≡ true → cs ≡ c ∷ ds → Fails s (segments_at ds) → Fails s (path_at cs)
+segments_fail cs ds c stops.Memory root split h = tt
+segments_fail cs ds c (stops.Refused r) root split h = rooted cs ds c root split ∙ ap at_end h

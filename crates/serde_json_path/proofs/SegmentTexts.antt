@@ -1,0 +1,247 @@
+-- What is read as a segment is one without filters, and each of those is read.
+use Rattle.std.proofs.Common.{◌≡◌, ℕ, ◌<◌, ◌⊎◌, inl, inr, Bool, true, false, cond, List, [], ◌∷◌, ◌++◌, length, drop, Ok, Err, refl, sym, ap, subst, ◌∙◌, append_assoc, arith}
+use Rattle.std.specs.Prelude.{◌==◌, ◌||◌}
+use Rattle.std.specs.Str.{encode_utf8_all}
+use Rattle.std.proofs.lemmas.List.{length-append}
+use Rattle.serde_json_path_core.specs.Tree.{SegmentKind, child, descendant, Segments, no_segments, segment, Segment, dot_name, dot_wildcard, long_hand}
+use Rattle.serde_json_path_core.specs.Text.{dots_of, bracket_dots_of}
+use Rattle.serde_json_path.specs.declared.error.ParseErrorKind.TheVariants.{BadMemberName}
+use Rattle.serde_json_path.specs.declared.error.Place as declared
+use Rattle.serde_json_path.specs.declared.error.Place.TheVariants as place
+use Rattle.serde_json_path.specs.Lexical.{begins, is_blank, IsBlank, is_digit, is_name_first, is_name_char, IsName, Joined}
+use Rattle.serde_json_path.specs.Grammar.{ReadsSegment, ReadSegments}
+use Rattle.serde_json_path.specs.Open.{AreOpenSegments}
+use Rattle.serde_json_path.specs.Parsed.{Parsed, ◌>>=◌, refusal, front, behind, past_blanks, many}
+use Rattle.serde_json_path.specs.Parsing.{name_at, bracket_at, dotted_at, descendant_at, of_kind, dot_at, segment_at, opens, opens_next, next_segment_at, segments_at, segment_list}
+use Rattle.serde_json_path.proofs.Blanks.{past_all, blanks_of, are_blank, split_blanks, no_longer, begins_not}
+use Rattle.serde_json_path.proofs.BracketTexts.{IsSegmentText, bracket_sound, bracket_again}
+use Rattle.serde_json_path.proofs.Many as m
+use Rattle.serde_json_path.proofs.Runs.{whole, front_each, front_begins, front_all, behind_all, begins_front, some_begun}
+use Rattle.serde_json_path.proofs.Steps.{Read, bind_ok, chosen, guard, done, ok_is, after_one, many_sound, Again, many_again}
+
+-- ---- member names
+
+start_is_char : (c : ℕ) → is_name_first c ≡ true → is_name_char c ≡ true
+start_is_char c e = rw e refl
+
+name_sound : (here : declared.Place) (cs : List ℕ) (x : List ℕ × List ℕ) → name_at here cs ≡ Ok x → Read IsName cs x
+unfolding name_at
+name_sound here cs x e =
+    let g = guard (begins is_name_first cs) (refusal BadMemberName here cs) (done (encode_utf8_all (front is_name_char cs), behind is_name_char cs)) x e in
+    subst (Read IsName cs) (ok_is _ x g.1) (record {
+      text = front is_name_char cs;
+      is_so = record { first = front_begins is_name_char is_name_first cs start_is_char g.0; each = front_each is_name_char cs; bytes_of = refl };
+      split = whole is_name_char cs;
+    })
+
+name_again : (here : declared.Place) (t n rest : List ℕ) → IsName t n → begins is_name_char rest ≡ false → name_at here (t ++ rest) ≡ Ok (n, rest)
+unfolding name_at
+name_again here t n rest h e = rw (begins_front is_name_first true t rest (some_begun is_name_first t h.first) h.first, front_all is_name_char t rest h.each e, behind_all is_name_char t rest h.each e, ← h.bytes_of) refl
+
+-- a name does not begin as `*`, `.` or `[` do
+name_begins_not : (p : ℕ → Bool) (t n rest : List ℕ) → ((c : ℕ) → is_name_first c ≡ true → p c ≡ false) → IsName t n → begins p (t ++ rest) ≡ false
+name_begins_not p [] n rest none h = let e = h.first in absurd cc
+name_begins_not p (c ∷ t) n rest none h = none c h.first
+
+-- ---- behind the dots
+
+dotted_sound : (kind : SegmentKind) (here : declared.Place) (cs : List ℕ) (x : Segment × List ℕ) → dotted_at here cs ≡ Ok x → Read (IsSegmentText kind) (dots_of kind ++ cs) x
+unfolding dotted_at
+dotted_sound kind here cs x e = elim (chosen (begins (λ c. c == 42) cs) (done (dot_wildcard, drop 1 cs)) (name_at here cs >>= λ n. Ok (dot_name n.0, n.1)) (Ok x) e) [
+  | inl a ↦ subst (Read (IsSegmentText kind) (dots_of kind ++ cs)) (ok_is (dot_wildcard, drop 1 cs) x a.1) (record {
+    text = dots_of kind ++ (42 ∷ []);
+    is_so = (tt, refl);
+    split = ap (λ (l : List ℕ). dots_of kind ++ l) (after_one 42 cs a.0) ∙ sym (append_assoc (dots_of kind) (42 ∷ []) (drop 1 cs));
+  })
+  | inr a ↦
+      let n = bind_ok (name_at here cs) (λ n. Ok (dot_name n.0, n.1)) x a.1 in
+      let r = name_sound here cs n.0 n.1 in
+      subst (Read (IsSegmentText kind) (dots_of kind ++ cs)) (ok_is (dot_name n.0.0, n.0.1) x n.2) (record {
+        text = dots_of kind ++ r.text;
+        is_so = (tt, (r.text, r.is_so, refl));
+        split = ap (λ (l : List ℕ). dots_of kind ++ l) r.split ∙ sym (append_assoc (dots_of kind) r.text n.0.1);
+      })
+]
+
+descendant_sound : (cs : List ℕ) (x : Segment × List ℕ) → descendant_at cs ≡ Ok x → Read (IsSegmentText descendant) (46 ∷ 46 ∷ cs) x
+unfolding descendant_at
+descendant_sound cs x e = elim (chosen (begins (λ c. c == 91) cs) (bracket_at (drop 1 cs)) (dotted_at place.Path cs) (Ok x) e) [
+  | inl a ↦ subst (λ (l : List ℕ). Read (IsSegmentText descendant) (46 ∷ 46 ∷ l) x) (sym (after_one 91 cs a.0)) (bracket_sound descendant (drop 1 cs) x a.1)
+  | inr a ↦ dotted_sound descendant place.Path cs x a.1
+]
+
+-- ---- segments
+
+-- a segment of its kind
+abbrev pub IsItem : List ℕ → (SegmentKind × Segment) → Type 0
+IsItem t x = IsSegmentText x.0 t x.1
+
+kind_sound : (kind : SegmentKind) (cs : List ℕ) (read : Parsed Segment) (x : (SegmentKind × Segment) × List ℕ) → ((s : Segment × List ℕ) → read ≡ Ok s → Read (IsSegmentText kind) cs s) → of_kind kind read ≡ Ok x → Read IsItem cs x
+kind_sound kind cs read x sound e =
+    let s = bind_ok read (λ s. Ok ((kind, s.0), s.1)) x e in
+    let r = sound s.0 s.1 in
+    subst (Read IsItem cs) (ok_is ((kind, s.0.0), s.0.1) x s.2) (record { text = r.text; is_so = r.is_so; split = r.split })
+
+dot_sound : (cs : List ℕ) (x : (SegmentKind × Segment) × List ℕ) → dot_at cs ≡ Ok x → Read IsItem (46 ∷ cs) x
+unfolding dot_at
+dot_sound cs x e = elim (chosen (begins (λ c. c == 46) cs) (of_kind descendant (descendant_at (drop 1 cs))) (of_kind child (dotted_at place.DotMemberName cs)) (Ok x) e) [
+  | inl a ↦ subst (λ (l : List ℕ). Read IsItem (46 ∷ l) x) (sym (after_one 46 cs a.0)) (kind_sound descendant (46 ∷ 46 ∷ drop 1 cs) (descendant_at (drop 1 cs)) x (descendant_sound (drop 1 cs)) a.1)
+  | inr a ↦ kind_sound child (46 ∷ cs) (dotted_at place.DotMemberName cs) x (dotted_sound child place.DotMemberName cs) a.1
+]
+
+one_of : (cs : List ℕ) → begins opens cs ≡ true → begins (λ c. c == 46) cs ≡ false → begins (λ c. c == 91) cs ≡ true
+one_of [] o n = absurd cc
+one_of (c ∷ cs) o n = sym (rw n refl) ∙ o
+
+segment_sound : (cs : List ℕ) (x : (SegmentKind × Segment) × List ℕ) → begins opens cs ≡ true → segment_at cs ≡ Ok x → Read IsItem cs x
+unfolding segment_at
+segment_sound cs x o e = elim (chosen (begins (λ c. c == 46) cs) (dot_at (drop 1 cs)) (of_kind child (bracket_at (drop 1 cs))) (Ok x) e) [
+  | inl a ↦ subst (λ (l : List ℕ). Read IsItem l x) (sym (after_one 46 cs a.0)) (dot_sound (drop 1 cs) x a.1)
+  | inr a ↦ subst (λ (l : List ℕ). Read IsItem l x) (sym (after_one 91 cs (one_of cs o a.0))) (kind_sound child (91 ∷ drop 1 cs) (bracket_at (drop 1 cs)) x (bracket_sound child (drop 1 cs)) a.1)
+]
+
+-- blanks and a segment
+abbrev pub IsNextItem : List ℕ → (SegmentKind × Segment) → Type 0
+IsNextItem t x = (k a : List ℕ) × IsBlank k × IsItem a x × (t ≡ k ++ a)
+
+pub next_segment_sound : (cs : List ℕ) (x : (SegmentKind × Segment) × List ℕ) → opens_next cs ≡ true → next_segment_at cs ≡ Ok x → Read IsNextItem cs x
+unfolding next_segment_at
+next_segment_sound cs x o e =
+    let r = segment_sound (past_blanks cs) x o e in
+    record {
+      text = blanks_of cs ++ r.text;
+      is_so = (blanks_of cs, r.text, are_blank cs, r.is_so, refl);
+      split = split_blanks cs ∙ ap (λ (l : List ℕ). blanks_of cs ++ l) r.split ∙ sym (append_assoc (blanks_of cs) r.text x.1);
+    }
+
+-- ---- how a segment's text begins
+
+item_begins : (t : List ℕ) (x : SegmentKind × Segment) (rest : List ℕ) → IsItem t x → begins opens (t ++ rest) ≡ true
+item_begins t (child, dot_name n) rest h = ap (λ (l : List ℕ). begins opens (l ++ rest)) h.1.2
+item_begins t (descendant, dot_name n) rest h = ap (λ (l : List ℕ). begins opens (l ++ rest)) h.1.2
+item_begins t (child, dot_wildcard) rest h = ap (λ (l : List ℕ). begins opens (l ++ rest)) h.1
+item_begins t (descendant, dot_wildcard) rest h = ap (λ (l : List ℕ). begins opens (l ++ rest)) h.1
+item_begins t (child, long_hand sels) rest h = ap (λ (l : List ℕ). begins opens (l ++ rest)) h.1.6
+item_begins t (descendant, long_hand sels) rest h = ap (λ (l : List ℕ). begins opens (l ++ rest)) h.1.6
+
+-- what begins no segment does not stand at the start of one
+other_start : (p : ℕ → Bool) (cs : List ℕ) → ((c : ℕ) → opens c ≡ true → p c ≡ false) → begins opens cs ≡ true → begins p cs ≡ false
+other_start p [] none e = absurd cc
+other_start p (c ∷ cs) none e = none c e
+
+opens_no_blank : (c : ℕ) → opens c ≡ true → is_blank c ≡ false
+opens_no_blank c e = grind (arith, e)
+
+opens_no_name : (c : ℕ) → opens c ≡ true → is_name_char c ≡ false
+opens_no_name c e = grind (arith, e)
+
+small_no_name : (c : ℕ) → c < 33 → is_name_char c ≡ false
+small_no_name c e = grind (arith, e)
+
+blank_no_name : (c : ℕ) → is_blank c ≡ true → is_name_char c ≡ false
+blank_no_name c e = let small : c < 33 = grind (arith, e) in small_no_name c small
+
+past_next : (t : List ℕ) (x : SegmentKind × Segment) (rest : List ℕ) → (h : IsNextItem t x) → past_blanks (t ++ rest) ≡ h.1 ++ rest
+past_next t x rest (k, a, blank, is, e) =
+    ap (λ (l : List ℕ). past_blanks (l ++ rest)) e ∙ ap past_blanks (append_assoc k a rest)
+    ∙ past_all k (a ++ rest) blank (other_start is_blank (a ++ rest) opens_no_blank (item_begins a x rest is))
+
+next_begins : (t : List ℕ) (x : SegmentKind × Segment) (rest : List ℕ) → IsNextItem t x → opens_next (t ++ rest) ≡ true
+next_begins t x rest h = ap (begins opens) (past_next t x rest h) ∙ item_begins h.1 x rest h.3
+
+-- a member name ends before it
+next_stops : (t : List ℕ) (x : SegmentKind × Segment) (rest : List ℕ) → IsNextItem t x → begins is_name_char (t ++ rest) ≡ false
+next_stops t x rest (k, a, blank, is, e) =
+    ap (λ (l : List ℕ). begins is_name_char (l ++ rest)) e ∙ ap (begins is_name_char) (append_assoc k a rest)
+    ∙ begins_not is_name_char k (a ++ rest) blank_no_name blank (other_start is_name_char (a ++ rest) opens_no_name (item_begins a x rest is))
+
+-- ---- each segment is read
+
+first_is_not : (k c : ℕ) → k < 48 ⊎ (k ≡ 91) → is_name_first c ≡ true → (c == k) ≡ false
+first_is_not k c (inl small) e = grind (arith, small, e)
+first_is_not k c (inr bracket) e = grind (arith, bracket, e)
+
+no_star : (c : ℕ) → is_name_first c ≡ true → (c == 42) ≡ false
+no_star c e = first_is_not 42 c (inl (omega arith)) e
+
+no_dot : (c : ℕ) → is_name_first c ≡ true → (c == 46) ≡ false
+no_dot c e = first_is_not 46 c (inl (omega arith)) e
+
+no_bracket : (c : ℕ) → is_name_first c ≡ true → (c == 91) ≡ false
+no_bracket c e = first_is_not 91 c (inr refl) e
+
+dotted_again : (here : declared.Place) (t n rest : List ℕ) → IsName t n → begins is_name_char rest ≡ false → dotted_at here (t ++ rest) ≡ Ok (dot_name n, rest)
+unfolding dotted_at
+dotted_again here t n rest h e = rw (name_begins_not (λ c. c == 42) t n rest no_star h, name_again here t n rest h e) refl
+
+segment_again : (t : List ℕ) (x : SegmentKind × Segment) (rest : List ℕ) → IsItem t x → begins is_name_char rest ≡ false → segment_at (t ++ rest) ≡ Ok (x, rest)
+unfolding segment_at dot_at descendant_at dotted_at
+segment_again t (child, dot_name n) rest h e =
+    ap (λ (l : List ℕ). segment_at (l ++ rest)) h.1.2 ∙ rw (name_begins_not (λ c. c == 46) h.1.0 n rest no_dot h.1.1, dotted_again place.DotMemberName h.1.0 n rest h.1.1 e) refl
+segment_again t (descendant, dot_name n) rest h e =
+    ap (λ (l : List ℕ). segment_at (l ++ rest)) h.1.2 ∙ rw (name_begins_not (λ c. c == 91) h.1.0 n rest no_bracket h.1.1, dotted_again place.Path h.1.0 n rest h.1.1 e) refl
+segment_again t (child, dot_wildcard) rest h e = ap (λ (l : List ℕ). segment_at (l ++ rest)) h.1
+segment_again t (descendant, dot_wildcard) rest h e = ap (λ (l : List ℕ). segment_at (l ++ rest)) h.1
+segment_again t (child, long_hand sels) rest h e =
+    ap (λ (l : List ℕ). segment_at (l ++ rest)) h.1.6 ∙ rw (bracket_again sels h.1.0 h.1.1 h.1.2 rest h.1.3 h.1.4 h.1.5 h.0) refl
+segment_again t (descendant, long_hand sels) rest h e =
+    ap (λ (l : List ℕ). segment_at (l ++ rest)) h.1.6 ∙ rw (bracket_again sels h.1.0 h.1.1 h.1.2 rest h.1.3 h.1.4 h.1.5 h.0) refl
+
+next_again : (t : List ℕ) (x : SegmentKind × Segment) (rest : List ℕ) → IsNextItem t x → begins is_name_char rest ≡ false → next_segment_at (t ++ rest) ≡ Ok (x, rest)
+unfolding next_segment_at
+next_again t x rest h e = ap segment_at (past_next t x rest h) ∙ segment_again h.1 x rest h.3 e
+
+-- ---- all segments
+
+next_some : (t : List ℕ) (x : SegmentKind × Segment) → IsNextItem t x → 0 < length t
+next_some t x (k, a, blank, is, e) = omega (arith, ap length e, length-append k a, some_begun opens (a ++ []) (item_begins a x [] is), length-append a [])
+
+pub next_takes : m.Takes opens_next next_segment_at
+next_takes = record {
+  shorter = λ cs rest x o e.
+      let r = next_segment_sound cs (x, rest) o e in
+      omega (arith, ap length r.split, length-append r.text rest, next_some r.text x r.is_so);
+  some = λ cs o. omega (arith, some_begun opens (past_blanks cs) o, no_longer cs);
+}
+
+segments_law : Again IsNextItem opens_next next_segment_at (λ rest. begins is_name_char rest ≡ false)
+segments_law = record { takes = next_takes; again = next_again; starts = next_begins; stops = next_stops }
+
+-- segments in a row, without filters
+abbrev pub AreSegmentsText : List ℕ → Segments → Type 0
+AreSegmentsText t segs = AreOpenSegments segs × ReadSegments segs t
+
+listed : (t : List ℕ) (ss : List (SegmentKind × Segment)) → Joined IsNextItem t ss → AreSegmentsText t (segment_list ss)
+listed t [] h = (tt, h)
+listed t (x ∷ ss) h =
+    let rest = listed h.1 ss h.3 in
+    let first = h.2 in (
+      (first.3.0, rest.0),
+      (first.0, first.1, h.1, first.2, first.3.1, rest.1, h.4 ∙ ap (λ (l : List ℕ). l ++ h.1) first.4 ∙ append_assoc first.0 first.1 h.1),
+    )
+
+pub segments_sound : (cs : List ℕ) (x : List (SegmentKind × Segment) × List ℕ) → segments_at cs ≡ Ok x → Read (λ t (ss : List (SegmentKind × Segment)). AreSegmentsText t (segment_list ss)) cs x
+unfolding many
+segments_sound cs x e =
+    let r = many_sound IsNextItem opens_next next_segment_at next_segment_sound (length cs) cs x e in
+    record { text = r.text; is_so = listed r.text x.0 r.is_so; split = r.split }
+
+abbrev pub segments_in : Segments → List (SegmentKind × Segment)
+segments_in no_segments = []
+segments_in (segment kind seg more) = (kind, seg) ∷ segments_in more
+
+pub same_segments : (segs : Segments) → segment_list (segments_in segs) ≡ segs
+same_segments no_segments = refl
+same_segments (segment kind seg more) = ap (segment kind seg) (same_segments more)
+
+are_joined : (t : List ℕ) (segs : Segments) → AreSegmentsText t segs → Joined IsNextItem t (segments_in segs)
+are_joined t no_segments h = h.1
+are_joined t (segment kind seg more) ((o, os), (k, a, b, blank, is, rest, e)) =
+    (k ++ a, b, (k, a, blank, (o, is), refl), are_joined b more (os, rest), e ∙ sym (append_assoc k a b))
+
+pub segments_again : (t : List ℕ) (segs : Segments) (rest : List ℕ) → AreSegmentsText t segs → begins is_name_char rest ≡ false → opens_next rest ≡ false → segments_at (t ++ rest) ≡ Ok (segments_in segs, rest)
+segments_again t segs rest h s e = many_again IsNextItem opens_next next_segment_at (λ rest. begins is_name_char rest ≡ false) segments_law t (segments_in segs) rest (are_joined t segs h) s e
+
+-- where no segment begins there is none
+pub no_segments_read : (cs : List ℕ) → opens_next cs ≡ false → segments_at cs ≡ Ok ([], cs)
+no_segments_read cs e = m.many_end opens_next next_segment_at next_takes cs e
