@@ -1,21 +1,32 @@
--- Parts that stand for child segments, one more at a time, and for one selector in brackets.
-use Rattle.std.proofs.Common.{◌≡◌, List, [], ◌∷◌, ◌++◌, sym, subst, ap, ◌∙◌}
-use Rattle.serde_json_path_core.specs.Tree.{Segment, child, Selector, selector, no_selectors}
-use Rattle.serde_json_path_core.specs.Piece.{a_segment, a_selector}
-use Rattle.serde_json_path_core.specs.Parts.{IsPart, ArePartsOf, AreSelectorsOf}
+-- Parts that stand for selectors and for segments, one more at a time.
+use Rattle.std.proofs.Common.{◌≡◌, List, [], ◌∷◌, ◌++◌, refl, sym, ap, subst}
+use Rattle.serde_json_path_core.specs.Tree.{SegmentKind, Segment, Selector}
+use Rattle.serde_json_path_core.specs.Piece.{Piece, a_segment, a_selector}
+use Rattle.serde_json_path_core.specs.Parts.{IsPart, ArePartsFor, ArePartsOf, AreSelectorsOf, segment_pieces, selector_pieces}
 use Rattle.serde_json_path_core.specs.declared.syntax.node.Part.{Part}
 use Rattle.serde_json_path_core.specs.declared.syntax.builder.SyntaxBuilder.{SyntaxBuilder}
-use Rattle.serde_json_path.specs.Parsing.{child_segments}
+use Rattle.serde_json_path.specs.Parsing.{selector_list, segment_list}
 
-pub parts_pushed : (builder : SyntaxBuilder) (parts : List Part) (ss : List Segment) (part : Part) (s : Segment) → ArePartsOf builder parts (child_segments ss) → IsPart builder part (a_segment child s)
-    → ArePartsOf builder (parts ++ part ∷ []) (child_segments (ss ++ s ∷ []))
-parts_pushed builder [] [] part s h p = (p, tt)
-parts_pushed builder [] (t ∷ ss) part s h p = absurd h
-parts_pushed builder (q ∷ parts) [] part s h p = absurd h
-parts_pushed builder (q ∷ parts) (t ∷ ss) part s h p = (h.0, parts_pushed builder parts ss part s h.1 p)
+one_more : (builder : SyntaxBuilder) (parts : List Part) (pieces : List Piece) (part : Part) (piece : Piece) → ArePartsFor builder parts pieces → IsPart builder part piece → ArePartsFor builder (parts ++ part ∷ []) (pieces ++ piece ∷ [])
+one_more builder [] [] part piece h p = (p, tt)
+one_more builder [] (x ∷ pieces) part piece h p = absurd h
+one_more builder (q ∷ parts) [] part piece h p = absurd h
+one_more builder (q ∷ parts) (x ∷ pieces) part piece h p = (h.0, one_more builder parts pieces part piece h.1 p)
 
--- the part of one selector, put into an empty list
-pub one_selector : (builder : SyntaxBuilder) (empty parts : List Part) (part : Part) (sel : Selector) → empty ≡ [] → parts ≡ empty ++ part ∷ [] → IsPart builder part (a_selector sel)
-    → AreSelectorsOf builder parts (selector sel no_selectors)
-one_selector builder empty parts part sel none e is =
-    subst (λ ps. AreSelectorsOf builder ps (selector sel no_selectors)) (sym (e ∙ ap (λ ps. ps ++ part ∷ []) none)) (is, tt)
+segment_behind : (ss : List (SegmentKind × Segment)) (s : SegmentKind × Segment) → segment_pieces (segment_list ss) ++ a_segment s.0 s.1 ∷ [] ≡ segment_pieces (segment_list (ss ++ s ∷ []))
+segment_behind [] s = refl
+segment_behind (x ∷ ss) s = ap (λ (l : List Piece). a_segment x.0 x.1 ∷ l) (segment_behind ss s)
+
+pub segment_pushed : (builder : SyntaxBuilder) (parts : List Part) (ss : List (SegmentKind × Segment)) (part : Part) (s : SegmentKind × Segment) → ArePartsOf builder parts (segment_list ss) → IsPart builder part (a_segment s.0 s.1)
+    → ArePartsOf builder (parts ++ part ∷ []) (segment_list (ss ++ s ∷ []))
+segment_pushed builder parts ss part s h p = subst (ArePartsFor builder (parts ++ part ∷ [])) (segment_behind ss s) (one_more builder parts (segment_pieces (segment_list ss)) part (a_segment s.0 s.1) h p)
+
+selector_behind : (ss : List Selector) (s : Selector) → selector_pieces (selector_list ss) ++ a_selector s ∷ [] ≡ selector_pieces (selector_list (ss ++ s ∷ []))
+selector_behind [] s = refl
+selector_behind (x ∷ ss) s = ap (λ (l : List Piece). a_selector x ∷ l) (selector_behind ss s)
+
+pub selector_pushed : (builder : SyntaxBuilder) (parts : List Part) (ss : List Selector) (part : Part) (s : Selector) → AreSelectorsOf builder parts (selector_list ss) → IsPart builder part (a_selector s)
+    → AreSelectorsOf builder (parts ++ part ∷ []) (selector_list (ss ++ s ∷ []))
+selector_pushed builder [] ss part s h p = absurd h
+selector_pushed builder (q ∷ parts) ss part s h p =
+    subst (ArePartsFor builder ((q ∷ parts) ++ part ∷ [])) (selector_behind ss s) (one_more builder (q ∷ parts) (selector_pieces (selector_list ss)) part (a_selector s) h p)
