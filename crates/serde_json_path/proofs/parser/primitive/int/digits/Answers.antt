@@ -3,7 +3,7 @@ use Rattle.std.proofs.lemmas.Grind.{common_steps}
 use Rattle.serde_json_path.specs.Reading.{left}
 use Rattle.serde_json_path.specs.Lexical.{begins, is_digit}
 use Rattle.serde_json_path.proofs.Runs.{digit_taken, behind_more}
-use Rattle.serde_json_path.proofs.parser.primitive.int.int.Goals as goal
+use Rattle.serde_json_path.proofs.parser.primitive.int.digits.Goals as goal
 
 pub loop-reader-preserved : goal.loop-reader-preserved
 loop-reader-preserved g c =
