@@ -4,6 +4,7 @@ pub mod Many
 pub mod Runs
 pub mod Steps
 pub mod Stands
+pub mod IntTexts
 pub mod StringTexts
 pub mod StringLoops
 pub mod StringPlaces
