@@ -10,6 +10,7 @@ pub mod BracketTexts
 pub mod SegmentTexts
 pub mod PathTexts
 pub mod SelectorPlaces
+pub mod IntTexts
 pub mod StringTexts
 pub mod StringLoops
 pub mod StringPlaces

@@ -2,7 +2,7 @@ use Rattle.std.proofs.Common.{◌≡◌, ◌^◌, ◌-◌, min, length}
 use Rattle.serde_json_path.specs.Lexical.{is_digit, value_from}
 use Rattle.serde_json_path.specs.Parsed.{front, behind}
 use Rattle.serde_json_path.specs.Reading.{left, Moves}
-use Rattle.serde_json_path.proofs.parser.primitive.int.int.Given as goal
+use Rattle.serde_json_path.proofs.parser.primitive.int.digits.Given as goal
 
 abbrev pub invariant-loop-reader : goal.invariant-loop-reader
 invariant-loop-reader g l = record {

@@ -3,13 +3,13 @@ use Rattle.std.proofs.lemmas.Grind.{common_steps}
 use Rattle.serde_json_path.specs.Reading.{left}
 use Rattle.serde_json_path.specs.Lexical.{begins, is_digit}
 use Rattle.serde_json_path.proofs.Runs.{digit_taken, behind_more}
-use Rattle.serde_json_path.proofs.parser.primitive.int.int.Goals as goal
+use Rattle.serde_json_path.proofs.parser.primitive.int.digits.Goals as goal
 
 pub loop-reader-preserved : goal.loop-reader-preserved
 loop-reader-preserved g c =
-    let t = c.take_char-in-loop-reader in
+    let t = c.take_char in
     let e = t.ensures.value in
-    let seen : begins is_digit (left c.loop-reader.reader) ≡ true = sym c.sees_digit-in-loop-reader.ensures ∙ c.loop-reader-test.true in
+    let seen : begins is_digit (left c.loop-reader.reader) ≡ true = sym c.sees_digit.ensures ∙ c.loop-reader-test.true in
     record {
       moves = grind (arith, common_steps);
       value = digit_taken (left c.loop-reader.reader) (left t.new.self) t.result c.loop-reader.n c.saturating_add-n.result (2 ^ 64 - 1) _ e seen (omega (arith, c.saturating_mul.ensures, c.saturating_add-n.ensures)) c.loop-reader.invariant.value;
