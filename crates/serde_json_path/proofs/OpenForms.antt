@@ -1,76 +1,93 @@
 -- What holds of segments of the open forms: they are well-typed, not nested, call nothing, and select the same under
 -- every function set.
-use Rattle.std.proofs.Common.{◌≡◌, ◌≢◌, ℕ, zero, suc, pos, negsuc, List, [], ◌∷◌, Option, refl, arith}
+use Rattle.std.proofs.Common.{◌≡◌, ◌≢◌, ℕ, zero, suc, List, [], ◌∷◌, Option, refl, arith}
 use Rattle.std.proofs.Math.Logic.{∥∥₁_map}
 use Rattle.std.proofs.lemmas.Grind.{not_there}
 use Rattle.serde_json.specs.Data.{Data}
 use Rattle.serde_json_path_nodes.specs.Place.{Step, Located}
-use Rattle.serde_json_path_core.specs.Tree.{Query, query, root, segments_of, Segments, no_segments, segment, child, descendant, Segment, dot_name, dot_wildcard, long_hand, selector, no_selectors, index, name, wildcard, slice, filter, Call}
+use Rattle.serde_json_path_core.specs.Tree.{Query, query, root, Segments, no_segments, segment, Segment, dot_name, dot_wildcard, long_hand, Selectors, no_selectors, selector, Selector, filter, Call}
 use Rattle.serde_json_path_functions.specs.Functions.{Signature, FunctionSet}
-use Rattle.serde_json_path_core.specs.Typing.{IsTypedSegment, AreTypedSegments}
-use Rattle.serde_json_path_core.specs.Depth.{segment_depth, segments_depth}
-use Rattle.serde_json_path_core.specs.Calls.{name_of, EachCall, EachInSegment, EachInSegments}
+use Rattle.serde_json_path_core.specs.Typing.{IsTypedSelector, AreTypedSelectors, IsTypedSegment, AreTypedSegments}
+use Rattle.serde_json_path_core.specs.Depth.{selector_depth, selectors_depth, segment_depth, segments_depth}
+use Rattle.serde_json_path_core.specs.Calls.{name_of, EachCall, EachInSelector, EachInSelectors, EachInSegment, EachInSegments}
 use Rattle.serde_json_path_core.specs.Derivation.{Triple}
-use Rattle.serde_json_path_core.specs.Meaning.{AdmitsIn, Derives, IsResult}
+use Rattle.serde_json_path_core.specs.Meaning.{Admits, AdmitsBy, AdmitsIn, Derives, IsResult}
 use Rattle.serde_json_path_core.specs.Used.{MayFinish, signature_in}
-use Rattle.serde_json_path.specs.Open.{IsOpenSegment, AreOpenSegments}
-use Rattle.serde_json_path.specs.Parsing.{index_segment}
+use Rattle.serde_json_path.specs.Open.{IsOpenSelector, AreOpenSelectors, IsOpenSegment, AreOpenSegments, IsOpen}
 
--- ---- the two open forms
+-- ---- a path keeps no more than that its tree is of the open forms, and the tree decides that
 
--- what holds of `.name` and of `[position]` holds of each segment of the open forms
-of_open : (Fact : Segment → Type 0) → ((k : List ℕ) → Fact (dot_name k)) → ((n : ℕ) → Fact (index_segment n)) → (seg : Segment) → IsOpenSegment seg → Fact seg
-of_open Fact at_name at_index (dot_name k) o = at_name k
-of_open Fact at_name at_index (long_hand (selector (index (pos n)) no_selectors)) o = at_index n
-of_open Fact at_name at_index (long_hand (selector (index (pos n)) (selector sel more))) o = absurd o
-of_open Fact at_name at_index (long_hand (selector (index (negsuc n)) more)) o = absurd o
-of_open Fact at_name at_index (long_hand (selector (name k) more)) o = absurd o
-of_open Fact at_name at_index (long_hand (selector wildcard more)) o = absurd o
-of_open Fact at_name at_index (long_hand (selector (slice s) more)) o = absurd o
-of_open Fact at_name at_index (long_hand (selector (filter e) more)) o = absurd o
-of_open Fact at_name at_index (long_hand no_selectors) o = absurd o
-of_open Fact at_name at_index dot_wildcard o = absurd o
+selector_is_open : (sel : Selector) → ∥ IsOpenSelector sel ∥₁ → IsOpenSelector sel
+selector_is_open (filter e) h = absurd (not_there h (λ o. o))
+selector_is_open sel h = tt
 
-never : {A : Type 0} → ∥ ⊥ ∥₁ → A
-never h = absurd (not_there h (λ x. x))
+selectors_are_open : (sels : Selectors) → ∥ AreOpenSelectors sels ∥₁ → AreOpenSelectors sels
+selectors_are_open no_selectors h = tt
+selectors_are_open (selector sel more) h = (selector_is_open sel (∥∥₁_map h (λ o. o.0)), selectors_are_open more (∥∥₁_map h (λ o. o.1)))
 
 segment_is_open : (seg : Segment) → ∥ IsOpenSegment seg ∥₁ → IsOpenSegment seg
-segment_is_open (dot_name k) h = tt
-segment_is_open (long_hand (selector (index (pos n)) no_selectors)) h = tt
-segment_is_open (long_hand (selector (index (pos n)) (selector sel more))) h = never h
-segment_is_open (long_hand (selector (index (negsuc n)) more)) h = never h
-segment_is_open (long_hand (selector (name k) more)) h = never h
-segment_is_open (long_hand (selector wildcard more)) h = never h
-segment_is_open (long_hand (selector (slice s) more)) h = never h
-segment_is_open (long_hand (selector (filter e) more)) h = never h
-segment_is_open (long_hand no_selectors) h = never h
-segment_is_open dot_wildcard h = never h
+segment_is_open (long_hand sels) h = selectors_are_open sels h
+segment_is_open seg h = tt
 
--- what a path keeps of its segments is that they are of the open forms
 pub are_open : (segs : Segments) → ∥ AreOpenSegments segs ∥₁ → AreOpenSegments segs
 are_open no_segments h = tt
-are_open (segment child seg more) h = (segment_is_open seg (∥∥₁_map h (λ o. o.0)), are_open more (∥∥₁_map h (λ o. o.1)))
-are_open (segment descendant seg more) h = never h
+are_open (segment kind seg more) h = (segment_is_open seg (∥∥₁_map h (λ o. o.0)), are_open more (∥∥₁_map h (λ o. o.1)))
 
--- ---- typing, nesting and calls
+-- ---- typing
+
+typed_selector : (signature : List ℕ → Option Signature) (sel : Selector) → IsOpenSelector sel → IsTypedSelector signature sel
+typed_selector signature (filter e) o = absurd o
+typed_selector signature sel o = tt
+
+typed_selectors : (signature : List ℕ → Option Signature) (sels : Selectors) → AreOpenSelectors sels → AreTypedSelectors signature sels
+typed_selectors signature no_selectors o = tt
+typed_selectors signature (selector sel more) o = (typed_selector signature sel o.0, typed_selectors signature more o.1)
+
+typed_segment : (signature : List ℕ → Option Signature) (seg : Segment) → IsOpenSegment seg → IsTypedSegment signature seg
+typed_segment signature (long_hand sels) o = typed_selectors signature sels o
+typed_segment signature seg o = tt
 
 pub typed : (signature : List ℕ → Option Signature) (segs : Segments) → AreOpenSegments segs → AreTypedSegments signature segs
 typed signature no_segments o = tt
-typed signature (segment child seg more) o = (of_open (IsTypedSegment signature) (λ k. tt) (λ n. (tt, tt)) seg o.0, typed signature more o.1)
-typed signature (segment descendant seg more) o = absurd o
+typed signature (segment kind seg more) o = (typed_segment signature seg o.0, typed signature more o.1)
+
+-- ---- nesting
+
+shallow_selector : (sel : Selector) → IsOpenSelector sel → selector_depth sel ≡ 0
+shallow_selector (filter e) o = absurd o
+shallow_selector sel o = refl
+
+shallow_selectors : (sels : Selectors) → AreOpenSelectors sels → selectors_depth sels ≡ 0
+shallow_selectors no_selectors o = refl
+shallow_selectors (selector sel more) o = rw (shallow_selector sel o.0, shallow_selectors more o.1) refl
+
+shallow_segment : (seg : Segment) → IsOpenSegment seg → segment_depth seg ≡ 0
+shallow_segment (long_hand sels) o = shallow_selectors sels o
+shallow_segment seg o = refl
 
 pub shallow : (segs : Segments) → AreOpenSegments segs → segments_depth segs ≡ 0
 shallow no_segments o = refl
-shallow (segment child seg more) o = rw (of_open (λ s. segment_depth s ≡ 0) (λ k. refl) (λ n. refl) seg o.0) (rw (shallow more o.1) refl)
-shallow (segment descendant seg more) o = absurd o
+shallow (segment kind seg more) o = rw (shallow_segment seg o.0, shallow more o.1) refl
 
--- every fact holds of each call, as there is none
+-- ---- calls: every fact holds of each, as there is none
+
+each_of_selector : (Fact : Call → Type 0) (sel : Selector) → IsOpenSelector sel → EachInSelector Fact sel
+each_of_selector Fact (filter e) o = absurd o
+each_of_selector Fact sel o = tt
+
+each_of_selectors : (Fact : Call → Type 0) (sels : Selectors) → AreOpenSelectors sels → EachInSelectors Fact sels
+each_of_selectors Fact no_selectors o = tt
+each_of_selectors Fact (selector sel more) o = (each_of_selector Fact sel o.0, each_of_selectors Fact more o.1)
+
+each_of_segment : (Fact : Call → Type 0) (seg : Segment) → IsOpenSegment seg → EachInSegment Fact seg
+each_of_segment Fact (long_hand sels) o = each_of_selectors Fact sels o
+each_of_segment Fact seg o = tt
+
 pub each_call : (Fact : Call → Type 0) (segs : Segments) → AreOpenSegments segs → EachInSegments Fact segs
 each_call Fact no_segments o = tt
-each_call Fact (segment child seg more) o = (of_open (EachInSegment Fact) (λ k. tt) (λ n. (tt, tt)) seg o.0, each_call Fact more o.1)
-each_call Fact (segment descendant seg more) o = absurd o
+each_call Fact (segment kind seg more) o = (each_of_segment Fact seg o.0, each_call Fact more o.1)
 
-pub each_of_query : (Fact : Call → Type 0) (q : Query) → AreOpenSegments (segments_of q) → EachCall Fact q
+pub each_of_query : (Fact : Call → Type 0) (q : Query) → IsOpen q → EachCall Fact q
 each_of_query Fact (query kind segs) o = each_call Fact segs o
 
 -- such a query from the root may be finished without a signature
@@ -79,24 +96,29 @@ may_finish segs o = (refl, typed (signature_in []) segs o, omega (arith, shallow
 
 -- ---- function sets
 
-admits : (F G : FunctionSet) (top : Data) (seg : Segment) → IsOpenSegment seg → (n : ℕ) (v : Data) (s : Step) → AdmitsIn F top seg n v s → AdmitsIn G top seg n v s
-admits F G top = of_open (λ seg. (n : ℕ) (v : Data) (s : Step) → AdmitsIn F top seg n v s → AdmitsIn G top seg n v s) (λ k n v s h. h) first_alone
-  where
-    first_alone : (p n : ℕ) (v : Data) (s : Step) → AdmitsIn F top (index_segment p) n v s → AdmitsIn G top (index_segment p) n v s
-    first_alone p zero v s h = h
-    first_alone p (suc n) v s h = absurd h
+admits : (F G : FunctionSet) (top : Data) (sel : Selector) → IsOpenSelector sel → (v : Data) (s : Step) → Admits F top sel v s → Admits G top sel v s
+admits F G top (filter e) o v s h = absurd o
+admits F G top sel o v s h = h
+
+admits_by : (F G : FunctionSet) (top : Data) (sels : Selectors) → AreOpenSelectors sels → (n : ℕ) (v : Data) (s : Step) → AdmitsBy F top sels n v s → AdmitsBy G top sels n v s
+admits_by F G top no_selectors o n v s h = h
+admits_by F G top (selector sel more) o zero v s h = admits F G top sel o.0 v s h
+admits_by F G top (selector sel more) o (suc n) v s h = admits_by F G top more o.1 n v s h
+
+admits_in : (F G : FunctionSet) (top : Data) (seg : Segment) → IsOpenSegment seg → (n : ℕ) (v : Data) (s : Step) → AdmitsIn F top seg n v s → AdmitsIn G top seg n v s
+admits_in F G top (long_hand sels) o n v s h = admits_by F G top sels o n v s h
+admits_in F G top seg o n v s h = h
 
 derives : (F G : FunctionSet) (top : Data) (segs : Segments) → AreOpenSegments segs → (v : Data) (xs : List Triple) → Derives F top segs v xs → Derives G top segs v xs
 derives F G top no_segments o v xs h = h
-derives F G top (segment child seg more) o v [] h = absurd h
-derives F G top (segment child seg more) o v (x ∷ xs) h =
+derives F G top (segment kind seg more) o v [] h = absurd h
+derives F G top (segment kind seg more) o v (x ∷ xs) h =
     let descended = h.1 in
     let stepped = descended.3 in
-    (h.0, (descended.0, descended.1, admits F G top seg o.0 x.number descended.0 x.step descended.2, (stepped.0, stepped.1, derives F G top more o.1 stepped.0 xs stepped.2)))
-derives F G top (segment descendant seg more) o v xs h = absurd o
+    (h.0, (descended.0, descended.1, admits_in F G top seg o.0 x.number descended.0 x.step descended.2, (stepped.0, stepped.1, derives F G top more o.1 stepped.0 xs stepped.2)))
 
 -- a result under one set is a result under every set
-pub same_result : (F G : FunctionSet) (top : Data) (q : Query) → AreOpenSegments (segments_of q) → (here : Data) (ns : List Located) → IsResult F top q here ns → IsResult G top q here ns
+pub same_result : (F G : FunctionSet) (top : Data) (q : Query) → IsOpen q → (here : Data) (ns : List Located) → IsResult F top q here ns → IsResult G top q here ns
 same_result F G top (query kind segs) o here ns h = (
   h.0,
   h.1,
