@@ -5,7 +5,7 @@ use Rattle.std.proofs.Math.Logic.{∥∥₁_map}
 use Rattle.std.proofs.lemmas.Grind.{not_there}
 use Rattle.serde_json.specs.Data.{Data}
 use Rattle.serde_json_path_nodes.specs.Place.{Step, Located}
-use Rattle.serde_json_path_core.specs.Tree.{Query, query, root, Segments, no_segments, segment, Segment, dot_name, dot_wildcard, long_hand, Selectors, no_selectors, selector, Selector, filter, Call}
+use Rattle.serde_json_path_core.specs.Tree.{Query, query, root, Segments, no_segments, segment, Segment, long_hand, Selectors, no_selectors, selector, Selector, filter, Call}
 use Rattle.serde_json_path_functions.specs.Functions.{Signature, FunctionSet}
 use Rattle.serde_json_path_core.specs.Typing.{IsTypedSelector, AreTypedSelectors, IsTypedSegment, AreTypedSegments}
 use Rattle.serde_json_path_core.specs.Depth.{selector_depth, selectors_depth, segment_depth, segments_depth}
