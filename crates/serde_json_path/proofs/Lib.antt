@@ -19,3 +19,4 @@ pub mod PartLists
 pub mod Places
 pub mod Parses
 mod Worked
+mod WorkedParsing
