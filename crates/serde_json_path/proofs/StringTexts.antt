@@ -144,9 +144,9 @@ letters = 98 ∷ 102 ∷ 110 ∷ 114 ∷ 116 ∷ 47 ∷ 92 ∷ []
 of_each : (Fact : ℕ → Type 0) (ks : List ℕ) → AllByRecursion Fact ks → (c : ℕ) → (AllByRecursion (λ k. (c == k) ≡ false) ks → Fact c) → Fact c
 of_each Fact [] known c other = other tt
 of_each Fact (k ∷ ks) known c other = elim (eqb_tells c k) [
-    | inl e ↦ subst Fact (sym e.1) known.0
-    | inr e ↦ of_each Fact ks known.1 c (λ others. other (e.0, others))
-  ]
+  | inl e ↦ subst Fact (sym e.1) known.0
+  | inr e ↦ of_each Fact ks known.1 c (λ others. other (e.0, others))
+]
 
 -- a letter behind a backslash, but for the quote
 letter_is : (quote letter : ℕ) → is_letter_escape quote letter ≡ true → (letter == quote) ≡ false → escaped_by letter ≡ Some (letter_value letter)
