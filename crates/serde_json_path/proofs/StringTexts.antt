@@ -1,14 +1,17 @@
 -- What is read as a string is one, and each string is read.
-use Rattle.std.proofs.Common.{◌≡◌, ℕ, ◌+◌, ◌-◌, ◌*◌, ◌<◌, ◌≤◌, ◌⊎◌, inl, inr, Bool, true, false, cond, ◌&&◌, true≢false, List, [], ◌∷◌, ◌++◌, length, drop, Option, Some, None, Ok, Err, refl, sym, ap, subst, ◌∙◌, append_assoc, arith}
-use Rattle.std.specs.Prelude.{nat_le, ◌==◌, not, codes}
+use Rattle.std.proofs.Common.{◌≡◌, ℕ, ◌+◌, ◌*◌, ◌<◌, ◌⊎◌, inl, inr, Bool, true, false, cond, ◌&&◌, true≢false, List, [], ◌∷◌, ◌++◌, length, drop, Some, None, Ok, Err, refl, sym, ap, subst, ◌∙◌, append_assoc, arith}
+use Rattle.std.specs.Prelude.{nat_le, ◌==◌, not}
 use Rattle.std.specs.Str.{encode_utf8_all}
+use Rattle.std.specs.List.{AllByRecursion}
+use Rattle.std.proofs.Math.Bool.{and-false}
 use Rattle.std.proofs.lemmas.Bool.{eqb-true, eq-eqb, and_parts}
+use Rattle.std.proofs.lemmas.Bool.Decides.{eqb_tells}
 use Rattle.std.proofs.lemmas.List.{length-append}
 use Rattle.std.proofs.lemmas.Option.{same_Some, none-some}
 use Rattle.serde_json_path.specs.declared.error.ParseErrorKind.TheVariants.{ExpectedEndingQuote, BadEscape, ControlCharacter}
 use Rattle.serde_json_path.specs.declared.error.Place.TheVariants as place
-use Rattle.serde_json_path.specs.Lexical.{begins, is_digit, hexadecimal_of, IsHex4, IsHighSurrogate, IsLowSurrogate, pair_of, escaped_by, is_plain, IsPiece, plain, quote_escape, letter_escape, hex_escape, pair_escape, ArePieces, IsQuote, IsString}
-use Rattle.serde_json_path.specs.Parsed.{Parsed, ◌>>=◌, refusal, many_at, many}
+use Rattle.serde_json_path.specs.Lexical.{begins, is_digit, hexadecimal_of, IsHex4, IsHighSurrogate, IsLowSurrogate, pair_of, escaped_by, is_plain, IsPiece, plain, quote_escape, letter_escape, hex_escape, pair_escape, IsQuote, IsString}
+use Rattle.serde_json_path.specs.Parsed.{Parsed, ◌>>=◌, refusal, many}
 use Rattle.serde_json_path.specs.Strings.{is_hexadecimal, hexadecimal_value, head, hexadecimal_at, hex4_at, is_high, is_low, low_at, unicode_at, is_letter_escape, letter_value, escape_at, is_control, piece_at, is_inside, string_at}
 use Rattle.serde_json_path.proofs.Many as m
 use Rattle.serde_json_path.proofs.Runs.{some_begun}
@@ -133,41 +136,34 @@ unicode_sound quote escape cs x e =
       ]
     ]
 
+-- the letters that escape, whatever the quote
+abbrev letters : List ℕ
+letters = 98 ∷ 102 ∷ 110 ∷ 114 ∷ 116 ∷ 47 ∷ 92 ∷ []
+
+-- a fact of each of these characters, and of each that is none of them
+of_each : (Fact : ℕ → Type 0) (ks : List ℕ) → AllByRecursion Fact ks → (c : ℕ) → (AllByRecursion (λ k. (c == k) ≡ false) ks → Fact c) → Fact c
+of_each Fact [] known c other = other tt
+of_each Fact (k ∷ ks) known c other = elim (eqb_tells c k) [
+  | inl e ↦ subst Fact (sym e.1) known.0
+  | inr e ↦ of_each Fact ks known.1 c (λ others. other (e.0, others))
+]
+
 -- a letter behind a backslash, but for the quote
 letter_is : (quote letter : ℕ) → is_letter_escape quote letter ≡ true → (letter == quote) ≡ false → escaped_by letter ≡ Some (letter_value letter)
-letter_is quote letter e q = by_b (letter == 98) refl
+letter_is quote letter =
+    of_each Escapes letters (λ e q. refl, (λ e q. refl, (λ e q. refl, (λ e q. refl, (λ e q. refl, (λ e q. refl, (λ e q. refl, tt))))))) letter other
   where
-    by_slash : (b : Bool) → (letter == 92) ≡ b → (letter == 98) ≡ false → (letter == 102) ≡ false → (letter == 110) ≡ false → (letter == 114) ≡ false → (letter == 116) ≡ false → (letter == 47) ≡ false → escaped_by letter ≡ Some (letter_value letter)
-    by_slash true h b f n r t s = rw (b, f, n, r, t, s, h) (ap (λ (c : ℕ). Some c) (sym (eqb-true letter 92 h)))
-    by_slash false h b f n r t s = let none : is_letter_escape quote letter ≡ false = rw (b, f, n, r, t, s, h, q) refl in absurd (true≢false (sym e ∙ none))
+    Escapes : ℕ → Type 0
+    Escapes c = is_letter_escape quote c ≡ true → (c == quote) ≡ false → escaped_by c ≡ Some (letter_value c)
 
-    by_solidus : (b : Bool) → (letter == 47) ≡ b → (letter == 98) ≡ false → (letter == 102) ≡ false → (letter == 110) ≡ false → (letter == 114) ≡ false → (letter == 116) ≡ false → escaped_by letter ≡ Some (letter_value letter)
-    by_solidus true h b f n r t = rw (b, f, n, r, t, h) (ap (λ (c : ℕ). Some c) (sym (eqb-true letter 47 h)))
-    by_solidus false h b f n r t = by_slash (letter == 92) refl b f n r t h
+    other : AllByRecursion (λ k. (letter == k) ≡ false) letters → Escapes letter
+    other (b, (f, (n, (r, (t, (s, (h, end))))))) e q =
+        let none : is_letter_escape quote letter ≡ false = rw (b, f, n, r, t, s, h, q) refl in absurd (true≢false (sym e ∙ none))
 
-    by_t : (b : Bool) → (letter == 116) ≡ b → (letter == 98) ≡ false → (letter == 102) ≡ false → (letter == 110) ≡ false → (letter == 114) ≡ false → escaped_by letter ≡ Some (letter_value letter)
-    by_t true h b f n r = rw (b, f, n, r, h) refl
-    by_t false h b f n r = by_solidus (letter == 47) refl b f n r h
-
-    by_r : (b : Bool) → (letter == 114) ≡ b → (letter == 98) ≡ false → (letter == 102) ≡ false → (letter == 110) ≡ false → escaped_by letter ≡ Some (letter_value letter)
-    by_r true h b f n = rw (b, f, n, h) refl
-    by_r false h b f n = by_t (letter == 116) refl b f n h
-
-    by_n : (b : Bool) → (letter == 110) ≡ b → (letter == 98) ≡ false → (letter == 102) ≡ false → escaped_by letter ≡ Some (letter_value letter)
-    by_n true h b f = rw (b, f, h) refl
-    by_n false h b f = by_r (letter == 114) refl b f h
-
-    by_f : (b : Bool) → (letter == 102) ≡ b → (letter == 98) ≡ false → escaped_by letter ≡ Some (letter_value letter)
-    by_f true h b = rw (b, h) refl
-    by_f false h b = by_n (letter == 110) refl b h
-
-    by_b : (b : Bool) → (letter == 98) ≡ b → escaped_by letter ≡ Some (letter_value letter)
-    by_b true h = rw h refl
-    by_b false h = by_f (letter == 102) refl h
-
-quote_itself : (quote : ℕ) → IsQuote quote → letter_value quote ≡ quote
-quote_itself quote (inl e) = subst (λ q. letter_value q ≡ q) (sym e) refl
-quote_itself quote (inr e) = subst (λ q. letter_value q ≡ q) (sym e) refl
+-- a fact of both quotes
+of_quote : (Fact : ℕ → Type 0) → Fact 39 → Fact 34 → (quote : ℕ) → IsQuote quote → Fact quote
+of_quote Fact single double quote (inl e) = subst Fact (sym e) single
+of_quote Fact single double quote (inr e) = subst Fact (sym e) double
 
 letter_sound : (quote letter : ℕ) → IsQuote quote → is_letter_escape quote letter ≡ true → IsPiece quote (92 ∷ letter ∷ []) (letter_value letter)
 letter_sound quote letter is e = by_quote (letter == quote) refl
@@ -175,7 +171,7 @@ letter_sound quote letter is e = by_quote (letter == quote) refl
     by_quote : (b : Bool) → (letter == quote) ≡ b → IsPiece quote (92 ∷ letter ∷ []) (letter_value letter)
     by_quote true q =
         let same = eqb-true letter quote q in
-        subst (λ (c : ℕ). IsPiece quote (92 ∷ c ∷ []) (letter_value c)) (sym same) (subst (IsPiece quote (92 ∷ quote ∷ [])) (sym (quote_itself quote is)) quote_escape)
+        subst (λ (c : ℕ). IsPiece quote (92 ∷ c ∷ []) (letter_value c)) (sym same) (subst (IsPiece quote (92 ∷ quote ∷ [])) (sym (of_quote (λ c. letter_value c ≡ c) refl refl quote is)) quote_escape)
     by_quote false q = letter_escape letter (letter_value letter) (letter_is quote letter e q)
 
 first_is : (p : ℕ → Bool) (cs : List ℕ) → begins p cs ≡ true → (cs ≡ head cs ∷ drop 1 cs) × (p (head cs) ≡ true)
@@ -277,17 +273,15 @@ high_again n h = let least : nat_le 0xd800 n ≡ true = grind (arith, h.0) in le
 low_again : (n : ℕ) → IsLowSurrogate n → is_low n ≡ true
 low_again n h = let least : nat_le 0xdc00 n ≡ true = grind (arith, h.0) in let greatest : nat_le n 0xdfff ≡ true = grind (arith, h.1) in rw (least, greatest) refl
 
-and_not : (a b : Bool) → b ≡ false → (a && b) ≡ false
-and_not true b e = e
-and_not false b e = refl
-
 no_surrogate : (n : ℕ) → (n < 0xd800) ⊎ (0xdfff < n) → (is_high n ≡ false) × (is_low n ≡ false)
 no_surrogate n (inl below) =
     let high : nat_le 0xd800 n ≡ false = grind (arith, below) in
     let low : nat_le 0xdc00 n ≡ false = grind (arith, below) in
     (rw high refl, rw low refl)
 no_surrogate n (inr above) =
-    (and_not (nat_le 0xd800 n) (nat_le n 0xdbff) (grind (arith, above)), and_not (nat_le 0xdc00 n) (nat_le n 0xdfff) (grind (arith, above)))
+    let high : nat_le n 0xdbff ≡ false = grind (arith, above) in
+    let low : nat_le n 0xdfff ≡ false = grind (arith, above) in
+    (rw high (and-false (nat_le 0xd800 n)), rw low (and-false (nat_le 0xdc00 n)))
 
 plain_parts : (a b d : Bool) → (a && not b && not d) ≡ true → (a ≡ true) × (b ≡ false) × (d ≡ false)
 plain_parts true false false e = (refl, refl, refl)
@@ -298,47 +292,20 @@ plain_parts false b d e = absurd cc
 -- a letter behind a backslash, whatever the quote
 letter_again : (quote letter c : ℕ) (rest : List ℕ) → escaped_by letter ≡ Some c → piece_at quote (92 ∷ letter ∷ rest) ≡ Ok (c, rest)
 unfolding piece_at escape_at
-letter_again quote letter c rest e = by_b (letter == 98) refl
+letter_again quote letter c rest =
+    of_each IsRead letters (known 8, (known 12, (known 10, (known 13, (known 9, (known 47, (known 92, tt))))))) letter other
   where
-    Asked : Type 0
-    Asked = piece_at quote (92 ∷ letter ∷ rest) ≡ Ok (c, rest)
+    IsRead : ℕ → Type 0
+    IsRead l = escaped_by l ≡ Some c → piece_at quote (92 ∷ l ∷ rest) ≡ Ok (c, rest)
 
-    known : (k v : ℕ) → letter ≡ k → escaped_by k ≡ Some v → piece_at quote (92 ∷ k ∷ rest) ≡ Ok (v, rest) → Asked
-    known k v same is read =
-        ap (λ (l : ℕ). piece_at quote (92 ∷ l ∷ rest)) same ∙ read ∙ ap (λ (w : ℕ). Ok (w, rest)) (same_Some v c (sym is ∙ ap escaped_by (sym same) ∙ e))
+    read : ℕ → Parsed ℕ
+    read value = Ok (value, rest)
 
-    by_slash : (b : Bool) → (letter == 92) ≡ b → (letter == 98) ≡ false → (letter == 102) ≡ false → (letter == 110) ≡ false → (letter == 114) ≡ false → (letter == 116) ≡ false → (letter == 47) ≡ false → Asked
-    by_slash true h b f n r t s = known 92 92 (eqb-true letter 92 h) refl refl
-    by_slash false h b f n r t s = let none : escaped_by letter ≡ None = rw (b, f, n, r, t, s, h) refl in absurd (none-some c (sym none ∙ e))
+    known : (value : ℕ) → Some value ≡ Some c → read value ≡ read c
+    known value e = ap read (same_Some value c e)
 
-    by_solidus : (b : Bool) → (letter == 47) ≡ b → (letter == 98) ≡ false → (letter == 102) ≡ false → (letter == 110) ≡ false → (letter == 114) ≡ false → (letter == 116) ≡ false → Asked
-    by_solidus true h b f n r t = known 47 47 (eqb-true letter 47 h) refl refl
-    by_solidus false h b f n r t = by_slash (letter == 92) refl b f n r t h
-
-    by_t : (b : Bool) → (letter == 116) ≡ b → (letter == 98) ≡ false → (letter == 102) ≡ false → (letter == 110) ≡ false → (letter == 114) ≡ false → Asked
-    by_t true h b f n r = known 116 9 (eqb-true letter 116 h) refl refl
-    by_t false h b f n r = by_solidus (letter == 47) refl b f n r h
-
-    by_r : (b : Bool) → (letter == 114) ≡ b → (letter == 98) ≡ false → (letter == 102) ≡ false → (letter == 110) ≡ false → Asked
-    by_r true h b f n = known 114 13 (eqb-true letter 114 h) refl refl
-    by_r false h b f n = by_t (letter == 116) refl b f n h
-
-    by_n : (b : Bool) → (letter == 110) ≡ b → (letter == 98) ≡ false → (letter == 102) ≡ false → Asked
-    by_n true h b f = known 110 10 (eqb-true letter 110 h) refl refl
-    by_n false h b f = by_r (letter == 114) refl b f h
-
-    by_f : (b : Bool) → (letter == 102) ≡ b → (letter == 98) ≡ false → Asked
-    by_f true h b = known 102 12 (eqb-true letter 102 h) refl refl
-    by_f false h b = by_n (letter == 110) refl b h
-
-    by_b : (b : Bool) → (letter == 98) ≡ b → Asked
-    by_b true h = known 98 8 (eqb-true letter 98 h) refl refl
-    by_b false h = by_f (letter == 102) refl h
-
-quote_again : (quote : ℕ) (rest : List ℕ) → IsQuote quote → piece_at quote (92 ∷ quote ∷ rest) ≡ Ok (quote, rest)
-unfolding piece_at escape_at
-quote_again quote rest (inl e) = subst (λ (q : ℕ). piece_at q (92 ∷ q ∷ rest) ≡ Ok (q, rest)) (sym e) refl
-quote_again quote rest (inr e) = subst (λ (q : ℕ). piece_at q (92 ∷ q ∷ rest) ≡ Ok (q, rest)) (sym e) refl
+    other : AllByRecursion (λ k. (letter == k) ≡ false) letters → IsRead letter
+    other (b, (f, (n, (r, (t, (s, (h, end))))))) e = let none : escaped_by letter ≡ None = rw (b, f, n, r, t, s, h) refl in absurd (none-some c (sym none ∙ e))
 
 hex_again : (quote : ℕ) (digits : List ℕ) (c : ℕ) (rest : List ℕ) → IsHex4 digits c → (c < 0xd800) ⊎ (0xdfff < c) → piece_at quote (92 ∷ 117 ∷ (digits ++ rest)) ≡ Ok (c, rest)
 unfolding piece_at escape_at unicode_at
@@ -354,20 +321,19 @@ pair_again quote a b high low rest first second h l =
     rw (hex4_again whole a high (92 ∷ 117 ∷ (b ++ rest)) first, high_again high h, hex4_again whole b low rest second, low_again low l) refl
 
 piece_again : (quote : ℕ) → IsQuote quote → (t : List ℕ) (c : ℕ) (rest : List ℕ) → IsPiece quote t c → piece_at quote (t ++ rest) ≡ Ok (c, rest)
-unfolding piece_at
+unfolding piece_at escape_at
 piece_again quote is t c rest (plain d e) =
     let parts = plain_parts (nat_le 32 d) (d == 92) (d == quote) e in
     let control : is_control d ≡ false = grind (arith, parts.0) in
     rw (parts.1, control) refl
-piece_again quote is t c rest quote_escape = quote_again quote rest is
+piece_again quote is t c rest quote_escape = of_quote (λ q. piece_at q (92 ∷ q ∷ rest) ≡ Ok (q, rest)) refl refl quote is
 piece_again quote is t c rest (letter_escape letter d e) = letter_again quote letter d rest e
 piece_again quote is t c rest (hex_escape digits d h side) = hex_again quote digits d rest h side
 piece_again quote is t c rest (pair_escape a b high low first second h l) =
     ap (λ (x : List ℕ). piece_at quote (92 ∷ 117 ∷ x)) (append_assoc a (92 ∷ 117 ∷ b) rest) ∙ pair_again quote a b high low rest first second h l
 
 slash_inside : (quote : ℕ) → IsQuote quote → is_inside quote 92 ≡ true
-slash_inside quote (inl e) = subst (λ (q : ℕ). is_inside q 92 ≡ true) (sym e) refl
-slash_inside quote (inr e) = subst (λ (q : ℕ). is_inside q 92 ≡ true) (sym e) refl
+slash_inside = of_quote (λ quote. is_inside quote 92 ≡ true) refl refl
 
 piece_begins : (quote : ℕ) → IsQuote quote → (t : List ℕ) (c : ℕ) (rest : List ℕ) → IsPiece quote t c → begins (is_inside quote) (t ++ rest) ≡ true
 piece_begins quote is t c rest (plain d e) = let parts = plain_parts (nat_le 32 d) (d == 92) (d == quote) e in rw parts.2 refl

@@ -85,11 +85,7 @@ impl JsonPath {
     /// let path = JsonPath::parse(alloc, "$..book[-1:].title")?;
     /// let last = path.query(alloc, &document)?.exactly_one();
     /// ```
-    pub fn query<'b>(
-        &self,
-        alloc: Global,
-        value: &'b Value,
-    ) -> Result<NodeList<'b>, QueryError>
+    pub fn query<'b>(&self, alloc: Global, value: &'b Value) -> Result<NodeList<'b>, QueryError>
         ensures selects { IfOk result (λ list. (F : FunctionSet)
             → (nodes : List Located) × IsResult F (view value.now) (path_tree self.now) (view value.now) nodes × (node_values list ≡ map (λ n. n.value) nodes)) }
         ensures refused { IfErr result (λ e. e ≡ Memory) }

@@ -16,8 +16,8 @@ returns-clause-selects c =
     let open_forms = are_open (segments_of tree) c.args.self.now.open_forms in
     IfOk-weaker c.evaluate.result _ _
     (λ list selects F.
-        let found = selects (each_of_query (IsClearCall builtin_functions document) tree open_forms) in
-        (found.0, same_result builtin_functions F document tree open_forms document found.0 found.1, found.2))
+    let found = selects (each_of_query (IsClearCall builtin_functions document) tree open_forms) in
+    (found.0, same_result builtin_functions F document tree open_forms document found.0 found.1, found.2))
     c.evaluate.ensures.selects
 
 pub returns-clause-refused : goal.returns-clause-refused
