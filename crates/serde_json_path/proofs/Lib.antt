@@ -8,6 +8,7 @@ pub mod Blanks
 pub mod SelectorTexts
 pub mod BracketTexts
 pub mod SegmentTexts
+pub mod SegmentSteps
 pub mod PathTexts
 pub mod SelectorPlaces
 pub mod IntTexts

@@ -2,9 +2,10 @@
 use Rattle.std.proofs.Common.{◌≡◌, List, [], ◌∷◌, ◌++◌, refl, sym, ap, subst}
 use Rattle.serde_json_path_core.specs.Tree.{SegmentKind, Segment, Selector}
 use Rattle.serde_json_path_core.specs.Piece.{Piece, a_segment, a_selector}
-use Rattle.serde_json_path_core.specs.Parts.{IsPart, ArePartsFor, ArePartsOf, AreSelectorsOf, segment_pieces, selector_pieces}
+use Rattle.serde_json_path_core.specs.Parts.{IsPart, ArePartsFor, ArePartsOf, AreSelectorsOf, KeepsParts, segment_pieces, selector_pieces}
 use Rattle.serde_json_path_core.specs.declared.syntax.node.Part.{Part}
 use Rattle.serde_json_path_core.specs.declared.syntax.builder.SyntaxBuilder.{SyntaxBuilder}
+use Rattle.serde_json_path_core.proofs.NamedParts.{parts_for_kept}
 use Rattle.serde_json_path.specs.Parsing.{selector_list, segment_list}
 
 one_more : (builder : SyntaxBuilder) (parts : List Part) (pieces : List Piece) (part : Part) (piece : Piece) → ArePartsFor builder parts pieces → IsPart builder part piece → ArePartsFor builder (parts ++ part ∷ []) (pieces ++ piece ∷ [])
@@ -30,3 +31,8 @@ pub selector_pushed : (builder : SyntaxBuilder) (parts : List Part) (ss : List S
 selector_pushed builder [] ss part s h p = absurd h
 selector_pushed builder (q ∷ parts) ss part s h p =
     subst (ArePartsFor builder ((q ∷ parts) ++ part ∷ [])) (selector_behind ss s) (one_more builder (q ∷ parts) (selector_pieces (selector_list ss)) part (a_selector s) h p)
+
+-- parts stay what they are while the builder grows
+pub selectors_kept : (old new : SyntaxBuilder) (parts : List Part) (ss : List Selector) → KeepsParts old new → AreSelectorsOf old parts (selector_list ss) → AreSelectorsOf new parts (selector_list ss)
+selectors_kept old new [] ss keeps h = absurd h
+selectors_kept old new (part ∷ parts) ss keeps h = parts_for_kept old new keeps (part ∷ parts) (selector_pieces (selector_list ss)) h
