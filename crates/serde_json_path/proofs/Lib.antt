@@ -5,6 +5,7 @@ pub mod Runs
 pub mod Steps
 pub mod Stands
 pub mod IntTexts
+pub mod SliceTexts
 pub mod StringTexts
 pub mod StringLoops
 pub mod StringPlaces

@@ -60,6 +60,11 @@ behind_all p [] [] h e = refl
 behind_all p [] (c ∷ rest) h e = rw e refl
 behind_all p (c ∷ t) rest h e = rw h.0 (behind_all p t rest h.1 e)
 
+-- what is behind a text that passes, and more
+pub behind_past : (p : ℕ → Bool) (t rest : List ℕ) → AllByRecursion (λ c. p c ≡ true) t → behind p (t ++ rest) ≡ behind p rest
+behind_past p [] rest h = refl
+behind_past p (c ∷ t) rest h = rw h.0 (behind_past p t rest h.1)
+
 pub front_more : (p : ℕ → Bool) (cs ds : List ℕ) (c : ℕ) → cs ≡ c ∷ ds → begins p cs ≡ true → front p cs ≡ c ∷ front p ds
 front_more p cs ds c e t = let k : p c ≡ true = sym (ap (begins p) e) ∙ t in ap (front p) e ∙ rw k refl
 
