@@ -6,6 +6,7 @@ pub mod Steps
 pub mod Stands
 pub mod IntTexts
 pub mod SliceTexts
+pub mod SlicePlaces
 pub mod StringTexts
 pub mod StringLoops
 pub mod StringPlaces

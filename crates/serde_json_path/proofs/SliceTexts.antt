@@ -19,7 +19,7 @@ use Rattle.serde_json_path.proofs.Steps.{Read, Spaced, bind_ok, chosen, done, ok
 longer : (a b c rest : List ℕ) → b ≡ c ++ rest → a ++ b ≡ (a ++ c) ++ rest
 longer a b c rest e = ap (λ (l : List ℕ). a ++ l) e ∙ sym (append_assoc a c rest)
 
-bound_sound : (cs : List ℕ) (x : Option ℤ × List ℕ) → bound_at cs ≡ Ok x → Read (λ t i. IsBound i t) cs x
+pub bound_sound : (cs : List ℕ) (x : Option ℤ × List ℕ) → bound_at cs ≡ Ok x → Read (λ t i. IsBound i t) cs x
 unfolding bound_at
 bound_sound cs x e = elim (chosen (begins begins_int cs) (int_at cs >>= λ i. Ok (Some i.0, past_blanks i.1)) (done (None, cs)) (Ok x) e) [
   | inl a ↦
