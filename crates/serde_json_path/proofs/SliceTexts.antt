@@ -1,16 +1,15 @@
 -- What is read as an index or a slice is one, with the blanks behind it, and each index and each slice is read.
-use Rattle.std.proofs.Common.{◌≡◌, ℕ, ◌⊎◌, inl, inr, Bool, true, false, cond, true≢false, List, [], ◌∷◌, ◌++◌, drop, Option, Some, None, Ok, Err, refl, sym, ap, subst, ◌∙◌, append_assoc}
+use Rattle.std.proofs.Common.{◌≡◌, ℕ, inl, inr, Bool, true, false, true≢false, List, [], ◌∷◌, ◌++◌, drop, Option, Some, None, Ok, refl, sym, ap, subst, ◌∙◌, append_assoc}
 use Rattle.std.specs.Prelude.{ℤ, ◌==◌, ◌||◌}
-use Rattle.std.proofs.lemmas.Bool.{eqb-true}
 use Rattle.std.proofs.lemmas.List.{append-nil}
 use Rattle.serde_json_path_core.specs.Tree.{Slice, Selector, slice, index}
 use Rattle.serde_json_path.specs.Grammar.{IsBound, IsSliceStep, IsSlice, ReadsSelector}
 use Rattle.serde_json_path.specs.Lexical.{begins, is_blank, is_digit, IsBlank, IsInt}
 use Rattle.serde_json_path.specs.Open.{IsOpenSelector}
-use Rattle.serde_json_path.specs.Parsed.{Parsed, ◌>>=◌, front, past_blanks}
+use Rattle.serde_json_path.specs.Parsed.{◌>>=◌, front, past_blanks}
 use Rattle.serde_json_path.specs.Parsing.{int_at, begins_int, bound_at, step_at, slice_at, position_at, selector_at}
 use Rattle.serde_json_path.proofs.IntTexts.{int_sound, int_again, int_begins, int_not, int_no_blank}
-use Rattle.serde_json_path.proofs.Runs.{whole, front_each, behind_past, behind_end}
+use Rattle.serde_json_path.proofs.Runs.{differs, no_blank, whole, front_each, behind_past, behind_end}
 use Rattle.serde_json_path.proofs.Steps.{Read, Spaced, bind_ok, chosen, done, ok_is, after_one}
 
 -- ---- what is read is in the grammar
@@ -89,10 +88,11 @@ slice_sound start a cs x first e =
 pub colon_sound : (cs : List ℕ) (x : Slice × List ℕ) → slice_at None cs ≡ Ok x → Read (Spaced (λ t s. IsSlice s t)) (58 ∷ cs) x
 colon_sound cs x e = slice_sound None [] cs x refl e
 
-abbrev IsPosition : List ℕ → Selector → Type 0
-IsPosition t sel = IsOpenSelector sel × ReadsSelector sel t
+-- the text of a selector of the open forms
+abbrev pub IsOpenText : List ℕ → Selector → Type 0
+IsOpenText t sel = IsOpenSelector sel × ReadsSelector sel t
 
-pub position_sound : (cs : List ℕ) (x : Selector × List ℕ) → position_at cs ≡ Ok x → Read (Spaced (λ t sel. IsOpenSelector sel × ReadsSelector sel t)) cs x
+pub position_sound : (cs : List ℕ) (x : Selector × List ℕ) → position_at cs ≡ Ok x → Read (Spaced IsOpenText) cs x
 unfolding position_at
 position_sound cs x e =
     let i = bind_ok (int_at cs) _ x e in
@@ -104,12 +104,12 @@ position_sound cs x e =
       | inl a ↦
           let s = bind_ok (slice_at (Some i.0.0) (drop 1 rest)) (λ s. Ok (slice s.0, s.1)) x a.1 in
           let t = slice_sound (Some i.0.0) (r.text ++ blanks) (drop 1 rest) s.0 (r.text, blanks, r.is_so, front_each is_blank i.0.1, refl) s.1 in
-          subst (Read (Spaced IsPosition) cs) (ok_is (slice s.0.0, s.0.1) x s.2) (record {
+          subst (Read (Spaced IsOpenText) cs) (ok_is (slice s.0.0, s.0.1) x s.2) (record {
             text = t.text;
             is_so = (t.is_so.0, t.is_so.1, (tt, t.is_so.2), t.is_so.3, t.is_so.4);
             split = split ∙ ap (λ (l : List ℕ). (r.text ++ blanks) ++ l) (after_one 58 rest a.0) ∙ t.split;
           })
-      | inr a ↦ subst (Read (Spaced IsPosition) cs) (ok_is (index i.0.0, rest) x a.1) (record {
+      | inr a ↦ subst (Read (Spaced IsOpenText) cs) (ok_is (index i.0.0, rest) x a.1) (record {
         text = r.text ++ blanks;
         is_so = (r.text, blanks, (tt, r.is_so), front_each is_blank i.0.1, refl);
         split = split;
@@ -129,15 +129,11 @@ Ends rest = begins begins_int (past_blanks rest) ≡ false
 -- what is false of `,` and of `]` does not stand behind the blanks
 closes_not : (p : ℕ → Bool) (cs : List ℕ) → p 44 ≡ false → p 93 ≡ false → begins (λ c. c == 44 || c == 93) cs ≡ true → begins p cs ≡ false
 closes_not p [] comma bracket e = absurd cc
-closes_not p (c ∷ cs) comma bracket e = by_comma (c == 44) refl e
+closes_not p (c ∷ cs) comma bracket e = by_test (p c) refl
   where
-    by_bracket : (b : Bool) → (c == 93) ≡ b → b ≡ true → p c ≡ false
-    by_bracket true h t = ap p (eqb-true c 93 h) ∙ bracket
-    by_bracket false h t = absurd cc
-
-    by_comma : (b : Bool) → (c == 44) ≡ b → (b || c == 93) ≡ true → p c ≡ false
-    by_comma true h t = ap p (eqb-true c 44 h) ∙ comma
-    by_comma false h t = by_bracket (c == 93) refl t
+    by_test : (b : Bool) → p c ≡ b → p c ≡ false
+    by_test true h = let neither : (c == 44 || c == 93) ≡ false = rw (differs p 44 c comma h, differs p 93 c bracket h) refl in absurd (true≢false (sym e ∙ neither))
+    by_test false h = h
 
 closed_ends : (rest : List ℕ) → Closes rest → Ends rest
 closed_ends rest h = closes_not begins_int (past_blanks rest) refl refl h
@@ -147,17 +143,9 @@ ends_digits : (rest : List ℕ) → Ends rest → begins is_digit rest ≡ false
 ends_digits [] h = refl
 ends_digits (c ∷ cs) h = by_digit (is_digit c) refl
   where
-    other : (k : ℕ) → is_digit k ≡ false → is_digit c ≡ true → (c == k) ≡ false
-    other k no_digit d = by_test (c == k) refl
-      where
-        by_test : (b : Bool) → (c == k) ≡ b → (c == k) ≡ false
-        by_test true e = absurd (true≢false (sym d ∙ ap is_digit (eqb-true c k e) ∙ no_digit))
-        by_test false e = e
-
     by_digit : (b : Bool) → is_digit c ≡ b → is_digit c ≡ false
     by_digit true d =
-        let no_blank : is_blank c ≡ false = rw (other 32 refl d, other 9 refl d, other 10 refl d, other 13 refl d) refl in
-        let begun : begins begins_int (past_blanks (c ∷ cs)) ≡ true = rw (no_blank, other 45 refl d, d) refl in
+        let begun : begins begins_int (past_blanks (c ∷ cs)) ≡ true = rw (no_blank is_digit c refl refl refl refl d, differs is_digit 45 c refl d, d) refl in
         absurd (true≢false (sym begun ∙ h))
     by_digit false d = d
 
