@@ -225,3 +225,14 @@ slice_again t s rest (a, k, b, c, first, blank, second, third, e) closes = by_st
         let tail = 58 ∷ (k ++ (b ++ (c ++ rest))) in
         let begun : t ++ rest ≡ n ++ (j ++ tail) = here ∙ ap (λ (l : List ℕ). l ++ tail) text ∙ append_assoc n j tail in
         ap selector_at begun ∙ at_position n i (j ++ tail) is ∙ begun_again n j i (k ++ (b ++ (c ++ rest))) s (past_blanks rest) is gap (parts (Some i) same)
+
+-- no blank begins a slice
+pub slice_no_blank : (t : List ℕ) (s : Slice) (rest : List ℕ) → IsSlice s t → begins is_blank (t ++ rest) ≡ false
+slice_no_blank t s rest (a, k, b, c, first, blank, second, third, e) = by_start s.start first
+  where
+    by_start : (start : Option ℤ) → IsBound start a → begins is_blank (t ++ rest) ≡ false
+    by_start None none = ap (λ (l : List ℕ). begins is_blank (l ++ rest)) (e ∙ ap (λ (l : List ℕ). l ++ (58 ∷ (k ++ (b ++ c)))) none)
+    by_start (Some i) (n, j, is, gap, text) =
+        let tail = 58 ∷ (k ++ (b ++ c)) in
+        let begun : t ≡ n ++ (j ++ tail) = e ∙ ap (λ (l : List ℕ). l ++ tail) text ∙ append_assoc n j tail in
+        ap (λ (l : List ℕ). begins is_blank (l ++ rest)) begun ∙ ap (begins is_blank) (append_assoc n (j ++ tail) rest) ∙ int_no_blank n i ((j ++ tail) ++ rest) is
