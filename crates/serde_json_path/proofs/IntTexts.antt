@@ -1,16 +1,16 @@
 -- What is read as an integer is one, each integer is read, and where a refusal of one stands.
-use Rattle.std.proofs.Common.{◌≡◌, ℕ, zero, suc, ◌+◌, ◌-◌, ◌*◌, ◌≤◌, inl, inr, Bool, true, false, cond, true≢false, List, [], ◌∷◌, ◌++◌, drop, Ok, Err, refl, sym, ap, subst, ◌∙◌, arith}
-use Rattle.std.specs.Prelude.{nat_le, ◌==◌, ◌&&◌, ◌||◌, ℤ, pos, negsuc}
-use Rattle.std.proofs.lemmas.Bool.{eqb-true, and_parts}
+use Rattle.std.proofs.Common.{◌≡◌, ℕ, zero, suc, ◌+◌, ◌-◌, ◌*◌, ◌≤◌, inl, inr, Bool, true, false, cond, List, [], ◌∷◌, ◌++◌, drop, Ok, Err, refl, sym, ap, subst, ◌∙◌, arith}
+use Rattle.std.specs.Prelude.{nat_le, ◌==◌, ℤ, pos, negsuc}
+use Rattle.std.proofs.lemmas.Bool.{and_parts}
 use Rattle.std.proofs.lemmas.Int.{ints}
-use Rattle.serde_json_path_core.specs.Tree.{largest, IsInteger}
+use Rattle.serde_json_path_core.specs.Tree.{largest}
 use Rattle.serde_json_path.specs.declared.error.ParseErrorKind.TheVariants.{ExpectedSelector, IntegerOutOfRange}
 use Rattle.serde_json_path.specs.declared.error.Place.TheVariants as place
 use Rattle.serde_json_path.specs.declared.error.Refusal.{Refusal}
 use Rattle.serde_json_path.specs.Lexical.{begins, is_blank, is_digit, value_from, IsDecimal, IsInt}
 use Rattle.serde_json_path.specs.Parsed.{Parsed, ◌>>=◌, refusal, front, behind}
 use Rattle.serde_json_path.specs.Parsing.{is_first_digit, digits_at, negative, int_at, begins_int}
-use Rattle.serde_json_path.proofs.Runs.{whole, front_each, front_begins, front_begins_not, front_all, behind_all, value_least}
+use Rattle.serde_json_path.proofs.Runs.{begins_where, differs, no_blank, whole, front_each, front_begins, front_begins_not, front_all, behind_all, value_least}
 use Rattle.serde_json_path.proofs.Steps.{Read, bind_ok, chosen, guard, done, ok_is, after_one}
 use Rattle.serde_json_path.proofs.Stands.{Stands, bind_stands, guard_stands, no_refusal}
 
@@ -22,18 +22,15 @@ first_is_digit c e =
     let from : nat_le 48 c ≡ true = grind (arith, h.0) in
     rw (from, h.1) refl
 
-first_not_zero : (c : ℕ) → is_first_digit c ≡ true → (c == 48) ≡ false
-first_not_zero c e = let h = and_parts (nat_le 49 c) (nat_le c 57) e in grind (arith, h.0)
-
 digit_is_first : (c : ℕ) → is_digit c ≡ true → (c == 48) ≡ false → is_first_digit c ≡ true
 digit_is_first c e z =
     let h = and_parts (nat_le 48 c) (nat_le c 57) e in
     let from : nat_le 49 c ≡ true = grind (arith, h.0, z) in
     rw (from, h.1) refl
 
-begins_where : (p q : ℕ → Bool) (b : Bool) (cs : List ℕ) → ((c : ℕ) → p c ≡ true → q c ≡ b) → begins p cs ≡ true → begins q cs ≡ b
-begins_where p q b [] h e = absurd cc
-begins_where p q b (c ∷ cs) h e = h c e
+-- a list that begins with a first digit begins with no other character
+first_not : (k : ℕ) (cs : List ℕ) → is_first_digit k ≡ false → begins is_first_digit cs ≡ true → begins (λ c. c == k) cs ≡ false
+first_not k cs never e = begins_where is_first_digit (λ c. c == k) false cs (λ c f. differs is_first_digit k c never f) e
 
 some_value : (cs : List ℕ) → begins is_first_digit cs ≡ true → 1 ≤ value_from 0 (front is_digit cs)
 some_value [] e = absurd cc
@@ -58,7 +55,7 @@ digits_sound start cs x first e =
         is_so = record {
           first = front_begins is_digit is_digit cs (λ c d. d) (begins_where is_first_digit is_digit true cs first_is_digit first);
           each = front_each is_digit cs;
-          plain = inr (front_begins_not is_digit (λ c. c == 48) cs (begins_where is_first_digit (λ c. c == 48) false cs first_not_zero first));
+          plain = inr (front_begins_not is_digit (λ c. c == 48) cs (first_not 48 cs refl first));
           value_of = refl;
         };
         split = whole is_digit cs;
@@ -131,9 +128,7 @@ positive_again t n rest d most e = elim d.plain [
       ap (λ (l : List ℕ). int_at (l ++ rest)) z ∙ ap (λ (k : ℕ). Ok (pos k, rest)) (sym none)
   | inr z ↦
       let first = first_digit t rest d.first z in
-      let no_sign : begins (λ c. c == 45) (t ++ rest) ≡ false = begins_where is_first_digit (λ c. c == 45) false (t ++ rest) (λ c f. let h = and_parts (nat_le 49 c) (nat_le c 57) f in grind (arith, h.0)) first in
-      let no_zero : begins (λ c. c == 48) (t ++ rest) ≡ false = begins_where is_first_digit (λ c. c == 48) false (t ++ rest) first_not_zero first in
-      rw (no_sign, no_zero, first, digits_again (t ++ rest) t n rest d most e) refl
+      rw (first_not 45 (t ++ rest) refl first, first_not 48 (t ++ rest) refl first, first, digits_again (t ++ rest) t n rest d most e) refl
 ]
 
 negative_again : (t : List ℕ) (n : ℕ) (rest : List ℕ) → IsDecimal t (suc n) → suc n ≤ largest → begins is_digit rest ≡ false → int_at (45 ∷ (t ++ rest)) ≡ Ok (negsuc n, rest)
@@ -163,20 +158,11 @@ int_first p b t (negsuc n) rest h is = ap (λ (l : List ℕ). begins p (l ++ res
 pub int_begins : (t : List ℕ) (i : ℤ) (rest : List ℕ) → IsInt t i → begins begins_int (t ++ rest) ≡ true
 int_begins t i rest is = int_first begins_int true t i rest (λ c e. e) is
 
--- a character that begins no integer differs from those that do
-other_first : (k c : ℕ) → begins_int k ≡ false → begins_int c ≡ true → (c == k) ≡ false
-other_first k c never is = by_test (c == k) refl
-  where
-    by_test : (b : Bool) → (c == k) ≡ b → (c == k) ≡ false
-    by_test true e = absurd (true≢false (sym is ∙ ap begins_int (eqb-true c k e) ∙ never))
-    by_test false e = e
-
 pub int_not : (k : ℕ) (t : List ℕ) (i : ℤ) (rest : List ℕ) → begins_int k ≡ false → IsInt t i → begins (λ c. c == k) (t ++ rest) ≡ false
-int_not k t i rest never is = int_first (λ c. c == k) false t i rest (λ c e. other_first k c never e) is
+int_not k t i rest never is = int_first (λ c. c == k) false t i rest (λ c e. differs begins_int k c never e) is
 
 pub int_no_blank : (t : List ℕ) (i : ℤ) (rest : List ℕ) → IsInt t i → begins is_blank (t ++ rest) ≡ false
-int_no_blank t i rest is =
-    int_first is_blank false t i rest (λ c e. rw (other_first 32 c refl e, other_first 9 c refl e, other_first 10 c refl e, other_first 13 c refl e) refl) is
+int_no_blank t i rest is = int_first is_blank false t i rest (λ c e. no_blank begins_int c refl refl refl refl e) is
 
 -- ---- where a refusal stands
 

@@ -12,6 +12,8 @@ pub mod SegmentSteps
 pub mod PathTexts
 pub mod SelectorPlaces
 pub mod IntTexts
+pub mod SliceTexts
+pub mod SlicePlaces
 pub mod StringTexts
 pub mod StringLoops
 pub mod StringPlaces

@@ -1,10 +1,10 @@
--- The front of a list whose elements pass a test, and what is behind it; and the value of digits, one by one.
-use Rattle.std.proofs.Common.{◌≡◌, ℕ, ◌+◌, ◌-◌, ◌*◌, ◌<◌, ◌≤◌, min, Bool, true, false, List, [], ◌∷◌, ◌++◌, length, refl, sym, ap, ◌∙◌, append_assoc, inl, inr, arith}
-use Rattle.std.proofs.lemmas.Bool.{cases_lt}
+-- What begins a list; its front whose elements pass a test, and what is behind it; and the value of digits, one by one.
+use Rattle.std.proofs.Common.{◌≡◌, ℕ, ◌+◌, ◌-◌, ◌*◌, ◌<◌, ◌≤◌, min, Bool, true, false, true≢false, List, [], ◌∷◌, ◌++◌, length, refl, sym, ap, ◌∙◌, append_assoc, inl, inr, arith}
+use Rattle.std.proofs.lemmas.Bool.{cases_lt, eqb-true}
 use Rattle.std.specs.Str.{encode_utf8_all}
-use Rattle.std.specs.Prelude.{encode_utf8}
+use Rattle.std.specs.Prelude.{encode_utf8, ◌==◌}
 use Rattle.std.specs.List.{AllByRecursion}
-use Rattle.serde_json_path.specs.Lexical.{begins, is_digit, value_from}
+use Rattle.serde_json_path.specs.Lexical.{begins, is_blank, is_digit, value_from}
 use Rattle.serde_json_path.specs.Parsed.{front, behind}
 
 -- ---- what begins a list
@@ -17,6 +17,25 @@ some_begun p (c ∷ t) e = omega arith
 pub begins_front : (p : ℕ → Bool) (b : Bool) (t rest : List ℕ) → 0 < length t → begins p t ≡ b → begins p (t ++ rest) ≡ b
 begins_front p b [] rest l e = absurd (omega arith)
 begins_front p b (c ∷ t) rest l e = e
+
+-- a list begins so where each character that begins it so does
+pub begins_where : (p q : ℕ → Bool) (b : Bool) (cs : List ℕ) → ((c : ℕ) → p c ≡ true → q c ≡ b) → begins p cs ≡ true → begins q cs ≡ b
+begins_where p q b [] h e = absurd cc
+begins_where p q b (c ∷ cs) h e = h c e
+
+-- ---- characters that differ
+
+-- a character that passes a test is none that fails it
+pub differs : (p : ℕ → Bool) (k c : ℕ) → p k ≡ false → p c ≡ true → (c == k) ≡ false
+differs p k c fails passes = by_test (c == k) refl
+  where
+    by_test : (b : Bool) → (c == k) ≡ b → (c == k) ≡ false
+    by_test true e = absurd (true≢false (sym passes ∙ ap p (eqb-true c k e) ∙ fails))
+    by_test false e = e
+
+-- nor a blank, where each blank fails
+pub no_blank : (p : ℕ → Bool) (c : ℕ) → p 32 ≡ false → p 9 ≡ false → p 10 ≡ false → p 13 ≡ false → p c ≡ true → is_blank c ≡ false
+no_blank p c space tab feed return passes = rw (differs p 32 c space passes, differs p 9 c tab passes, differs p 10 c feed passes, differs p 13 c return passes) refl
 
 -- ---- a front and what is behind it
 
@@ -59,6 +78,11 @@ pub behind_all : (p : ℕ → Bool) (t rest : List ℕ) → AllByRecursion (λ c
 behind_all p [] [] h e = refl
 behind_all p [] (c ∷ rest) h e = rw e refl
 behind_all p (c ∷ t) rest h e = rw h.0 (behind_all p t rest h.1 e)
+
+-- what is behind a text that passes, and more
+pub behind_past : (p : ℕ → Bool) (t rest : List ℕ) → AllByRecursion (λ c. p c ≡ true) t → behind p (t ++ rest) ≡ behind p rest
+behind_past p [] rest h = refl
+behind_past p (c ∷ t) rest h = rw h.0 (behind_past p t rest h.1)
 
 pub front_more : (p : ℕ → Bool) (cs ds : List ℕ) (c : ℕ) → cs ≡ c ∷ ds → begins p cs ≡ true → front p cs ≡ c ∷ front p ds
 front_more p cs ds c e t = let k : p c ≡ true = sym (ap (begins p) e) ∙ t in ap (front p) e ∙ rw k refl

@@ -5,7 +5,9 @@ use Rattle.serde_json_path.specs.declared.error.Refusal.{Refusal}
 use Rattle.serde_json_path.specs.declared.error.ParseErrorKind.{ParseErrorKind}
 use Rattle.serde_json_path.specs.declared.error.ParseErrorKind.TheVariants.{ExpectedRoot, TextAfterPath, NoMemory}
 use Rattle.serde_json_path.specs.declared.error.Place as declared
-use Rattle.serde_json_path.specs.Parsed.{Parsed, ◌>>=◌, refusal, many_at}
+use Rattle.serde_json_path.specs.Lexical.{is_blank}
+use Rattle.serde_json_path.specs.Parsed.{Parsed, ◌>>=◌, refusal, front, past_blanks, many_at}
+use Rattle.serde_json_path.proofs.Runs.{whole}
 use Rattle.serde_json_path.proofs.Steps.{Read, chosen, done}
 
 -- a kind that is told of a segment, and not of the whole text
@@ -49,6 +51,9 @@ no_refusal cs y r e = absurd cc
 pub drop_one : (cs : List ℕ) (r : Refusal) → Stands (drop 1 cs) r → Stands cs r
 drop_one [] r s = s
 drop_one (c ∷ cs) r s = further (c ∷ cs) (c ∷ []) cs r refl s
+
+pub drop_blanks : (cs : List ℕ) (r : Refusal) → Stands (past_blanks cs) r → Stands cs r
+drop_blanks cs r s = further cs (front is_blank cs) (past_blanks cs) r (whole is_blank cs) s
 
 module _ {A : Type 0} (is : List ℕ → A → Type 0) (more : List ℕ → Bool) (item : List ℕ → Parsed A) (sound : (cs : List ℕ) (x : A × List ℕ) → more cs ≡ true → item cs ≡ Ok x → Read is cs x) (stands : (cs : List ℕ) (r : Refusal) → item cs ≡ Err r → Stands cs r) where
   pub many_stands : (n : ℕ) (cs : List ℕ) (r : Refusal) → many_at more item n cs ≡ Err r → Stands cs r
