@@ -3,11 +3,10 @@ use Rattle.std.proofs.Common.{◌≡◌, ℕ, ◌≤◌, Bool, true, false, List
 use Rattle.std.proofs.lemmas.List.{length-append}
 use Rattle.serde_json_path.specs.Lexical.{begins, is_blank, IsBlank}
 use Rattle.serde_json_path.specs.Parsed.{front, past_blanks}
-use Rattle.serde_json_path.proofs.Runs.{whole, front_each, behind_end}
+use Rattle.serde_json_path.proofs.Runs.{whole, front_each, behind_end, behind_past}
 
 pub past_some : (k rest : List ℕ) → IsBlank k → past_blanks (k ++ rest) ≡ past_blanks rest
-past_some [] rest h = refl
-past_some (c ∷ k) rest h = rw h.0 (past_some k rest h.1)
+past_some k rest h = behind_past is_blank k rest h
 
 pub past_all : (k rest : List ℕ) → IsBlank k → begins is_blank rest ≡ false → past_blanks (k ++ rest) ≡ rest
 past_all k rest h e = past_some k rest h ∙ behind_end is_blank rest e

@@ -14,7 +14,8 @@ use Rattle.serde_json_path.specs.Parsing.{selector_at, next_selector_at, selecto
 use Rattle.serde_json_path.proofs.Blanks.{past_some, past_all, past_twice, blanks_of, are_blank, split_blanks, no_longer}
 use Rattle.serde_json_path.proofs.Many as m
 use Rattle.serde_json_path.proofs.Runs.{some_begun}
-use Rattle.serde_json_path.proofs.SelectorTexts.{Closes, IsSelectorText, selector_sound, selector_again, begins_no_blank}
+use Rattle.serde_json_path.proofs.SelectorTexts.{selector_sound, selector_again, begins_no_blank}
+use Rattle.serde_json_path.proofs.SliceTexts.{Closes, IsOpenText}
 use Rattle.serde_json_path.proofs.Steps.{Read, Spaced, bind_ok, guard, done, ok_is, after_one, many_sound}
 
 abbrev pub is_comma : ℕ → Bool
@@ -28,7 +29,7 @@ pub record IsNext (t : List ℕ) (sel : Selector) : Type 0 where
   pub text : List ℕ
   pub behind : List ℕ
   pub blank_before : IsBlank before
-  pub is_so : IsSelectorText text sel
+  pub is_so : IsOpenText text sel
   pub blank_behind : IsBlank behind
   pub joined : t ≡ 44 ∷ (before ++ (text ++ behind))
 

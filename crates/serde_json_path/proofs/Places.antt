@@ -13,27 +13,23 @@ use Rattle.serde_json_path.specs.Lexical.{begins, is_blank, is_name_first, is_na
 use Rattle.serde_json_path.specs.Looking.{up_to}
 use Rattle.serde_json_path.specs.Parsed.{Parsed, ◌>>=◌, refusal, front, behind, past_blanks, many}
 use Rattle.serde_json_path.specs.Parsing.{name_at, selector_at, next_selector_at, selectors_at, selector_list, bracket_at, dotted_at, descendant_at, of_kind, dot_at, segment_at, opens_next, next_segment_at, segments_at, segment_list, path_at}
-use Rattle.serde_json_path.proofs.Blanks.{blanks_of, split_blanks}
 use Rattle.serde_json_path.proofs.BracketTexts.{is_comma, IsNext, next_sound, selectors_sound}
 use Rattle.serde_json_path.proofs.Many as m
 use Rattle.serde_json_path.proofs.SegmentTexts.{AreSegmentsText, IsNextItem, next_segment_sound, next_takes, segments_sound}
 use Rattle.serde_json_path.proofs.SelectorPlaces.{selector_stands}
 use Rattle.serde_json_path.proofs.SelectorTexts.{selector_sound}
-use Rattle.serde_json_path.proofs.Stands.{Stands, err_is, further, bind_stands, guard_stands, no_refusal, drop_one, many_stands}
+use Rattle.serde_json_path.proofs.Stands.{Stands, err_is, further, bind_stands, guard_stands, no_refusal, drop_one, drop_blanks, many_stands}
 use Rattle.serde_json_path.proofs.Steps.{chosen, done, after_one}
 
 -- ---- brackets
 
-past_stands : (cs : List ℕ) (r : Refusal) → Stands (past_blanks cs) r → Stands cs r
-past_stands cs r s = further cs (blanks_of cs) (past_blanks cs) r (split_blanks cs) s
-
 next_stands : (cs : List ℕ) (r : Refusal) → next_selector_at cs ≡ Err r → Stands cs r
 unfolding next_selector_at
-next_stands cs r e = drop_one cs r (past_stands (drop 1 cs) r (selector_stands (past_blanks (drop 1 cs)) r e))
+next_stands cs r e = drop_one cs r (drop_blanks (drop 1 cs) r (selector_stands (past_blanks (drop 1 cs)) r e))
 
 selectors_stand : (cs : List ℕ) (r : Refusal) → selectors_at cs ≡ Err r → Stands cs r
 unfolding selectors_at many
-selectors_stand cs r e = past_stands cs r
+selectors_stand cs r e = drop_blanks cs r
     (bind_stands (past_blanks cs) (selector_at (past_blanks cs)) _ r (selector_stands (past_blanks cs)) (λ s f h.
     let read = selector_sound (past_blanks cs) s f in
     further (past_blanks cs) read.text s.1 r read.split
@@ -43,7 +39,7 @@ bracket_stands : (cs : List ℕ) (r : Refusal) → bracket_at cs ≡ Err r → S
 unfolding bracket_at
 bracket_stands cs r e = bind_stands cs (selectors_at cs) _ r (selectors_stand cs) (λ ss f h.
     let read = selectors_sound cs ss f in
-    past_stands cs r
+    drop_blanks cs r
     (further (past_blanks cs) read.text ss.1 r read.split
     (guard_stands ss.1 (begins (λ c. c == 93) ss.1) (done (long_hand (selector_list ss.0), drop 1 ss.1)) ExpectedClosingBracket place.LongHand r refl (no_refusal ss.1 _ r) h))) e
 
@@ -86,7 +82,7 @@ segment_stands cs r e = elim (chosen (begins (λ c. c == 46) cs) (dot_at (drop 1
 
 next_segment_stands : (cs : List ℕ) (r : Refusal) → next_segment_at cs ≡ Err r → Stands cs r
 unfolding next_segment_at
-next_segment_stands cs r e = past_stands cs r (segment_stands (past_blanks cs) r e)
+next_segment_stands cs r e = drop_blanks cs r (segment_stands (past_blanks cs) r e)
 
 segments_stand : (cs : List ℕ) (r : Refusal) → segments_at cs ≡ Err r → Stands cs r
 unfolding many

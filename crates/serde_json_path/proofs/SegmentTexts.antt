@@ -16,7 +16,7 @@ use Rattle.serde_json_path.specs.Parsing.{name_at, bracket_at, dotted_at, descen
 use Rattle.serde_json_path.proofs.Blanks.{past_all, blanks_of, are_blank, split_blanks, no_longer, begins_not}
 use Rattle.serde_json_path.proofs.BracketTexts.{IsSegmentText, bracket_sound, bracket_again}
 use Rattle.serde_json_path.proofs.Many as m
-use Rattle.serde_json_path.proofs.Runs.{whole, front_each, front_begins, front_all, behind_all, begins_front, some_begun}
+use Rattle.serde_json_path.proofs.Runs.{some_begun, begins_front, begins_where, differs, no_blank, whole, front_each, front_begins, front_all, behind_all}
 use Rattle.serde_json_path.proofs.Steps.{Read, bind_ok, chosen, guard, done, ok_is, after_one, many_sound, Again, many_again}
 
 -- ---- member names
@@ -38,10 +38,9 @@ name_again : (here : declared.Place) (t n rest : List ℕ) → IsName t n → be
 unfolding name_at
 name_again here t n rest h e = rw (begins_front is_name_first true t rest (some_begun is_name_first t h.first) h.first, front_all is_name_char t rest h.each e, behind_all is_name_char t rest h.each e, ← h.bytes_of) refl
 
--- a name does not begin as `*`, `.` or `[` do
-name_begins_not : (p : ℕ → Bool) (t n rest : List ℕ) → ((c : ℕ) → is_name_first c ≡ true → p c ≡ false) → IsName t n → begins p (t ++ rest) ≡ false
-name_begins_not p [] n rest none h = let e = h.first in absurd cc
-name_begins_not p (c ∷ t) n rest none h = none c h.first
+-- a name begins with no character that may not begin it
+name_begins_not : (k : ℕ) (t n rest : List ℕ) → is_name_first k ≡ false → IsName t n → begins (λ c. c == k) (t ++ rest) ≡ false
+name_begins_not k t n rest none h = begins_where is_name_first (λ c. c == k) false (t ++ rest) (λ c e. differs is_name_first k c none e) (begins_front is_name_first true t rest (some_begun is_name_first t h.first) h.first)
 
 -- ---- behind the dots
 
@@ -124,13 +123,8 @@ item_begins t (descendant, dot_wildcard) rest h = ap (λ (l : List ℕ). begins 
 item_begins t (child, long_hand sels) rest h = ap (λ (l : List ℕ). begins opens (l ++ rest)) h.1.6
 item_begins t (descendant, long_hand sels) rest h = ap (λ (l : List ℕ). begins opens (l ++ rest)) h.1.6
 
--- what begins no segment does not stand at the start of one
-other_start : (p : ℕ → Bool) (cs : List ℕ) → ((c : ℕ) → opens c ≡ true → p c ≡ false) → begins opens cs ≡ true → begins p cs ≡ false
-other_start p [] none e = absurd cc
-other_start p (c ∷ cs) none e = none c e
-
 opens_no_blank : (c : ℕ) → opens c ≡ true → is_blank c ≡ false
-opens_no_blank c e = grind (arith, e)
+opens_no_blank c e = no_blank opens c refl refl refl refl e
 
 opens_no_name : (c : ℕ) → opens c ≡ true → is_name_char c ≡ false
 opens_no_name c e = grind (arith, e)
@@ -144,7 +138,7 @@ blank_no_name c e = let small : c < 33 = grind (arith, e) in small_no_name c sma
 past_next : (t : List ℕ) (x : SegmentKind × Segment) (rest : List ℕ) → (h : IsNextItem t x) → past_blanks (t ++ rest) ≡ h.1 ++ rest
 past_next t x rest (k, a, blank, is, e) =
     ap (λ (l : List ℕ). past_blanks (l ++ rest)) e ∙ ap past_blanks (append_assoc k a rest)
-    ∙ past_all k (a ++ rest) blank (other_start is_blank (a ++ rest) opens_no_blank (item_begins a x rest is))
+    ∙ past_all k (a ++ rest) blank (begins_where opens is_blank false (a ++ rest) opens_no_blank (item_begins a x rest is))
 
 next_begins : (t : List ℕ) (x : SegmentKind × Segment) (rest : List ℕ) → IsNextItem t x → opens_next (t ++ rest) ≡ true
 next_begins t x rest h = ap (begins opens) (past_next t x rest h) ∙ item_begins h.1 x rest h.3
@@ -153,33 +147,20 @@ next_begins t x rest h = ap (begins opens) (past_next t x rest h) ∙ item_begin
 next_stops : (t : List ℕ) (x : SegmentKind × Segment) (rest : List ℕ) → IsNextItem t x → begins is_name_char (t ++ rest) ≡ false
 next_stops t x rest (k, a, blank, is, e) =
     ap (λ (l : List ℕ). begins is_name_char (l ++ rest)) e ∙ ap (begins is_name_char) (append_assoc k a rest)
-    ∙ begins_not is_name_char k (a ++ rest) blank_no_name blank (other_start is_name_char (a ++ rest) opens_no_name (item_begins a x rest is))
+    ∙ begins_not is_name_char k (a ++ rest) blank_no_name blank (begins_where opens is_name_char false (a ++ rest) opens_no_name (item_begins a x rest is))
 
 -- ---- each segment is read
 
-first_is_not : (k c : ℕ) → k < 48 ⊎ (k ≡ 91) → is_name_first c ≡ true → (c == k) ≡ false
-first_is_not k c (inl small) e = grind (arith, small, e)
-first_is_not k c (inr bracket) e = grind (arith, bracket, e)
-
-no_star : (c : ℕ) → is_name_first c ≡ true → (c == 42) ≡ false
-no_star c e = first_is_not 42 c (inl (omega arith)) e
-
-no_dot : (c : ℕ) → is_name_first c ≡ true → (c == 46) ≡ false
-no_dot c e = first_is_not 46 c (inl (omega arith)) e
-
-no_bracket : (c : ℕ) → is_name_first c ≡ true → (c == 91) ≡ false
-no_bracket c e = first_is_not 91 c (inr refl) e
-
 dotted_again : (here : declared.Place) (t n rest : List ℕ) → IsName t n → begins is_name_char rest ≡ false → dotted_at here (t ++ rest) ≡ Ok (dot_name n, rest)
 unfolding dotted_at
-dotted_again here t n rest h e = rw (name_begins_not (λ c. c == 42) t n rest no_star h, name_again here t n rest h e) refl
+dotted_again here t n rest h e = rw (name_begins_not 42 t n rest refl h, name_again here t n rest h e) refl
 
 segment_again : (t : List ℕ) (x : SegmentKind × Segment) (rest : List ℕ) → IsItem t x → begins is_name_char rest ≡ false → segment_at (t ++ rest) ≡ Ok (x, rest)
 unfolding segment_at dot_at descendant_at dotted_at
 segment_again t (child, dot_name n) rest h e =
-    ap (λ (l : List ℕ). segment_at (l ++ rest)) h.1.2 ∙ rw (name_begins_not (λ c. c == 46) h.1.0 n rest no_dot h.1.1, dotted_again place.DotMemberName h.1.0 n rest h.1.1 e) refl
+    ap (λ (l : List ℕ). segment_at (l ++ rest)) h.1.2 ∙ rw (name_begins_not 46 h.1.0 n rest refl h.1.1, dotted_again place.DotMemberName h.1.0 n rest h.1.1 e) refl
 segment_again t (descendant, dot_name n) rest h e =
-    ap (λ (l : List ℕ). segment_at (l ++ rest)) h.1.2 ∙ rw (name_begins_not (λ c. c == 91) h.1.0 n rest no_bracket h.1.1, dotted_again place.Path h.1.0 n rest h.1.1 e) refl
+    ap (λ (l : List ℕ). segment_at (l ++ rest)) h.1.2 ∙ rw (name_begins_not 91 h.1.0 n rest refl h.1.1, dotted_again place.Path h.1.0 n rest h.1.1 e) refl
 segment_again t (child, dot_wildcard) rest h e = ap (λ (l : List ℕ). segment_at (l ++ rest)) h.1
 segment_again t (descendant, dot_wildcard) rest h e = ap (λ (l : List ℕ). segment_at (l ++ rest)) h.1
 segment_again t (child, long_hand sels) rest h e =

@@ -161,7 +161,7 @@ letter_is quote letter =
         let none : is_letter_escape quote letter ≡ false = rw (b, f, n, r, t, s, h, q) refl in absurd (true≢false (sym e ∙ none))
 
 -- a fact of both quotes
-of_quote : (Fact : ℕ → Type 0) → Fact 39 → Fact 34 → (quote : ℕ) → IsQuote quote → Fact quote
+pub of_quote : (Fact : ℕ → Type 0) → Fact 39 → Fact 34 → (quote : ℕ) → IsQuote quote → Fact quote
 of_quote Fact single double quote (inl e) = subst Fact (sym e) single
 of_quote Fact single double quote (inr e) = subst Fact (sym e) double
 

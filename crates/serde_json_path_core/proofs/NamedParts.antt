@@ -150,7 +150,7 @@ parts_below parts low high le h = All-from_recursion _ parts (each parts (recurs
     each [] g = tt
     each (p ∷ ps) g = (let below = g.0 in omega arith, each ps g.1)
 
-parts_for_kept : (old new : SyntaxBuilder) → KeepsParts old new → (parts : List Part) (ps : List Piece) → ArePartsFor old parts ps → ArePartsFor new parts ps
+pub parts_for_kept : (old new : SyntaxBuilder) → KeepsParts old new → (parts : List Part) (ps : List Piece) → ArePartsFor old parts ps → ArePartsFor new parts ps
 parts_for_kept old new keeps [] [] h = tt
 parts_for_kept old new keeps [] (p ∷ ps) h = absurd h
 parts_for_kept old new keeps (part ∷ parts) [] h = absurd h
