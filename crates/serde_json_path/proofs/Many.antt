@@ -11,6 +11,10 @@ use Rattle.serde_json_path.specs.Parsed.{Parsed, ◌>>=◌, many_at, many}
 abbrev pub with_front : {A : Type 0} → List A → Parsed (List A) → Parsed (List A)
 with_front before read = read >>= λ x. Ok (before ++ x.0, x.1)
 
+pub with_none : {A : Type 0} (read : Parsed (List A)) → with_front [] read ≡ read
+with_none (Ok x) = refl
+with_none (Err f) = refl
+
 -- an item takes at least one character
 pub record Takes {A : Type 0} (more : List ℕ → Bool) (item : List ℕ → Parsed A) : Type 0 where
   pub shorter : (cs rest : List ℕ) (x : A) → more cs ≡ true → item cs ≡ Ok (x, rest) → length rest < length cs

@@ -1,5 +1,5 @@
 -- Parts that stand for selectors and for segments, one more at a time.
-use Rattle.std.proofs.Common.{◌≡◌, List, [], ◌∷◌, ◌++◌, refl, sym, ap, subst}
+use Rattle.std.proofs.Common.{◌≡◌, List, [], ◌∷◌, ◌++◌, refl, sym, ap, subst, ◌∙◌}
 use Rattle.serde_json_path_core.specs.Tree.{SegmentKind, Segment, Selector}
 use Rattle.serde_json_path_core.specs.Piece.{Piece, a_segment, a_selector}
 use Rattle.serde_json_path_core.specs.Parts.{IsPart, ArePartsFor, ArePartsOf, AreSelectorsOf, KeepsParts, segment_pieces, selector_pieces}
@@ -31,6 +31,9 @@ pub selector_pushed : (builder : SyntaxBuilder) (parts : List Part) (ss : List S
 selector_pushed builder [] ss part s h p = absurd h
 selector_pushed builder (q ∷ parts) ss part s h p =
     subst (ArePartsFor builder ((q ∷ parts) ++ part ∷ [])) (selector_behind ss s) (one_more builder (q ∷ parts) (selector_pieces (selector_list ss)) part (a_selector s) h p)
+
+pub first_selector : (builder : SyntaxBuilder) (empty parts : List Part) (part : Part) (s : Selector) → empty ≡ [] → parts ≡ empty ++ part ∷ [] → IsPart builder part (a_selector s) → AreSelectorsOf builder parts (selector_list (s ∷ []))
+first_selector builder empty parts part s none e is = subst (λ (ps : List Part). AreSelectorsOf builder ps (selector_list (s ∷ []))) (sym (e ∙ ap (λ (ps : List Part). ps ++ part ∷ []) none)) (is, tt)
 
 -- parts stay what they are while the builder grows
 pub selectors_kept : (old new : SyntaxBuilder) (parts : List Part) (ss : List Selector) → KeepsParts old new → AreSelectorsOf old parts (selector_list ss) → AreSelectorsOf new parts (selector_list ss)

@@ -174,14 +174,15 @@ next_again t x rest h e = ap segment_at (past_next t x rest h) ∙ segment_again
 
 -- ---- all segments
 
-next_some : (t : List ℕ) (x : SegmentKind × Segment) → IsNextItem t x → 0 < length t
-next_some t x (k, a, blank, is, e) = omega (arith, ap length e, length-append k a, some_begun opens (a ++ []) (item_begins a x [] is), length-append a [])
+pub segment_shorter : (cs rest : List ℕ) (x : SegmentKind × Segment) → begins opens cs ≡ true → segment_at cs ≡ Ok (x, rest) → length rest < length cs
+segment_shorter cs rest x o e =
+    let r = segment_sound cs (x, rest) o e in
+    omega (arith, ap length r.split, length-append r.text rest, some_begun opens (r.text ++ []) (item_begins r.text x [] r.is_so), length-append r.text [])
 
 pub next_takes : m.Takes opens_next next_segment_at
+unfolding next_segment_at
 next_takes = record {
-  shorter = λ cs rest x o e.
-      let r = next_segment_sound cs (x, rest) o e in
-      omega (arith, ap length r.split, length-append r.text rest, next_some r.text x r.is_so);
+  shorter = λ cs rest x o e. omega (arith, segment_shorter (past_blanks cs) rest x o e, no_longer cs);
   some = λ cs o. omega (arith, some_begun opens (past_blanks cs) o, no_longer cs);
 }
 
