@@ -51,6 +51,16 @@ shape c = elim (cases_lt c 128) [
   ]
 ]
 
+-- each has a byte
+pub some_bytes : (c : ℕ) → 0 < length (encode_utf8 c)
+some_bytes c = of_shape (shape c)
+  where
+    of_shape : Shape c → 0 < length (encode_utf8 c)
+    of_shape (of1 a e) = omega (arith, ap length e)
+    of_shape (of2 a b e) = omega (arith, ap length e)
+    of_shape (of3 a b e) = omega (arith, ap length e)
+    of_shape (of4 a e) = omega (arith, ap length e)
+
 abbrev pub Read : List ℕ → ℕ → ℕ → Type 0
 Read bs c w = IsScalar c × StartsWithChar bs c w
 

@@ -1,7 +1,8 @@
 -- What is read as a whole path is one without filters, and each of those is read.
-use Rattle.std.proofs.Common.{◌≡◌, ℕ, true, false, cond, List, [], ◌∷◌, ◌++◌, length, drop, Result, Ok, Err, refl, sym, ap, subst, ◌∙◌}
-use Rattle.std.specs.Prelude.{◌==◌}
-use Rattle.std.proofs.lemmas.List.{append-nil, nil_from_length}
+use Rattle.std.proofs.Common.{◌≡◌, ℕ, true, false, cond, List, [], ◌∷◌, ◌++◌, length, drop, Result, Ok, Err, refl, sym, ap, subst, ◌∙◌, arith}
+use Rattle.std.specs.Prelude.{◌==◌, encode_utf8}
+use Rattle.std.specs.Str.{encode_utf8_all}
+use Rattle.std.proofs.lemmas.List.{append-nil, length-append, nil_from_length}
 use Rattle.std.proofs.lemmas.Bool.{eqb-true}
 use Rattle.serde_json_path_core.specs.Tree.{SegmentKind, Segments, Segment}
 use Rattle.serde_json_path.specs.declared.error.ParseErrorKind.TheVariants.{ExpectedRoot, TextAfterPath}
@@ -13,8 +14,9 @@ use Rattle.serde_json_path.specs.Giving.{Fails}
 use Rattle.serde_json_path.specs.Lexical.{begins}
 use Rattle.serde_json_path.specs.Open.{AreOpenSegments}
 use Rattle.serde_json_path.specs.Parsed.{Parsed, ◌>>=◌, refusal}
-use Rattle.serde_json_path.specs.Parsing.{segments_at, segment_list, path_at}
-use Rattle.serde_json_path.proofs.SegmentTexts.{AreSegmentsText, segments_sound, segments_again, same_segments}
+use Rattle.serde_json_path.specs.Parsing.{opens_next, segments_at, segment_list, path_at, opens_behind_root}
+use Rattle.serde_json_path.proofs.Decoding.{some_bytes}
+use Rattle.serde_json_path.proofs.SegmentTexts.{AreSegmentsText, segments_sound, segments_again, same_segments, no_segments_read}
 use Rattle.serde_json_path.proofs.Steps.{bind_ok, guard, done, ok_is, after_one}
 
 -- the end of a text whose segments were read
@@ -60,3 +62,14 @@ module _ (cs ds rest : List ℕ) (c : ℕ) (ss : List (SegmentKind × Segment)) 
 pub segments_fail : (cs ds : List ℕ) (c : ℕ) (s : Stop) → begins (λ d. d == 36) cs ≡ true → cs ≡ c ∷ ds → Fails s (segments_at ds) → Fails s (path_at cs)
 segments_fail cs ds c stops.Memory root split h = tt
 segments_fail cs ds c (stops.Refused r) root split h = rooted cs ds c root split ∙ ap at_end h
+
+-- where no byte is left, no character is
+pub all_read : (rest : List ℕ) (bytes : ℕ) → bytes ≡ length (encode_utf8_all rest) → bytes ≡ 0 → (length rest == 0) ≡ true
+all_read [] bytes is none = refl
+all_read (c ∷ rest) bytes is none = absurd (omega (arith, is, none, length-append (encode_utf8 c) (encode_utf8_all rest), some_bytes c))
+
+-- where no segment begins behind `$`, none is read
+pub none_read : (cs ds rest : List ℕ) (c : ℕ) (ss : List (SegmentKind × Segment)) → begins (λ d. d == 36) cs ≡ true → cs ≡ c ∷ ds → segments_at ds ≡ Ok (ss, rest) → opens_behind_root cs ≡ false → ss ≡ []
+none_read cs ds rest c ss root split read none =
+    let closed : opens_next ds ≡ false = sym (rw (root, split) refl) ∙ none in
+    ap (λ (x : List (SegmentKind × Segment) × List ℕ). x.0) (ok_is (ss, rest) ([], ds) (sym read ∙ no_segments_read ds closed))

@@ -1,11 +1,10 @@
 use Rattle.std.proofs.Common.{◌≡◌, ◌-◌, ◌^◌, ◌<◌, length, sym, ap, subst, ◌∙◌, arith, false}
-use Rattle.serde_json_path_core.specs.Tree.{segments_of}
 use Rattle.serde_json_path_functions.specs.Functions.{builtin_signature}
 use Rattle.serde_json_path.specs.Giving.{Fails, IsRefused}
 use Rattle.serde_json_path.specs.Parsing.{path_at, opens_behind_root}
-use Rattle.serde_json_path.specs.Open.{AreOpenSegments}
+use Rattle.serde_json_path.specs.Open.{IsOpen}
 use Rattle.serde_json_path.specs.Reading.{left}
-use Rattle.serde_json_path.proofs.Sound.{path_open}
+use Rattle.serde_json_path.proofs.PathTexts.{path_open}
 use Rattle.serde_json_path.proofs.Parses.{too_long, parsed, refused, within}
 use Rattle.serde_json_path.proofs.parser.parse_source.Goals as goal
 
@@ -44,5 +43,5 @@ invariant_of-result g c =
     let read = c.in-Ok.ensures.gives in
     record {
       calls_nothing = read.3;
-      open_forms = ∣ subst (λ q. AreOpenSegments (segments_of q)) (sym read.1) (path_open (left c.new-reader.result) read.0 read.2) ∣₁;
+      open_forms = ∣ subst IsOpen (sym read.1) (path_open (left c.new-reader.result) read.0 read.2) ∣₁;
     }
