@@ -1,17 +1,17 @@
 -- What is read in a bracket is in the grammar, and what is in the grammar is read.
-use Rattle.std.proofs.Common.{◌≡◌, ℕ, ◌<◌, Bool, true, false, cond, List, [], ◌∷◌, ◌++◌, length, drop, Ok, Err, refl, sym, ap, subst, ◌∙◌, append_assoc, arith}
+use Rattle.std.proofs.Common.{◌≡◌, ℕ, ◌<◌, Bool, true, cond, List, [], ◌∷◌, ◌++◌, length, drop, Ok, Err, refl, sym, ap, subst, ◌∙◌, append_assoc, arith}
 use Rattle.std.specs.Prelude.{◌==◌, ◌||◌}
 use Rattle.std.proofs.lemmas.List.{append-nil, length-append}
 use Rattle.serde_json_path_core.specs.Tree.{SegmentKind, Segment, long_hand, Selectors, no_selectors, selector, Selector}
 use Rattle.serde_json_path_core.specs.Text.{bracket_dots_of}
 use Rattle.serde_json_path.specs.declared.error.ParseErrorKind.TheVariants.{ExpectedClosingBracket}
 use Rattle.serde_json_path.specs.declared.error.Place.TheVariants as place
-use Rattle.serde_json_path.specs.Lexical.{begins, is_blank, IsBlank, Joined}
+use Rattle.serde_json_path.specs.Lexical.{begins, IsBlank, Joined}
 use Rattle.serde_json_path.specs.Grammar.{ReadsSegment, ReadSelectors, ReadMoreSelectors}
 use Rattle.serde_json_path.specs.Open.{IsOpenSegment, AreOpenSelectors}
-use Rattle.serde_json_path.specs.Parsed.{Parsed, ◌>>=◌, refusal, past_blanks, many_at, many}
+use Rattle.serde_json_path.specs.Parsed.{◌>>=◌, refusal, past_blanks, many}
 use Rattle.serde_json_path.specs.Parsing.{selector_at, next_selector_at, selectors_at, selector_list, bracket_at}
-use Rattle.serde_json_path.proofs.Blanks.{past_some, past_all, past_twice, blanks_of, are_blank, split_blanks, no_longer}
+use Rattle.serde_json_path.proofs.Blanks.{past_all, blanks_of, are_blank, split_blanks}
 use Rattle.serde_json_path.proofs.Many as m
 use Rattle.serde_json_path.proofs.Runs.{some_begun}
 use Rattle.serde_json_path.proofs.SelectorTexts.{selector_sound, selector_again, begins_no_blank}

@@ -4,12 +4,12 @@ use Rattle.std.specs.Prelude.{◌==◌, ◌&&◌, slice_get}
 use Rattle.std.specs.Str.{encode_utf8_all, all_scalars, chars, IsUtf8, IsCharBoundary}
 use Rattle.std.proofs.lemmas.List.{length-append}
 use Rattle.std.proofs.lemmas.Str.{encodes-chars, encodes-append, scalars-chars, IsCharBoundary-at_seam}
-use Rattle.serde_json_path_core.specs.Tree.{SegmentKind, child, descendant, Segments, Segment, dot_name, dot_wildcard, long_hand, Selector}
+use Rattle.serde_json_path_core.specs.Tree.{SegmentKind, child, descendant, Segments, Segment, dot_name, dot_wildcard, long_hand}
 use Rattle.serde_json_path.specs.declared.error.Refusal.{Refusal}
 use Rattle.serde_json_path.specs.declared.error.ParseErrorKind.TheVariants.{ExpectedRoot, BadMemberName, ExpectedClosingBracket, TextAfterPath}
 use Rattle.serde_json_path.specs.declared.error.Place as declared
 use Rattle.serde_json_path.specs.declared.error.Place.TheVariants as place
-use Rattle.serde_json_path.specs.Lexical.{begins, is_blank, is_name_first, is_name_char}
+use Rattle.serde_json_path.specs.Lexical.{begins, is_name_first, is_name_char}
 use Rattle.serde_json_path.specs.Looking.{up_to}
 use Rattle.serde_json_path.specs.Parsed.{Parsed, ◌>>=◌, refusal, front, behind, past_blanks, many}
 use Rattle.serde_json_path.specs.Parsing.{name_at, selector_at, next_selector_at, selectors_at, selector_list, bracket_at, dotted_at, descendant_at, of_kind, dot_at, segment_at, opens_next, next_segment_at, segments_at, segment_list, path_at}

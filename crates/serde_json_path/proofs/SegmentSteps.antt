@@ -1,15 +1,13 @@
 -- The steps of the code at brackets and segments.
-use Rattle.std.proofs.Common.{◌≡◌, ℕ, true, false, cond, List, [], ◌∷◌, drop, Ok, Err, refl, sym, ap, ◌∙◌}
+use Rattle.std.proofs.Common.{◌≡◌, ℕ, true, false, List, [], ◌∷◌, drop, Ok, Err, refl, sym, ap, ◌∙◌}
 use Rattle.std.specs.Prelude.{◌==◌}
 use Rattle.serde_json_path_core.specs.Tree.{SegmentKind, Segment, dot_name, dot_wildcard, long_hand, Selector}
-use Rattle.serde_json_path.specs.declared.error.ParseErrorKind.TheVariants.{ExpectedClosingBracket}
 use Rattle.serde_json_path.specs.declared.error.Place as declared
-use Rattle.serde_json_path.specs.declared.error.Place.TheVariants as place
 use Rattle.serde_json_path.specs.declared.error.Stop.{Stop}
 use Rattle.serde_json_path.specs.declared.error.Stop.TheVariants as stops
 use Rattle.serde_json_path.specs.Giving.{Fails}
 use Rattle.serde_json_path.specs.Lexical.{begins}
-use Rattle.serde_json_path.specs.Parsed.{Parsed, ◌>>=◌, refusal, past_blanks, many}
+use Rattle.serde_json_path.specs.Parsed.{Parsed, past_blanks, many}
 use Rattle.serde_json_path.specs.Parsing.{name_at, selector_at, next_selector_at, selectors_at, selector_list, bracket_at, dotted_at, of_kind, segment_at, next_segment_at}
 use Rattle.serde_json_path.proofs.BracketTexts.{is_comma}
 use Rattle.serde_json_path.proofs.Many.{with_front}

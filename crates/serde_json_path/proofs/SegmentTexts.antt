@@ -1,15 +1,15 @@
 -- What is read as a segment is one without filters, and each of those is read.
-use Rattle.std.proofs.Common.{◌≡◌, ℕ, ◌<◌, ◌⊎◌, inl, inr, Bool, true, false, cond, List, [], ◌∷◌, ◌++◌, length, drop, Ok, Err, refl, sym, ap, subst, ◌∙◌, append_assoc, arith}
-use Rattle.std.specs.Prelude.{◌==◌, ◌||◌}
+use Rattle.std.proofs.Common.{◌≡◌, ℕ, ◌<◌, inl, inr, true, false, List, [], ◌∷◌, ◌++◌, length, drop, Ok, refl, sym, ap, subst, ◌∙◌, append_assoc, arith}
+use Rattle.std.specs.Prelude.{◌==◌}
 use Rattle.std.specs.Str.{encode_utf8_all}
 use Rattle.std.proofs.lemmas.List.{length-append}
 use Rattle.serde_json_path_core.specs.Tree.{SegmentKind, child, descendant, Segments, no_segments, segment, Segment, dot_name, dot_wildcard, long_hand}
-use Rattle.serde_json_path_core.specs.Text.{dots_of, bracket_dots_of}
+use Rattle.serde_json_path_core.specs.Text.{dots_of}
 use Rattle.serde_json_path.specs.declared.error.ParseErrorKind.TheVariants.{BadMemberName}
 use Rattle.serde_json_path.specs.declared.error.Place as declared
 use Rattle.serde_json_path.specs.declared.error.Place.TheVariants as place
-use Rattle.serde_json_path.specs.Lexical.{begins, is_blank, IsBlank, is_digit, is_name_first, is_name_char, IsName, Joined}
-use Rattle.serde_json_path.specs.Grammar.{ReadsSegment, ReadSegments}
+use Rattle.serde_json_path.specs.Lexical.{begins, is_blank, IsBlank, is_name_first, is_name_char, IsName, Joined}
+use Rattle.serde_json_path.specs.Grammar.{ReadSegments}
 use Rattle.serde_json_path.specs.Open.{AreOpenSegments}
 use Rattle.serde_json_path.specs.Parsed.{Parsed, ◌>>=◌, refusal, front, behind, past_blanks, many}
 use Rattle.serde_json_path.specs.Parsing.{name_at, bracket_at, dotted_at, descendant_at, of_kind, dot_at, segment_at, opens, opens_next, next_segment_at, segments_at, segment_list}

@@ -1,15 +1,15 @@
 -- What is read as a selector is one without filters, and each of those is read.
-use Rattle.std.proofs.Common.{◌≡◌, ℕ, inl, inr, false, cond, List, [], ◌∷◌, ◌++◌, drop, Ok, refl, sym, ap, subst, ◌∙◌, append_assoc}
+use Rattle.std.proofs.Common.{◌≡◌, ℕ, inl, inr, false, List, [], ◌∷◌, ◌++◌, drop, Ok, refl, sym, ap, subst, ◌∙◌, append_assoc}
 use Rattle.std.specs.Prelude.{◌==◌, None}
 use Rattle.serde_json_path_core.specs.Tree.{Selector, name, wildcard, index, slice, filter}
-use Rattle.serde_json_path.specs.Lexical.{begins, is_blank, IsQuote, IsString}
+use Rattle.serde_json_path.specs.Lexical.{begins, is_blank, IsQuote}
 use Rattle.serde_json_path.specs.Parsed.{Parsed, ◌>>=◌, past_blanks}
 use Rattle.serde_json_path.specs.Parsing.{slice_at, position_at, quoted_at, selector_at}
 use Rattle.serde_json_path.specs.Strings.{string_at}
 use Rattle.serde_json_path.proofs.Blanks.{blanks_of, are_blank, split_blanks}
 use Rattle.serde_json_path.proofs.IntTexts.{int_no_blank}
 use Rattle.serde_json_path.proofs.SliceTexts.{Closes, IsOpenText, colon_sound, position_sound, index_again, slice_again, slice_no_blank}
-use Rattle.serde_json_path.proofs.Steps.{Read, Spaced, bind_ok, chosen, done, ok_is, after_one}
+use Rattle.serde_json_path.proofs.Steps.{Read, Spaced, bind_ok, chosen, ok_is, after_one}
 use Rattle.serde_json_path.proofs.StringTexts.{string_sound, string_again, of_quote}
 
 -- ---- what is read is a selector

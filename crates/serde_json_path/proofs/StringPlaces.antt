@@ -1,12 +1,12 @@
 -- Each refusal of a string stands at a place of its text: a bad escape at its backslash.
-use Rattle.std.proofs.Common.{◌≡◌, ℕ, inl, inr, Bool, cond, List, [], ◌∷◌, length, drop, Ok, Err, refl}
+use Rattle.std.proofs.Common.{◌≡◌, ℕ, inl, inr, cond, List, length, drop, Ok, Err, refl}
 use Rattle.std.specs.Prelude.{◌==◌}
 use Rattle.std.specs.Str.{encode_utf8_all}
 use Rattle.serde_json_path.specs.declared.error.ParseErrorKind.TheVariants.{ExpectedEndingQuote, BadEscape, ControlCharacter}
 use Rattle.serde_json_path.specs.declared.error.Place.TheVariants as place
 use Rattle.serde_json_path.specs.declared.error.Refusal.{Refusal}
 use Rattle.serde_json_path.specs.Lexical.{begins, pair_of, IsPiece, IsQuote}
-use Rattle.serde_json_path.specs.Parsed.{Parsed, ◌>>=◌, refusal, many}
+use Rattle.serde_json_path.specs.Parsed.{Parsed, refusal, many}
 use Rattle.serde_json_path.specs.Strings.{is_hexadecimal, hexadecimal_value, head, hexadecimal_at, hex4_at, is_high, is_low, low_at, unicode_at, is_letter_escape, letter_value, escape_at, is_control, piece_at, is_inside, string_at}
 use Rattle.serde_json_path.proofs.Steps.{chosen, done, many_sound}
 use Rattle.serde_json_path.proofs.StringTexts.{piece_sound}

@@ -2,7 +2,7 @@
 use Rattle.std.specs.Prelude.{◌≡◌, ℕ, true, length, ◌≤◌, ◌+◌, ◌-◌, List, [], Vec, Result, Ok, Err}
 use Rattle.std.specs.Str.{encode_utf8_all}
 use Rattle.std.specs.declared.alloc.Global.{Global}
-use Rattle.serde_json_path_core.specs.Tree.{Query, query, root, SegmentKind, Segments, Segment, Selector}
+use Rattle.serde_json_path_core.specs.Tree.{query, root, SegmentKind, Segments, Segment, Selector}
 use Rattle.serde_json_path_core.specs.Piece.{a_segment, a_selector}
 use Rattle.serde_json_path_core.specs.Parts.{IsPart, ArePartsOf, AreSelectorsOf, signatures_of, tree_of}
 use Rattle.serde_json_path_core.specs.declared.syntax.node.Part.{Part}

@@ -1,10 +1,9 @@
-use Rattle.std.proofs.Common.{◌≡◌, ◌∙◌, [], true, false, true≢false, length, sym, ap, subst, arith}
+use Rattle.std.proofs.Common.{◌≡◌, ◌∙◌, true≢false, length, sym, ap, subst, arith}
 use Rattle.std.proofs.lemmas.Bool.{eqb-true, eq-eqb}
 use Rattle.std.proofs.lemmas.Result.{err_from_is_err_and}
 use Rattle.serde_json_path_core.specs.Tree.{query, root}
 use Rattle.serde_json_path_core.specs.Used.{MayFinish, used_view}
-use Rattle.serde_json_path.specs.Giving.{IsRefused}
-use Rattle.serde_json_path.specs.Parsing.{segment_list, opens_behind_root}
+use Rattle.serde_json_path.specs.Parsing.{segment_list}
 use Rattle.serde_json_path.specs.Reading.{left}
 use Rattle.serde_json_path.proofs.OpenForms.{may_finish}
 use Rattle.serde_json_path.proofs.PartLists.{no_part, no_segment}

@@ -4,7 +4,7 @@ use Rattle.std.proofs.lemmas.Grind.{common_steps}
 use Rattle.std.proofs.lemmas.Result.{err_from_is_err_and}
 use Rattle.serde_json_path.specs.Lexical.{begins}
 use Rattle.serde_json_path.specs.Reading.{left}
-use Rattle.serde_json_path.specs.Strings.{piece_at, is_inside, string_at}
+use Rattle.serde_json_path.specs.Strings.{is_inside, string_at}
 use Rattle.serde_json_path.proofs.StringTexts.{piece_takes}
 use Rattle.serde_json_path.proofs.StringLoops as t
 use Rattle.serde_json_path.proofs.parser.primitive.string.string.Goals as goal
