@@ -1,4 +1,5 @@
-//! Worked rows, as tables by subject.
+//! The program and its parts on worked rows.
 
-mod paths;
+mod cuts;
 mod program;
+mod reports;

@@ -60,8 +60,15 @@ fn words(alloc: Global, of: &[&str]) -> Result<Vec<String>, std::alloc::AllocErr
 }
 
 /// The words, the input, and the status with what goes out and what is told.
-const RUNS: [(&[&str], &str, u8, &str, &str); 9] = [
+const RUNS: [(&[&str], &str, u8, &str, &str); 10] = [
     (&["$.a"], r#"{"a":[1]}"#, 0, "$['a']\t[1]\n", ""),
+    (
+        &["$['a','a']"],
+        r#"{"a":[1]}"#,
+        0,
+        "$['a']\t[1]\n$['a']\t[1]\n",
+        "",
+    ),
     (&["$.b"], r#"{"a":[1]}"#, 0, "", ""),
     (&["$"], "null", 0, "$\tnull\n", ""),
     (&["$.a"], "{", 2, "", "jsonpath: document: not JSON\n"),

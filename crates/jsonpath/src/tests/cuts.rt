@@ -1,0 +1,82 @@
+//! Documents that are cut at each byte.
+
+use crate::report::{DocumentError, ReportError, report};
+use std::alloc::Global;
+use std::process::Abort;
+use std::test::Fail;
+
+/// Documents of the other tests, and of the language's examples.
+const DOCUMENTS: &[&str] = &[
+    "null",
+    "[1]",
+    "[1, 1.5]",
+    "[0,1]",
+    "[18446744073709551615]",
+    r#"{"a":[1]}"#,
+    r#"{"a":1,"b":2}"#,
+    r#"{"foo":{"bar":{"baz":1},"baz":2},"baz":3}"#,
+    r#"["a","b","c","d","e","f","g"]"#,
+    "{\"\u{1f600}\":1}",
+    r#"{"a'b\\\u000b":1}"#,
+    r#"[{},{"a":1},{"a":1,"b":1}]"#,
+    r#"["ax","xb","xbx"]"#,
+    r#"[{"foo":"bar"},{"foo":"biz"}]"#,
+    "[[1,2,3],[4,5,6],[7,8,9]]",
+    r#"{"min":3,"x":{"a":[1,5]},"y":{"a":[2]}}"#,
+    "[\"\u{1f600}\",\"ab\",[0],{\"k\":1},7]",
+    r#"[{"a":1},{"a":{"a":1}}]"#,
+    r#"[{"a":1,"b":2},{"a":1,"b":1},{"b":3}]"#,
+    r#"[{},{"x":1}]"#,
+    concat!(
+        r#"{"threshold":40,"readings":[{"val":35,"msg":"foo"},{"val":40,"msg":"bar"},"#,
+        r#"{"val":42,"msg":"biz"},{"val":48,"msg":"bop"}]}"#
+    ),
+    concat!(
+        r#"{"store":{"book":[{"category":"reference","author":"Nigel Rees","#,
+        r#""title":"Sayings of the Century","price":8.95},"#,
+        r#"{"category":"fiction","author":"Evelyn Waugh","title":"Sword of Honour","price":12.99},"#,
+        r#"{"category":"fiction","author":"Herman Melville","title":"Moby Dick","#,
+        r#""isbn":"0-553-21311-3","price":8.99},"#,
+        r#"{"category":"fiction","author":"J. R. R. Tolkien","title":"The Lord of the Rings","#,
+        r#""isbn":"0-395-19395-8","price":22.99}],"bicycle":{"color":"red","price":399}}}"#
+    ),
+];
+
+/// Whether a text is one line.
+fn is_line(text: &str) -> bool {
+    match text.strip_suffix("\n") {
+        Some(line) => !line.contains("\n"),
+        None => false,
+    }
+}
+
+/// Of a document there is one line, or it is no JSON text.
+fn is_line_or_no_json(rt: &impl Abort, alloc: Global, document: &[u8]) {
+    match report(alloc, "$", document) {
+        Ok(lines) => assert!(rt; is_line(lines.as_str()), "{lines:?}"),
+        Err(ReportError::Document(DocumentError::NotJson)) => {}
+        Err(e) => assert!(rt; false, "{e}"),
+    }
+}
+
+/// Cuts a document at each byte.
+fn cut(rt: &impl Abort, alloc: Global, document: &[u8]) {
+    for end in 0..document.len() + 1 {
+        if let Some(start) = document.get(..end) {
+            is_line_or_no_json(rt, alloc, start);
+        }
+    }
+}
+
+/// Cuts each document at each byte.
+fn cut_each(rt: &impl Abort, alloc: Global, documents: &[&str]) {
+    for &document in documents {
+        cut(rt, alloc, document.as_bytes());
+    }
+}
+
+#[test]
+fn cuts_documents(rt: HostRuntime) -> Result<(), Fail> {
+    cut_each(&rt, rt.alloc(), DOCUMENTS);
+    Ok(())
+}

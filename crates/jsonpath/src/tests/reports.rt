@@ -1,0 +1,103 @@
+//! The lines that are made of paths and documents, and why there are none.
+
+use crate::report::report;
+use std::alloc::{AllocError, Global};
+use std::process::Abort;
+use std::test::Fail;
+
+/// A path, a document, and the lines that are made of them.
+const LINES: &[(&str, &str, &str)] = &[
+    ("$", "null", "$\tnull\n"),
+    ("$", r#"{"b":1,"a":[true]}"#, "$\t{\"a\":[true],\"b\":1}\n"),
+    ("$[9007199254740991]", "[1]", ""),
+    ("$.é", r#"{"é":1}"#, "$['é']\t1\n"),
+    (
+        "$.foo.bar[0]",
+        r#"{"foo":{"bar":["baz",42]}}"#,
+        "$['foo']['bar'][0]\t\"baz\"\n",
+    ),
+    ("$['a','a']", r#"{"a":[1]}"#, "$['a']\t[1]\n$['a']\t[1]\n"),
+    ("$[1][0]", "[0,[true]]", "$[1][0]\ttrue\n"),
+    (
+        "$..baz",
+        r#"{"foo":{"bar":{"baz":1},"baz":2},"baz":3}"#,
+        "$['baz']\t3\n$['foo']['baz']\t2\n$['foo']['bar']['baz']\t1\n",
+    ),
+];
+
+/// Each row has a path, a document, and the lines that are made of them.
+fn reports_each(rt: &impl Abort, alloc: Global, rows: &[(&str, &str, &str)]) -> Result<(), Fail> {
+    for &(path, document, lines) in rows {
+        let text = report(alloc, path, document.as_bytes())?;
+        assert_eq!(rt; text.as_str(), lines, "{path} on {document}");
+    }
+    Ok(())
+}
+
+#[test]
+fn lines_of_paths(rt: HostRuntime) -> Result<(), Fail> {
+    reports_each(&rt, rt.alloc(), LINES)
+}
+
+/// A path, the bytes of a document, and what is told of them.
+const TOLD: &[(&str, &[u8], &str)] = &[
+    ("x", b"{", "at position 1, expected '$'"),
+    ("$.a ", b"null", "at position 4, text after the path"),
+    ("$", b"1 2", "not JSON"),
+    ("$", b"\xff", "not JSON"),
+    ("$.a", b"{", "not JSON"),
+];
+
+/// Holds a path and a document to what is told of their refusal.
+fn refuses(
+    rt: &impl Abort,
+    alloc: Global,
+    path: &str,
+    document: &[u8],
+    told: &str,
+) -> Result<(), Fail> {
+    match report(alloc, path, document) {
+        Ok(_) => assert!(rt; false, "{path} is not refused"),
+        Err(e) => assert_eq!(rt; e.to_string(alloc)?.as_str(), told, "of {path}"),
+    }
+    Ok(())
+}
+
+/// Each row has a path, the bytes of a document, and what is told of them.
+fn refuses_each(rt: &impl Abort, alloc: Global, rows: &[(&str, &[u8], &str)]) -> Result<(), Fail> {
+    for &(path, document, told) in rows {
+        refuses(rt, alloc, path, document, told)?;
+    }
+    Ok(())
+}
+
+#[test]
+fn refusals_of_paths_and_documents(rt: HostRuntime) -> Result<(), Fail> {
+    refuses_each(&rt, rt.alloc(), TOLD)
+}
+
+/// Puts a character so many times behind a text.
+fn push_times(text: &mut String, c: char, times: usize) -> Result<(), AllocError> {
+    for _ in 0..times {
+        text.push(c)?;
+    }
+    Ok(())
+}
+
+/// So many arrays, each within the one before.
+fn nested(alloc: Global, depth: usize) -> Result<String, AllocError> {
+    let mut text = String::new(alloc);
+    push_times(&mut text, '[', depth)?;
+    push_times(&mut text, ']', depth)?;
+    Ok(text)
+}
+
+#[test]
+fn nested_arrays(rt: HostRuntime) -> Result<(), Fail> {
+    let alloc = rt.alloc();
+    let most = nested(alloc, 127)?;
+    let lines = report(alloc, "$", most.as_str().as_bytes())?;
+    assert_eq!(rt; lines.len(), 2 + 2 * 127 + 1);
+    let more = nested(alloc, 128)?;
+    refuses(&rt, alloc, "$", more.as_str().as_bytes(), "not JSON")
+}
