@@ -13,7 +13,7 @@ pub use parser::parse_source;
 pub use path::JsonPath;
 pub use serde_json_path_core::QueryError;
 pub use serde_json_path_nodes::{
-    AtMostOneError, ExactlyOneError, LocatedNode, LocatedNodeList, LocatedNodes, Locations, NodeList,
-    Nodes, NormalizedPath, PathElement, PathElements,
+    AtMostOneError, ExactlyOneError, LocatedNode, LocatedNodeList, LocatedNodes, Locations,
+    NodeList, Nodes, NormalizedPath, PathElement, PathElements,
 };
 pub use source::{PathSource, TextSource};

@@ -98,7 +98,13 @@ fn dot<S: PathSource>(
         reader.take_char();
         return descendant(alloc, builder, reader);
     }
-    dotted(alloc, builder, reader, SegmentKind::Child, Place::DotMemberName)
+    dotted(
+        alloc,
+        builder,
+        reader,
+        SegmentKind::Child,
+        Place::DotMemberName,
+    )
 }
 
 /// A segment (RFC 9535, section 2.5), at its `.` or `[`.
