@@ -61,8 +61,12 @@ impl PathSource for TextSource<'_> {
     }
 
     fn byte(&mut self, index: usize) -> u8 {
-        self.looks = self.looks.saturating_add(1);
-        self.farthest = self.farthest.max(index + 1);
+        if let Some(looks) = self.looks.checked_add(1) {
+            self.looks = looks;
+        }
+        if index >= self.farthest {
+            self.farthest = index + 1;
+        }
         self.text.as_bytes()[index]
     }
 }

@@ -1,6 +1,6 @@
 //! Characters out of bytes.
 
-ghost use Rattle.std.specs.Prelude.{◌≡◌, ◌<◌, ◌+◌, ◌-◌, ◌%◌, ◌^◌, length, slice_index, slice_get, drop, Some};
+ghost use Rattle.std.specs.Prelude.{◌≡◌, ◌<◌, ◌≤◌, ◌+◌, ◌-◌, ◌%◌, ◌^◌, length, slice_index, slice_get, drop, Some};
 ghost use Rattle.std.specs.Str.{IsUtf8};
 ghost use Rattle.std.specs.Str.Pattern.{StartsWithChar};
 ghost use Rattle.std.specs.Char.{IsScalar};
@@ -36,20 +36,18 @@ fn character(code: u32) -> char
     char::from_u32(code).unwrap()
 }
 
-/// The character that begins at an index with this byte, and how many bytes it takes. Its first byte is not looked at
-/// again.
-pub(crate) fn character_at<S: PathSource>(source: &mut S, index: usize, lead: u8) -> (char, usize)
+/// The character of two bytes or more that begins at an index with this byte, and how many bytes it takes.
+#[inline(never)]
+fn wide_character_at<S: PathSource>(source: &mut S, index: usize, lead: u8) -> (char, usize)
     requires utf8 { IsUtf8 (drop index (S.told source.old).text) }
     requires lead { slice_get (S.told source.old).text index ≡ Some lead }
     requires short { length (S.told source.old).text < 2 ^ 64 }
+    requires wide { 128 ≤ lead }
     ensures decodes { StartsWithChar (drop index (S.told source.old).text) result.0 result.1 }
     ensures scalar { IsScalar result.0 }
     ensures looks { LooksOn (S.told source.old) (S.told source.new) (result.1 - 1) (index + result.1) }
 {
     let first = lead as u32;
-    if first < 0x80 {
-        return (character(first), 1);
-    }
     let second = low_bits(source, index + 1);
     if first < 0xe0 {
         return (character(first % 32 * 64 + second), 2);
@@ -63,4 +61,21 @@ pub(crate) fn character_at<S: PathSource>(source: &mut S, index: usize, lead: u8
         character(first % 8 * 262144 + second * 4096 + third * 64 + fourth),
         4,
     )
+}
+
+/// The character that begins at an index with this byte, and how many bytes it takes. Its first byte is not looked at
+/// again.
+#[inline(always)]
+pub(crate) fn character_at<S: PathSource>(source: &mut S, index: usize, lead: u8) -> (char, usize)
+    requires utf8 { IsUtf8 (drop index (S.told source.old).text) }
+    requires lead { slice_get (S.told source.old).text index ≡ Some lead }
+    requires short { length (S.told source.old).text < 2 ^ 64 }
+    ensures decodes { StartsWithChar (drop index (S.told source.old).text) result.0 result.1 }
+    ensures scalar { IsScalar result.0 }
+    ensures looks { LooksOn (S.told source.old) (S.told source.new) (result.1 - 1) (index + result.1) }
+{
+    if lead < 0x80 {
+        return (character(lead as u32), 1);
+    }
+    wide_character_at(source, index, lead)
 }

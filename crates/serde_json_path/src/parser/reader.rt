@@ -56,6 +56,7 @@ impl<'s, S: PathSource> Reader<'s, S> {
     }
 
     /// Takes the next character.
+    #[inline(always)]
     pub(crate) fn take_char(&mut self) -> char
         requires { 0 < length (left self.old) }
         ensures value { left self.old ≡ result ∷ left self.new }
