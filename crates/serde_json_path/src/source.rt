@@ -1,6 +1,6 @@
 //! Texts that are looked at byte by byte.
 
-ghost use Rattle.std.specs.Prelude.{◌≡◌, ◌<◌, length, slice_index};
+ghost use Rattle.std.specs.Prelude.{◌≡◌, ◌<◌, ◌-◌, ◌^◌, length, slice_index};
 ghost use Rattle.std.specs.Str.{IsUtf8};
 ghost use Rattle.serde_json_path.specs.Source.{Told, looked};
 
@@ -25,8 +25,11 @@ pub trait PathSource {
 #[derive(Drop)]
 pub struct TextSource<'t> {
     text: &'t str,
-    looks: u128,
-    farthest: usize,
+    /// How many bytes were looked at one after the other, from the first one on: a single number, as it goes with each
+    /// byte of a parse.
+    in_order: usize,
+    other_looks: u128,
+    other_farthest: usize,
 }
 
 impl<'t> TextSource<'t> {
@@ -38,8 +41,9 @@ impl<'t> TextSource<'t> {
     {
         TextSource {
             text,
-            looks: 0,
-            farthest: 0,
+            in_order: 0,
+            other_looks: 0,
+            other_farthest: 0,
         }
     }
 
@@ -47,7 +51,17 @@ impl<'t> TextSource<'t> {
     pub fn looks(&self) -> u128
         ensures { result ≡ (told_by self.now).looks }
     {
-        self.looks
+        self.other_looks.saturating_add(self.in_order as u128)
+    }
+
+    /// Counts a look at the byte of that index which is not the next in order.
+    #[inline(never)]
+    fn look_elsewhere(&mut self, index: usize)
+        requires { index < 2 ^ 64 - 1 }
+        ensures { told_by self.new ≡ looked (told_by self.old) index }
+    {
+        self.other_looks = self.other_looks.saturating_add(1);
+        self.other_farthest = self.other_farthest.max(index + 1);
     }
 }
 
@@ -61,11 +75,10 @@ impl PathSource for TextSource<'_> {
     }
 
     fn byte(&mut self, index: usize) -> u8 {
-        if let Some(looks) = self.looks.checked_add(1) {
-            self.looks = looks;
-        }
-        if index >= self.farthest {
-            self.farthest = index + 1;
+        if index == self.in_order {
+            self.in_order += 1;
+        } else {
+            self.look_elsewhere(index);
         }
         self.text.as_bytes()[index]
     }
