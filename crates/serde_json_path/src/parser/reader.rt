@@ -1,15 +1,18 @@
 //! A text that is read character by character, and each byte looked at once.
 
-ghost use Rattle.std.specs.Prelude.{◌≡◌, ◌==◌, ◌<◌, ◌≤◌, ◌+◌, ◌-◌, ◌^◌, ◌∷◌, ℕ, length, slice_get, drop, true, max};
-ghost use Rattle.std.specs.Str.{is_utf8, chars};
+ghost use Rattle.std.specs.Prelude.{◌≡◌, ◌==◌, ◌<◌, ◌≤◌, ◌+◌, ◌-◌, ◌^◌, ◌∷◌, ℕ, length, slice_get, drop, true, max, IfOk, string_bytes, ◌++◌};
+ghost use Rattle.std.specs.Str.{is_utf8, chars, encode_utf8_all as encoded};
 ghost use Rattle.std.specs.Char.{IsScalar};
 ghost use Rattle.serde_json_path.specs.Lexical.{begins, is_blank, is_digit, is_name_first, is_name_char};
 ghost use Rattle.serde_json_path.specs.Ahead.{IsAhead};
+ghost use Rattle.serde_json_path.specs.Looking.{up_to};
+ghost use Rattle.serde_json_path.specs.Parsed.{front, behind};
 ghost use Rattle.serde_json_path.specs.Strings.{is_hexadecimal, is_letter_escape, is_control, is_inside};
 
 use crate::error::{ParseErrorKind, Place, Refusal, Stop};
 use crate::parser::decode::{byte_at, character_at};
 use crate::source::PathSource;
+use std::alloc::AllocError;
 
 /// A text with one byte of look-ahead. A character is decoded only when it is taken, so that no byte beyond the next
 /// one is looked at.
@@ -44,6 +47,24 @@ impl<'s, S: PathSource> Reader<'s, S> {
         Reader {
             source,
             index: 0,
+            next,
+        }
+    }
+
+    /// A reader at an index of a text, where this byte is next.
+    fn resume(source: &'s mut S, index: usize, next: Option<u8>) -> Reader<'s, S>
+        requires short { length (S.told source.old).text < 2 ^ 64 - 1 }
+        requires within { index ≤ length (S.told source.old).text }
+        requires utf8 { is_utf8 (drop index (S.told source.old).text) ≡ true }
+        requires next_is { next ≡ slice_get (S.told source.old).text index }
+        ensures same_source { result.source.ghost_name ≡ source.entry.ghost_name }
+        ensures told { told result ≡ S.told source.old }
+        ensures index { result.index ≡ index }
+        ensures next { result.next ≡ next }
+    {
+        Reader {
+            source,
+            index,
             next,
         }
     }
@@ -179,6 +200,18 @@ impl<'s, S: PathSource> Reader<'s, S> {
         self.sees_name_first() || self.sees_digit()
     }
 
+    /// Takes the characters of a member name that are next, and puts them behind a text.
+    pub(crate) fn take_name_chars(&mut self, text: &mut String) -> Result<(), AllocError>
+        ensures moves { Moves self.old self.new }
+        ensures text { IfOk result (λ u. string_bytes text.new ≡ string_bytes text.old ++ encode_utf8_all (front is_name_char (left self.old))) }
+        ensures rest { IfOk result (λ u. left self.new ≡ behind is_name_char (left self.old)) }
+    {
+        let (index, next, pushed) = name_chars(self.source, self.index, self.next, text);
+        self.index = index;
+        self.next = next;
+        pushed
+    }
+
     /// Whether a hexadecimal digit is next.
     pub(crate) fn sees_hexadecimal(&self) -> bool
         ensures { result ≡ begins is_hexadecimal (left self.now) }
@@ -255,4 +288,37 @@ impl<'s, S: PathSource> Reader<'s, S> {
             next: _,
         } = self;
     }
+}
+
+/// Takes the characters of a member name that stand at an index, where this byte is next: the index and the next byte
+/// behind them. The reader is a local one, so that long names are read without a step through memory for each byte.
+fn name_chars<S: PathSource>(
+    source: &mut S,
+    index: usize,
+    next: Option<u8>,
+    text: &mut String,
+) -> (usize, Option<u8>, Result<(), AllocError>)
+    requires short { length (S.told source.old).text < 2 ^ 64 - 1 }
+    requires within { index ≤ length (S.told source.old).text }
+    requires utf8 { is_utf8 (drop index (S.told source.old).text) ≡ true }
+    requires next_is { next ≡ slice_get (S.told source.old).text index }
+    ensures same_text { (S.told source.new).text ≡ (S.told source.old).text }
+    ensures within { result.0 ≤ length (S.told source.new).text }
+    ensures utf8 { is_utf8 (drop result.0 (S.told source.new).text) ≡ true }
+    ensures next_is { result.1 ≡ slice_get (S.told source.new).text result.0 }
+    ensures looks { (S.told source.new).looks + up_to index next ≤ (S.told source.old).looks + up_to result.0 result.1 }
+    ensures farthest { (S.told source.new).farthest ≤ max (S.told source.old).farthest (up_to result.0 result.1) }
+    ensures on { up_to index next ≤ up_to result.0 result.1 }
+    ensures text { IfOk result.2 (λ u. string_bytes text.new ≡ string_bytes text.old ++ encoded (front is_name_char (chars (drop index (S.told source.old).text)))) }
+    ensures rest { IfOk result.2 (λ u. chars (drop result.0 (S.told source.new).text) ≡ behind is_name_char (chars (drop index (S.told source.old).text))) }
+{
+    let mut reader = Reader::resume(source, index, next);
+    let mut pushed = Ok(());
+    while pushed.is_ok() && reader.sees_name_char() {
+        pushed = text.push(reader.take_char());
+    }
+    let index = reader.index;
+    let next = reader.next;
+    reader.close();
+    (index, next, pushed)
 }

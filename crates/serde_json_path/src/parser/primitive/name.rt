@@ -25,8 +25,6 @@ pub(crate) fn name<S: PathSource>(
         return Err(reader.refuse(ParseErrorKind::BadMemberName, place));
     }
     let mut text = String::new(alloc);
-    while reader.sees_name_char() {
-        text.push(reader.take_char())?;
-    }
+    reader.take_name_chars(&mut text)?;
     Ok(text)
 }
