@@ -314,8 +314,11 @@ fn name_chars<S: PathSource>(
 {
     let mut reader = Reader::resume(source, index, next);
     let mut pushed = Ok(());
-    while pushed.is_ok() && reader.sees_name_char() {
+    while reader.sees_name_char() {
         pushed = text.push(reader.take_char());
+        if pushed.is_err() {
+            break;
+        }
     }
     let index = reader.index;
     let next = reader.next;
