@@ -13,6 +13,7 @@ pub mod PathTexts
 pub mod SelectorPlaces
 pub mod IntTexts
 pub mod NumberTexts
+pub mod FractionSteps
 pub mod SliceTexts
 pub mod SlicePlaces
 pub mod StringTexts

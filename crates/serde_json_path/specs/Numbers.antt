@@ -1,7 +1,7 @@
 -- Number literals, as they are read from left to right (RFC 9535, section 2.3.5.1), on lists of characters. That there is
 -- no exponent, that a fraction has one to nine digits, and the range are this project's own rules. Each refusal is told
 -- where the literal begins: `start` is the text from there on.
-use Rattle.std.specs.Prelude.{ℕ, ◌+◌, ◌-◌, ◌*◌, ◌^◌, ◌==◌, ◌||◌, nat_le, ℤ, pos, ◌-ℤ◌, Bool, List, length, drop, Ok, Err, if◌then◌else◌}
+use Rattle.std.specs.Prelude.{ℕ, ◌+◌, ◌-◌, ◌*◌, ◌^◌, ◌==◌, ◌||◌, min, nat_le, ℤ, pos, ◌-ℤ◌, Bool, List, length, drop, Ok, Err, if◌then◌else◌}
 use Rattle.serde_json_path.specs.declared.error.ParseErrorKind.TheVariants.{ExpectedExpression, ExponentOrEmptyFraction, FractionTooLong, NumberOutOfRange}
 use Rattle.serde_json_path.specs.declared.error.Place.TheVariants as place
 use Rattle.serde_json_path.specs.Lexical.{begins, is_digit, value_from, fraction_of}
@@ -46,3 +46,7 @@ number_at cs =
     if nat_le n.0 (2 ^ 63 * 1000000000) then Ok (pos 0 -ℤ pos n.0, n.1) else Err (refusal NumberOutOfRange place.LongHand cs))
     else (amount_at cs cs >>= λ n.
     if nat_le n.0 ((2 ^ 64 - 1) * 1000000000) then Ok (pos n.0, n.1) else Err (refusal NumberOutOfRange place.LongHand cs))
+
+-- what is read, as a number that stops at the greatest u128
+abbrev pub capped : Parsed ℕ → Parsed ℕ
+capped read = read >>= λ n. Ok (min n.0 (2 ^ 128 - 1), n.1)

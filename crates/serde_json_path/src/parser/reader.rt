@@ -5,6 +5,7 @@ ghost use Rattle.std.specs.Str.{is_utf8, chars};
 ghost use Rattle.std.specs.Char.{IsScalar};
 ghost use Rattle.serde_json_path.specs.Lexical.{begins, is_blank, is_digit, is_name_first, is_name_char};
 ghost use Rattle.serde_json_path.specs.Ahead.{IsAhead};
+ghost use Rattle.serde_json_path.specs.Numbers.{is_exponent};
 ghost use Rattle.serde_json_path.specs.Strings.{is_hexadecimal, is_letter_escape, is_control, is_inside};
 
 use crate::error::{ParseErrorKind, Place, Refusal, Stop};
@@ -150,6 +151,16 @@ impl<'s, S: PathSource> Reader<'s, S> {
     {
         match self.peek() {
             Some(next) => next >= b'1' && next <= b'9',
+            None => false,
+        }
+    }
+
+    /// Whether an exponent begins here.
+    pub(crate) fn sees_exponent(&self) -> bool
+        ensures { result ≡ begins is_exponent (left self.now) }
+    {
+        match self.peek() {
+            Some(next) => matches!(next, b'e' | b'E'),
             None => false,
         }
     }
