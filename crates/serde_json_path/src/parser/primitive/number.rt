@@ -18,6 +18,9 @@ use serde_json_path_core::NumberLiteral;
 /// How many billionths one is.
 const ONE: u128 = 1_000_000_000;
 
+/// How many digits a fraction may have.
+const FRACTION_DIGITS: usize = 9;
+
 /// More billionths than any literal has.
 const TOO_MANY: u128 = (1 << 127) - 1;
 
@@ -68,10 +71,10 @@ fn digits_behind_point<S: PathSource>(
     if reader.sees_exponent() {
         return Err(refused(ParseErrorKind::ExponentOrEmptyFraction, start));
     }
-    if count > 9 {
+    if count > FRACTION_DIGITS {
         return Err(refused(ParseErrorKind::FractionTooLong, start));
     }
-    Ok(value * 10_u128.pow(9 - count as u32))
+    Ok(value * 10_u128.pow((FRACTION_DIGITS - count) as u32))
 }
 
 /// The billionths of a fraction, or 0 where there is none.
