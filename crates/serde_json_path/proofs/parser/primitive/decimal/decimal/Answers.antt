@@ -22,5 +22,5 @@ pub returns-clause-value : goal.returns-clause-value
 returns-clause-value g c =
     let seen : begins is_digit (left c.loop-reader.reader) ≡ false = sym c.sees_digit.ensures ∙ c.loop-reader-test.false in
     let stops : min c.loop-reader.n (2 ^ 128 - 1) ≡ min (value_from 0 (front is_digit (left c.args.reader.now))) (2 ^ 128 - 1) =
-        ap (λ (l : List ℕ). min (value_from c.loop-reader.n l) (2 ^ 128 - 1)) (sym (front_end is_digit (left c.loop-reader.reader) seen)) ∙ c.loop-reader.invariant.value in
+    ap (λ (l : List ℕ). min (value_from c.loop-reader.n l) (2 ^ 128 - 1)) (sym (front_end is_digit (left c.loop-reader.reader) seen)) ∙ c.loop-reader.invariant.value in
     omega (arith, stops, c.loop-reader.invariant.bound)
