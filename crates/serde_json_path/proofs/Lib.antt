@@ -12,6 +12,8 @@ pub mod SegmentSteps
 pub mod PathTexts
 pub mod SelectorPlaces
 pub mod IntTexts
+pub mod NumberTexts
+pub mod FractionSteps
 pub mod SliceTexts
 pub mod SlicePlaces
 pub mod StringTexts

@@ -10,6 +10,7 @@ pub mod Reading
 pub mod Parsed
 pub mod Strings
 pub mod Parsing
+pub mod Numbers
 pub mod Giving
 pub mod Open
 pub mod Paths

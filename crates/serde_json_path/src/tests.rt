@@ -8,6 +8,7 @@ mod lists;
 mod long_texts;
 mod messages;
 mod names;
+mod numbers;
 mod paths;
 mod refusals;
 mod rows;

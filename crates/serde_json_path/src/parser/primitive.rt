@@ -1,5 +1,7 @@
 //! The pieces of a path's text.
 
+mod decimal;
 pub(crate) mod int;
 pub(crate) mod name;
+pub(crate) mod number;
 pub(crate) mod string;

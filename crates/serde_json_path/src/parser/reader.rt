@@ -7,6 +7,7 @@ ghost use Rattle.serde_json_path.specs.Lexical.{begins, is_blank, is_digit, is_n
 ghost use Rattle.serde_json_path.specs.Ahead.{IsAhead};
 ghost use Rattle.serde_json_path.specs.Looking.{up_to};
 ghost use Rattle.serde_json_path.specs.Parsed.{front, behind};
+ghost use Rattle.serde_json_path.specs.Numbers.{is_exponent};
 ghost use Rattle.serde_json_path.specs.Strings.{is_hexadecimal, is_letter_escape, is_control, is_inside};
 
 use crate::error::{ParseErrorKind, Place, Refusal, Stop};
@@ -172,6 +173,16 @@ impl<'s, S: PathSource> Reader<'s, S> {
     {
         match self.peek() {
             Some(next) => next >= b'1' && next <= b'9',
+            None => false,
+        }
+    }
+
+    /// Whether an exponent begins here.
+    pub(crate) fn sees_exponent(&self) -> bool
+        ensures { result ≡ begins is_exponent (left self.now) }
+    {
+        match self.peek() {
+            Some(next) => matches!(next, b'e' | b'E'),
             None => false,
         }
     }

@@ -8,7 +8,7 @@ use std::alloc::{AllocError, Global};
 use std::test::Fail;
 
 /// The beginning, a text so many times, and the end.
-fn long(
+pub(crate) fn long(
     alloc: Global,
     beginning: &str,
     repeated: &str,

@@ -8,11 +8,12 @@ ghost use Rattle.serde_json_path.specs.Parsing.{digits_at, int_at};
 ghost use Rattle.serde_json_path.specs.Reading.{left, Moves};
 
 use crate::error::{ParseErrorKind, Place, Refusal, Stop};
+use crate::parser::primitive::decimal::decimal;
 use crate::parser::reader::Reader;
 use crate::source::PathSource;
 
 /// The greatest integer: 2^53 - 1.
-const LARGEST: u64 = 9_007_199_254_740_991;
+const LARGEST: u128 = 9_007_199_254_740_991;
 
 /// The digits of an integer that has so many bytes from its start on. They are read whole before their range is judged.
 #[tactic(auto, unfolding(crate::specs::Parsing::digits_at))]
@@ -22,11 +23,7 @@ fn digits<S: PathSource>(reader: &mut Reader<'_, S>, start: usize) -> Result<u64
     ensures gives { (cs : List ℕ) → start ≡ length (encode_utf8_all cs) → Gives (λ n. n) result reader.new (digits_at cs (left reader.old)) }
     ensures range { IfOk result (λ n. n ≤ largest) }
 {
-    let mut n: u64 = 0;
-    while reader.sees_digit() {
-        let digit = reader.take_char() as u64 - 48;
-        n = n.saturating_mul(10).saturating_add(digit);
-    }
+    let n = decimal(reader);
     if n > LARGEST {
         return Err(Stop::Refused(Refusal {
             kind: ParseErrorKind::IntegerOutOfRange,
@@ -34,7 +31,7 @@ fn digits<S: PathSource>(reader: &mut Reader<'_, S>, start: usize) -> Result<u64
             left: start,
         }));
     }
-    Ok(n)
+    Ok(n as u64)
 }
 
 /// An integer of -(2^53 - 1) to 2^53 - 1 (RFC 9535, section 2.3.3.1): an index, or a part of a slice.
