@@ -4,6 +4,7 @@ pub mod Many
 pub mod Runs
 pub mod Steps
 pub mod Stands
+pub mod Filtered
 pub mod Blanks
 pub mod SelectorTexts
 pub mod BracketTexts

@@ -11,6 +11,8 @@ pub mod Parsed
 pub mod Strings
 pub mod Parsing
 pub mod Numbers
+pub mod Operands
+pub mod Filters
 pub mod Giving
 pub mod Open
 pub mod Paths
