@@ -9,6 +9,8 @@ pub mod Blanks
 pub mod SelectorTexts
 pub mod BracketTexts
 pub mod SegmentTexts
+pub mod LogicalForms
+pub mod OperandTexts
 pub mod SegmentSteps
 pub mod PathTexts
 pub mod SelectorPlaces
