@@ -16,7 +16,7 @@ use Rattle.serde_json_path.proofs.Stands.{Stands, bind_stands, guard_stands, no_
 
 -- ---- first digits
 
-first_is_digit : (c : ℕ) → is_first_digit c ≡ true → is_digit c ≡ true
+pub first_is_digit : (c : ℕ) → is_first_digit c ≡ true → is_digit c ≡ true
 first_is_digit c e =
     let h = and_parts (nat_le 49 c) (nat_le c 57) e in
     let from : nat_le 48 c ≡ true = grind (arith, h.0) in
@@ -29,7 +29,7 @@ digit_is_first c e z =
     rw (from, h.1) refl
 
 -- a list that begins with a first digit begins with no other character
-first_not : (k : ℕ) (cs : List ℕ) → is_first_digit k ≡ false → begins is_first_digit cs ≡ true → begins (λ c. c == k) cs ≡ false
+pub first_not : (k : ℕ) (cs : List ℕ) → is_first_digit k ≡ false → begins is_first_digit cs ≡ true → begins (λ c. c == k) cs ≡ false
 first_not k cs never e = begins_where is_first_digit (λ c. c == k) false cs (λ c f. differs is_first_digit k c never f) e
 
 some_value : (cs : List ℕ) → begins is_first_digit cs ≡ true → 1 ≤ value_from 0 (front is_digit cs)
@@ -43,6 +43,19 @@ some_value (c ∷ cs) e =
 
 -- ---- what is read is an integer
 
+-- digits that are read whole, the first of them not `0`
+pub decimal_read : (cs : List ℕ) → begins is_first_digit cs ≡ true → Read IsDecimal cs (value_from 0 (front is_digit cs), behind is_digit cs)
+decimal_read cs first = record {
+  text = front is_digit cs;
+  is_so = record {
+    first = front_begins is_digit is_digit cs (λ c d. d) (begins_where is_first_digit is_digit true cs first_is_digit first);
+    each = front_each is_digit cs;
+    plain = inr (front_begins_not is_digit (λ c. c == 48) cs (first_not 48 cs refl first));
+    value_of = refl;
+  };
+  split = whole is_digit cs;
+}
+
 digits_sound : (start cs : List ℕ) (x : ℕ × List ℕ) → begins is_first_digit cs ≡ true → digits_at start cs ≡ Ok x → Read IsDecimal cs x × (1 ≤ x.0) × (x.0 ≤ largest)
 unfolding digits_at
 digits_sound start cs x first e =
@@ -50,16 +63,7 @@ digits_sound start cs x first e =
     let g = guard (nat_le n largest) (refusal IntegerOutOfRange place.LongHand start) (done (n, behind is_digit cs)) x e in
     let most : n ≤ largest = grind (arith, g.0) in
     subst (λ (y : ℕ × List ℕ). Read IsDecimal cs y × (1 ≤ y.0) × (y.0 ≤ largest)) (ok_is (n, behind is_digit cs) x g.1) (
-      record {
-        text = front is_digit cs;
-        is_so = record {
-          first = front_begins is_digit is_digit cs (λ c d. d) (begins_where is_first_digit is_digit true cs first_is_digit first);
-          each = front_each is_digit cs;
-          plain = inr (front_begins_not is_digit (λ c. c == 48) cs (first_not 48 cs refl first));
-          value_of = refl;
-        };
-        split = whole is_digit cs;
-      },
+      decimal_read cs first,
       some_value cs first,
       most,
     )
@@ -71,7 +75,7 @@ negative_is text (suc n) d some most = ((text, d, refl), (omega (arith, ints, mo
 positive_is : (text : List ℕ) (n : ℕ) → IsDecimal text n → n ≤ largest → IsInt text (pos n)
 positive_is text n d most = (d, (omega (arith, ints, most), omega (arith, ints, most)))
 
-zero_is : IsDecimal (48 ∷ []) 0
+pub zero_is : IsDecimal (48 ∷ []) 0
 zero_is = record { first = refl; each = (refl, tt); plain = inl refl; value_of = refl }
 
 pub int_sound : (cs : List ℕ) (x : ℤ × List ℕ) → int_at cs ≡ Ok x → Read IsInt cs x
@@ -116,7 +120,7 @@ digits_again start t n rest d most e =
     let in_range : nat_le (value_from 0 t) largest ≡ true = grind (arith, most, d.value_of) in
     rw (front_all is_digit t rest d.each e, behind_all is_digit t rest d.each e, in_range) (ap (λ (k : ℕ). Ok (k, rest)) (sym d.value_of))
 
-first_digit : (t rest : List ℕ) → begins is_digit t ≡ true → begins (λ c. c == 48) t ≡ false → begins is_first_digit (t ++ rest) ≡ true
+pub first_digit : (t rest : List ℕ) → begins is_digit t ≡ true → begins (λ c. c == 48) t ≡ false → begins is_first_digit (t ++ rest) ≡ true
 first_digit [] rest d z = absurd cc
 first_digit (c ∷ t) rest d z = digit_is_first c d z
 
@@ -145,14 +149,17 @@ int_again t (negsuc n) rest h e =
 
 -- ---- how an integer begins
 
+pub digit_begins : (c : ℕ) → is_digit c ≡ true → begins_int c ≡ true
+digit_begins c d = by_sign (c == 45) refl
+  where
+    by_sign : (s : Bool) → (c == 45) ≡ s → begins_int c ≡ true
+    by_sign true s = rw s refl
+    by_sign false s = rw (s, d) refl
+
 -- each character that may begin an integer answers so, and an integer with it
 pub int_first : (p : ℕ → Bool) (b : Bool) (t : List ℕ) (i : ℤ) (rest : List ℕ) → ((c : ℕ) → begins_int c ≡ true → p c ≡ b) → IsInt t i → begins p (t ++ rest) ≡ b
 int_first p b [] (pos n) rest h is = absurd (let first = is.0.first in cc)
-int_first p b (c ∷ t) (pos n) rest h is = h c (by_sign (c == 45) refl is.0.first)
-  where
-    by_sign : (s : Bool) → (c == 45) ≡ s → is_digit c ≡ true → begins_int c ≡ true
-    by_sign true s d = rw s refl
-    by_sign false s d = rw (s, d) refl
+int_first p b (c ∷ t) (pos n) rest h is = h c (digit_begins c is.0.first)
 int_first p b t (negsuc n) rest h is = ap (λ (l : List ℕ). begins p (l ++ rest)) is.0.2 ∙ h 45 refl
 
 pub int_begins : (t : List ℕ) (i : ℤ) (rest : List ℕ) → IsInt t i → begins begins_int (t ++ rest) ≡ true

@@ -15,6 +15,7 @@ pub mod SegmentSteps
 pub mod PathTexts
 pub mod SelectorPlaces
 pub mod IntTexts
+pub mod NumberTexts
 pub mod SliceTexts
 pub mod SlicePlaces
 pub mod StringTexts
