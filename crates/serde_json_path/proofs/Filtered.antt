@@ -39,4 +39,4 @@ module _ (Good : LogicalOr → Type 0) where
   pub record FilterLaws (filter_at : List ℕ → Parsed Selector) : Type 0 where
     pub sound : (cs : List ℕ) (x : Selector × List ℕ) → begins (λ c. c == 63) cs ≡ true → filter_at cs ≡ Ok x → Read (Spaced IsGoodText) cs x
     pub again : (t : List ℕ) (e : LogicalOr) (rest : List ℕ) → IsGoodText t (filter e) → Closes rest → filter_at (t ++ rest) ≡ Ok (filter e, past_blanks rest)
-    pub stands : (cs : List ℕ) (r : Refusal) → filter_at cs ≡ Err r → Stands cs r
+    pub stands : (cs : List ℕ) (r : Refusal) → begins (λ c. c == 63) cs ≡ true → filter_at cs ≡ Err r → Stands cs r

@@ -10,6 +10,8 @@ pub mod SelectorTexts
 pub mod BracketTexts
 pub mod SegmentTexts
 pub mod LogicalForms
+pub mod FirstCharacters
+pub mod FilterTexts
 pub mod OperandTexts
 pub mod SegmentSteps
 pub mod PathTexts

@@ -52,6 +52,36 @@ operator_at cs =
     else if begins (λ c. c == 62) cs then Some (greater, drop 1 cs)
     else None
 
+-- a string as an operand, at its quote
+unfoldable pub text_at : ℕ → List ℕ → Parsed Operand
+text_at quote cs = string_at quote (drop 1 cs) >>= λ t. Ok (a_literal (text t.0), past_blanks t.1)
+
+-- ---- what was read in a row
+
+abbrev pub and_list : List Basic → LogicalAnd
+and_list [] = no_and
+and_list (b ∷ bs) = and b (and_list bs)
+
+abbrev pub or_list : List LogicalAnd → LogicalOr
+or_list [] = no_or
+or_list (a ∷ more) = or a (or_list more)
+
+-- ---- arguments
+
+-- an operand that stands alone
+abbrev pub alone : Operand → Argument
+alone (a_literal l) = literal_argument l
+alone (a_query q) = query_argument q
+alone (a_call c) = call_argument c
+
+abbrev pub ends_argument : ℕ → Bool
+ends_argument c = c == 44 || c == 41
+
+-- behind the last argument
+unfoldable pub ended : List ℕ → List Kind → List ℕ → Parsed Arguments
+ended start [] cs = Ok (no_arguments, past_blanks cs)
+ended start (kind ∷ kinds) cs = Err (refusal WrongNumberOfArguments place.LongHand start)
+
 -- ---- one level deeper
 
 -- How filters, parentheses and calls are read: the expression inside one that opens at the first text, and a call of that
@@ -74,9 +104,6 @@ module _ (signature : List ℕ → Option Signature) (deeper : Deeper) where
   -- at a name with `(` behind it
   unfoldable pub named_call_at : List ℕ → Parsed Call
   named_call_at cs = deeper.call_of cs (word cs) (drop 1 (behind_word cs))
-
-  unfoldable pub text_at : ℕ → List ℕ → Parsed Operand
-  text_at quote cs = string_at quote (drop 1 cs) >>= λ t. Ok (a_literal (text t.0), past_blanks t.1)
 
   unfoldable pub operand_at : List ℕ → Parsed Operand
   operand_at cs =
@@ -140,14 +167,6 @@ module _ (signature : List ℕ → Option Signature) (deeper : Deeper) where
       else if begins (λ c. c == 33) cs then negated_at (past_blanks (drop 1 cs))
       else (operand_at cs >>= λ o. basic_from cs o.0 o.1)
 
-  abbrev pub and_list : List Basic → LogicalAnd
-  and_list [] = no_and
-  and_list (b ∷ bs) = and b (and_list bs)
-
-  abbrev pub or_list : List LogicalAnd → LogicalOr
-  or_list [] = no_or
-  or_list (a ∷ more) = or a (or_list more)
-
   -- at `&&`
   unfoldable pub next_basic_at : List ℕ → Parsed Basic
   next_basic_at cs = basic_at (past_blanks (drop 2 cs))
@@ -171,15 +190,6 @@ module _ (signature : List ℕ → Option Signature) (deeper : Deeper) where
 
   -- ---- calls
 
-  -- an operand that stands alone
-  abbrev pub alone : Operand → Argument
-  alone (a_literal l) = literal_argument l
-  alone (a_query q) = query_argument q
-  alone (a_call c) = call_argument c
-
-  abbrev pub ends_argument : ℕ → Bool
-  ends_argument c = c == 44 || c == 41
-
   -- what begins with an operand that does not stand alone
   unfoldable pub logical_from : List ℕ → Operand → List ℕ → Parsed Argument
   logical_from start o cs =
@@ -194,11 +204,6 @@ module _ (signature : List ℕ → Option Signature) (deeper : Deeper) where
   unfoldable pub judged : List ℕ → List ℕ → List Kind → Argument → Result (List Kind) Refusal
   judged start cs [] a = Err (refusal WrongNumberOfArguments place.LongHand start)
   judged start cs (kind ∷ kinds) a = if fits signature a kind then Ok kinds else Err (refusal WrongArgumentType place.LongHand cs)
-
-  -- behind the last argument
-  unfoldable pub ended : List ℕ → List Kind → List ℕ → Parsed Arguments
-  ended start [] cs = Ok (no_arguments, past_blanks cs)
-  ended start (kind ∷ kinds) cs = Err (refusal WrongNumberOfArguments place.LongHand start)
 
   -- one argument or more, of a call that begins at start, for parameters of these types; at most fuel of them
   unfoldable pub arguments_at : ℕ → List ℕ → List Kind → List ℕ → Parsed Arguments
