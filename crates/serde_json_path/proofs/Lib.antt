@@ -13,6 +13,8 @@ pub mod LogicalForms
 pub mod FirstCharacters
 pub mod FilterTexts
 pub mod OperandTexts
+pub mod Rows
+pub mod LogicalTexts
 pub mod SegmentSteps
 pub mod PathTexts
 pub mod SelectorPlaces
