@@ -15,6 +15,7 @@ pub mod FilterTexts
 pub mod OperandTexts
 pub mod Rows
 pub mod LogicalTexts
+pub mod CallTexts
 pub mod SegmentSteps
 pub mod PathTexts
 pub mod SelectorPlaces

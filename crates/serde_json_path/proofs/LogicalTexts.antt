@@ -18,6 +18,7 @@ use Rattle.serde_json_path.specs.Filters.{begins_both, begins_call, operator_at,
 use Rattle.serde_json_path.proofs.Blanks.{blanks_of, are_blank, split_blanks}
 use Rattle.serde_json_path.proofs.LogicalForms.{IsGoodOr, IsGoodInside, IsGoodQuery, IsGoodCall, IsGoodOperand, ReadsOperand, DeeperLaws, singular_query}
 use Rattle.serde_json_path.proofs.OperandTexts.{IsOperandText, query_sound, named_call_sound, operand_sound}
+use Rattle.serde_json_path.proofs.Rows as r
 use Rattle.serde_json_path.proofs.SelectorTexts.{with_blanks}
 use Rattle.serde_json_path.proofs.Steps.{Read, Spaced, bind_ok, chosen, guard, done, ok_is, after_one, many_sound}
 
@@ -69,6 +70,9 @@ shifted a b c d = simp append_assoc refl
 joined : (t k o j r d : List ℕ) → (t ++ k) ++ (o ++ (j ++ (r ++ d))) ≡ (t ++ ((k ++ (o ++ j)) ++ r)) ++ d
 joined t k o j r d = simp append_assoc refl
 
+
+in_row : (t k r d : List ℕ) → (t ++ k) ++ (r ++ d) ≡ (t ++ (k ++ r)) ++ d
+in_row t k r d = simp append_assoc refl
 
 -- ---- results of calls
 
@@ -142,7 +146,7 @@ module _ (signature : List ℕ → Option Signature) (n : ℕ) (deeper : Deeper)
       record { text = r.text; is_so = (r.is_so.0, r.is_so.1, c.0, r.is_so.3, r.is_so.4); split = r.split ∙ ap (λ (l : List ℕ). r.text ++ l) c.1 }
 
   -- behind an operand and blanks
-  basic_from_sound : (start : List ℕ) (o : Operand) (cs t k : List ℕ) (x : Basic × List ℕ) → IsOperand t o → IsBlank k → basic_from signature deeper start o cs ≡ Ok x → Read (Spaced IsBasicText) ((t ++ k) ++ cs) x
+  pub basic_from_sound : (start : List ℕ) (o : Operand) (cs t k : List ℕ) (x : Basic × List ℕ) → IsOperand t o → IsBlank k → basic_from signature deeper start o cs ≡ Ok x → Read (Spaced IsBasicText) ((t ++ k) ++ cs) x
   unfolding basic_from relation_at
   basic_from_sound start o cs t k x h blank e = by_operator (operator_at cs) refl e
     where
@@ -275,3 +279,88 @@ module _ (signature : List ℕ → Option Signature) (n : ℕ) (deeper : Deeper)
               subst (λ (l : List ℕ). Read (Spaced IsBasicText) l x) (sym (r.split ∙ ap (λ (l : List ℕ). l ++ o.0.1) r.is_so.4)) (basic_from_sound cs o.0.0 o.0.1 r.is_so.0 r.is_so.1 x r.is_so.2 r.is_so.3 o.2)
         ]
       ]
+
+  -- ---- what is joined by `&&`
+
+  abbrev next_basic : List ℕ → Parsed Basic
+  next_basic cs = next_basic_at signature deeper cs
+
+  next_basic_sound : (cs : List ℕ) (x : Basic × List ℕ) → begins_both 38 38 cs ≡ true → next_basic cs ≡ Ok x → Read (r.IsNext (codes "&&") IsBasicText) cs x
+  unfolding next_basic_at
+  next_basic_sound cs x sign e =
+      let read = basic_sound (past_blanks (drop 2 cs)) x e in
+      let k = blanks_of (drop 2 cs) in
+      record {
+        text = 38 ∷ 38 ∷ (k ++ read.text);
+        is_so = record { before = k; text = read.is_so.0; behind = read.is_so.1; blank_before = are_blank (drop 2 cs); is_so = read.is_so.2; blank_behind = read.is_so.3; joined = ap (λ (l : List ℕ). 38 ∷ 38 ∷ (k ++ l)) read.is_so.4 };
+        split = after_two 38 38 cs sign ∙ ap (λ (l : List ℕ). 38 ∷ 38 ∷ l) (split_blanks (drop 2 cs) ∙ ap (λ (l : List ℕ). k ++ l) read.split ∙ sym (append_assoc k read.text x.1));
+      }
+
+  more_ands : (bs : List Basic) (t : List ℕ) → r.AreRows (codes "&&") IsBasicText t bs → (IsTypedAnd signature (and_list bs) × (and_depth (and_list bs) ≤ n)) × ReadMoreAnds (and_list bs) t
+  more_ands [] t h = ((tt, omega arith), h)
+  more_ands (b ∷ bs) t (s, a, c, sign, is, rest, e) =
+      let more = more_ands bs c rest in
+      (((is.0.0, more.0.0), omega (arith, is.0.1, more.0.1)), (s, a, c, sign, is.1, more.1, e))
+
+  -- behind a first part and blanks
+  pub and_from_sound : (b : Basic) (cs t k : List ℕ) (x : LogicalAnd × List ℕ) → IsBasicText t b → IsBlank k → and_from signature deeper b cs ≡ Ok x → Read (Spaced IsAndText) ((t ++ k) ++ cs) x
+  unfolding and_from many
+  and_from_sound b cs t k x h blank e =
+      let bs = bind_ok (many (begins_both 38 38) next_basic cs) (λ bs. Ok (and_list (b ∷ bs.0), bs.1)) x e in
+      let read = many_sound (r.IsNext (codes "&&") IsBasicText) (begins_both 38 38) next_basic next_basic_sound (length cs) cs bs.0 bs.1 in
+      let row = r.row_of (codes "&&") IsBasicText bs.0.0 k read.text blank read.is_so in
+      let more = more_ands bs.0.0 row.text row.are in
+      subst (Read (Spaced IsAndText) ((t ++ k) ++ cs)) (ok_is (and_list (b ∷ bs.0.0), bs.0.1) x bs.2) (record {
+        text = t ++ (row.text ++ row.blanks);
+        is_so = (t ++ row.text, row.blanks, (((h.0.0, more.0.0), omega (arith, h.0.1, more.0.1)), (t, row.text, h.1, more.1, refl)), row.blank, sym (append_assoc t row.text row.blanks));
+        split = ap (λ (l : List ℕ). (t ++ k) ++ l) read.split ∙ in_row t k read.text bs.0.1 ∙ ap (λ (l : List ℕ). (t ++ l) ++ bs.0.1) row.split;
+      })
+
+  pub and_sound : (cs : List ℕ) (x : LogicalAnd × List ℕ) → and_at signature deeper cs ≡ Ok x → Read (Spaced IsAndText) cs x
+  unfolding and_at
+  and_sound cs x e =
+      let b = bind_ok (basic_at signature deeper cs) (λ b. and_from signature deeper b.0 b.1) x e in
+      let read = basic_sound cs b.0 b.1 in
+      subst (λ (l : List ℕ). Read (Spaced IsAndText) l x) (sym (read.split ∙ ap (λ (l : List ℕ). l ++ b.0.1) read.is_so.4)) (and_from_sound b.0.0 b.0.1 read.is_so.0 read.is_so.1 x read.is_so.2 read.is_so.3 b.2)
+
+  -- ---- what is joined by `||`
+
+  abbrev next_and : List ℕ → Parsed LogicalAnd
+  next_and cs = next_and_at signature deeper cs
+
+  next_and_sound : (cs : List ℕ) (x : LogicalAnd × List ℕ) → begins_both 124 124 cs ≡ true → next_and cs ≡ Ok x → Read (r.IsNext (codes "||") IsAndText) cs x
+  unfolding next_and_at
+  next_and_sound cs x sign e =
+      let read = and_sound (past_blanks (drop 2 cs)) x e in
+      let k = blanks_of (drop 2 cs) in
+      record {
+        text = 124 ∷ 124 ∷ (k ++ read.text);
+        is_so = record { before = k; text = read.is_so.0; behind = read.is_so.1; blank_before = are_blank (drop 2 cs); is_so = read.is_so.2; blank_behind = read.is_so.3; joined = ap (λ (l : List ℕ). 124 ∷ 124 ∷ (k ++ l)) read.is_so.4 };
+        split = after_two 124 124 cs sign ∙ ap (λ (l : List ℕ). 124 ∷ 124 ∷ l) (split_blanks (drop 2 cs) ∙ ap (λ (l : List ℕ). k ++ l) read.split ∙ sym (append_assoc k read.text x.1));
+      }
+
+  more_ors : (xs : List LogicalAnd) (t : List ℕ) → r.AreRows (codes "||") IsAndText t xs → (IsTypedOr signature (or_list xs) × (or_depth (or_list xs) ≤ n)) × ReadMoreOrs (or_list xs) t
+  more_ors [] t h = ((tt, omega arith), h)
+  more_ors (x ∷ xs) t (s, a, c, sign, is, rest, e) =
+      let more = more_ors xs c rest in
+      (((is.0.0, more.0.0), omega (arith, is.0.1, more.0.1)), (s, a, c, sign, is.1, more.1, e))
+
+  pub or_from_sound : (a : LogicalAnd) (cs t k : List ℕ) (x : LogicalOr × List ℕ) → IsAndText t a → IsBlank k → or_from signature deeper a cs ≡ Ok x → Read (Spaced IsOrText) ((t ++ k) ++ cs) x
+  unfolding or_from many
+  or_from_sound a cs t k x h blank e =
+      let xs = bind_ok (many (begins_both 124 124) next_and cs) (λ more. Ok (or_list (a ∷ more.0), more.1)) x e in
+      let read = many_sound (r.IsNext (codes "||") IsAndText) (begins_both 124 124) next_and next_and_sound (length cs) cs xs.0 xs.1 in
+      let row = r.row_of (codes "||") IsAndText xs.0.0 k read.text blank read.is_so in
+      let more = more_ors xs.0.0 row.text row.are in
+      subst (Read (Spaced IsOrText) ((t ++ k) ++ cs)) (ok_is (or_list (a ∷ xs.0.0), xs.0.1) x xs.2) (record {
+        text = t ++ (row.text ++ row.blanks);
+        is_so = (t ++ row.text, row.blanks, (((h.0.0, more.0.0), omega (arith, h.0.1, more.0.1)), (t, row.text, h.1, more.1, refl)), row.blank, sym (append_assoc t row.text row.blanks));
+        split = ap (λ (l : List ℕ). (t ++ k) ++ l) read.split ∙ in_row t k read.text xs.0.1 ∙ ap (λ (l : List ℕ). (t ++ l) ++ xs.0.1) row.split;
+      })
+
+  pub or_sound : (cs : List ℕ) (x : LogicalOr × List ℕ) → or_at signature deeper cs ≡ Ok x → Read (Spaced IsOrText) cs x
+  unfolding or_at
+  or_sound cs x e =
+      let a = bind_ok (and_at signature deeper cs) (λ a. or_from signature deeper a.0 a.1) x e in
+      let read = and_sound cs a.0 a.1 in
+      subst (λ (l : List ℕ). Read (Spaced IsOrText) l x) (sym (read.split ∙ ap (λ (l : List ℕ). l ++ a.0.1) read.is_so.4)) (or_from_sound a.0.0 a.0.1 read.is_so.0 read.is_so.1 x read.is_so.2 read.is_so.3 a.2)
