@@ -1,22 +1,25 @@
 -- What is read as an argument or a call is a good one.
 use Rattle.std.proofs.Common.{◌≡◌, ℕ, zero, suc, ◌≤◌, max, inl, inr, Bool, true, false, true≢false, cond, List, [], ◌∷◌, ◌++◌, length, drop, Option, Some, None, Ok, Err, refl, sym, ap, subst, ◌∙◌, append_assoc, arith}
-use Rattle.std.specs.Prelude.{◌==◌, ◌||◌, codes}
-use Rattle.serde_json_path_core.specs.Tree.{LogicalOr, no_or, or, LogicalAnd, no_and, and, Basic, paren, not_paren, relation, exist, not_exist, test, not_test, Query, Call, call, Arguments, no_arguments, argument, Argument, literal_argument, query_argument, call_argument, logical_argument, Literal, Operator}
+use Rattle.std.specs.Prelude.{◌==◌, ◌||◌, codes, ℤ, pos, negsuc, ◌*ℤ◌, ◌-ℤ◌, ◌+◌, ◌/◌, ◌%◌}
+use Rattle.std.proofs.lemmas.Bool.{eqb-true}
+use Rattle.std.proofs.lemmas.Int.{ints}
+use Rattle.std.proofs.lemmas.Nat.{div-add-mod'}
+use Rattle.serde_json_path_core.specs.Tree.{root, current, LogicalOr, no_or, or, LogicalAnd, no_and, and, Basic, paren, not_paren, relation, exist, not_exist, test, not_test, Query, Call, call, Arguments, no_arguments, argument, Argument, literal_argument, query_argument, call_argument, logical_argument, Literal, text, number, truth, null, Operator}
 use Rattle.serde_json_path_core.specs.Typing.{result_kind, IsTestKind, IsValueLiteral, TakesResult, IsTypedArgument, AreTypedArguments}
 use Rattle.serde_json_path_core.specs.Depth.{argument_depth, arguments_depth}
 use Rattle.serde_json_path_functions.specs.Functions.{Kind, of_value, of_nodes, of_logical, Signature}
 use Rattle.serde_json_path.specs.declared.error.Refusal.{Refusal}
-use Rattle.serde_json_path.specs.declared.error.ParseErrorKind.TheVariants.{WrongReturnType}
+use Rattle.serde_json_path.specs.declared.error.ParseErrorKind.TheVariants.{ExpectedExpression, WrongArgumentType, WrongReturnType}
 use Rattle.serde_json_path.specs.declared.error.Place.TheVariants as place
 use Rattle.serde_json_path.specs.Lexical.{begins, IsBlank}
 use Rattle.serde_json_path.specs.Grammar.{StandsAlone, ReadsArgument, ReadArguments, ReadMoreArguments}
 use Rattle.serde_json_path.specs.Parsed.{Parsed, ◌>>=◌, refusal, past_blanks, many_at, many}
-use Rattle.serde_json_path.specs.Operands.{Operand, a_literal, a_query, a_call, is_result, is_test, takes_result}
-use Rattle.serde_json_path.specs.Filters.{begins_both, operator_at, and_list, or_list, alone, ends_argument, Deeper, named_call_at, operand_at, comparable_at, test_at, right_side_at, relation_at, basic_from, paren_at, negated_call_at, negated_at, basic_at, next_basic_at, and_from, and_at, next_and_at, or_from, or_at, logical_from, argument_at}
-use Rattle.serde_json_path.proofs.LogicalForms.{IsGoodOr, IsGoodQuery, IsGoodCall, DeeperLaws}
+use Rattle.serde_json_path.specs.Operands.{Operand, a_literal, a_query, a_call, is_result, is_test, takes_result, is_whole, fits}
+use Rattle.serde_json_path.specs.Filters.{begins_both, begins_call, query_at, operator_at, and_list, or_list, alone, ends_argument, Deeper, named_call_at, operand_at, comparable_at, test_at, right_side_at, relation_at, basic_from, paren_at, negated_call_at, negated_at, basic_at, next_basic_at, and_from, and_at, next_and_at, or_from, or_at, logical_from, argument_at, judged, ended}
+use Rattle.serde_json_path.proofs.LogicalForms.{IsGoodOr, IsGoodQuery, IsGoodCall, DeeperLaws, singular_query}
 use Rattle.serde_json_path.proofs.LogicalTexts.{or_sound, and_from_sound, or_from_sound, basic_from_sound}
-use Rattle.serde_json_path.proofs.OperandTexts.{operand_sound}
-use Rattle.serde_json_path.proofs.Steps.{Read, Spaced, bind_ok, chosen, done, ok_is}
+use Rattle.serde_json_path.proofs.OperandTexts.{IsOperandText, operand_sound}
+use Rattle.serde_json_path.proofs.Steps.{Read, Spaced, bind_ok, chosen, guard, done, ok_is}
 
 -- ---- items in a row of which there is none
 
@@ -79,6 +82,17 @@ takes signature of_value result e = fits_value result e
 takes signature of_nodes result e = fits_nodes result e
 takes signature of_logical result e = fits_test result e
 
+-- a whole number of billions is so many times one
+whole_amount : (amount : ℤ) → is_whole amount ≡ true → (whole : ℤ) × (amount ≡ (whole *ℤ pos 1000000000))
+whole_amount (pos m) e =
+    let none : m % 1000000000 ≡ 0 = eqb-true (m % 1000000000) 0 e in
+    let parts = div-add-mod' m 1000000000 in
+    (pos (m / 1000000000), omega (arith, ints, none, parts))
+whole_amount (negsuc m) e =
+    let none : (m + 1) % 1000000000 ≡ 0 = eqb-true ((m + 1) % 1000000000) 0 e in
+    let parts = div-add-mod' (m + 1) 1000000000 in
+    (pos 0 -ℤ pos ((m + 1) / 1000000000), omega (arith, ints, none, parts))
+
 module _ (signature : List ℕ → Option Signature) (n : ℕ) (deeper : Deeper) (laws : DeeperLaws signature n deeper) where
   -- an argument whose parts are good, before its type is judged
   abbrev IsGoodArgument : Argument → Type 0
@@ -134,3 +148,187 @@ module _ (signature : List ℕ → Option Signature) (n : ℕ) (deeper : Deeper)
         ∙ test_ends start o cs b.0 b.1 single.0 in
         true≢false (sym ends ∙ ap (begins ends_argument) rest ∙ open_yet),
       )
+
+  -- ---- what begins with `(` or `!` is no operand
+
+  abbrev IsOpening : Basic → Type 0
+  IsOpening (paren e) = Unit {0}
+  IsOpening (not_paren e) = Unit {0}
+  IsOpening (not_exist q) = Unit {0}
+  IsOpening (not_test c) = Unit {0}
+  IsOpening _ = ⊥
+
+  -- what is read and made an opening
+  made_opening : {A : Type 0} (make : A → Basic) (read : Parsed A) (x : Basic × List ℕ) → ((a : A) → IsOpening (make a)) → (read >>= λ a. Ok (make a.0, a.1)) ≡ Ok x → IsOpening x.0
+  made_opening make read x opening e =
+      let a = bind_ok read (λ a. Ok (make a.0, a.1)) x e in
+      subst (λ (y : Basic × List ℕ). IsOpening y.0) (ok_is (make a.0.0, a.0.1) x a.2) (opening a.0.0)
+
+  negated_opening : (cs : List ℕ) (x : Basic × List ℕ) → negated_at signature deeper cs ≡ Ok x → IsOpening x.0
+  unfolding negated_at negated_call_at
+  negated_opening cs x e =
+      let in_parens : Parsed Basic = paren_at signature deeper cs >>= λ e. Ok (not_paren e.0, e.1) in
+      let current_query : Parsed Basic = query_at signature deeper current cs >>= λ q. Ok (not_exist q.0, q.1) in
+      let root_query : Parsed Basic = query_at signature deeper root cs >>= λ q. Ok (not_exist q.0, q.1) in
+      elim (chosen (begins (λ c. c == 40) cs) in_parens _ (Ok x) e) [
+        | inl a ↦ made_opening (λ e. not_paren e) (paren_at signature deeper cs) x (λ e. tt) a.1
+        | inr a ↦ elim (chosen (begins (λ c. c == 64) cs) current_query _ (Ok x) a.1) [
+          | inl b ↦ made_opening (λ q. not_exist q) (query_at signature deeper current cs) x (λ q. tt) b.1
+          | inr b ↦ elim (chosen (begins (λ c. c == 36) cs) root_query _ (Ok x) b.1) [
+            | inl c ↦ made_opening (λ q. not_exist q) (query_at signature deeper root cs) x (λ q. tt) c.1
+            | inr c ↦ elim (chosen (begins_call cs) (negated_call_at signature deeper cs) (Err (refusal ExpectedExpression place.LongHand cs)) (Ok x) c.1) [
+              | inr d ↦ absurd (let wrong = d.1 in cc)
+              | inl d ↦
+                  let call = bind_ok (named_call_at signature deeper cs) (λ c. cond (is_result of_value (result_kind signature c.0)) (Err (refusal WrongReturnType place.LongHand cs)) (Ok (not_test c.0, c.1))) x d.1 in
+                  elim (chosen (is_result of_value (result_kind signature call.0.0)) (Err (refusal WrongReturnType place.LongHand cs)) (done (not_test call.0.0, call.0.1)) (Ok x) call.2) [
+                    | inl f ↦ absurd (let wrong = f.1 in cc)
+                    | inr f ↦ subst (λ (y : Basic × List ℕ). IsOpening y.0) (ok_is (not_test call.0.0, call.0.1) x f.1) tt
+                  ]
+            ]
+          ]
+        ]
+      ]
+
+  basic_opening : (cs : List ℕ) (x : Basic × List ℕ) → begins (λ c. c == 40 || c == 33) cs ≡ true → basic_at signature deeper cs ≡ Ok x → IsOpening x.0
+  unfolding basic_at
+  basic_opening [] x begun e = absurd cc
+  basic_opening (c ∷ cs) x begun e =
+      let in_parens : Parsed Basic = paren_at signature deeper (c ∷ cs) >>= λ e. Ok (paren e.0, e.1) in
+      elim (chosen (c == 40) in_parens _ (Ok x) e) [
+        | inl a ↦ made_opening (λ e. paren e) (paren_at signature deeper (c ∷ cs)) x (λ e. tt) a.1
+        | inr a ↦ elim (chosen (c == 33) (negated_at signature deeper (past_blanks cs)) _ (Ok x) a.1) [
+          | inl b ↦ negated_opening (past_blanks cs) x b.1
+          | inr b ↦ absurd (let neither : (c == 40 || c == 33) ≡ false = rw (a.0, b.0) refl in true≢false (sym begun ∙ neither))
+        ]
+      ]
+
+  opening_stands_not : (b : Basic) (bs : List Basic) (more : List LogicalAnd) → IsOpening b → StandsAlone (or_list (and_list (b ∷ bs) ∷ more)) → ⊥
+  opening_stands_not (paren e) bs more o h = absurd h
+  opening_stands_not (not_paren e) bs more o h = absurd h
+  opening_stands_not (not_exist q) bs more o h = absurd h
+  opening_stands_not (not_test c) bs more o h = absurd h
+  opening_stands_not (relation l op r) bs more o h = absurd o
+  opening_stands_not (exist q) bs more o h = absurd o
+  opening_stands_not (test c) bs more o h = absurd o
+
+  opening_not_alone : (cs : List ℕ) (x : LogicalOr × List ℕ) → begins (λ c. c == 40 || c == 33) cs ≡ true → or_at signature deeper cs ≡ Ok x → StandsAlone x.0 → ⊥
+  unfolding or_at and_at or_from and_from
+  opening_not_alone cs x begun e stands =
+      let a = bind_ok (and_at signature deeper cs) (λ a. or_from signature deeper a.0 a.1) x e in
+      let b = bind_ok (basic_at signature deeper cs) (λ b. and_from signature deeper b.0 b.1) a.0 a.1 in
+      let bs = bind_ok (many (begins_both 38 38) (next_basic_at signature deeper) b.0.1) (λ bs. Ok (and_list (b.0.0 ∷ bs.0), bs.1)) a.0 b.2 in
+      let more = bind_ok (many (begins_both 124 124) (next_and_at signature deeper) a.0.1) (λ more. Ok (or_list (a.0.0 ∷ more.0), more.1)) x a.2 in
+      let ands = ok_is (and_list (b.0.0 ∷ bs.0.0), bs.0.1) a.0 bs.2 in
+      let ors = ok_is (or_list (a.0.0 ∷ more.0.0), more.0.1) x more.2 in
+      let shape : x.0 ≡ or_list (and_list (b.0.0 ∷ bs.0.0) ∷ more.0.0) = sym (ap (λ y. y.0) ors) ∙ ap (λ (l : LogicalAnd). or_list (l ∷ more.0.0)) (sym (ap (λ y. y.0) ands)) in
+      opening_stands_not b.0.0 bs.0.0 more.0.0 (basic_opening cs b.0 begun b.1) (subst StandsAlone shape stands)
+
+  -- ---- what is read as an argument, and ends as one
+
+  alone_sound : (o : Operand) (t : List ℕ) → IsOperandText signature n deeper laws t o → IsArgument t (alone o)
+  alone_sound (a_literal l) t h = h
+  alone_sound (a_query q) t h = h
+  alone_sound (a_call c) t h = h
+
+  logical_from_sound : (start : List ℕ) (o : Operand) (cs t k : List ℕ) (x : Argument × List ℕ) → IsOperandText signature n deeper laws t o → IsBlank k → begins ends_argument cs ≡ false → begins ends_argument x.1 ≡ true
+      → logical_from signature deeper start o cs ≡ Ok x → Read (Spaced IsArgument) ((t ++ k) ++ cs) x
+  unfolding logical_from
+  logical_from_sound start o cs t k x h blank open_yet ends e =
+      let b = bind_ok (basic_from signature deeper start o cs) (λ b. and_from signature deeper b.0 b.1 >>= λ a. or_from signature deeper a.0 a.1 >>= λ e. Ok (logical_argument e.0, e.1)) x e in
+      let a = bind_ok (and_from signature deeper b.0.0 b.0.1) (λ a. or_from signature deeper a.0 a.1 >>= λ e. Ok (logical_argument e.0, e.1)) x b.2 in
+      let f = bind_ok (or_from signature deeper a.0.0 a.0.1) (λ e. Ok (logical_argument e.0, e.1)) x a.2 in
+      let basic = basic_from_sound signature n deeper laws start o cs t k b.0 h blank b.1 in
+      let ands = and_from_sound signature n deeper laws b.0.0 b.0.1 basic.is_so.0 basic.is_so.1 a.0 basic.is_so.2 basic.is_so.3 a.1 in
+      let ors = or_from_sound signature n deeper laws a.0.0 a.0.1 ands.is_so.0 ands.is_so.1 f.0 ands.is_so.2 ands.is_so.3 f.1 in
+      let whole = ok_is (logical_argument f.0.0, f.0.1) x f.2 in
+      let free = not_alone start o cs x open_yet ends e in
+      let same : f.0.0 ≡ free.0 = is_logical f.0.0 free.0 (ap (λ y. y.0) whole ∙ free.1) in
+      let split : (t ++ k) ++ cs ≡ ors.text ++ f.0.1 =
+      basic.split ∙ ap (λ (l : List ℕ). l ++ b.0.1) basic.is_so.4 ∙ ands.split ∙ ap (λ (l : List ℕ). l ++ a.0.1) ands.is_so.4 ∙ ors.split in
+      subst (Read (Spaced IsArgument) ((t ++ k) ++ cs)) whole (record {
+        text = ors.text;
+        is_so = (ors.is_so.0, ors.is_so.1, (ors.is_so.2.0, ((λ stands. free.2 (subst StandsAlone same stands)), ors.is_so.2.1)), ors.is_so.3, ors.is_so.4);
+        split = split;
+      })
+    where
+      is_logical : (e f : LogicalOr) → logical_argument e ≡ logical_argument f → e ≡ f
+      is_logical e f same = cc
+
+  argument_sound : (cs : List ℕ) (x : Argument × List ℕ) → begins ends_argument x.1 ≡ true → argument_at signature deeper cs ≡ Ok x → Read (Spaced IsArgument) cs x
+  unfolding argument_at
+  argument_sound cs x ends e =
+      let expression : Parsed Argument = or_at signature deeper cs >>= λ e. Ok (logical_argument e.0, e.1) in
+      elim (chosen (begins (λ c. c == 40 || c == 33) cs) expression _ (Ok x) e) [
+        | inl a ↦
+            let f = bind_ok (or_at signature deeper cs) (λ e. Ok (logical_argument e.0, e.1)) x a.1 in
+            let r = or_sound signature n deeper laws cs f.0 f.1 in
+            subst (Read (Spaced IsArgument) cs) (ok_is (logical_argument f.0.0, f.0.1) x f.2) (record {
+              text = r.text;
+              is_so = (r.is_so.0, r.is_so.1, (r.is_so.2.0, (opening_not_alone cs f.0 a.0 f.1, r.is_so.2.1)), r.is_so.3, r.is_so.4);
+              split = r.split;
+            })
+        | inr a ↦
+            let o = bind_ok (operand_at signature deeper cs) (λ o. cond (begins ends_argument o.1) (Ok (alone o.0, o.1)) (logical_from signature deeper cs o.0 o.1)) x a.1 in
+            let r = operand_sound signature n deeper laws cs o.0 o.1 in
+            elim (chosen (begins ends_argument o.0.1) (done (alone o.0.0, o.0.1)) (logical_from signature deeper cs o.0.0 o.0.1) (Ok x) o.2) [
+              | inl b ↦ subst (Read (Spaced IsArgument) cs) (ok_is (alone o.0.0, o.0.1) x b.1) (record { text = r.text; is_so = (r.is_so.0, r.is_so.1, alone_sound o.0.0 r.is_so.0 r.is_so.2, r.is_so.3, r.is_so.4); split = r.split })
+              | inr b ↦ subst (λ (l : List ℕ). Read (Spaced IsArgument) l x) (sym (r.split ∙ ap (λ (l : List ℕ). l ++ o.0.1) r.is_so.4))
+                  (logical_from_sound cs o.0.0 o.0.1 r.is_so.0 r.is_so.1 x r.is_so.2 r.is_so.3 b.0 ends b.1)
+            ]
+      ]
+
+  -- ---- types of arguments
+
+  -- a good argument that fits the parameter is well-typed
+  fits_typed : (a : Argument) (kind : Kind) → IsGoodArgument a → fits signature a kind ≡ true → IsTypedArgument signature a kind
+  fits_typed (literal_argument (text t)) of_value h e = tt
+  fits_typed (literal_argument (number amount)) of_value h e = whole_amount amount e
+  fits_typed (literal_argument (truth b)) of_value h e = tt
+  fits_typed (literal_argument null) of_value h e = tt
+  fits_typed (literal_argument l) of_nodes h e = absurd cc
+  fits_typed (literal_argument l) of_logical h e = absurd cc
+  fits_typed (query_argument q) of_value h e = (h.0, singular_query q e)
+  fits_typed (query_argument q) of_nodes h e = h.0
+  fits_typed (query_argument q) of_logical h e = h.0
+  fits_typed (call_argument c) kind h e = (h.0, takes signature kind (result_kind signature c) e)
+  fits_typed (logical_argument f) of_value h e = absurd cc
+  fits_typed (logical_argument f) of_nodes h e = absurd cc
+  fits_typed (logical_argument f) of_logical h e = h.0
+
+  good_depth : (a : Argument) → IsGoodArgument a → argument_depth a ≤ n
+  good_depth (literal_argument l) h = omega arith
+  good_depth (query_argument q) h = h.1
+  good_depth (call_argument c) h = h.1
+  good_depth (logical_argument e) h = h.1
+
+  -- ---- arguments in a row
+
+  -- arguments, blanks and `)`, and the blanks behind it
+  record AreArguments (kinds : List Kind) (cs : List ℕ) (x : Arguments × List ℕ) : Type 0 where
+    first : Argument
+    more : Arguments
+    is : x.0 ≡ argument first more
+    typed : AreTypedArguments signature (argument first more) kinds
+    shallow : arguments_depth (argument first more) ≤ n
+    here : List ℕ
+    rest : List ℕ
+    blanks : List ℕ
+    behind : List ℕ
+    reads_first : ReadsArgument first here
+    reads_more : ReadMoreArguments more rest
+    blank : IsBlank blanks
+    blank_behind : IsBlank behind
+    split : cs ≡ (here ++ (rest ++ (blanks ++ 41 ∷ behind))) ++ x.1
+
+  -- a judged argument
+  judged_sound : (start cs : List ℕ) (kinds left : List Kind) (a : Argument) → IsGoodArgument a → judged signature deeper start cs kinds a ≡ Ok left → (kind : Kind) × (kinds ≡ kind ∷ left) × IsTypedArgument signature a kind
+  unfolding judged
+  judged_sound start cs [] left a h e = absurd cc
+  judged_sound start cs (kind ∷ kinds) left a h e =
+      let g = guard (fits signature a kind) (refusal WrongArgumentType place.LongHand cs) (done kinds) left e in
+      (kind, ap (λ (ks : List Kind). kind ∷ ks) (ok_is kinds left g.1), fits_typed a kind h g.0)
+
+  ended_sound : (start : List ℕ) (kinds : List Kind) (cs : List ℕ) (x : Arguments × List ℕ) → ended start kinds cs ≡ Ok x → (kinds ≡ []) × (x.0 ≡ no_arguments) × (x.1 ≡ past_blanks cs)
+  unfolding ended
+  ended_sound start [] cs x e = let same = ok_is (no_arguments, past_blanks cs) x e in (refl, sym (ap (λ y. y.0) same), sym (ap (λ y. y.1) same))
+  ended_sound start (kind ∷ kinds) cs x e = absurd cc
