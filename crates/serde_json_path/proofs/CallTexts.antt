@@ -5,21 +5,22 @@ use Rattle.std.proofs.lemmas.Bool.{eqb-true}
 use Rattle.std.proofs.lemmas.Int.{ints}
 use Rattle.std.proofs.lemmas.Nat.{div-add-mod'}
 use Rattle.serde_json_path_core.specs.Tree.{root, current, LogicalOr, no_or, or, LogicalAnd, no_and, and, Basic, paren, not_paren, relation, exist, not_exist, test, not_test, Query, Call, call, Arguments, no_arguments, argument, Argument, literal_argument, query_argument, call_argument, logical_argument, Literal, text, number, truth, null, Operator}
-use Rattle.serde_json_path_core.specs.Typing.{result_kind, IsTestKind, IsValueLiteral, TakesResult, IsTypedArgument, AreTypedArguments}
-use Rattle.serde_json_path_core.specs.Depth.{argument_depth, arguments_depth}
+use Rattle.serde_json_path_core.specs.Typing.{result_kind, IsTestKind, IsValueLiteral, TakesResult, IsTypedArgument, AreTypedArguments, IsTypedCall}
+use Rattle.serde_json_path_core.specs.Depth.{argument_depth, arguments_depth, call_depth}
 use Rattle.serde_json_path_functions.specs.Functions.{Kind, of_value, of_nodes, of_logical, Signature}
 use Rattle.serde_json_path.specs.declared.error.Refusal.{Refusal}
-use Rattle.serde_json_path.specs.declared.error.ParseErrorKind.TheVariants.{ExpectedExpression, WrongArgumentType, WrongReturnType}
+use Rattle.serde_json_path.specs.declared.error.ParseErrorKind.TheVariants.{ExpectedExpression, ExpectedClosingParenthesis, WrongArgumentType, WrongReturnType}
 use Rattle.serde_json_path.specs.declared.error.Place.TheVariants as place
 use Rattle.serde_json_path.specs.Lexical.{begins, IsBlank}
 use Rattle.serde_json_path.specs.Grammar.{StandsAlone, ReadsArgument, ReadArguments, ReadMoreArguments}
 use Rattle.serde_json_path.specs.Parsed.{Parsed, ◌>>=◌, refusal, past_blanks, many_at, many}
 use Rattle.serde_json_path.specs.Operands.{Operand, a_literal, a_query, a_call, is_result, is_test, takes_result, is_whole, fits}
-use Rattle.serde_json_path.specs.Filters.{begins_both, begins_call, query_at, operator_at, and_list, or_list, alone, ends_argument, Deeper, named_call_at, operand_at, comparable_at, test_at, right_side_at, relation_at, basic_from, paren_at, negated_call_at, negated_at, basic_at, next_basic_at, and_from, and_at, next_and_at, or_from, or_at, logical_from, argument_at, judged, ended}
-use Rattle.serde_json_path.proofs.LogicalForms.{IsGoodOr, IsGoodQuery, IsGoodCall, DeeperLaws, singular_query}
+use Rattle.serde_json_path.specs.Filters.{begins_both, begins_call, query_at, operator_at, and_list, or_list, alone, ends_argument, Deeper, named_call_at, operand_at, comparable_at, test_at, right_side_at, relation_at, basic_from, paren_at, negated_call_at, negated_at, basic_at, next_basic_at, and_from, and_at, next_and_at, or_from, or_at, logical_from, argument_at, judged, ended, arguments_at, parameters_at, call_at}
+use Rattle.serde_json_path.proofs.Blanks.{blanks_of, are_blank, split_blanks}
+use Rattle.serde_json_path.proofs.LogicalForms.{IsGoodOr, IsGoodQuery, IsGoodCall, DeeperLaws, ReadsBehindName, singular_query}
 use Rattle.serde_json_path.proofs.LogicalTexts.{or_sound, and_from_sound, or_from_sound, basic_from_sound}
 use Rattle.serde_json_path.proofs.OperandTexts.{IsOperandText, operand_sound}
-use Rattle.serde_json_path.proofs.Steps.{Read, Spaced, bind_ok, chosen, guard, done, ok_is}
+use Rattle.serde_json_path.proofs.Steps.{Read, Spaced, bind_ok, chosen, guard, done, ok_is, after_one}
 
 -- ---- items in a row of which there is none
 
@@ -332,3 +333,133 @@ module _ (signature : List ℕ → Option Signature) (n : ℕ) (deeper : Deeper)
   unfolding ended
   ended_sound start [] cs x e = let same = ok_is (no_arguments, past_blanks cs) x e in (refl, sym (ap (λ y. y.0) same), sym (ap (λ y. y.1) same))
   ended_sound start (kind ∷ kinds) cs x e = absurd cc
+
+  -- a comma and blanks before arguments
+  behind_comma : (first : Argument) (more : Arguments) (j here rest : List ℕ) → IsBlank j → ReadsArgument first here → ReadMoreArguments more rest → (k : List ℕ) → IsBlank k → ReadMoreArguments (argument first more) ((k ++ (44 ∷ j)) ++ (here ++ rest))
+  behind_comma first more j here rest blank is are k before = (k ++ (44 ∷ j), here, rest, (k, j, before, blank, refl), is, are, refl)
+
+  last_argument : (start cs : List ℕ) (kinds left : List Kind) (a : Argument) (t k rest : List ℕ) (x : Arguments × List ℕ) → IsArgument t a → IsBlank k → cs ≡ (t ++ k) ++ (41 ∷ rest) → (kind : Kind) → kinds ≡ kind ∷ left → IsTypedArgument signature a kind
+      → (ended start left rest >>= λ more. Ok (argument a more.0, more.1)) ≡ Ok x → AreArguments kinds cs x
+  last_argument start cs kinds left a t k rest x is blank split kind same typed e =
+      let more = bind_ok (ended start left rest) (λ more. Ok (argument a more.0, more.1)) x e in
+      let end = ended_sound start left rest more.0 more.1 in
+      let whole = ok_is (argument a more.0.0, more.0.1) x more.2 in
+      record {
+        first = a;
+        more = no_arguments;
+        is = sym (ap (λ y. y.0) whole) ∙ ap (argument a) end.1;
+        typed = subst (AreTypedArguments signature (argument a no_arguments)) (sym (same ∙ ap (λ (ks : List Kind). kind ∷ ks) end.0)) (typed, refl);
+        shallow = omega (arith, good_depth a is.0);
+        here = t;
+        rest = [];
+        blanks = k;
+        behind = blanks_of rest;
+        reads_first = is.1;
+        reads_more = refl;
+        blank = blank;
+        blank_behind = are_blank rest;
+        split = split ∙ ap (λ (l : List ℕ). (t ++ k) ++ (41 ∷ l)) (split_blanks rest ∙ ap (λ (l : List ℕ). blanks_of rest ++ l) (sym (sym (ap (λ y. y.1) whole) ∙ end.2))) ∙ last t k (blanks_of rest) x.1;
+      }
+    where
+      last : (t k j d : List ℕ) → (t ++ k) ++ (41 ∷ (j ++ d)) ≡ (t ++ (k ++ (41 ∷ j))) ++ d
+      last t k j d = simp append_assoc refl
+
+  one_more_argument : (cs : List ℕ) (kinds left : List Kind) (a : Argument) (t k rest : List ℕ) (x more : Arguments × List ℕ) → IsArgument t a → IsBlank k → cs ≡ (t ++ k) ++ (44 ∷ rest) → (kind : Kind) → kinds ≡ kind ∷ left → IsTypedArgument signature a kind
+      → AreArguments left (past_blanks rest) more → (argument a more.0, more.1) ≡ x → AreArguments kinds cs x
+  one_more_argument cs kinds left a t k rest x more is blank split kind same typed h whole = record {
+    first = a;
+    more = argument h.first h.more;
+    is = sym (ap (λ y. y.0) whole) ∙ ap (argument a) h.is;
+    typed = subst (AreTypedArguments signature (argument a (argument h.first h.more))) (sym same) (typed, h.typed);
+    shallow = omega (arith, good_depth a is.0, h.shallow);
+    here = t;
+    rest = (k ++ (44 ∷ blanks_of rest)) ++ (h.here ++ h.rest);
+    blanks = h.blanks;
+    behind = h.behind;
+    reads_first = is.1;
+    reads_more = behind_comma h.first h.more (blanks_of rest) h.here h.rest (are_blank rest) h.reads_first h.reads_more k blank;
+    blank = h.blank;
+    blank_behind = h.blank_behind;
+    split =
+        split
+        ∙ ap (λ (l : List ℕ). (t ++ k) ++ (44 ∷ l)) (split_blanks rest ∙ ap (λ (l : List ℕ). blanks_of rest ++ l) h.split)
+        ∙ in_front (44 ∷ []) t k (blanks_of rest) h.here h.rest (h.blanks ++ 41 ∷ h.behind) more.1
+        ∙ ap (λ (l : List ℕ). (t ++ (((k ++ (44 ∷ blanks_of rest)) ++ (h.here ++ h.rest)) ++ (h.blanks ++ 41 ∷ h.behind))) ++ l) (ap (λ y. y.1) whole);
+  }
+    where
+      in_front : (s t k j a b c d : List ℕ) → (t ++ k) ++ (s ++ (j ++ ((a ++ (b ++ c)) ++ d))) ≡ (t ++ (((k ++ (s ++ j)) ++ (a ++ b)) ++ c)) ++ d
+      in_front s t k j a b c d = simp append_assoc refl
+
+  arguments_sound : (fuel : ℕ) (start : List ℕ) (kinds : List Kind) (cs : List ℕ) (x : Arguments × List ℕ) → arguments_at signature deeper fuel start kinds cs ≡ Ok x → AreArguments kinds cs x
+  unfolding arguments_at
+  arguments_sound zero start kinds cs x e = absurd cc
+  arguments_sound (suc fuel) start kinds cs x e =
+      let a = bind_ok (argument_at signature deeper cs) _ x e in
+      let g = guard (begins ends_argument a.0.1) (refusal ExpectedClosingParenthesis place.LongHand a.0.1) _ x a.2 in
+      let left = bind_ok (judged signature deeper start cs kinds a.0.0) _ x g.1 in
+      let r = argument_sound cs a.0 g.0 a.1 in
+      let j = judged_sound start cs kinds left.0 a.0.0 r.is_so.2.0 left.1 in
+      let more = bind_ok (cond (begins (λ c. c == 44) a.0.1) (arguments_at signature deeper fuel start left.0 (past_blanks (drop 1 a.0.1))) (ended start left.0 (drop 1 a.0.1))) (λ more. Ok (argument a.0.0 more.0, more.1)) x left.2 in
+      let split : cs ≡ (r.is_so.0 ++ r.is_so.1) ++ a.0.1 = r.split ∙ ap (λ (l : List ℕ). l ++ a.0.1) r.is_so.4 in
+      elim (chosen (begins (λ c. c == 44) a.0.1) (arguments_at signature deeper fuel start left.0 (past_blanks (drop 1 a.0.1))) (ended start left.0 (drop 1 a.0.1)) (Ok more.0) more.1) [
+        | inl b ↦ one_more_argument cs kinds left.0 a.0.0 r.is_so.0 r.is_so.1 (drop 1 a.0.1) x more.0 r.is_so.2 r.is_so.3 (split ∙ ap (λ (l : List ℕ). (r.is_so.0 ++ r.is_so.1) ++ l) (after_one 44 a.0.1 b.0)) j.0 j.1 j.2
+            (arguments_sound fuel start left.0 (past_blanks (drop 1 a.0.1)) more.0 b.1) (ok_is (argument a.0.0 more.0.0, more.0.1) x more.2)
+        | inr b ↦ last_argument start cs kinds left.0 a.0.0 r.is_so.0 r.is_so.1 (drop 1 a.0.1) x r.is_so.2 r.is_so.3 (split ∙ ap (λ (l : List ℕ). (r.is_so.0 ++ r.is_so.1) ++ l) (after_one 41 a.0.1 (closes a.0.1 g.0 b.0))) j.0 j.1 j.2
+            (ap (λ (y : Parsed Arguments). y >>= λ more. Ok (argument a.0.0 more.0, more.1)) b.1 ∙ more.2)
+      ]
+    where
+      closes : (cs : List ℕ) → begins ends_argument cs ≡ true → begins (λ c. c == 44) cs ≡ false → begins (λ c. c == 41) cs ≡ true
+      closes [] e h = absurd cc
+      closes (c ∷ cs) e h = sym (rw h refl) ∙ e
+
+  -- ---- calls
+
+  -- behind `(` of a call of this name, with its `)` and the blanks behind it
+  pub call_sound : (start f cs : List ℕ) (sig : Option Signature) (x : Call × List ℕ) → signature f ≡ sig → call_at signature deeper start f sig cs ≡ Ok x
+      → Read (Spaced (λ t c. (IsTypedCall signature c × (call_depth c ≤ n + 1)) × ReadsBehindName f c t)) cs x
+  unfolding call_at parameters_at
+  call_sound start f cs None x same e = absurd cc
+  call_sound start f cs (Some s) x same e =
+      let Is : List ℕ → Call → Type 0 = λ t c. (IsTypedCall signature c × (call_depth c ≤ n + 1)) × ReadsBehindName f c t in
+      let r = past_blanks cs in
+      let j = blanks_of cs in
+      let args = bind_ok (cond (begins (λ c. c == 41) r) (ended start s.params (drop 1 r)) (arguments_at signature deeper (length r) start s.params r)) (λ args. Ok (call f args.0, args.1)) x e in
+      elim (chosen (begins (λ c. c == 41) r) (ended start s.params (drop 1 r)) (arguments_at signature deeper (length r) start s.params r) (Ok args.0) args.1) [
+        | inl a ↦
+            let end = ended_sound start s.params (drop 1 r) args.0 a.1 in
+            subst (Read (Spaced Is) cs) (ok_is (call f args.0.0, args.0.1) x args.2) (record {
+              text = (j ++ (41 ∷ [])) ++ blanks_of (drop 1 r);
+              is_so = (
+                j ++ (41 ∷ []),
+                blanks_of (drop 1 r),
+                subst (λ (l : Arguments). Is (j ++ (41 ∷ [])) (call f l)) (sym end.1) (((s, same, end.0), omega arith), (no_arguments, refl, j, [], [], are_blank cs, refl, tt, refl)),
+                are_blank (drop 1 r),
+                refl,
+              );
+              split =
+                  split_blanks cs
+                  ∙ ap (λ (l : List ℕ). j ++ l) (after_one 41 r a.0 ∙ ap (λ (l : List ℕ). 41 ∷ l) (split_blanks (drop 1 r) ∙ ap (λ (l : List ℕ). blanks_of (drop 1 r) ++ l) (sym end.2)))
+                  ∙ closed (41 ∷ []) j (blanks_of (drop 1 r)) args.0.1;
+            })
+        | inr a ↦
+            let h = arguments_sound (length r) start s.params r args.0 a.1 in
+            let inside = h.here ++ h.rest in
+            subst (Read (Spaced Is) cs) (ok_is (call f args.0.0, args.0.1) x args.2) (record {
+              text = (j ++ (inside ++ (h.blanks ++ 41 ∷ []))) ++ h.behind;
+              is_so = (
+                j ++ (inside ++ (h.blanks ++ 41 ∷ [])),
+                h.behind,
+                subst (λ (l : Arguments). Is (j ++ (inside ++ (h.blanks ++ 41 ∷ []))) (call f l)) (sym h.is)
+                    (((s, same, h.typed), omega (arith, h.shallow)), (argument h.first h.more, refl, j, inside, h.blanks, are_blank cs, (h.here, h.rest, h.reads_first, h.reads_more, refl), h.blank, refl)),
+                h.blank_behind,
+                refl,
+              );
+              split = split_blanks cs ∙ ap (λ (l : List ℕ). j ++ l) h.split ∙ enclosed (41 ∷ []) j h.here h.rest h.blanks h.behind args.0.1;
+            })
+      ]
+    where
+      closed : (s j k d : List ℕ) → j ++ (s ++ (k ++ d)) ≡ ((j ++ s) ++ k) ++ d
+      closed s j k d = simp append_assoc refl
+
+      enclosed : (s j a b k l d : List ℕ) → j ++ ((a ++ (b ++ (k ++ (s ++ l)))) ++ d) ≡ ((j ++ ((a ++ b) ++ (k ++ s))) ++ l) ++ d
+      enclosed s j a b k l d = simp append_assoc refl
