@@ -1,0 +1,64 @@
+-- Each refusal of a logical expression stands at a place of its text.
+use Rattle.std.proofs.Common.{◌≡◌, ℕ, inl, inr, Bool, true, false, cond, List, [], ◌∷◌, ◌++◌, length, drop, Option, Some, None, Ok, Err, refl, sym, ap, subst, ◌∙◌, append_assoc}
+use Rattle.std.specs.Prelude.{◌==◌, ◌||◌, codes, bytes_eq}
+use Rattle.serde_json_path_core.specs.Tree.{QueryKind, root, current, Basic, paren, not_paren, relation, exist, not_exist, test, not_test, Comparable, literal, singular, called, LogicalAnd, LogicalOr, Call, Operator, Literal, truth, null}
+use Rattle.std.proofs.lemmas.Bool.{and_parts}
+use Rattle.serde_json_path_core.specs.Typing.{result_kind}
+use Rattle.serde_json_path_functions.specs.Functions.{of_value, Signature}
+use Rattle.serde_json_path.specs.declared.error.Refusal.{Refusal}
+use Rattle.serde_json_path.specs.declared.error.ParseErrorKind.TheVariants.{ExpectedExpression, ExpectedClosingParenthesis, ExpectedComparisonOperator, NonSingularQuery, WrongReturnType}
+use Rattle.serde_json_path.specs.declared.error.Place.TheVariants as place
+use Rattle.serde_json_path.specs.Lexical.{begins, is_small_letter, is_function_char, IsQuote}
+use Rattle.serde_json_path.specs.Parsed.{Parsed, ◌>>=◌, refusal, past_blanks}
+use Rattle.serde_json_path.specs.Strings.{string_at}
+use Rattle.serde_json_path.specs.Numbers.{number_at}
+use Rattle.serde_json_path.specs.Operands.{Operand, a_literal, a_query, a_call, is_singular, is_result}
+use Rattle.serde_json_path.specs.Filters.{word, behind_word, begins_call, literal_word_at, text_at, Deeper, named_call_at, operand_at, query_at, comparable_at, test_at, right_side_at, relation_at, basic_from, operator_at}
+use Rattle.serde_json_path.proofs.LogicalForms.{DeeperLaws}
+use Rattle.serde_json_path.proofs.NumberTexts.{number_stands}
+use Rattle.serde_json_path.proofs.Runs.{whole}
+use Rattle.serde_json_path.proofs.Stands.{Stands, here, further, bind_stands, guard_stands, no_refusal, drop_one, drop_blanks}
+use Rattle.serde_json_path.proofs.Steps.{chosen, done, after_one}
+use Rattle.serde_json_path.proofs.StringPlaces.{string_stands}
+
+literal_word_stands : (cs : List ℕ) (r : Refusal) → literal_word_at cs ≡ Err r → Stands cs r
+unfolding literal_word_at
+literal_word_stands cs r e =
+    let rest = past_blanks (behind_word cs) in
+    elim (chosen (bytes_eq (word cs) (codes "true")) (done (a_literal (truth true), rest)) _ (Err r) e) [
+      | inl a ↦ no_refusal cs _ r a.1
+      | inr a ↦ elim (chosen (bytes_eq (word cs) (codes "false")) (done (a_literal (truth false), rest)) _ (Err r) a.1) [
+        | inl b ↦ no_refusal cs _ r b.1
+        | inr b ↦ guard_stands cs (bytes_eq (word cs) (codes "null")) (done (a_literal null, rest)) ExpectedExpression place.LongHand r refl (no_refusal cs _ r) b.1
+      ]
+    ]
+
+text_stands : (quote : ℕ) (cs : List ℕ) (r : Refusal) → IsQuote quote → text_at quote cs ≡ Err r → Stands cs r
+unfolding text_at
+text_stands quote cs r is e = bind_stands cs (string_at quote (drop 1 cs)) _ r (λ d f. drop_one cs d (string_stands quote is (drop 1 cs) d f)) (λ t f h. no_refusal cs _ r h) e
+
+module _ (signature : List ℕ → Option Signature) (n : ℕ) (deeper : Deeper) (laws : DeeperLaws signature n deeper) where
+  comparable_stands : (start : List ℕ) (o : Operand) (cs : List ℕ) (r : Refusal) → comparable_at signature deeper start o cs ≡ Err r → Stands start r
+  unfolding comparable_at
+  comparable_stands start (a_literal l) cs r e = no_refusal start _ r e
+  comparable_stands start (a_query q) cs r e = guard_stands start (is_singular q) (done (singular q, cs)) NonSingularQuery place.LongHand r refl (no_refusal start _ r) e
+  comparable_stands start (a_call c) cs r e = guard_stands start (is_result of_value (result_kind signature c)) (done (called c, cs)) WrongReturnType place.LongHand r refl (no_refusal start _ r) e
+
+  test_stands : (before start : List ℕ) (o : Operand) (cs : List ℕ) (r : Refusal) → start ≡ before ++ cs → test_at signature deeper start o cs ≡ Err r → Stands start r
+  unfolding test_at
+  test_stands before start (a_literal l) cs r split e = further start before cs r split (here ExpectedComparisonOperator place.LongHand cs (test_at signature deeper start (a_literal l) cs) r refl refl e)
+  test_stands before start (a_query q) cs r split e = no_refusal start _ r e
+  test_stands before start (a_call c) cs r split e =
+      let wrong : Parsed Basic = Err (refusal WrongReturnType place.LongHand start) in
+      elim (chosen (is_result of_value (result_kind signature c)) wrong (done (test c, cs)) (Err r) e) [
+        | inl a ↦ here WrongReturnType place.LongHand start wrong r refl refl a.1
+        | inr a ↦ no_refusal start _ r a.1
+      ]
+
+  named_call_stands : (cs : List ℕ) (r : Refusal) → begins_call cs ≡ true → named_call_at signature deeper cs ≡ Err r → Stands cs r
+  unfolding named_call_at
+  named_call_stands cs r begun e =
+      let parts = and_parts (begins is_small_letter cs) (begins (λ c. c == 40) (behind_word cs)) begun in
+      let split : cs ≡ (word cs ++ (40 ∷ [])) ++ drop 1 (behind_word cs) =
+      whole is_function_char cs ∙ ap (λ (l : List ℕ). word cs ++ l) (after_one 40 (behind_word cs) parts.1) ∙ sym (append_assoc (word cs) (40 ∷ []) (drop 1 (behind_word cs))) in
+      laws.call_stands (word cs ++ (40 ∷ [])) cs (word cs) (drop 1 (behind_word cs)) r split e
