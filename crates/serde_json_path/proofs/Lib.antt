@@ -16,6 +16,7 @@ pub mod OperandTexts
 pub mod Rows
 pub mod LogicalTexts
 pub mod CallTexts
+pub mod SegmentPlaces
 pub mod LogicalPlaces
 pub mod SegmentSteps
 pub mod PathTexts
