@@ -10,11 +10,14 @@ use Rattle.serde_json_path.specs.declared.error.ParseErrorKind.TheVariants.{Expe
 use Rattle.serde_json_path.specs.declared.error.Place.TheVariants as place
 use Rattle.serde_json_path.specs.Lexical.{begins, is_small_letter, is_function_char, IsQuote}
 use Rattle.serde_json_path.specs.Parsed.{Parsed, ◌>>=◌, refusal, past_blanks}
+use Rattle.serde_json_path.specs.Parsing.{segments_at}
 use Rattle.serde_json_path.specs.Strings.{string_at}
 use Rattle.serde_json_path.specs.Numbers.{number_at}
 use Rattle.serde_json_path.specs.Operands.{Operand, a_literal, a_query, a_call, is_singular, is_result}
-use Rattle.serde_json_path.specs.Filters.{word, behind_word, begins_call, literal_word_at, text_at, Deeper, named_call_at, operand_at, query_at, comparable_at, test_at, right_side_at, relation_at, basic_from, operator_at}
-use Rattle.serde_json_path.proofs.LogicalForms.{DeeperLaws}
+use Rattle.serde_json_path.specs.Filters.{filter_at, word, behind_word, begins_call, literal_word_at, text_at, Deeper, named_call_at, operand_at, query_at, comparable_at, test_at, right_side_at, relation_at, basic_from, operator_at}
+use Rattle.serde_json_path.proofs.FilterTexts.{filter_laws}
+use Rattle.serde_json_path.proofs.LogicalForms.{IsGoodInside, DeeperLaws}
+use Rattle.serde_json_path.proofs.SegmentPlaces.{segments_stand}
 use Rattle.serde_json_path.proofs.NumberTexts.{number_stands}
 use Rattle.serde_json_path.proofs.Runs.{whole}
 use Rattle.serde_json_path.proofs.Stands.{Stands, here, further, bind_stands, guard_stands, no_refusal, drop_one, drop_blanks}
@@ -62,3 +65,35 @@ module _ (signature : List ℕ → Option Signature) (n : ℕ) (deeper : Deeper)
       let split : cs ≡ (word cs ++ (40 ∷ [])) ++ drop 1 (behind_word cs) =
       whole is_function_char cs ∙ ap (λ (l : List ℕ). word cs ++ l) (after_one 40 (behind_word cs) parts.1) ∙ sym (append_assoc (word cs) (40 ∷ []) (drop 1 (behind_word cs))) in
       laws.call_stands (word cs ++ (40 ∷ [])) cs (word cs) (drop 1 (behind_word cs)) r split e
+
+  query_stands : (kind : QueryKind) (cs : List ℕ) (r : Refusal) → query_at signature deeper kind cs ≡ Err r → Stands cs r
+  unfolding query_at
+  query_stands kind cs r e =
+      bind_stands cs (segments_at (filter_at signature deeper) place.LongHand (drop 1 cs)) _ r
+      (λ d f. drop_one cs d (segments_stand (filter_at signature deeper) (IsGoodInside signature n) (filter_laws signature n deeper laws) place.LongHand (drop 1 cs) d f)) (λ ss f h. no_refusal cs _ r h) e
+
+  operand_stands : (cs : List ℕ) (r : Refusal) → operand_at signature deeper cs ≡ Err r → Stands cs r
+  unfolding operand_at
+  operand_stands cs r e =
+      let current_query : Parsed Operand = query_at signature deeper current cs >>= λ q. Ok (a_query q.0, q.1) in
+      let root_query : Parsed Operand = query_at signature deeper root cs >>= λ q. Ok (a_query q.0, q.1) in
+      let a_named : Parsed Operand = named_call_at signature deeper cs >>= λ c. Ok (a_call c.0, c.1) in
+      elim (chosen (begins (λ c. c == 39) cs) (text_at 39 cs) _ (Err r) e) [
+        | inl a ↦ text_stands 39 cs r (inl refl) a.1
+        | inr a ↦ elim (chosen (begins (λ c. c == 34) cs) (text_at 34 cs) _ (Err r) a.1) [
+          | inl b ↦ text_stands 34 cs r (inr refl) b.1
+          | inr b ↦ elim (chosen (begins (λ c. c == 64) cs) current_query _ (Err r) b.1) [
+            | inl c ↦ bind_stands cs (query_at signature deeper current cs) _ r (query_stands current cs) (λ q f h. no_refusal cs _ r h) c.1
+            | inr c ↦ elim (chosen (begins (λ c. c == 36) cs) root_query _ (Err r) c.1) [
+              | inl d ↦ bind_stands cs (query_at signature deeper root cs) _ r (query_stands root cs) (λ q f h. no_refusal cs _ r h) d.1
+              | inr d ↦ elim (chosen (begins_call cs) a_named _ (Err r) d.1) [
+                | inl f ↦ bind_stands cs (named_call_at signature deeper cs) _ r (λ x g. named_call_stands cs x f.0 g) (λ q g h. no_refusal cs _ r h) f.1
+                | inr f ↦ elim (chosen (begins is_small_letter cs) (literal_word_at cs) _ (Err r) f.1) [
+                  | inl g ↦ literal_word_stands cs r g.1
+                  | inr g ↦ bind_stands cs (number_at cs) _ r (number_stands cs) (λ m h k. no_refusal cs _ r k) g.1
+                ]
+              ]
+            ]
+          ]
+        ]
+      ]
