@@ -3,6 +3,7 @@ use Rattle.std.proofs.Common.{◌≡◌, ℕ, inl, inr, Bool, true, false, cond,
 use Rattle.std.specs.Prelude.{◌==◌, ◌||◌, codes, bytes_eq}
 use Rattle.serde_json_path_core.specs.Tree.{QueryKind, root, current, Basic, paren, not_paren, relation, exist, not_exist, test, not_test, Comparable, literal, singular, called, LogicalAnd, LogicalOr, Call, Operator, Literal, truth, null}
 use Rattle.std.proofs.lemmas.Bool.{and_parts}
+use Rattle.serde_json_path_core.specs.Text.{operator_text}
 use Rattle.serde_json_path_core.specs.Typing.{result_kind}
 use Rattle.serde_json_path_functions.specs.Functions.{of_value, Signature}
 use Rattle.serde_json_path.specs.declared.error.Refusal.{Refusal}
@@ -15,13 +16,15 @@ use Rattle.serde_json_path.specs.Strings.{string_at}
 use Rattle.serde_json_path.specs.Numbers.{number_at}
 use Rattle.serde_json_path.specs.Operands.{Operand, a_literal, a_query, a_call, is_singular, is_result}
 use Rattle.serde_json_path.specs.Filters.{filter_at, word, behind_word, begins_call, literal_word_at, text_at, Deeper, named_call_at, operand_at, query_at, comparable_at, test_at, right_side_at, relation_at, basic_from, operator_at}
+use Rattle.serde_json_path.proofs.Blanks.{blanks_of, split_blanks}
+use Rattle.serde_json_path.proofs.LogicalTexts.{operator_sound}
 use Rattle.serde_json_path.proofs.FilterTexts.{filter_laws}
 use Rattle.serde_json_path.proofs.LogicalForms.{IsGoodInside, DeeperLaws}
 use Rattle.serde_json_path.proofs.SegmentPlaces.{segments_stand}
 use Rattle.serde_json_path.proofs.NumberTexts.{number_stands}
 use Rattle.serde_json_path.proofs.Runs.{whole}
 use Rattle.serde_json_path.proofs.Stands.{Stands, here, further, bind_stands, guard_stands, no_refusal, drop_one, drop_blanks}
-use Rattle.serde_json_path.proofs.Steps.{chosen, done, after_one}
+use Rattle.serde_json_path.proofs.Steps.{chosen, guard, done, ok_is, after_one}
 use Rattle.serde_json_path.proofs.StringPlaces.{string_stands}
 
 literal_word_stands : (cs : List ℕ) (r : Refusal) → literal_word_at cs ≡ Err r → Stands cs r
@@ -46,6 +49,13 @@ module _ (signature : List ℕ → Option Signature) (n : ℕ) (deeper : Deeper)
   comparable_stands start (a_literal l) cs r e = no_refusal start _ r e
   comparable_stands start (a_query q) cs r e = guard_stands start (is_singular q) (done (singular q, cs)) NonSingularQuery place.LongHand r refl (no_refusal start _ r) e
   comparable_stands start (a_call c) cs r e = guard_stands start (is_result of_value (result_kind signature c)) (done (called c, cs)) WrongReturnType place.LongHand r refl (no_refusal start _ r) e
+
+  -- a comparable takes nothing more
+  same_rest : (start : List ℕ) (o : Operand) (cs : List ℕ) (x : Comparable × List ℕ) → comparable_at signature deeper start o cs ≡ Ok x → cs ≡ x.1
+  unfolding comparable_at
+  same_rest start (a_literal l) cs x e = ap (λ y. y.1) (ok_is (literal l, cs) x e)
+  same_rest start (a_query q) cs x e = let g = guard (is_singular q) (refusal NonSingularQuery place.LongHand start) (done (singular q, cs)) x e in ap (λ y. y.1) (ok_is (singular q, cs) x g.1)
+  same_rest start (a_call c) cs x e = let g = guard (is_result of_value (result_kind signature c)) (refusal WrongReturnType place.LongHand start) (done (called c, cs)) x e in ap (λ y. y.1) (ok_is (called c, cs) x g.1)
 
   test_stands : (before start : List ℕ) (o : Operand) (cs : List ℕ) (r : Refusal) → start ≡ before ++ cs → test_at signature deeper start o cs ≡ Err r → Stands start r
   unfolding test_at
@@ -97,3 +107,24 @@ module _ (signature : List ℕ → Option Signature) (n : ℕ) (deeper : Deeper)
           ]
         ]
       ]
+
+  right_side_stands : (cs : List ℕ) (r : Refusal) → right_side_at signature deeper cs ≡ Err r → Stands cs r
+  unfolding right_side_at
+  right_side_stands cs r e = bind_stands cs (operand_at signature deeper cs) _ r (operand_stands cs) (λ o f h. comparable_stands cs o.0 o.1 r h) e
+
+  -- behind an operand that begins at start
+  basic_from_stands : (before start : List ℕ) (o : Operand) (cs : List ℕ) (r : Refusal) → start ≡ before ++ cs → basic_from signature deeper start o cs ≡ Err r → Stands start r
+  unfolding basic_from relation_at
+  basic_from_stands before start o cs r split e = by_operator (operator_at cs) refl e
+    where
+      by_operator : (op : Option (Operator × List ℕ)) → operator_at cs ≡ op → relation_at signature deeper start o op cs ≡ Err r → Stands start r
+      by_operator None none e = test_stands before start o cs r split e
+      by_operator (Some op) found e =
+          bind_stands start (comparable_at signature deeper start o (past_blanks op.1)) _ r (λ d f. comparable_stands start o (past_blanks op.1) d f) (λ a f h.
+          let behind : start ≡ (before ++ (operator_text op.0 ++ blanks_of op.1)) ++ a.1 =
+          split ∙ ap (λ (l : List ℕ). before ++ l) (operator_sound cs op found ∙ ap (λ (l : List ℕ). operator_text op.0 ++ l) (split_blanks op.1 ∙ ap (λ (l : List ℕ). blanks_of op.1 ++ l) (same_rest start o (past_blanks op.1) a f))) ∙ grouped before (operator_text op.0) (blanks_of op.1) a.1 in
+          further start (before ++ (operator_text op.0 ++ blanks_of op.1)) a.1 r behind
+          (bind_stands a.1 (right_side_at signature deeper a.1) _ r (right_side_stands a.1) (λ b g k. no_refusal a.1 _ r k) h)) e
+        where
+          grouped : (a b c d : List ℕ) → a ++ (b ++ (c ++ d)) ≡ (a ++ (b ++ c)) ++ d
+          grouped a b c d = simp append_assoc refl
