@@ -255,7 +255,7 @@ module _ (signature : List ℕ → Option Signature) (n : ℕ) (deeper : Deeper)
       is_logical : (e f : LogicalOr) → logical_argument e ≡ logical_argument f → e ≡ f
       is_logical e f same = cc
 
-  argument_sound : (cs : List ℕ) (x : Argument × List ℕ) → begins ends_argument x.1 ≡ true → argument_at signature deeper cs ≡ Ok x → Read (Spaced IsArgument) cs x
+  pub argument_sound : (cs : List ℕ) (x : Argument × List ℕ) → begins ends_argument x.1 ≡ true → argument_at signature deeper cs ≡ Ok x → Read (Spaced IsArgument) cs x
   unfolding argument_at
   argument_sound cs x ends e =
       let expression : Parsed Argument = or_at signature deeper cs >>= λ e. Ok (logical_argument e.0, e.1) in

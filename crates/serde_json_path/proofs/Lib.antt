@@ -18,6 +18,7 @@ pub mod LogicalTexts
 pub mod CallTexts
 pub mod SegmentPlaces
 pub mod LogicalPlaces
+pub mod CallPlaces
 pub mod SegmentSteps
 pub mod PathTexts
 pub mod SelectorPlaces

@@ -10,20 +10,22 @@ use Rattle.serde_json_path.specs.declared.error.Refusal.{Refusal}
 use Rattle.serde_json_path.specs.declared.error.ParseErrorKind.TheVariants.{ExpectedExpression, ExpectedClosingParenthesis, ExpectedComparisonOperator, NonSingularQuery, WrongReturnType}
 use Rattle.serde_json_path.specs.declared.error.Place.TheVariants as place
 use Rattle.serde_json_path.specs.Lexical.{begins, is_small_letter, is_function_char, IsQuote}
-use Rattle.serde_json_path.specs.Parsed.{Parsed, ◌>>=◌, refusal, past_blanks}
+use Rattle.serde_json_path.specs.Parsed.{Parsed, ◌>>=◌, refusal, past_blanks, many}
 use Rattle.serde_json_path.specs.Parsing.{segments_at}
 use Rattle.serde_json_path.specs.Strings.{string_at}
 use Rattle.serde_json_path.specs.Numbers.{number_at}
 use Rattle.serde_json_path.specs.Operands.{Operand, a_literal, a_query, a_call, is_singular, is_result}
-use Rattle.serde_json_path.specs.Filters.{filter_at, word, behind_word, begins_call, literal_word_at, text_at, Deeper, named_call_at, operand_at, query_at, comparable_at, test_at, right_side_at, relation_at, basic_from, operator_at}
+use Rattle.serde_json_path.specs.Filters.{filter_at, word, behind_word, begins_call, literal_word_at, text_at, Deeper, named_call_at, operand_at, query_at, comparable_at, test_at, right_side_at, relation_at, basic_from, operator_at, begins_both, paren_at, negated_call_at, negated_at, basic_at, next_basic_at, and_from, and_at, next_and_at, or_from, or_at}
 use Rattle.serde_json_path.proofs.Blanks.{blanks_of, split_blanks}
-use Rattle.serde_json_path.proofs.LogicalTexts.{operator_sound}
+use Rattle.serde_json_path.proofs.LogicalTexts.{operator_sound, IsBasicText, IsAndText, basic_sound, next_basic_sound, and_sound, next_and_sound}
+use Rattle.serde_json_path.proofs.OperandTexts.{operand_sound}
+use Rattle.serde_json_path.proofs.Rows as Rows
 use Rattle.serde_json_path.proofs.FilterTexts.{filter_laws}
 use Rattle.serde_json_path.proofs.LogicalForms.{IsGoodInside, DeeperLaws}
 use Rattle.serde_json_path.proofs.SegmentPlaces.{segments_stand}
 use Rattle.serde_json_path.proofs.NumberTexts.{number_stands}
 use Rattle.serde_json_path.proofs.Runs.{whole}
-use Rattle.serde_json_path.proofs.Stands.{Stands, here, further, bind_stands, guard_stands, no_refusal, drop_one, drop_blanks}
+use Rattle.serde_json_path.proofs.Stands.{Stands, here, further, bind_stands, guard_stands, no_refusal, drop_one, drop_blanks, many_stands}
 use Rattle.serde_json_path.proofs.Steps.{chosen, guard, done, ok_is, after_one}
 use Rattle.serde_json_path.proofs.StringPlaces.{string_stands}
 
@@ -82,7 +84,7 @@ module _ (signature : List ℕ → Option Signature) (n : ℕ) (deeper : Deeper)
       bind_stands cs (segments_at (filter_at signature deeper) place.LongHand (drop 1 cs)) _ r
       (λ d f. drop_one cs d (segments_stand (filter_at signature deeper) (IsGoodInside signature n) (filter_laws signature n deeper laws) place.LongHand (drop 1 cs) d f)) (λ ss f h. no_refusal cs _ r h) e
 
-  operand_stands : (cs : List ℕ) (r : Refusal) → operand_at signature deeper cs ≡ Err r → Stands cs r
+  pub operand_stands : (cs : List ℕ) (r : Refusal) → operand_at signature deeper cs ≡ Err r → Stands cs r
   unfolding operand_at
   operand_stands cs r e =
       let current_query : Parsed Operand = query_at signature deeper current cs >>= λ q. Ok (a_query q.0, q.1) in
@@ -113,7 +115,7 @@ module _ (signature : List ℕ → Option Signature) (n : ℕ) (deeper : Deeper)
   right_side_stands cs r e = bind_stands cs (operand_at signature deeper cs) _ r (operand_stands cs) (λ o f h. comparable_stands cs o.0 o.1 r h) e
 
   -- behind an operand that begins at start
-  basic_from_stands : (before start : List ℕ) (o : Operand) (cs : List ℕ) (r : Refusal) → start ≡ before ++ cs → basic_from signature deeper start o cs ≡ Err r → Stands start r
+  pub basic_from_stands : (before start : List ℕ) (o : Operand) (cs : List ℕ) (r : Refusal) → start ≡ before ++ cs → basic_from signature deeper start o cs ≡ Err r → Stands start r
   unfolding basic_from relation_at
   basic_from_stands before start o cs r split e = by_operator (operator_at cs) refl e
     where
@@ -128,3 +130,99 @@ module _ (signature : List ℕ → Option Signature) (n : ℕ) (deeper : Deeper)
         where
           grouped : (a b c d : List ℕ) → a ++ (b ++ (c ++ d)) ≡ (a ++ (b ++ c)) ++ d
           grouped a b c d = simp append_assoc refl
+
+  -- ---- parentheses and `!`
+
+  paren_stands : (cs : List ℕ) (r : Refusal) → begins (λ c. c == 40) cs ≡ true → paren_at signature deeper cs ≡ Err r → Stands cs r
+  unfolding paren_at
+  paren_stands cs r opened e =
+      let j = blanks_of (drop 1 cs) in
+      let split : cs ≡ (40 ∷ j) ++ past_blanks (drop 1 cs) = after_one 40 cs opened ∙ ap (λ (l : List ℕ). 40 ∷ l) (split_blanks (drop 1 cs)) in
+      bind_stands cs (deeper.expression cs (past_blanks (drop 1 cs))) _ r (λ d f. laws.inside_stands (40 ∷ j) cs (past_blanks (drop 1 cs)) d split f) (λ x f h.
+      let read = laws.inside_sound cs (past_blanks (drop 1 cs)) x f in
+      further cs (40 ∷ j) (past_blanks (drop 1 cs)) r split
+      (further (past_blanks (drop 1 cs)) read.text x.1 r read.split
+      (guard_stands x.1 (begins (λ c. c == 41) x.1) (done (x.0, past_blanks (drop 1 x.1))) ExpectedClosingParenthesis place.LongHand r refl (no_refusal x.1 _ r) h))) e
+
+  negated_call_stands : (cs : List ℕ) (r : Refusal) → begins_call cs ≡ true → negated_call_at signature deeper cs ≡ Err r → Stands cs r
+  unfolding negated_call_at
+  negated_call_stands cs r begun e =
+      let wrong : Parsed Basic = Err (refusal WrongReturnType place.LongHand cs) in
+      bind_stands cs (named_call_at signature deeper cs) _ r (λ d f. named_call_stands cs d begun f) (λ c f h.
+      elim (chosen (is_result of_value (result_kind signature c.0)) wrong (done (not_test c.0, c.1)) (Err r) h) [
+        | inl a ↦ here WrongReturnType place.LongHand cs wrong r refl refl a.1
+        | inr a ↦ no_refusal cs _ r a.1
+      ]) e
+
+  negated_stands : (cs : List ℕ) (r : Refusal) → negated_at signature deeper cs ≡ Err r → Stands cs r
+  unfolding negated_at
+  negated_stands cs r e =
+      let in_parens : Parsed Basic = paren_at signature deeper cs >>= λ e. Ok (not_paren e.0, e.1) in
+      let current_query : Parsed Basic = query_at signature deeper current cs >>= λ q. Ok (not_exist q.0, q.1) in
+      let root_query : Parsed Basic = query_at signature deeper root cs >>= λ q. Ok (not_exist q.0, q.1) in
+      elim (chosen (begins (λ c. c == 40) cs) in_parens _ (Err r) e) [
+        | inl a ↦ bind_stands cs (paren_at signature deeper cs) _ r (λ d f. paren_stands cs d a.0 f) (λ x f h. no_refusal cs _ r h) a.1
+        | inr a ↦ elim (chosen (begins (λ c. c == 64) cs) current_query _ (Err r) a.1) [
+          | inl b ↦ bind_stands cs (query_at signature deeper current cs) _ r (query_stands current cs) (λ q f h. no_refusal cs _ r h) b.1
+          | inr b ↦ elim (chosen (begins (λ c. c == 36) cs) root_query _ (Err r) b.1) [
+            | inl c ↦ bind_stands cs (query_at signature deeper root cs) _ r (query_stands root cs) (λ q f h. no_refusal cs _ r h) c.1
+            | inr c ↦ elim (chosen (begins_call cs) (negated_call_at signature deeper cs) (Err (refusal ExpectedExpression place.LongHand cs)) (Err r) c.1) [
+              | inl d ↦ negated_call_stands cs r d.0 d.1
+              | inr d ↦ here ExpectedExpression place.LongHand cs (negated_refused cs) r refl refl d.1
+            ]
+          ]
+        ]
+      ]
+    where
+      negated_refused : List ℕ → Parsed Basic
+      negated_refused cs = Err (refusal ExpectedExpression place.LongHand cs)
+
+  -- ---- logical expressions
+
+  basic_stands : (cs : List ℕ) (r : Refusal) → basic_at signature deeper cs ≡ Err r → Stands cs r
+  unfolding basic_at
+  basic_stands cs r e =
+      let in_parens : Parsed Basic = paren_at signature deeper cs >>= λ e. Ok (paren e.0, e.1) in
+      elim (chosen (begins (λ c. c == 40) cs) in_parens _ (Err r) e) [
+        | inl a ↦ bind_stands cs (paren_at signature deeper cs) _ r (λ d f. paren_stands cs d a.0 f) (λ x f h. no_refusal cs _ r h) a.1
+        | inr a ↦ elim (chosen (begins (λ c. c == 33) cs) (negated_at signature deeper (past_blanks (drop 1 cs))) _ (Err r) a.1) [
+          | inl b ↦ drop_one cs r (drop_blanks (drop 1 cs) r (negated_stands (past_blanks (drop 1 cs)) r b.1))
+          | inr b ↦ bind_stands cs (operand_at signature deeper cs) _ r (operand_stands cs) (λ o f h.
+              let read = operand_sound signature n deeper laws cs o f in
+              basic_from_stands read.text cs o.0 o.1 r read.split h) b.1
+        ]
+      ]
+
+  two : (cs : List ℕ) (r : Refusal) → Stands (drop 2 cs) r → Stands cs r
+  two [] r s = s
+  two (c ∷ cs) r s = drop_one (c ∷ cs) r (drop_one cs r s)
+
+  next_basic_stands : (cs : List ℕ) (r : Refusal) → next_basic_at signature deeper cs ≡ Err r → Stands cs r
+  unfolding next_basic_at
+  next_basic_stands cs r e = two cs r (drop_blanks (drop 2 cs) r (basic_stands (past_blanks (drop 2 cs)) r e))
+
+  pub and_from_stands : (b : Basic) (cs : List ℕ) (r : Refusal) → and_from signature deeper b cs ≡ Err r → Stands cs r
+  unfolding and_from many
+  and_from_stands b cs r e = bind_stands cs (many (begins_both 38 38) (next_basic_at signature deeper) cs) _ r
+      (λ d f. many_stands (Rows.IsNext (codes "&&") (IsBasicText signature n deeper laws)) (begins_both 38 38) (next_basic_at signature deeper) (next_basic_sound signature n deeper laws) next_basic_stands (length cs) cs d f) (λ bs f h. no_refusal cs _ r h) e
+
+  and_stands : (cs : List ℕ) (r : Refusal) → and_at signature deeper cs ≡ Err r → Stands cs r
+  unfolding and_at
+  and_stands cs r e = bind_stands cs (basic_at signature deeper cs) _ r (basic_stands cs) (λ b f h.
+      let read = basic_sound signature n deeper laws cs b f in
+      further cs read.text b.1 r read.split (and_from_stands b.0 b.1 r h)) e
+
+  next_and_stands : (cs : List ℕ) (r : Refusal) → next_and_at signature deeper cs ≡ Err r → Stands cs r
+  unfolding next_and_at
+  next_and_stands cs r e = two cs r (drop_blanks (drop 2 cs) r (and_stands (past_blanks (drop 2 cs)) r e))
+
+  pub or_from_stands : (a : LogicalAnd) (cs : List ℕ) (r : Refusal) → or_from signature deeper a cs ≡ Err r → Stands cs r
+  unfolding or_from many
+  or_from_stands a cs r e = bind_stands cs (many (begins_both 124 124) (next_and_at signature deeper) cs) _ r
+      (λ d f. many_stands (Rows.IsNext (codes "||") (IsAndText signature n deeper laws)) (begins_both 124 124) (next_and_at signature deeper) (next_and_sound signature n deeper laws) next_and_stands (length cs) cs d f) (λ xs f h. no_refusal cs _ r h) e
+
+  pub or_stands : (cs : List ℕ) (r : Refusal) → or_at signature deeper cs ≡ Err r → Stands cs r
+  unfolding or_at
+  or_stands cs r e = bind_stands cs (and_at signature deeper cs) _ r (and_stands cs) (λ a f h.
+      let read = and_sound signature n deeper laws cs a f in
+      further cs read.text a.1 r read.split (or_from_stands a.0 a.1 r h)) e

@@ -285,7 +285,7 @@ module _ (signature : List ℕ → Option Signature) (n : ℕ) (deeper : Deeper)
   abbrev next_basic : List ℕ → Parsed Basic
   next_basic cs = next_basic_at signature deeper cs
 
-  next_basic_sound : (cs : List ℕ) (x : Basic × List ℕ) → begins_both 38 38 cs ≡ true → next_basic cs ≡ Ok x → Read (r.IsNext (codes "&&") IsBasicText) cs x
+  pub next_basic_sound : (cs : List ℕ) (x : Basic × List ℕ) → begins_both 38 38 cs ≡ true → next_basic cs ≡ Ok x → Read (r.IsNext (codes "&&") IsBasicText) cs x
   unfolding next_basic_at
   next_basic_sound cs x sign e =
       let read = basic_sound (past_blanks (drop 2 cs)) x e in
@@ -328,7 +328,7 @@ module _ (signature : List ℕ → Option Signature) (n : ℕ) (deeper : Deeper)
   abbrev next_and : List ℕ → Parsed LogicalAnd
   next_and cs = next_and_at signature deeper cs
 
-  next_and_sound : (cs : List ℕ) (x : LogicalAnd × List ℕ) → begins_both 124 124 cs ≡ true → next_and cs ≡ Ok x → Read (r.IsNext (codes "||") IsAndText) cs x
+  pub next_and_sound : (cs : List ℕ) (x : LogicalAnd × List ℕ) → begins_both 124 124 cs ≡ true → next_and cs ≡ Ok x → Read (r.IsNext (codes "||") IsAndText) cs x
   unfolding next_and_at
   next_and_sound cs x sign e =
       let read = and_sound (past_blanks (drop 2 cs)) x e in
