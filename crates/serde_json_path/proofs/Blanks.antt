@@ -11,18 +11,6 @@ past_some k rest h = behind_past is_blank k rest h
 pub past_all : (k rest : List ℕ) → IsBlank k → begins is_blank rest ≡ false → past_blanks (k ++ rest) ≡ rest
 past_all k rest h e = past_some k rest h ∙ behind_end is_blank rest e
 
--- behind the blanks is none
-pub none_left : (cs : List ℕ) → begins is_blank (past_blanks cs) ≡ false
-none_left [] = refl
-none_left (c ∷ cs) = by_test (is_blank c) refl (none_left cs)
-  where
-    by_test : (b : Bool) → is_blank c ≡ b → begins is_blank (past_blanks cs) ≡ false → begins is_blank (past_blanks (c ∷ cs)) ≡ false
-    by_test true e h = rw e h
-    by_test false e h = rw e e
-
-pub past_twice : (cs : List ℕ) → past_blanks (past_blanks cs) ≡ past_blanks cs
-past_twice cs = behind_end is_blank (past_blanks cs) (none_left cs)
-
 -- the blanks themselves
 abbrev pub blanks_of : List ℕ → List ℕ
 blanks_of cs = front is_blank cs

@@ -156,9 +156,9 @@ abbrev pub selectors_in : Selectors → List Selector
 selectors_in no_selectors = []
 selectors_in (selector sel more) = sel ∷ selectors_in more
 
-listed : (sels : Selectors) → selector_list (selectors_in sels) ≡ sels
-listed no_selectors = refl
-listed (selector sel more) = ap (selector sel) (listed more)
+same_selectors : (sels : Selectors) → selector_list (selectors_in sels) ≡ sels
+same_selectors no_selectors = refl
+same_selectors (selector sel more) = ap (selector sel) (same_selectors more)
 
 -- a comma and what follows, behind the blanks
 at_comma : (j k a b rest : List ℕ) → IsBlank j → past_blanks (((j ++ (44 ∷ k)) ++ (a ++ b)) ++ rest) ≡ 44 ∷ (k ++ (a ++ (b ++ rest)))
@@ -205,4 +205,4 @@ unfolding bracket_at
 bracket_again sels j a k rest before is behind o =
     let regrouped : (j ++ (a ++ (k ++ 93 ∷ []))) ++ rest ≡ j ++ (a ++ (k ++ (93 ∷ rest))) =
     append_assoc j (a ++ (k ++ 93 ∷ [])) rest ∙ ap (λ (l : List ℕ). j ++ l) (append_assoc a (k ++ 93 ∷ []) rest ∙ ap (λ (l : List ℕ). a ++ l) (append_assoc k (93 ∷ []) rest)) in
-    ap bracket_at regrouped ∙ rw (selectors_again k rest behind sels j a before is o) (ap (λ (s : Selectors). Ok (long_hand s, rest)) (listed sels))
+    ap bracket_at regrouped ∙ rw (selectors_again k rest behind sels j a before is o) (ap (λ (s : Selectors). Ok (long_hand s, rest)) (same_selectors sels))

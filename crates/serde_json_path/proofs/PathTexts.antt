@@ -55,14 +55,6 @@ module _ (cs ds rest : List ℕ) (c : ℕ) (ss : List (SegmentKind × Segment)) 
   pub path_ends : (length rest == 0) ≡ true → path_at cs ≡ Ok (segment_list ss)
   path_ends e = rooted cs ds c root split ∙ ap at_end read ∙ rw e refl
 
-  pub text_behind : (length rest == 0) ≡ false → path_at cs ≡ Err (refusal TextAfterPath place.Path rest)
-  text_behind e = rooted cs ds c root split ∙ ap at_end read ∙ rw e refl
-
--- a refusal of the segments is that of the text
-pub segments_fail : (cs ds : List ℕ) (c : ℕ) (s : Stop) → begins (λ d. d == 36) cs ≡ true → cs ≡ c ∷ ds → Fails s (segments_at ds) → Fails s (path_at cs)
-segments_fail cs ds c stops.Memory root split h = tt
-segments_fail cs ds c (stops.Refused r) root split h = rooted cs ds c root split ∙ ap at_end h
-
 -- where no byte is left, no character is
 pub all_read : (rest : List ℕ) (bytes : ℕ) → bytes ≡ length (encode_utf8_all rest) → bytes ≡ 0 → (length rest == 0) ≡ true
 all_read [] bytes is none = refl

@@ -8,6 +8,7 @@ use Rattle.serde_json_path.specs.Lexical.{begins, is_blank, is_digit, IsBlank, I
 use Rattle.serde_json_path.specs.Open.{IsOpenSelector}
 use Rattle.serde_json_path.specs.Parsed.{◌>>=◌, front, past_blanks}
 use Rattle.serde_json_path.specs.Parsing.{int_at, begins_int, bound_at, step_at, slice_at, position_at, selector_at}
+use Rattle.serde_json_path.proofs.Blanks.{past_some}
 use Rattle.serde_json_path.proofs.IntTexts.{int_sound, int_again, int_begins, int_not, int_no_blank}
 use Rattle.serde_json_path.proofs.Runs.{differs, no_blank, whole, front_each, behind_past, behind_end}
 use Rattle.serde_json_path.proofs.Steps.{Read, Spaced, bind_ok, chosen, done, ok_is, after_one}
@@ -149,17 +150,14 @@ ends_digits (c ∷ cs) h = by_digit (is_digit c) refl
         absurd (true≢false (sym begun ∙ h))
     by_digit false d = d
 
-past : (k rest : List ℕ) → IsBlank k → past_blanks (k ++ rest) ≡ past_blanks rest
-past k rest blank = behind_past is_blank k rest blank
-
 bound_again : (e : Option ℤ) (t rest : List ℕ) → IsBound e t → Ends rest → bound_at (past_blanks (t ++ rest)) ≡ Ok (e, past_blanks rest)
 unfolding bound_at
 bound_again None t rest b ends = ap (λ (l : List ℕ). bound_at (past_blanks (l ++ rest))) b ∙ rw ends refl
 bound_again (Some i) t rest (a, k, is, blank, e) ends =
     let here : past_blanks (t ++ rest) ≡ a ++ (k ++ rest) =
     ap (λ (l : List ℕ). past_blanks (l ++ rest)) e ∙ ap past_blanks (append_assoc a k rest) ∙ behind_end is_blank (a ++ (k ++ rest)) (int_no_blank a i (k ++ rest) is) in
-    let further : begins is_digit (k ++ rest) ≡ false = ends_digits (k ++ rest) (ap (begins begins_int) (past k rest blank) ∙ ends) in
-    ap bound_at here ∙ rw (int_begins a i (k ++ rest) is, int_again a i (k ++ rest) is further, past k rest blank) refl
+    let further : begins is_digit (k ++ rest) ≡ false = ends_digits (k ++ rest) (ap (begins begins_int) (past_some k rest blank) ∙ ends) in
+    ap bound_at here ∙ rw (int_begins a i (k ++ rest) is, int_again a i (k ++ rest) is further, past_some k rest blank) refl
 
 step_again : (e : Option ℤ) (t rest : List ℕ) → IsSliceStep e t → Closes rest → step_at (past_blanks (t ++ rest)) ≡ Ok (e, past_blanks rest)
 unfolding step_at
@@ -167,7 +165,7 @@ step_again None t rest (inl e) closes =
     ap (λ (l : List ℕ). step_at (past_blanks (l ++ rest))) e ∙ rw (closes_not (λ c. c == 58) (past_blanks rest) refl refl closes) refl
 step_again None t rest (inr e) closes = ap (λ (l : List ℕ). step_at (past_blanks (l ++ rest))) e ∙ bound_again None [] rest refl (closed_ends rest closes)
 step_again (Some i) t rest (k, a, blank, is, e) closes =
-    ap (λ (l : List ℕ). step_at (past_blanks (l ++ rest))) e ∙ ap (λ (l : List ℕ). bound_at (past_blanks l)) (append_assoc k a rest) ∙ ap bound_at (past k (a ++ rest) blank)
+    ap (λ (l : List ℕ). step_at (past_blanks (l ++ rest))) e ∙ ap (λ (l : List ℕ). bound_at (past_blanks l)) (append_assoc k a rest) ∙ ap bound_at (past_some k (a ++ rest) blank)
     ∙ bound_again (Some i) a rest (a, [], is, tt, sym (append-nil a)) (closed_ends rest closes)
 
 step_ends : (e : Option ℤ) (t rest : List ℕ) → IsSliceStep e t → Closes rest → Ends (t ++ rest)
@@ -180,7 +178,7 @@ parts_again : (start end step : Option ℤ) (k b c rest : List ℕ) → IsBlank 
     → slice_at start (k ++ (b ++ (c ++ rest))) ≡ Ok (record { start = start; end = end; step = step }, past_blanks rest)
 unfolding slice_at
 parts_again start end step k b c rest blank second third closes =
-    rw (past k (b ++ (c ++ rest)) blank, bound_again end b (c ++ rest) second (step_ends step c rest third closes), step_again step c rest third closes) refl
+    rw (past_some k (b ++ (c ++ rest)) blank, bound_again end b (c ++ rest) second (step_ends step c rest third closes), step_again step c rest third closes) refl
 
 at_position : (t : List ℕ) (i : ℤ) (rest : List ℕ) → IsInt t i → selector_at (t ++ rest) ≡ position_at (t ++ rest)
 unfolding selector_at
@@ -198,7 +196,7 @@ index_again t i rest is closes = at_position t i rest is ∙ alone_again t i res
 begun_again : (t k : List ℕ) (i : ℤ) (rest : List ℕ) (s : Slice) (behind : List ℕ) → IsInt t i → IsBlank k → slice_at (Some i) rest ≡ Ok (s, behind) → position_at (t ++ (k ++ (58 ∷ rest))) ≡ Ok (slice s, behind)
 unfolding position_at
 begun_again t k i rest s behind is blank read =
-    let colon : past_blanks (k ++ (58 ∷ rest)) ≡ 58 ∷ rest = past k (58 ∷ rest) blank in
+    let colon : past_blanks (k ++ (58 ∷ rest)) ≡ 58 ∷ rest = past_some k (58 ∷ rest) blank in
     let further = ends_digits (k ++ (58 ∷ rest)) (ap (begins begins_int) colon) in
     rw (int_again t i (k ++ (58 ∷ rest)) is further, colon, read) refl
 

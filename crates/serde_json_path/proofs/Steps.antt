@@ -47,9 +47,6 @@ pub record Read {A : Type 0} (is : List ℕ → A → Type 0) (cs : List ℕ) (x
 abbrev pub Spaced : {A : Type 0} → (List ℕ → A → Type 0) → List ℕ → A → Type 0
 Spaced is t x = (a k : List ℕ) × is a x × IsBlank k × (t ≡ a ++ k)
 
-pub not_empty : {A : Type 0} (is : List ℕ → A → Type 0) (cs : List ℕ) (x : A × List ℕ) → ((t : List ℕ) → is t x.0 → 0 < length t) → Read is cs x → length x.1 < length cs
-not_empty is cs x some r = omega (arith, ap length r.split, length-append r.text x.1, some r.text r.is_so)
-
 -- many items, one after the other
 module _ {A : Type 0} (is : List ℕ → A → Type 0) (more : List ℕ → Bool) (item : List ℕ → Parsed A) (sound : (cs : List ℕ) (x : A × List ℕ) → more cs ≡ true → item cs ≡ Ok x → Read is cs x) where
   pub many_sound : (n : ℕ) (cs : List ℕ) (x : List A × List ℕ) → many_at more item n cs ≡ Ok x → Read (Joined is) cs x

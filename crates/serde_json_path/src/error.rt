@@ -198,7 +198,19 @@ impl fmt::Display for ParseError {
 
 impl Stop {
     ghost use Rattle.std.specs.Prelude.{◌<◌, ◌-◌, ◌^◌};
+    ghost use Rattle.serde_json_path.specs.declared.error.Place.TheVariants.{LongHand};
     ghost use Rattle.serde_json_path.specs.Giving.{IsWithin, error_of};
+
+    /// A refusal inside a bracket, at a place from which so many bytes of the text are left.
+    pub(crate) fn in_long_hand(kind: ParseErrorKind, left: usize) -> Stop
+        ensures { result ≡ Stop.Refused (record { kind = kind; place = LongHand; left = left }) }
+    {
+        Stop::Refused(Refusal {
+            kind,
+            place: Place::LongHand,
+            left,
+        })
+    }
 
     /// What is told of the stop in a text of so many bytes.
     pub(crate) fn in_text(self, total: usize) -> ParseError

@@ -37,8 +37,13 @@ fn character(code: u32) -> char
 }
 
 /// The character of two bytes or more that begins at an index with this byte, and how many bytes it takes.
+// Out of line, so that characters of one byte, which are most, are read in few steps.
 #[inline(never)]
-fn wide_character_at<S: PathSource>(source: &mut S, index: usize, lead: u8) -> (char, usize)
+pub(crate) fn wide_character_at<S: PathSource>(
+    source: &mut S,
+    index: usize,
+    lead: u8,
+) -> (char, usize)
     requires utf8 { IsUtf8 (drop index (S.told source.old).text) }
     requires lead { slice_get (S.told source.old).text index ≡ Some lead }
     requires short { length (S.told source.old).text < 2 ^ 64 }
@@ -61,21 +66,4 @@ fn wide_character_at<S: PathSource>(source: &mut S, index: usize, lead: u8) -> (
         character(first % 8 * 262144 + second * 4096 + third * 64 + fourth),
         4,
     )
-}
-
-/// The character that begins at an index with this byte, and how many bytes it takes. Its first byte is not looked at
-/// again.
-#[inline(always)]
-pub(crate) fn character_at<S: PathSource>(source: &mut S, index: usize, lead: u8) -> (char, usize)
-    requires utf8 { IsUtf8 (drop index (S.told source.old).text) }
-    requires lead { slice_get (S.told source.old).text index ≡ Some lead }
-    requires short { length (S.told source.old).text < 2 ^ 64 }
-    ensures decodes { StartsWithChar (drop index (S.told source.old).text) result.0 result.1 }
-    ensures scalar { IsScalar result.0 }
-    ensures looks { LooksOn (S.told source.old) (S.told source.new) (result.1 - 1) (index + result.1) }
-{
-    if lead < 0x80 {
-        return (character(lead as u32), 1);
-    }
-    wide_character_at(source, index, lead)
 }

@@ -11,7 +11,7 @@ ghost use Rattle.serde_json_path.specs.Numbers.{is_exponent};
 ghost use Rattle.serde_json_path.specs.Strings.{is_hexadecimal, is_letter_escape, is_control, is_inside};
 
 use crate::error::{ParseErrorKind, Place, Refusal, Stop};
-use crate::parser::decode::{byte_at, character_at};
+use crate::parser::decode::{byte_at, wide_character_at};
 use crate::source::PathSource;
 use std::alloc::AllocError;
 
@@ -86,11 +86,15 @@ impl<'s, S: PathSource> Reader<'s, S> {
         ensures moves { Moves self.old self.new }
     {
         let lead = self.next.unwrap();
-        let (c, width) = character_at(self.source, self.index, lead);
-        let index = self.index + width;
-        let next = byte_at(self.source, index);
-        self.index = index;
-        self.next = next;
+        // A character of one byte has a way of its own, in which nothing is decoded.
+        if lead < 0x80 {
+            self.index += 1;
+            self.next = byte_at(self.source, self.index);
+            return lead as char;
+        }
+        let (c, width) = wide_character_at(self.source, self.index, lead);
+        self.index += width;
+        self.next = byte_at(self.source, self.index);
         c
     }
 
@@ -199,7 +203,7 @@ impl<'s, S: PathSource> Reader<'s, S> {
         ensures { result ≡ begins is_name_first (left self.now) }
     {
         match self.peek() {
-            Some(next) => next.is_ascii_alphabetic() || next == b'_' || next >= 128,
+            Some(next) => next >= 128 || next.is_ascii_alphabetic() || next == b'_',
             None => false,
         }
     }

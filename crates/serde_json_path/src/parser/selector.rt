@@ -1,6 +1,6 @@
 //! Selectors.
 
-ghost use Rattle.std.specs.Prelude.{◌≡◌, ◌==◌, ℕ, true};
+ghost use Rattle.std.specs.Prelude.{◌≡◌, ◌==◌, true};
 ghost use Rattle.serde_json_path_core.specs.Parts.{KeepsParts};
 ghost use Rattle.serde_json_path.specs.Giving.{MakesSelector, MakesSelectors, IsNear};
 ghost use Rattle.serde_json_path.specs.Lexical.{begins, IsQuote};

@@ -1,6 +1,6 @@
 //! Slices.
 
-ghost use Rattle.std.specs.Prelude.{◌≡◌, Some, Option, option_map, IfOk};
+ghost use Rattle.std.specs.Prelude.{IfOk};
 ghost use Rattle.serde_json_path_core.specs.SliceView.{slice_view};
 ghost use Rattle.serde_json_path_core.specs.WellFormed.{IsOptionalInteger};
 ghost use Rattle.serde_json_path.specs.Giving.{Gives, IsNear};

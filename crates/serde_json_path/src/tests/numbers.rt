@@ -83,6 +83,16 @@ fn reads_numbers(rt: HostRuntime) -> Result<(), Fail> {
             ("01", 0, 1),
             ("1.5.5", 1_500_000_000, 2),
             ("-1-1", -1_000_000_000, 2),
+        ],
+    )
+}
+
+#[test]
+fn reads_numbers_at_the_ends_of_the_range(rt: HostRuntime) -> Result<(), Fail> {
+    reads_each(
+        &rt,
+        rt.alloc(),
+        &[
             (
                 "9223372036854775808",
                 9_223_372_036_854_775_808_000_000_000,

@@ -7,7 +7,7 @@ ghost use Rattle.serde_json_path.specs.Giving.{Gives, IsNear};
 ghost use Rattle.serde_json_path.specs.Parsing.{digits_at, int_at};
 ghost use Rattle.serde_json_path.specs.Reading.{left, Moves};
 
-use crate::error::{ParseErrorKind, Place, Refusal, Stop};
+use crate::error::{ParseErrorKind, Place, Stop};
 use crate::parser::primitive::decimal::decimal;
 use crate::parser::reader::Reader;
 use crate::source::PathSource;
@@ -25,11 +25,7 @@ fn digits<S: PathSource>(reader: &mut Reader<'_, S>, start: usize) -> Result<u64
 {
     let n = decimal(reader);
     if n > LARGEST {
-        return Err(Stop::Refused(Refusal {
-            kind: ParseErrorKind::IntegerOutOfRange,
-            place: Place::LongHand,
-            left: start,
-        }));
+        return Err(Stop::in_long_hand(ParseErrorKind::IntegerOutOfRange, start));
     }
     Ok(n as u64)
 }

@@ -3,13 +3,11 @@
 ghost use Rattle.std.specs.Prelude.{◌≡◌, ◌≤◌, ◌<◌, ℕ, List, length, IfOk};
 ghost use Rattle.std.specs.Str.{encode_utf8_all};
 ghost use Rattle.serde_json_path_core.specs.Literals.{number_amount};
-ghost use Rattle.serde_json_path.specs.declared.error.Place.TheVariants as place;
-ghost use Rattle.serde_json_path.specs.declared.error.Stop.TheVariants as stops;
 ghost use Rattle.serde_json_path.specs.Giving.{Gives, IsNear};
 ghost use Rattle.serde_json_path.specs.Numbers.{whole_at, digits_behind_point_at, fraction_at, amount_at, number_at, capped};
 ghost use Rattle.serde_json_path.specs.Reading.{left, Moves};
 
-use crate::error::{ParseErrorKind, Place, Refusal, Stop};
+use crate::error::{ParseErrorKind, Stop};
 use crate::parser::primitive::decimal::decimal;
 use crate::parser::reader::Reader;
 use crate::source::PathSource;
@@ -24,17 +22,6 @@ const FRACTION_DIGITS: usize = 9;
 /// More billionths than any literal has.
 const TOO_MANY: u128 = (1 << 127) - 1;
 
-/// A refusal of a literal that has so many bytes from its start on.
-fn refused(kind: ParseErrorKind, start: usize) -> Stop
-    ensures { result ≡ stops.Refused (record { kind = kind; place = place.LongHand; left = start }) }
-{
-    Stop::Refused(Refusal {
-        kind,
-        place: Place::LongHand,
-        left: start,
-    })
-}
-
 /// The digits before a point.
 #[tactic(auto, unfolding(crate::specs::Numbers::whole_at))]
 fn whole<S: PathSource>(reader: &mut Reader<'_, S>, start: usize) -> Result<u128, Stop>
@@ -47,7 +34,7 @@ fn whole<S: PathSource>(reader: &mut Reader<'_, S>, start: usize) -> Result<u128
         return Ok(0);
     }
     if !reader.sees_first_digit() {
-        return Err(refused(ParseErrorKind::ExpectedExpression, start));
+        return Err(Stop::in_long_hand(ParseErrorKind::ExpectedExpression, start));
     }
     Ok(decimal(reader))
 }
@@ -63,16 +50,16 @@ fn digits_behind_point<S: PathSource>(
     ensures gives { (literal : List ℕ) → start ≡ length (encode_utf8_all literal) → Gives (λ n. n) result reader.new (digits_behind_point_at literal (left reader.old)) }
 {
     if !reader.sees_digit() {
-        return Err(refused(ParseErrorKind::ExponentOrEmptyFraction, start));
+        return Err(Stop::in_long_hand(ParseErrorKind::ExponentOrEmptyFraction, start));
     }
     let before = reader.bytes_left();
     let value = decimal(reader);
     let count = before - reader.bytes_left();
     if reader.sees_exponent() {
-        return Err(refused(ParseErrorKind::ExponentOrEmptyFraction, start));
+        return Err(Stop::in_long_hand(ParseErrorKind::ExponentOrEmptyFraction, start));
     }
     if count > FRACTION_DIGITS {
-        return Err(refused(ParseErrorKind::FractionTooLong, start));
+        return Err(Stop::in_long_hand(ParseErrorKind::FractionTooLong, start));
     }
     Ok(value * 10_u128.pow((FRACTION_DIGITS - count) as u32))
 }
@@ -89,7 +76,7 @@ fn fraction<S: PathSource>(reader: &mut Reader<'_, S>, start: usize) -> Result<u
         return digits_behind_point(reader, start);
     }
     if reader.sees_exponent() {
-        return Err(refused(ParseErrorKind::ExponentOrEmptyFraction, start));
+        return Err(Stop::in_long_hand(ParseErrorKind::ExponentOrEmptyFraction, start));
     }
     Ok(0)
 }
@@ -123,6 +110,6 @@ pub(crate) fn number<S: PathSource>(reader: &mut Reader<'_, S>) -> Result<Number
     let signed = if is_negative { -amount } else { amount };
     match NumberLiteral::from_billionths(signed) {
         Some(literal) => Ok(literal),
-        None => Err(refused(ParseErrorKind::NumberOutOfRange, start)),
+        None => Err(Stop::in_long_hand(ParseErrorKind::NumberOutOfRange, start)),
     }
 }

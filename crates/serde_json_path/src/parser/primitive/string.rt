@@ -3,29 +3,15 @@
 ghost use Rattle.std.specs.Prelude.{◌≡◌, ◌==◌, ◌<◌, ◌≤◌, ◌+◌, ◌^◌, ℕ, List, length, true, IfOk, string_bytes};
 ghost use Rattle.std.specs.Char.{IsScalar};
 ghost use Rattle.std.specs.Str.{encode_utf8_all};
-ghost use Rattle.serde_json_path.specs.declared.error.ParseErrorKind.TheVariants.{BadEscape};
-ghost use Rattle.serde_json_path.specs.declared.error.Place.TheVariants as place;
-ghost use Rattle.serde_json_path.specs.declared.error.Stop.TheVariants as stops;
 ghost use Rattle.serde_json_path.specs.Giving.{Gives, IsNear};
 ghost use Rattle.serde_json_path.specs.Lexical.{begins, IsQuote};
 ghost use Rattle.serde_json_path.specs.Reading.{left, Moves};
 ghost use Rattle.serde_json_path.specs.Strings.{hexadecimal_at, hex4_at, is_high, low_at, unicode_at, escape_at, piece_at, is_inside, string_at};
 
-use crate::error::{ParseErrorKind, Place, Refusal, Stop};
+use crate::error::{ParseErrorKind, Place, Stop};
 use crate::parser::reader::Reader;
 use crate::source::PathSource;
 use std::alloc::Global;
-
-/// A bad escape whose backslash has so many bytes from it on.
-fn bad_escape(start: usize) -> Stop
-    ensures { result ≡ stops.Refused (record { kind = BadEscape; place = place.LongHand; left = start }) }
-{
-    Stop::Refused(Refusal {
-        kind: ParseErrorKind::BadEscape,
-        place: Place::LongHand,
-        left: start,
-    })
-}
 
 /// The value of a hexadecimal digit of either case.
 #[tactic(auto, unfolding(crate::specs::Strings::hexadecimal_at))]
@@ -36,7 +22,7 @@ fn hexadecimal<S: PathSource>(reader: &mut Reader<'_, S>, start: usize) -> Resul
     ensures gives { (escape : List ℕ) → start ≡ length (encode_utf8_all escape) → Gives (λ n. n) result reader.new (hexadecimal_at escape (left reader.old)) }
 {
     if !reader.sees_hexadecimal() {
-        return Err(bad_escape(start));
+        return Err(Stop::in_long_hand(ParseErrorKind::BadEscape, start));
     }
     let digit = reader.take_char() as u32;
     if digit <= 57 {
@@ -72,16 +58,16 @@ fn low<S: PathSource>(reader: &mut Reader<'_, S>, start: usize, high: u32) -> Re
     ensures gives { (escape : List ℕ) → start ≡ length (encode_utf8_all escape) → Gives (λ c. c) result reader.new (low_at escape high (left reader.old)) }
 {
     if !reader.sees(b'\\') {
-        return Err(bad_escape(start));
+        return Err(Stop::in_long_hand(ParseErrorKind::BadEscape, start));
     }
     reader.take_char();
     if !reader.sees(b'u') {
-        return Err(bad_escape(start));
+        return Err(Stop::in_long_hand(ParseErrorKind::BadEscape, start));
     }
     reader.take_char();
     let low = hex4(reader, start)?;
     if low < 0xdc00 || low > 0xdfff {
-        return Err(bad_escape(start));
+        return Err(Stop::in_long_hand(ParseErrorKind::BadEscape, start));
     }
     Ok(char::from_u32(0x10000 + 0x400 * (high - 0xd800) + (low - 0xdc00)).unwrap())
 }
@@ -98,7 +84,7 @@ fn unicode<S: PathSource>(reader: &mut Reader<'_, S>, start: usize) -> Result<ch
         return low(reader, start, code);
     }
     if code >= 0xdc00 && code <= 0xdfff {
-        return Err(bad_escape(start));
+        return Err(Stop::in_long_hand(ParseErrorKind::BadEscape, start));
     }
     Ok(char::from_u32(code).unwrap())
 }
@@ -119,7 +105,7 @@ fn escape<S: PathSource>(reader: &mut Reader<'_, S>, quote: u8) -> Result<char, 
         return unicode(reader, start);
     }
     if !reader.sees_letter_escape(quote) {
-        return Err(bad_escape(start));
+        return Err(Stop::in_long_hand(ParseErrorKind::BadEscape, start));
     }
     let letter = reader.take_char();
     Ok(match letter {

@@ -19,7 +19,7 @@ returns-then-count-gt-FRACTION_DIGITS-clause-gives g c = λ literal e.
     let some : begins is_digit cs ≡ true = sym c.sees_digit.ensures ∙ c.if-not-sees_digit.false in
     let plain : begins is_exponent (behind is_digit cs) ≡ false = ap (begins is_exponent) (sym c.decimal-value.ensures.rest) ∙ sym c.sees_exponent.ensures ∙ c.if-sees_exponent.false in
     let many : 9 < length (front is_digit cs) = omega (arith, read, c.if-count-gt-FRACTION_DIGITS.true) in
-    rw (c.refused-then-count-gt-FRACTION_DIGITS.ensures, e) (too_long literal cs some plain many)
+    rw (c.in_long_hand-then-count-gt-FRACTION_DIGITS.ensures, e) (too_long literal cs some plain many)
 
 pub overflow_mul-result : goal.overflow_mul-result
 overflow_mul-result g c =
