@@ -11,7 +11,11 @@ pub mod Parsed
 pub mod Strings
 pub mod Parsing
 pub mod Numbers
+pub mod Operands
+pub mod Filters
+pub mod Words
+pub mod Levels
 pub mod Giving
-pub mod Open
 pub mod Paths
 pub mod Parse
+pub mod TestSets

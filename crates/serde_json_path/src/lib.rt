@@ -11,7 +11,7 @@ mod tests;
 pub use error::{ParseError, ParseErrorKind};
 pub use parser::parse_source;
 pub use path::JsonPath;
-pub use serde_json_path_core::QueryError;
+pub use serde_json_path_core::{QueryError, Walk, functions};
 pub use serde_json_path_nodes::{
     AtMostOneError, ExactlyOneError, LocatedNode, LocatedNodeList, LocatedNodes, Locations,
     NodeList, Nodes, NormalizedPath, PathElement, PathElements,

@@ -24,7 +24,7 @@ use std::test::Fail;
 
 /// A call.
 #[derive(Clone, Copy)]
-enum Calling<'t> {
+pub(crate) enum Calling<'t> {
     /// `name('text')`
     OfText(&'t str, &'t str),
     /// `name(query)`
@@ -50,7 +50,7 @@ fn call_of_nodes<F: Functions>(
 }
 
 /// The part of a call.
-fn call_of<F: Functions>(
+pub(crate) fn call_of<F: Functions>(
     alloc: Global,
     builder: &mut SyntaxBuilder,
     functions: &F,
@@ -233,7 +233,11 @@ fn both_of(
 }
 
 /// The query `@.name` as an argument for a truth value.
-fn logical_query(alloc: Global, builder: &mut SyntaxBuilder, name: &str) -> Result<Built, Fail>
+pub(crate) fn logical_query(
+    alloc: Global,
+    builder: &mut SyntaxBuilder,
+    name: &str,
+) -> Result<Built, Fail>
     ensures made { IfOk result (λ built. IsMadeArgument builder.new built.part (kind_view built.kind) (used_view built.calls.items) built.deep) }
     ensures keeps { IfOk result (λ built. KeepsParts builder.old builder.new) }
 {
@@ -241,7 +245,11 @@ fn logical_query(alloc: Global, builder: &mut SyntaxBuilder, name: &str) -> Resu
 }
 
 /// The expression of one test as an argument.
-fn test_argument(alloc: Global, builder: &mut SyntaxBuilder, test: Built) -> Result<Built, Fail>
+pub(crate) fn test_argument(
+    alloc: Global,
+    builder: &mut SyntaxBuilder,
+    test: Built,
+) -> Result<Built, Fail>
     requires { IsMadeBasic builder.old test.part (used_view test.calls.items) test.deep }
     ensures made { IfOk result (λ built. IsMadeArgument builder.new built.part (kind_view built.kind) (used_view built.calls.items) built.deep) }
     ensures keeps { IfOk result (λ built. KeepsParts builder.old builder.new) }
