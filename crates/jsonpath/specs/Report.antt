@@ -7,7 +7,8 @@ use Rattle.serde_json.specs.Written.{has_float, compact_text}
 use Rattle.serde_json_path_nodes.specs.Place.{Located}
 use Rattle.serde_json_path_nodes.specs.Text.{normal}
 use Rattle.serde_json_path_core.specs.Tree.{Query}
-use Rattle.serde_json_path_functions.specs.Functions.{FunctionSet, builtin_signature}
+use Rattle.serde_json_path_functions.specs.Patterns.{builtin_functions}
+use Rattle.serde_json_path_core.specs.Calls.{IsClear}
 use Rattle.serde_json_path_core.specs.Meaning.{IsResult}
 use Rattle.serde_json_path.specs.Accepted.{IsAccepted}
 
@@ -26,12 +27,13 @@ abbrev pub AreLinesOf : List Located → List ℕ → Type 0
 AreLinesOf [] text = text ≡ []
 AreLinesOf (n ∷ ns) text = (line rest : List ℕ) × IsLineOf n line × AreLinesOf ns rest × (text ≡ line ++ rest)
 
--- The text has the lines of the path's result on the document.
+-- The text has the lines of the path's result on the document, under the built-in functions; so where no call of `match` or
+-- `search` gets a pattern that is nested deeper than `regex` takes.
 pub record IsReportOf (path document text : List ℕ) : Type 0 where
   pub query : Query
   pub value : Data
   pub nodes : List Located
-  pub accepted : IsAccepted builtin_signature (chars path) query
+  pub accepted : IsAccepted builtin_functions.signature (chars path) query
   pub reads : ReadsAs document value
-  pub selects : (F : FunctionSet) → IsResult F value query value nodes
+  pub selects : IsClear builtin_functions query value → IsResult builtin_functions value query value nodes
   pub lines : AreLinesOf nodes text

@@ -3,6 +3,7 @@
 
 mod report;
 mod run;
+mod samples;
 
 use std::alloc::Global;
 use std::env;

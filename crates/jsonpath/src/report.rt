@@ -4,7 +4,7 @@ ghost use Rattle.std.specs.Prelude.{◌≡◌, ◌++◌, ℕ, List, IfOk, OnOk, 
 ghost use Rattle.serde_json.specs.Data.{Data};
 ghost use Rattle.serde_json.specs.View.{view};
 ghost use Rattle.serde_json_path_nodes.specs.Views.{located, located_nodes};
-ghost use Rattle.serde_json_path_functions.specs.Functions.{builtin_signature};
+ghost use Rattle.serde_json_path_functions.specs.Patterns.{builtin_functions};
 ghost use Rattle.serde_json_path.specs.Parse.{IsParseOf};
 ghost use Rattle.serde_json_path.specs.declared.error.ParseError as path_error;
 ghost use Rattle.jsonpath.specs.Report.{ReadsAs, IsLineOf, AreLinesOf, IsReportOf};
@@ -81,7 +81,7 @@ fn lines(alloc: Global, nodes: &LocatedNodeList<'_>) -> Result<String, AllocErro
 /// One line for each node of the document that the path selects, in order: its normalised path, a tab, its compact JSON
 /// and a line feed.
 ///
-/// The path is read first, then the document, and then the query runs.
+/// The path is read first, then the document, and then the query runs. Filters call the built-in functions alone.
 ///
 /// ```text
 /// report(alloc, "$.foo.bar[0]", b"{\"foo\":{\"bar\":[\"baz\",42]}}")
@@ -89,7 +89,7 @@ fn lines(alloc: Global, nodes: &LocatedNodeList<'_>) -> Result<String, AllocErro
 /// ```
 pub fn report(alloc: Global, path: &str, document: &[u8]) -> Result<String, ReportError>
     ensures lines { IfOk result (λ text. IsReportOf path.now document.now (string_bytes text)) }
-    ensures path_refused { (e : path_error.ParseError) → result ≡ Err (ReportError.Path e) → IsParseOf builtin_signature path.now (Err e) }
+    ensures path_refused { (e : path_error.ParseError) → result ≡ Err (ReportError.Path e) → IsParseOf builtin_functions.signature path.now (Err e) }
     ensures not_json { result ≡ Err (ReportError.Document DocumentError.NotJson) → (d : Data) → ReadsAs document.now d → ⊥ }
 {
     let path = match JsonPath::parse(alloc, path) {

@@ -3,3 +3,4 @@
 mod cuts;
 mod program;
 mod reports;
+mod samples;

@@ -1,5 +1,5 @@
 -- Blanks at the start of a text.
-use Rattle.std.proofs.Common.{◌≡◌, ℕ, ◌≤◌, Bool, true, false, List, [], ◌∷◌, ◌++◌, length, refl, ap, ◌∙◌, arith}
+use Rattle.std.proofs.Common.{◌≡◌, ℕ, ◌≤◌, Bool, true, false, List, [], ◌∷◌, ◌++◌, length, ap, ◌∙◌, arith}
 use Rattle.std.proofs.lemmas.List.{length-append}
 use Rattle.serde_json_path.specs.Lexical.{begins, is_blank, IsBlank}
 use Rattle.serde_json_path.specs.Parsed.{front, past_blanks}

@@ -10,9 +10,9 @@ use Rattle.serde_json_path.specs.declared.error.Refusal.{Refusal}
 use Rattle.serde_json_path.specs.Lexical.{begins, is_blank, is_digit, value_from, IsDecimal, IsInt}
 use Rattle.serde_json_path.specs.Parsed.{Parsed, ◌>>=◌, refusal, front, behind}
 use Rattle.serde_json_path.specs.Parsing.{is_first_digit, digits_at, negative, int_at, begins_int}
-use Rattle.serde_json_path.proofs.Runs.{begins_where, differs, no_blank, whole, front_each, front_begins, front_begins_not, front_all, behind_all, value_least}
+use Rattle.serde_json_path.proofs.Runs.{begins_where, differs, begins_differs, no_blank, whole, front_each, front_begins, front_begins_not, front_all, behind_all, value_least}
 use Rattle.serde_json_path.proofs.Steps.{Read, bind_ok, chosen, guard, done, ok_is, after_one}
-use Rattle.serde_json_path.proofs.Stands.{Stands, bind_stands, guard_stands, no_refusal}
+use Rattle.serde_json_path.proofs.Stands.{Plain, Stands, bind_stands, guard_stands, no_refusal}
 
 -- ---- first digits
 
@@ -27,10 +27,6 @@ digit_is_first c e z =
     let h = and_parts (nat_le 48 c) (nat_le c 57) e in
     let from : nat_le 49 c ≡ true = grind (arith, h.0, z) in
     rw (from, h.1) refl
-
--- a list that begins with a first digit begins with no other character
-pub first_not : (k : ℕ) (cs : List ℕ) → is_first_digit k ≡ false → begins is_first_digit cs ≡ true → begins (λ c. c == k) cs ≡ false
-first_not k cs never e = begins_where is_first_digit (λ c. c == k) false cs (λ c f. differs is_first_digit k c never f) e
 
 some_value : (cs : List ℕ) → begins is_first_digit cs ≡ true → 1 ≤ value_from 0 (front is_digit cs)
 some_value [] e = absurd cc
@@ -50,7 +46,7 @@ decimal_read cs first = record {
   is_so = record {
     first = front_begins is_digit is_digit cs (λ c d. d) (begins_where is_first_digit is_digit true cs first_is_digit first);
     each = front_each is_digit cs;
-    plain = inr (front_begins_not is_digit (λ c. c == 48) cs (first_not 48 cs refl first));
+    plain = inr (front_begins_not is_digit (λ c. c == 48) cs (begins_differs is_first_digit 48 cs refl first));
     value_of = refl;
   };
   split = whole is_digit cs;
@@ -132,7 +128,7 @@ positive_again t n rest d most e = elim d.plain [
       ap (λ (l : List ℕ). int_at (l ++ rest)) z ∙ ap (λ (k : ℕ). Ok (pos k, rest)) (sym none)
   | inr z ↦
       let first = first_digit t rest d.first z in
-      rw (first_not 45 (t ++ rest) refl first, first_not 48 (t ++ rest) refl first, first, digits_again (t ++ rest) t n rest d most e) refl
+      rw (begins_differs is_first_digit 45 (t ++ rest) refl first, begins_differs is_first_digit 48 (t ++ rest) refl first, first, digits_again (t ++ rest) t n rest d most e) refl
 ]
 
 negative_again : (t : List ℕ) (n : ℕ) (rest : List ℕ) → IsDecimal t (suc n) → suc n ≤ largest → begins is_digit rest ≡ false → int_at (45 ∷ (t ++ rest)) ≡ Ok (negsuc n, rest)
@@ -173,13 +169,13 @@ int_no_blank t i rest is = int_first is_blank false t i rest (λ c e. no_blank b
 
 -- ---- where a refusal stands
 
-digits_stands : (start cs : List ℕ) (r : Refusal) → digits_at start cs ≡ Err r → Stands start r
+digits_stands : (start cs : List ℕ) (r : Refusal) → digits_at start cs ≡ Err r → Stands Plain start r
 unfolding digits_at
 digits_stands start cs r e =
     let n = value_from 0 (front is_digit cs) in
     guard_stands start (nat_le n largest) (done (n, behind is_digit cs)) IntegerOutOfRange place.LongHand r refl (no_refusal start _ r) e
 
-pub int_stands : (cs : List ℕ) (r : Refusal) → int_at cs ≡ Err r → Stands cs r
+pub int_stands : (cs : List ℕ) (r : Refusal) → int_at cs ≡ Err r → Stands Plain cs r
 unfolding int_at
 int_stands cs r e = elim (chosen (begins (λ c. c == 45) cs) _ _ (Err r) e) [
   | inl a ↦

@@ -24,6 +24,17 @@ regroup : {A : Type 0} (before : List A) (x : A) (read : Parsed (List A)) → wi
 regroup before x (Ok r) = ap (λ (xs : List _). Ok (xs, r.1)) (sym (append_assoc before (x ∷ []) r.0))
 regroup before x (Err f) = refl
 
+module _ {A : Type 0} (more : List ℕ → Bool) (item : List ℕ → Parsed A) where
+  stop : (n : ℕ) (cs : List ℕ) → more cs ≡ false → many_at more item n cs ≡ Ok ([], cs)
+  unfolding many_at
+  stop zero cs m = refl
+  stop (suc n) cs m = rw m refl
+
+  -- where no item begins there is none
+  pub many_end : (cs : List ℕ) → more cs ≡ false → many more item cs ≡ Ok ([], cs)
+  unfolding many
+  many_end cs t = stop (length cs) cs t
+
 module _ {A : Type 0} (more : List ℕ → Bool) (item : List ℕ → Parsed A) (takes : Takes more item) where
   none_more : (cs : List ℕ) → length cs ≤ 0 → (b : Bool) → more cs ≡ b → b ≡ false
   none_more cs l true e = absurd (omega (arith, takes.some cs e))
@@ -32,11 +43,6 @@ module _ {A : Type 0} (more : List ℕ → Bool) (item : List ℕ → Parsed A) 
   one : (n : ℕ) (cs : List ℕ) (r : Parsed A) → item cs ≡ r → more cs ≡ true → many_at more item (suc n) cs ≡ (r >>= λ x. many_at more item n x.1 >>= λ xs. Ok (x.0 ∷ xs.0, xs.1))
   unfolding many_at
   one n cs r e m = rw (m, e) refl
-
-  stop : (n : ℕ) (cs : List ℕ) → more cs ≡ false → many_at more item n cs ≡ Ok ([], cs)
-  unfolding many_at
-  stop zero cs m = refl
-  stop (suc n) cs m = rw m refl
 
   abbrev Same : ℕ → ℕ → List ℕ → Type 0
   Same n m cs = many_at more item n cs ≡ many_at more item m cs
@@ -48,19 +54,15 @@ module _ {A : Type 0} (more : List ℕ → Bool) (item : List ℕ → Parsed A) 
 
   by_more : (n m : ℕ) (cs : List ℕ) → ((ds : List ℕ) → length ds < length cs → Same n m ds) → (b : Bool) → more cs ≡ b → Same (suc n) (suc m) cs
   by_more n m cs ih true t = by_item n m cs ih (item cs) refl t
-  by_more n m cs ih false t = stop (suc n) cs t ∙ sym (stop (suc m) cs t)
+  by_more n m cs ih false t = stop more item (suc n) cs t ∙ sym (stop more item (suc m) cs t)
 
   -- any amount of fuel serves that is no less than the length
   pub enough : (n m : ℕ) (cs : List ℕ) → length cs ≤ n → length cs ≤ m → Same n m cs
-  enough zero m cs h k = let e = none_more cs h (more cs) refl in stop 0 cs e ∙ sym (stop m cs e)
-  enough (suc n) zero cs h k = let e = none_more cs k (more cs) refl in stop (suc n) cs e ∙ sym (stop 0 cs e)
+  enough zero m cs h k = let e = none_more cs h (more cs) refl in stop more item 0 cs e ∙ sym (stop more item m cs e)
+  enough (suc n) zero cs h k = let e = none_more cs k (more cs) refl in stop more item (suc n) cs e ∙ sym (stop more item 0 cs e)
   enough (suc n) (suc m) cs h k = by_more n m cs (λ ds l. enough n m ds (omega (arith, l)) (omega (arith, l))) (more cs) refl
 
-  -- the three steps
-  pub many_end : (cs : List ℕ) → more cs ≡ false → many more item cs ≡ Ok ([], cs)
-  unfolding many
-  many_end cs t = stop (length cs) cs t
-
+  -- the two other steps
   pub many_more : (cs rest : List ℕ) (x : A) → more cs ≡ true → item cs ≡ Ok (x, rest) → many more item cs ≡ with_front (x ∷ []) (many more item rest)
   unfolding many
   many_more cs rest x t e =
@@ -84,4 +86,4 @@ module _ {A : Type 0} (more : List ℕ → Bool) (item : List ℕ → Parsed A) 
   fails (stops.Refused f) before cs total t e h = breaks before cs f total t e h
 
   pub is_done : (before : List A) (cs : List ℕ) (total : Parsed (List A)) → more cs ≡ false → with_front before (many more item cs) ≡ total → total ≡ Ok (before, cs)
-  is_done before cs total t h = sym h ∙ ap (with_front before) (many_end cs t) ∙ ap (λ (xs : List A). Ok (xs, cs)) (append-nil before)
+  is_done before cs total t h = sym h ∙ ap (with_front before) (many_end more item cs t) ∙ ap (λ (xs : List A). Ok (xs, cs)) (append-nil before)

@@ -10,10 +10,10 @@ use Rattle.serde_json_path.specs.Lexical.{AllPass, begins, is_digit, value_from,
 use Rattle.serde_json_path.specs.Parsed.{Parsed, ◌>>=◌, refusal, front, behind}
 use Rattle.serde_json_path.specs.Parsing.{is_first_digit, begins_int}
 use Rattle.serde_json_path.specs.Numbers.{is_exponent, whole_at, digits_behind_point_at, fraction_at, amount_at, number_at}
-use Rattle.serde_json_path.proofs.IntTexts.{decimal_read, digit_begins, zero_is, first_digit, first_not}
-use Rattle.serde_json_path.proofs.Runs.{some_begun, begins_front, begins_where, differs, front_begins, front_each, whole, front_all, behind_all}
+use Rattle.serde_json_path.proofs.IntTexts.{decimal_read, digit_begins, zero_is, first_digit}
+use Rattle.serde_json_path.proofs.Runs.{some_begun, begins_front, begins_where, differs, begins_differs, front_begins, front_each, whole, front_all, behind_all}
 use Rattle.serde_json_path.proofs.Steps.{Read, bind_ok, chosen, guard, done, ok_is, after_one}
-use Rattle.serde_json_path.proofs.Stands.{Stands, here, bind_stands, guard_stands, no_refusal}
+use Rattle.serde_json_path.proofs.Stands.{Plain, Stands, here, bind_stands, guard_stands, no_refusal}
 
 -- ---- what is read is a number
 
@@ -131,7 +131,7 @@ whole_again start t n rest d e = elim d.plain [
       ap (λ (l : List ℕ). whole_at start (l ++ rest)) z ∙ ap (λ (k : ℕ). Ok (k, rest)) (sym none)
   | inr z ↦
       let first = first_digit t rest d.first z in
-      rw (first_not 48 (t ++ rest) refl first, first, front_all is_digit t rest d.each e, behind_all is_digit t rest d.each e) (ap (λ (k : ℕ). Ok (k, rest)) (sym d.value_of))
+      rw (begins_differs is_first_digit 48 (t ++ rest) refl first, first, front_all is_digit t rest d.each e, behind_all is_digit t rest d.each e) (ap (λ (k : ℕ). Ok (k, rest)) (sym d.value_of))
 ]
 
 no_digit : (cs : List ℕ) → begins goes_on cs ≡ false → begins is_digit cs ≡ false
@@ -212,19 +212,16 @@ number_first p b t amount rest h is = elim is.0.1 [
   | inr below ↦ ap (λ (l : List ℕ). begins p (l ++ rest)) below.2 ∙ h 45 refl
 ]
 
-pub number_begins : (t : List ℕ) (amount : ℤ) (rest : List ℕ) → IsNumber t amount → begins begins_int (t ++ rest) ≡ true
-number_begins t amount rest is = number_first begins_int true t amount rest (λ c e. e) is
-
 -- ---- where a refusal stands
 
-whole_stands : (start cs : List ℕ) (r : Refusal) → whole_at start cs ≡ Err r → Stands start r
+whole_stands : (start cs : List ℕ) (r : Refusal) → whole_at start cs ≡ Err r → Stands Plain start r
 unfolding whole_at
 whole_stands start cs r e = elim (chosen (begins (λ c. c == 48) cs) (done (0, drop 1 cs)) _ (Err r) e) [
   | inl a ↦ no_refusal start _ r a.1
   | inr a ↦ guard_stands start (begins is_first_digit cs) _ ExpectedExpression place.LongHand r refl (no_refusal start _ r) a.1
 ]
 
-digits_stand : (start cs : List ℕ) (r : Refusal) → digits_behind_point_at start cs ≡ Err r → Stands start r
+digits_stand : (start cs : List ℕ) (r : Refusal) → digits_behind_point_at start cs ≡ Err r → Stands Plain start r
 unfolding digits_behind_point_at
 digits_stand start cs r e =
     let refused : Parsed ℕ = Err (refusal ExponentOrEmptyFraction place.LongHand start) in
@@ -237,7 +234,7 @@ digits_stand start cs r e =
       | inr a ↦ guard_stands start (nat_le (length digits) 9) _ FractionTooLong place.LongHand r refl (no_refusal start _ r) a.1
     ]) e
 
-fraction_stands : (start cs : List ℕ) (r : Refusal) → fraction_at start cs ≡ Err r → Stands start r
+fraction_stands : (start cs : List ℕ) (r : Refusal) → fraction_at start cs ≡ Err r → Stands Plain start r
 unfolding fraction_at
 fraction_stands start cs r e =
     let refused : Parsed ℕ = Err (refusal ExponentOrEmptyFraction place.LongHand start) in
@@ -249,13 +246,13 @@ fraction_stands start cs r e =
       ]
     ]
 
-amount_stands : (start cs : List ℕ) (r : Refusal) → amount_at start cs ≡ Err r → Stands start r
+amount_stands : (start cs : List ℕ) (r : Refusal) → amount_at start cs ≡ Err r → Stands Plain start r
 unfolding amount_at
 amount_stands start cs r e =
     bind_stands start (whole_at start cs) _ r (whole_stands start cs) (λ whole s f.
     bind_stands start (fraction_at start whole.1) _ r (fraction_stands start whole.1) (λ fraction t h. no_refusal start _ r h) f) e
 
-pub number_stands : (cs : List ℕ) (r : Refusal) → number_at cs ≡ Err r → Stands cs r
+pub number_stands : (cs : List ℕ) (r : Refusal) → number_at cs ≡ Err r → Stands Plain cs r
 unfolding number_at
 number_stands cs r e = elim (chosen (begins (λ c. c == 45) cs) _ _ (Err r) e) [
   | inl a ↦

@@ -8,7 +8,7 @@ use Rattle.serde_json_path_core.specs.declared.syntax.builder.SyntaxBuilder.{Syn
 use Rattle.serde_json_path_core.proofs.NamedParts.{parts_for_kept}
 use Rattle.serde_json_path.specs.Parsing.{selector_list, segment_list}
 
-one_more : (builder : SyntaxBuilder) (parts : List Part) (pieces : List Piece) (part : Part) (piece : Piece) → ArePartsFor builder parts pieces → IsPart builder part piece → ArePartsFor builder (parts ++ part ∷ []) (pieces ++ piece ∷ [])
+pub one_more : (builder : SyntaxBuilder) (parts : List Part) (pieces : List Piece) (part : Part) (piece : Piece) → ArePartsFor builder parts pieces → IsPart builder part piece → ArePartsFor builder (parts ++ part ∷ []) (pieces ++ piece ∷ [])
 one_more builder [] [] part piece h p = (p, tt)
 one_more builder [] (x ∷ pieces) part piece h p = absurd h
 one_more builder (q ∷ parts) [] part piece h p = absurd h

@@ -37,6 +37,10 @@ differs p k c fails passes = by_test (c == k) refl
 pub no_blank : (p : ℕ → Bool) (c : ℕ) → p 32 ≡ false → p 9 ≡ false → p 10 ≡ false → p 13 ≡ false → p c ≡ true → is_blank c ≡ false
 no_blank p c space tab feed return passes = rw (differs p 32 c space passes, differs p 9 c tab passes, differs p 10 c feed passes, differs p 13 c return passes) refl
 
+-- a list that begins with one that passes begins with none that fails
+pub begins_differs : (p : ℕ → Bool) (k : ℕ) (cs : List ℕ) → p k ≡ false → begins p cs ≡ true → begins (λ c. c == k) cs ≡ false
+begins_differs p k cs fails begun = begins_where p (λ c. c == k) false cs (λ c e. differs p k c fails e) begun
+
 -- ---- a front and what is behind it
 
 -- the front and what is behind it are the whole

@@ -9,23 +9,23 @@ use Rattle.serde_json_path.specs.Parsing.{int_at, begins_int, bound_at, step_at,
 use Rattle.serde_json_path.proofs.IntTexts.{int_sound, int_stands}
 use Rattle.serde_json_path.proofs.SliceTexts.{bound_sound}
 use Rattle.serde_json_path.proofs.Steps.{chosen, done}
-use Rattle.serde_json_path.proofs.Stands.{Stands, further, bind_stands, no_refusal, drop_one, drop_blanks}
+use Rattle.serde_json_path.proofs.Stands.{Plain, Stands, further, bind_stands, no_refusal, drop_one, drop_blanks}
 
-bound_stands : (cs : List ℕ) (r : Refusal) → bound_at cs ≡ Err r → Stands cs r
+bound_stands : (cs : List ℕ) (r : Refusal) → bound_at cs ≡ Err r → Stands Plain cs r
 unfolding bound_at
 bound_stands cs r e = elim (chosen (begins begins_int cs) _ (done (None, cs)) (Err r) e) [
   | inl a ↦ bind_stands cs (int_at cs) _ r (int_stands cs) (λ i s f. no_refusal cs _ r f) a.1
   | inr a ↦ no_refusal cs _ r a.1
 ]
 
-step_stands : (cs : List ℕ) (r : Refusal) → step_at cs ≡ Err r → Stands cs r
+step_stands : (cs : List ℕ) (r : Refusal) → step_at cs ≡ Err r → Stands Plain cs r
 unfolding step_at
 step_stands cs r e = elim (chosen (begins (λ c. c == 58) cs) (bound_at (past_blanks (drop 1 cs))) (done (None, cs)) (Err r) e) [
   | inl a ↦ drop_one cs r (drop_blanks (drop 1 cs) r (bound_stands (past_blanks (drop 1 cs)) r a.1))
   | inr a ↦ no_refusal cs _ r a.1
 ]
 
-pub slice_stands : (start : Option ℤ) (cs : List ℕ) (r : Refusal) → slice_at start cs ≡ Err r → Stands cs r
+pub slice_stands : (start : Option ℤ) (cs : List ℕ) (r : Refusal) → slice_at start cs ≡ Err r → Stands Plain cs r
 unfolding slice_at
 slice_stands start cs r e =
     let here = past_blanks cs in
@@ -33,7 +33,7 @@ slice_stands start cs r e =
     let read = bound_sound here end s in
     further here read.text end.1 r read.split (bind_stands end.1 (step_at end.1) _ r (step_stands end.1) (λ step t g. no_refusal end.1 _ r g) f)) e)
 
-pub position_stands : (cs : List ℕ) (r : Refusal) → position_at cs ≡ Err r → Stands cs r
+pub position_stands : (cs : List ℕ) (r : Refusal) → position_at cs ≡ Err r → Stands Plain cs r
 unfolding position_at
 position_stands cs r e = bind_stands cs (int_at cs) _ r (int_stands cs) (λ i s f.
     let read = int_sound cs i s in

@@ -2,15 +2,15 @@
 use Rattle.std.proofs.Common.{◌≡◌, ℕ, inl, inr, Bool, true, false, true≢false, List, [], ◌∷◌, ◌++◌, drop, Option, Some, None, Ok, refl, sym, ap, subst, ◌∙◌, append_assoc}
 use Rattle.std.specs.Prelude.{ℤ, ◌==◌, ◌||◌}
 use Rattle.std.proofs.lemmas.List.{append-nil}
-use Rattle.serde_json_path_core.specs.Tree.{Slice, Selector, slice, index}
-use Rattle.serde_json_path.specs.Grammar.{IsBound, IsSliceStep, IsSlice, ReadsSelector}
+use Rattle.serde_json_path_core.specs.Tree.{Slice, Selector, slice, index, LogicalOr}
+use Rattle.serde_json_path.specs.Grammar.{IsBound, IsSliceStep, IsSlice}
 use Rattle.serde_json_path.specs.Lexical.{begins, is_blank, is_digit, IsBlank, IsInt}
-use Rattle.serde_json_path.specs.Open.{IsOpenSelector}
-use Rattle.serde_json_path.specs.Parsed.{◌>>=◌, front, past_blanks}
+use Rattle.serde_json_path.specs.Parsed.{Parsed, ◌>>=◌, front, past_blanks}
 use Rattle.serde_json_path.specs.Parsing.{int_at, begins_int, bound_at, step_at, slice_at, position_at, selector_at}
 use Rattle.serde_json_path.proofs.Blanks.{past_some}
+use Rattle.serde_json_path.proofs.Filtered.{Closes, IsGoodText}
 use Rattle.serde_json_path.proofs.IntTexts.{int_sound, int_again, int_begins, int_not, int_no_blank}
-use Rattle.serde_json_path.proofs.Runs.{differs, no_blank, whole, front_each, behind_past, behind_end}
+use Rattle.serde_json_path.proofs.Runs.{differs, no_blank, whole, front_each, behind_end}
 use Rattle.serde_json_path.proofs.Steps.{Read, Spaced, bind_ok, chosen, done, ok_is, after_one}
 
 -- ---- what is read is in the grammar
@@ -89,13 +89,9 @@ slice_sound start a cs x first e =
 pub colon_sound : (cs : List ℕ) (x : Slice × List ℕ) → slice_at None cs ≡ Ok x → Read (Spaced (λ t s. IsSlice s t)) (58 ∷ cs) x
 colon_sound cs x e = slice_sound None [] cs x refl e
 
--- the text of a selector of the open forms
-abbrev pub IsOpenText : List ℕ → Selector → Type 0
-IsOpenText t sel = IsOpenSelector sel × ReadsSelector sel t
-
-pub position_sound : (cs : List ℕ) (x : Selector × List ℕ) → position_at cs ≡ Ok x → Read (Spaced IsOpenText) cs x
+pub position_sound : (Good : LogicalOr → Type 0) (cs : List ℕ) (x : Selector × List ℕ) → position_at cs ≡ Ok x → Read (Spaced (IsGoodText Good)) cs x
 unfolding position_at
-position_sound cs x e =
+position_sound Good cs x e =
     let i = bind_ok (int_at cs) _ x e in
     let r = int_sound cs i.0 i.1 in
     let blanks = front is_blank i.0.1 in
@@ -105,12 +101,12 @@ position_sound cs x e =
       | inl a ↦
           let s = bind_ok (slice_at (Some i.0.0) (drop 1 rest)) (λ s. Ok (slice s.0, s.1)) x a.1 in
           let t = slice_sound (Some i.0.0) (r.text ++ blanks) (drop 1 rest) s.0 (r.text, blanks, r.is_so, front_each is_blank i.0.1, refl) s.1 in
-          subst (Read (Spaced IsOpenText) cs) (ok_is (slice s.0.0, s.0.1) x s.2) (record {
+          subst (Read (Spaced (IsGoodText Good)) cs) (ok_is (slice s.0.0, s.0.1) x s.2) (record {
             text = t.text;
             is_so = (t.is_so.0, t.is_so.1, (tt, t.is_so.2), t.is_so.3, t.is_so.4);
             split = split ∙ ap (λ (l : List ℕ). (r.text ++ blanks) ++ l) (after_one 58 rest a.0) ∙ t.split;
           })
-      | inr a ↦ subst (Read (Spaced IsOpenText) cs) (ok_is (index i.0.0, rest) x a.1) (record {
+      | inr a ↦ subst (Read (Spaced (IsGoodText Good)) cs) (ok_is (index i.0.0, rest) x a.1) (record {
         text = r.text ++ blanks;
         is_so = (r.text, blanks, (tt, r.is_so), front_each is_blank i.0.1, refl);
         split = split;
@@ -118,10 +114,6 @@ position_sound cs x e =
     ]
 
 -- ---- each is read again
-
--- behind the blanks stands `,` or `]`
-abbrev pub Closes : List ℕ → Type 0
-Closes rest = begins (λ c. c == 44 || c == 93) (past_blanks rest) ≡ true
 
 -- behind the blanks stands no integer
 abbrev Ends : List ℕ → Type 0
@@ -180,18 +172,11 @@ unfolding slice_at
 parts_again start end step k b c rest blank second third closes =
     rw (past_some k (b ++ (c ++ rest)) blank, bound_again end b (c ++ rest) second (step_ends step c rest third closes), step_again step c rest third closes) refl
 
-at_position : (t : List ℕ) (i : ℤ) (rest : List ℕ) → IsInt t i → selector_at (t ++ rest) ≡ position_at (t ++ rest)
-unfolding selector_at
-at_position t i rest is = rw (int_not 39 t i rest refl is, int_not 34 t i rest refl is, int_not 42 t i rest refl is, int_not 58 t i rest refl is) refl
-
 alone_again : (t : List ℕ) (i : ℤ) (rest : List ℕ) → IsInt t i → Closes rest → position_at (t ++ rest) ≡ Ok (index i, past_blanks rest)
 unfolding position_at
 alone_again t i rest is closes =
     let colon = closes_not (λ c. c == 58) (past_blanks rest) refl refl closes in
     rw (int_again t i rest is (ends_digits rest (closed_ends rest closes)), colon) refl
-
-pub index_again : (t : List ℕ) (i : ℤ) (rest : List ℕ) → IsInt t i → Closes rest → selector_at (t ++ rest) ≡ Ok (index i, past_blanks rest)
-index_again t i rest is closes = at_position t i rest is ∙ alone_again t i rest is closes
 
 begun_again : (t k : List ℕ) (i : ℤ) (rest : List ℕ) (s : Slice) (behind : List ℕ) → IsInt t i → IsBlank k → slice_at (Some i) rest ≡ Ok (s, behind) → position_at (t ++ (k ++ (58 ∷ rest))) ≡ Ok (slice s, behind)
 unfolding position_at
@@ -199,30 +184,6 @@ begun_again t k i rest s behind is blank read =
     let colon : past_blanks (k ++ (58 ∷ rest)) ≡ 58 ∷ rest = past_some k (58 ∷ rest) blank in
     let further = ends_digits (k ++ (58 ∷ rest)) (ap (begins begins_int) colon) in
     rw (int_again t i (k ++ (58 ∷ rest)) is further, colon, read) refl
-
-colon_again : (rest : List ℕ) (s : Slice) (behind : List ℕ) → slice_at None rest ≡ Ok (s, behind) → selector_at (58 ∷ rest) ≡ Ok (slice s, behind)
-unfolding selector_at
-colon_again rest s behind read = rw read refl
-
-pub slice_again : (t : List ℕ) (s : Slice) (rest : List ℕ) → IsSlice s t → Closes rest → selector_at (t ++ rest) ≡ Ok (slice s, past_blanks rest)
-slice_again t s rest (a, k, b, c, first, blank, second, third, e) closes = by_start s.start refl first
-  where
-    parts : (start : Option ℤ) → s.start ≡ start → slice_at start (k ++ (b ++ (c ++ rest))) ≡ Ok (s, past_blanks rest)
-    parts start same = subst (λ start. slice_at start (k ++ (b ++ (c ++ rest))) ≡ Ok (s, past_blanks rest)) same (parts_again s.start s.end s.step k b c rest blank second third closes)
-
-    regroup : (a : List ℕ) → (a ++ (58 ∷ (k ++ (b ++ c)))) ++ rest ≡ a ++ (58 ∷ (k ++ (b ++ (c ++ rest))))
-    regroup a = simp append_assoc refl
-
-    here : t ++ rest ≡ a ++ (58 ∷ (k ++ (b ++ (c ++ rest))))
-    here = ap (λ (l : List ℕ). l ++ rest) e ∙ regroup a
-
-    by_start : (start : Option ℤ) → s.start ≡ start → IsBound start a → selector_at (t ++ rest) ≡ Ok (slice s, past_blanks rest)
-    by_start None same none =
-        ap selector_at (here ∙ ap (λ (l : List ℕ). l ++ (58 ∷ (k ++ (b ++ (c ++ rest))))) none) ∙ colon_again (k ++ (b ++ (c ++ rest))) s (past_blanks rest) (parts None same)
-    by_start (Some i) same (n, j, is, gap, text) =
-        let tail = 58 ∷ (k ++ (b ++ (c ++ rest))) in
-        let begun : t ++ rest ≡ n ++ (j ++ tail) = here ∙ ap (λ (l : List ℕ). l ++ tail) text ∙ append_assoc n j tail in
-        ap selector_at begun ∙ at_position n i (j ++ tail) is ∙ begun_again n j i (k ++ (b ++ (c ++ rest))) s (past_blanks rest) is gap (parts (Some i) same)
 
 -- no blank begins a slice
 pub slice_no_blank : (t : List ℕ) (s : Slice) (rest : List ℕ) → IsSlice s t → begins is_blank (t ++ rest) ≡ false
@@ -234,3 +195,36 @@ slice_no_blank t s rest (a, k, b, c, first, blank, second, third, e) = by_start 
         let tail = 58 ∷ (k ++ (b ++ c)) in
         let begun : t ≡ n ++ (j ++ tail) = e ∙ ap (λ (l : List ℕ). l ++ tail) text ∙ append_assoc n j tail in
         ap (λ (l : List ℕ). begins is_blank (l ++ rest)) begun ∙ ap (begins is_blank) (append_assoc n (j ++ tail) rest) ∙ int_no_blank n i ((j ++ tail) ++ rest) is
+
+-- the same as selectors
+module _ (filter_at : List ℕ → Parsed Selector) where
+  at_position : (t : List ℕ) (i : ℤ) (rest : List ℕ) → IsInt t i → selector_at filter_at (t ++ rest) ≡ position_at (t ++ rest)
+  unfolding selector_at
+  at_position t i rest is = rw (int_not 39 t i rest refl is, int_not 34 t i rest refl is, int_not 42 t i rest refl is, int_not 58 t i rest refl is, int_not 63 t i rest refl is) refl
+
+  pub index_again : (t : List ℕ) (i : ℤ) (rest : List ℕ) → IsInt t i → Closes rest → selector_at filter_at (t ++ rest) ≡ Ok (index i, past_blanks rest)
+  index_again t i rest is closes = at_position t i rest is ∙ alone_again t i rest is closes
+
+  colon_again : (rest : List ℕ) (s : Slice) (behind : List ℕ) → slice_at None rest ≡ Ok (s, behind) → selector_at filter_at (58 ∷ rest) ≡ Ok (slice s, behind)
+  unfolding selector_at
+  colon_again rest s behind read = rw read refl
+
+  pub slice_again : (t : List ℕ) (s : Slice) (rest : List ℕ) → IsSlice s t → Closes rest → selector_at filter_at (t ++ rest) ≡ Ok (slice s, past_blanks rest)
+  slice_again t s rest (a, k, b, c, first, blank, second, third, e) closes = by_start s.start refl first
+    where
+      parts : (start : Option ℤ) → s.start ≡ start → slice_at start (k ++ (b ++ (c ++ rest))) ≡ Ok (s, past_blanks rest)
+      parts start same = subst (λ start. slice_at start (k ++ (b ++ (c ++ rest))) ≡ Ok (s, past_blanks rest)) same (parts_again s.start s.end s.step k b c rest blank second third closes)
+
+      regroup : (a : List ℕ) → (a ++ (58 ∷ (k ++ (b ++ c)))) ++ rest ≡ a ++ (58 ∷ (k ++ (b ++ (c ++ rest))))
+      regroup a = simp append_assoc refl
+
+      here : t ++ rest ≡ a ++ (58 ∷ (k ++ (b ++ (c ++ rest))))
+      here = ap (λ (l : List ℕ). l ++ rest) e ∙ regroup a
+
+      by_start : (start : Option ℤ) → s.start ≡ start → IsBound start a → selector_at filter_at (t ++ rest) ≡ Ok (slice s, past_blanks rest)
+      by_start None same none =
+          ap (selector_at filter_at) (here ∙ ap (λ (l : List ℕ). l ++ (58 ∷ (k ++ (b ++ (c ++ rest))))) none) ∙ colon_again (k ++ (b ++ (c ++ rest))) s (past_blanks rest) (parts None same)
+      by_start (Some i) same (n, j, is, gap, text) =
+          let tail = 58 ∷ (k ++ (b ++ (c ++ rest))) in
+          let begun : t ++ rest ≡ n ++ (j ++ tail) = here ∙ ap (λ (l : List ℕ). l ++ tail) text ∙ append_assoc n j tail in
+          ap (selector_at filter_at) begun ∙ at_position n i (j ++ tail) is ∙ begun_again n j i (k ++ (b ++ (c ++ rest))) s (past_blanks rest) is gap (parts (Some i) same)

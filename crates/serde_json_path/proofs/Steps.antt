@@ -1,7 +1,6 @@
 -- Steps of reading: what an answer says of each, and items one after the other.
-use Rattle.std.proofs.Common.{◌≡◌, ℕ, zero, suc, ◌<◌, ◌⊎◌, inl, inr, Bool, true, false, cond, List, [], ◌∷◌, ◌++◌, length, drop, Result, Ok, Err, refl, sym, ap, subst, ◌∙◌, append_assoc, arith}
+use Rattle.std.proofs.Common.{◌≡◌, ℕ, zero, suc, ◌⊎◌, inl, inr, Bool, true, false, cond, List, [], ◌∷◌, ◌++◌, drop, Result, Ok, Err, refl, sym, ap, subst, ◌∙◌, append_assoc}
 use Rattle.std.specs.Prelude.{◌==◌}
-use Rattle.std.proofs.lemmas.List.{length-append}
 use Rattle.std.proofs.lemmas.Bool.{eqb-true}
 use Rattle.serde_json_path.specs.declared.error.Refusal.{Refusal}
 use Rattle.serde_json_path.specs.Lexical.{begins, IsBlank, Joined}
@@ -47,6 +46,18 @@ pub record Read {A : Type 0} (is : List ℕ → A → Type 0) (cs : List ℕ) (x
 abbrev pub Spaced : {A : Type 0} → (List ℕ → A → Type 0) → List ℕ → A → Type 0
 Spaced is t x = (a k : List ℕ) × is a x × IsBlank k × (t ≡ a ++ k)
 
+-- what was read is also something else, or made something else
+pub made_of : {A B : Type 0} (is : List ℕ → A → Type 0) (is_made : List ℕ → B → Type 0) (make : A → B) (cs : List ℕ) (x : A × List ℕ) → ((t : List ℕ) → is t x.0 → is_made t (make x.0))
+    → Read (Spaced is) cs x → Read (Spaced is_made) cs (make x.0, x.1)
+made_of is is_made make cs x good r = record { text = r.text; is_so = (r.is_so.0, r.is_so.1, good r.is_so.0 r.is_so.2, r.is_so.3, r.is_so.4); split = r.split }
+
+-- a step that makes something of what is read
+pub made_sound : {A B : Type 0} (is : List ℕ → A → Type 0) (is_made : List ℕ → B → Type 0) (make : A → B) (cs : List ℕ) (read : Parsed A) (x : B × List ℕ)
+    → ((t : List ℕ) (a : A) → is t a → is_made t (make a)) → ((a : A × List ℕ) → read ≡ Ok a → Read (Spaced is) cs a) → (read >>= λ a. Ok (make a.0, a.1)) ≡ Ok x → Read (Spaced is_made) cs x
+made_sound is is_made make cs read x good sound e =
+    let a = bind_ok read (λ a. Ok (make a.0, a.1)) x e in
+    subst (Read (Spaced is_made) cs) (ok_is (make a.0.0, a.0.1) x a.2) (made_of is is_made make cs a.0 (λ t h. good t a.0.0 h) (sound a.0 a.1))
+
 -- many items, one after the other
 module _ {A : Type 0} (is : List ℕ → A → Type 0) (more : List ℕ → Bool) (item : List ℕ → Parsed A) (sound : (cs : List ℕ) (x : A × List ℕ) → more cs ≡ true → item cs ≡ Ok x → Read is cs x) where
   pub many_sound : (n : ℕ) (cs : List ℕ) (x : List A × List ℕ) → many_at more item n cs ≡ Ok x → Read (Joined is) cs x
@@ -79,7 +90,7 @@ module _ {A : Type 0} (is : List ℕ → A → Type 0) (more : List ℕ → Bool
   stops_at t (x ∷ xs) rest h s = subst Stops (sym (ap (λ (l : List ℕ). l ++ rest) h.4 ∙ append_assoc h.0 h.1 rest)) (law.stops h.0 x (h.1 ++ rest) h.2)
 
   pub many_again : (t : List ℕ) (xs : List A) (rest : List ℕ) → Joined is t xs → Stops rest → more rest ≡ false → many more item (t ++ rest) ≡ Ok (xs, rest)
-  many_again t [] rest h s e = ap (λ (l : List ℕ). many more item (l ++ rest)) h ∙ m.many_end more item law.takes rest e
+  many_again t [] rest h s e = ap (λ (l : List ℕ). many more item (l ++ rest)) h ∙ m.many_end more item rest e
   many_again t (x ∷ xs) rest h s e =
       let regrouped : t ++ rest ≡ h.0 ++ (h.1 ++ rest) = ap (λ (l : List ℕ). l ++ rest) h.4 ∙ append_assoc h.0 h.1 rest in
       ap (many more item) regrouped

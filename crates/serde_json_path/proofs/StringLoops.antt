@@ -37,7 +37,7 @@ module _ (quote : ℕ) (is : IsQuote quote) where
   pub is_done : (before cs : List ℕ) (total : Parsed (List ℕ)) → begins (is_inside quote) cs ≡ false → with_text quote before (pieces cs) ≡ total
       → total ≡ cond (begins (λ c. c == quote) cs) (Ok (before, drop 1 cs)) (Err (refusal ExpectedEndingQuote place.LongHand cs))
   is_done before cs total t h =
-      sym h ∙ ap (with_text quote before) (m.many_end (begins (is_inside quote)) (piece_at quote) (piece_takes quote is) cs t)
+      sym h ∙ ap (with_text quote before) (m.many_end (begins (is_inside quote)) (piece_at quote) cs t)
       ∙ ap (λ (l : List ℕ). cond (begins (λ c. c == quote) cs) (Ok (l, drop 1 cs)) (Err (refusal ExpectedEndingQuote place.LongHand cs))) (append-nil before)
 
   pub fails : (s : Stop) (before cs : List ℕ) (total : Parsed (List ℕ)) → begins (is_inside quote) cs ≡ true → Fails s (piece_at quote cs)

@@ -10,14 +10,14 @@ use Rattle.serde_json_path.specs.Parsed.{Parsed, refusal, many}
 use Rattle.serde_json_path.specs.Strings.{is_hexadecimal, hexadecimal_value, head, hexadecimal_at, hex4_at, is_high, is_low, low_at, unicode_at, is_letter_escape, letter_value, escape_at, is_control, piece_at, is_inside, string_at}
 use Rattle.serde_json_path.proofs.Steps.{chosen, done, many_sound}
 use Rattle.serde_json_path.proofs.StringTexts.{piece_sound}
-use Rattle.serde_json_path.proofs.Stands.{Stands, here, further, bind_stands, guard_stands, no_refusal, many_stands}
+use Rattle.serde_json_path.proofs.Stands.{Plain, Stands, here, further, bind_stands, guard_stands, no_refusal, many_stands}
 
-hexadecimal_stands : (escape cs : List ℕ) (r : Refusal) → hexadecimal_at escape cs ≡ Err r → Stands escape r
+hexadecimal_stands : (escape cs : List ℕ) (r : Refusal) → hexadecimal_at escape cs ≡ Err r → Stands Plain escape r
 unfolding hexadecimal_at
 hexadecimal_stands escape cs r e =
     guard_stands escape (begins is_hexadecimal cs) (done (hexadecimal_value (head cs), drop 1 cs)) BadEscape place.LongHand r refl (no_refusal escape _ r) e
 
-hex4_stands : (escape cs : List ℕ) (r : Refusal) → hex4_at escape cs ≡ Err r → Stands escape r
+hex4_stands : (escape cs : List ℕ) (r : Refusal) → hex4_at escape cs ≡ Err r → Stands Plain escape r
 unfolding hex4_at
 hex4_stands escape cs r e =
     bind_stands escape (hexadecimal_at escape cs) _ r (hexadecimal_stands escape cs) (λ a p f.
@@ -25,7 +25,7 @@ hex4_stands escape cs r e =
     bind_stands escape (hexadecimal_at escape b.1) _ r (hexadecimal_stands escape b.1) (λ c s h.
     bind_stands escape (hexadecimal_at escape c.1) _ r (hexadecimal_stands escape c.1) (λ d t k. no_refusal escape _ r k) h) g) f) e
 
-low_stands : (escape : List ℕ) (high : ℕ) (cs : List ℕ) (r : Refusal) → low_at escape high cs ≡ Err r → Stands escape r
+low_stands : (escape : List ℕ) (high : ℕ) (cs : List ℕ) (r : Refusal) → low_at escape high cs ≡ Err r → Stands Plain escape r
 unfolding low_at
 low_stands escape high cs r e =
     guard_stands escape (begins (λ c. c == 92) cs) _ BadEscape place.LongHand r refl (λ f.
@@ -33,7 +33,7 @@ low_stands escape high cs r e =
     bind_stands escape (hex4_at escape (drop 1 (drop 1 cs))) _ r (hex4_stands escape (drop 1 (drop 1 cs))) (λ l s h.
     guard_stands escape (is_low l.0) (done (pair_of high l.0, l.1)) BadEscape place.LongHand r refl (no_refusal escape _ r) h) g) f) e
 
-unicode_stands : (escape cs : List ℕ) (r : Refusal) → unicode_at escape cs ≡ Err r → Stands escape r
+unicode_stands : (escape cs : List ℕ) (r : Refusal) → unicode_at escape cs ≡ Err r → Stands Plain escape r
 unfolding unicode_at
 unicode_stands escape cs r e =
     let bad : Parsed ℕ = Err (refusal BadEscape place.LongHand escape) in
@@ -46,7 +46,7 @@ unicode_stands escape cs r e =
       ]
     ]) e
 
-escape_stands : (quote : ℕ) (cs : List ℕ) (r : Refusal) → escape_at quote cs ≡ Err r → Stands cs r
+escape_stands : (quote : ℕ) (cs : List ℕ) (r : Refusal) → escape_at quote cs ≡ Err r → Stands Plain cs r
 unfolding escape_at
 escape_stands quote cs r e =
     let letter : Parsed ℕ = Ok (letter_value (head (drop 1 cs)), drop 1 (drop 1 cs)) in
@@ -55,7 +55,7 @@ escape_stands quote cs r e =
       | inr a ↦ guard_stands cs (begins (is_letter_escape quote) (drop 1 cs)) letter BadEscape place.LongHand r refl (no_refusal cs _ r) a.1
     ]
 
-piece_stands : (quote : ℕ) (cs : List ℕ) (r : Refusal) → piece_at quote cs ≡ Err r → Stands cs r
+piece_stands : (quote : ℕ) (cs : List ℕ) (r : Refusal) → piece_at quote cs ≡ Err r → Stands Plain cs r
 unfolding piece_at
 piece_stands quote cs r e =
     let bad : Parsed ℕ = Err (refusal ControlCharacter place.LongHand cs) in
@@ -68,7 +68,7 @@ piece_stands quote cs r e =
     ]
 
 -- behind the opening quote
-pub string_stands : (quote : ℕ) → IsQuote quote → (cs : List ℕ) (r : Refusal) → string_at quote cs ≡ Err r → Stands cs r
+pub string_stands : (quote : ℕ) → IsQuote quote → (cs : List ℕ) (r : Refusal) → string_at quote cs ≡ Err r → Stands Plain cs r
 unfolding string_at many
 string_stands quote is cs r e =
     bind_stands cs (many (begins (is_inside quote)) (piece_at quote) cs) _ r

@@ -4,9 +4,9 @@ use Rattle.std.specs.Prelude.{◌==◌, false, codes}
 use lib.Utf8.{encode}
 use Rattle.std.proofs.lemmas.Int.{ints}
 use Rattle.std.proofs.lemmas.Option.{none-some, same_Some}
-use Rattle.serde_json_path_core.specs.Tree.{query, root, no_segments, segment, child, dot_name, long_hand, no_selectors, selector, name}
+use Rattle.serde_json_path_core.specs.Tree.{Query, query, root, current, no_segments, segment, child, dot_name, long_hand, no_selectors, selector, name, filter, no_or, or, no_and, and, relation, exist, literal, singular, logical_argument, number, equal}
 use Rattle.serde_json_path.specs.Lexical.{IsDecimal, IsInt, IsFraction, IsNumber, IsPiece, plain, quote_escape, letter_escape, hex_escape, pair_escape, IsHex4, hexadecimal_of, escaped_by, is_plain, begins, value_from, ArePieces, IsString}
-use Rattle.serde_json_path.specs.Grammar.{Reads}
+use Rattle.serde_json_path.specs.Grammar.{Reads, ReadsOr, ReadsArgument}
 
 -- ---- numbers
 
@@ -166,3 +166,28 @@ name_in_brackets = (codes "['a']", ([], codes "['a']", [], tt, ([], codes "'a'",
   where
     a_string : IsString (codes "'a'") (codes "a")
     a_string = (39, codes "a", codes "a", inl refl, (codes "a", [], plain 97 refl, refl, refl), refl, refl)
+
+-- `@.a`
+abbrev a_member : Query
+a_member = query current (segment child (dot_name (codes "a")) no_segments)
+
+-- `$[?@.a == 1]`
+compared : Reads (query root (segment child (long_hand (selector (filter (or (and (relation (singular a_member) equal (literal (number (pos 1000000000)))) no_and) no_or)) no_selectors)) no_segments)) (codes "$[?@.a == 1]")
+unfolding encode
+compared =
+    (codes "[?@.a == 1]", ([], codes "[?@.a == 1]", [], tt, ([], codes "?@.a == 1", [], tt, (codes "?@.a == 1", [], ([], codes "@.a == 1", tt, filter_text, refl), refl, refl), tt, refl), refl, refl), refl)
+  where
+    one : IsNumber (codes "1") (pos 1000000000)
+    one =
+        ((1000000000, inl ((codes "1", [], 1, 0, record { first = refl; each = (refl, tt); plain = inr refl; value_of = refl }, inl (refl, refl), refl, refl), refl)), (omega (arith, ints), omega (arith, ints)))
+
+    member_text : Reads a_member (codes "@.a")
+    member_text = (codes ".a", ([], codes ".a", [], tt, (codes "a", record { first = refl; each = (refl, tt); bytes_of = refl }, refl), refl, refl), refl)
+
+    filter_text : ReadsOr (or (and (relation (singular a_member) equal (literal (number (pos 1000000000)))) no_and) no_or) (codes "@.a == 1")
+    filter_text =
+        (codes "@.a == 1", [], (codes "@.a == 1", [], (codes "@.a", codes " == ", codes "1", ((tt, tt), member_text), (codes " ", codes " ", (refl, tt), (refl, tt), refl), one, refl), refl, refl), refl, refl)
+
+-- a query alone is no logical expression as an argument
+alone_is_no_expression : (t : List ℕ) → ReadsArgument (logical_argument (or (and (exist a_member) no_and) no_or)) t → ⊥
+alone_is_no_expression t h = h.0 tt

@@ -1,7 +1,22 @@
--- What the next byte tells of the next character.
-use Rattle.std.specs.Prelude.{◌≡◌, ℕ, ◌<◌, ◌≤◌, List, [], ◌∷◌, Option, Some, None, drop}
+-- What the bytes ahead tell of the characters.
+use Rattle.std.specs.Prelude.{◌≡◌, ℕ, ◌<◌, ◌≤◌, nat_le, Bool, true, false, List, [], ◌∷◌, Option, Some, None, drop}
+use Rattle.std.specs.Option.{ForSome}
 
 -- A byte is the first of some characters: below 128 it is the first character, else that one is from 128 on.
 abbrev pub IsAhead : Option ℕ → List ℕ → Type 0
 IsAhead None cs = cs ≡ []
 IsAhead (Some b) cs = (c : ℕ) × (cs ≡ c ∷ drop 1 cs) × (b < 128 → c ≡ b) × (128 ≤ b → 128 ≤ c)
+
+-- the byte of an ASCII character
+abbrev pub is_ascii : Option ℕ → Bool
+is_ascii None = false
+is_ascii (Some b) = nat_le b 127
+
+-- Where the byte behind the next one was looked at, it is the one that stands there, and the next one is ASCII.
+abbrev pub IsSecond : Option (Option ℕ) → Option ℕ → Option ℕ → Type 0
+IsSecond second next there = ForSome second (λ s. (s ≡ there) × (is_ascii next ≡ true))
+
+-- Up to where a byte may be looked at: up to the text's end, or none where the byte behind the next one was.
+abbrev pub limit_of : Option (Option ℕ) → ℕ → ℕ
+limit_of None total = total
+limit_of (Some second) total = 0

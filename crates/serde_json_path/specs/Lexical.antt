@@ -1,6 +1,6 @@
 -- The pieces of a path's text (RFC 9535, sections 2.1.1, 2.3.1.1, 2.3.3.1, 2.3.5.1 and 2.5.1.1). A text is a list of
 -- characters, each a Unicode scalar value; names and strings in trees are the bytes of their characters.
-use Rattle.std.specs.Prelude.{◌≡◌, ◌==◌, ℕ, suc, ◌+◌, ◌-◌, ◌*◌, ◌<◌, ◌≤◌, ◌^◌, ◌⊎◌, ◌&&◌, ◌||◌, not, nat_le, ℤ, pos, negsuc, ◌-ℤ◌, Bool, true, false, List, [], ◌∷◌, ◌++◌, length, codes, Option, Some, None, if◌then◌else◌}
+use Rattle.std.specs.Prelude.{◌≡◌, ◌==◌, ℕ, suc, ◌+◌, ◌-◌, ◌*◌, ◌<◌, ◌≤◌, ◌^◌, ◌⊎◌, ◌&&◌, ◌||◌, not, nat_le, ℤ, pos, negsuc, ◌-ℤ◌, Bool, true, false, List, [], ◌∷◌, ◌++◌, length, drop, codes, Option, Some, None, if◌then◌else◌}
 use Rattle.std.specs.List.{AllByRecursion}
 use Rattle.std.specs.Str.{encode_utf8_all}
 use Rattle.serde_json_path_core.specs.Tree.{IsInteger}
@@ -19,6 +19,10 @@ Joined is text (x ∷ xs) = (a b : List ℕ) × is a x × Joined is b xs × (tex
 abbrev pub begins : (ℕ → Bool) → List ℕ → Bool
 begins p [] = false
 begins p (c ∷ cs) = p c
+
+-- the text begins with these two characters
+abbrev pub begins_both : ℕ → ℕ → List ℕ → Bool
+begins_both a b cs = begins (λ c. c == a) cs && begins (λ c. c == b) (drop 1 cs)
 
 -- ---- blanks (section 2.1.1): space, tab, line feed and carriage return
 

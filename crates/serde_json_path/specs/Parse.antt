@@ -1,16 +1,17 @@
 -- What a parse answers, whatever way it is asked.
-use Rattle.std.specs.Prelude.{◌≡◌, ◌≢◌, ◌==◌, ℕ, ◌-◌, ◌^◌, ◌<◌, ◌≤◌, ◌⊎◌, ◌↔◌, Bool, false, List, ◌∷◌, ◌++◌, length, take, Option, Result, IfOk, IfErr, IsErrAnd}
+use Rattle.std.specs.Prelude.{◌≡◌, ◌≢◌, ◌==◌, ℕ, ◌-◌, ◌^◌, ◌<◌, ◌≤◌, ◌⊎◌, ◌↔◌, Bool, false, List, ◌∷◌, ◌++◌, length, take, drop, Option, Result, IfOk, IfErr, IsErrAnd}
 use Rattle.std.specs.Str.{chars, IsCharBoundary}
 use Rattle.serde_json_path_core.specs.Tree.{Query}
+use Rattle.serde_json_path_core.specs.Used.{AreCalled}
 use Rattle.serde_json_path_functions.specs.Functions.{Signature}
-use Rattle.serde_json_path.specs.declared.error.ParseErrorKind.TheVariants.{ExpectedRoot, TextAfterPath, NoMemory}
+use Rattle.serde_json_path.specs.declared.error.ParseErrorKind.TheVariants.{ExpectedRoot, UndefinedFunction, TextAfterPath, NoMemory}
 use Rattle.serde_json_path.specs.declared.error.ParseError.{ParseError}
 use Rattle.serde_json_path.specs.declared.path.JsonPath.{JsonPath}
 use Rattle.serde_json_path.specs.Lexical.{begins, is_blank, IsBlank}
 use Rattle.serde_json_path.specs.Accepted.{IsAccepted}
-use Rattle.serde_json_path.specs.Open.{IsOpen}
 use Rattle.serde_json_path.specs.Errors.{kind_of, position_of}
-use Rattle.serde_json_path.specs.Paths.{path_tree}
+use Rattle.serde_json_path.specs.Operands.{IsUndeclared}
+use Rattle.serde_json_path.specs.Paths.{path_tree, path_signatures}
 use Rattle.serde_json_path.specs.Parsing.{opens}
 
 abbrev pub is_dollar : ℕ → Bool
@@ -26,14 +27,18 @@ NeedsNoMemory text =
 pub record IsParseOf (signature : List ℕ → Option Signature) (text : List ℕ) (result : Result JsonPath ParseError) : Type 0 where
   -- what is accepted is in the typed grammar, with this tree
   pub accepted : IfOk result (λ path. IsAccepted signature (chars text) (path_tree path))
-  -- and no other of the open forms
-  pub only : IfOk result (λ path. (q : Query) → IsOpen q → IsAccepted signature (chars text) q → q ≡ path_tree path)
-  -- a refusal, unless memory was refused, means that no tree of the open forms is accepted
-  pub refused : IfErr result (λ e. kind_of e ≢ NoMemory → (q : Query) → IsOpen q → IsAccepted signature (chars text) q → ⊥)
+  -- it keeps the names that it calls, each once, and no other
+  pub kept : IfOk result (λ path. AreCalled (path_signatures path) (path_tree path))
+  -- and is accepted with no other tree
+  pub only : IfOk result (λ path. (q : Query) → IsAccepted signature (chars text) q → q ≡ path_tree path)
+  -- a refusal, unless memory was refused, means that the text is accepted with no tree
+  pub refused : IfErr result (λ e. kind_of e ≢ NoMemory → (q : Query) → IsAccepted signature (chars text) q → ⊥)
   -- a missing root is told exactly where the text does not begin with `$`
   pub missing_root : IsErrAnd result (λ e. kind_of e ≡ ExpectedRoot) ↔ ((length text < 2 ^ 64 - 1) × (begins is_dollar (chars text) ≡ false))
   -- text behind the path is told only where the bytes before the position are an accepted text
   pub text_after : IfErr result (λ e. kind_of e ≡ TextAfterPath → (q : Query) × IsAccepted signature (chars (take (position_of e - 1) text)) q)
+  -- an undefined function is told only where a name that is not declared stands, with `(` at once behind it
+  pub undefined : IfErr result (λ e. kind_of e ≡ UndefinedFunction → IsUndeclared signature (chars (drop (position_of e - 1) text)))
   -- a refusal stands at the start of a character, or at the end of the text
   pub position : IfErr result (λ e. (1 ≤ position_of e) × IsCharBoundary text (position_of e - 1))
   -- want of memory stands at 1

@@ -1,11 +1,10 @@
 -- Reading a path from left to right by one character of look-ahead: what the parser computes, on lists of characters.
-use Rattle.std.specs.Prelude.{ℕ, zero, suc, ℤ, pos, negsuc, ◌==◌, ◌||◌, ◌&&◌, Bool, List, [], ◌∷◌, length, drop, Option, Some, None, Result, Ok, Err, nat_le, if◌then◌else◌}
+use Rattle.std.specs.Prelude.{ℕ, zero, suc, ℤ, pos, negsuc, ◌==◌, ◌||◌, ◌&&◌, Bool, List, [], ◌∷◌, drop, Option, Some, None, Ok, Err, nat_le, if◌then◌else◌}
 use Rattle.std.specs.Str.{encode_utf8_all}
 use Rattle.serde_json_path_core.specs.Tree.{largest, SegmentKind, child, descendant, Segments, no_segments, segment, Segment, dot_name, dot_wildcard, long_hand, Selectors, selector, no_selectors, Selector, name, wildcard, index, slice, Slice}
-use Rattle.serde_json_path.specs.declared.error.ParseErrorKind.TheVariants.{ExpectedRoot, BadMemberName, ExpectedClosingBracket, ExpectedSelector, IntegerOutOfRange, TextAfterPath}
+use Rattle.serde_json_path.specs.declared.error.ParseErrorKind.TheVariants.{BadMemberName, ExpectedClosingBracket, ExpectedSelector, IntegerOutOfRange}
 use Rattle.serde_json_path.specs.declared.error.Place as declared
 use Rattle.serde_json_path.specs.declared.error.Place.TheVariants as place
-use Rattle.serde_json_path.specs.declared.error.Refusal.{Refusal}
 use Rattle.serde_json_path.specs.Lexical.{begins, is_digit, is_name_first, is_name_char, value_from}
 use Rattle.serde_json_path.specs.Parsed.{Parsed, ◌>>=◌, refusal, front, behind, past_blanks, many}
 use Rattle.serde_json_path.specs.Strings.{string_at}
@@ -68,54 +67,6 @@ position_at cs = int_at cs >>= λ i.
 unfoldable pub quoted_at : ℕ → List ℕ → Parsed Selector
 quoted_at quote cs = string_at quote cs >>= λ text. Ok (name text.0, past_blanks text.1)
 
-unfoldable pub selector_at : List ℕ → Parsed Selector
-selector_at cs =
-    if begins (λ c. c == 39) cs then quoted_at 39 (drop 1 cs)
-    else if begins (λ c. c == 34) cs then quoted_at 34 (drop 1 cs)
-    else if begins (λ c. c == 42) cs then Ok (wildcard, past_blanks (drop 1 cs))
-    else if begins (λ c. c == 58) cs then (slice_at None (drop 1 cs) >>= λ s. Ok (slice s.0, s.1))
-    else position_at cs
-
--- ---- segments
-
--- at a comma
-unfoldable pub next_selector_at : List ℕ → Parsed Selector
-next_selector_at cs = selector_at (past_blanks (drop 1 cs))
-
-unfoldable pub selectors_at : List ℕ → Parsed (List Selector)
-selectors_at cs =
-    selector_at (past_blanks cs) >>= λ s. many (begins (λ c. c == 44)) next_selector_at s.1 >>= λ ss. Ok (s.0 ∷ ss.0, ss.1)
-
-abbrev pub selector_list : List Selector → Selectors
-selector_list [] = no_selectors
-selector_list (s ∷ ss) = selector s (selector_list ss)
-
--- behind `[`
-unfoldable pub bracket_at : List ℕ → Parsed Segment
-bracket_at cs = selectors_at cs >>= λ ss.
-    if begins (λ c. c == 93) ss.1 then Ok (long_hand (selector_list ss.0), drop 1 ss.1) else Err (refusal ExpectedClosingBracket place.LongHand ss.1)
-
--- behind `.` or `..`
-unfoldable pub dotted_at : declared.Place → List ℕ → Parsed Segment
-dotted_at here cs =
-    if begins (λ c. c == 42) cs then Ok (dot_wildcard, drop 1 cs) else (name_at here cs >>= λ n. Ok (dot_name n.0, n.1))
-
--- behind `..`
-unfoldable pub descendant_at : List ℕ → Parsed Segment
-descendant_at cs = if begins (λ c. c == 91) cs then bracket_at (drop 1 cs) else dotted_at place.Path cs
-
--- a segment and its kind
-abbrev pub of_kind : SegmentKind → Parsed Segment → Parsed (SegmentKind × Segment)
-of_kind kind read = read >>= λ s. Ok ((kind, s.0), s.1)
-
--- behind `.`
-unfoldable pub dot_at : List ℕ → Parsed (SegmentKind × Segment)
-dot_at cs = if begins (λ c. c == 46) cs then of_kind descendant (descendant_at (drop 1 cs)) else of_kind child (dotted_at place.DotMemberName cs)
-
--- at `.` or `[`
-unfoldable pub segment_at : List ℕ → Parsed (SegmentKind × Segment)
-segment_at cs = if begins (λ c. c == 46) cs then dot_at (drop 1 cs) else of_kind child (bracket_at (drop 1 cs))
-
 abbrev pub opens : ℕ → Bool
 opens c = c == 46 || c == 91
 
@@ -123,24 +74,72 @@ opens c = c == 46 || c == 91
 abbrev pub opens_next : List ℕ → Bool
 opens_next cs = begins opens (past_blanks cs)
 
--- blanks and a segment
-unfoldable pub next_segment_at : List ℕ → Parsed (SegmentKind × Segment)
-next_segment_at cs = segment_at (past_blanks cs)
-
-abbrev pub segments_at : List ℕ → Parsed (List (SegmentKind × Segment))
-segments_at cs = many opens_next next_segment_at cs
+abbrev pub selector_list : List Selector → Selectors
+selector_list [] = no_selectors
+selector_list (s ∷ ss) = selector s (selector_list ss)
 
 abbrev pub segment_list : List (SegmentKind × Segment) → Segments
 segment_list [] = no_segments
 segment_list (s ∷ ss) = segment s.0 s.1 (segment_list ss)
 
--- ---- the whole text
+-- where a refusal of a member name behind one dot stands
+abbrev pub behind_dot : declared.Place → declared.Place
+behind_dot place.Path = place.DotMemberName
+behind_dot here = here
 
-unfoldable pub path_at : List ℕ → Result Segments Refusal
-path_at cs =
-    if begins (λ c. c == 36) cs then
-    (segments_at (drop 1 cs) >>= λ ss. if length ss.1 == 0 then Ok (segment_list ss.0) else Err (refusal TextAfterPath place.Path ss.1))
-    else Err (refusal ExpectedRoot place.Path cs)
+-- a segment and its kind
+abbrev pub of_kind : SegmentKind → Parsed Segment → Parsed (SegmentKind × Segment)
+of_kind kind read = read >>= λ s. Ok ((kind, s.0), s.1)
+
+-- behind `.` or `..`
+unfoldable pub dotted_at : declared.Place → List ℕ → Parsed Segment
+dotted_at here cs =
+    if begins (λ c. c == 42) cs then Ok (dot_wildcard, drop 1 cs) else (name_at here cs >>= λ n. Ok (dot_name n.0, n.1))
+
+-- how a filter is read, at its `?`
+module _ (filter_at : List ℕ → Parsed Selector) where
+  unfoldable pub selector_at : List ℕ → Parsed Selector
+  selector_at cs =
+      if begins (λ c. c == 39) cs then quoted_at 39 (drop 1 cs)
+      else if begins (λ c. c == 34) cs then quoted_at 34 (drop 1 cs)
+      else if begins (λ c. c == 42) cs then Ok (wildcard, past_blanks (drop 1 cs))
+      else if begins (λ c. c == 58) cs then (slice_at None (drop 1 cs) >>= λ s. Ok (slice s.0, s.1))
+      else if begins (λ c. c == 63) cs then filter_at cs
+      else position_at cs
+
+  -- at a comma
+  unfoldable pub next_selector_at : List ℕ → Parsed Selector
+  next_selector_at cs = selector_at (past_blanks (drop 1 cs))
+
+  unfoldable pub selectors_at : List ℕ → Parsed (List Selector)
+  selectors_at cs =
+      selector_at (past_blanks cs) >>= λ s. many (begins (λ c. c == 44)) next_selector_at s.1 >>= λ ss. Ok (s.0 ∷ ss.0, ss.1)
+
+  -- behind `[`
+  unfoldable pub bracket_at : List ℕ → Parsed Segment
+  bracket_at cs = selectors_at cs >>= λ ss.
+      if begins (λ c. c == 93) ss.1 then Ok (long_hand (selector_list ss.0), drop 1 ss.1) else Err (refusal ExpectedClosingBracket place.LongHand ss.1)
+
+-- segments that stand here
+module _ (filter_at : List ℕ → Parsed Selector) (here : declared.Place) where
+  -- behind `..`
+  unfoldable pub descendant_at : List ℕ → Parsed Segment
+  descendant_at cs = if begins (λ c. c == 91) cs then bracket_at filter_at (drop 1 cs) else dotted_at here cs
+
+  -- behind `.`
+  unfoldable pub dot_at : List ℕ → Parsed (SegmentKind × Segment)
+  dot_at cs = if begins (λ c. c == 46) cs then of_kind descendant (descendant_at (drop 1 cs)) else of_kind child (dotted_at (behind_dot here) cs)
+
+  -- at `.` or `[`
+  unfoldable pub segment_at : List ℕ → Parsed (SegmentKind × Segment)
+  segment_at cs = if begins (λ c. c == 46) cs then dot_at (drop 1 cs) else of_kind child (bracket_at filter_at (drop 1 cs))
+
+  -- blanks and a segment
+  unfoldable pub next_segment_at : List ℕ → Parsed (SegmentKind × Segment)
+  next_segment_at cs = segment_at (past_blanks cs)
+
+  abbrev pub segments_at : List ℕ → Parsed (List (SegmentKind × Segment))
+  segments_at cs = many opens_next next_segment_at cs
 
 -- a segment begins behind `$` and blanks
 abbrev pub opens_behind_root : List ℕ → Bool

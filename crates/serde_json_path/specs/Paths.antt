@@ -1,8 +1,14 @@
 -- What contracts see of a path.
 use Rattle.serde_json_path_core.specs.Tree.{Query}
-use Rattle.serde_json_path_core.specs.Parts.{tree_of}
+use Rattle.serde_json_path_core.specs.Parts.{tree_of, signatures_of}
+use Rattle.serde_json_path_functions.specs.Functions.{Signature}
+use Rattle.std.specs.Prelude.{ℕ, List}
 use Rattle.serde_json_path.specs.declared.path.JsonPath.{JsonPath}
 
 -- the syntax tree of a path
 abbrev pub path_tree : JsonPath → Query
 path_tree path = tree_of path.checked
+
+-- the names that a path calls, each with the signature that it was read with
+abbrev pub path_signatures : JsonPath → List (List ℕ × Signature)
+path_signatures path = signatures_of path.checked

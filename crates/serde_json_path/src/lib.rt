@@ -2,6 +2,7 @@
 #![tactic(auto)]
 
 mod error;
+mod laws;
 mod parser;
 mod path;
 mod source;
@@ -9,9 +10,10 @@ mod source;
 mod tests;
 
 pub use error::{ParseError, ParseErrorKind};
+pub use laws::{law_one_tree_at_most, law_printed_path_selects_its_node};
 pub use parser::parse_source;
 pub use path::JsonPath;
-pub use serde_json_path_core::QueryError;
+pub use serde_json_path_core::{QueryError, Walk, functions};
 pub use serde_json_path_nodes::{
     AtMostOneError, ExactlyOneError, LocatedNode, LocatedNodeList, LocatedNodes, Locations,
     NodeList, Nodes, NormalizedPath, PathElement, PathElements,

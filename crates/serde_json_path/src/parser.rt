@@ -1,6 +1,11 @@
 //! Reading a path, from left to right and each byte once.
 
+mod call;
 mod decode;
+mod level;
+mod logical;
+mod name_part;
+mod operand;
 pub(crate) mod primitive;
 mod query;
 pub(crate) mod reader;
@@ -8,23 +13,36 @@ mod segment;
 mod selector;
 mod slice;
 
-ghost use Rattle.std.specs.Prelude.{◌≡◌, ◌+◌, ◌-◌, ◌*◌, ◌^◌, ◌≤◌, max, true, length, IfErr};
-ghost use Rattle.serde_json_path_functions.specs.Functions.{builtin_signature};
+ghost use Rattle.std.specs.Prelude.{◌≡◌, ◌+◌, ◌-◌, ◌*◌, ◌^◌, ◌≤◌, max, true, length, IfOk, IfErr};
+ghost use Rattle.serde_json_path_functions.specs.Functions.{both, Fits};
+ghost use Rattle.serde_json_path_functions.specs.Patterns.{builtin_functions};
 ghost use Rattle.serde_json_path.specs.Errors.{kind_of, position_of, is_told_at_next};
 ghost use Rattle.serde_json_path.specs.Parse.{IsParseOf};
+ghost use Rattle.serde_json_path.specs.Paths.{path_signatures};
 
 use crate::error::{ParseError, Stop};
 use crate::parser::query::query;
 use crate::parser::reader::Reader;
 use crate::path::JsonPath;
 use crate::source::PathSource;
+use serde_json_path_core::functions::{Both, Builtin, Functions};
 use std::alloc::Global;
 
 /// Reads the path that a source tells, from left to right by its `byte` alone; the first refusal that is met is told.
 ///
+/// Filters call functions of the set, and the built-in ones behind them; the path fits these. A text of n bytes is looked at
+/// 32(n + 1) times at most, and where a root, a name, a selector or a closing bracket is missing, nothing beyond the byte
+/// that does not fit was looked at.
+///
 /// A text of `usize::MAX` bytes, whose end would have no position, is refused as `NoMemory` before any look.
-pub fn parse_source<S: PathSource>(alloc: Global, source: &mut S) -> Result<JsonPath, ParseError>
-    ensures parse { IsParseOf builtin_signature (S.told source.old).text result }
+pub fn parse_source<S: PathSource, F: Functions>(
+    alloc: Global,
+    source: &mut S,
+    functions: &F,
+) -> Result<JsonPath, ParseError>
+    ensures parse { IsParseOf (both (F.set functions.now) builtin_functions).signature (S.told source.old).text result }
+    // The signatures that the path keeps are those of the set, with the built-in ones behind them.
+    ensures fits { IfOk result (λ path. Fits (both (F.set functions.now) builtin_functions) (path_signatures path)) }
     // The source still tells its text.
     ensures same_text { (S.told source.new).text ≡ (S.told source.old).text }
     // However the parse ends, there are at most 32(n + 1) looks more at n bytes.
@@ -34,11 +52,28 @@ pub fn parse_source<S: PathSource>(alloc: Global, source: &mut S) -> Result<Json
         → (S.told source.new).farthest ≤ max (S.told source.old).farthest (position_of e + 1)) }
     ensures unseen { length (S.told source.old).text ≡ 2 ^ 64 - 1 → S.told source.new ≡ S.told source.old }
 {
+    parse_under(alloc, source, &Both(functions, Builtin))
+}
+
+/// Reads the path that a source tells, whose filters call functions of this set alone.
+pub(crate) fn parse_under<S: PathSource, F: Functions>(
+    alloc: Global,
+    source: &mut S,
+    functions: &F,
+) -> Result<JsonPath, ParseError>
+    ensures parse { IsParseOf (F.set functions.now).signature (S.told source.old).text result }
+    ensures fits { IfOk result (λ path. Fits (F.set functions.now) (path_signatures path)) }
+    ensures same_text { (S.told source.new).text ≡ (S.told source.old).text }
+    ensures looks { (S.told source.new).looks ≤ (S.told source.old).looks + 32 * (length (S.told source.old).text + 1) }
+    ensures farthest { IfErr result (λ e. is_told_at_next (kind_of e) ≡ true
+        → (S.told source.new).farthest ≤ max (S.told source.old).farthest (position_of e + 1)) }
+    ensures unseen { length (S.told source.old).text ≡ 2 ^ 64 - 1 → S.told source.new ≡ S.told source.old }
+{
     if source.len() == usize::MAX {
         return Err(Stop::Memory.in_text(0));
     }
     let mut reader = Reader::new(source);
-    let read = query(alloc, &mut reader);
+    let read = query(alloc, &mut reader, functions);
     let total = reader.len();
     reader.close();
     match read {

@@ -1,22 +1,23 @@
 //! Paths.
 
-ghost use Rattle.std.specs.Prelude.{◌≡◌, List, [], map, IfOk, IfErr};
+ghost use Rattle.std.specs.Prelude.{◌≡◌, List, map, IfOk, IfErr, IsTrue, ◌↔◌};
 ghost use Rattle.serde_json.specs.View.{view};
 ghost use Rattle.serde_json_path_nodes.specs.Place.{Located};
 ghost use Rattle.serde_json_path_nodes.specs.Views.{located_nodes, node_values};
+ghost use Rattle.serde_json_path_core.specs.Calls.{EachCall, GoesWithoutPattern, IsClear};
 ghost use Rattle.serde_json_path_core.specs.Tree.{query, root, no_segments};
-ghost use Rattle.serde_json_path_functions.specs.Functions.{FunctionSet, builtin_signature};
 ghost use Rattle.serde_json_path_core.specs.Meaning.{IsResult};
-ghost use Rattle.serde_json_path_core.specs.Parts.{signatures_of, tree_of};
+ghost use Rattle.serde_json_path_core.specs.Walks.{rest, query_of, set_of, document_of, beginning_of};
+ghost use Rattle.serde_json_path_functions.specs.Functions.{both, Fits};
+ghost use Rattle.serde_json_path_functions.specs.Patterns.{builtin_functions};
 ghost use Rattle.serde_json_path_functions.specs.declared.error.QueryError.TheVariants.{Memory};
-ghost use Rattle.serde_json_path.specs.Open.{IsOpen};
 
 use crate::error::ParseError;
-use crate::parser::parse_source;
+use crate::parser::{parse_source, parse_under};
 use crate::source::TextSource;
 use serde_json::Value;
-use serde_json_path_core::functions::Builtin;
-use serde_json_path_core::{Checked, QueryError, evaluate, evaluate_located};
+use serde_json_path_core::functions::{Both, Builtin, Functions};
+use serde_json_path_core::{Checked, QueryError, Walk, evaluate, evaluate_located, walk};
 use serde_json_path_nodes::{LocatedNodeList, NodeList};
 use std::alloc::Global;
 
@@ -31,65 +32,156 @@ use std::alloc::Global;
 #[derive(Drop)]
 pub struct JsonPath {
     pub(crate) checked: Checked,
-    ghost calls_nothing: { signatures_of checked ≡ [] },
-    ghost open_forms: { ∥ IsOpen (tree_of checked) ∥₁ },
 }
 
 impl JsonPath {
     ghost use Rattle.serde_json_path.specs.Parse.{IsParseOf};
-    ghost use Rattle.serde_json_path.specs.Paths.{path_tree};
+    ghost use Rattle.serde_json_path.specs.Paths.{path_tree, path_signatures};
 
     /// The path `$`, which selects the document itself. It takes no memory.
     pub fn new(alloc: Global) -> JsonPath
-        ensures { path_tree result ≡ query root no_segments }
+        ensures tree { path_tree result ≡ query root no_segments }
+        ensures fits { Fits builtin_functions (path_signatures result) }
     {
         JsonPath {
             checked: Checked::new(alloc),
         }
     }
 
-    /// Reads a path, as `parse_source` does.
+    /// Reads a path whose filters call the built-in functions, as `parse_source` does.
     pub fn parse(alloc: Global, path_str: &str) -> Result<JsonPath, ParseError>
-        ensures parse { IsParseOf builtin_signature path_str.now result }
+        ensures parse { IsParseOf builtin_functions.signature path_str.now result }
+        ensures fits { IfOk result (λ path. Fits builtin_functions (path_signatures path)) }
     {
         let mut source = TextSource::new(path_str);
-        parse_source(alloc, &mut source)
+        parse_under(alloc, &mut source, &Builtin)
     }
 
     /// Reads a path, as `parse` does. `std::str::FromStr` hands in no allocator.
     pub fn from_str(alloc: Global, path_str: &str) -> Result<JsonPath, ParseError>
-        ensures parse { IsParseOf builtin_signature path_str.now result }
+        ensures parse { IsParseOf builtin_functions.signature path_str.now result }
+        ensures fits { IfOk result (λ path. Fits builtin_functions (path_signatures path)) }
     {
         JsonPath::parse(alloc, path_str)
     }
 
-    /// What the path selects from a document, with locations, in order (RFC 9535, section 2.1.2).
+    /// Reads a path whose filters call functions of this set, and the built-in ones behind them: of two functions with one
+    /// name that of the set counts.
     ///
-    /// The nodes and the names of their locations borrow the document. An error comes only where memory is refused;
-    /// then there is no list.
+    /// ```text
+    /// let path = JsonPath::parse_with(alloc, "$[?first(@.*) == 4]", &functions)?;
+    /// let nodes = path.query_with(alloc, &document, &functions)?;
+    /// ```
+    pub fn parse_with<F: Functions>(
+        alloc: Global,
+        path_str: &str,
+        functions: &F,
+    ) -> Result<JsonPath, ParseError>
+        ensures parse { IsParseOf (both (F.set functions.now) builtin_functions).signature path_str.now result }
+        ensures fits { IfOk result (λ path. Fits (both (F.set functions.now) builtin_functions) (path_signatures path)) }
+    {
+        let mut source = TextSource::new(path_str);
+        parse_source(alloc, &mut source, functions)
+    }
+
+    /// Whether the set, with the built-in functions behind it, declares each function that the path calls, with the
+    /// signature that the path was read with (RFC 9535, section 2.4.3). Takes no memory.
+    pub fn fits<F: Functions>(&self, functions: &F) -> bool
+        ensures { IsTrue result ↔ Fits (both (F.set functions.now) builtin_functions) (path_signatures self.now) }
+    {
+        self.checked.fits(&Both(functions, Builtin))
+    }
+
+    /// What the path selects from a document, with locations, in order (RFC 9535, section 2.1.2), under the built-in
+    /// functions, which the path fits.
+    ///
+    /// The nodes and the names of their locations borrow the document. Where an error comes there is no list: `Pattern`
+    /// comes only where the path calls `match` or `search`; every other error is of memory.
     pub fn query_located<'b>(
         &self,
         alloc: Global,
         value: &'b Value,
     ) -> Result<LocatedNodeList<'b>, QueryError>
-        // Under every function set, as no path of the open forms calls a function.
-        ensures selects { IfOk result (λ list. (F : FunctionSet) → IsResult F (view value.now) (path_tree self.now) (view value.now) (located_nodes list)) }
-        ensures refused { IfErr result (λ e. e ≡ Memory) }
+        requires { Fits builtin_functions (path_signatures self.now) }
+        ensures selects { IfOk result (λ list. IsClear builtin_functions (path_tree self.now) (view value.now)
+            → IsResult builtin_functions (view value.now) (path_tree self.now) (view value.now) (located_nodes list)) }
+        ensures refused { IfErr result (λ e. EachCall (GoesWithoutPattern builtin_functions) (path_tree self.now) → e ≡ Memory) }
     {
         evaluate_located(alloc, &self.checked, value, value, Builtin)
     }
 
+    /// What the path selects from a document, with locations, in order, as `query_located` gives it, under this set with
+    /// the built-in functions behind it, which the path fits. Errors come as there.
+    pub fn query_located_with<'b, F: Functions>(
+        &self,
+        alloc: Global,
+        value: &'b Value,
+        functions: &F,
+    ) -> Result<LocatedNodeList<'b>, QueryError>
+        requires { Fits (both (F.set functions.now) builtin_functions) (path_signatures self.now) }
+        ensures selects { IfOk result (λ list. IsClear (both (F.set functions.now) builtin_functions) (path_tree self.now) (view value.now)
+            → IsResult (both (F.set functions.now) builtin_functions) (view value.now) (path_tree self.now) (view value.now) (located_nodes list)) }
+        ensures refused { IfErr result (λ e. EachCall (GoesWithoutPattern (both (F.set functions.now) builtin_functions)) (path_tree self.now) → e ≡ Memory) }
+    {
+        evaluate_located(alloc, &self.checked, value, value, Both(functions, Builtin))
+    }
+
     /// The values of what the path selects from a document, in order, as `query_located` gives them. No location is made.
+    /// Errors come as there.
     ///
     /// ```text
     /// let path = JsonPath::parse(alloc, "$..book[-1:].title")?;
     /// let last = path.query(alloc, &document)?.exactly_one();
     /// ```
     pub fn query<'b>(&self, alloc: Global, value: &'b Value) -> Result<NodeList<'b>, QueryError>
-        ensures selects { IfOk result (λ list. (F : FunctionSet)
-            → (nodes : List Located) × IsResult F (view value.now) (path_tree self.now) (view value.now) nodes × (node_values list ≡ map (λ n. n.value) nodes)) }
-        ensures refused { IfErr result (λ e. e ≡ Memory) }
+        requires { Fits builtin_functions (path_signatures self.now) }
+        ensures selects { IfOk result (λ list. IsClear builtin_functions (path_tree self.now) (view value.now)
+            → (nodes : List Located) × IsResult builtin_functions (view value.now) (path_tree self.now) (view value.now) nodes × (node_values list ≡ map (λ n. n.value) nodes)) }
+        ensures refused { IfErr result (λ e. EachCall (GoesWithoutPattern builtin_functions) (path_tree self.now) → e ≡ Memory) }
     {
         evaluate(alloc, &self.checked, value, value, Builtin)
+    }
+
+    /// The values of what the path selects from a document, in order, as `query` gives them, under this set with the
+    /// built-in functions behind it, which the path fits. Errors come as in `query_located`.
+    pub fn query_with<'b, F: Functions>(
+        &self,
+        alloc: Global,
+        value: &'b Value,
+        functions: &F,
+    ) -> Result<NodeList<'b>, QueryError>
+        requires { Fits (both (F.set functions.now) builtin_functions) (path_signatures self.now) }
+        ensures selects { IfOk result (λ list. IsClear (both (F.set functions.now) builtin_functions) (path_tree self.now) (view value.now)
+            → (nodes : List Located) × IsResult (both (F.set functions.now) builtin_functions) (view value.now) (path_tree self.now) (view value.now) nodes × (node_values list ≡ map (λ n. n.value) nodes)) }
+        ensures refused { IfErr result (λ e. EachCall (GoesWithoutPattern (both (F.set functions.now) builtin_functions)) (path_tree self.now) → e ≡ Memory) }
+    {
+        evaluate(alloc, &self.checked, value, value, Both(functions, Builtin))
+    }
+
+    /// A walk over what the path selects in a document, node by node, under this set with the built-in functions behind
+    /// it, which the path fits. There is no walk only where memory is refused; no function is called yet.
+    ///
+    /// ```text
+    /// let mut walk = path.walk(alloc, &document, &functions)?;
+    /// while let Some(node) = walk.next()? {
+    ///     println!(rt; "{}", node.location())?;
+    /// }
+    /// ```
+    pub fn walk<'q, 'b, F: Functions>(
+        &'q self,
+        alloc: Global,
+        value: &'b Value,
+        functions: &'q F,
+    ) -> Result<Walk<'q, 'b, Both<&'q F, Builtin>>, QueryError>
+        requires { Fits (both (F.set functions.now) builtin_functions) (path_signatures self.now) }
+        ensures selects { IfOk result (λ walk. IsClear (both (F.set functions.now) builtin_functions) (path_tree self.now) (view value.now)
+            → IsResult (both (F.set functions.now) builtin_functions) (view value.now) (path_tree self.now) (view value.now) (rest walk)) }
+        ensures query { IfOk result (λ walk. query_of walk ≡ path_tree self.now) }
+        ensures set { IfOk result (λ walk. set_of walk ≡ both (F.set functions.now) builtin_functions) }
+        ensures document { IfOk result (λ walk. document_of walk ≡ view value.now) }
+        ensures beginning { IfOk result (λ walk. beginning_of walk ≡ view value.now) }
+        ensures refused { IfErr result (λ e. e ≡ Memory) }
+    {
+        walk(alloc, &self.checked, value, value, Both(functions, Builtin))
     }
 }

@@ -55,6 +55,7 @@ impl<'t> TextSource<'t> {
     }
 
     /// Counts a look at the byte of that index which is not the next in order.
+    #[cold]
     #[inline(never)]
     fn look_elsewhere(&mut self, index: usize)
         requires { index < 2 ^ 64 - 1 }

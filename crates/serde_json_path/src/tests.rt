@@ -2,15 +2,25 @@
 
 mod blanks;
 mod bookstore;
+mod calls;
+mod comparisons;
 mod cuts;
 mod descendants;
+mod filter_refusals;
+mod filters;
 mod lists;
+mod literals;
 mod long_texts;
 mod messages;
 mod names;
+mod nesting;
 mod numbers;
+mod operators;
 mod paths;
 mod refusals;
 mod rows;
+mod sets;
 mod slices;
 mod strings;
+mod walks;
+mod words;

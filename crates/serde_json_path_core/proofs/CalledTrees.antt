@@ -1,26 +1,22 @@
 -- Trees that call some names, out of the parts that they are built of.
-use Rattle.std.proofs.Common.{◌≡◌, ◌≢◌, ◌≤◌, ◌⊎◌, ℕ, ◌+◌, max, List, [], ◌∷◌, ◌++◌, inl, inr, Bool, true, false, Option, Some, None, option_map, Result, Ok, Err, IfOk, bytes_eq, if◌then◌else◌, String, string_bytes, refl, sym, ap, subst, ◌∙◌, arith, true≢false}
-use Rattle.std.specs.Global.{Global}
+use Rattle.std.proofs.Common.{◌≡◌, ◌≢◌, ◌≤◌, ℕ, ◌+◌, max, List, [], ◌∷◌, ◌++◌, inl, inr, Option, Some, option_map, Result, Ok, Err, IfOk, refl, sym, ap, subst, ◌∙◌, arith}
 use Rattle.std.proofs.lemmas.List.{append-nil, map-append}
-use Rattle.std.proofs.lemmas.Option.{none-some}
-use Rattle.std.proofs.lemmas.Slice.Eq.{bytes_eq-Decides}
-use Rattle.serde_json_path_core.specs.Tree.{Query, query, root, no_segments, segment, child, long_hand, no_selectors, selector, filter, LogicalOr, no_or, or, no_and, and, Basic, Call, call, Arguments, query_argument, call_argument}
-use Rattle.serde_json_path_functions.specs.Functions.{Kind, of_value, of_nodes, of_logical, Signature}
-use Rattle.serde_json_path_functions.specs.Terms.{kind_view, signature_view}
+use Rattle.serde_json_path_core.specs.Tree.{QueryKind, Query, root, LogicalOr, no_or, or, no_and, and, Basic, Call, call, Arguments, query_argument, call_argument}
+use Rattle.serde_json_path_functions.specs.Functions.{Kind, of_value, of_nodes, of_logical, FunctionSet, Fits, Signature}
+use Rattle.serde_json_path_functions.specs.Terms.{kind_view}
 use Rattle.serde_json_path_functions.specs.declared.types.FunctionArgType.{FunctionArgType}
 use Rattle.serde_json_path_functions.specs.declared.types.FunctionArgType.TheVariants as kinds
-use Rattle.serde_json_path_core.specs.Typing.{IsTestKind, IsTypedOr, IsTypedBasic, IsTypedCall, AreTypedArguments, IsTypedArgument, result_kind}
+use Rattle.serde_json_path_core.specs.Typing.{IsTestKind, IsTyped, IsTypedOr, IsTypedBasic, IsTypedCall, AreTypedArguments, IsTypedArgument, result_kind}
 use Rattle.serde_json_path_core.specs.Depth.{depth, or_depth, basic_depth, call_depth, arguments_depth}
 use Rattle.serde_json_path_core.specs.Derivation.{IsIn}
 use Rattle.serde_json_path_core.specs.Parts.{KeepsParts}
-use Rattle.serde_json_path_core.specs.Used.{signature_in, used_view, MayFinish}
+use Rattle.serde_json_path_core.specs.Used.{signature_in, AreCalled, MayFinish}
 use Rattle.serde_json_path_core.specs.CallFree.{IsCallFree}
 use Rattle.serde_json_path_core.specs.CalledNames.{called_names, called_in_or, called_in_basic, called_from, called_in_arguments}
-use Rattle.serde_json_path_core.specs.Called.{names_in, IsMade, AreUsed, AddsUse}
-use Rattle.serde_json_path_functions.specs.declared.signature.Signature as declared
+use Rattle.serde_json_path_core.specs.Called.{names_in, HasEach, IsMade, filter_query}
 use Rattle.serde_json_path_core.specs.declared.syntax.builder.SyntaxBuilder.{SyntaxBuilder}
-use Rattle.serde_json_path_core.proofs.InLists.{in_append, in_map, in_order-append}
-use Rattle.serde_json_path_core.proofs.CalledNames.{each_named, calls_named, no_names}
+use Rattle.serde_json_path_core.proofs.InLists.{in_append}
+use Rattle.serde_json_path_core.proofs.CalledNames.{each_named, no_names}
 
 -- ---- what is made of one part, or of two
 
@@ -118,96 +114,26 @@ module _ (b c : Basic) (xs ys calls : List (List ℕ × Signature)) (m n deep : 
       made_of_both (λ signature. IsTypedBasic signature b × Unit {0}) (λ signature. (IsTypedBasic signature c × Unit {0}) × Unit {0})
       (called_in_basic b ++ []) ((called_in_basic c ++ []) ++ []) (max (basic_depth b) 0) (max (max (basic_depth c) 0) 0) xs ys calls m n deep e le below first (alone_made c ys n other)
 
--- ---- the signatures of the names, each once
+-- ---- the query `$[?..]` or `@[?..]` of an expression
 
--- a name that has a signature is in the list, and each in the list has one
-found_in : (used : List (List ℕ × Signature)) (f : List ℕ) (s : Signature) → signature_in used f ≡ Some s → IsIn f (names_in used)
-found_in [] f s e = absurd (none-some s e)
-found_in (first ∷ more) f s e = by (bytes_eq first.0 f) refl e (found_in more f s)
-  where
-    by : (b : Bool) → bytes_eq first.0 f ≡ b → (if b then Some first.1 else signature_in more f) ≡ Some s → (signature_in more f ≡ Some s → IsIn f (names_in more)) → IsIn f (names_in (first ∷ more))
-    by true same e later = inl (sym ((bytes_eq-Decides first.0 f).0 same))
-    by false other e later = inr (later e)
+-- a set that declares the calls has each of them
+declared_calls : (F : FunctionSet) (calls : List (List ℕ × Signature)) → Fits F calls → HasEach F.signature calls
+declared_calls F [] h u i = absurd i
+declared_calls F (c ∷ calls) h u (inl e) = subst (λ (v : List ℕ × Signature). F.signature v.0 ≡ Some v.1) (sym e) h.0
+declared_calls F (c ∷ calls) h u (inr i) = declared_calls F calls h.1 u i
 
--- a name that has none is not in the list
-not_found_in : (used : List (List ℕ × Signature)) (f : List ℕ) (u : List ℕ × Signature) → signature_in used f ≡ None → IsIn u used → u.0 ≢ f
-not_found_in [] f u e i same = absurd i
-not_found_in (first ∷ more) f u e i same = by (bytes_eq first.0 f) refl e (λ k j. not_found_in more f u k j same) i
-  where
-    by : (b : Bool) → bytes_eq first.0 f ≡ b → (if b then Some first.1 else signature_in more f) ≡ None → (signature_in more f ≡ None → IsIn u more → ⊥) → (u ≡ first) ⊎ IsIn u more → ⊥
-    by true known e later i = none-some first.1 (sym e)
-    by false other e later (inl is) = true≢false (sym ((bytes_eq-Decides first.0 f).1 (ap (λ (v : List ℕ × Signature). v.0) (sym is) ∙ same)) ∙ other)
-    by false other e later (inr i) = later e i
+-- it is well-typed under the signatures of a set that declares the calls
+pub filter_query_typed : (F : FunctionSet) (kind : QueryKind) (e : LogicalOr) (calls : List (List ℕ × Signature)) (deep : ℕ) → Fits F calls
+    → IsMade (λ signature. IsTypedOr signature e) (called_in_or e) (or_depth e) calls deep → IsTyped F.signature (filter_query kind e)
+filter_query_typed F kind e calls deep h a = ((a.0 F.signature (declared_calls F calls h), tt), tt)
 
--- one more at the end keeps what is known
-known_stays : (used : List (List ℕ × Signature)) (last : List ℕ × Signature) (f : List ℕ) (s : Signature) → signature_in used f ≡ Some s → signature_in (used ++ last ∷ []) f ≡ Some s
-known_stays [] last f s e = absurd (none-some s e)
-known_stays (first ∷ more) last f s e = by (bytes_eq first.0 f) e (known_stays more last f s)
-  where
-    by : (b : Bool) → (if b then Some first.1 else signature_in more f) ≡ Some s → (signature_in more f ≡ Some s → signature_in (more ++ last ∷ []) f ≡ Some s)
-        → (if b then Some first.1 else signature_in (more ++ last ∷ []) f) ≡ Some s
-    by true e later = e
-    by false e later = later e
+-- it is made as the expression is, one deeper
+pub filter_query_made : (kind : QueryKind) (e : LogicalOr) (calls : List (List ℕ × Signature)) (deep more : ℕ) → more ≡ deep + 1 → IsMade (λ signature. IsTypedOr signature e) (called_in_or e) (or_depth e) calls deep
+    → IsMade (λ signature. IsTyped signature (filter_query kind e)) (called_names (filter_query kind e)) (depth (filter_query kind e)) calls more
+filter_query_made kind e calls deep more one a =
+    (λ signature h. ((a.0 signature h, tt), tt), append-nil (called_in_or e ++ []) ∙ append-nil (called_in_or e) ∙ a.1, (let inner = a.2 in omega arith))
 
-last_known : (used : List (List ℕ × Signature)) (f : List ℕ) (s : Signature) → signature_in used f ≡ None → signature_in (used ++ (f, s) ∷ []) f ≡ Some s
-last_known [] f s e = ap (λ b. if b then Some s else None) ((bytes_eq-Decides f f).1 refl)
-last_known (first ∷ more) f s e = by (bytes_eq first.0 f) e (last_known more f s)
-  where
-    by : (b : Bool) → (if b then Some first.1 else signature_in more f) ≡ None → (signature_in more f ≡ None → signature_in (more ++ (f, s) ∷ []) f ≡ Some s)
-        → (if b then Some first.1 else signature_in (more ++ (f, s) ∷ []) f) ≡ Some s
-    by true e later = absurd (none-some first.1 (sym e))
-    by false e later = later e
-
--- one call more, whose name has its signature already
-pub used_again : (used : List (List ℕ × Signature)) (f : List ℕ) (s : Signature) → signature_in used f ≡ Some s → AddsUse used used f s
-used_again used f s e calls h = (
-  h.0,
-  λ u i. elim ((in_append u calls ((f, s) ∷ [])).0 i) [ inl k ↦ h.1 u k | inr k ↦ elim k [ inl is ↦ subst (λ (v : List ℕ × Signature). signature_in used v.0 ≡ Some v.1) (sym is) e | inr none ↦ absurd none ] ],
-  λ u i. subst (IsIn u.0) (sym (map-append (λ (v : List ℕ × Signature). v.0) calls ((f, s) ∷ []))) ((in_append u.0 (names_in calls) (f ∷ [])).1 (inl (h.2 u i))),
-)
-
--- one call more, whose name is new
-used_anew : (used : List (List ℕ × Signature)) (f : List ℕ) (s : Signature) → signature_in used f ≡ None → AddsUse used (used ++ (f, s) ∷ []) f s
-used_anew used f s e calls h = (
-  in_order-append (λ (a b : List ℕ × Signature). a.0 ≢ b.0) used ((f, s) ∷ []) h.0 (λ y i. absurd i, tt)
-      (λ x y i k same. elim k [ inl is ↦ not_found_in used f x e i (same ∙ ap (λ (v : List ℕ × Signature). v.0) is) | inr none ↦ absurd none ]),
-  λ u i. elim ((in_append u calls ((f, s) ∷ [])).0 i) [
-    | inl k ↦ known_stays used (f, s) u.0 u.1 (h.1 u k)
-    | inr k ↦ elim k [ inl is ↦ subst (λ (v : List ℕ × Signature). signature_in (used ++ (f, s) ∷ []) v.0 ≡ Some v.1) (sym is) (last_known used f s e) | inr none ↦ absurd none ]
-  ],
-  λ u i. subst (IsIn u.0) (sym (map-append (λ (v : List ℕ × Signature). v.0) calls ((f, s) ∷ [])))
-      (elim ((in_append u used ((f, s) ∷ [])).0 i) [
-        | inl k ↦ (in_append u.0 (names_in calls) (f ∷ [])).1 (inl (h.2 u k))
-        | inr k ↦ elim k [ inl is ↦ (in_append u.0 (names_in calls) (f ∷ [])).1 (inr (inl (ap (λ (v : List ℕ × Signature). v.0) is))) | inr none ↦ absurd none ]
-      ]),
-)
-
-pub used_pushed : (old all : List (String Global × declared.Signature)) (name : String Global) (s : declared.Signature) (f : List ℕ) → all ≡ old ++ (name, s) ∷ [] → string_bytes name ≡ f
-    → signature_in (used_view old) f ≡ None → AddsUse (used_view old) (used_view all) f (signature_view s)
-used_pushed old all name s f e same none calls h =
-    let pushed = ap used_view e ∙ map-append (λ (u : String Global × declared.Signature). (string_bytes u.0, signature_view u.1)) old ((name, s) ∷ []) ∙ ap (λ (g : List ℕ). used_view old ++ (g, signature_view s) ∷ []) same in
-    subst (λ (us : List (List ℕ × Signature)). AreUsed us (calls ++ (f, signature_view s) ∷ [])) (sym pushed) (used_anew (used_view old) f (signature_view s) none calls h)
-
--- ---- the query `$[?..]` of an expression
-
-abbrev pub filter_query : LogicalOr → Query
-filter_query e = query root (segment child (long_hand (selector (filter e) no_selectors)) no_segments)
-
-pub filter_query_finishes : (e : LogicalOr) (used calls : List (List ℕ × Signature)) (deep : ℕ) → deep + 1 ≤ 128 → AreUsed used calls
-    → IsMade (λ signature. IsTypedOr signature e) (called_in_or e) (or_depth e) calls deep → MayFinish used (filter_query e)
-filter_query_finishes e used calls deep shallow h a = (
-  refl,
-  ((a.0 (signature_in used) h.1, tt), tt),
-  (let inner = a.2 in omega arith),
-  (
-    h.0,
-    λ f. (
-      λ i. let u = (in_map (λ (v : List ℕ × Signature). v.0) f used).0 i in (calls_named (filter_query e) f).1 (subst (IsIn f) (sym names) (subst (λ g. IsIn g (names_in calls)) (sym u.2) (h.2 u.0 u.1))),
-      λ makes. let u = (in_map (λ (v : List ℕ × Signature). v.0) f calls).0 (subst (IsIn f) names ((calls_named (filter_query e) f).0 makes)) in
-          subst (λ g. IsIn g (names_in used)) (sym u.2) (found_in used u.0.0 u.0.1 (h.1 u.0 u.1)),
-    ),
-  ),
-)
-  where
-    names : called_names (filter_query e) ≡ names_in calls
-    names = append-nil (called_in_or e ++ []) ∙ append-nil (called_in_or e) ∙ a.1
+-- from the root it may be finished with the signatures of the names that it calls
+pub filter_query_finishes : (e : LogicalOr) (used calls : List (List ℕ × Signature)) (deep : ℕ) → deep + 1 ≤ 128 → IsMade (λ signature. IsTypedOr signature e) (called_in_or e) (or_depth e) calls deep
+    → IsTyped (signature_in used) (filter_query root e) → AreCalled used (filter_query root e) → MayFinish used (filter_query root e)
+filter_query_finishes e used calls deep shallow a typed called = (refl, typed, (let inner = a.2 in omega arith), called)

@@ -8,6 +8,7 @@ pub mod Chains
 pub mod ChildSteps
 pub mod Comparisons
 pub mod Courses
+pub mod DeclaredNames
 pub mod Derived
 pub mod Descents
 pub mod EachCalls
@@ -26,12 +27,15 @@ pub mod MoreSignatures
 pub mod Moves
 pub mod NamedParts
 pub mod Negations
+pub mod NotedNames
+pub mod Noting
 pub mod OfValue
 pub mod Order
 pub mod OtherNodes
 pub mod Rests
 pub mod Seen
 pub mod Singular
+pub mod SingularParts
 pub mod SlicePositions
 pub mod SoundParts
 pub mod Stacks
@@ -41,7 +45,9 @@ pub mod Started
 pub mod Subtrees
 pub mod Tasks
 pub mod Turns
+pub mod TypedByNames
 pub mod Typings
+pub mod UsedNames
 pub mod WholeQueries
 mod Worked
 pub mod Written

@@ -1,5 +1,6 @@
 -- Well-typedness is decided, so that it can be recovered from its truncation.
-use Rattle.std.proofs.Common.{◌≡◌, ℕ, ℤ, pos, negsuc, neg_ℤ, ◌%◌, ◌==◌, unsigned_abs, int_div, int_rem, List, [], ◌∷◌, Option, Some, None, Bool, true, false, ◌&&◌, ◌||◌, Decides, refl, sym, ap, subst, ◌∙◌, true≢false, arith}
+use Rattle.std.proofs.Common.{◌≡◌, ◌<◌, ℕ, zero, suc, ℤ, pos, negsuc, neg_ℤ, of_z, nat_eq, ◌%◌, ◌==◌, unsigned_abs, int_div, int_rem, List, [], ◌∷◌, Option, Some, None, Bool, true, false, ◌&&◌, ◌||◌, Decides, refl, sym, ap, subst, ◌∙◌, true≢false, arith}
+use Rattle.std.specs.Int.{w128}
 use Rattle.std.proofs.Math.Bool.{Bool-set}
 use Rattle.std.proofs.Math.Logic.{∥∥₁_elim}
 use Rattle.std.proofs.Math.Nat.{mul-mod_left}
@@ -85,6 +86,16 @@ Decides-whole_amount amount =
     (λ e. let rest = no_rest amount e in let split = quot-rem amount (pos 1000000000) in (int_div amount (pos 1000000000), omega (arith, ints)))
     (λ h. ap (λ a. unsigned_abs a % 1000000000) h.1 ∙ ap (λ n. n % 1000000000) (unsigned_abs-mul h.0 (pos 1000000000)) ∙ mul-mod_left (unsigned_abs h.0) 1000000000)
     (Decides-eqb (unsigned_abs amount % 1000000000) 0)
+
+-- the same by the bits of the remainder
+bits_of_negated : (n : ℕ) → n < 1000000000 → nat_eq (of_z w128 (neg_ℤ (pos n))) 0 ≡ (n == 0)
+bits_of_negated zero below = refl
+bits_of_negated (suc n) below = grind (arith, below)
+
+pub whole_by_bits : (amount : ℤ) → Decides (nat_eq (of_z w128 (int_rem amount (pos 1000000000))) 0) (IsValueLiteral (number amount))
+whole_by_bits (pos n) = Decides-whole_amount (pos n)
+whole_by_bits (negsuc n) =
+    subst (λ b. Decides b (IsValueLiteral (number (negsuc n)))) (sym (bits_of_negated (suc n % 1000000000) (omega arith))) (Decides-whole_amount (negsuc n))
 
 abbrev value_literal : Literal → Bool
 value_literal (number amount) = whole_amount amount

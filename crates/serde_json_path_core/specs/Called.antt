@@ -1,13 +1,12 @@
 -- Trees that are handed on with their calls: the names that they call, each with its signature, in order, each as often
 -- as it is called.
-use Rattle.std.specs.Prelude.{◌≡◌, ◌≢◌, ◌≤◌, ℕ, List, [], ◌∷◌, ◌++◌, map, Option, Some}
-use Rattle.serde_json_path_core.specs.Tree.{LogicalOr, Basic, Comparable, Call, Arguments, Argument}
+use Rattle.std.specs.Prelude.{◌≡◌, ◌≤◌, ℕ, List, map, Option, Some}
+use Rattle.serde_json_path_core.specs.Tree.{QueryKind, Query, query, no_segments, segment, child, long_hand, no_selectors, selector, filter, LogicalOr, Basic, Comparable, Call, Arguments, Argument}
 use Rattle.serde_json_path_functions.specs.Functions.{Kind, Signature}
 use Rattle.serde_json_path_core.specs.Typing.{IsTypedOr, IsTypedBasic, IsTypedComparable, IsTypedCall, AreTypedArguments, IsTypedArgument, result_kind}
 use Rattle.serde_json_path_core.specs.Depth.{or_depth, basic_depth, comparable_depth, call_depth, arguments_depth, argument_depth}
 use Rattle.serde_json_path_core.specs.CalledNames.{called_in_or, called_in_basic, called_in_comparable, called_from, called_in_arguments, called_in_argument}
-use Rattle.serde_json_path_core.specs.Derivation.{IsIn, IsInOrder}
-use Rattle.serde_json_path_core.specs.Used.{signature_in}
+use Rattle.serde_json_path_core.specs.Derivation.{IsIn}
 use Rattle.serde_json_path_core.specs.Piece.{an_or, a_basic, a_comparable, a_call, an_argument}
 use Rattle.serde_json_path_core.specs.Parts.{IsPart, AreArgumentsOf}
 use Rattle.serde_json_path_core.specs.declared.syntax.node.Part.{Part}
@@ -53,13 +52,6 @@ abbrev pub IsMadeOr : SyntaxBuilder → Part → List (List ℕ × Signature) �
 IsMadeOr builder part calls deep =
     (e : LogicalOr) × IsPart builder part (an_or e) × IsMade (λ signature. IsTypedOr signature e) (called_in_or e) (or_depth e) calls deep
 
--- the names of the calls, each once, with their signatures
-abbrev pub AreUsed : List (List ℕ × Signature) → List (List ℕ × Signature) → Type 0
-AreUsed used calls =
-    IsInOrder (λ (a b : List ℕ × Signature). a.0 ≢ b.0) used
-    × HasEach (signature_in used) calls
-    × ((u : List ℕ × Signature) → IsIn u used → IsIn u.0 (names_in calls))
-
--- one call more makes these names of those
-abbrev pub AddsUse : List (List ℕ × Signature) → List (List ℕ × Signature) → List ℕ → Signature → Type 0
-AddsUse used all f s = (calls : List (List ℕ × Signature)) → AreUsed used calls → AreUsed all (calls ++ (f, s) ∷ [])
+-- the query `$[?..]` or `@[?..]` of an expression
+abbrev pub filter_query : QueryKind → LogicalOr → Query
+filter_query kind e = query kind (segment child (long_hand (selector (filter e) no_selectors)) no_segments)

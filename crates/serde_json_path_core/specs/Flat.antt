@@ -20,6 +20,8 @@ use Rattle.serde_json_path_core.specs.declared.syntax.node.Comparable as compara
 use Rattle.serde_json_path_core.specs.declared.syntax.node.Comparable.TheVariants as side
 use Rattle.serde_json_path_core.specs.declared.syntax.node.Argument as given
 use Rattle.serde_json_path_core.specs.declared.syntax.node.Argument.TheVariants as given_as
+use Rattle.serde_json_path_core.specs.declared.syntax.node.Joined.{Joined}
+use Rattle.serde_json_path_core.specs.declared.syntax.node.Joined.TheVariants.{One, Listed}
 use Rattle.serde_json_path_core.specs.declared.syntax.node.Part.{Part}
 use Rattle.serde_json_path_core.specs.declared.syntax.node.QueryKind as kind
 use Rattle.serde_json_path_core.specs.declared.syntax.node.QueryKind.TheVariants.{Root, Current}
@@ -151,13 +153,18 @@ argument_of earlier (given_as.Query part) = query_argument (query_in (piece_in e
 argument_of earlier (given_as.Call part) = call_argument (call_in (piece_in earlier part.number))
 argument_of earlier (given_as.Logical part) = logical_argument (or_in (piece_in earlier part.number))
 
+-- the parts that are joined
+abbrev pub joined_parts : Joined → List Part
+joined_parts (One part) = part ∷ []
+joined_parts (Listed parts) = parts.items
+
 -- the piece that a node makes of earlier ones
 abbrev pub piece_of : List Piece → Node → Piece
 piece_of earlier (node.Query start parts) = a_query (query (kind_view start) (segments_in (pieces_named earlier parts.items)))
 piece_of earlier (node.Segment kind seg) = a_segment (segment_kind_view kind) (segment_of earlier seg)
 piece_of earlier (node.Selector sel) = a_selector (selector_of earlier sel)
-piece_of earlier (node.LogicalOr parts) = an_or (ors_in (pieces_named earlier parts.items))
-piece_of earlier (node.LogicalAnd parts) = an_and (ands_in (pieces_named earlier parts.items))
+piece_of earlier (node.LogicalOr parts) = an_or (ors_in (pieces_named earlier (joined_parts parts)))
+piece_of earlier (node.LogicalAnd parts) = an_and (ands_in (pieces_named earlier (joined_parts parts)))
 piece_of earlier (node.Basic b) = a_basic (basic_of earlier b)
 piece_of earlier (node.Comparable c) = a_comparable (comparable_of earlier c)
 piece_of earlier (node.Call k parts) = a_call (call (string_bytes k) (arguments_in (pieces_named earlier parts.items)))
@@ -247,8 +254,8 @@ abbrev pub numbers_of : Node → List ℕ
 numbers_of (node.Query start parts) = numbers parts.items
 numbers_of (node.Segment kind seg) = segment_numbers seg
 numbers_of (node.Selector sel) = selector_numbers sel
-numbers_of (node.LogicalOr parts) = numbers parts.items
-numbers_of (node.LogicalAnd parts) = numbers parts.items
+numbers_of (node.LogicalOr parts) = numbers (joined_parts parts)
+numbers_of (node.LogicalAnd parts) = numbers (joined_parts parts)
 numbers_of (node.Basic b) = basic_numbers b
 numbers_of (node.Comparable c) = comparable_numbers c
 numbers_of (node.Call k parts) = numbers parts.items

@@ -19,6 +19,7 @@ pub mod Literals
 pub mod Flat
 pub mod PartBounds
 pub mod Parts
+pub mod Noted
 pub mod Selected
 pub mod Computed
 pub mod Views

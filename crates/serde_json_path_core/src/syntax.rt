@@ -6,4 +6,7 @@ pub(crate) mod choice;
 pub(crate) mod literal;
 pub(crate) mod node;
 pub(crate) mod operator;
+pub(crate) mod reading;
+pub(crate) mod signatures;
+pub(crate) mod singular;
 pub(crate) mod slice;

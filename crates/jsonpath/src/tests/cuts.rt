@@ -1,6 +1,7 @@
 //! Documents that are cut at each byte.
 
 use crate::report::{DocumentError, ReportError, report};
+use crate::tests::reports::{BOOKSTORE, READINGS};
 use std::alloc::Global;
 use std::process::Abort;
 use std::test::Fail;
@@ -27,19 +28,8 @@ const DOCUMENTS: &[&str] = &[
     r#"[{"a":1},{"a":{"a":1}}]"#,
     r#"[{"a":1,"b":2},{"a":1,"b":1},{"b":3}]"#,
     r#"[{},{"x":1}]"#,
-    concat!(
-        r#"{"threshold":40,"readings":[{"val":35,"msg":"foo"},{"val":40,"msg":"bar"},"#,
-        r#"{"val":42,"msg":"biz"},{"val":48,"msg":"bop"}]}"#
-    ),
-    concat!(
-        r#"{"store":{"book":[{"category":"reference","author":"Nigel Rees","#,
-        r#""title":"Sayings of the Century","price":8.95},"#,
-        r#"{"category":"fiction","author":"Evelyn Waugh","title":"Sword of Honour","price":12.99},"#,
-        r#"{"category":"fiction","author":"Herman Melville","title":"Moby Dick","#,
-        r#""isbn":"0-553-21311-3","price":8.99},"#,
-        r#"{"category":"fiction","author":"J. R. R. Tolkien","title":"The Lord of the Rings","#,
-        r#""isbn":"0-395-19395-8","price":22.99}],"bicycle":{"color":"red","price":399}}}"#
-    ),
+    READINGS,
+    BOOKSTORE,
 ];
 
 /// Whether a text is one line.

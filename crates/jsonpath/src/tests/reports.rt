@@ -5,6 +5,23 @@ use std::alloc::{AllocError, Global};
 use std::process::Abort;
 use std::test::Fail;
 
+/// The bookstore of RFC 9535, section 1.5.
+pub(crate) const BOOKSTORE: &str = concat!(
+    r#"{"store":{"book":[{"category":"reference","author":"Nigel Rees","#,
+    r#""title":"Sayings of the Century","price":8.95},"#,
+    r#"{"category":"fiction","author":"Evelyn Waugh","title":"Sword of Honour","price":12.99},"#,
+    r#"{"category":"fiction","author":"Herman Melville","title":"Moby Dick","#,
+    r#""isbn":"0-553-21311-3","price":8.99},"#,
+    r#"{"category":"fiction","author":"J. R. R. Tolkien","title":"The Lord of the Rings","#,
+    r#""isbn":"0-395-19395-8","price":22.99}],"bicycle":{"color":"red","price":399}}}"#
+);
+
+/// Readings with messages, and a threshold.
+pub(crate) const READINGS: &str = concat!(
+    r#"{"threshold":40,"readings":[{"val":35,"msg":"foo"},{"val":40,"msg":"bar"},"#,
+    r#"{"val":42,"msg":"biz"},{"val":48,"msg":"bop"}]}"#
+);
+
 /// A path, a document, and the lines that are made of them.
 const LINES: &[(&str, &str, &str)] = &[
     ("$", "null", "$\tnull\n"),
@@ -22,6 +39,36 @@ const LINES: &[(&str, &str, &str)] = &[
         "$..baz",
         r#"{"foo":{"bar":{"baz":1},"baz":2},"baz":3}"#,
         "$['baz']\t3\n$['foo']['baz']\t2\n$['foo']['bar']['baz']\t1\n",
+    ),
+    (
+        "$[?@.a == @.b]",
+        r#"[{},{"a":1},{"a":1,"b":1}]"#,
+        "$[0]\t{}\n$[2]\t{\"a\":1,\"b\":1}\n",
+    ),
+    (
+        "$[?@.a[?@ > $.min]]",
+        r#"{"min":3,"x":{"a":[1,5]},"y":{"a":[2]}}"#,
+        "$['x']\t{\"a\":[1,5]}\n",
+    ),
+    (
+        "$.readings[? @.val > $.threshold ].msg",
+        READINGS,
+        "$['readings'][2]['msg']\t\"biz\"\n$['readings'][3]['msg']\t\"bop\"\n",
+    ),
+    (
+        "$..[?@.price < 399.5]",
+        BOOKSTORE,
+        "$['store']['bicycle']\t{\"color\":\"red\",\"price\":399}\n",
+    ),
+    (
+        "$.store.book[?@.price < 399.5 && match(@.author, '.*e.*')].title",
+        BOOKSTORE,
+        "",
+    ),
+    (
+        "$.store.book[?@.category == 'fiction' && match(@.author, '.*Mel.*')].title",
+        BOOKSTORE,
+        "$['store']['book'][2]['title']\t\"Moby Dick\"\n",
     ),
 ];
 
@@ -46,6 +93,16 @@ const TOLD: &[(&str, &[u8], &str)] = &[
     ("$", b"1 2", "not JSON"),
     ("$", b"\xff", "not JSON"),
     ("$.a", b"{", "not JSON"),
+    (
+        "$[?length(@.author)]",
+        b"{",
+        "at position 4, in long-hand segment, function with incorrect return type used",
+    ),
+    (
+        "$[?first(@.*) == 4]",
+        b"{",
+        "at position 4, in long-hand segment, undefined function",
+    ),
 ];
 
 /// Holds a path and a document to what is told of their refusal.

@@ -1,6 +1,7 @@
 //! Characters out of bytes.
 
-ghost use Rattle.std.specs.Prelude.{◌≡◌, ◌<◌, ◌≤◌, ◌+◌, ◌-◌, ◌%◌, ◌^◌, length, slice_index, slice_get, drop, Some};
+ghost use Rattle.std.specs.Prelude.{◌≡◌, ◌<◌, ◌≤◌, ◌+◌, ◌-◌, ◌%◌, ◌^◌, length, slice_index, slice_get, drop, Some, None};
+ghost use Rattle.std.specs.Option.{ForSome};
 ghost use Rattle.std.specs.Str.{IsUtf8};
 ghost use Rattle.std.specs.Str.Pattern.{StartsWithChar};
 ghost use Rattle.std.specs.Char.{IsScalar};
@@ -8,16 +9,27 @@ ghost use Rattle.serde_json_path.specs.Looking.{LooksOn, up_to};
 
 use crate::source::PathSource;
 
+/// The byte of that index, if it is below a limit.
+pub(crate) fn byte_below<S: PathSource>(source: &mut S, index: usize, limit: usize) -> Option<u8>
+    requires { limit ≤ length (S.told source.old).text }
+    ensures some { ForSome result (λ b. (index < limit) × (slice_get (S.told source.old).text index ≡ Some b)) }
+    ensures none { result ≡ None → limit ≤ index }
+    ensures looks { LooksOn (S.told source.old) (S.told source.new) (up_to index result - index) (up_to index result) }
+{
+    if index < limit {
+        Some(source.byte(index))
+    } else {
+        None
+    }
+}
+
 /// The byte of that index, unless the text ends there.
 pub(crate) fn byte_at<S: PathSource>(source: &mut S, index: usize) -> Option<u8>
     ensures value { result ≡ slice_get (S.told source.old).text index }
     ensures looks { LooksOn (S.told source.old) (S.told source.new) (up_to index result - index) (up_to index result) }
 {
-    if index < source.len() {
-        Some(source.byte(index))
-    } else {
-        None
-    }
+    let end = source.len();
+    byte_below(source, index, end)
 }
 
 /// The six low bits of a byte.

@@ -4,4 +4,6 @@ mod decimal;
 pub(crate) mod int;
 pub(crate) mod name;
 pub(crate) mod number;
+pub(crate) mod operator;
 pub(crate) mod string;
+pub(crate) mod word;

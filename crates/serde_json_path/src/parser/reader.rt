@@ -1,30 +1,37 @@
 //! A text that is read character by character, and each byte looked at once.
 
-ghost use Rattle.std.specs.Prelude.{◌≡◌, ◌==◌, ◌<◌, ◌≤◌, ◌+◌, ◌-◌, ◌^◌, ◌∷◌, ℕ, length, slice_get, drop, true, max, IfOk, string_bytes, ◌++◌};
+ghost use Rattle.std.specs.Prelude.{◌≡◌, ◌==◌, ◌<◌, ◌≤◌, ◌+◌, ◌-◌, ◌^◌, ◌∷◌, ℕ, length, slice_get, drop, true, max, None, IfOk, string_bytes, ◌++◌};
 ghost use Rattle.std.specs.Str.{is_utf8, chars, encode_utf8_all as encoded};
 ghost use Rattle.std.specs.Char.{IsScalar};
-ghost use Rattle.serde_json_path.specs.Lexical.{begins, is_blank, is_digit, is_name_first, is_name_char};
-ghost use Rattle.serde_json_path.specs.Ahead.{IsAhead};
+ghost use Rattle.serde_json_path.specs.Lexical.{begins, begins_both, is_blank, is_digit, is_name_first, is_name_char, is_small_letter, is_function_char};
+ghost use Rattle.serde_json_path.specs.Ahead.{is_ascii, limit_of, IsAhead, IsSecond};
 ghost use Rattle.serde_json_path.specs.Looking.{up_to};
 ghost use Rattle.serde_json_path.specs.Parsed.{front, behind};
 ghost use Rattle.serde_json_path.specs.Numbers.{is_exponent};
 ghost use Rattle.serde_json_path.specs.Strings.{is_hexadecimal, is_letter_escape, is_control, is_inside};
 
 use crate::error::{ParseErrorKind, Place, Refusal, Stop};
-use crate::parser::decode::{byte_at, wide_character_at};
+use crate::parser::decode::{byte_at, byte_below, wide_character_at};
+use crate::parser::name_part::push_name_part;
 use crate::source::PathSource;
 use std::alloc::AllocError;
 
-/// A text with one byte of look-ahead. A character is decoded only when it is taken, so that no byte beyond the next
-/// one is looked at.
+/// A text with one byte of look-ahead, and with a second one where the next may be the first of two that are asked for. A
+/// character is decoded only when it is taken, so that no byte beyond these is looked at.
 pub(crate) struct Reader<'s, S: PathSource> {
     pub(crate) source: &'s mut S,
     index: usize,
     next: Option<u8>,
+    /// The byte behind the next one, where it was looked at.
+    second: Option<Option<u8>>,
+    /// Below this index a byte may be looked at: the text's length, or 0 while `second` is known.
+    limit: usize,
     ghost short: { length (S.told source.now).text < 2 ^ 64 - 1 },
     ghost within: { index ≤ length (S.told source.now).text },
     ghost utf8: { is_utf8 (drop index (S.told source.now).text) ≡ true },
     ghost next_is: { next ≡ slice_get (S.told source.now).text index },
+    ghost second_is: { IsSecond second next (slice_get (S.told source.now).text (index + 1)) },
+    ghost limit_is: { limit ≡ limit_of second (length (S.told source.now).text) },
 }
 
 impl<'s, S: PathSource> Reader<'s, S> {
@@ -32,6 +39,7 @@ impl<'s, S: PathSource> Reader<'s, S> {
     ghost use Rattle.serde_json_path.specs.Parsed.{refusal, past_blanks};
     ghost use Rattle.serde_json_path.specs.Parsing.{is_first_digit, begins_int, opens};
     ghost use Rattle.serde_json_path.specs.Reading.{told, left, seen, Moves};
+    ghost use Rattle.serde_json_path.specs.Filters.{ends_argument};
     ghost use Rattle.serde_json_path.specs.Giving.{StopsNear};
 
     /// A reader at the start of a text.
@@ -43,12 +51,14 @@ impl<'s, S: PathSource> Reader<'s, S> {
         ensures looks { (told result).looks ≤ (S.told source.old).looks + seen result }
         ensures farthest { (told result).farthest ≤ max (S.told source.old).farthest (seen result) }
     {
-        let _len = source.len();
+        let limit = source.len();
         let next = byte_at(source, 0);
         Reader {
             source,
             index: 0,
             next,
+            second: None,
+            limit,
         }
     }
 
@@ -62,11 +72,15 @@ impl<'s, S: PathSource> Reader<'s, S> {
         ensures told { told result ≡ S.told source.old }
         ensures index { result.index ≡ index }
         ensures next { result.next ≡ next }
+        ensures second { result.second ≡ None }
     {
+        let limit = source.len();
         Reader {
             source,
             index,
             next,
+            second: None,
+            limit,
         }
     }
 
@@ -84,18 +98,47 @@ impl<'s, S: PathSource> Reader<'s, S> {
         ensures value { left self.old ≡ result ∷ left self.new }
         ensures scalar { IsScalar result }
         ensures moves { Moves self.old self.new }
+        ensures second { self.new.second ≡ None }
     {
         let lead = self.next.unwrap();
         // A character of one byte has a way of its own, in which nothing is decoded.
         if lead < 0x80 {
             self.index += 1;
-            self.next = byte_at(self.source, self.index);
+            // One test finds both the text's end and a known byte, so that a second byte costs the others nothing.
+            match byte_below(self.source, self.index, self.limit) {
+                Some(next) => self.next = Some(next),
+                None => match self.second {
+                    Some(second) => {
+                        self.next = second;
+                        self.second = None;
+                        self.limit = self.source.len();
+                    }
+                    None => self.next = None,
+                },
+            }
             return lead as char;
         }
         let (c, width) = wide_character_at(self.source, self.index, lead);
         self.index += width;
         self.next = byte_at(self.source, self.index);
         c
+    }
+
+    /// Takes the next two characters.
+    pub(crate) fn take_two(&mut self)
+        requires { 1 < length (left self.old) }
+        ensures moves { Moves self.old self.new }
+        ensures left { left self.new ≡ drop 2 (left self.old) }
+    {
+        self.take_char();
+        self.take_char();
+    }
+
+    /// Whether an argument ends here.
+    pub(crate) fn sees_end_of_argument(&self) -> bool
+        ensures { result ≡ begins ends_argument (left self.now) }
+    {
+        self.sees(b',') || self.sees(b')')
     }
 
     /// How many bytes are left.
@@ -120,6 +163,7 @@ impl<'s, S: PathSource> Reader<'s, S> {
 
     /// A refusal at the ASCII character that was just taken.
     pub(crate) fn refuse_before(&self, kind: ParseErrorKind, place: Place) -> Stop
+        requires { self.now.second ≡ None }
         ensures value { (c : ℕ) → c < 128 → result ≡ Stop.Refused (refusal kind place (c ∷ left self.now)) }
         ensures near { StopsNear result self.now }
     {
@@ -137,6 +181,40 @@ impl<'s, S: PathSource> Reader<'s, S> {
     {
         match self.peek() {
             Some(next) => next == b,
+            None => false,
+        }
+    }
+
+    /// The byte behind the next one, which is ASCII. It is looked at once.
+    fn peek_second(&mut self) -> Option<u8>
+        requires { is_ascii self.old.next ≡ true }
+        ensures moves { Moves self.old self.new }
+        ensures stays { left self.new ≡ left self.old }
+        ensures value { IsAhead result (drop 1 (left self.old)) }
+    {
+        if let Some(second) = self.second {
+            return second;
+        }
+        let second = byte_at(self.source, self.index + 1);
+        self.second = Some(second);
+        self.limit = 0;
+        second
+    }
+
+    /// Whether these two ASCII characters are next. The byte behind the next one is looked at, once, only where the first
+    /// fits.
+    pub(crate) fn sees_both(&mut self, first: u8, second: u8) -> bool
+        requires first { first < 128 }
+        requires second { second < 128 }
+        ensures moves { Moves self.old self.new }
+        ensures stays { left self.new ≡ left self.old }
+        ensures value { result ≡ begins_both first second (left self.old) }
+    {
+        if !self.sees(first) {
+            return false;
+        }
+        match self.peek_second() {
+            Some(next) => next == second,
             None => false,
         }
     }
@@ -169,6 +247,23 @@ impl<'s, S: PathSource> Reader<'s, S> {
             Some(next) => next.is_ascii_digit(),
             None => false,
         }
+    }
+
+    /// Whether a small letter is next.
+    pub(crate) fn sees_small_letter(&self) -> bool
+        ensures { result ≡ begins is_small_letter (left self.now) }
+    {
+        match self.peek() {
+            Some(next) => next.is_ascii_lowercase(),
+            None => false,
+        }
+    }
+
+    /// Whether a function's name goes on here.
+    pub(crate) fn sees_function_char(&self) -> bool
+        ensures { result ≡ begins is_function_char (left self.now) }
+    {
+        self.sees_small_letter() || self.sees(b'_') || self.sees_digit()
     }
 
     /// Whether a digit is next that is not `0`.
@@ -221,7 +316,34 @@ impl<'s, S: PathSource> Reader<'s, S> {
         ensures text { IfOk result (λ u. string_bytes text.new ≡ string_bytes text.old ++ encode_utf8_all (front is_name_char (left self.old))) }
         ensures rest { IfOk result (λ u. left self.new ≡ behind is_name_char (left self.old)) }
     {
+        if self.second.is_some() {
+            if !self.sees_name_char() {
+                return Ok(());
+            }
+            text.push(self.take_char())?;
+        }
         let (index, next, pushed) = name_chars(self.source, self.index, self.next, text);
+        self.index = index;
+        self.next = next;
+        pushed
+    }
+
+    /// Takes one or more characters of a member name that are next, and puts them behind a text.
+    fn take_name_part(&mut self, text: &mut String) -> Result<(), AllocError>
+        requires begun { begins is_name_char (left self.old) ≡ true }
+        requires second { self.old.second ≡ None }
+        ensures moves { Moves self.old self.new }
+        ensures second { self.new.second ≡ None }
+        ensures less { length (left self.new) < length (left self.old) }
+        ensures text { IfOk result (λ u. string_bytes text.new ++ encode_utf8_all (front is_name_char (left self.new)) ≡ string_bytes text.old ++ encode_utf8_all (front is_name_char (left self.old))) }
+        ensures rest { behind is_name_char (left self.new) ≡ behind is_name_char (left self.old) }
+    {
+        let first = self.next.unwrap();
+        // Many at a time only behind a longer text, since a short name would gain nothing.
+        if first >= 0x80 || text.len() < 32 {
+            return text.push(self.take_char());
+        }
+        let (index, next, pushed) = push_name_part(self.source, self.index, first, text);
         self.index = index;
         self.next = next;
         pushed
@@ -301,6 +423,8 @@ impl<'s, S: PathSource> Reader<'s, S> {
             source: _,
             index: _,
             next: _,
+            second: _,
+            limit: _,
         } = self;
     }
 }
@@ -330,7 +454,7 @@ fn name_chars<S: PathSource>(
     let mut reader = Reader::resume(source, index, next);
     let mut pushed = Ok(());
     while reader.sees_name_char() {
-        pushed = text.push(reader.take_char());
+        pushed = reader.take_name_part(text);
         if pushed.is_err() {
             break;
         }

@@ -1,18 +1,24 @@
 //! Selectors.
 
-ghost use Rattle.std.specs.Prelude.{◌≡◌, ◌==◌, true};
+ghost use Rattle.std.specs.Prelude.{◌≡◌, ◌==◌, ℕ, List, true, false};
 ghost use Rattle.serde_json_path_core.specs.Parts.{KeepsParts};
-ghost use Rattle.serde_json_path.specs.Giving.{MakesSelector, MakesSelectors, IsNear};
+ghost use Rattle.serde_json_path_core.specs.Piece.{a_selector};
+ghost use Rattle.serde_json_path_core.specs.Tree.{Selector};
+ghost use Rattle.serde_json_path.specs.Giving.{Makes, MakesSelectors, IsNear};
+ghost use Rattle.serde_json_path.specs.Levels.{filter_at};
+ghost use Rattle.serde_json_path.specs.Parsed.{Parsed, past_blanks};
 ghost use Rattle.serde_json_path.specs.Lexical.{begins, IsQuote};
-ghost use Rattle.serde_json_path.specs.Parsing.{position_at, quoted_at, selector_at, next_selector_at, selectors_at};
+ghost use Rattle.serde_json_path.specs.Parsing.{position_at, quoted_at, selector_at, selectors_at};
 ghost use Rattle.serde_json_path.specs.Reading.{left, Moves};
 
 use crate::error::Stop;
+use crate::parser::level::Level;
 use crate::parser::primitive::int::int;
 use crate::parser::primitive::string::string;
 use crate::parser::reader::Reader;
 use crate::parser::slice::rest_of_slice;
 use crate::source::PathSource;
+use serde_json_path_core::functions::Functions;
 use serde_json_path_core::{Part, SyntaxBuilder};
 use std::alloc::Global;
 
@@ -25,7 +31,7 @@ fn position<S: PathSource>(
     ensures moves { Moves reader.old reader.new }
     ensures near { IsNear result reader.new }
     ensures keeps { KeepsParts builder.old builder.new }
-    ensures gives { MakesSelector builder.new result reader.new (position_at (left reader.old)) }
+    ensures gives { Makes a_selector builder.new result reader.new (position_at (left reader.old)) }
 {
     let start = int(reader)?;
     reader.skip_blanks();
@@ -51,7 +57,7 @@ fn quoted<S: PathSource>(
     ensures moves { Moves reader.old reader.new }
     ensures near { IsNear result reader.new }
     ensures keeps { KeepsParts builder.old builder.new }
-    ensures gives { MakesSelector builder.new result reader.new (quoted_at quote (left reader.old)) }
+    ensures gives { Makes a_selector builder.new result reader.new (quoted_at quote (left reader.old)) }
 {
     let text = string(alloc, reader, quote)?;
     reader.skip_blanks();
@@ -59,17 +65,18 @@ fn quoted<S: PathSource>(
     Ok(selector)
 }
 
-/// A selector and the blanks behind it (RFC 9535, section 2.3).
+/// A selector that is no filter, and the blanks behind it (RFC 9535, section 2.3).
 #[tactic(auto, unfolding(crate::specs::Parsing::selector_at))]
-fn selector<S: PathSource>(
+fn plain_selector<S: PathSource>(
     alloc: Global,
     builder: &mut SyntaxBuilder,
     reader: &mut Reader<'_, S>,
 ) -> Result<Part, Stop>
+    requires { begins (λ c. c == 63) (left reader.old) ≡ false }
     ensures moves { Moves reader.old reader.new }
     ensures near { IsNear result reader.new }
     ensures keeps { KeepsParts builder.old builder.new }
-    ensures gives { MakesSelector builder.new result reader.new (selector_at (left reader.old)) }
+    ensures gives { (filter_at : List ℕ → Parsed Selector) → Makes a_selector builder.new result reader.new (selector_at filter_at (left reader.old)) }
 {
     if reader.sees(b'\'') {
         reader.take_char();
@@ -94,43 +101,49 @@ fn selector<S: PathSource>(
     position(builder, reader)
 }
 
-/// A comma and a selector, and the blanks behind them.
-#[tactic(auto, unfolding(crate::specs::Parsing::next_selector_at))]
-fn next_selector<S: PathSource>(
-    alloc: Global,
-    builder: &mut SyntaxBuilder,
-    reader: &mut Reader<'_, S>,
-) -> Result<Part, Stop>
-    requires { begins (λ c. c == 44) (left reader.old) ≡ true }
-    ensures moves { Moves reader.old reader.new }
-    ensures near { IsNear result reader.new }
-    ensures keeps { KeepsParts builder.old builder.new }
-    ensures gives { MakesSelector builder.new result reader.new (next_selector_at (left reader.old)) }
-{
-    reader.take_char();
-    reader.skip_blanks();
-    selector(alloc, builder, reader)
-}
-
-/// The selectors behind a bracket, with commas between them and blanks round them (RFC 9535, section 2.5.1).
-#[tactic(auto, unfolding(crate::specs::Parsing::selectors_at))]
-pub(crate) fn selectors<S: PathSource>(
-    alloc: Global,
-    builder: &mut SyntaxBuilder,
-    reader: &mut Reader<'_, S>,
-) -> Result<Vec<Part>, Stop>
-    ensures moves { Moves reader.old reader.new }
-    ensures near { IsNear result reader.new }
-    ensures keeps { KeepsParts builder.old builder.new }
-    ensures gives { MakesSelectors builder.new result reader.new (selectors_at (left reader.old)) }
-{
-    reader.skip_blanks();
-    let first = selector(alloc, builder, reader)?;
-    let mut parts = Vec::new(alloc);
-    parts.push(first)?;
-    'selectors: while reader.sees(b',') {
-        let part = next_selector(alloc, builder, reader)?;
-        parts.push(part)?;
+impl<F: Functions> Level<'_, F> {
+    /// A selector and the blanks behind it (RFC 9535, section 2.3).
+    #[cycle(level)]
+    fn selector<S: PathSource>(
+        &self,
+        builder: &mut SyntaxBuilder,
+        reader: &mut Reader<'_, S>,
+    ) -> Result<Part, Stop>
+        ensures moves { Moves reader.old reader.new }
+        ensures near { IsNear result reader.new }
+        ensures keeps { KeepsParts builder.old builder.new }
+        ensures gives { Makes a_selector builder.new result reader.new (selector_at (filter_at F.set self.now) (left reader.old)) }
+    {
+        if reader.sees(b'?') {
+            let test = self.inside(builder, reader)?;
+            let filter = builder.filter(test)?;
+            return Ok(filter);
+        }
+        plain_selector(self.alloc, builder, reader)
     }
-    Ok(parts)
+
+    /// The selectors behind a bracket, with commas between them and blanks round them (RFC 9535, section 2.5.1).
+    #[cycle(level)]
+    pub(crate) fn selectors<S: PathSource>(
+        &self,
+        builder: &mut SyntaxBuilder,
+        reader: &mut Reader<'_, S>,
+    ) -> Result<Vec<Part>, Stop>
+        ensures moves { Moves reader.old reader.new }
+        ensures near { IsNear result reader.new }
+        ensures keeps { KeepsParts builder.old builder.new }
+        ensures gives { MakesSelectors builder.new result reader.new (selectors_at (filter_at F.set self.now) (left reader.old)) }
+    {
+        reader.skip_blanks();
+        let first = self.selector(builder, reader)?;
+        let mut parts = Vec::new(self.alloc);
+        parts.push(first)?;
+        'selectors: while reader.sees(b',') {
+            reader.take_char();
+            reader.skip_blanks();
+            let part = self.selector(builder, reader)?;
+            parts.push(part)?;
+        }
+        Ok(parts)
+    }
 }

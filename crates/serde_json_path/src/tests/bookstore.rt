@@ -5,7 +5,7 @@ use crate::tests::rows::selects_each;
 use serde_json::Value;
 use std::test::Fail;
 
-const BOOKSTORE: &str = concat!(
+pub(crate) const BOOKSTORE: &str = concat!(
     r#"{"store":{"book":[{"category":"reference","author":"Nigel Rees","#,
     r#""title":"Sayings of the Century","price":8.95},"#,
     r#"{"category":"fiction","author":"Evelyn Waugh","title":"Sword of Honour","price":12.99},"#,

@@ -1,10 +1,18 @@
 //! Texts of paths that are cut at each character.
 
 use crate::ParseErrorKind::{
-    BadEscape, BadMemberName, ControlCharacter, ExpectedClosingBracket, ExpectedEndingQuote,
-    ExpectedRoot, ExpectedSelector, IntegerOutOfRange, TextAfterPath,
+    BadEscape, BadMemberName, ControlCharacter, ExpectedClosingBracket, ExpectedClosingParenthesis,
+    ExpectedComparisonOperator, ExpectedEndingQuote, ExpectedExpression, ExpectedRoot,
+    ExpectedSelector, ExponentOrEmptyFraction, FractionTooLong, IntegerOutOfRange, NestedTooDeep,
+    NonSingularQuery, NumberOutOfRange, TextAfterPath, UndefinedFunction, WrongArgumentType,
+    WrongNumberOfArguments, WrongReturnType,
 };
-use crate::tests::{blanks, bookstore, descendants, names, refusals, slices};
+use crate::functions::Functions;
+use crate::tests::long_texts::long;
+use crate::tests::{
+    blanks, bookstore, calls, comparisons, descendants, filter_refusals, filters, literals, names,
+    nesting, refusals, slices,
+};
 use crate::{JsonPath, ParseError, ParseErrorKind};
 use std::alloc::Global;
 use std::process::Abort;
@@ -20,6 +28,10 @@ const MESSAGES: &[(ParseErrorKind, &str)] = &[
     (
         BadMemberName,
         "in dot member name, must start with a letter, '_' or a non-ASCII character",
+    ),
+    (
+        BadMemberName,
+        "in long-hand segment, must start with a letter, '_' or a non-ASCII character",
     ),
     (
         ExpectedClosingBracket,
@@ -41,6 +53,54 @@ const MESSAGES: &[(ParseErrorKind, &str)] = &[
     (
         IntegerOutOfRange,
         "in long-hand segment, integer out of range",
+    ),
+    (
+        ExponentOrEmptyFraction,
+        "in long-hand segment, exponent or empty fraction not supported",
+    ),
+    (
+        NumberOutOfRange,
+        "in long-hand segment, number out of range",
+    ),
+    (
+        ExpectedExpression,
+        "in long-hand segment, expected an expression",
+    ),
+    (
+        ExpectedClosingParenthesis,
+        "in long-hand segment, expected closing ')'",
+    ),
+    (
+        ExpectedComparisonOperator,
+        "in long-hand segment, expected a comparison operator",
+    ),
+    (
+        NonSingularQuery,
+        "in long-hand segment, non-singular query in a comparison",
+    ),
+    (
+        UndefinedFunction,
+        "in long-hand segment, undefined function",
+    ),
+    (
+        WrongNumberOfArguments,
+        "in long-hand segment, wrong number of arguments",
+    ),
+    (
+        WrongArgumentType,
+        "in long-hand segment, argument of the wrong type",
+    ),
+    (
+        WrongReturnType,
+        "in long-hand segment, function with incorrect return type used",
+    ),
+    (
+        NestedTooDeep,
+        "in long-hand segment, nested more than 128 deep",
+    ),
+    (
+        FractionTooLong,
+        "in long-hand segment, fraction of more than 9 digits",
     ),
     (TextAfterPath, "text after the path"),
 ];
@@ -76,6 +136,17 @@ fn cut(rt: &impl Abort, alloc: Global, text: &str) {
     }
 }
 
+/// Cuts a text at each character, as `cut` does, under the set.
+pub(crate) fn cut_with<F: Functions>(rt: &impl Abort, alloc: Global, functions: &F, text: &str) {
+    for end in 0..text.len() + 1 {
+        if let Some(start) = text.get(..end) {
+            if let Err(e) = JsonPath::parse_with(alloc, start, functions) {
+                is_told(rt, start, &e);
+            }
+        }
+    }
+}
+
 /// Cuts the paths of a table of what is selected.
 fn cut_paths(rt: &impl Abort, alloc: Global, rows: &[(&str, &str, &str, &str)]) {
     for &(text, _, _, _) in rows {
@@ -100,6 +171,14 @@ fn cuts_paths(rt: HostRuntime) -> Result<(), Fail> {
     cut_paths(&rt, rt.alloc(), descendants::DESCENDANTS);
     cut_paths(&rt, rt.alloc(), blanks::BLANKS);
     cut_paths(&rt, rt.alloc(), bookstore::BOOKS);
+    cut_paths(&rt, rt.alloc(), filters::FILTERS);
+    cut_paths(&rt, rt.alloc(), filters::EXAMPLES);
+    cut_paths(&rt, rt.alloc(), comparisons::COMPARISONS);
+    cut_paths(&rt, rt.alloc(), comparisons::EXAMPLES);
+    cut_paths(&rt, rt.alloc(), calls::CALLS);
+    cut_paths(&rt, rt.alloc(), calls::PATTERNS);
+    cut_paths(&rt, rt.alloc(), literals::NUMBERS);
+    cut_paths(&rt, rt.alloc(), literals::OTHERS);
     Ok(())
 }
 
@@ -109,6 +188,32 @@ fn cuts_refused_texts(rt: HostRuntime) -> Result<(), Fail> {
     cut_texts(&rt, rt.alloc(), refusals::SELECTORS);
     cut_texts(&rt, rt.alloc(), refusals::SLICES);
     cut_texts(&rt, rt.alloc(), refusals::STRINGS);
-    cut_texts(&rt, rt.alloc(), refusals::FILTERS);
+    cut_texts(&rt, rt.alloc(), filter_refusals::LOGIC);
+    cut_texts(&rt, rt.alloc(), filter_refusals::COMPARISONS);
+    cut_texts(&rt, rt.alloc(), filter_refusals::LITERALS);
+    cut_texts(&rt, rt.alloc(), filter_refusals::CALLS);
+    cut_texts(&rt, rt.alloc(), filter_refusals::ARGUMENTS);
+    Ok(())
+}
+
+#[test]
+fn cuts_nested_texts(rt: HostRuntime) -> Result<(), Fail> {
+    let alloc = rt.alloc();
+    cut(&rt, alloc, nesting::filters(alloc, 129)?.as_str());
+    cut(&rt, alloc, nesting::parentheses(alloc, 128)?.as_str());
+    cut(&rt, alloc, nesting::calls(alloc, 128)?.as_str());
+    Ok(())
+}
+
+#[test]
+fn cuts_long_texts(rt: HostRuntime) -> Result<(), Fail> {
+    let alloc = rt.alloc();
+    cut(&rt, alloc, long(alloc, "$[", "9", 1_000, "]")?.as_str());
+    cut(
+        &rt,
+        alloc,
+        long(alloc, "$[?@ == ", "9", 1_000, "]")?.as_str(),
+    );
+    cut(&rt, alloc, long(alloc, "$", " ", 1_000, "x")?.as_str());
     Ok(())
 }

@@ -1,10 +1,15 @@
 //! Long texts, of paths and of documents.
 
-use crate::ParseErrorKind::{IntegerOutOfRange, TextAfterPath};
+use crate::ParseErrorKind::{
+    ExpectedRoot, IntegerOutOfRange, NonSingularQuery, NumberOutOfRange, TextAfterPath,
+};
+use crate::functions::Builtin;
+use crate::tests::nesting::{calls, filters, nested, parentheses};
 use crate::tests::rows::refuses;
-use crate::{JsonPath, PathSource, TextSource, parse_source};
+use crate::{JsonPath, ParseErrorKind, PathSource, TextSource, parse_source};
 use serde_json::Value;
 use std::alloc::{AllocError, Global};
+use std::process::Abort;
 use std::test::Fail;
 
 /// The beginning, a text so many times, and the end.
@@ -28,6 +33,8 @@ fn refuses_long_texts(rt: HostRuntime) -> Result<(), Fail> {
     let alloc = rt.alloc();
     let nines = long(alloc, "$[", "9", 10_000, "]")?;
     refuses(&rt, alloc, nines.as_str(), IntegerOutOfRange, 3);
+    let nines = long(alloc, "$[?@ == ", "9", 10_000, "]")?;
+    refuses(&rt, alloc, nines.as_str(), NumberOutOfRange, 9);
     let blanks = long(alloc, "$", " ", 10_000, "x")?;
     refuses(&rt, alloc, blanks.as_str(), TextAfterPath, 2);
     Ok(())
@@ -44,18 +51,42 @@ fn counts_a_thousand_items(rt: HostRuntime) -> Result<(), Fail> {
     Ok(())
 }
 
+/// Holds a parse to what it answers and to so many looks at most.
+fn looks_at_most(
+    rt: &impl Abort,
+    alloc: Global,
+    text: &str,
+    refusal: Option<(ParseErrorKind, usize)>,
+    (length, bound): (usize, u128),
+) {
+    let mut source = TextSource::new(text);
+    let told = match parse_source(alloc, &mut source, &Builtin) {
+        Ok(_) => None,
+        Err(e) => Some((e.kind(), e.position())),
+    };
+    assert_eq!(rt; told, refusal, "of {text:?}");
+    assert_eq!(rt; source.len(), length, "of {text:?}");
+    assert!(rt;
+        source.looks() <= bound,
+        "{} looks at {text:?}",
+        source.looks()
+    );
+}
+
 #[test]
 fn looks_at_texts(rt: HostRuntime) -> Result<(), Fail> {
     let alloc = rt.alloc();
+    looks_at_most(&rt, alloc, "", Some((ExpectedRoot, 1)), (0, 32));
     let name = long(alloc, "$.", "a", 1000, "")?;
-    let mut source = TextSource::new(name.as_str());
-    let accepted = parse_source(alloc, &mut source).is_ok();
-    assert!(rt; accepted);
-    assert_eq!(rt; source.len(), 1002);
-    assert!(rt; source.looks() <= 2 * 1002, "{} looks", source.looks());
-    let mut empty = TextSource::new("");
-    let refused = parse_source(alloc, &mut empty).is_err();
-    assert!(rt; refused);
-    assert!(rt; empty.looks() <= 32, "{} looks", empty.looks());
+    looks_at_most(&rt, alloc, name.as_str(), None, (1002, 2 * 1002));
+    let deep = parentheses(alloc, 127)?;
+    looks_at_most(&rt, alloc, deep.as_str(), None, (259, 8320));
+    let deep = filters(alloc, 128)?;
+    looks_at_most(&rt, alloc, deep.as_str(), None, (513, 16448));
+    let deep = nested(alloc, ("$", "[?@", 128), "", ("]", 127, " == 1]"))?;
+    let refusal = Some((NonSingularQuery, 4));
+    looks_at_most(&rt, alloc, deep.as_str(), refusal, (518, 16608));
+    let deep = calls(alloc, 127)?;
+    looks_at_most(&rt, alloc, deep.as_str(), None, (1026, 32864));
     Ok(())
 }

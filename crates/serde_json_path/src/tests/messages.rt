@@ -1,6 +1,7 @@
 //! The words of refusals.
 
 use crate::JsonPath;
+use crate::tests::nesting::parentheses;
 use std::alloc::Global;
 use std::process::Abort;
 use std::test::Fail;
@@ -45,6 +46,58 @@ const TOLD: &[(&str, &str)] = &[
         "$[0].",
         "at position 6, in dot member name, must start with a letter, '_' or a non-ASCII character",
     ),
+    (
+        "$[?@.]",
+        "at position 6, in long-hand segment, must start with a letter, '_' or a non-ASCII character",
+    ),
+    (
+        "$[?@ == 1.]",
+        "at position 9, in long-hand segment, exponent or empty fraction not supported",
+    ),
+    (
+        "$[?@ == 1.5e3]",
+        "at position 9, in long-hand segment, exponent or empty fraction not supported",
+    ),
+    (
+        "$[?@ == 0.0000000001]",
+        "at position 9, in long-hand segment, fraction of more than 9 digits",
+    ),
+    (
+        "$[?@ == 18446744073709551616]",
+        "at position 9, in long-hand segment, number out of range",
+    ),
+    (
+        "$[?@.a == ]",
+        "at position 11, in long-hand segment, expected an expression",
+    ),
+    (
+        "$[?(@.a]",
+        "at position 8, in long-hand segment, expected closing ')'",
+    ),
+    (
+        "$[?true]",
+        "at position 8, in long-hand segment, expected a comparison operator",
+    ),
+    (
+        "$[?@.* == 1]",
+        "at position 4, in long-hand segment, non-singular query in a comparison",
+    ),
+    (
+        "$[?first(@.*) == 4]",
+        "at position 4, in long-hand segment, undefined function",
+    ),
+    (
+        "$[?count() == 1]",
+        "at position 4, in long-hand segment, wrong number of arguments",
+    ),
+    (
+        "$[?count(1) == 1]",
+        "at position 10, in long-hand segment, argument of the wrong type",
+    ),
+    (
+        "$[?length(@.author)]",
+        "at position 4, in long-hand segment, function with incorrect return type used",
+    ),
 ];
 
 /// Each row has a text that is refused, and what is told of it.
@@ -60,5 +113,9 @@ fn tells_each(rt: &impl Abort, alloc: Global, rows: &[(&str, &str)]) -> Result<(
 
 #[test]
 fn tells_refusals(rt: HostRuntime) -> Result<(), Fail> {
-    tells_each(&rt, rt.alloc(), TOLD)
+    let alloc = rt.alloc();
+    tells_each(&rt, alloc, TOLD)?;
+    let deep = parentheses(alloc, 128)?;
+    let told = "at position 131, in long-hand segment, nested more than 128 deep";
+    tells_each(&rt, alloc, &[(deep.as_str(), told)])
 }

@@ -85,12 +85,6 @@ pub(crate) const STRINGS: &[(&str, ParseErrorKind, usize)] = &[
     ("$['\\\t']", BadEscape, 4),
 ];
 
-/// Texts with a filter, which the parser does not read so far.
-pub(crate) const FILTERS: &[(&str, ParseErrorKind, usize)] = &[
-    ("$[?@]", ExpectedSelector, 3),
-    ("$['a', ?@.b]", ExpectedSelector, 8),
-];
-
 #[test]
 fn refuses_segments(rt: HostRuntime) -> Result<(), Fail> {
     refuses_each(&rt, rt.alloc(), SEGMENTS)
@@ -109,9 +103,4 @@ fn refuses_slices(rt: HostRuntime) -> Result<(), Fail> {
 #[test]
 fn refuses_strings(rt: HostRuntime) -> Result<(), Fail> {
     refuses_each(&rt, rt.alloc(), STRINGS)
-}
-
-#[test]
-fn refuses_filters(rt: HostRuntime) -> Result<(), Fail> {
-    refuses_each(&rt, rt.alloc(), FILTERS)
 }

@@ -1,5 +1,9 @@
 //! Holding paths to the rows of tables.
 
+ghost use Rattle.serde_json_path_functions.specs.Functions.{Fits};
+ghost use Rattle.serde_json_path_functions.specs.Patterns.{builtin_functions};
+ghost use Rattle.serde_json_path.specs.Paths.{path_signatures};
+
 use crate::{JsonPath, LocatedNodeList, Nodes, ParseErrorKind};
 use serde_json::Value;
 use std::alloc::Global;
@@ -16,7 +20,7 @@ pub(crate) fn locations(alloc: Global, nodes: &LocatedNodeList<'_>) -> Result<St
 }
 
 /// Values as compact JSON, with a space before each.
-fn values(alloc: Global, nodes: Nodes<'_, '_>) -> Result<String, Fail> {
+pub(crate) fn values(alloc: Global, nodes: Nodes<'_, '_>) -> Result<String, Fail> {
     let mut text = String::new(alloc);
     for value in nodes {
         text.push(' ')?;
@@ -32,7 +36,9 @@ pub(crate) fn selects(
     path: &JsonPath,
     document: &str,
     wanted: (&str, &str),
-) -> Result<(), Fail> {
+) -> Result<(), Fail>
+    requires { Fits builtin_functions (path_signatures path.now) }
+{
     let document = Value::from_str(alloc, document)?;
     let located = path.query_located(alloc, &document)?;
     assert_eq!(rt; locations(alloc, &located)?.as_str(), wanted.0);

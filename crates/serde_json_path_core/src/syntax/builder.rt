@@ -5,12 +5,14 @@ ghost use Rattle.serde_json_path_core.specs.Flat.{IsGrown};
 use crate::syntax::checked::Checked;
 use crate::syntax::literal::Literal;
 use crate::syntax::node::{
-    Argument, Basic, Comparable, Node, Part, QueryKind, Segment, SegmentKind, Selector,
+    Argument, Basic, Comparable, Joined, Node, Part, QueryKind, Segment, SegmentKind, Selector,
 };
 use crate::syntax::operator::ComparisonOperator;
+use crate::syntax::signatures::{Form, note_calls};
+use crate::syntax::singular::is_singular;
 use crate::syntax::slice::Slice;
 use serde_json::Value;
-use serde_json_path_functions::Signature;
+use serde_json_path_functions::{Functions, Signature};
 use std::alloc::{AllocError, Global};
 
 /// Makes the parts of a syntax tree, each out of finished ones.
@@ -24,7 +26,7 @@ pub struct SyntaxBuilder {
 }
 
 impl SyntaxBuilder {
-    ghost use Rattle.std.specs.Prelude.{◌≡◌, IfOk, string_bytes, length};
+    ghost use Rattle.std.specs.Prelude.{◌≡◌, ◌↔◌, IfOk, IsTrue, string_bytes, length};
     ghost use Rattle.serde_json_path_core.specs.Tree as tree;
     ghost use Rattle.serde_json_path_core.specs.Literals.{literal_view, operator_view};
     ghost use Rattle.serde_json_path_core.specs.Piece.{a_query, a_segment, a_selector, an_or, an_and, a_basic, a_comparable, a_call, an_argument};
@@ -32,7 +34,9 @@ impl SyntaxBuilder {
     ghost use Rattle.serde_json_path_core.specs.Flat.{kind_view, segment_kind_view, NamesBelow, piece_of, pieces};
     ghost use Rattle.serde_json_path_core.specs.SliceView.{slice_view};
     ghost use Rattle.serde_json_path_core.specs.Parts.{HasNoParts, IsPart, ArePartsOf, AreSelectorsOf, AreOrPartsOf, AreAndPartsOf, AreArgumentsOf, KeepsParts, tree_of, signatures_of};
-    ghost use Rattle.serde_json_path_core.specs.Used.{MayFinish, used_view};
+    ghost use Rattle.serde_json_path_core.specs.Typing.{IsTyped};
+    ghost use Rattle.serde_json_path_core.specs.Used.{AreCalled, MayFinish, signature_in, used_view};
+    ghost use Rattle.serde_json_path_functions.specs.Functions.{Fits};
 
     /// A builder that has made no part yet. Takes no memory.
     pub fn new(alloc: Global) -> SyntaxBuilder
@@ -143,7 +147,17 @@ impl SyntaxBuilder {
             → IsPart self.new part (an_or e)) }
         ensures keeps { KeepsParts self.old self.new }
     {
-        self.push(Node::LogicalOr(parts))
+        self.push(Node::LogicalOr(Joined::Listed(parts)))
+    }
+
+    /// The logical expression that is this part alone, without `||` (RFC 9535, section 2.3.5.1).
+    pub fn or_of_one(&mut self, part: Part) -> Result<Part, AllocError>
+        requires { (a : tree.LogicalAnd) × IsPart self.old part (an_and a) }
+        ensures made { IfOk result (λ made. (a : tree.LogicalAnd) → IsPart self.old part (an_and a)
+            → IsPart self.new made (an_or (tree.or a tree.no_or))) }
+        ensures keeps { KeepsParts self.old self.new }
+    {
+        self.push(Node::LogicalOr(Joined::One(part)))
     }
 
     /// The part of a logical expression with `&&` between these parts, in order (RFC 9535, section 2.3.5.1). There is
@@ -154,7 +168,17 @@ impl SyntaxBuilder {
             → IsPart self.new part (an_and e)) }
         ensures keeps { KeepsParts self.old self.new }
     {
-        self.push(Node::LogicalAnd(parts))
+        self.push(Node::LogicalAnd(Joined::Listed(parts)))
+    }
+
+    /// The part of a logical expression that is this part alone, without `&&` (RFC 9535, section 2.3.5.1).
+    pub fn and_of_one(&mut self, part: Part) -> Result<Part, AllocError>
+        requires { (b : tree.Basic) × IsPart self.old part (a_basic b) }
+        ensures made { IfOk result (λ made. (b : tree.Basic) → IsPart self.old part (a_basic b)
+            → IsPart self.new made (an_and (tree.and b tree.no_and))) }
+        ensures keeps { KeepsParts self.old self.new }
+    {
+        self.push(Node::LogicalAnd(Joined::One(part)))
     }
 
     /// A logical expression in parentheses, as `(@.a || @.b)` (RFC 9535, section 2.3.5.1).
@@ -233,6 +257,15 @@ impl SyntaxBuilder {
         ensures keeps { KeepsParts self.old self.new }
     {
         self.push(Node::Comparable(Comparable::Singular(query)))
+    }
+
+    /// Whether the part is a singular query: child segments alone, each a member name or a bracket with one name or one
+    /// index (RFC 9535, section 2.3.5.1). Takes no memory.
+    pub fn is_singular(&self, query: Part) -> bool
+        requires { (q : tree.Query) × IsPart self.now query (a_query q) }
+        ensures { (q : tree.Query) → IsPart self.now query (a_query q) → IsTrue result ↔ tree.IsSingular q }
+    {
+        is_singular(self.nodes.as_slice(), query)
     }
 
     /// A call as a side of a comparison, as `length(@.a)` (RFC 9535, section 2.3.5.1).
@@ -327,6 +360,27 @@ impl SyntaxBuilder {
         ensures keeps { KeepsParts self.old self.new }
     {
         self.push(Node::Query { kind, segments })
+    }
+
+    /// The names that the query of that part calls, each once, in the order in which they are called first, with their
+    /// signatures in this set, for [`finish`](SyntaxBuilder::finish) (RFC 9535, section 2.4.3).
+    ///
+    /// It is refused only where memory is.
+    pub fn signatures<F: Functions>(
+        &self,
+        alloc: Global,
+        query: Part,
+        functions: &F,
+    ) -> Result<Vec<(String, Signature)>, AllocError>
+        requires { (q : tree.Query) × IsPart self.now query (a_query q) × IsTyped (F.set functions.now).signature q }
+        ensures typed { IfOk result (λ used. (q : tree.Query) → IsPart self.now query (a_query q) → IsTyped (signature_in (used_view used.items)) q) }
+        ensures called { IfOk result (λ used. (q : tree.Query) → IsPart self.now query (a_query q) → AreCalled (used_view used.items) q) }
+        ensures fits { IfOk result (λ used. Fits (F.set functions.now) (used_view used.items)) }
+    {
+        let mut used = Vec::new(alloc);
+        let nodes = self.nodes.as_slice();
+        note_calls(alloc, nodes, Form::Query, query, functions, &mut used)?;
+        Ok(used)
     }
 
     /// The finished tree, which is that of the part. Takes no memory.

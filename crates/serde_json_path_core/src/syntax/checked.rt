@@ -11,6 +11,10 @@ ghost use Rattle.serde_json_path_core.specs.Stages.{choice_view, stage_at};
 
 use crate::syntax::choice::Choice;
 use crate::syntax::node::{Node, Part, QueryKind, Segment, SegmentKind, Selector};
+use crate::syntax::reading::{
+    and_parts, arguments, called_name, node_at, or_parts, query_segments,
+};
+use crate::syntax::signatures::declares_each;
 use serde_json_path_functions::{Functions, Signature};
 use std::alloc::Global;
 
@@ -73,17 +77,7 @@ impl Checked {
     pub fn fits<F: Functions>(&self, functions: &F) -> bool
         ensures { IsTrue result ↔ Fits (F.set functions.now) (signatures_of self.now) }
     {
-        for (name, signature) in self.used.iter() {
-            match functions.signature(name.as_str()) {
-                None => return false,
-                Some(declared) => {
-                    if !declared.is_same(signature) {
-                        return false;
-                    }
-                }
-            }
-        }
-        true
+        declares_each(functions, self.used.as_slice())
     }
 
     /// The node of a part.
@@ -92,7 +86,7 @@ impl Checked {
         ensures piece { piece_at self.now.nodes.items part.number ≡ piece_of (pieces self.now.nodes.items) result.now }
         ensures below { NamesBelow part.number result.now }
     {
-        &self.nodes[part.number]
+        node_at(self.nodes.as_slice(), part)
     }
 
     /// Where the query begins.
@@ -133,10 +127,7 @@ impl Checked {
         ensures tree { segments_at self.now.nodes.items result.now ≡ segments_of (part_query self.now.nodes.items query) }
         ensures below { parts_bound result.now ≤ query.number }
     {
-        match self.node(query) {
-            Node::Query { segments, .. } => segments.as_slice(),
-            _ => &[],
-        }
+        query_segments(self.nodes.as_slice(), query)
     }
 
     /// What a logical expression is joined of by `||`.
@@ -145,10 +136,7 @@ impl Checked {
         ensures tree { or_at self.now.nodes.items expression ≡ ors_in (pieces_named (pieces self.now.nodes.items) result.now) }
         ensures below { parts_bound result.now ≤ expression.number }
     {
-        match self.node(expression) {
-            Node::LogicalOr(parts) => parts.as_slice(),
-            _ => &[],
-        }
+        or_parts(self.nodes.as_slice(), expression)
     }
 
     /// What a part of a logical expression is joined of by `&&`.
@@ -157,10 +145,7 @@ impl Checked {
         ensures tree { and_at self.now.nodes.items expression ≡ ands_in (pieces_named (pieces self.now.nodes.items) result.now) }
         ensures below { parts_bound result.now ≤ expression.number }
     {
-        match self.node(expression) {
-            Node::LogicalAnd(parts) => parts.as_slice(),
-            _ => &[],
-        }
+        and_parts(self.nodes.as_slice(), expression)
     }
 
     /// The name that a call calls.
@@ -168,10 +153,7 @@ impl Checked {
         requires { call.number < length self.now.nodes.items }
         ensures { result.now ≡ name_of (call_at self.now.nodes.items call) }
     {
-        match self.node(call) {
-            Node::Call { name, .. } => name.as_str(),
-            _ => "",
-        }
+        called_name(self.nodes.as_slice(), call)
     }
 
     /// The arguments of a call, in order.
@@ -180,10 +162,7 @@ impl Checked {
         ensures tree { arguments_of (call_at self.now.nodes.items call) ≡ arguments_in (pieces_named (pieces self.now.nodes.items) result.now) }
         ensures below { parts_bound result.now ≤ call.number }
     {
-        match self.node(call) {
-            Node::Call { arguments, .. } => arguments.as_slice(),
-            _ => &[],
-        }
+        arguments(self.nodes.as_slice(), call)
     }
 
     /// How far a segment goes down.

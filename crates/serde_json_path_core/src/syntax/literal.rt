@@ -64,3 +64,20 @@ pub enum Literal {
     /// The value `null`.
     Null,
 }
+
+impl Literal {
+    ghost use Rattle.std.specs.Prelude.{◌↔◌, IsTrue};
+    ghost use Rattle.serde_json_path_core.specs.Literals.{literal_view};
+    ghost use Rattle.serde_json_path_core.specs.Typing.{IsValueLiteral};
+
+    /// Whether the literal may be an argument of the type of values: each but a number with a fraction (RFC 9535,
+    /// section 2.4.3).
+    pub fn is_value(&self) -> bool
+        ensures { IsTrue result ↔ IsValueLiteral (literal_view self.now) }
+    {
+        match self {
+            Literal::Number(number) => number.billionths % ONE == 0,
+            Literal::String(_) | Literal::Bool(_) | Literal::Null => true,
+        }
+    }
+}

@@ -1,9 +1,13 @@
 //! The nodes of a syntax tree.
 
+ghost use Rattle.std.specs.Prelude.{◌≡◌};
+ghost use Rattle.serde_json_path_core.specs.Flat.{joined_parts};
+
 use crate::syntax::literal::{Literal, NumberLiteral};
 use crate::syntax::operator::ComparisonOperator;
 use crate::syntax::slice::Slice;
 use serde_json::Value;
+use std::slice;
 
 /// Where a query begins (RFC 9535, sections 2.2.1 and 2.3.5.1).
 #[derive(Clone, Copy, Debug, PartialEq, Eq)]
@@ -104,6 +108,27 @@ pub(crate) enum Argument {
     Logical(Part),
 }
 
+/// What is joined by `||` or by `&&`. One part alone takes no memory beside its node's.
+#[derive(Debug, Drop)]
+pub(crate) enum Joined {
+    /// One part, with nothing joined to it.
+    One(Part),
+    /// A list of parts.
+    Listed(Vec<Part>),
+}
+
+impl Joined {
+    /// The parts, in order.
+    pub(crate) fn as_slice(&self) -> &[Part]
+        ensures { result.now ≡ joined_parts self.now }
+    {
+        match self {
+            Joined::One(part) => slice::from_ref(part),
+            Joined::Listed(parts) => parts.as_slice(),
+        }
+    }
+}
+
 /// One node of a syntax tree; it names nodes that were made before it.
 #[derive(Debug, Drop)]
 pub(crate) enum Node {
@@ -120,9 +145,9 @@ pub(crate) enum Node {
     /// A selector.
     Selector(Selector),
     /// Parts joined by `||`.
-    LogicalOr(Vec<Part>),
+    LogicalOr(Joined),
     /// Parts joined by `&&`.
-    LogicalAnd(Vec<Part>),
+    LogicalAnd(Joined),
     /// A part of an expression that is joined by `&&`.
     Basic(Basic),
     /// A side of a comparison.

@@ -2,10 +2,10 @@
 
 ghost use Rattle.std.specs.Prelude.{◌≡◌, [], IfOk};
 ghost use Rattle.serde_json_path_core.specs.Tree as tree;
-ghost use Rattle.serde_json_path_core.specs.Piece.{a_segment, a_selector};
+ghost use Rattle.serde_json_path_core.specs.Piece.{a_query, a_segment, a_selector};
 ghost use Rattle.serde_json_path_core.specs.WellFormed.{IsOptionalInteger};
 ghost use Rattle.serde_json_path_core.specs.Parts.{AreSelectorsOf, IsPart, KeepsParts, signatures_of};
-ghost use Rattle.serde_json_path_core.specs.CallFree.{AreCallFreeSelectors, IsCallFreeSegment, IsCallFreeSelector};
+ghost use Rattle.serde_json_path_core.specs.CallFree.{AreCallFreeSegments, AreCallFreeSelectors, IsCallFreeSegment, IsCallFreeSelector};
 
 use crate::{Checked, Part, QueryKind, SegmentKind, Slice, SyntaxBuilder};
 use serde_json_path_nodes::{LocatedNode, LocatedNodeList};
@@ -107,17 +107,28 @@ fn segment_of(alloc: Global, builder: &mut SyntaxBuilder, text: &str) -> Result<
     Ok(builder.dot_name(kind, name)?)
 }
 
+/// The part of the query of these segments, with a space between them, from the root.
+pub(crate) fn query_part(
+    alloc: Global,
+    builder: &mut SyntaxBuilder,
+    segments: &str,
+) -> Result<Part, Fail>
+    ensures { IfOk result (λ part. (segs : tree.Segments) × IsPart builder.new part (a_query (tree.query tree.root segs)) × AreCallFreeSegments 0 segs) }
+{
+    let mut parts = Vec::new(alloc);
+    for segment in segments.split_whitespace() {
+        let part = segment_of(alloc, builder, segment)?;
+        parts.push(part)?;
+    }
+    Ok(builder.query(QueryKind::Root, parts)?)
+}
+
 /// The query of these segments, with a space between them, from the root.
 pub(crate) fn query_of(alloc: Global, segments: &str) -> Result<Checked, Fail>
     ensures { IfOk result (λ query. signatures_of query ≡ []) }
 {
     let mut builder = SyntaxBuilder::new(alloc);
-    let mut parts = Vec::new(alloc);
-    for segment in segments.split_whitespace() {
-        let part = segment_of(alloc, &mut builder, segment)?;
-        parts.push(part)?;
-    }
-    let query = builder.query(QueryKind::Root, parts)?;
+    let query = query_part(alloc, &mut builder, segments)?;
     Ok(builder.finish(query, Vec::new(alloc)))
 }
 

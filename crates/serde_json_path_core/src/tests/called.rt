@@ -1,15 +1,17 @@
 //! Queries of one filter that calls functions, put together out of parts which know the calls in them.
 
-ghost use Rattle.std.specs.Prelude.{◌≡◌, ◌≤◌, ◌+◌, ◌++◌, map, option_map, IfOk, IsTrue};
+ghost use Rattle.std.specs.Prelude.{◌≡◌, ◌≤◌, ◌+◌, ◌++◌, map, IfOk, IsTrue};
 ghost use Rattle.serde_json_path_core.specs.Tree as tree;
 ghost use Rattle.serde_json_path_functions.specs.Functions.{Fits};
 ghost use Rattle.serde_json_path_functions.specs.Terms.{kind_view, signature_view};
-ghost use Rattle.serde_json_path_core.specs.Piece.{a_query};
+ghost use Rattle.serde_json_path_core.specs.Flat.{kind_view as query_kind_view};
+ghost use Rattle.serde_json_path_core.specs.Piece.{a_query, an_or};
 ghost use Rattle.serde_json_path_core.specs.Parts.{IsPart, KeepsParts, signatures_of};
 ghost use Rattle.serde_json_path_core.specs.CallFree.{IsCallFree};
-ghost use Rattle.serde_json_path_core.specs.Used.{used_view, signature_in};
-ghost use Rattle.serde_json_path_core.specs.Called.{AddsUse, AreMadeArguments, AreUsed, IsMadeArgument, IsMadeBasic, IsMadeCall, IsMadeComparable, IsMadeOr};
+ghost use Rattle.serde_json_path_core.specs.Used.{MayFinish, used_view};
+ghost use Rattle.serde_json_path_core.specs.Called.{AreMadeArguments, IsMadeArgument, IsMadeBasic, IsMadeCall, IsMadeComparable, IsMadeOr, filter_query};
 
+use crate::syntax::signatures::declares_each;
 use crate::tests::building::locations;
 use crate::{
     Checked, ComparisonOperator, Literal, NumberLiteral, Part, QueryKind, SegmentKind,
@@ -475,13 +477,13 @@ pub(crate) fn in_parentheses(builder: &mut SyntaxBuilder, expression: Built) -> 
 }
 
 /// The expression of one test.
-pub(crate) fn alone(alloc: Global, builder: &mut SyntaxBuilder, test: Built) -> Result<Built, Fail>
+pub(crate) fn alone(builder: &mut SyntaxBuilder, test: Built) -> Result<Built, Fail>
     requires { IsMadeBasic builder.old test.part (used_view test.calls.items) test.deep }
     ensures made { IfOk result (λ built. IsMadeOr builder.new built.part (used_view built.calls.items) built.deep) }
     ensures keeps { IfOk result (λ built. KeepsParts builder.old builder.new) }
 {
-    let joined = builder.logical_and(vec![in alloc; test.part]?)?;
-    let part = builder.logical_or(vec![in alloc; joined]?)?;
+    let joined = builder.and_of_one(test.part)?;
+    let part = builder.or_of_one(joined)?;
     Ok(Built { part, ..test })
 }
 
@@ -532,79 +534,74 @@ pub(crate) fn any_of(
     })
 }
 
-/// The signature of that name.
-fn known(used: &[(String, Signature)], name: &str) -> Option<Signature>
-    ensures { option_map signature_view result ≡ signature_in (used_view used.now) name.now }
-{
-    for (other, signature) in used.iter() {
-        if other.as_str() == name {
-            return Some(*signature);
-        }
-    }
-    None
-}
-
-/// The names that are used, with one call more.
-fn noted(
+/// The query `$[?..]` or `@[?..]` of that expression.
+fn query_of_expression(
     alloc: Global,
-    mut used: Vec<(String, Signature)>,
-    name: &str,
-    signature: &Signature,
-) -> Result<Vec<(String, Signature)>, Fail>
-    ensures { IfOk result (λ all. AddsUse (used_view used.items) (used_view all.items) name.now (signature_view signature.now)) }
+    builder: &mut SyntaxBuilder,
+    kind: QueryKind,
+    expression: Part,
+) -> Result<Part, Fail>
+    requires { (e : tree.LogicalOr) × IsPart builder.old expression (an_or e) }
+    ensures made { IfOk result (λ part. (e : tree.LogicalOr) → IsPart builder.old expression (an_or e) → IsPart builder.new part (a_query (filter_query (query_kind_view kind) e))) }
+    ensures keeps { IfOk result (λ part. KeepsParts builder.old builder.new) }
 {
-    match known(used.as_slice(), name) {
-        None => {
-            used.push((String::from_str(alloc, name)?, *signature))?;
-            Ok(used)
-        }
-        Some(first) => {
-            if !first.is_same(signature) {
-                return Err(Fail::from("a name of two signatures"));
-            }
-            Ok(used)
-        }
-    }
+    let selector = builder.filter(expression)?;
+    let segment = builder.long_hand(SegmentKind::Child, vec![in alloc; selector]?)?;
+    Ok(builder.query(kind, vec![in alloc; segment]?)?)
 }
 
-/// The names of calls with their signatures, each once.
-fn used_of(alloc: Global, calls: &[(String, Signature)]) -> Result<Vec<(String, Signature)>, Fail>
-    ensures { IfOk result (λ used. AreUsed (used_view used.items) (used_view calls.now)) }
+/// The test `@[?..]` of that expression.
+pub(crate) fn filter_test(
+    alloc: Global,
+    builder: &mut SyntaxBuilder,
+    expression: Built,
+) -> Result<Built, Fail>
+    requires { IsMadeOr builder.old expression.part (used_view expression.calls.items) expression.deep }
+    ensures made { IfOk result (λ built. IsMadeBasic builder.new built.part (used_view built.calls.items) built.deep) }
+    ensures keeps { IfOk result (λ built. KeepsParts builder.old builder.new) }
 {
-    let mut used = Vec::new(alloc);
-    for (name, signature) in calls.iter() {
-        used = noted(alloc, used, name.as_str(), signature)?;
-    }
-    Ok(used)
+    let query = query_of_expression(alloc, builder, QueryKind::Current, expression.part)?;
+    let part = builder.exist(query)?;
+    let deep = deeper(expression.deep)?;
+    Ok(Built {
+        part,
+        deep,
+        ..expression
+    })
 }
 
-/// The query `$[?..]` of that expression.
-fn finished(alloc: Global, mut builder: SyntaxBuilder, expression: Built) -> Result<Checked, Fail>
-    requires { IsMadeOr builder expression.part (used_view expression.calls.items) expression.deep }
+/// The query `$[?..]` of that expression, and the signatures of the names that it calls in a set that declares them.
+pub(crate) fn signed<F: Functions>(
+    alloc: Global,
+    builder: &mut SyntaxBuilder,
+    functions: &F,
+    expression: Built,
+) -> Result<(Part, Vec<(String, Signature)>), Fail>
+    requires { IsMadeOr builder.old expression.part (used_view expression.calls.items) expression.deep }
+    ensures made { IfOk result (λ both. (q : tree.Query) × IsPart builder.new both.0 (a_query q) × MayFinish (used_view both.1.items) q) }
+    ensures fits { IfOk result (λ both. Fits (F.set functions.now) (used_view both.1.items)) }
 {
     deeper(expression.deep)?;
-    let selector = builder.filter(expression.part)?;
-    let segment = builder.long_hand(SegmentKind::Child, vec![in alloc; selector]?)?;
-    let query = builder.query(QueryKind::Root, vec![in alloc; segment]?)?;
-    let used = used_of(alloc, expression.calls.as_slice())?;
-    Ok(builder.finish(query, used))
+    if !declares_each(functions, expression.calls.as_slice()) {
+        return Err(Fail::from("other signatures"));
+    }
+    let query = query_of_expression(alloc, builder, QueryKind::Root, expression.part)?;
+    let used = builder.signatures(alloc, query, functions)?;
+    Ok((query, used))
 }
 
 /// The query `$[?..]` of that expression, which fits the set.
 pub(crate) fn filtered<F: Functions>(
     alloc: Global,
-    builder: SyntaxBuilder,
+    mut builder: SyntaxBuilder,
     functions: &F,
     expression: Built,
 ) -> Result<Checked, Fail>
     requires { IsMadeOr builder expression.part (used_view expression.calls.items) expression.deep }
     ensures { IfOk result (λ checked. Fits (F.set functions.now) (signatures_of checked)) }
 {
-    let query = finished(alloc, builder, expression)?;
-    if !query.fits(functions) {
-        return Err(Fail::from("other signatures"));
-    }
-    Ok(query)
+    let (query, used) = signed(alloc, &mut builder, functions, expression)?;
+    Ok(builder.finish(query, used))
 }
 
 /// What the query selects in a document, as [`locations`].

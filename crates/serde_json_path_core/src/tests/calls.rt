@@ -24,7 +24,7 @@ use std::test::Fail;
 
 /// A call.
 #[derive(Clone, Copy)]
-enum Calling<'t> {
+pub(crate) enum Calling<'t> {
     /// `name('text')`
     OfText(&'t str, &'t str),
     /// `name(query)`
@@ -50,7 +50,7 @@ fn call_of_nodes<F: Functions>(
 }
 
 /// The part of a call.
-fn call_of<F: Functions>(
+pub(crate) fn call_of<F: Functions>(
     alloc: Global,
     builder: &mut SyntaxBuilder,
     functions: &F,
@@ -87,7 +87,7 @@ fn where_compared<F: Functions + Drop>(
     let left = side_of(&mut builder, call)?;
     let right = number_of(alloc, &mut builder, number)?;
     let test = compared(&mut builder, left, operator, right)?;
-    let expression = alone(alloc, &mut builder, test)?;
+    let expression = alone(&mut builder, test)?;
     let query = filtered(alloc, builder, &functions, expression)?;
     selected(alloc, &query, functions, document)
 }
@@ -176,7 +176,7 @@ fn of_test<F: Functions>(
     let mut builder = SyntaxBuilder::new(alloc);
     let call = call_of(alloc, &mut builder, functions, calling)?;
     let test = tested(&mut builder, call, negated)?;
-    let expression = alone(alloc, &mut builder, test)?;
+    let expression = alone(&mut builder, test)?;
     filtered(alloc, builder, functions, expression)
 }
 
@@ -228,12 +228,16 @@ fn both_of(
     let signature = Samples.signature("both").ok_or("not declared")?;
     let call = call_of_two(alloc, &mut builder, "both", &signature, first, second)?;
     let test = tested(&mut builder, call, false)?;
-    let expression = alone(alloc, &mut builder, test)?;
+    let expression = alone(&mut builder, test)?;
     filtered(alloc, builder, &Samples, expression)
 }
 
 /// The query `@.name` as an argument for a truth value.
-fn logical_query(alloc: Global, builder: &mut SyntaxBuilder, name: &str) -> Result<Built, Fail>
+pub(crate) fn logical_query(
+    alloc: Global,
+    builder: &mut SyntaxBuilder,
+    name: &str,
+) -> Result<Built, Fail>
     ensures made { IfOk result (λ built. IsMadeArgument builder.new built.part (kind_view built.kind) (used_view built.calls.items) built.deep) }
     ensures keeps { IfOk result (λ built. KeepsParts builder.old builder.new) }
 {
@@ -241,12 +245,16 @@ fn logical_query(alloc: Global, builder: &mut SyntaxBuilder, name: &str) -> Resu
 }
 
 /// The expression of one test as an argument.
-fn test_argument(alloc: Global, builder: &mut SyntaxBuilder, test: Built) -> Result<Built, Fail>
+pub(crate) fn test_argument(
+    alloc: Global,
+    builder: &mut SyntaxBuilder,
+    test: Built,
+) -> Result<Built, Fail>
     requires { IsMadeBasic builder.old test.part (used_view test.calls.items) test.deep }
     ensures made { IfOk result (λ built. IsMadeArgument builder.new built.part (kind_view built.kind) (used_view built.calls.items) built.deep) }
     ensures keeps { IfOk result (λ built. KeepsParts builder.old builder.new) }
 {
-    let expression = alone(alloc, builder, test)?;
+    let expression = alone(builder, test)?;
     logical_argument(builder, expression)
 }
 
@@ -255,7 +263,7 @@ fn parenthesized(alloc: Global, builder: &mut SyntaxBuilder, name: &str) -> Resu
     ensures { IfOk result (λ built. IsMadeArgument builder.new built.part (kind_view built.kind) (used_view built.calls.items) built.deep) }
 {
     let inner = existing(alloc, builder, name)?;
-    let expression = alone(alloc, builder, inner)?;
+    let expression = alone(builder, inner)?;
     let test = in_parentheses(builder, expression)?;
     test_argument(alloc, builder, test)
 }
@@ -341,7 +349,7 @@ fn nothing_compared(alloc: Global) -> Result<Checked, Fail>
     let left = side_of(&mut builder, call)?;
     let right = member_of(alloc, &mut builder, "x")?;
     let test = compared(&mut builder, left, EqualTo, right)?;
-    let expression = alone(alloc, &mut builder, test)?;
+    let expression = alone(&mut builder, test)?;
     filtered(alloc, builder, &Samples, expression)
 }
 

@@ -81,7 +81,7 @@ fn number_of(text: &str) -> Result<Literal, Fail> {
 }
 
 /// The literal of a text.
-fn literal_of(alloc: Global, text: &str) -> Result<Literal, Fail> {
+pub(crate) fn literal_of(alloc: Global, text: &str) -> Result<Literal, Fail> {
     match text {
         "null" => Ok(Literal::Null),
         "true" => Ok(Literal::Bool(true)),
@@ -262,7 +262,7 @@ fn beside(
 }
 
 /// The query of at most one name or index with a filter behind it.
-fn query_of_filter(
+pub(crate) fn query_of_filter(
     alloc: Global,
     builder: &mut SyntaxBuilder,
     kind: QueryKind,
@@ -301,7 +301,11 @@ fn filter_test_of(
 }
 
 /// The expression of a text, which may have one filter or one pair of parentheses.
-fn expression_of(alloc: Global, builder: &mut SyntaxBuilder, text: &str) -> Result<Part, Fail>
+pub(crate) fn expression_of(
+    alloc: Global,
+    builder: &mut SyntaxBuilder,
+    text: &str,
+) -> Result<Part, Fail>
     ensures made { IfOk result (λ part. (e : tree.LogicalOr) × IsPart builder.new part (an_or e) × IsCallFreeOr 1 e) }
     ensures keeps { KeepsParts builder.old builder.new }
 {

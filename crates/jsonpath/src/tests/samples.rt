@@ -1,0 +1,126 @@
+//! The sample functions, as filters call them.
+
+use crate::samples::Samples;
+use serde_json::Value;
+use serde_json_path::ParseErrorKind::{
+    ExpectedComparisonOperator, UndefinedFunction, WrongArgumentType, WrongNumberOfArguments,
+    WrongReturnType,
+};
+use serde_json_path::functions::Builtin;
+use serde_json_path::{JsonPath, ParseError, ParseErrorKind};
+use std::process::Abort;
+use std::test::Fail;
+
+/// Two shelves of books.
+const BOOKS: &str = concat!(
+    r#"[{"books":[{"author":"Alexandre Dumas","title":"The Three Musketeers","price":14.99},"#,
+    r#"{"author":"Leo Tolstoy","title":"War and Peace","price":19.99}]},"#,
+    r#"{"books":[{"author":"Charles Dickens","title":"Great Expectations","price":13.99},"#,
+    r#"{"author":"Fyodor Dostoevsky","title":"The Brothers Karamazov","price":12.99}]}]"#
+);
+
+/// A path, a document, and the locations of what the path selects there.
+const SELECTED: &[(&str, &str, &str)] = &[
+    ("$[?first(@.*) == 4]", "[[1,2,3],[4,5,6],[7,8,9]]", " $[1]"),
+    (
+        "$[? first(@.books.*.author) == 'Alexandre Dumas']",
+        BOOKS,
+        " $[0]",
+    ),
+    ("$[? length(first(@.books.*.title)) == 18 ]", BOOKS, " $[1]"),
+    (
+        "$[?first(@.*) == @.x]",
+        r#"[{},{"x":1},{"y":1}]"#,
+        " $[0] $[1]",
+    ),
+    (
+        "$[?both(@.a, @.b > 1)]",
+        r#"[{"a":1,"b":2},{"a":1,"b":1},{"b":3}]"#,
+        " $[0]",
+    ),
+    (
+        "$[?both(both(@.a, @.b), !@.c)]",
+        r#"[{"a":1,"b":1},{"a":1,"b":1,"c":1}]"#,
+        " $[0]",
+    ),
+    (
+        "$[?both((@.a), @.b || @.c)]",
+        r#"[{"a":0,"c":0},{"a":0}]"#,
+        " $[0]",
+    ),
+    ("$[?none() == @.x]", r#"[{},{"x":1}]"#, " $[0]"),
+];
+
+#[test]
+fn filters_call_the_samples(rt: HostRuntime) -> Result<(), Fail> {
+    let alloc = rt.alloc();
+    for &(text, document, wanted) in SELECTED {
+        let path = JsonPath::parse_with(alloc, text, &Samples)?;
+        let document = Value::from_str(alloc, document)?;
+        let mut locations = String::new(alloc);
+        for location in path
+            .query_located_with(alloc, &document, &Samples)?
+            .locations()
+        {
+            write!(locations, " {location}")?;
+        }
+        assert_eq!(rt; locations.as_str(), wanted, "{text}");
+    }
+    Ok(())
+}
+
+/// Holds what a parse gives to the kind and the position of its refusal.
+fn refuses(
+    rt: &impl Abort,
+    text: &str,
+    read: Result<JsonPath, ParseError>,
+    kind: ParseErrorKind,
+    position: usize,
+) {
+    match read {
+        Ok(_) => assert!(rt; false, "{text} is accepted"),
+        Err(e) => {
+            assert_eq!(rt; e.kind(), kind, "of {text}");
+            assert_eq!(rt; e.position(), position, "of {text}");
+        }
+    }
+}
+
+/// A text, and the kind and the position of its refusal.
+const REFUSED: &[(&str, ParseErrorKind, usize)] = &[
+    ("$[?both(true, @)]", WrongArgumentType, 9),
+    ("$[?both(@.a, none())]", WrongArgumentType, 14),
+    ("$[?both(length(@), @)]", WrongArgumentType, 9),
+    ("$[?both(length(@) && @, @)]", WrongReturnType, 9),
+    ("$[?both(@.a && 1, @)]", ExpectedComparisonOperator, 17),
+    ("$[?both((1), @)]", ExpectedComparisonOperator, 11),
+    ("$[?first(@.*)]", WrongReturnType, 4),
+    ("$[?none()]", WrongReturnType, 4),
+    ("$[?none(@) == 1]", WrongNumberOfArguments, 4),
+    ("$[?third(@.*) == 4]", UndefinedFunction, 4),
+];
+
+#[test]
+fn typed_calls_of_the_samples(rt: HostRuntime) -> Result<(), Fail> {
+    let alloc = rt.alloc();
+    for &(text, kind, position) in REFUSED {
+        let read = JsonPath::parse_with(alloc, text, &Samples);
+        refuses(&rt, text, read, kind, position);
+    }
+    let text = "$[?first(@.*) == 4]";
+    let read = JsonPath::parse(alloc, text);
+    refuses(&rt, text, read, UndefinedFunction, 4);
+    Ok(())
+}
+
+#[test]
+fn paths_fit_the_samples_or_not(rt: HostRuntime) -> Result<(), Fail> {
+    let alloc = rt.alloc();
+    let path = JsonPath::parse_with(alloc, "$[?first(@.*) == 4]", &Samples)?;
+    assert!(rt; path.fits(&Samples));
+    assert!(rt; !path.fits(&Builtin));
+    let plain = JsonPath::parse(alloc, "$.a")?;
+    assert!(rt; plain.fits(&Samples));
+    assert!(rt; plain.fits(&Builtin));
+    Ok(())
+}

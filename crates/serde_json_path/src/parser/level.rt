@@ -1,0 +1,44 @@
+//! How deep a filter stands.
+
+ghost use Rattle.std.specs.Prelude.{◌≡◌, ◌<◌, ◌-◌};
+
+use serde_json_path_core::functions::Functions;
+use std::alloc::Global;
+
+/// How many filters, parentheses and calls may stand within each other.
+const DEEPEST: u8 = 128;
+
+/// The functions that filters call, and how many filters, parentheses and calls may still stand within each other.
+#[derive(Drop)]
+pub(crate) struct Level<'f, F: Functions> {
+    pub(crate) alloc: Global,
+    pub(crate) functions: &'f F,
+    pub(crate) depth: u8,
+}
+
+impl<'f, F: Functions> Level<'f, F> {
+    /// Outside of every filter.
+    pub(crate) fn outermost(alloc: Global, functions: &'f F) -> Level<'f, F>
+        ensures functions { result.functions.now ≡ functions.now }
+        ensures depth { result.depth ≡ 128 }
+    {
+        Level {
+            alloc,
+            functions,
+            depth: DEEPEST,
+        }
+    }
+
+    /// Inside one filter, parenthesis or call more.
+    pub(crate) fn deeper(&self) -> Level<'f, F>
+        requires { 0 < self.now.depth }
+        ensures functions { result.functions.now ≡ self.now.functions.now }
+        ensures depth { result.depth ≡ self.now.depth - 1 }
+    {
+        Level {
+            alloc: self.alloc,
+            functions: self.functions,
+            depth: self.depth - 1,
+        }
+    }
+}

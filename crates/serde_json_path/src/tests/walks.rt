@@ -1,0 +1,59 @@
+//! Walks, one node at a time.
+
+use crate::functions::{Both, Builtin, Functions};
+use crate::{JsonPath, Walk};
+use serde_json::Value;
+use std::alloc::Global;
+use std::process::Abort;
+use std::test::Fail;
+
+/// The walk gives nodes at these locations, one after the other, with an empty text for none.
+pub(crate) fn gives_each<F: Functions>(
+    rt: &impl Abort,
+    alloc: Global,
+    walk: &mut Walk<'_, '_, Both<&F, Builtin>>,
+    wanted: &[&str],
+) -> Result<(), Fail> {
+    for &want in wanted {
+        match walk.next()? {
+            Some(node) => {
+                let text = format!(in alloc; "{}", node.location())?;
+                assert_eq!(rt; text.as_str(), want);
+            }
+            None => assert_eq!(rt; "", want),
+        }
+    }
+    Ok(())
+}
+
+/// Holds the walk of a path over a document to the locations that it gives.
+fn walks(
+    rt: &impl Abort,
+    alloc: Global,
+    path: &str,
+    document: &str,
+    wanted: &[&str],
+) -> Result<(), Fail> {
+    let document = Value::from_str(alloc, document)?;
+    let path = JsonPath::parse_with(alloc, path, &Builtin)?;
+    let mut walk = path.walk(alloc, &document, &Builtin)?;
+    gives_each(rt, alloc, &mut walk, wanted)
+}
+
+#[test]
+fn walks_give_one_node_after_the_other(rt: HostRuntime) -> Result<(), Fail> {
+    let alloc = rt.alloc();
+    let twice = &["$['a']", "$['a']", "", ""];
+    walks(&rt, alloc, "$['a','a']", r#"{"a":1}"#, twice)?;
+    let greater = &["$[1]", "$[2]", "", ""];
+    walks(&rt, alloc, "$[?@ > 1]", "[1,2,3]", greater)?;
+    let below = &[
+        "$['baz']",
+        "$['foo']['baz']",
+        "$['foo']['bar']['baz']",
+        "",
+        "",
+    ];
+    let document = r#"{"foo":{"bar":{"baz":1},"baz":2},"baz":3}"#;
+    walks(&rt, alloc, "$..baz", document, below)
+}

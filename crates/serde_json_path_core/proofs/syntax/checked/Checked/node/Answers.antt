@@ -1,9 +1,0 @@
-use Rattle.std.proofs.Common.{refl}
-use Rattle.serde_json_path_core.proofs.Growing.{piece_at-node, named_before}
-use Rattle.serde_json_path_core.proofs.syntax.checked.Checked.node.Goals as goal
-
-pub returns-clause-piece : goal.returns-clause-piece
-returns-clause-piece c = piece_at-node c.args.self.now.nodes.items c.args.part.number _ _ c.args.self.now.grown c.requires c.index.ensures refl
-
-pub returns-clause-below : goal.returns-clause-below
-returns-clause-below c = named_before c.args.self.now.nodes.items c.args.part.number _ _ c.args.self.now.grown c.requires c.index.ensures refl
