@@ -3,7 +3,6 @@ pub mod Answered
 pub mod BoundedParts
 pub mod Bounds
 pub mod CalledNames
-pub mod CalledTrees
 pub mod Chains
 pub mod ChildSteps
 pub mod Comparisons
@@ -14,7 +13,6 @@ pub mod Descents
 pub mod EachCalls
 pub mod Ends
 pub mod Growing
-pub mod Finished
 pub mod Found
 pub mod Heights
 pub mod Joined
@@ -50,4 +48,3 @@ pub mod Typings
 pub mod UsedNames
 pub mod WholeQueries
 mod Worked
-pub mod Written

@@ -8,8 +8,6 @@ pub mod Depth
 pub mod WellFormed
 pub mod Calls
 pub mod Used
-pub mod CallFree
-pub mod Samples
 pub mod Called
 pub mod CalledNames
 pub mod Text

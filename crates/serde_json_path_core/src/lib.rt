@@ -6,8 +6,6 @@ mod evaluation;
 mod filter;
 mod laws;
 mod syntax;
-#[cfg(test)]
-mod tests;
 
 pub use evaluation::resume::Walk;
 pub use evaluation::{evaluate, evaluate_located, walk};

@@ -1,0 +1,3 @@
+mod CalledTrees
+mod Finished
+mod Written

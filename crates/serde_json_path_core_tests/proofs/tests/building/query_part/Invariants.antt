@@ -1,0 +1,7 @@
+use Rattle.serde_json_path_core.specs.Tree.{Segments}
+use Rattle.serde_json_path_core.specs.Parts.{ArePartsOf}
+use Rattle.serde_json_path_core_tests.specs.CallFree.{AreCallFreeSegments}
+use Rattle.serde_json_path_core_tests.proofs.tests.building.query_part.Given as goal
+
+abbrev pub invariant-loop-segment : goal.invariant-loop-segment
+invariant-loop-segment l = (segs : Segments) × ArePartsOf l.builder l.parts.items segs × AreCallFreeSegments 0 segs

@@ -1,0 +1,2 @@
+pub mod CallFree
+pub mod Samples
