@@ -40,7 +40,7 @@ impl NumberLiteral {
     }
 
     /// The whole part, rounded toward zero, as a document's number.
-    pub fn value(&self) -> Value
+    pub(crate) fn value(&self) -> Value
         ensures { view result ≡ number (of_integer (int_div (number_amount self.now) (pos 1000000000))) }
     {
         let whole = self.billionths / ONE;

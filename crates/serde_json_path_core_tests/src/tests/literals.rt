@@ -35,23 +35,3 @@ fn takes_no_fraction_as_a_value(rt: HostRuntime) -> Result<(), Fail> {
 fn refuses_a_number_above_the_greatest(rt: HostRuntime) {
     assert!(rt; NumberLiteral::from_billionths(GREATEST + 1).is_none());
 }
-
-/// The whole part of that many billionths.
-fn whole_part_of(alloc: Global, billionths: i128) -> Result<String, Fail> {
-    let number = NumberLiteral::from_billionths(billionths).ok_or("out of range")?;
-    Ok(number.value().to_string(alloc)?)
-}
-
-#[test]
-fn whole_part_of_a_number(rt: HostRuntime) -> Result<(), Fail> {
-    for (billionths, want) in [
-        (1_999_999_999, "1"),
-        (-1_500_000_000, "-1"),
-        (-999_999_999, "0"),
-        (GREATEST, "18446744073709551615"),
-    ] {
-        let text = whole_part_of(rt.alloc(), billionths)?;
-        assert_eq!(rt; text.as_str(), want, "of {billionths}");
-    }
-    Ok(())
-}
