@@ -217,12 +217,12 @@ fn cuts_nested_texts(rt: HostRuntime) -> Result<(), Fail> {
 #[test]
 fn cuts_long_texts(rt: HostRuntime) -> Result<(), Fail> {
     let alloc = rt.alloc();
-    cut(&rt, alloc, long(alloc, "$[", "9", 1_000, "]")?.as_str());
+    cut(&rt, alloc, long(alloc, "$[", "9", 10_000, "]")?.as_str());
     cut(
         &rt,
         alloc,
-        long(alloc, "$[?@ == ", "9", 1_000, "]")?.as_str(),
+        long(alloc, "$[?@ == ", "9", 10_000, "]")?.as_str(),
     );
-    cut(&rt, alloc, long(alloc, "$", " ", 1_000, "x")?.as_str());
+    cut(&rt, alloc, long(alloc, "$", " ", 10_000, "x")?.as_str());
     Ok(())
 }
