@@ -20,4 +20,3 @@ pub mod Levels
 pub mod Giving
 pub mod Paths
 pub mod Parse
-pub mod TestSets

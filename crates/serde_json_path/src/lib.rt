@@ -6,8 +6,6 @@ mod laws;
 mod parser;
 mod path;
 mod source;
-#[cfg(test)]
-mod tests;
 
 pub use error::{ParseError, ParseErrorKind};
 pub use laws::{law_one_tree_at_most, law_printed_path_selects_its_node};

@@ -1,7 +1,7 @@
 //! The ways to make a path.
 
-use crate::JsonPath;
 use crate::tests::rows::selects;
+use serde_json_path::JsonPath;
 use std::alloc::Global;
 use std::process::Abort;
 use std::test::Fail;

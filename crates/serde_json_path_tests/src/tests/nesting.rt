@@ -1,9 +1,9 @@
 //! Filters, parentheses and calls within each other (RFC 9535, section 2.3.5.1), of which 128 are taken.
 
-use crate::JsonPath;
-use crate::ParseErrorKind::{NestedTooDeep, NonSingularQuery};
 use crate::tests::long_texts::long;
 use crate::tests::rows::refuses;
+use serde_json_path::JsonPath;
+use serde_json_path::ParseErrorKind::{NestedTooDeep, NonSingularQuery};
 use std::alloc::{AllocError, Global};
 use std::process::Abort;
 use std::test::Fail;

@@ -1,8 +1,8 @@
 //! What the lists of a query answer.
 
 use crate::tests::rows::locations;
-use crate::{AtMostOneError, ExactlyOneError, JsonPath};
 use serde_json::Value;
+use serde_json_path::{AtMostOneError, ExactlyOneError, JsonPath};
 use std::alloc::Global;
 use std::test::Fail;
 

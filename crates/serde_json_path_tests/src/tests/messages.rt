@@ -1,7 +1,7 @@
 //! The words of refusals.
 
-use crate::JsonPath;
 use crate::tests::nesting::parentheses;
+use serde_json_path::JsonPath;
 use std::alloc::Global;
 use std::process::Abort;
 use std::test::Fail;

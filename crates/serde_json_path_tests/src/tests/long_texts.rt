@@ -1,13 +1,13 @@
 //! Long texts, of paths and of documents.
 
-use crate::ParseErrorKind::{
-    ExpectedRoot, IntegerOutOfRange, NonSingularQuery, NumberOutOfRange, TextAfterPath,
-};
-use crate::functions::Builtin;
 use crate::tests::nesting::{calls, filters, nested, parentheses};
 use crate::tests::rows::refuses;
-use crate::{JsonPath, ParseErrorKind, PathSource, TextSource, parse_source};
 use serde_json::Value;
+use serde_json_path::ParseErrorKind::{
+    ExpectedRoot, IntegerOutOfRange, NonSingularQuery, NumberOutOfRange, TextAfterPath,
+};
+use serde_json_path::functions::Builtin;
+use serde_json_path::{JsonPath, ParseErrorKind, PathSource, TextSource, parse_source};
 use std::alloc::{AllocError, Global};
 use std::process::Abort;
 use std::test::Fail;

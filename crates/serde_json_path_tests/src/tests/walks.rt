@@ -1,8 +1,8 @@
 //! Walks, one node at a time.
 
-use crate::functions::{Both, Builtin, Functions};
-use crate::{JsonPath, Walk};
 use serde_json::Value;
+use serde_json_path::functions::{Both, Builtin, Functions};
+use serde_json_path::{JsonPath, Walk};
 use std::alloc::Global;
 use std::process::Abort;
 use std::test::Fail;

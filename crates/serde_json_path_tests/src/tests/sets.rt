@@ -1,21 +1,21 @@
 //! Paths whose filters call functions of other sets.
 
-ghost use Rattle.serde_json_path.specs.TestSets.{kids_functions, odd_functions, strange_functions, pair_functions};
+ghost use Rattle.serde_json_path_tests.specs.TestSets.{kids_functions, odd_functions, strange_functions, pair_functions};
 
-use crate::ParseErrorKind::{
-    ExpectedComparisonOperator, ExpectedExpression, NestedTooDeep, UndefinedFunction,
-    WrongArgumentType, WrongNumberOfArguments, WrongReturnType,
-};
-use crate::functions::FunctionArgType::{Logical, Nodelist};
-use crate::functions::{
-    Builtin, FunctionArgType, FunctionValue, Functions, LogicalType, Signature, ValueType,
-};
 use crate::tests::cuts::cut_with;
 use crate::tests::nesting::nested;
 use crate::tests::rows::{locations, values};
 use crate::tests::walks::gives_each;
-use crate::{JsonPath, ParseErrorKind, QueryError};
 use serde_json::Value;
+use serde_json_path::ParseErrorKind::{
+    ExpectedComparisonOperator, ExpectedExpression, NestedTooDeep, UndefinedFunction,
+    WrongArgumentType, WrongNumberOfArguments, WrongReturnType,
+};
+use serde_json_path::functions::FunctionArgType::{Logical, Nodelist};
+use serde_json_path::functions::{
+    Builtin, FunctionArgType, FunctionValue, Functions, LogicalType, Signature, ValueType,
+};
+use serde_json_path::{JsonPath, ParseErrorKind, QueryError};
 use std::alloc::Global;
 use std::process::Abort;
 use std::test::Fail;
@@ -25,7 +25,7 @@ use std::test::Fail;
 struct Kids;
 
 impl Functions for Kids {
-    ghost use Rattle.serde_json_path.specs.TestSets.{kids_keeps_types};
+    ghost use Rattle.serde_json_path_tests.specs.TestSets.{kids_keeps_types};
 
     ghost set = { λ _. kids_functions };
 
@@ -56,7 +56,7 @@ impl Functions for Kids {
 struct Odd;
 
 impl Functions for Odd {
-    ghost use Rattle.serde_json_path.specs.TestSets.{odd_keeps_types};
+    ghost use Rattle.serde_json_path_tests.specs.TestSets.{odd_keeps_types};
 
     ghost set = { λ _. odd_functions };
 
@@ -90,7 +90,7 @@ impl Functions for Odd {
 struct Strange;
 
 impl Functions for Strange {
-    ghost use Rattle.serde_json_path.specs.TestSets.{strange_keeps_types};
+    ghost use Rattle.serde_json_path_tests.specs.TestSets.{strange_keeps_types};
 
     ghost set = { λ _. strange_functions };
 
@@ -122,7 +122,7 @@ impl Functions for Strange {
 struct Pairs;
 
 impl Functions for Pairs {
-    ghost use Rattle.serde_json_path.specs.TestSets.{pair_keeps_types};
+    ghost use Rattle.serde_json_path_tests.specs.TestSets.{pair_keeps_types};
 
     ghost set = { λ _. pair_functions };
 

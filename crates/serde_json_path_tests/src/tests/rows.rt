@@ -4,8 +4,8 @@ ghost use Rattle.serde_json_path_functions.specs.Functions.{Fits};
 ghost use Rattle.serde_json_path_functions.specs.Patterns.{builtin_functions};
 ghost use Rattle.serde_json_path.specs.Paths.{path_signatures};
 
-use crate::{JsonPath, LocatedNodeList, Nodes, ParseErrorKind};
 use serde_json::Value;
+use serde_json_path::{JsonPath, LocatedNodeList, Nodes, ParseErrorKind};
 use std::alloc::Global;
 use std::process::Abort;
 use std::test::Fail;

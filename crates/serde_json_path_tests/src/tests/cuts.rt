@@ -1,19 +1,19 @@
 //! Texts of paths that are cut at each character.
 
-use crate::ParseErrorKind::{
+use crate::tests::long_texts::long;
+use crate::tests::{
+    blanks, bookstore, calls, comparisons, descendants, filter_refusals, filters, literals, names,
+    nesting, numbers, operators, refusals, slices, strings, words,
+};
+use serde_json_path::ParseErrorKind::{
     BadEscape, BadMemberName, ControlCharacter, ExpectedClosingBracket, ExpectedClosingParenthesis,
     ExpectedComparisonOperator, ExpectedEndingQuote, ExpectedExpression, ExpectedRoot,
     ExpectedSelector, ExponentOrEmptyFraction, FractionTooLong, IntegerOutOfRange, NestedTooDeep,
     NonSingularQuery, NumberOutOfRange, TextAfterPath, UndefinedFunction, WrongArgumentType,
     WrongNumberOfArguments, WrongReturnType,
 };
-use crate::functions::Functions;
-use crate::tests::long_texts::long;
-use crate::tests::{
-    blanks, bookstore, calls, comparisons, descendants, filter_refusals, filters, literals, names,
-    nesting, refusals, slices,
-};
-use crate::{JsonPath, ParseError, ParseErrorKind};
+use serde_json_path::functions::Functions;
+use serde_json_path::{JsonPath, ParseError, ParseErrorKind};
 use std::alloc::Global;
 use std::process::Abort;
 use std::test::Fail;
@@ -179,6 +179,9 @@ fn cuts_paths(rt: HostRuntime) -> Result<(), Fail> {
     cut_paths(&rt, rt.alloc(), calls::PATTERNS);
     cut_paths(&rt, rt.alloc(), literals::NUMBERS);
     cut_paths(&rt, rt.alloc(), literals::OTHERS);
+    cut_paths(&rt, rt.alloc(), strings::STRINGS);
+    cut_paths(&rt, rt.alloc(), numbers::NUMBERS);
+    cut_paths(&rt, rt.alloc(), words::WORDS);
     Ok(())
 }
 
@@ -193,6 +196,12 @@ fn cuts_refused_texts(rt: HostRuntime) -> Result<(), Fail> {
     cut_texts(&rt, rt.alloc(), filter_refusals::LITERALS);
     cut_texts(&rt, rt.alloc(), filter_refusals::CALLS);
     cut_texts(&rt, rt.alloc(), filter_refusals::ARGUMENTS);
+    cut_texts(&rt, rt.alloc(), strings::NO_STRINGS);
+    cut_texts(&rt, rt.alloc(), numbers::NO_NUMBERS);
+    cut_texts(&rt, rt.alloc(), operators::OPERATORS);
+    cut_texts(&rt, rt.alloc(), operators::NO_OPERATORS);
+    cut_texts(&rt, rt.alloc(), words::LITERAL_WORDS);
+    cut_texts(&rt, rt.alloc(), words::OTHER_WORDS);
     Ok(())
 }
 
@@ -208,12 +217,12 @@ fn cuts_nested_texts(rt: HostRuntime) -> Result<(), Fail> {
 #[test]
 fn cuts_long_texts(rt: HostRuntime) -> Result<(), Fail> {
     let alloc = rt.alloc();
-    cut(&rt, alloc, long(alloc, "$[", "9", 1_000, "]")?.as_str());
+    cut(&rt, alloc, long(alloc, "$[", "9", 10_000, "]")?.as_str());
     cut(
         &rt,
         alloc,
-        long(alloc, "$[?@ == ", "9", 1_000, "]")?.as_str(),
+        long(alloc, "$[?@ == ", "9", 10_000, "]")?.as_str(),
     );
-    cut(&rt, alloc, long(alloc, "$", " ", 1_000, "x")?.as_str());
+    cut(&rt, alloc, long(alloc, "$", " ", 10_000, "x")?.as_str());
     Ok(())
 }

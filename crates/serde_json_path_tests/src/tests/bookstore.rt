@@ -1,8 +1,8 @@
 //! The bookstore of RFC 9535, section 1.5.
 
-use crate::JsonPath;
 use crate::tests::rows::selects_each;
 use serde_json::Value;
+use serde_json_path::JsonPath;
 use std::test::Fail;
 
 pub(crate) const BOOKSTORE: &str = concat!(

@@ -1,13 +1,13 @@
 //! Texts with a filter that are no paths (RFC 9535, sections 2.3.5 and 2.4).
 
-use crate::ParseErrorKind;
-use crate::ParseErrorKind::{
+use crate::tests::rows::refuses_each;
+use serde_json_path::ParseErrorKind;
+use serde_json_path::ParseErrorKind::{
     BadEscape, BadMemberName, ControlCharacter, ExpectedClosingBracket, ExpectedClosingParenthesis,
     ExpectedComparisonOperator, ExpectedEndingQuote, ExpectedExpression, ExpectedSelector,
     ExponentOrEmptyFraction, FractionTooLong, NonSingularQuery, NumberOutOfRange,
     UndefinedFunction, WrongArgumentType, WrongNumberOfArguments, WrongReturnType,
 };
-use crate::tests::rows::refuses_each;
 use std::test::Fail;
 
 /// A text, and the kind and the position of its refusal.

@@ -3,6 +3,7 @@
 mod blanks;
 mod bookstore;
 mod calls;
+mod compared_values;
 mod comparisons;
 mod cuts;
 mod descendants;

@@ -1,11 +1,11 @@
 //! Texts that are no paths.
 
-use crate::ParseErrorKind;
-use crate::ParseErrorKind::{
+use crate::tests::rows::refuses_each;
+use serde_json_path::ParseErrorKind;
+use serde_json_path::ParseErrorKind::{
     BadEscape, BadMemberName, ControlCharacter, ExpectedClosingBracket, ExpectedEndingQuote,
     ExpectedRoot, ExpectedSelector, IntegerOutOfRange, TextAfterPath,
 };
-use crate::tests::rows::refuses_each;
 use std::test::Fail;
 
 /// A text, and the kind and the position of its refusal.

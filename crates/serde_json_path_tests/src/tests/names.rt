@@ -54,6 +54,14 @@ pub(crate) const WILDCARDS: &[(&str, &str, &str, &str)] = &[
         " $['b'] $['\u{ffff}'] $['\u{1f600}']",
         " 4 2 1",
     ),
+    (
+        "$[*]",
+        r#"{"b":1,"\u00e9":2,"a":3,"B":4,"aa":5}"#,
+        " $['B'] $['a'] $['aa'] $['b'] $['é']",
+        " 4 3 5 1 2",
+    ),
+    ("$[*]", "[]", "", ""),
+    ("$[*]", "{}", "", ""),
 ];
 
 /// A path, a document, and the locations and the values of what the path selects there.
