@@ -4,6 +4,7 @@ pub mod BoundedParts
 pub mod Bounds
 pub mod CalledNames
 pub mod CalledTrees
+pub mod CallsNothing
 pub mod Chains
 pub mod ChildSteps
 pub mod Comparisons

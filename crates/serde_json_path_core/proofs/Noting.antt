@@ -36,19 +36,19 @@ noted_then r signature old middle new xs ys all e first h =
 
 -- ---- what trees call that are made of pieces
 
-by_segments : (ps : List Piece) → called_in_segments (segments_in ps) ≡ called_by_each form.Segment ps
+pub by_segments : (ps : List Piece) → called_in_segments (segments_in ps) ≡ called_by_each form.Segment ps
 by_segments [] = refl
 by_segments (p ∷ ps) = ap (λ names. called_in_segment (segment_in p) ++ names) (by_segments ps)
 
-by_selectors : (ps : List Piece) → called_in_selectors (selectors_in ps) ≡ called_by_each form.Selector ps
+pub by_selectors : (ps : List Piece) → called_in_selectors (selectors_in ps) ≡ called_by_each form.Selector ps
 by_selectors [] = refl
 by_selectors (p ∷ ps) = ap (λ names. called_in_selector (selector_in p) ++ names) (by_selectors ps)
 
-by_ors : (ps : List Piece) → called_in_or (ors_in ps) ≡ called_by_each form.LogicalAnd ps
+pub by_ors : (ps : List Piece) → called_in_or (ors_in ps) ≡ called_by_each form.LogicalAnd ps
 by_ors [] = refl
 by_ors (p ∷ ps) = ap (λ names. called_in_and (and_in p) ++ names) (by_ors ps)
 
-by_ands : (ps : List Piece) → called_in_and (ands_in ps) ≡ called_by_each form.Basic ps
+pub by_ands : (ps : List Piece) → called_in_and (ands_in ps) ≡ called_by_each form.Basic ps
 by_ands [] = refl
 by_ands (p ∷ ps) = ap (λ names. called_in_basic (basic_in p) ++ names) (by_ands ps)
 

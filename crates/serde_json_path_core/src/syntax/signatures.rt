@@ -1,5 +1,6 @@
 //! The functions that a query calls, with their signatures (RFC 9535, section 2.4).
 
+ghost use Rattle.std.specs.List.{All};
 ghost use Rattle.std.specs.Prelude.{◌<◌, ◌≤◌, ◌≡◌, ◌↔◌, IfOk, IsTrue, length, option_map};
 ghost use Rattle.serde_json_path_functions.specs.Functions.{Fits};
 ghost use Rattle.serde_json_path_functions.specs.Terms.{signature_view};
@@ -8,6 +9,7 @@ ghost use Rattle.serde_json_path_core.specs.Flat.{IsGrown, argument_in, basic_in
 ghost use Rattle.serde_json_path_core.specs.Noted.{called_as, called_by_each, noted, noted_with};
 ghost use Rattle.serde_json_path_core.specs.PartBounds.{parts_bound};
 ghost use Rattle.serde_json_path_core.specs.Used.{signature_in, used_view};
+ghost use Rattle.serde_json_path_core.specs.WithoutCall.{IsWithoutCall};
 
 use crate::syntax::node::{Argument, Basic, Comparable, Node, Part, Selector};
 use crate::syntax::reading::{
@@ -84,6 +86,35 @@ fn note<F: Functions>(
         used.push((String::from_str(alloc, name)?, signature))?;
     }
     Ok(())
+}
+
+/// Whether none of the nodes is a call, or tests, compares or passes on what a call answers.
+pub(crate) fn calls_nothing(nodes: &[Node]) -> bool
+    ensures { IsTrue result ↔ All IsWithoutCall nodes.now }
+{
+    for node in nodes {
+        if !is_without_call(node) {
+            return false;
+        }
+    }
+    true
+}
+
+/// Whether a node is no call, and neither tests, compares nor passes on what a call answers.
+fn is_without_call(node: &Node) -> bool
+    ensures { IsTrue result ↔ IsWithoutCall node.now }
+{
+    match node {
+        Node::Basic(basic) => !matches!(basic, Basic::Test(_) | Basic::NotTest(_)),
+        Node::Comparable(comparable) => !matches!(comparable, Comparable::Called(_)),
+        Node::Call { .. } => false,
+        Node::Argument(argument) => !matches!(argument, Argument::Call(_)),
+        Node::Query { .. }
+        | Node::Segment { .. }
+        | Node::Selector(_)
+        | Node::LogicalOr(_)
+        | Node::LogicalAnd(_) => true,
+    }
 }
 
 /// Notes the names that parts of that form call, in order.
