@@ -3,6 +3,7 @@ pub mod Answered
 pub mod BoundedParts
 pub mod Bounds
 pub mod CalledNames
+pub mod CallsNothing
 pub mod Chains
 pub mod ChildSteps
 pub mod Comparisons

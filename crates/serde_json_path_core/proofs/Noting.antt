@@ -2,9 +2,9 @@
 use Rattle.std.proofs.Common.{◌≡◌, ℕ, ◌+◌, ◌<◌, List, [], ◌∷◌, ◌++◌, length, drop, get_or, Option, Result, IfOk, refl, sym, ap, subst, ◌∙◌}
 use Rattle.std.proofs.lemmas.List.{drop_more}
 use Rattle.serde_json_path_functions.specs.Functions.{Signature}
-use Rattle.serde_json_path_core.specs.Tree.{Query, query, segments_of, Comparable, Operator, relation, Call, call}
+use Rattle.serde_json_path_core.specs.Tree.{Query, query, segments_of, Call, call}
 use Rattle.serde_json_path_core.specs.Calls.{name_of, arguments_of}
-use Rattle.serde_json_path_core.specs.CalledNames.{called_names, called_from, called_in_segments, called_in_selectors, called_in_or, called_in_and, called_in_arguments, called_in_segment, called_in_selector, called_in_basic, called_in_comparable, called_in_argument}
+use Rattle.serde_json_path_core.specs.CalledNames.{called_names, called_from, called_in_segments, called_in_selectors, called_in_or, called_in_and, called_in_arguments, called_in_segment, called_in_selector, called_in_basic, called_in_argument}
 use Rattle.serde_json_path_core.specs.Piece.{Piece}
 use Rattle.serde_json_path_core.specs.Flat.{query_in, segment_in, selector_in, or_in, and_in, basic_in, call_in, argument_in, segments_in, selectors_in, ors_in, ands_in, arguments_in, piece_in, pieces_named}
 use Rattle.serde_json_path_core.specs.Noted.{noted, noted_with, called_as, called_by_each}
@@ -36,19 +36,19 @@ noted_then r signature old middle new xs ys all e first h =
 
 -- ---- what trees call that are made of pieces
 
-by_segments : (ps : List Piece) → called_in_segments (segments_in ps) ≡ called_by_each form.Segment ps
+pub by_segments : (ps : List Piece) → called_in_segments (segments_in ps) ≡ called_by_each form.Segment ps
 by_segments [] = refl
 by_segments (p ∷ ps) = ap (λ names. called_in_segment (segment_in p) ++ names) (by_segments ps)
 
-by_selectors : (ps : List Piece) → called_in_selectors (selectors_in ps) ≡ called_by_each form.Selector ps
+pub by_selectors : (ps : List Piece) → called_in_selectors (selectors_in ps) ≡ called_by_each form.Selector ps
 by_selectors [] = refl
 by_selectors (p ∷ ps) = ap (λ names. called_in_selector (selector_in p) ++ names) (by_selectors ps)
 
-by_ors : (ps : List Piece) → called_in_or (ors_in ps) ≡ called_by_each form.LogicalAnd ps
+pub by_ors : (ps : List Piece) → called_in_or (ors_in ps) ≡ called_by_each form.LogicalAnd ps
 by_ors [] = refl
 by_ors (p ∷ ps) = ap (λ names. called_in_and (and_in p) ++ names) (by_ors ps)
 
-by_ands : (ps : List Piece) → called_in_and (ands_in ps) ≡ called_by_each form.Basic ps
+pub by_ands : (ps : List Piece) → called_in_and (ands_in ps) ≡ called_by_each form.Basic ps
 by_ands [] = refl
 by_ands (p ∷ ps) = ap (λ names. called_in_basic (basic_in p) ++ names) (by_ands ps)
 
@@ -75,9 +75,6 @@ module _ (f : Form) (piece : Piece) (named : List Piece) where
 
   pub and_calls : f ≡ form.LogicalAnd → and_in piece ≡ ands_in named → called_by_each form.Basic named ≡ called_as f piece
   and_calls is e = sym (by_ands named) ∙ ap called_in_and (sym e) ∙ ap (λ read. called_as read piece) (sym is)
-
-  pub relation_calls : (a b : Comparable) (op : Operator) → f ≡ form.Basic → basic_in piece ≡ relation a op b → called_in_comparable a ++ called_in_comparable b ≡ called_as f piece
-  relation_calls a b op is e = sym (ap called_in_basic e) ∙ ap (λ read. called_as read piece) (sym is)
 
   pub call_calls : f ≡ form.Call → arguments_of (call_in piece) ≡ arguments_in named → name_of (call_in piece) ∷ called_by_each form.Argument named ≡ called_as f piece
   call_calls is e =

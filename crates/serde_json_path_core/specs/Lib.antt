@@ -16,6 +16,7 @@ pub mod SliceView
 pub mod Literals
 pub mod Flat
 pub mod PartBounds
+pub mod WithoutCall
 pub mod Parts
 pub mod Noted
 pub mod Selected

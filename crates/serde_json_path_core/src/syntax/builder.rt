@@ -8,7 +8,7 @@ use crate::syntax::node::{
     Argument, Basic, Comparable, Joined, Node, Part, QueryKind, Segment, SegmentKind, Selector,
 };
 use crate::syntax::operator::ComparisonOperator;
-use crate::syntax::signatures::{Form, note_calls};
+use crate::syntax::signatures::{Form, calls_nothing, note_calls};
 use crate::syntax::singular::is_singular;
 use crate::syntax::slice::Slice;
 use serde_json::Value;
@@ -379,6 +379,9 @@ impl SyntaxBuilder {
     {
         let mut used = Vec::new(alloc);
         let nodes = self.nodes.as_slice();
+        if calls_nothing(nodes) {
+            return Ok(used);
+        }
         note_calls(alloc, nodes, Form::Query, query, functions, &mut used)?;
         Ok(used)
     }

@@ -1,12 +1,15 @@
 //! The functions that a query calls, with their signatures (RFC 9535, section 2.4).
 
+ghost use Rattle.std.specs.List.{All};
 ghost use Rattle.std.specs.Prelude.{◌<◌, ◌≤◌, ◌≡◌, ◌↔◌, IfOk, IsTrue, length, option_map};
 ghost use Rattle.serde_json_path_functions.specs.Functions.{Fits};
 ghost use Rattle.serde_json_path_functions.specs.Terms.{signature_view};
-ghost use Rattle.serde_json_path_core.specs.Flat.{IsGrown, piece_at, pieces, pieces_named};
+ghost use Rattle.serde_json_path_core.specs.CalledNames.{called_in_argument, called_in_basic, called_in_comparable, called_in_selector};
+ghost use Rattle.serde_json_path_core.specs.Flat.{IsGrown, argument_in, basic_in, comparable_in, piece_at, pieces, pieces_named, selector_in};
 ghost use Rattle.serde_json_path_core.specs.Noted.{called_as, called_by_each, noted, noted_with};
 ghost use Rattle.serde_json_path_core.specs.PartBounds.{parts_bound};
 ghost use Rattle.serde_json_path_core.specs.Used.{signature_in, used_view};
+ghost use Rattle.serde_json_path_core.specs.WithoutCall.{IsWithoutCall};
 
 use crate::syntax::node::{Argument, Basic, Comparable, Node, Part, Selector};
 use crate::syntax::reading::{
@@ -85,6 +88,35 @@ fn note<F: Functions>(
     Ok(())
 }
 
+/// Whether none of the nodes is a call, or tests, compares or passes on what a call answers.
+pub(crate) fn calls_nothing(nodes: &[Node]) -> bool
+    ensures { IsTrue result ↔ All IsWithoutCall nodes.now }
+{
+    for node in nodes {
+        if !is_without_call(node) {
+            return false;
+        }
+    }
+    true
+}
+
+/// Whether a node is no call, and neither tests, compares nor passes on what a call answers.
+fn is_without_call(node: &Node) -> bool
+    ensures { IsTrue result ↔ IsWithoutCall node.now }
+{
+    match node {
+        Node::Basic(basic) => !matches!(basic, Basic::Test(_) | Basic::NotTest(_)),
+        Node::Comparable(comparable) => !matches!(comparable, Comparable::Called(_)),
+        Node::Call { .. } => false,
+        Node::Argument(argument) => !matches!(argument, Argument::Call(_)),
+        Node::Query { .. }
+        | Node::Segment { .. }
+        | Node::Selector(_)
+        | Node::LogicalOr(_)
+        | Node::LogicalAnd(_) => true,
+    }
+}
+
 /// Notes the names that parts of that form call, in order.
 #[cycle(noting)]
 fn note_each<F: Functions>(
@@ -128,12 +160,7 @@ pub(crate) fn note_calls<F: Functions>(
             let parts = bracketed_parts(nodes, part);
             note_each(alloc, nodes, Form::Selector, parts, functions, used)
         }
-        Form::Selector => match node_at(nodes, part) {
-            Node::Selector(Selector::Filter(test)) => {
-                note_calls(alloc, nodes, Form::LogicalOr, *test, functions, used)
-            }
-            _ => Ok(()),
-        },
+        Form::Selector => note_in_selector(alloc, nodes, part, functions, used),
         Form::LogicalOr => {
             let parts = or_parts(nodes, part);
             note_each(alloc, nodes, Form::LogicalAnd, parts, functions, used)
@@ -142,55 +169,118 @@ pub(crate) fn note_calls<F: Functions>(
             let parts = and_parts(nodes, part);
             note_each(alloc, nodes, Form::Basic, parts, functions, used)
         }
-        Form::Basic => match node_at(nodes, part) {
-            Node::Basic(basic) => match basic {
-                Basic::Paren(inner) | Basic::NotParen(inner) => {
-                    note_calls(alloc, nodes, Form::LogicalOr, *inner, functions, used)
-                }
-                Basic::Relation { left, right, .. } => {
-                    note_calls(alloc, nodes, Form::Comparable, *left, functions, used)?;
-                    note_calls(alloc, nodes, Form::Comparable, *right, functions, used)
-                }
-                Basic::Exist(query) | Basic::NotExist(query) => {
-                    note_calls(alloc, nodes, Form::Query, *query, functions, used)
-                }
-                Basic::Test(call) | Basic::NotTest(call) => {
-                    note_calls(alloc, nodes, Form::Call, *call, functions, used)
-                }
-            },
-            _ => Ok(()),
-        },
-        Form::Comparable => match node_at(nodes, part) {
-            Node::Comparable(comparable) => match comparable {
-                Comparable::Literal(_) => Ok(()),
-                Comparable::Singular(query) => {
-                    note_calls(alloc, nodes, Form::Query, *query, functions, used)
-                }
-                Comparable::Called(call) => {
-                    note_calls(alloc, nodes, Form::Call, *call, functions, used)
-                }
-            },
-            _ => Ok(()),
-        },
+        Form::Basic => note_in_basic(alloc, nodes, part, functions, used),
+        Form::Comparable => note_in_comparable(alloc, nodes, part, functions, used),
         Form::Call => {
             note(alloc, called_name(nodes, part), functions, used)?;
             let parts = arguments(nodes, part);
             note_each(alloc, nodes, Form::Argument, parts, functions, used)
         }
-        Form::Argument => match node_at(nodes, part) {
-            Node::Argument(argument) => match argument {
-                Argument::Value(_) | Argument::Number(_) => Ok(()),
-                Argument::Query(query) => {
-                    note_calls(alloc, nodes, Form::Query, *query, functions, used)
-                }
-                Argument::Call(call) => {
-                    note_calls(alloc, nodes, Form::Call, *call, functions, used)
-                }
-                Argument::Logical(test) => {
-                    note_calls(alloc, nodes, Form::LogicalOr, *test, functions, used)
-                }
-            },
-            _ => Ok(()),
-        },
+        Form::Argument => note_in_argument(alloc, nodes, part, functions, used),
+    }
+}
+
+/// Notes the names that the selector of a part calls.
+#[cycle(noting)]
+fn note_in_selector<F: Functions>(
+    alloc: Global,
+    nodes: &[Node],
+    part: Part,
+    functions: &F,
+    used: &mut Vec<(String, Signature)>,
+) -> Result<(), AllocError>
+    requires grown { IsGrown nodes.now }
+    requires within { part.number < length nodes.now }
+    ensures { IfOk result (λ done. used_view used.new.items ≡ noted (F.set functions.now).signature (used_view used.old.items) (called_in_selector (selector_in (piece_at nodes.now part.number)))) }
+{
+    match node_at(nodes, part) {
+        Node::Selector(Selector::Filter(test)) => {
+            note_calls(alloc, nodes, Form::LogicalOr, *test, functions, used)
+        }
+        _ => Ok(()),
+    }
+}
+
+/// Notes the names that a part of an expression that is joined by `&&` calls.
+#[cycle(noting)]
+fn note_in_basic<F: Functions>(
+    alloc: Global,
+    nodes: &[Node],
+    part: Part,
+    functions: &F,
+    used: &mut Vec<(String, Signature)>,
+) -> Result<(), AllocError>
+    requires grown { IsGrown nodes.now }
+    requires within { part.number < length nodes.now }
+    ensures { IfOk result (λ done. used_view used.new.items ≡ noted (F.set functions.now).signature (used_view used.old.items) (called_in_basic (basic_in (piece_at nodes.now part.number)))) }
+{
+    let Node::Basic(basic) = node_at(nodes, part) else {
+        return Ok(());
+    };
+    match basic {
+        Basic::Paren(inner) | Basic::NotParen(inner) => {
+            note_calls(alloc, nodes, Form::LogicalOr, *inner, functions, used)
+        }
+        Basic::Relation { left, right, .. } => {
+            note_calls(alloc, nodes, Form::Comparable, *left, functions, used)?;
+            note_calls(alloc, nodes, Form::Comparable, *right, functions, used)
+        }
+        Basic::Exist(query) | Basic::NotExist(query) => {
+            note_calls(alloc, nodes, Form::Query, *query, functions, used)
+        }
+        Basic::Test(call) | Basic::NotTest(call) => {
+            note_calls(alloc, nodes, Form::Call, *call, functions, used)
+        }
+    }
+}
+
+/// Notes the names that the side of a comparison of a part calls.
+#[cycle(noting)]
+fn note_in_comparable<F: Functions>(
+    alloc: Global,
+    nodes: &[Node],
+    part: Part,
+    functions: &F,
+    used: &mut Vec<(String, Signature)>,
+) -> Result<(), AllocError>
+    requires grown { IsGrown nodes.now }
+    requires within { part.number < length nodes.now }
+    ensures { IfOk result (λ done. used_view used.new.items ≡ noted (F.set functions.now).signature (used_view used.old.items) (called_in_comparable (comparable_in (piece_at nodes.now part.number)))) }
+{
+    let Node::Comparable(comparable) = node_at(nodes, part) else {
+        return Ok(());
+    };
+    match comparable {
+        Comparable::Literal(_) => Ok(()),
+        Comparable::Singular(query) => {
+            note_calls(alloc, nodes, Form::Query, *query, functions, used)
+        }
+        Comparable::Called(call) => note_calls(alloc, nodes, Form::Call, *call, functions, used),
+    }
+}
+
+/// Notes the names that the argument of a part calls.
+#[cycle(noting)]
+fn note_in_argument<F: Functions>(
+    alloc: Global,
+    nodes: &[Node],
+    part: Part,
+    functions: &F,
+    used: &mut Vec<(String, Signature)>,
+) -> Result<(), AllocError>
+    requires grown { IsGrown nodes.now }
+    requires within { part.number < length nodes.now }
+    ensures { IfOk result (λ done. used_view used.new.items ≡ noted (F.set functions.now).signature (used_view used.old.items) (called_in_argument (argument_in (piece_at nodes.now part.number)))) }
+{
+    let Node::Argument(argument) = node_at(nodes, part) else {
+        return Ok(());
+    };
+    match argument {
+        Argument::Value(_) | Argument::Number(_) => Ok(()),
+        Argument::Query(query) => note_calls(alloc, nodes, Form::Query, *query, functions, used),
+        Argument::Call(call) => note_calls(alloc, nodes, Form::Call, *call, functions, used),
+        Argument::Logical(test) => {
+            note_calls(alloc, nodes, Form::LogicalOr, *test, functions, used)
+        }
     }
 }

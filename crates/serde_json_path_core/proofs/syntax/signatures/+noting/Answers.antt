@@ -1,13 +1,12 @@
 use Rattle.std.proofs.Common.{rules, ◌<◌, ◌+◌, [], ◌∷◌, get_or, drop, sym, ap, ◌∙◌}
 use Rattle.serde_json_path_core.specs.Calls.{name_of}
-use Rattle.serde_json_path_core.specs.CalledNames.{called_in_comparable}
+use Rattle.serde_json_path_core.specs.CalledNames.{called_in_basic, called_in_comparable}
 use Rattle.serde_json_path_core.specs.Flat.{basic_in, basic_of, call_at, comparable_in, piece_at, piece_in, piece_of, pieces, pieces_named}
-use Rattle.serde_json_path_core.specs.Literals.{operator_view}
 use Rattle.serde_json_path_core.specs.Noted.{called_as, called_by_each, noted, noted_with}
 use Rattle.serde_json_path_core.specs.PartBounds.{parts_bound}
 use Rattle.serde_json_path_core.specs.Used.{signature_in, used_view}
 use Rattle.serde_json_path_core.proofs.BoundedParts.{within_get}
-use Rattle.serde_json_path_core.proofs.Noting.{noted_append, noted_same, noted_then, called_from_part, query_calls, segment_calls, or_calls, and_calls, relation_calls, call_calls}
+use Rattle.serde_json_path_core.proofs.Noting.{noted_append, noted_same, noted_then, called_from_part, query_calls, segment_calls, or_calls, and_calls, call_calls}
 use Rattle.serde_json_path_core.proofs.syntax.signatures.+noting.Goals as goal
 
 -- ---- what the parts call that a part names
@@ -37,16 +36,14 @@ note_calls-returns-in-LogicalAnd g t c =
     noted_same c.note_each-in-LogicalAnd.result _ _ _ _ _ (and_calls c.args.form piece named c.in-LogicalAnd.is c.and_parts-parts.ensures.tree) c.note_each-in-LogicalAnd.ensures
 
 -- the left side of a comparison, and then the right one
-pub note_calls-returns-in_ok-note_calls-in-Relation : goal.note_calls-returns-in_ok-note_calls-in-Relation
-note_calls-returns-in_ok-note_calls-in-Relation g t c =
+pub note_in_basic-returns-in_ok-note_calls-in-Relation : goal.note_in_basic-returns-in_ok-note_calls-in-Relation
+note_in_basic-returns-in_ok-note_calls-in-Relation g t c =
     let ps = pieces c.args.nodes.now in
-    let piece = piece_at c.args.nodes.now c.args.part.number in
     let left = comparable_in (piece_in ps c.in-Relation.left.number) in
     let right = comparable_in (piece_in ps c.in-Relation.right.number) in
-    let is = ap basic_in (c.node_at-in-Basic.ensures.piece ∙ ap (piece_of ps) c.in-Basic-node_at.is) ∙ ap (basic_of ps) c.in-Relation.is in
-    noted_then c.note_calls-in-Relation-2.result _ _ _ _ (called_in_comparable left) (called_in_comparable right) _
-    (relation_calls c.args.form piece [] left right (operator_view c.in-Relation.operator) c.in-Basic.is is)
-    c.in_ok-note_calls-in-Relation.ensures c.note_calls-in-Relation-2.ensures
+    let is = ap basic_in (c.node_at.ensures.piece ∙ ap (piece_of ps) c.in-Basic.is) ∙ ap (basic_of ps) c.in-Relation.is in
+    noted_then c.note_calls-in-Relation.result _ _ _ _ (called_in_comparable left) (called_in_comparable right) _ (sym (ap called_in_basic is))
+    c.in_ok-note_calls-in-Relation.ensures c.note_calls-in-Relation.ensures
 
 -- a call's name, and then its arguments
 pub note_calls-returns-in_ok-note-in-Call : goal.note_calls-returns-in_ok-note-in-Call
