@@ -17,7 +17,7 @@ use thiserror::Error;
 /// Why a document is refused.
 #[derive(Debug, Drop, Error)]
 pub enum DocumentError {
-    /// The bytes are no JSON text.
+    /// The bytes are no JSON text that `serde_json` reads: it takes 127 levels, and no number beyond those of floats.
     #[error("not JSON")]
     NotJson,
     /// Memory was refused.

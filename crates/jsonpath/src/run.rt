@@ -68,7 +68,7 @@ fn print<W: Write, E: Write>(lines: &str, out: &mut W, err: &mut E) -> u8
 /// The program: `jsonpath PATH` with a document as its input. Answers the status.
 ///
 /// With exactly one word the input is read to its end, the path and the document are read, all lines are made, and then
-/// they are written. Any fault goes to `err` in one line, and nothing to `out`:
+/// they are written. Any fault goes to `err` in one line, and, but for a failed write, nothing to `out`:
 ///
 /// | Status | When |
 /// |---|---|

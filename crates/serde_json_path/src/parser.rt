@@ -32,9 +32,16 @@ use std::alloc::Global;
 ///
 /// Filters call functions of the set, and the built-in ones behind them; the path fits these. A text of n bytes is looked at
 /// 32(n + 1) times at most, and where a root, a name, a selector or a closing bracket is missing, nothing beyond the byte
-/// that does not fit was looked at.
+/// behind the one that does not fit was looked at.
 ///
-/// A text of `usize::MAX` bytes, whose end would have no position, is refused as `NoMemory` before any look.
+/// An error tells why and where ([`ParseError`]): unless it is `NoMemory`, the text is no path. A text of `usize::MAX` bytes,
+/// whose end would have no position, is refused as `NoMemory` before any look.
+///
+/// ```text
+/// let mut source = TextSource::new("$..book[-1:].title");
+/// let path = parse_source(alloc, &mut source, &Builtin)?;
+/// let looks = source.looks();
+/// ```
 pub fn parse_source<S: PathSource, F: Functions>(
     alloc: Global,
     source: &mut S,

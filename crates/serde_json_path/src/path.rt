@@ -48,7 +48,13 @@ impl JsonPath {
         }
     }
 
-    /// Reads a path whose filters call the built-in functions, as `parse_source` does.
+    /// Reads a path (RFC 9535, section 2.1) whose filters call the built-in functions, as `parse_source` does.
+    ///
+    /// An error tells why and where ([`ParseError`]): unless it is `NoMemory`, the text is no path.
+    ///
+    /// ```text
+    /// let path = JsonPath::parse(alloc, "$.store.book[?@.isbn].title")?;
+    /// ```
     pub fn parse(alloc: Global, path_str: &str) -> Result<JsonPath, ParseError>
         ensures parse { IsParseOf builtin_functions.signature path_str.now result }
         ensures fits { IfOk result (λ path. Fits builtin_functions (path_signatures path)) }
@@ -111,7 +117,8 @@ impl JsonPath {
     }
 
     /// What the path selects from a document, with locations, in order, as `query_located` gives it, under this set with
-    /// the built-in functions behind it, which the path fits. Errors come as there.
+    /// the built-in functions behind it, which the path fits. Where an error comes there is no list: `Pattern` comes only
+    /// where the path calls a name that stands for `match` or `search`; every other error is of memory.
     pub fn query_located_with<'b, F: Functions>(
         &self,
         alloc: Global,
@@ -143,7 +150,7 @@ impl JsonPath {
     }
 
     /// The values of what the path selects from a document, in order, as `query` gives them, under this set with the
-    /// built-in functions behind it, which the path fits. Errors come as in `query_located`.
+    /// built-in functions behind it, which the path fits. Errors come as in `query_located_with`.
     pub fn query_with<'b, F: Functions>(
         &self,
         alloc: Global,
@@ -159,7 +166,7 @@ impl JsonPath {
     }
 
     /// A walk over what the path selects in a document, node by node, under this set with the built-in functions behind
-    /// it, which the path fits. There is no walk only where memory is refused; no function is called yet.
+    /// it, which the path fits. An error comes only where memory is refused; no function is called yet.
     ///
     /// ```text
     /// let mut walk = path.walk(alloc, &document, &functions)?;

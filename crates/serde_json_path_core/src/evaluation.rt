@@ -43,7 +43,7 @@ pub(crate) fn start<'b>(kind: QueryKind, node: &'b Value, root: &'b Value) -> &'
 /// A walk over what the query selects in the document with this root, where `@` is the node
 /// (RFC 9535, sections 2.1.2 and 2.5), under a function set that the query fits, which it keeps.
 ///
-/// The nodes and the names of their locations borrow the document. There is no walk only where memory is refused. No
+/// The nodes and the names of their locations borrow the document. An error comes only where memory is refused. No
 /// function is called yet.
 pub fn walk<'q, 'b, F: Functions + Drop>(
     alloc: Global,
@@ -102,7 +102,8 @@ pub fn evaluate_located<'b, F: Functions + Drop>(
     Ok(LocatedNodeList::from(found))
 }
 
-/// The values of what the query selects, in order, as [`evaluate_located`] gives them. No location is made.
+/// The values of what the query selects, in order, as [`evaluate_located`] gives them (RFC 9535, section 2.1.2). No location
+/// is made. Errors come as there.
 pub fn evaluate<'b, F: Functions + Drop>(
     alloc: Global,
     query: &Checked,

@@ -10,7 +10,7 @@ const MOST_PARAMS: usize = 8;
 /// The types of a function's parameters, at most eight, and of its result (RFC 9535, section 2.4.1).
 ///
 /// ```text
-/// let count = Signature::new(&[FunctionArgType::Nodelist], FunctionArgType::Value);
+/// let Some(count) = Signature::new(&[FunctionArgType::Nodelist], FunctionArgType::Value) else { .. };
 /// ```
 #[derive(Clone, Copy, Debug)]
 pub struct Signature {

@@ -46,7 +46,8 @@ impl<'q, 'b, F: Functions> Walk<'q, 'b, F> {
 
     /// The next node with its location, or `None` where there is no more.
     ///
-    /// A refusal leaves what is still to come as it was. `Pattern` comes only where the query calls a function that
+    /// A refusal leaves what is still to come as it was, and the next call tries the same step again: what was refused for
+    /// want of memory may be given then, a pattern that was refused is refused again. `Pattern` comes only where the query calls a function that
     /// stands for `match` or `search`; every other refusal is of memory.
     pub fn next(&mut self) -> Result<Option<LocatedNode<'b>>, QueryError>
         ensures query { query_of self.new ≡ query_of self.old }
