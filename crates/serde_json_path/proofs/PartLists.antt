@@ -1,5 +1,5 @@
 -- Parts that stand for selectors and for segments, one more at a time.
-use Rattle.std.proofs.Common.{◌≡◌, List, [], ◌∷◌, ◌++◌, length, refl, sym, ap, subst, ◌∙◌, arith}
+use Rattle.std.proofs.Common.{◌≡◌, List, [], ◌∷◌, ◌++◌, refl, sym, ap, subst, ◌∙◌}
 use Rattle.serde_json_path_core.specs.Tree.{SegmentKind, Segment, Selector}
 use Rattle.serde_json_path_core.specs.Piece.{Piece, a_segment, a_selector}
 use Rattle.serde_json_path_core.specs.Parts.{IsPart, ArePartsFor, ArePartsOf, AreSelectorsOf, KeepsParts, segment_pieces, selector_pieces}
@@ -41,11 +41,10 @@ selectors_kept old new [] ss keeps h = absurd h
 selectors_kept old new (part ∷ parts) ss keeps h = parts_for_kept old new keeps (part ∷ parts) (selector_pieces (selector_list ss)) h
 
 -- no part stands for no segment, and for nothing else
-pub no_part : (builder : SyntaxBuilder) (parts : List Part) (ss : List (SegmentKind × Segment)) → ArePartsOf builder parts (segment_list ss) → length parts ≡ 0 → ss ≡ []
+pub no_part : (builder : SyntaxBuilder) (parts : List Part) (ss : List (SegmentKind × Segment)) → ArePartsOf builder parts (segment_list ss) → parts ≡ [] → ss ≡ []
 no_part builder parts [] h none = refl
-no_part builder [] (s ∷ ss) h none = absurd h
-no_part builder (part ∷ parts) (s ∷ ss) h none = absurd (omega (arith, none))
+no_part builder parts (s ∷ ss) h none = absurd (subst (λ (ps : List Part). ArePartsOf builder ps (segment_list (s ∷ ss))) none h)
 
-pub no_segment : (builder : SyntaxBuilder) (parts : List Part) (ss : List (SegmentKind × Segment)) → ArePartsOf builder parts (segment_list ss) → ss ≡ [] → length parts ≡ 0
+pub no_segment : (builder : SyntaxBuilder) (parts : List Part) (ss : List (SegmentKind × Segment)) → ArePartsOf builder parts (segment_list ss) → ss ≡ [] → parts ≡ []
 no_segment builder [] ss h none = refl
 no_segment builder (part ∷ parts) ss h none = absurd (subst (λ (xs : List (SegmentKind × Segment)). ArePartsOf builder (part ∷ parts) (segment_list xs)) none h)

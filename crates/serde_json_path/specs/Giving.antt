@@ -1,9 +1,8 @@
 -- What a function of the parser returned is what reading gives.
-use Rattle.std.specs.Prelude.{◌≡◌, ℕ, true, length, ◌≤◌, ◌+◌, ◌-◌, List, ◌++◌, Vec, Option, Some, Result, Ok, Err}
+use Rattle.std.specs.Prelude.{◌≡◌, ℕ, true, length, ◌≤◌, ◌+◌, ◌-◌, List, ◌++◌, Option, Some, Result, Ok, Err}
 use Rattle.std.specs.Str.{encode_utf8_all}
-use Rattle.std.specs.declared.alloc.Global.{Global}
 use Rattle.serde_json_path_core.specs.Tree.{query, root, SegmentKind, Segments, Segment, Selector, Call, Arguments, no_arguments, Argument, literal_argument, query_argument, call_argument, logical_argument}
-use Rattle.serde_json_path_core.specs.Flat.{segment_kind_view}
+use Rattle.serde_json_path_core.specs.Flat.{parts_in, segment_kind_view}
 use Rattle.serde_json_path_core.specs.Literals.{literal_view}
 use Rattle.serde_json_path_core.specs.Piece as piece
 use Rattle.serde_json_path_core.specs.Piece.{Piece, a_segment}
@@ -14,6 +13,7 @@ use Rattle.serde_json_path_functions.specs.Functions.{Signature, FunctionSet, Fi
 use Rattle.serde_json_path_functions.specs.Terms.{kind_view}
 use Rattle.serde_json_path_functions.specs.declared.types.FunctionArgType.{FunctionArgType}
 use Rattle.serde_json_path_core.specs.declared.syntax.node.Part.{Part}
+use Rattle.serde_json_path_core.specs.declared.syntax.parts.Parts.{Parts}
 use Rattle.serde_json_path_core.specs.declared.syntax.builder.SyntaxBuilder.{SyntaxBuilder}
 use Rattle.serde_json_path_core.specs.declared.syntax.checked.Checked.{Checked}
 use Rattle.serde_json_path.specs.declared.error.Refusal.{Refusal}
@@ -56,8 +56,8 @@ abbrev pub segment_piece : SegmentKind × Segment → Piece
 segment_piece s = a_segment s.0 s.1
 
 -- The parts that were made stand for the selectors that reading gives.
-abbrev pub MakesSelectors : {S : Type 0} {g : Ghosts S} → SyntaxBuilder → Result (Vec Part Global) Stop → Reader S g → Parsed (List Selector) → Type 0
-MakesSelectors builder (Ok parts) reader read = (ss : List Selector) × AreSelectorsOf builder parts.items (selector_list ss) × (read ≡ Ok (ss, left reader))
+abbrev pub MakesSelectors : {S : Type 0} {g : Ghosts S} → SyntaxBuilder → Result Parts Stop → Reader S g → Parsed (List Selector) → Type 0
+MakesSelectors builder (Ok parts) reader read = (ss : List Selector) × AreSelectorsOf builder (parts_in parts) (selector_list ss) × (read ≡ Ok (ss, left reader))
 MakesSelectors builder (Err e) reader read = Fails e read
 
 -- A segment was made, or a bracket begins, behind which reading goes on.
@@ -68,9 +68,9 @@ StartsSegment builder (Err e) reader bracket_at read = Fails e read
 
 -- The parts that were made stand for the segments that reading gives. So many bytes are left behind the last one, and
 -- the reader stands behind the blanks there.
-abbrev pub MakesSegments : {S : Type 0} {g : Ghosts S} → SyntaxBuilder → Result (Vec Part Global × ℕ) Stop → Reader S g → Parsed (List (SegmentKind × Segment)) → Type 0
+abbrev pub MakesSegments : {S : Type 0} {g : Ghosts S} → SyntaxBuilder → Result (Parts × ℕ) Stop → Reader S g → Parsed (List (SegmentKind × Segment)) → Type 0
 MakesSegments builder (Ok parts) reader read =
-    (ss : List (SegmentKind × Segment)) × (rest : List ℕ) × ArePartsOf builder parts.0.items (segment_list ss)
+    (ss : List (SegmentKind × Segment)) × (rest : List ℕ) × ArePartsOf builder (parts_in parts.0) (segment_list ss)
     × (parts.1 ≡ length (encode_utf8_all rest)) × (left reader ≡ past_blanks rest) × (read ≡ Ok (ss, rest))
 MakesSegments builder (Err e) reader read = Fails e read
 

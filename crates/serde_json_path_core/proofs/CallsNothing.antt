@@ -5,7 +5,7 @@ use Rattle.std.proofs.lemmas.List.Elements.{All-nil, All-push, All-head, All-tai
 use Rattle.serde_json_path_functions.specs.Functions.{Signature}
 use Rattle.serde_json_path_core.specs.CalledNames.{called_names, called_in_segment, called_in_selector, called_in_or, called_in_and, called_in_basic, called_in_comparable, called_in_argument}
 use Rattle.serde_json_path_core.specs.Piece.{Piece, a_query, a_segment, a_selector, an_or, an_and, a_basic, a_comparable, a_call, an_argument}
-use Rattle.serde_json_path_core.specs.Flat.{query_in, segment_in, selector_in, or_in, and_in, basic_in, comparable_in, segment_of, selector_of, basic_of, comparable_of, argument_of, piece_of, piece_in, pieces_named, joined_parts, pieces_from, pieces, piece_at}
+use Rattle.serde_json_path_core.specs.Flat.{query_in, segment_in, selector_in, or_in, and_in, basic_in, comparable_in, segment_of, selector_of, basic_of, comparable_of, argument_of, piece_of, piece_in, pieces_named, parts_in, pieces_from, pieces, piece_at}
 use Rattle.serde_json_path_core.specs.Noted.{noted, called_as, called_by_each}
 use Rattle.serde_json_path_core.specs.WithoutCall.{TestsNoCall, ComparesNoCall, PassesNoCall, IsWithoutCall}
 use Rattle.serde_json_path_core.specs.declared.syntax.node.Node.{Node}
@@ -75,7 +75,7 @@ module _ (ps : List Piece) (nothing : (i : ℕ) → CallsNothing (piece_in ps i)
   by_each f none (part ∷ parts) = ap (λ names. names ++ called_by_each f (pieces_named ps parts)) (none part.number) ∙ by_each f none parts
 
   of_segment : (seg : segments.Segment) → called_in_segment (segment_of ps seg) ≡ []
-  of_segment (LongHand parts) = by_selectors (pieces_named ps parts.items) ∙ by_each form.Selector (λ i. in_selector (piece_in ps i) (nothing i)) parts.items
+  of_segment (LongHand parts) = by_selectors (pieces_named ps (parts_in parts)) ∙ by_each form.Selector (λ i. in_selector (piece_in ps i) (nothing i)) (parts_in parts)
   of_segment (DotName k) = refl
   of_segment DotWildcard = refl
 
@@ -110,11 +110,11 @@ module _ (ps : List Piece) (nothing : (i : ℕ) → CallsNothing (piece_in ps i)
   of_argument (given_as.Logical part) h = in_or (piece_in ps part.number) (nothing part.number)
 
   of_node : (n : Node) → IsWithoutCall n → CallsNothing (piece_of ps n)
-  of_node (node.Query start parts) h = by_segments (pieces_named ps parts.items) ∙ by_each form.Segment (λ i. in_segment (piece_in ps i) (nothing i)) parts.items
+  of_node (node.Query start parts) h = by_segments (pieces_named ps (parts_in parts)) ∙ by_each form.Segment (λ i. in_segment (piece_in ps i) (nothing i)) (parts_in parts)
   of_node (node.Segment kind seg) h = of_segment seg
   of_node (node.Selector sel) h = of_selector sel
-  of_node (node.LogicalOr parts) h = by_ors (pieces_named ps (joined_parts parts)) ∙ by_each form.LogicalAnd (λ i. in_and (piece_in ps i) (nothing i)) (joined_parts parts)
-  of_node (node.LogicalAnd parts) h = by_ands (pieces_named ps (joined_parts parts)) ∙ by_each form.Basic (λ i. in_basic (piece_in ps i) (nothing i)) (joined_parts parts)
+  of_node (node.LogicalOr parts) h = by_ors (pieces_named ps (parts_in parts)) ∙ by_each form.LogicalAnd (λ i. in_and (piece_in ps i) (nothing i)) (parts_in parts)
+  of_node (node.LogicalAnd parts) h = by_ands (pieces_named ps (parts_in parts)) ∙ by_each form.Basic (λ i. in_basic (piece_in ps i) (nothing i)) (parts_in parts)
   of_node (node.Basic b) h = of_basic b h
   of_node (node.Comparable c) h = of_comparable c h
   of_node (node.Call k parts) h = absurd h

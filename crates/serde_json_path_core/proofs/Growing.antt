@@ -19,7 +19,7 @@ use Rattle.serde_json_path_core.specs.declared.syntax.node.Comparable.TheVariant
 use Rattle.serde_json_path_core.specs.declared.syntax.node.Argument as given
 use Rattle.serde_json_path_core.specs.declared.syntax.node.Argument.TheVariants as given_as
 use Rattle.serde_json_path_core.specs.declared.syntax.node.Part.{Part}
-use Rattle.serde_json_path_core.specs.Flat.{kind_view, segment_kind_view, no_piece, query_in, or_in, comparable_in, call_in, arguments_in, segments_in, selectors_in, ors_in, ands_in, piece_in, pieces_named, joined_parts, segment_of, selector_of, basic_of, comparable_of, argument_of, piece_of, pieces_from, pieces, piece_at, segment_numbers, selector_numbers, basic_numbers, comparable_numbers, argument_numbers, numbers_of, NamesBelow, IsGrown}
+use Rattle.serde_json_path_core.specs.Flat.{kind_view, segment_kind_view, no_piece, query_in, or_in, comparable_in, call_in, arguments_in, segments_in, selectors_in, ors_in, ands_in, piece_in, pieces_named, parts_in, segment_of, selector_of, basic_of, comparable_of, argument_of, piece_of, pieces_from, pieces, piece_at, segment_numbers, selector_numbers, basic_numbers, comparable_numbers, argument_numbers, numbers_of, NamesBelow, IsGrown}
 
 pieces_from-push : (earlier : List Piece) (nodes : List Node) (n : Node) → pieces_from earlier (nodes ++ n ∷ []) ≡ pieces_from earlier nodes ++ piece_of (pieces_from earlier nodes) n ∷ []
 pieces_from-push earlier [] n = refl
@@ -47,7 +47,7 @@ module _ (a b : List Piece) (bound : ℕ) (f : (i : ℕ) → i < bound → piece
   AreBelow numbers = AllByRecursion (λ i. i < bound) numbers
 
   same_segment : (seg : segments.Segment) → AreBelow (segment_numbers seg) → segment_of a seg ≡ segment_of b seg
-  same_segment (LongHand parts) h = ap (λ named. tree.long_hand (selectors_in named)) (same_named a b bound f parts.items h)
+  same_segment (LongHand parts) h = ap (λ named. tree.long_hand (selectors_in named)) (same_named a b bound f (parts_in parts) h)
   same_segment (DotName k) h = refl
   same_segment DotWildcard h = refl
 
@@ -82,11 +82,11 @@ module _ (a b : List Piece) (bound : ℕ) (f : (i : ℕ) → i < bound → piece
   same_argument (given_as.Logical part) h = ap (λ piece. tree.logical_argument (or_in piece)) (f part.number h.0)
 
   same_by_recursion : (n : Node) → AreBelow (numbers_of n) → piece_of a n ≡ piece_of b n
-  same_by_recursion (node.Query start parts) h = ap (λ named. a_query (tree.query (kind_view start) (segments_in named))) (same_named a b bound f parts.items h)
+  same_by_recursion (node.Query start parts) h = ap (λ named. a_query (tree.query (kind_view start) (segments_in named))) (same_named a b bound f (parts_in parts) h)
   same_by_recursion (node.Segment kind seg) h = ap (a_segment (segment_kind_view kind)) (same_segment seg h)
   same_by_recursion (node.Selector sel) h = ap a_selector (same_selector sel h)
-  same_by_recursion (node.LogicalOr parts) h = ap (λ named. an_or (ors_in named)) (same_named a b bound f (joined_parts parts) h)
-  same_by_recursion (node.LogicalAnd parts) h = ap (λ named. an_and (ands_in named)) (same_named a b bound f (joined_parts parts) h)
+  same_by_recursion (node.LogicalOr parts) h = ap (λ named. an_or (ors_in named)) (same_named a b bound f (parts_in parts) h)
+  same_by_recursion (node.LogicalAnd parts) h = ap (λ named. an_and (ands_in named)) (same_named a b bound f (parts_in parts) h)
   same_by_recursion (node.Basic e) h = ap a_basic (same_basic e h)
   same_by_recursion (node.Comparable c) h = ap a_comparable (same_comparable c h)
   same_by_recursion (node.Call k parts) h = ap (λ named. a_call (tree.call (string_bytes k) (arguments_in named))) (same_named a b bound f parts.items h)

@@ -20,13 +20,14 @@ use Rattle.serde_json_path_core.specs.declared.syntax.node.Comparable as compara
 use Rattle.serde_json_path_core.specs.declared.syntax.node.Comparable.TheVariants as side
 use Rattle.serde_json_path_core.specs.declared.syntax.node.Argument as given
 use Rattle.serde_json_path_core.specs.declared.syntax.node.Argument.TheVariants as given_as
-use Rattle.serde_json_path_core.specs.declared.syntax.node.Joined.{Joined}
-use Rattle.serde_json_path_core.specs.declared.syntax.node.Joined.TheVariants.{One, Listed}
 use Rattle.serde_json_path_core.specs.declared.syntax.node.Part.{Part}
 use Rattle.serde_json_path_core.specs.declared.syntax.node.QueryKind as kind
 use Rattle.serde_json_path_core.specs.declared.syntax.node.QueryKind.TheVariants.{Root, Current}
 use Rattle.serde_json_path_core.specs.declared.syntax.node.SegmentKind as reach
 use Rattle.serde_json_path_core.specs.declared.syntax.node.SegmentKind.TheVariants.{Child, Descendant}
+use Rattle.serde_json_path_core.specs.declared.syntax.parts.Kept.{Kept}
+use Rattle.serde_json_path_core.specs.declared.syntax.parts.Kept.TheVariants as kept
+use Rattle.serde_json_path_core.specs.declared.syntax.parts.Parts.{Parts}
 
 abbrev pub kind_view : kind.QueryKind → QueryKind
 kind_view Root = root
@@ -109,6 +110,15 @@ arguments_in (piece ∷ more) = argument (argument_in piece) (arguments_in more)
 abbrev pub piece_in : List Piece → ℕ → Piece
 piece_in pieces number = slice_index_or pieces number no_piece
 
+-- the parts, in order
+abbrev pub kept_parts : Kept → List Part
+kept_parts kept.None = []
+kept_parts (kept.One part) = part ∷ []
+kept_parts (kept.Listed parts) = parts.items
+
+unfoldable pub parts_in : Parts → List Part
+parts_in parts = kept_parts parts.kept
+
 -- the pieces of so many parts
 abbrev pub pieces_named : List Piece → List Part → List Piece
 pieces_named earlier parts = map (λ (part : Part). piece_in earlier part.number) parts
@@ -116,7 +126,7 @@ pieces_named earlier parts = map (λ (part : Part). piece_in earlier part.number
 abbrev pub segment_of : List Piece → segments.Segment → Segment
 segment_of earlier (DotName k) = dot_name (string_bytes k)
 segment_of earlier DotWildcard = dot_wildcard
-segment_of earlier (LongHand parts) = long_hand (selectors_in (pieces_named earlier parts.items))
+segment_of earlier (LongHand parts) = long_hand (selectors_in (pieces_named earlier (parts_in parts)))
 
 abbrev pub selector_of : List Piece → selectors.Selector → Selector
 selector_of earlier (one.Name k) = name (string_bytes k)
@@ -153,18 +163,13 @@ argument_of earlier (given_as.Query part) = query_argument (query_in (piece_in e
 argument_of earlier (given_as.Call part) = call_argument (call_in (piece_in earlier part.number))
 argument_of earlier (given_as.Logical part) = logical_argument (or_in (piece_in earlier part.number))
 
--- the parts that are joined
-abbrev pub joined_parts : Joined → List Part
-joined_parts (One part) = part ∷ []
-joined_parts (Listed parts) = parts.items
-
 -- the piece that a node makes of earlier ones
 abbrev pub piece_of : List Piece → Node → Piece
-piece_of earlier (node.Query start parts) = a_query (query (kind_view start) (segments_in (pieces_named earlier parts.items)))
+piece_of earlier (node.Query start parts) = a_query (query (kind_view start) (segments_in (pieces_named earlier (parts_in parts))))
 piece_of earlier (node.Segment kind seg) = a_segment (segment_kind_view kind) (segment_of earlier seg)
 piece_of earlier (node.Selector sel) = a_selector (selector_of earlier sel)
-piece_of earlier (node.LogicalOr parts) = an_or (ors_in (pieces_named earlier (joined_parts parts)))
-piece_of earlier (node.LogicalAnd parts) = an_and (ands_in (pieces_named earlier (joined_parts parts)))
+piece_of earlier (node.LogicalOr parts) = an_or (ors_in (pieces_named earlier (parts_in parts)))
+piece_of earlier (node.LogicalAnd parts) = an_and (ands_in (pieces_named earlier (parts_in parts)))
 piece_of earlier (node.Basic b) = a_basic (basic_of earlier b)
 piece_of earlier (node.Comparable c) = a_comparable (comparable_of earlier c)
 piece_of earlier (node.Call k parts) = a_call (call (string_bytes k) (arguments_in (pieces_named earlier parts.items)))
@@ -217,7 +222,7 @@ abbrev pub numbers : List Part → List ℕ
 numbers parts = map (λ (part : Part). part.number) parts
 
 abbrev pub segment_numbers : segments.Segment → List ℕ
-segment_numbers (LongHand parts) = numbers parts.items
+segment_numbers (LongHand parts) = numbers (parts_in parts)
 segment_numbers (DotName k) = []
 segment_numbers DotWildcard = []
 
@@ -251,11 +256,11 @@ argument_numbers (given_as.Logical part) = part.number ∷ []
 
 -- the numbers that a node names
 abbrev pub numbers_of : Node → List ℕ
-numbers_of (node.Query start parts) = numbers parts.items
+numbers_of (node.Query start parts) = numbers (parts_in parts)
 numbers_of (node.Segment kind seg) = segment_numbers seg
 numbers_of (node.Selector sel) = selector_numbers sel
-numbers_of (node.LogicalOr parts) = numbers (joined_parts parts)
-numbers_of (node.LogicalAnd parts) = numbers (joined_parts parts)
+numbers_of (node.LogicalOr parts) = numbers (parts_in parts)
+numbers_of (node.LogicalAnd parts) = numbers (parts_in parts)
 numbers_of (node.Basic b) = basic_numbers b
 numbers_of (node.Comparable c) = comparable_numbers c
 numbers_of (node.Call k parts) = numbers parts.items

@@ -21,4 +21,5 @@ pub use syntax::checked::Checked;
 pub use syntax::literal::{Literal, NumberLiteral};
 pub use syntax::node::{Part, QueryKind, SegmentKind};
 pub use syntax::operator::ComparisonOperator;
+pub use syntax::parts::Parts;
 pub use syntax::slice::Slice;

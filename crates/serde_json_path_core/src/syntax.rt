@@ -6,6 +6,7 @@ pub(crate) mod choice;
 pub(crate) mod literal;
 pub(crate) mod node;
 pub(crate) mod operator;
+pub(crate) mod parts;
 pub(crate) mod reading;
 pub(crate) mod signatures;
 pub(crate) mod singular;

@@ -1,5 +1,5 @@
 -- Short lists of parts, as they are pushed one by one, and the trees of tests, which call no function.
-use Rattle.std.proofs.Common.{◌≡◌, ◌<◌, ◌≤◌, ℕ, ◌+◌, List, [], ◌∷◌, ◌++◌, length, arith, sym, subst}
+use Rattle.std.proofs.Common.{◌≡◌, ◌≤◌, ℕ, ◌+◌, List, [], ◌∷◌, ◌++◌, arith, refl, sym, subst}
 use Rattle.std.specs.Prelude.{String}
 use Rattle.std.specs.Global.{Global}
 use Rattle.serde_json_path_core.specs.Tree as tree
@@ -92,12 +92,12 @@ ands_push old new deep (p ∷ parts) (tree.or c more) part a keeps h none is cal
     (tree.or c rest.0, (keeps p (an_and c) h.0, rest.1), call_free_or deep c rest.0 first rest.2)
 
 -- where there is a part, they are those of an expression
-pub some_basics : (builder : SyntaxBuilder) (parts : List Part) (e : tree.LogicalAnd) → 0 < length parts → ArePartsFor builder parts (and_pieces e) → AreAndPartsOf builder parts e
-some_basics builder [] e some h = omega (arith, some)
+pub some_basics : (builder : SyntaxBuilder) (parts : List Part) (e : tree.LogicalAnd) → (parts ≡ [] → ⊥) → ArePartsFor builder parts (and_pieces e) → AreAndPartsOf builder parts e
+some_basics builder [] e some h = absurd (some refl)
 some_basics builder (p ∷ parts) e some h = h
 
-pub some_ands : (builder : SyntaxBuilder) (parts : List Part) (e : tree.LogicalOr) → 0 < length parts → ArePartsFor builder parts (or_pieces e) → AreOrPartsOf builder parts e
-some_ands builder [] e some h = omega (arith, some)
+pub some_ands : (builder : SyntaxBuilder) (parts : List Part) (e : tree.LogicalOr) → (parts ≡ [] → ⊥) → ArePartsFor builder parts (or_pieces e) → AreOrPartsOf builder parts e
+some_ands builder [] e some h = absurd (some refl)
 some_ands builder (p ∷ parts) e some h = h
 
 -- a query that calls nothing may be finished without signatures

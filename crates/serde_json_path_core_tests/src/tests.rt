@@ -5,6 +5,7 @@ mod called;
 mod calls;
 mod filters;
 mod literals;
+mod parts;
 mod patterns;
 mod queries;
 mod samples;

@@ -21,7 +21,7 @@ use crate::parser::primitive::operator::operator;
 use crate::parser::reader::Reader;
 use crate::source::PathSource;
 use serde_json_path_core::functions::{FunctionArgType, Functions};
-use serde_json_path_core::{Part, QueryKind, SyntaxBuilder};
+use serde_json_path_core::{Part, Parts, QueryKind, SyntaxBuilder};
 
 impl<F: Functions> Level<'_, F> {
     /// The expression of a filter or a parenthesis, at its `?` or `(`.
@@ -76,11 +76,7 @@ impl<F: Functions> Level<'_, F> {
         ensures keeps { KeepsParts builder.old builder.new }
         ensures gives { (a : tree.LogicalAnd) → IsPart builder.old first (an_and a) → Makes an_or builder.new result reader.new (or_from (signatures F.set self.now) (deeper F.set self.now) a (left reader.old)) }
     {
-        if !reader.sees(b'|') {
-            let expression = builder.or_of_one(first)?;
-            return Ok(expression);
-        }
-        let mut parts = Vec::new(self.alloc);
+        let mut parts = Parts::new(self.alloc);
         parts.push(first)?;
         'parts: while reader.sees_both(b'|', b'|') {
             reader.take_two();
@@ -124,11 +120,7 @@ impl<F: Functions> Level<'_, F> {
         ensures made { IfOk result (λ part. (a : tree.LogicalAnd) × IsPart builder.new part (an_and a)) }
         ensures gives { (b : tree.Basic) → IsPart builder.old first (a_basic b) → Makes an_and builder.new result reader.new (and_from (signatures F.set self.now) (deeper F.set self.now) b (left reader.old)) }
     {
-        if !reader.sees(b'&') {
-            let expression = builder.and_of_one(first)?;
-            return Ok(expression);
-        }
-        let mut parts = Vec::new(self.alloc);
+        let mut parts = Parts::new(self.alloc);
         parts.push(first)?;
         'parts: while reader.sees_both(b'&', b'&') {
             reader.take_two();
@@ -221,6 +213,8 @@ impl<F: Functions> Level<'_, F> {
     }
 
     /// What stands behind `!` and blanks, and the blanks behind it.
+    // Within `basic` its nodes would widen the frame of each parenthesis.
+    #[inline(never)]
     #[cycle(level)]
     #[tactic(auto, unfolding(crate::specs::Filters::negated_at))]
     fn negated<S: PathSource>(

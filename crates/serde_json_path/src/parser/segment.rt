@@ -18,7 +18,7 @@ use crate::parser::primitive::name::name;
 use crate::parser::reader::Reader;
 use crate::source::PathSource;
 use serde_json_path_core::functions::Functions;
-use serde_json_path_core::{Part, SegmentKind, SyntaxBuilder};
+use serde_json_path_core::{Part, Parts, SegmentKind, SyntaxBuilder};
 use std::alloc::Global;
 
 /// How a segment begins.
@@ -186,14 +186,14 @@ impl<F: Functions> Level<'_, F> {
         builder: &mut SyntaxBuilder,
         reader: &mut Reader<'_, S>,
         place: Place,
-    ) -> Result<(Vec<Part>, usize), Stop>
+    ) -> Result<(Parts, usize), Stop>
         ensures moves { Moves reader.old reader.new }
         ensures near { IsNear result reader.new }
         ensures keeps { KeepsParts builder.old builder.new }
         ensures gives { MakesSegments builder.new result reader.new (segments_at (filter_at F.set self.now) place (left reader.old)) }
         ensures spares { IfErr result (λ stop. opens_next (left reader.old) ≡ false → IsRefused stop) }
     {
-        let mut parts = Vec::new(self.alloc);
+        let mut parts = Parts::new(self.alloc);
         let mut rest = reader.bytes_left();
         reader.skip_blanks();
         'segments: while reader.sees_segment() {

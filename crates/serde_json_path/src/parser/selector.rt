@@ -19,7 +19,7 @@ use crate::parser::reader::Reader;
 use crate::parser::slice::rest_of_slice;
 use crate::source::PathSource;
 use serde_json_path_core::functions::Functions;
-use serde_json_path_core::{Part, SyntaxBuilder};
+use serde_json_path_core::{Part, Parts, SyntaxBuilder};
 use std::alloc::Global;
 
 /// An index, or a slice that begins with an integer, and the blanks behind it (RFC 9535, sections 2.3.3 and 2.3.4).
@@ -128,7 +128,7 @@ impl<F: Functions> Level<'_, F> {
         &self,
         builder: &mut SyntaxBuilder,
         reader: &mut Reader<'_, S>,
-    ) -> Result<Vec<Part>, Stop>
+    ) -> Result<Parts, Stop>
         ensures moves { Moves reader.old reader.new }
         ensures near { IsNear result reader.new }
         ensures keeps { KeepsParts builder.old builder.new }
@@ -136,7 +136,7 @@ impl<F: Functions> Level<'_, F> {
     {
         reader.skip_blanks();
         let first = self.selector(builder, reader)?;
-        let mut parts = Vec::new(self.alloc);
+        let mut parts = Parts::new(self.alloc);
         parts.push(first)?;
         'selectors: while reader.sees(b',') {
             reader.take_char();

@@ -5,9 +5,10 @@ ghost use Rattle.serde_json_path_core.specs.Flat.{IsGrown};
 use crate::syntax::checked::Checked;
 use crate::syntax::literal::Literal;
 use crate::syntax::node::{
-    Argument, Basic, Comparable, Joined, Node, Part, QueryKind, Segment, SegmentKind, Selector,
+    Argument, Basic, Comparable, Node, Part, QueryKind, Segment, SegmentKind, Selector,
 };
 use crate::syntax::operator::ComparisonOperator;
+use crate::syntax::parts::Parts;
 use crate::syntax::signatures::{Form, calls_nothing, note_calls};
 use crate::syntax::singular::is_singular;
 use crate::syntax::slice::Slice;
@@ -31,7 +32,7 @@ impl SyntaxBuilder {
     ghost use Rattle.serde_json_path_core.specs.Literals.{literal_view, operator_view};
     ghost use Rattle.serde_json_path_core.specs.Piece.{a_query, a_segment, a_selector, an_or, an_and, a_basic, a_comparable, a_call, an_argument};
     ghost use Rattle.serde_json_path_core.specs.WellFormed.{IsOptionalInteger};
-    ghost use Rattle.serde_json_path_core.specs.Flat.{kind_view, segment_kind_view, NamesBelow, piece_of, pieces};
+    ghost use Rattle.serde_json_path_core.specs.Flat.{kind_view, segment_kind_view, NamesBelow, parts_in, piece_of, pieces};
     ghost use Rattle.serde_json_path_core.specs.SliceView.{slice_view};
     ghost use Rattle.serde_json_path_core.specs.Parts.{HasNoParts, IsPart, ArePartsOf, AreSelectorsOf, AreOrPartsOf, AreAndPartsOf, AreArgumentsOf, KeepsParts, tree_of, signatures_of};
     ghost use Rattle.serde_json_path_core.specs.Typing.{IsTyped};
@@ -48,6 +49,8 @@ impl SyntaxBuilder {
     }
 
     /// One node more, which names parts that are good.
+    // Within its callers a node is written into its place at once.
+    #[inline(always)]
     fn push(&mut self, node: Node) -> Result<Part, AllocError>
         requires { NamesBelow (length self.old.nodes.items) node }
         ensures made { IfOk result (λ part. IsPart self.new part (piece_of (pieces self.old.nodes.items) node)) }
@@ -81,9 +84,9 @@ impl SyntaxBuilder {
     }
 
     /// The segment of these selectors in brackets, in order, of which there is one at least.
-    pub fn long_hand(&mut self, kind: SegmentKind, selectors: Vec<Part>) -> Result<Part, AllocError>
-        requires { (sels : tree.Selectors) × AreSelectorsOf self.old selectors.items sels }
-        ensures made { IfOk result (λ part. (sels : tree.Selectors) → AreSelectorsOf self.old selectors.items sels
+    pub fn long_hand(&mut self, kind: SegmentKind, selectors: Parts) -> Result<Part, AllocError>
+        requires { (sels : tree.Selectors) × AreSelectorsOf self.old (parts_in selectors) sels }
+        ensures made { IfOk result (λ part. (sels : tree.Selectors) → AreSelectorsOf self.old (parts_in selectors) sels
             → IsPart self.new part (a_segment (segment_kind_view kind) (tree.long_hand sels))) }
         ensures keeps { KeepsParts self.old self.new }
     {
@@ -141,44 +144,24 @@ impl SyntaxBuilder {
 
     /// The logical expression of these parts, in order, with `||` between them (RFC 9535, section 2.3.5.1). There is
     /// one at least.
-    pub fn logical_or(&mut self, parts: Vec<Part>) -> Result<Part, AllocError>
-        requires { (e : tree.LogicalOr) × AreOrPartsOf self.old parts.items e }
-        ensures made { IfOk result (λ part. (e : tree.LogicalOr) → AreOrPartsOf self.old parts.items e
+    pub fn logical_or(&mut self, parts: Parts) -> Result<Part, AllocError>
+        requires { (e : tree.LogicalOr) × AreOrPartsOf self.old (parts_in parts) e }
+        ensures made { IfOk result (λ part. (e : tree.LogicalOr) → AreOrPartsOf self.old (parts_in parts) e
             → IsPart self.new part (an_or e)) }
         ensures keeps { KeepsParts self.old self.new }
     {
-        self.push(Node::LogicalOr(Joined::Listed(parts)))
-    }
-
-    /// The logical expression that is this part alone, without `||` (RFC 9535, section 2.3.5.1).
-    pub fn or_of_one(&mut self, part: Part) -> Result<Part, AllocError>
-        requires { (a : tree.LogicalAnd) × IsPart self.old part (an_and a) }
-        ensures made { IfOk result (λ made. (a : tree.LogicalAnd) → IsPart self.old part (an_and a)
-            → IsPart self.new made (an_or (tree.or a tree.no_or))) }
-        ensures keeps { KeepsParts self.old self.new }
-    {
-        self.push(Node::LogicalOr(Joined::One(part)))
+        self.push(Node::LogicalOr(parts))
     }
 
     /// The part of a logical expression with `&&` between these parts, in order (RFC 9535, section 2.3.5.1). There is
     /// one at least.
-    pub fn logical_and(&mut self, parts: Vec<Part>) -> Result<Part, AllocError>
-        requires { (e : tree.LogicalAnd) × AreAndPartsOf self.old parts.items e }
-        ensures made { IfOk result (λ part. (e : tree.LogicalAnd) → AreAndPartsOf self.old parts.items e
+    pub fn logical_and(&mut self, parts: Parts) -> Result<Part, AllocError>
+        requires { (e : tree.LogicalAnd) × AreAndPartsOf self.old (parts_in parts) e }
+        ensures made { IfOk result (λ part. (e : tree.LogicalAnd) → AreAndPartsOf self.old (parts_in parts) e
             → IsPart self.new part (an_and e)) }
         ensures keeps { KeepsParts self.old self.new }
     {
-        self.push(Node::LogicalAnd(Joined::Listed(parts)))
-    }
-
-    /// The part of a logical expression that is this part alone, without `&&` (RFC 9535, section 2.3.5.1).
-    pub fn and_of_one(&mut self, part: Part) -> Result<Part, AllocError>
-        requires { (b : tree.Basic) × IsPart self.old part (a_basic b) }
-        ensures made { IfOk result (λ made. (b : tree.Basic) → IsPart self.old part (a_basic b)
-            → IsPart self.new made (an_and (tree.and b tree.no_and))) }
-        ensures keeps { KeepsParts self.old self.new }
-    {
-        self.push(Node::LogicalAnd(Joined::One(part)))
+        self.push(Node::LogicalAnd(parts))
     }
 
     /// A logical expression in parentheses, as `(@.a || @.b)` (RFC 9535, section 2.3.5.1).
@@ -353,9 +336,9 @@ impl SyntaxBuilder {
     }
 
     /// A query of these segments, in order.
-    pub fn query(&mut self, kind: QueryKind, segments: Vec<Part>) -> Result<Part, AllocError>
-        requires { (segs : tree.Segments) × ArePartsOf self.old segments.items segs }
-        ensures made { IfOk result (λ part. (segs : tree.Segments) → ArePartsOf self.old segments.items segs
+    pub fn query(&mut self, kind: QueryKind, segments: Parts) -> Result<Part, AllocError>
+        requires { (segs : tree.Segments) × ArePartsOf self.old (parts_in segments) segs }
+        ensures made { IfOk result (λ part. (segs : tree.Segments) → ArePartsOf self.old (parts_in segments) segs
             → IsPart self.new part (a_query (tree.query (kind_view kind) segs))) }
         ensures keeps { KeepsParts self.old self.new }
     {

@@ -1,13 +1,10 @@
 //! The nodes of a syntax tree.
 
-ghost use Rattle.std.specs.Prelude.{◌≡◌};
-ghost use Rattle.serde_json_path_core.specs.Flat.{joined_parts};
-
 use crate::syntax::literal::{Literal, NumberLiteral};
 use crate::syntax::operator::ComparisonOperator;
+use crate::syntax::parts::Parts;
 use crate::syntax::slice::Slice;
 use serde_json::Value;
-use std::slice;
 
 /// Where a query begins (RFC 9535, sections 2.2.1 and 2.3.5.1).
 #[derive(Clone, Copy, Debug, PartialEq, Eq)]
@@ -41,7 +38,7 @@ pub(crate) enum Segment {
     /// `.*`
     DotWildcard,
     /// Selectors in brackets.
-    LongHand(Vec<Part>),
+    LongHand(Parts),
 }
 
 /// A selector in brackets.
@@ -108,55 +105,25 @@ pub(crate) enum Argument {
     Logical(Part),
 }
 
-/// What is joined by `||` or by `&&`. One part alone takes no memory beside its node's.
-#[derive(Debug, Drop)]
-pub(crate) enum Joined {
-    /// One part, with nothing joined to it.
-    One(Part),
-    /// A list of parts.
-    Listed(Vec<Part>),
-}
-
-impl Joined {
-    /// The parts, in order.
-    pub(crate) fn as_slice(&self) -> &[Part]
-        ensures { result.now ≡ joined_parts self.now }
-    {
-        match self {
-            Joined::One(part) => slice::from_ref(part),
-            Joined::Listed(parts) => parts.as_slice(),
-        }
-    }
-}
-
 /// One node of a syntax tree; it names nodes that were made before it.
 #[derive(Debug, Drop)]
 pub(crate) enum Node {
     /// A query and its segments.
-    Query {
-        kind: QueryKind,
-        segments: Vec<Part>,
-    },
+    Query { kind: QueryKind, segments: Parts },
     /// A segment.
-    Segment {
-        kind: SegmentKind,
-        segment: Segment,
-    },
+    Segment { kind: SegmentKind, segment: Segment },
     /// A selector.
     Selector(Selector),
     /// Parts joined by `||`.
-    LogicalOr(Joined),
+    LogicalOr(Parts),
     /// Parts joined by `&&`.
-    LogicalAnd(Joined),
+    LogicalAnd(Parts),
     /// A part of an expression that is joined by `&&`.
     Basic(Basic),
     /// A side of a comparison.
     Comparable(Comparable),
     /// A call of a function.
-    Call {
-        name: String,
-        arguments: Vec<Part>,
-    },
+    Call { name: String, arguments: Vec<Part> },
     /// An argument of a call.
     Argument(Argument),
 }

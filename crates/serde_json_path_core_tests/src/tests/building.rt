@@ -2,12 +2,13 @@
 
 ghost use Rattle.std.specs.Prelude.{◌≡◌, [], IfOk};
 ghost use Rattle.serde_json_path_core.specs.Tree as tree;
+ghost use Rattle.serde_json_path_core.specs.Flat.{parts_in};
 ghost use Rattle.serde_json_path_core.specs.Piece.{a_query, a_segment, a_selector};
 ghost use Rattle.serde_json_path_core.specs.WellFormed.{IsOptionalInteger};
 ghost use Rattle.serde_json_path_core.specs.Parts.{AreSelectorsOf, IsPart, KeepsParts, signatures_of};
 ghost use Rattle.serde_json_path_core_tests.specs.CallFree.{AreCallFreeSegments, AreCallFreeSelectors, IsCallFreeSegment, IsCallFreeSelector};
 
-use serde_json_path_core::{Checked, Part, QueryKind, SegmentKind, Slice, SyntaxBuilder};
+use serde_json_path_core::{Checked, Part, Parts, QueryKind, SegmentKind, Slice, SyntaxBuilder};
 use serde_json_path_nodes::{LocatedNode, LocatedNodeList};
 use std::alloc::Global;
 use std::test::Fail;
@@ -70,11 +71,11 @@ fn selector_of(alloc: Global, builder: &mut SyntaxBuilder, text: &str) -> Result
 }
 
 /// The parts of selectors with commas between them.
-fn selectors_of(alloc: Global, builder: &mut SyntaxBuilder, text: &str) -> Result<Vec<Part>, Fail>
-    ensures made { IfOk result (λ parts. (sels : tree.Selectors) × AreSelectorsOf builder.new parts.items sels × AreCallFreeSelectors 0 sels) }
+fn selectors_of(alloc: Global, builder: &mut SyntaxBuilder, text: &str) -> Result<Parts, Fail>
+    ensures made { IfOk result (λ parts. (sels : tree.Selectors) × AreSelectorsOf builder.new (parts_in parts) sels × AreCallFreeSelectors 0 sels) }
     ensures keeps { KeepsParts builder.old builder.new }
 {
-    let mut parts = Vec::new(alloc);
+    let mut parts = Parts::new(alloc);
     for selector in text.split(',') {
         let part = selector_of(alloc, builder, selector)?;
         parts.push(part)?;
@@ -115,7 +116,7 @@ pub(crate) fn query_part(
 ) -> Result<Part, Fail>
     ensures { IfOk result (λ part. (segs : tree.Segments) × IsPart builder.new part (a_query (tree.query tree.root segs)) × AreCallFreeSegments 0 segs) }
 {
-    let mut parts = Vec::new(alloc);
+    let mut parts = Parts::new(alloc);
     for segment in segments.split_whitespace() {
         let part = segment_of(alloc, builder, segment)?;
         parts.push(part)?;

@@ -12,9 +12,10 @@ ghost use Rattle.serde_json_path_core.specs.Used.{MayFinish, used_view};
 ghost use Rattle.serde_json_path_core.specs.Called.{AreMadeArguments, IsMadeArgument, IsMadeBasic, IsMadeCall, IsMadeComparable, IsMadeOr, filter_query};
 
 use crate::tests::building::locations;
+use crate::tests::parts::parts_of;
 use serde_json::Value;
 use serde_json_path_core::{
-    Checked, ComparisonOperator, Literal, NumberLiteral, Part, QueryKind, SegmentKind,
+    Checked, ComparisonOperator, Literal, NumberLiteral, Part, Parts, QueryKind, SegmentKind,
     SyntaxBuilder, evaluate_located,
 };
 use serde_json_path_functions::{FunctionArgType, Functions, Signature};
@@ -58,23 +59,23 @@ fn query_of(alloc: Global, builder: &mut SyntaxBuilder, asked: Asked) -> Result<
     match asked {
         Asked::All => {
             let all = builder.dot_wildcard(SegmentKind::Child)?;
-            Ok(builder.query(QueryKind::Current, vec![in alloc; all]?)?)
+            Ok(builder.query(QueryKind::Current, parts_of(alloc, &[all])?)?)
         }
         Asked::Named(name) => {
             let name = String::from_str(alloc, name)?;
             let named = builder.dot_name(SegmentKind::Child, name)?;
-            Ok(builder.query(QueryKind::Current, vec![in alloc; named]?)?)
+            Ok(builder.query(QueryKind::Current, parts_of(alloc, &[named])?)?)
         }
         Asked::AllOf(name) => {
             let name = String::from_str(alloc, name)?;
             let named = builder.dot_name(SegmentKind::Child, name)?;
             let all = builder.dot_wildcard(SegmentKind::Child)?;
-            Ok(builder.query(QueryKind::Current, vec![in alloc; named, all]?)?)
+            Ok(builder.query(QueryKind::Current, parts_of(alloc, &[named, all])?)?)
         }
         Asked::Anywhere(name) => {
             let name = String::from_str(alloc, name)?;
             let named = builder.dot_name(SegmentKind::Descendant, name)?;
-            Ok(builder.query(QueryKind::Current, vec![in alloc; named]?)?)
+            Ok(builder.query(QueryKind::Current, parts_of(alloc, &[named])?)?)
         }
     }
 }
@@ -147,7 +148,7 @@ fn node_argument(alloc: Global, builder: &mut SyntaxBuilder) -> Result<Built, Fa
     ensures made { IfOk result (λ built. IsMadeArgument builder.new built.part (kind_view built.kind) (used_view built.calls.items) built.deep) }
     ensures keeps { IfOk result (λ built. KeepsParts builder.old builder.new) }
 {
-    let query = builder.query(QueryKind::Current, Vec::new(alloc))?;
+    let query = builder.query(QueryKind::Current, Parts::new(alloc))?;
     let part = builder.query_argument(query)?;
     Ok(Built {
         part,
@@ -164,7 +165,7 @@ fn member_argument(alloc: Global, builder: &mut SyntaxBuilder, name: &str) -> Re
 {
     let name = String::from_str(alloc, name)?;
     let named = builder.dot_name(SegmentKind::Child, name)?;
-    let query = builder.query(QueryKind::Current, vec![in alloc; named]?)?;
+    let query = builder.query(QueryKind::Current, parts_of(alloc, &[named])?)?;
     let part = builder.query_argument(query)?;
     Ok(Built {
         part,
@@ -360,7 +361,7 @@ pub(crate) fn member_of(
 {
     let name = String::from_str(alloc, name)?;
     let named = builder.dot_name(SegmentKind::Child, name)?;
-    let query = builder.query(QueryKind::Current, vec![in alloc; named]?)?;
+    let query = builder.query(QueryKind::Current, parts_of(alloc, &[named])?)?;
     let part = builder.singular(query)?;
     Ok(Built {
         part,
@@ -476,13 +477,13 @@ pub(crate) fn in_parentheses(builder: &mut SyntaxBuilder, expression: Built) -> 
 }
 
 /// The expression of one test.
-pub(crate) fn alone(builder: &mut SyntaxBuilder, test: Built) -> Result<Built, Fail>
+pub(crate) fn alone(alloc: Global, builder: &mut SyntaxBuilder, test: Built) -> Result<Built, Fail>
     requires { IsMadeBasic builder.old test.part (used_view test.calls.items) test.deep }
     ensures made { IfOk result (λ built. IsMadeOr builder.new built.part (used_view built.calls.items) built.deep) }
     ensures keeps { IfOk result (λ built. KeepsParts builder.old builder.new) }
 {
-    let joined = builder.and_of_one(test.part)?;
-    let part = builder.or_of_one(joined)?;
+    let joined = builder.logical_and(parts_of(alloc, &[test.part])?)?;
+    let part = builder.logical_or(parts_of(alloc, &[joined])?)?;
     Ok(Built { part, ..test })
 }
 
@@ -498,8 +499,8 @@ pub(crate) fn all_of(
     ensures made { IfOk result (λ built. IsMadeOr builder.new built.part (used_view built.calls.items) built.deep) }
     ensures keeps { IfOk result (λ built. KeepsParts builder.old builder.new) }
 {
-    let both = builder.logical_and(vec![in alloc; first.part, second.part]?)?;
-    let part = builder.logical_or(vec![in alloc; both]?)?;
+    let both = builder.logical_and(parts_of(alloc, &[first.part, second.part])?)?;
+    let part = builder.logical_or(parts_of(alloc, &[both])?)?;
     let (calls, deep) = together(first, second)?;
     Ok(Built {
         part,
@@ -521,9 +522,9 @@ pub(crate) fn any_of(
     ensures made { IfOk result (λ built. IsMadeOr builder.new built.part (used_view built.calls.items) built.deep) }
     ensures keeps { IfOk result (λ built. KeepsParts builder.old builder.new) }
 {
-    let one = builder.logical_and(vec![in alloc; first.part]?)?;
-    let other = builder.logical_and(vec![in alloc; second.part]?)?;
-    let part = builder.logical_or(vec![in alloc; one, other]?)?;
+    let one = builder.logical_and(parts_of(alloc, &[first.part])?)?;
+    let other = builder.logical_and(parts_of(alloc, &[second.part])?)?;
+    let part = builder.logical_or(parts_of(alloc, &[one, other])?)?;
     let (calls, deep) = together(first, second)?;
     Ok(Built {
         part,
@@ -545,8 +546,8 @@ fn query_of_expression(
     ensures keeps { IfOk result (λ part. KeepsParts builder.old builder.new) }
 {
     let selector = builder.filter(expression)?;
-    let segment = builder.long_hand(SegmentKind::Child, vec![in alloc; selector]?)?;
-    Ok(builder.query(kind, vec![in alloc; segment]?)?)
+    let segment = builder.long_hand(SegmentKind::Child, parts_of(alloc, &[selector])?)?;
+    Ok(builder.query(kind, parts_of(alloc, &[segment])?)?)
 }
 
 /// The test `@[?..]` of that expression.

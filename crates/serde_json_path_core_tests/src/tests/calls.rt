@@ -89,7 +89,7 @@ fn where_compared<F: Functions + Drop>(
     let left = side_of(&mut builder, call)?;
     let right = number_of(alloc, &mut builder, number)?;
     let test = compared(&mut builder, left, operator, right)?;
-    let expression = alone(&mut builder, test)?;
+    let expression = alone(alloc, &mut builder, test)?;
     let query = filtered(alloc, builder, &functions, expression)?;
     selected(alloc, &query, functions, document)
 }
@@ -178,7 +178,7 @@ fn of_test<F: Functions>(
     let mut builder = SyntaxBuilder::new(alloc);
     let call = call_of(alloc, &mut builder, functions, calling)?;
     let test = tested(&mut builder, call, negated)?;
-    let expression = alone(&mut builder, test)?;
+    let expression = alone(alloc, &mut builder, test)?;
     filtered(alloc, builder, functions, expression)
 }
 
@@ -230,7 +230,7 @@ fn both_of(
     let signature = Samples.signature("both").ok_or("not declared")?;
     let call = call_of_two(alloc, &mut builder, "both", &signature, first, second)?;
     let test = tested(&mut builder, call, false)?;
-    let expression = alone(&mut builder, test)?;
+    let expression = alone(alloc, &mut builder, test)?;
     filtered(alloc, builder, &Samples, expression)
 }
 
@@ -256,7 +256,7 @@ pub(crate) fn test_argument(
     ensures made { IfOk result (λ built. IsMadeArgument builder.new built.part (kind_view built.kind) (used_view built.calls.items) built.deep) }
     ensures keeps { IfOk result (λ built. KeepsParts builder.old builder.new) }
 {
-    let expression = alone(builder, test)?;
+    let expression = alone(alloc, builder, test)?;
     logical_argument(builder, expression)
 }
 
@@ -265,7 +265,7 @@ fn parenthesized(alloc: Global, builder: &mut SyntaxBuilder, name: &str) -> Resu
     ensures { IfOk result (λ built. IsMadeArgument builder.new built.part (kind_view built.kind) (used_view built.calls.items) built.deep) }
 {
     let inner = existing(alloc, builder, name)?;
-    let expression = alone(builder, inner)?;
+    let expression = alone(alloc, builder, inner)?;
     let test = in_parentheses(builder, expression)?;
     test_argument(alloc, builder, test)
 }
@@ -351,7 +351,7 @@ fn nothing_compared(alloc: Global) -> Result<Checked, Fail>
     let left = side_of(&mut builder, call)?;
     let right = member_of(alloc, &mut builder, "x")?;
     let test = compared(&mut builder, left, EqualTo, right)?;
-    let expression = alone(&mut builder, test)?;
+    let expression = alone(alloc, &mut builder, test)?;
     filtered(alloc, builder, &Samples, expression)
 }
 

@@ -35,7 +35,7 @@ fn of_arguments(
     let signature = Builtin.signature(function).ok_or("not declared")?;
     let call = call_of_two(alloc, &mut builder, function, &signature, text, pattern)?;
     let test = tested(&mut builder, call, negated)?;
-    let expression = alone(&mut builder, test)?;
+    let expression = alone(alloc, &mut builder, test)?;
     filtered(alloc, builder, &Builtin, expression)
 }
 

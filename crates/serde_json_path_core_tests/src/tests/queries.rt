@@ -4,9 +4,10 @@ ghost use Rattle.std.specs.Prelude.{◌≡◌, [], IfOk};
 ghost use Rattle.serde_json_path_core.specs.Parts.{signatures_of};
 
 use crate::tests::building::{printed, query_of};
+use crate::tests::parts::parts_of;
 use serde_json::Value;
 use serde_json_path_core::{
-    Checked, QueryKind, SegmentKind, SyntaxBuilder, evaluate, evaluate_located,
+    Checked, Parts, QueryKind, SegmentKind, SyntaxBuilder, evaluate, evaluate_located,
 };
 use serde_json_path_functions::Builtin;
 use serde_json_path_nodes::NodeList;
@@ -248,9 +249,9 @@ fn made_from_the_end(alloc: Global) -> Result<Checked, Fail>
     let mut builder = SyntaxBuilder::new(alloc);
     let second = builder.name(String::from_str(alloc, "b")?)?;
     let first = builder.name(String::from_str(alloc, "a")?)?;
-    let selectors = vec![in alloc; first, second]?;
+    let selectors = Parts::from(vec![in alloc; first, second]?);
     let segment = builder.long_hand(SegmentKind::Child, selectors)?;
-    let query = builder.query(QueryKind::Root, vec![in alloc; segment]?)?;
+    let query = builder.query(QueryKind::Root, parts_of(alloc, &[segment])?)?;
     Ok(builder.finish(query, Vec::new(alloc)))
 }
 

@@ -12,7 +12,7 @@ use crate::tests::called::{
 use crate::tests::calls::{Calling, call_of, logical_query, test_argument};
 use crate::tests::samples::Samples;
 use serde_json_path_core::ComparisonOperator::EqualTo;
-use serde_json_path_core::{QueryKind, SyntaxBuilder};
+use serde_json_path_core::{Parts, QueryKind, SyntaxBuilder};
 use serde_json_path_functions::{Builtin, Functions, Signature};
 use std::alloc::Global;
 use std::test::Fail;
@@ -42,7 +42,7 @@ fn is_one(alloc: Global, builder: &mut SyntaxBuilder, calling: Calling) -> Resul
 fn called_in_one(alloc: Global, calling: Calling) -> Result<String, Fail> {
     let mut builder = SyntaxBuilder::new(alloc);
     let test = is_one(alloc, &mut builder, calling)?;
-    let expression = alone(&mut builder, test)?;
+    let expression = alone(alloc, &mut builder, test)?;
     let (_, used) = signed(alloc, &mut builder, &Builtin, expression)?;
     names(alloc, used.as_slice())
 }
@@ -55,7 +55,7 @@ fn called_in_both(alloc: Global, left: Calling, right: Calling) -> Result<String
     let left = call_of(alloc, &mut builder, &Builtin, left)?;
     let left = side_of(&mut builder, left)?;
     let test = compared(&mut builder, left, EqualTo, right)?;
-    let expression = alone(&mut builder, test)?;
+    let expression = alone(alloc, &mut builder, test)?;
     let (_, used) = signed(alloc, &mut builder, &Builtin, expression)?;
     names(alloc, used.as_slice())
 }
@@ -65,7 +65,7 @@ fn called_in_filters(alloc: Global, inner: Calling, outer: Calling) -> Result<St
     let mut builder = SyntaxBuilder::new(alloc);
     let second = is_one(alloc, &mut builder, outer)?;
     let test = is_one(alloc, &mut builder, inner)?;
-    let inner = alone(&mut builder, test)?;
+    let inner = alone(alloc, &mut builder, test)?;
     let first = filter_test(alloc, &mut builder, inner)?;
     let expression = all_of(alloc, &mut builder, first, second)?;
     let (_, used) = signed(alloc, &mut builder, &Builtin, expression)?;
@@ -83,7 +83,7 @@ fn called_in_an_argument(alloc: Global) -> Result<String, Fail> {
     let first = logical_query(alloc, &mut builder, "a")?;
     let call = call_of_two(alloc, &mut builder, "both", &signature, first, second)?;
     let test = tested(&mut builder, call, false)?;
-    let expression = alone(&mut builder, test)?;
+    let expression = alone(alloc, &mut builder, test)?;
     let (_, used) = signed(alloc, &mut builder, &Samples, expression)?;
     names(alloc, used.as_slice())
 }
@@ -92,7 +92,7 @@ fn called_in_an_argument(alloc: Global) -> Result<String, Fail> {
 fn has_none_of_a_query_without_calls(rt: HostRuntime) -> Result<(), Fail> {
     let alloc = rt.alloc();
     let mut builder = SyntaxBuilder::new(alloc);
-    let query = builder.query(QueryKind::Root, Vec::new(alloc))?;
+    let query = builder.query(QueryKind::Root, Parts::new(alloc))?;
     assert!(rt; builder.signatures(alloc, query, &Builtin)?.is_empty());
     Ok(())
 }

@@ -6,16 +6,17 @@
 
 ghost use Rattle.std.specs.Prelude.{◌≡◌, ℕ, ◌+◌, [], IfOk};
 ghost use Rattle.serde_json_path_core.specs.Tree as tree;
-ghost use Rattle.serde_json_path_core.specs.Flat.{kind_view};
+ghost use Rattle.serde_json_path_core.specs.Flat.{kind_view, parts_in};
 ghost use Rattle.serde_json_path_core.specs.Piece.{a_query, a_segment, an_or, an_and, a_basic, a_comparable};
 ghost use Rattle.serde_json_path_core.specs.Parts.{AreAndPartsOf, IsPart, KeepsParts, signatures_of};
 ghost use Rattle.serde_json_path_core_tests.specs.CallFree.{AreCallFreeSegments, IsCallFreeAnd, IsCallFreeBasic, IsCallFreeComparable, IsCallFreeOr, IsCallFreeSegment};
 
+use crate::tests::parts::parts_of;
 use serde_json_path_core::ComparisonOperator::{
     EqualTo, GreaterThan, GreaterThanEqualTo, LessThan, LessThanEqualTo, NotEqualTo,
 };
 use serde_json_path_core::{
-    Checked, ComparisonOperator, Literal, NumberLiteral, Part, QueryKind, SegmentKind,
+    Checked, ComparisonOperator, Literal, NumberLiteral, Part, Parts, QueryKind, SegmentKind,
     SyntaxBuilder,
 };
 use std::alloc::Global;
@@ -38,7 +39,7 @@ pub(crate) fn step_of(
         None => {
             let index = segment.parse::<i8>()?;
             let selector = builder.index(index as i64)?;
-            Ok(builder.long_hand(SegmentKind::Child, vec![in alloc; selector]?)?)
+            Ok(builder.long_hand(SegmentKind::Child, parts_of(alloc, &[selector])?)?)
         }
     }
 }
@@ -63,10 +64,10 @@ fn singular_of(
     ensures keeps { KeepsParts builder.old builder.new }
 {
     if step.is_empty() {
-        return Ok(builder.query(kind, Vec::new(alloc))?);
+        return Ok(builder.query(kind, Parts::new(alloc))?);
     }
     let step = step_of(alloc, builder, step)?;
-    Ok(builder.query(kind, vec![in alloc; step]?)?)
+    Ok(builder.query(kind, parts_of(alloc, &[step])?)?)
 }
 
 /// The number of a text with at most one digit behind the point.
@@ -181,7 +182,7 @@ fn and_of(alloc: Global, builder: &mut SyntaxBuilder, text: &str) -> Result<Part
     ensures made { IfOk result (λ part. (e : tree.LogicalAnd) × IsPart builder.new part (an_and e) × IsCallFreeAnd 0 e) }
     ensures keeps { KeepsParts builder.old builder.new }
 {
-    let mut parts = Vec::new(alloc);
+    let mut parts = Parts::new(alloc);
     for part in text.split(" && ") {
         let part = basic_of(alloc, builder, part)?;
         parts.push(part)?;
@@ -197,7 +198,7 @@ fn or_of(alloc: Global, builder: &mut SyntaxBuilder, text: &str) -> Result<Part,
     ensures made { IfOk result (λ part. (e : tree.LogicalOr) × IsPart builder.new part (an_or e) × IsCallFreeOr 0 e) }
     ensures keeps { KeepsParts builder.old builder.new }
 {
-    let mut parts = Vec::new(alloc);
+    let mut parts = Parts::new(alloc);
     for part in text.split(" || ") {
         let part = and_of(alloc, builder, part)?;
         parts.push(part)?;
@@ -209,13 +210,13 @@ fn or_of(alloc: Global, builder: &mut SyntaxBuilder, text: &str) -> Result<Part,
 }
 
 /// The expression of these parts of `&&`.
-fn joined(alloc: Global, builder: &mut SyntaxBuilder, parts: Vec<Part>) -> Result<Part, Fail>
-    requires { (e : tree.LogicalAnd) × AreAndPartsOf builder.old parts.items e × IsCallFreeAnd 1 e }
+fn joined(alloc: Global, builder: &mut SyntaxBuilder, parts: Parts) -> Result<Part, Fail>
+    requires { (e : tree.LogicalAnd) × AreAndPartsOf builder.old (parts_in parts) e × IsCallFreeAnd 1 e }
     ensures made { IfOk result (λ part. (e : tree.LogicalOr) × IsPart builder.new part (an_or e) × IsCallFreeOr 1 e) }
     ensures keeps { KeepsParts builder.old builder.new }
 {
     let joined = builder.logical_and(parts)?;
-    Ok(builder.logical_or(vec![in alloc; joined]?)?)
+    Ok(builder.logical_or(parts_of(alloc, &[joined])?)?)
 }
 
 /// An expression in parentheses, with `!` before them or without.
@@ -250,14 +251,14 @@ fn beside(
 {
     if let Some((test, _)) = before.split_once(" && ") {
         let test = basic_of(alloc, builder, test)?;
-        return joined(alloc, builder, vec![in alloc; test, part]?);
+        return joined(alloc, builder, parts_of(alloc, &[test, part])?);
     }
     match behind.strip_prefix(" && ") {
         Some(test) => {
             let test = basic_of(alloc, builder, test)?;
-            joined(alloc, builder, vec![in alloc; part, test]?)
+            joined(alloc, builder, parts_of(alloc, &[part, test])?)
         }
-        None => joined(alloc, builder, vec![in alloc; part]?),
+        None => joined(alloc, builder, parts_of(alloc, &[part])?),
     }
 }
 
@@ -276,12 +277,12 @@ pub(crate) fn query_of_filter(
     ensures keeps { KeepsParts builder.old builder.new }
 {
     let selector = builder.filter(test)?;
-    let filter = builder.long_hand(filter_kind, vec![in alloc; selector]?)?;
+    let filter = builder.long_hand(filter_kind, parts_of(alloc, &[selector])?)?;
     if step.is_empty() {
-        return Ok(builder.query(kind, vec![in alloc; filter]?)?);
+        return Ok(builder.query(kind, parts_of(alloc, &[filter])?)?);
     }
     let step = step_of(alloc, builder, step)?;
-    Ok(builder.query(kind, vec![in alloc; step, filter]?)?)
+    Ok(builder.query(kind, parts_of(alloc, &[step, filter])?)?)
 }
 
 /// The test whether a query with a filter at its end selects a node.

@@ -1,6 +1,6 @@
-use Rattle.std.proofs.Common.{◌≡◌, ◌∙◌, [], true≢false, Ok, length, refl, sym, ap, subst, arith}
-use Rattle.std.proofs.lemmas.Bool.{eqb-true, eq-eqb}
+use Rattle.std.proofs.Common.{◌≡◌, ◌∙◌, [], true≢false, Ok, refl, sym, ap, subst, arith}
 use Rattle.std.proofs.lemmas.Result.{err_from_is_err_and}
+use Rattle.serde_json_path_core.specs.Flat.{parts_in}
 use Rattle.serde_json_path_core.specs.Tree.{query, root}
 use Rattle.serde_json_path_core.specs.Used.{AreCalled}
 use Rattle.serde_json_path_functions.specs.Functions.{Fits}
@@ -20,10 +20,10 @@ returns-then-is_empty-clause-gives g c =
     let read = subst (λ d. segments_at (filters.filter_at F.signature (filters.level F.signature d)) place.Path behind ≡ Ok (gives.0, gives.1)) c.outermost.ensures.depth
     (subst (λ fs. segments_at (filters.filter_at (g.F.Functions.set fs).signature (filters.level (g.F.Functions.set fs).signature c.outermost.result.depth)) place.Path behind ≡ Ok (gives.0, gives.1)) c.outermost.ensures.functions gives.5) in
     let rooted = sym c.sees.ensures ∙ c.if-not-sees.false in
-    let none : length c.in_ok-parts.parts.items ≡ 0 = sym c.in_ok-parts.parts.ok.0 ∙ eqb-true c.in_ok-parts.parts.len 0 (sym c.if-is_empty.ensures) in
+    let none = c.is_empty.ensures.0 c.if-is_empty.true in
     let ended = all_read gives.1 c.in_ok-parts.rest gives.3 (omega (arith, c.if-rest-ne0.false)) in
     let whole = path_ends F.signature (left c.args.reader.now) behind gives.1 c.take_char.result gives.0 rooted c.take_char.ensures.value read ended in
-    let empty = no_part c.segments.new.builder c.in_ok-parts.parts.items gives.0 gives.2 none in (
+    let empty = no_part c.segments.new.builder (parts_in c.in_ok-parts.parts) gives.0 gives.2 none in (
       segment_list gives.0,
       c.new.ensures.tree ∙ ap (λ ss. query root (segment_list ss)) (sym empty),
       whole,
@@ -42,8 +42,8 @@ returns-in_err-part-clause-spares g c =
     let rooted = sym c.sees.ensures ∙ c.if-not-sees.false in
     rw (p.1) (λ closed.
     let none = none_read F.signature (left c.args.reader.now) behind gives.1 c.take_char.result gives.0 rooted c.take_char.ensures.value read closed in
-    let empty = eq-eqb c.in_ok-parts.parts.len 0 (c.in_ok-parts.parts.ok.0 ∙ no_segment c.segments.new.builder c.in_ok-parts.parts.items gives.0 gives.2 none) in
-    absurd (true≢false (sym empty ∙ sym c.if-is_empty.ensures)))
+    let empty = c.is_empty.ensures.1 (no_segment c.segments.new.builder (parts_in c.in_ok-parts.parts) gives.0 gives.2 none) in
+    absurd (true≢false (sym empty ∙ c.if-is_empty.false)))
 
 pub signatures-requires : goal.signatures-requires
 signatures-requires g c =
@@ -69,8 +69,8 @@ returns-in_err-used-clause-spares g c =
     let rooted = sym c.sees.ensures ∙ c.if-not-sees.false in
     rw (p.1) (λ closed.
     let none = none_read F.signature (left c.args.reader.now) behind gives.1 c.take_char.result gives.0 rooted c.take_char.ensures.value read closed in
-    let empty = eq-eqb c.in_ok-parts.parts.len 0 (c.in_ok-parts.parts.ok.0 ∙ no_segment c.segments.new.builder c.in_ok-parts.parts.items gives.0 gives.2 none) in
-    absurd (true≢false (sym empty ∙ sym c.if-is_empty.ensures)))
+    let empty = c.is_empty.ensures.1 (no_segment c.segments.new.builder (parts_in c.in_ok-parts.parts) gives.0 gives.2 none) in
+    absurd (true≢false (sym empty ∙ c.if-is_empty.false)))
 
 pub finish-requires : goal.finish-requires
 finish-requires g c =

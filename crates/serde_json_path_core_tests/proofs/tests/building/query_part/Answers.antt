@@ -1,4 +1,5 @@
 use Rattle.std.proofs.Common.{List, [], ◌∷◌, ◌++◌, sym, subst, arith}
+use Rattle.serde_json_path_core.specs.Flat.{parts_in}
 use Rattle.serde_json_path_core.specs.Tree.{Segments, no_segments, segment, SegmentKind, Segment}
 use Rattle.serde_json_path_core.specs.Piece.{a_segment}
 use Rattle.serde_json_path_core.specs.Parts.{IsPart, ArePartsOf, KeepsParts}
@@ -28,7 +29,7 @@ pub loop-segment-preserved : goal.loop-segment-preserved
 loop-segment-preserved c =
     let earlier = c.loop-segment.invariant in
     let made = c.in_ok-part.ensures.made in
-    let pushed = parts_push c.loop-segment.builder c.segment_of.new.builder c.loop-segment.parts.items earlier.0 c.in_ok-part.part made.0 made.1 c.in_ok-part.ensures.keeps earlier.1 earlier.2 made.2 made.3 in
+    let pushed = parts_push c.loop-segment.builder c.segment_of.new.builder (parts_in c.loop-segment.parts) earlier.0 c.in_ok-part.part made.0 made.1 c.in_ok-part.ensures.keeps earlier.1 earlier.2 made.2 made.3 in
     subst (λ (xs : List Part). (segs : Segments) × ArePartsOf c.segment_of.new.builder xs segs × AreCallFreeSegments 0 segs) (sym {A = List Part} c.in_ok-push.ensures.items) pushed
 
 pub query-requires : goal.query-requires

@@ -1,7 +1,8 @@
+use Rattle.serde_json_path_core.specs.Flat.{parts_in}
 use Rattle.serde_json_path_core.specs.Tree.{Segments}
 use Rattle.serde_json_path_core.specs.Parts.{ArePartsOf}
 use Rattle.serde_json_path_core_tests.specs.CallFree.{AreCallFreeSegments}
 use Rattle.serde_json_path_core_tests.proofs.tests.building.query_part.Given as goal
 
 abbrev pub invariant-loop-segment : goal.invariant-loop-segment
-invariant-loop-segment l = (segs : Segments) × ArePartsOf l.builder l.parts.items segs × AreCallFreeSegments 0 segs
+invariant-loop-segment l = (segs : Segments) × ArePartsOf l.builder (parts_in l.parts) segs × AreCallFreeSegments 0 segs

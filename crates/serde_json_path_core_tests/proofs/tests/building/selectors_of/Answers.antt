@@ -1,4 +1,5 @@
-use Rattle.std.proofs.Common.{rules, ◌<◌, List, [], ◌∷◌, ◌++◌, length, sym, subst, arith}
+use Rattle.std.proofs.Common.{◌≡◌, ◌∙◌, List, [], ◌∷◌, ◌++◌, refl, sym, subst, true≢false, arith}
+use Rattle.serde_json_path_core.specs.Flat.{parts_in}
 use Rattle.serde_json_path_core.specs.Tree.{Selectors, no_selectors, selector, Selector}
 use Rattle.serde_json_path_core.specs.Piece.{a_selector}
 use Rattle.serde_json_path_core.specs.Parts.{IsPart, ArePartsFor, AreSelectorsOf, KeepsParts, selector_pieces}
@@ -22,8 +23,8 @@ selectors_push old new (p ∷ parts) (selector s more) part sel keeps h none is 
     (selector s rest.0, (keeps p (a_selector s) h.0, rest.1), call_free_selectors 0 s rest.0 first rest.2)
 
 -- one part at least
-selectors_in_brackets : (builder : SyntaxBuilder) (parts : List Part) (sels : Selectors) → 0 < length parts → ArePartsFor builder parts (selector_pieces sels) → AreSelectorsOf builder parts sels
-selectors_in_brackets builder [] sels some h = omega arith
+selectors_in_brackets : (builder : SyntaxBuilder) (parts : List Part) (sels : Selectors) → (parts ≡ [] → ⊥) → ArePartsFor builder parts (selector_pieces sels) → AreSelectorsOf builder parts sels
+selectors_in_brackets builder [] sels some h = absurd (some refl)
 selectors_in_brackets builder (part ∷ parts) sels some h = h
 
 pub loop-selector-init : goal.loop-selector-init
@@ -36,7 +37,7 @@ pub loop-selector-preserved : goal.loop-selector-preserved
 loop-selector-preserved c =
     let earlier = c.loop-selector.invariant.made in
     let made = c.in_ok-part.ensures.made in
-    let pushed = selectors_push c.loop-selector.builder c.selector_of.new.builder c.loop-selector.parts.items earlier.0 c.in_ok-part.part made.0 c.in_ok-part.ensures.keeps earlier.1 earlier.2 made.1 made.2 in
+    let pushed = selectors_push c.loop-selector.builder c.selector_of.new.builder (parts_in c.loop-selector.parts) earlier.0 c.in_ok-part.part made.0 c.in_ok-part.ensures.keeps earlier.1 earlier.2 made.1 made.2 in
     record {
       keeps = λ part piece h. c.selector_of.ensures.keeps part piece (c.loop-selector.invariant.keeps part piece h);
       made = subst (λ (xs : List Part). (sels : Selectors) × ArePartsFor c.selector_of.new.builder xs (selector_pieces sels) × AreCallFreeSelectors 0 sels) (sym {A = List Part} c.in_ok-push.ensures.items) pushed;
@@ -50,5 +51,4 @@ returns-in_err-push-clause-keeps c = λ part piece h. c.selector_of.ensures.keep
 
 pub returns-clause-made : goal.returns-clause-made
 returns-clause-made c =
-    let some : 0 < length c.loop-selector.parts.items = search rules in
-    (c.loop-selector.invariant.made.0, selectors_in_brackets c.loop-selector.builder c.loop-selector.parts.items c.loop-selector.invariant.made.0 some c.loop-selector.invariant.made.1, c.loop-selector.invariant.made.2)
+    (c.loop-selector.invariant.made.0, selectors_in_brackets c.loop-selector.builder (parts_in c.loop-selector.parts) c.loop-selector.invariant.made.0 (λ e. true≢false (sym (c.is_empty.ensures.1 e) ∙ c.if-is_empty.false)) c.loop-selector.invariant.made.1, c.loop-selector.invariant.made.2)

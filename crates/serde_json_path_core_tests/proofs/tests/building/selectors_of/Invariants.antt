@@ -1,3 +1,4 @@
+use Rattle.serde_json_path_core.specs.Flat.{parts_in}
 use Rattle.serde_json_path_core.specs.Tree.{Selectors}
 use Rattle.serde_json_path_core.specs.Parts.{ArePartsFor, KeepsParts, selector_pieces}
 use Rattle.serde_json_path_core_tests.specs.CallFree.{AreCallFreeSelectors}
@@ -6,5 +7,5 @@ use Rattle.serde_json_path_core_tests.proofs.tests.building.selectors_of.Given a
 abbrev pub invariant-loop-selector : goal.invariant-loop-selector
 invariant-loop-selector l = record {
   keeps : KeepsParts l.fn.builder l.builder;
-  made : (sels : Selectors) × ArePartsFor l.builder l.parts.items (selector_pieces sels) × AreCallFreeSelectors 0 sels;
+  made : (sels : Selectors) × ArePartsFor l.builder (parts_in l.parts) (selector_pieces sels) × AreCallFreeSelectors 0 sels;
 }

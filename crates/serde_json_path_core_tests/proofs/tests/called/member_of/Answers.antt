@@ -10,20 +10,20 @@ use Rattle.serde_json_path_core_tests.proofs.tests.called.member_of.Goals as goa
 pub query-requires : goal.query-requires
 query-requires c =
     let named = tree.dot_name (string_bytes c.in_ok-name.name) in
-    (tree.segment tree.child named tree.no_segments, one_segment c.dot_name.new.self _ c.in_ok-named.named tree.child named c.in_ok-vec.ensures.items c.in_ok-named.ensures.made)
+    (tree.segment tree.child named tree.no_segments, one_segment c.dot_name.new.self _ c.in_ok-named.named tree.child named c.in_ok-parts_of.ensures.items c.in_ok-named.ensures.made)
 
 pub singular-requires : goal.singular-requires
 singular-requires c =
     let named = tree.dot_name (string_bytes c.in_ok-name.name) in
     let segs = tree.segment tree.child named tree.no_segments in
-    let parts = one_segment c.dot_name.new.self _ c.in_ok-named.named tree.child named c.in_ok-vec.ensures.items c.in_ok-named.ensures.made in
+    let parts = one_segment c.dot_name.new.self _ c.in_ok-named.named tree.child named c.in_ok-parts_of.ensures.items c.in_ok-named.ensures.made in
     (tree.query tree.current segs, c.in_ok-query.ensures.made segs parts, (tt, tt))
 
 pub returns-clause-made : goal.returns-clause-made
 returns-clause-made c =
     let named = tree.dot_name (string_bytes c.in_ok-name.name) in
     let segs = tree.segment tree.child named tree.no_segments in
-    let parts = one_segment c.dot_name.new.self _ c.in_ok-named.named tree.child named c.in_ok-vec.ensures.items c.in_ok-named.ensures.made in
+    let parts = one_segment c.dot_name.new.self _ c.in_ok-named.named tree.child named c.in_ok-parts_of.ensures.items c.in_ok-named.ensures.made in
     let q = tree.query tree.current segs in
     let none = ap (λ (calls : List (String Global × declared.Signature)). names_in (used_view calls)) (sym c.new.ensures.items) in
     (tree.singular q, c.in_ok-part.ensures.made q (c.in_ok-query.ensures.made segs parts), (λ signature h. (tt, tt), none, omega arith))

@@ -1,4 +1,5 @@
-use Rattle.std.proofs.Common.{◌≡◌, List, [], ◌∷◌, sym, subst, arith, string_bytes}
+use Rattle.std.proofs.Common.{◌≡◌, ◌∙◌, List, [], ◌∷◌, sym, subst, arith, string_bytes}
+use Rattle.serde_json_path_core.specs.Flat.{parts_in}
 use Rattle.serde_json_path_core.specs.Tree as tree
 use Rattle.serde_json_path_core.specs.Piece.{a_selector}
 use Rattle.serde_json_path_core.specs.Parts.{AreSelectorsOf, IsPart, KeepsParts}
@@ -18,7 +19,7 @@ long_hand-requires c =
     let a = tree.name (string_bytes c.in_ok-from_str-2.field-0) in
     let b = tree.name (string_bytes c.in_ok-from_str.field-0) in (
       tree.selector a (tree.selector b tree.no_selectors),
-      two_selectors c.name.new.self c.name-2.new.self c.in_ok-selectors.selectors.items c.in_ok-first.first c.in_ok-second.second a b c.name-2.ensures.keeps c.in_ok-selectors.ensures.items c.in_ok-second.ensures.made c.in_ok-first.ensures.made,
+      two_selectors c.name.new.self c.name-2.new.self _ c.in_ok-first.first c.in_ok-second.second a b c.name-2.ensures.keeps (c.from-selectors.ensures ∙ c.in_ok-vec.ensures.items) c.in_ok-second.ensures.made c.in_ok-first.ensures.made,
     )
 
 pub query-requires : goal.query-requires
@@ -26,9 +27,9 @@ query-requires c =
     let a = tree.name (string_bytes c.in_ok-from_str-2.field-0) in
     let b = tree.name (string_bytes c.in_ok-from_str.field-0) in
     let both = tree.selector a (tree.selector b tree.no_selectors) in
-    let named = two_selectors c.name.new.self c.name-2.new.self c.in_ok-selectors.selectors.items c.in_ok-first.first c.in_ok-second.second a b c.name-2.ensures.keeps c.in_ok-selectors.ensures.items c.in_ok-second.ensures.made c.in_ok-first.ensures.made in (
+    let named = two_selectors c.name.new.self c.name-2.new.self _ c.in_ok-first.first c.in_ok-second.second a b c.name-2.ensures.keeps (c.from-selectors.ensures ∙ c.in_ok-vec.ensures.items) c.in_ok-second.ensures.made c.in_ok-first.ensures.made in (
       tree.segment tree.child (tree.long_hand both) tree.no_segments,
-      one_segment c.long_hand.new.self c.in_ok-vec.field-0.items c.in_ok-segment.segment tree.child (tree.long_hand both) c.in_ok-vec.ensures.items (c.in_ok-segment.ensures.made both named),
+      one_segment c.long_hand.new.self (parts_in c.in_ok-parts_of.field-0) c.in_ok-segment.segment tree.child (tree.long_hand both) c.in_ok-parts_of.ensures.items (c.in_ok-segment.ensures.made both named),
     )
 
 pub finish-requires : goal.finish-requires
@@ -36,9 +37,9 @@ finish-requires c =
     let a = tree.name (string_bytes c.in_ok-from_str-2.field-0) in
     let b = tree.name (string_bytes c.in_ok-from_str.field-0) in
     let both = tree.selector a (tree.selector b tree.no_selectors) in
-    let named = two_selectors c.name.new.self c.name-2.new.self c.in_ok-selectors.selectors.items c.in_ok-first.first c.in_ok-second.second a b c.name-2.ensures.keeps c.in_ok-selectors.ensures.items c.in_ok-second.ensures.made c.in_ok-first.ensures.made in
+    let named = two_selectors c.name.new.self c.name-2.new.self _ c.in_ok-first.first c.in_ok-second.second a b c.name-2.ensures.keeps (c.from-selectors.ensures ∙ c.in_ok-vec.ensures.items) c.in_ok-second.ensures.made c.in_ok-first.ensures.made in
     let segs = tree.segment tree.child (tree.long_hand both) tree.no_segments in (
       tree.query tree.root segs,
-      c.in_ok-query.ensures.made segs (one_segment c.long_hand.new.self c.in_ok-vec.field-0.items c.in_ok-segment.segment tree.child (tree.long_hand both) c.in_ok-vec.ensures.items (c.in_ok-segment.ensures.made both named)),
+      c.in_ok-query.ensures.made segs (one_segment c.long_hand.new.self (parts_in c.in_ok-parts_of.field-0) c.in_ok-segment.segment tree.child (tree.long_hand both) c.in_ok-parts_of.ensures.items (c.in_ok-segment.ensures.made both named)),
       finished_without_calls _ 0 segs c.new.ensures.items (omega arith) (λ s. ((tt, (tt, tt)), tt), λ f. ((tt, (tt, tt)), tt), omega arith),
     )

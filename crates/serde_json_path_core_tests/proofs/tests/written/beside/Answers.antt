@@ -30,7 +30,7 @@ pub joined-requires : goal.joined-requires
 joined-requires c =
     let b = c.requires in
     let test = c.in_ok-test.ensures.made in
-    both c.basic_of.new.builder _ c.in_ok-test.test c.args.part test.0 b.0 c.in_ok-vec.ensures.items test.1 (c.in_ok-test.ensures.keeps c.args.part (a_basic b.0) b.1) (deeper test.0 test.2) b.2
+    both c.basic_of.new.builder _ c.in_ok-test.test c.args.part test.0 b.0 c.in_ok-parts_of.ensures.items test.1 (c.in_ok-test.ensures.keeps c.args.part (a_basic b.0) b.1) (deeper test.0 test.2) b.2
 
 pub returns-in-Some-clause-keeps : goal.returns-in-Some-clause-keeps
 returns-in-Some-clause-keeps c = λ part piece h. c.joined.ensures.keeps part piece (c.basic_of.ensures.keeps part piece h)
@@ -39,12 +39,12 @@ pub joined-requires-in-Some-strip_prefix : goal.joined-requires-in-Some-strip_pr
 joined-requires-in-Some-strip_prefix c =
     let b = c.requires in
     let test = c.in_ok-test-in-Some-strip_prefix.ensures.made in
-    both c.basic_of-in-Some-strip_prefix.new.builder _ c.args.part c.in_ok-test-in-Some-strip_prefix.test b.0 test.0 c.in_ok-vec-in-Some-strip_prefix.ensures.items (c.in_ok-test-in-Some-strip_prefix.ensures.keeps c.args.part (a_basic b.0) b.1) test.1 b.2 (deeper test.0 test.2)
+    both c.basic_of-in-Some-strip_prefix.new.builder _ c.args.part c.in_ok-test-in-Some-strip_prefix.test b.0 test.0 c.in_ok-parts_of-in-Some-strip_prefix.ensures.items (c.in_ok-test-in-Some-strip_prefix.ensures.keeps c.args.part (a_basic b.0) b.1) test.1 b.2 (deeper test.0 test.2)
 
 pub joined-requires-in-None : goal.joined-requires-in-None
 joined-requires-in-None c =
     let b = c.requires in
-    alone c.args.builder.now _ c.args.part b.0 c.in_ok-vec-in-None.ensures.items b.1 b.2
+    alone c.args.builder.now _ c.args.part b.0 c.in_ok-parts_of-in-None.ensures.items b.1 b.2
 
-pub returns-in_ok-vec-in-Some-strip_prefix-clause-keeps : goal.returns-in_ok-vec-in-Some-strip_prefix-clause-keeps
-returns-in_ok-vec-in-Some-strip_prefix-clause-keeps c = λ part piece h. c.joined-in-Some-strip_prefix.ensures.keeps part piece (c.basic_of-in-Some-strip_prefix.ensures.keeps part piece h)
+pub returns-in_ok-parts_of-in-Some-strip_prefix-clause-keeps : goal.returns-in_ok-parts_of-in-Some-strip_prefix-clause-keeps
+returns-in_ok-parts_of-in-Some-strip_prefix-clause-keeps c = λ part piece h. c.joined-in-Some-strip_prefix.ensures.keeps part piece (c.basic_of-in-Some-strip_prefix.ensures.keeps part piece h)

@@ -1,4 +1,5 @@
-use Rattle.std.proofs.Common.{◌<◌, List, length, sym, subst, rules, arith}
+use Rattle.std.proofs.Common.{◌∙◌, List, sym, subst, true≢false, arith}
+use Rattle.serde_json_path_core.specs.Flat.{parts_in}
 use Rattle.serde_json_path_core.specs.Tree as tree
 use Rattle.serde_json_path_core.specs.Parts.{ArePartsFor, or_pieces}
 use Rattle.serde_json_path_core_tests.specs.CallFree.{IsCallFreeOr}
@@ -14,7 +15,7 @@ pub loop-part-preserved : goal.loop-part-preserved
 loop-part-preserved c =
     let earlier = c.loop-part.invariant in
     let made = c.in_ok-part.ensures.made in
-    let pushed = ands_push c.loop-part.builder c.and_of.new.builder 0 c.loop-part.parts.items earlier.0.0 c.in_ok-part.part made.0 c.in_ok-part.ensures.keeps earlier.0.1 earlier.0.2 made.1 made.2 in (
+    let pushed = ands_push c.loop-part.builder c.and_of.new.builder 0 (parts_in c.loop-part.parts) earlier.0.0 c.in_ok-part.part made.0 c.in_ok-part.ensures.keeps earlier.0.1 earlier.0.2 made.1 made.2 in (
       subst (λ (xs : List Part). (e : tree.LogicalOr) × ArePartsFor c.and_of.new.builder xs (or_pieces e) × IsCallFreeOr 0 e) (sym {A = List Part} c.in_ok-push.ensures.items) pushed,
       λ part piece h. c.in_ok-part.ensures.keeps part piece (earlier.1 part piece h),
     )
@@ -33,7 +34,6 @@ returns-clause-keeps c = λ part piece h. c.logical_or.ensures.keeps part piece 
 
 pub returns-clause-made : goal.returns-clause-made
 returns-clause-made c =
-    let parts = c.loop-part.parts.items in
+    let parts = (parts_in c.loop-part.parts) in
     let before = c.loop-part.invariant.0 in
-    let some : 0 < length parts = search rules in
-    (before.0, c.in_ok-logical_or.ensures.made before.0 (some_ands c.loop-part.builder parts before.0 some before.1), before.2)
+    (before.0, c.in_ok-logical_or.ensures.made before.0 (some_ands c.loop-part.builder parts before.0 (λ e. true≢false (sym (c.is_empty.ensures.1 e) ∙ c.if-is_empty.false)) before.1), before.2)

@@ -26,22 +26,22 @@ pub long_hand-requires : goal.long_hand-requires
 long_hand-requires c =
     let e = c.requires in
     let sel = tree.filter e.0 in
-    (tree.selector sel tree.no_selectors, one_selector c.filter.new.self _ c.in_ok-selector.selector sel c.in_ok-vec.ensures.items (c.in_ok-selector.ensures.made e.0 e.1))
+    (tree.selector sel tree.no_selectors, one_selector c.filter.new.self _ c.in_ok-selector.selector sel c.in_ok-parts_of.ensures.items (c.in_ok-selector.ensures.made e.0 e.1))
 
 pub returns-in_err-filter-clause-keeps : goal.returns-in_err-filter-clause-keeps
 returns-in_err-filter-clause-keeps c = λ part piece h. c.long_hand.ensures.keeps part piece (c.filter.ensures.keeps part piece h)
 
-pub returns-in_err-vec-2-clause-keeps : goal.returns-in_err-vec-2-clause-keeps
-returns-in_err-vec-2-clause-keeps c = λ part piece h. c.long_hand.ensures.keeps part piece (c.filter.ensures.keeps part piece h)
+pub returns-in_err-parts_of-2-clause-keeps : goal.returns-in_err-parts_of-2-clause-keeps
+returns-in_err-parts_of-2-clause-keeps c = λ part piece h. c.long_hand.ensures.keeps part piece (c.filter.ensures.keeps part piece h)
 
 pub query-requires : goal.query-requires
 query-requires c =
     let e = c.requires in
     let sel = tree.filter e.0 in
-    let named = one_selector c.filter.new.self _ c.in_ok-selector.selector sel c.in_ok-vec.ensures.items (c.in_ok-selector.ensures.made e.0 e.1) in
+    let named = one_selector c.filter.new.self _ c.in_ok-selector.selector sel c.in_ok-parts_of.ensures.items (c.in_ok-selector.ensures.made e.0 e.1) in
     let kind = segment_kind_view c.args.filter_kind in (
       tree.segment kind (bracket e.0) tree.no_segments,
-      one_segment c.long_hand.new.self _ c.in_ok-filter.filter kind (bracket e.0) c.in_ok-vec-2.ensures.items (c.in_ok-filter.ensures.made (tree.selector sel tree.no_selectors) named),
+      one_segment c.long_hand.new.self _ c.in_ok-filter.filter kind (bracket e.0) c.in_ok-parts_of-2.ensures.items (c.in_ok-filter.ensures.made (tree.selector sel tree.no_selectors) named),
     )
 
 pub returns-in_err-query-clause-keeps : goal.returns-in_err-query-clause-keeps
@@ -50,11 +50,11 @@ returns-in_err-query-clause-keeps c = λ part piece h. c.query.ensures.keeps par
 pub returns-then-is_empty-clause-made : goal.returns-then-is_empty-clause-made
 returns-then-is_empty-clause-made c = λ deep e is free.
     let sel = tree.filter e in
-    let named = one_selector c.filter.new.self _ c.in_ok-selector.selector sel c.in_ok-vec.ensures.items (c.in_ok-selector.ensures.made e is) in
+    let named = one_selector c.filter.new.self _ c.in_ok-selector.selector sel c.in_ok-parts_of.ensures.items (c.in_ok-selector.ensures.made e is) in
     let kind = segment_kind_view c.args.filter_kind in
     let segs = tree.segment kind (bracket e) tree.no_segments in (
       segs,
-      c.in_ok-query.ensures.made segs (one_segment c.long_hand.new.self _ c.in_ok-filter.filter kind (bracket e) c.in_ok-vec-2.ensures.items (c.in_ok-filter.ensures.made (tree.selector sel tree.no_selectors) named)),
+      c.in_ok-query.ensures.made segs (one_segment c.long_hand.new.self _ c.in_ok-filter.filter kind (bracket e) c.in_ok-parts_of-2.ensures.items (c.in_ok-filter.ensures.made (tree.selector sel tree.no_selectors) named)),
       call_free_segments (deep + 1) kind (bracket e) tree.no_segments (bracket_free deep e free) (λ s. tt, λ f. tt, omega arith),
     )
 
@@ -64,19 +64,19 @@ returns-then-is_empty-clause-keeps c = λ part piece h. c.query.ensures.keeps pa
 pub returns-in_err-step-clause-keeps : goal.returns-in_err-step-clause-keeps
 returns-in_err-step-clause-keeps c = λ part piece h. c.step_of.ensures.keeps part piece (c.long_hand.ensures.keeps part piece (c.filter.ensures.keeps part piece h))
 
-pub returns-in_err-vec-3-clause-keeps : goal.returns-in_err-vec-3-clause-keeps
-returns-in_err-vec-3-clause-keeps c = λ part piece h. c.step_of.ensures.keeps part piece (c.long_hand.ensures.keeps part piece (c.filter.ensures.keeps part piece h))
+pub returns-in_err-parts_of-3-clause-keeps : goal.returns-in_err-parts_of-3-clause-keeps
+returns-in_err-parts_of-3-clause-keeps c = λ part piece h. c.step_of.ensures.keeps part piece (c.long_hand.ensures.keeps part piece (c.filter.ensures.keeps part piece h))
 
 pub query-requires-2 : goal.query-requires-2
 query-requires-2 c =
     let e = c.requires in
     let sel = tree.filter e.0 in
-    let named = one_selector c.filter.new.self _ c.in_ok-selector.selector sel c.in_ok-vec.ensures.items (c.in_ok-selector.ensures.made e.0 e.1) in
+    let named = one_selector c.filter.new.self _ c.in_ok-selector.selector sel c.in_ok-parts_of.ensures.items (c.in_ok-selector.ensures.made e.0 e.1) in
     let kind = segment_kind_view c.args.filter_kind in
     let step = c.in_ok-step.ensures.made in
     let filter = c.in_ok-step.ensures.keeps c.in_ok-filter.filter (a_segment kind (bracket e.0)) (c.in_ok-filter.ensures.made (tree.selector sel tree.no_selectors) named) in (
       tree.segment tree.child step.0 (tree.segment kind (bracket e.0) tree.no_segments),
-      two_segments c.step_of.new.builder _ c.in_ok-step.step c.in_ok-filter.filter step.0 kind (bracket e.0) c.in_ok-vec-3.ensures.items step.1 filter,
+      two_segments c.step_of.new.builder _ c.in_ok-step.step c.in_ok-filter.filter step.0 kind (bracket e.0) c.in_ok-parts_of-3.ensures.items step.1 filter,
     )
 
 pub returns-in_err-query-2-clause-keeps : goal.returns-in_err-query-2-clause-keeps
@@ -85,7 +85,7 @@ returns-in_err-query-2-clause-keeps c = λ part piece h. c.query-2.ensures.keeps
 pub returns-clause-made : goal.returns-clause-made
 returns-clause-made c = λ deep e is free.
     let sel = tree.filter e in
-    let named = one_selector c.filter.new.self _ c.in_ok-selector.selector sel c.in_ok-vec.ensures.items (c.in_ok-selector.ensures.made e is) in
+    let named = one_selector c.filter.new.self _ c.in_ok-selector.selector sel c.in_ok-parts_of.ensures.items (c.in_ok-selector.ensures.made e is) in
     let kind = segment_kind_view c.args.filter_kind in
     let step = c.in_ok-step.ensures.made in
     let filter = c.in_ok-step.ensures.keeps c.in_ok-filter.filter (a_segment kind (bracket e)) (c.in_ok-filter.ensures.made (tree.selector sel tree.no_selectors) named) in
@@ -93,7 +93,7 @@ returns-clause-made c = λ deep e is free.
     let rest = tree.segment kind (bracket e) tree.no_segments in
     let segs = tree.segment tree.child step.0 rest in (
       segs,
-      c.in_ok-query-2.ensures.made segs (two_segments c.step_of.new.builder _ c.in_ok-step.step c.in_ok-filter.filter step.0 kind (bracket e) c.in_ok-vec-3.ensures.items step.1 filter),
+      c.in_ok-query-2.ensures.made segs (two_segments c.step_of.new.builder _ c.in_ok-step.step c.in_ok-filter.filter step.0 kind (bracket e) c.in_ok-parts_of-3.ensures.items step.1 filter),
       call_free_segments (deep + 1) tree.child step.0 rest free_step (call_free_segments (deep + 1) kind (bracket e) tree.no_segments (bracket_free deep e free) (λ s. tt, λ f. tt, omega arith)),
     )
 

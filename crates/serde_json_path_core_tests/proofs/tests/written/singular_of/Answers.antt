@@ -14,7 +14,7 @@ pub query-requires-2 : goal.query-requires-2
 query-requires-2 c =
     let made = c.in_ok-step.ensures.made in (
       tree.segment tree.child made.0 tree.no_segments,
-      one_segment c.step_of.new.builder _ c.in_ok-step.step tree.child made.0 c.in_ok-vec.ensures.items made.1,
+      one_segment c.step_of.new.builder _ c.in_ok-step.step tree.child made.0 c.in_ok-parts_of.ensures.items made.1,
     )
 
 pub returns-in_err-query-2-clause-keeps : goal.returns-in_err-query-2-clause-keeps
@@ -25,7 +25,7 @@ returns-clause-made c =
     let made = c.in_ok-step.ensures.made in
     let segs = tree.segment tree.child made.0 tree.no_segments in (
       segs,
-      c.in_ok-query-2.ensures.made segs (one_segment c.step_of.new.builder _ c.in_ok-step.step tree.child made.0 c.in_ok-vec.ensures.items made.1),
+      c.in_ok-query-2.ensures.made segs (one_segment c.step_of.new.builder _ c.in_ok-step.step tree.child made.0 c.in_ok-parts_of.ensures.items made.1),
       (made.2, tt),
       call_free_segments 0 tree.child made.0 tree.no_segments made.3 (λ s. tt, λ f. tt, omega arith),
     )

@@ -1,6 +1,6 @@
 use Rattle.serde_json_path.proofs.Refusals.{same_fails}
 use Rattle.std.proofs.Common.{◌≡◌, ◌∙◌, ◌∷◌, [], true, false, Some, Ok, Err, ◌++◌, ◌≤◌, ◌<◌, length, refl, sym, ap, subst, map, drop, option_map, arith, true≢false}
-use Rattle.std.specs.Prelude.{◌==◌, ◌&&◌, ◌||◌, string_bytes}
+use Rattle.std.specs.Prelude.{◌==◌, ◌||◌, string_bytes}
 use Rattle.std.proofs.lemmas.List.{nil_from_length}
 use Rattle.std.proofs.lemmas.Result.{err_from_is_err_and}
 use Rattle.serde_json_path_core.specs.Literals.{literal_view, number_amount, operator_view}
@@ -20,7 +20,7 @@ use Rattle.serde_json_path.proofs.CalledSteps as of_calls
 use Rattle.serde_json_path.proofs.Levels.{level_laws}
 use Rattle.serde_json_path.proofs.parser.level.Level.+level.Goals.{argument-then-sees-via-then-sees, argument-then-sees-via-else-sees+then-sees-2}
 use Rattle.std.proofs.lemmas.Grind.{common_steps}
-use Rattle.serde_json_path_core.specs.Flat.{segment_kind_view, kind_view as query_kind_view}
+use Rattle.serde_json_path_core.specs.Flat.{parts_in, segment_kind_view, kind_view as query_kind_view}
 use Rattle.serde_json_path_core.proofs.NamedParts.{parts_kept}
 use Rattle.serde_json_path.specs.Parsing.{opens, opens_next, bracket_at, next_selector_at, selectors_at, selector_list, segment_at, next_segment_at, segments_at, segment_list}
 use Rattle.serde_json_path.proofs.Blanks.{no_longer}
@@ -75,7 +75,7 @@ and_from-parts-preserved g t c =
           let so_far = c.parts.invariant.so_far x is in
           let total = with_front (x ∷ []) (read_more (ands (signatures g.F.Functions.set c.args.self.now) c.args.self.now.depth) (left c.args.reader.now)) in (
             so_far.0 ++ one.0 ∷ [],
-            and_pushed c.parts.builder c.basic.new.builder c.parts.parts.items c.push-in-parts.new.self.items so_far.0 _ one.0 c.basic.ensures.keeps so_far.1 one.1 c.in_ok-push-2.ensures.items,
+            and_pushed c.parts.builder c.basic.new.builder (parts_in c.parts.parts) (parts_in c.push-in-parts.new.self) so_far.0 _ one.0 c.basic.ensures.keeps so_far.1 one.1 c.in_ok-push-2.ensures.items,
             row_goes_on (ands (signatures g.F.Functions.set c.args.self.now) c.args.self.now.depth) so_far.0 _ _ _ one.0 total sign behind one.2 so_far.2,
           );
     }
@@ -89,23 +89,8 @@ and_from-returns-in_err-push-2-clause-keeps g t c = λ part piece h. c.basic.ens
 pub and_from-logical_and-requires : goal.and_from-logical_and-requires
 and_from-logical_and-requires g t c = let so_far = c.parts.invariant.so_far c.requires.0 c.requires.1 in (and_list so_far.0, so_far.1)
 
-pub and_from-returns-in_err-expression-clause-moves : goal.and_from-returns-in_err-expression-clause-moves
-and_from-returns-in_err-expression-clause-moves g t c = grind (arith, common_steps)
-
 pub and_from-returns-in_err-expression-clause-keeps : goal.and_from-returns-in_err-expression-clause-keeps
-and_from-returns-in_err-expression-clause-keeps g t c = λ part piece h. c.and_of_one.ensures.keeps part piece h
-
-pub and_from-returns-then-not-sees-clause-gives : goal.and_from-returns-then-not-sees-clause-gives
-and_from-returns-then-not-sees-clause-gives g t c = λ x is.
-    let cs = left c.args.reader.now in
-    let ends : begins_both 38 38 cs ≡ false = ap (λ b. b && begins (λ d. d == 38) (drop 1 cs)) (sym c.sees.ensures ∙ c.if-not-sees.true) in (
-      and_list (x ∷ []),
-      c.in_ok-expression.ensures.made x is,
-      row_done (ands (signatures g.F.Functions.set c.args.self.now) c.args.self.now.depth) x (x ∷ []) cs cs ends refl,
-    )
-
-pub and_from-returns-in_err-expression-2-clause-keeps : goal.and_from-returns-in_err-expression-2-clause-keeps
-and_from-returns-in_err-expression-2-clause-keeps g t c = λ part piece h. c.logical_and.ensures.keeps part piece (c.parts.invariant.keeps part piece h)
+and_from-returns-in_err-expression-clause-keeps g t c = λ part piece h. c.logical_and.ensures.keeps part piece (c.parts.invariant.keeps part piece h)
 
 pub and_from-returns-clause-moves : goal.and_from-returns-clause-moves
 and_from-returns-clause-moves g t c = grind (arith, common_steps)
@@ -118,7 +103,7 @@ and_from-returns-clause-gives g t c = λ x is.
     let so_far = c.parts.invariant.so_far x is in
     let ends : begins_both 38 38 (left c.parts.reader) ≡ false = sym c.sees_both.ensures.value ∙ c.parts-test.false in (
       and_list so_far.0,
-      c.in_ok-expression-2.ensures.made (and_list so_far.0) so_far.1,
+      c.in_ok-expression.ensures.made (and_list so_far.0) so_far.1,
       row_done (ands (signatures g.F.Functions.set c.args.self.now) c.args.self.now.depth) x so_far.0 _ _ ends so_far.2 ∙ ap (λ l. Ok (and_list so_far.0, l)) (sym c.sees_both.ensures.stays),
     )
 
@@ -577,7 +562,7 @@ or_from-parts-preserved g t c =
           let so_far = c.parts.invariant.so_far x is in
           let total = with_front (x ∷ []) (read_more (ors (signatures g.F.Functions.set c.args.self.now) c.args.self.now.depth) (left c.args.reader.now)) in (
             so_far.0 ++ one.0 ∷ [],
-            or_pushed c.parts.builder c.logical_and.new.builder c.parts.parts.items c.push-in-parts.new.self.items so_far.0 _ one.0 c.logical_and.ensures.keeps so_far.1 one.1 c.in_ok-push-2.ensures.items,
+            or_pushed c.parts.builder c.logical_and.new.builder (parts_in c.parts.parts) (parts_in c.push-in-parts.new.self) so_far.0 _ one.0 c.logical_and.ensures.keeps so_far.1 one.1 c.in_ok-push-2.ensures.items,
             row_goes_on (ors (signatures g.F.Functions.set c.args.self.now) c.args.self.now.depth) so_far.0 _ _ _ one.0 total sign behind one.2 so_far.2,
           );
     }
@@ -591,23 +576,8 @@ or_from-returns-in_err-push-2-clause-keeps g t c = λ part piece h. c.logical_an
 pub or_from-logical_or-requires : goal.or_from-logical_or-requires
 or_from-logical_or-requires g t c = let so_far = c.parts.invariant.so_far c.requires.0 c.requires.1 in (or_list so_far.0, so_far.1)
 
-pub or_from-returns-in_err-expression-clause-moves : goal.or_from-returns-in_err-expression-clause-moves
-or_from-returns-in_err-expression-clause-moves g t c = grind (arith, common_steps)
-
 pub or_from-returns-in_err-expression-clause-keeps : goal.or_from-returns-in_err-expression-clause-keeps
-or_from-returns-in_err-expression-clause-keeps g t c = λ part piece h. c.or_of_one.ensures.keeps part piece h
-
-pub or_from-returns-then-not-sees-clause-gives : goal.or_from-returns-then-not-sees-clause-gives
-or_from-returns-then-not-sees-clause-gives g t c = λ x is.
-    let cs = left c.args.reader.now in
-    let ends : begins_both 124 124 cs ≡ false = ap (λ b. b && begins (λ d. d == 124) (drop 1 cs)) (sym c.sees.ensures ∙ c.if-not-sees.true) in (
-      or_list (x ∷ []),
-      c.in_ok-expression.ensures.made x is,
-      row_done (ors (signatures g.F.Functions.set c.args.self.now) c.args.self.now.depth) x (x ∷ []) cs cs ends refl,
-    )
-
-pub or_from-returns-in_err-expression-2-clause-keeps : goal.or_from-returns-in_err-expression-2-clause-keeps
-or_from-returns-in_err-expression-2-clause-keeps g t c = λ part piece h. c.logical_or.ensures.keeps part piece (c.parts.invariant.keeps part piece h)
+or_from-returns-in_err-expression-clause-keeps g t c = λ part piece h. c.logical_or.ensures.keeps part piece (c.parts.invariant.keeps part piece h)
 
 pub or_from-returns-clause-moves : goal.or_from-returns-clause-moves
 or_from-returns-clause-moves g t c = grind (arith, common_steps)
@@ -620,7 +590,7 @@ or_from-returns-clause-gives g t c = λ x is.
     let so_far = c.parts.invariant.so_far x is in
     let ends : begins_both 124 124 (left c.parts.reader) ≡ false = sym c.sees_both.ensures.value ∙ c.parts-test.false in (
       or_list so_far.0,
-      c.in_ok-expression-2.ensures.made (or_list so_far.0) so_far.1,
+      c.in_ok-expression.ensures.made (or_list so_far.0) so_far.1,
       row_done (ors (signatures g.F.Functions.set c.args.self.now) c.args.self.now.depth) x so_far.0 _ _ ends so_far.2 ∙ ap (λ l. Ok (or_list so_far.0, l)) (sym c.sees_both.ensures.stays),
     )
 
@@ -719,8 +689,8 @@ segments-segments-preserved g t c =
     let opened : begins opens (left c.segments.reader) ≡ true = sym c.sees_segment.ensures ∙ c.segments-test.true in
     let starts : opens_next so_far.1 ≡ true = ap (begins opens) (sym so_far.4) ∙ opened in
     let seg = c.in_ok-part.ensures.gives.0 in
-    let kept = parts_kept c.segments.builder c.segment.new.builder c.segment.ensures.keeps c.segments.parts.items (segment_list before) so_far.2 in
-    let pushed = segment_pushed c.segment.new.builder c.segments.parts.items before c.in_ok-part.part seg kept c.in_ok-part.ensures.gives.1 in
+    let kept = parts_kept c.segments.builder c.segment.new.builder c.segment.ensures.keeps (parts_in c.segments.parts) (segment_list before) so_far.2 in
+    let pushed = segment_pushed c.segment.new.builder (parts_in c.segments.parts) before c.in_ok-part.part seg kept c.in_ok-part.ensures.gives.1 in
     let rest = left c.segment.new.reader in
     record {
       moves = grind (arith, common_steps);
@@ -784,7 +754,7 @@ selectors-selectors-init g t c =
       keeps = c.selector.ensures.keeps;
       so_far = (
         read.0 ∷ [],
-        first_selector c.selector.new.builder c.new-parts.result.items c.push.new.self.items c.in_ok-first.first read.0 c.new-parts.ensures.items c.in_ok-push.ensures.items read.1,
+        first_selector c.selector.new.builder (parts_in c.new-parts.result) (parts_in c.push.new.self) c.in_ok-first.first read.0 c.new-parts.ensures.items c.in_ok-push.ensures.items read.1,
         selectors_begin filters (left c.args.reader.now) (left c.skip_blanks.new.self) (left c.selector.new.reader) read.0 c.skip_blanks.ensures.left read.2,
       );
     }
@@ -823,8 +793,8 @@ selectors-selectors-preserved g t c =
     let sel = c.in_ok-part.ensures.gives.0 in
     let read = next_selector_reads filters (left c.selectors.reader) (left c.take_char.new.self) (left c.skip_blanks-in-selectors.new.self) c.take_char.result c.take_char.ensures.value c.skip_blanks-in-selectors.ensures.left _ c.in_ok-part.ensures.gives.2 in
     let before = so_far.0 in
-    let kept = selectors_kept c.selectors.builder c.selector-in-selectors.new.builder c.selectors.parts.items before c.selector-in-selectors.ensures.keeps so_far.1 in
-    let pushed = selector_pushed c.selector-in-selectors.new.builder c.selectors.parts.items before c.in_ok-part.part sel kept c.in_ok-part.ensures.gives.1 in
+    let kept = selectors_kept c.selectors.builder c.selector-in-selectors.new.builder (parts_in c.selectors.parts) before c.selector-in-selectors.ensures.keeps so_far.1 in
+    let pushed = selector_pushed c.selector-in-selectors.new.builder (parts_in c.selectors.parts) before c.in_ok-part.part sel kept c.in_ok-part.ensures.gives.1 in
     record {
       moves = grind (arith, common_steps);
       keeps = λ part piece h. c.selector-in-selectors.ensures.keeps part piece (c.selectors.invariant.keeps part piece h);

@@ -1,5 +1,6 @@
 use Rattle.std.proofs.Common.{◌≡◌, ◌+◌, ◌*◌, ℕ, List, [], ◌∷◌, false, length}
 use Rattle.std.specs.Str.{encode_utf8_all}
+use Rattle.serde_json_path_core.specs.Flat.{parts_in}
 use Rattle.serde_json_path_core.specs.Tree.{SegmentKind, Segment, Selector, LogicalAnd, Basic}
 use Rattle.serde_json_path_core.specs.Parts.{IsPart, ArePartsOf, AreSelectorsOf, AreOrPartsOf, AreAndPartsOf, KeepsParts}
 use Rattle.serde_json_path_core.specs.Piece.{an_and, a_basic}
@@ -88,7 +89,7 @@ invariant-segments-segments g l = record {
   moves : Moves l.fn.reader l.reader;
   keeps : KeepsParts l.fn.builder l.builder;
   none : opens_next (left l.fn.reader) ≡ false → begins opens (left l.reader) ≡ false;
-  so_far : (before : List (SegmentKind × Segment)) × (rest : List ℕ) × ArePartsOf l.builder l.parts.items (segment_list before)
+  so_far : (before : List (SegmentKind × Segment)) × (rest : List ℕ) × ArePartsOf l.builder (parts_in l.parts) (segment_list before)
       × (l.rest ≡ length (encode_utf8_all rest)) × (left l.reader ≡ past_blanks rest)
       × (with_front before (segments_at (filter_at g.F.Functions.set l.self) l.place rest) ≡ segments_at (filter_at g.F.Functions.set l.self) l.place (left l.fn.reader));
 }
@@ -100,7 +101,7 @@ abbrev pub invariant-selectors-selectors : goal.invariant-selectors-selectors
 invariant-selectors-selectors g l = record {
   moves : Moves l.fn.reader l.reader;
   keeps : KeepsParts l.fn.builder l.builder;
-  so_far : (before : List Selector) × AreSelectorsOf l.builder l.parts.items (selector_list before)
+  so_far : (before : List Selector) × AreSelectorsOf l.builder (parts_in l.parts) (selector_list before)
       × (with_front before (many (begins is_comma) (next_selector_at (filter_at g.F.Functions.set l.self)) (left l.reader)) ≡ selectors_at (filter_at g.F.Functions.set l.self) (left l.fn.reader));
 }
 
@@ -111,7 +112,7 @@ abbrev pub invariant-or_from-parts : goal.invariant-or_from-parts
 invariant-or_from-parts g l = record {
   moves : Moves l.fn.reader l.reader;
   keeps : KeepsParts l.fn.builder l.builder;
-  so_far : (a : LogicalAnd) → IsPart l.fn.builder l.fn.first (an_and a) → (before : List LogicalAnd) × AreOrPartsOf l.builder l.parts.items (or_list before)
+  so_far : (a : LogicalAnd) → IsPart l.fn.builder l.fn.first (an_and a) → (before : List LogicalAnd) × AreOrPartsOf l.builder (parts_in l.parts) (or_list before)
       × (with_front before (many (begins_both 124 124) (next_and_at (signatures g.F.Functions.set l.self) (deeper g.F.Functions.set l.self)) (left l.reader))
       ≡ with_front (a ∷ []) (many (begins_both 124 124) (next_and_at (signatures g.F.Functions.set l.self) (deeper g.F.Functions.set l.self)) (left l.fn.reader)));
 }
@@ -123,7 +124,7 @@ abbrev pub invariant-and_from-parts : goal.invariant-and_from-parts
 invariant-and_from-parts g l = record {
   moves : Moves l.fn.reader l.reader;
   keeps : KeepsParts l.fn.builder l.builder;
-  so_far : (b : Basic) → IsPart l.fn.builder l.fn.first (a_basic b) → (before : List Basic) × AreAndPartsOf l.builder l.parts.items (and_list before)
+  so_far : (b : Basic) → IsPart l.fn.builder l.fn.first (a_basic b) → (before : List Basic) × AreAndPartsOf l.builder (parts_in l.parts) (and_list before)
       × (with_front before (many (begins_both 38 38) (next_basic_at (signatures g.F.Functions.set l.self) (deeper g.F.Functions.set l.self)) (left l.reader))
       ≡ with_front (b ∷ []) (many (begins_both 38 38) (next_basic_at (signatures g.F.Functions.set l.self) (deeper g.F.Functions.set l.self)) (left l.fn.reader)));
 }

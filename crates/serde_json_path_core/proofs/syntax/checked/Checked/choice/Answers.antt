@@ -5,7 +5,7 @@ use Rattle.std.proofs.Common.{option_map, ◌<◌, ◌≤◌, [], ◌∷◌, len
 use Rattle.serde_json_path_core.specs.Tree.{name}
 use Rattle.serde_json_path_core.specs.Rest.{selectors_of, selectors_list}
 use Rattle.serde_json_path_core.specs.declared.syntax.node.Node.TheVariants as node
-use Rattle.serde_json_path_core.specs.Flat.{segment_in, segment_of, selectors_in, piece_of, pieces, pieces_named, NamesBelow}
+use Rattle.serde_json_path_core.specs.Flat.{segment_in, segment_of, selectors_in, piece_of, pieces, pieces_named, parts_in, NamesBelow}
 use Rattle.serde_json_path_core.specs.PartBounds.{parts_bound}
 use Rattle.serde_json_path_core.proofs.BoundedParts.{bounded, some_below}
 use Rattle.serde_json_path_core.proofs.OtherNodes.{no_segment}
@@ -16,7 +16,7 @@ bracketed-requires c =
     let within : c.args.segment.number < length c.args.self.now.nodes.items = c.requires in
     let bound : parts_bound c.as_slice.result.now ≤ c.args.segment.number =
     subst (λ parts. parts_bound parts ≤ c.args.segment.number) (sym c.as_slice.ensures.value)
-    (bounded c.in-LongHand.selectors.items c.args.segment.number
+    (bounded (parts_in c.in-LongHand.selectors) c.args.segment.number
     (subst (NamesBelow c.args.segment.number) (c.in-Segment.is ∙ ap (node.Segment c.in-Segment.kind) c.in-LongHand.is) c.node.ensures.below)) in
     omega arith
 
@@ -24,7 +24,7 @@ pub returns-in-LongHand-clause-below : goal.returns-in-LongHand-clause-below
 returns-in-LongHand-clause-below c =
     let bound : parts_bound c.as_slice.result.now ≤ c.args.segment.number =
     subst (λ parts. parts_bound parts ≤ c.args.segment.number) (sym c.as_slice.ensures.value)
-    (bounded c.in-LongHand.selectors.items c.args.segment.number
+    (bounded (parts_in c.in-LongHand.selectors) c.args.segment.number
     (subst (NamesBelow c.args.segment.number) (c.in-Segment.is ∙ ap (node.Segment c.in-Segment.kind) c.in-LongHand.is) c.node.ensures.below)) in
     some_below c.bracketed.result (parts_bound c.as_slice.result.now) c.args.segment.number bound c.bracketed.ensures.below
 
