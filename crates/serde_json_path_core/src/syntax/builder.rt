@@ -345,8 +345,8 @@ impl SyntaxBuilder {
         self.push(Node::Query { kind, segments })
     }
 
-    /// The names that the query of that part calls, each once, in the order in which they are called first, with their
-    /// signatures in this set, for [`finish`](SyntaxBuilder::finish) (RFC 9535, section 2.4.3).
+    /// The names that the query of that part calls, each once, with their signatures in this set, for
+    /// [`finish`](SyntaxBuilder::finish) (RFC 9535, section 2.4.3).
     ///
     /// It is refused only where memory is.
     pub fn signatures<F: Functions>(
