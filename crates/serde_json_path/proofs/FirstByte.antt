@@ -76,19 +76,3 @@ pub is_some_at : (xs : List ℕ) (i : ℕ) → i < length xs → (b : ℕ) × (s
 is_some_at [] i l = absurd (omega arith)
 is_some_at (x ∷ xs) zero l = (x, refl)
 is_some_at (x ∷ xs) (suc i) l = is_some_at xs i (omega arith)
-
--- a test of the first byte, and of the first character
-abbrev pub passes : (ℕ → Bool) → Option ℕ → Bool
-passes p None = false
-passes p (Some b) = p b
-
-abbrev pub IsEven : (ℕ → Bool) → Type 0
-IsEven p = (b c : ℕ) → 128 ≤ b → 128 ≤ c → p b ≡ p c
-
-pub begins_some : (p : ℕ → Bool) (b : ℕ) (cs : List ℕ) → IsEven p → IsAhead (Some b) cs → begins p cs ≡ p b
-begins_some p b cs even a =
-    let at_c : p a.0 ≡ p b = elim (cases_lt b 128) [ inl k ↦ ap p (a.2 k) | inr k ↦ even a.0 b (a.3 k) k ] in
-    ap (begins p) a.1 ∙ at_c
-
-pub begins_none : (p : ℕ → Bool) (cs : List ℕ) → IsAhead None cs → begins p cs ≡ false
-begins_none p cs a = ap (begins p) a

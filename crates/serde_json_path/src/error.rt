@@ -89,7 +89,7 @@ impl Place {
 }
 
 /// A refusal, and how many bytes of the text stand from its place on.
-#[derive(Clone, Copy, Debug, PartialEq, Eq)]
+#[derive(Clone, Copy)]
 pub(crate) struct Refusal {
     pub(crate) kind: ParseErrorKind,
     pub(crate) place: Place,
@@ -97,7 +97,7 @@ pub(crate) struct Refusal {
 }
 
 /// Why the parser stops.
-#[derive(Debug, Drop)]
+#[derive(Drop)]
 pub(crate) enum Stop {
     Memory,
     Refused(Refusal),

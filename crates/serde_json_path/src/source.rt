@@ -77,7 +77,8 @@ impl PathSource for TextSource<'_> {
 
     fn byte(&mut self, index: usize) -> u8 {
         if index == self.in_order {
-            self.in_order += 1;
+            // Not by its own last value, so that no look waits for the one before it.
+            self.in_order = index + 1;
         } else {
             self.look_elsewhere(index);
         }

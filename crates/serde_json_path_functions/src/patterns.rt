@@ -10,7 +10,7 @@ use regex::{Error, Regex};
 use std::alloc::{AllocError, Global};
 
 /// What a pattern has to match.
-#[derive(Clone, Copy, Debug)]
+#[derive(Clone, Copy)]
 pub(crate) enum Matching {
     /// The whole text, as for `match`.
     WholeText,

@@ -401,13 +401,6 @@ impl<'s, S: PathSource> Reader<'s, S> {
         self.sees(b'.') || self.sees(b'[')
     }
 
-    /// Whether the text ends here.
-    pub(crate) fn is_at_end(&self) -> bool
-        ensures { result ≡ (length (left self.now) == 0) }
-    {
-        self.peek().is_none()
-    }
-
     /// The length of the text in bytes.
     pub(crate) fn len(&self) -> usize
         ensures { result ≡ length (told self.now).text }

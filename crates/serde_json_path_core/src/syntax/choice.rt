@@ -4,7 +4,7 @@ use crate::syntax::node::Part;
 use crate::syntax::slice::Slice;
 
 /// What one selector of a segment chooses, be it behind dots or in brackets.
-#[derive(Clone, Copy, Debug)]
+#[derive(Clone, Copy)]
 pub(crate) enum Choice<'q> {
     /// The member of that name.
     Name(&'q str),

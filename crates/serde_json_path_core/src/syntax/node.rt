@@ -31,7 +31,7 @@ pub struct Part {
 }
 
 /// A segment, without how far it goes down.
-#[derive(Debug, Drop)]
+#[derive(Drop)]
 pub(crate) enum Segment {
     /// `.name`
     DotName(String),
@@ -42,7 +42,7 @@ pub(crate) enum Segment {
 }
 
 /// A selector in brackets.
-#[derive(Debug, Drop)]
+#[derive(Drop)]
 pub(crate) enum Selector {
     /// The member of that name.
     Name(String),
@@ -57,7 +57,7 @@ pub(crate) enum Selector {
 }
 
 /// What a logical expression is joined of by `&&`; `!` stands before the negated forms.
-#[derive(Debug, Drop)]
+#[derive(Drop)]
 pub(crate) enum Basic {
     /// A logical expression in parentheses.
     Paren(Part),
@@ -80,7 +80,7 @@ pub(crate) enum Basic {
 }
 
 /// A side of a comparison.
-#[derive(Debug, Drop)]
+#[derive(Drop)]
 pub(crate) enum Comparable {
     /// A literal.
     Literal(Literal),
@@ -91,7 +91,7 @@ pub(crate) enum Comparable {
 }
 
 /// An argument of a call.
-#[derive(Debug, Drop)]
+#[derive(Drop)]
 pub(crate) enum Argument {
     /// A literal, but no number, as the value that it writes.
     Value(Value),
@@ -106,7 +106,7 @@ pub(crate) enum Argument {
 }
 
 /// One node of a syntax tree; it names nodes that were made before it.
-#[derive(Debug, Drop)]
+#[derive(Drop)]
 pub(crate) enum Node {
     /// A query and its segments.
     Query { kind: QueryKind, segments: Parts },
