@@ -1,7 +1,7 @@
 -- What the steps of a run say of its words, its input and its refusals.
 use Rattle.std.proofs.Common.{◌≡◌, ℕ, ◌<◌, ◌≤◌, false, List, [], ◌∷◌, ◌++◌, length, get_or, Option, Some, None, Result, Ok, Err, String, string_bytes, Global, refl, sym, ap, ◌∙◌, arith}
 use Rattle.std.specs.Prelude.{IfSome, OnOk, is_err}
-use Rattle.serde_json_path.specs.declared.error.ParseError.{ParseError}
+use Rattle.serde_json_path_parser.specs.declared.error.ParseError.{ParseError}
 use Rattle.jsonpath.specs.declared.report.ReportError.{ReportError}
 use Rattle.jsonpath.specs.declared.report.ReportError.TheVariants.{Path, Document, Query}
 use Rattle.jsonpath.specs.Run.{status_of, IsOneWord}

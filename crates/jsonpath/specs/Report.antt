@@ -10,7 +10,7 @@ use Rattle.serde_json_path_core.specs.Tree.{Query}
 use Rattle.serde_json_path_functions.specs.Patterns.{builtin_functions}
 use Rattle.serde_json_path_core.specs.Calls.{IsClear}
 use Rattle.serde_json_path_core.specs.Meaning.{IsResult}
-use Rattle.serde_json_path.specs.Accepted.{IsAccepted}
+use Rattle.serde_json_path_parser.specs.Accepted.{IsAccepted}
 
 -- the bytes read as this document: they are UTF-8, and its text reads as the value
 abbrev pub ReadsAs : List ℕ → Data → Type 0

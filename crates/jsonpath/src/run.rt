@@ -3,8 +3,8 @@
 ghost use Rattle.std.specs.Prelude.{◌≡◌, ◌≢◌, ◌↔◌, ◌⊎◌, ℕ, List, length, IfSome, OnOk};
 ghost use Rattle.std.specs.Io.KnownBytes.{Appends, IsAtEnd};
 ghost use Rattle.serde_json_path_functions.specs.Patterns.{builtin_functions};
-ghost use Rattle.serde_json_path.specs.Parse.{IsParseOf};
-ghost use Rattle.serde_json_path.specs.declared.error.ParseError.{ParseError};
+ghost use Rattle.serde_json_path_parser.specs.Parse.{IsParseOf};
+ghost use Rattle.serde_json_path_parser.specs.declared.error.ParseError.{ParseError};
 ghost use Rattle.jsonpath.specs.Report.{IsReportOf};
 ghost use Rattle.jsonpath.specs.Run.{status_of, IsOneWord};
 

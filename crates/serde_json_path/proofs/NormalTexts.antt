@@ -14,11 +14,11 @@ use Rattle.serde_json_path_nodes.specs.Place.{Step, by_name, by_position, IsProp
 use Rattle.serde_json_path_nodes.specs.Text.{hexadecimal_escape, escape_of, in_quotes, in_decimal, normal_step, normal}
 use Rattle.serde_json_path_core.specs.Tree.{largest, query, root, child, long_hand, no_selectors, selector}
 use Rattle.serde_json_path_functions.specs.Functions.{Signature}
-use Rattle.serde_json_path.specs.Lexical.{begins, is_digit, AllPass, value_from, IsDecimal, IsInt, hexadecimal_of, IsHex4, is_plain, IsPiece, plain, quote_escape, letter_escape, hex_escape, ArePieces, IsString}
-use Rattle.serde_json_path.specs.Grammar.{ReadSegments, ReadsSegment, ReadsSelector}
-use Rattle.serde_json_path.specs.Accepted.{IsAccepted}
+use Rattle.serde_json_path_parser.specs.Lexical.{begins, is_digit, AllPass, value_from, IsDecimal, IsInt, hexadecimal_of, IsHex4, is_plain, IsPiece, plain, quote_escape, letter_escape, hex_escape, ArePieces, IsString}
+use Rattle.serde_json_path_parser.specs.Grammar.{ReadSegments, ReadsSegment, ReadsSelector}
+use Rattle.serde_json_path_parser.specs.Accepted.{IsAccepted}
 use Rattle.serde_json_path.specs.Laws.{ArePositionsWritten}
-use Rattle.serde_json_path.proofs.IntTexts.{zero_is}
+use Rattle.serde_json_path_parser.proofs.IntTexts.{zero_is}
 use Rattle.serde_json_path.proofs.NormalMeaning.{selector_to, segments_to, segments_typed, segments_shallow}
 
 -- ---- bytes and characters

@@ -1,17 +1,13 @@
--- Laws of the typed grammar.
-use Rattle.std.specs.Prelude.{◌≡◌, ℕ, ◌≤◌, List, [], ◌∷◌, Option, Some}
+-- A law of the typed grammar and of its meaning.
+use Rattle.std.specs.Prelude.{◌≡◌, ℕ, ◌≤◌, List, [], ◌∷◌, Some}
 use Rattle.std.specs.Str.{chars}
 use Rattle.serde_json.specs.Data.{Data}
 use Rattle.serde_json_path_nodes.specs.Place.{Step, by_name, by_position, at, IsProper, Located}
 use Rattle.serde_json_path_nodes.specs.Text.{normal}
 use Rattle.serde_json_path_core.specs.Tree.{Query, largest}
 use Rattle.serde_json_path_core.specs.Meaning.{IsResult}
-use Rattle.serde_json_path_functions.specs.Functions.{Signature, FunctionSet}
-use Rattle.serde_json_path.specs.Accepted.{IsAccepted}
-
--- a text is accepted with one tree at most
-abbrev pub OneTreeAtMost : Type 0
-OneTreeAtMost = (signature : List ℕ → Option Signature) (text : List ℕ) (p q : Query) → IsAccepted signature text p → IsAccepted signature text q → p ≡ q
+use Rattle.serde_json_path_functions.specs.Functions.{FunctionSet}
+use Rattle.serde_json_path_parser.specs.Accepted.{IsAccepted}
 
 -- each position is one that an index can write
 abbrev pub ArePositionsWritten : List Step → Type 0

@@ -1,8 +1,10 @@
 -- What contracts see of a path.
+use Rattle.std.specs.Prelude.{ℕ, List, Result, Ok, Err}
 use Rattle.serde_json_path_core.specs.Tree.{Query}
 use Rattle.serde_json_path_core.specs.Parts.{tree_of, signatures_of}
+use Rattle.serde_json_path_core.specs.declared.syntax.checked.Checked.{Checked}
 use Rattle.serde_json_path_functions.specs.Functions.{Signature}
-use Rattle.std.specs.Prelude.{ℕ, List}
+use Rattle.serde_json_path_parser.specs.declared.error.ParseError.{ParseError}
 use Rattle.serde_json_path.specs.declared.path.JsonPath.{JsonPath}
 
 -- the syntax tree of a path
@@ -12,3 +14,8 @@ path_tree path = tree_of path.checked
 -- the names that a path calls, each with the signature that it was read with
 abbrev pub path_signatures : JsonPath → List (List ℕ × Signature)
 path_signatures path = signatures_of path.checked
+
+-- what the parser answered, of which a path was made
+abbrev pub parser_answer : Result JsonPath ParseError → Result Checked ParseError
+parser_answer (Ok path) = Ok path.checked
+parser_answer (Err e) = Err e

@@ -1,13 +1,6 @@
-//! Laws of the typed grammar, each the contract of a function with an empty body.
+//! A law of the typed grammar and of its meaning, the contract of a function with an empty body.
 
-ghost use Rattle.serde_json_path.specs.Laws.{OneTreeAtMost, PrintedPathSelectsItsNode};
-
-/// A text is accepted with one tree at most, whatever functions are declared.
-///
-/// It reads as at most one tree from the root that is well-typed under the signatures and nested at most 128 deep.
-pub fn law_one_tree_at_most()
-    ensures { OneTreeAtMost }
-{}
+ghost use Rattle.serde_json_path.specs.Laws.{PrintedPathSelectsItsNode};
 
 /// The normalised path that a location prints is accepted and selects the location's node alone (RFC 9535, section 2.7).
 ///

@@ -12,13 +12,12 @@ ghost use Rattle.serde_json_path_functions.specs.Functions.{both, Fits};
 ghost use Rattle.serde_json_path_functions.specs.Patterns.{builtin_functions};
 ghost use Rattle.serde_json_path_functions.specs.declared.error.QueryError.TheVariants.{Memory};
 
-use crate::error::ParseError;
-use crate::parser::{parse_source, parse_under};
-use crate::source::TextSource;
+use crate::source::parse_source;
 use serde_json::Value;
 use serde_json_path_core::functions::{Both, Builtin, Functions};
 use serde_json_path_core::{Checked, QueryError, Walk, evaluate, evaluate_located, walk};
 use serde_json_path_nodes::{LocatedNodeList, NodeList};
+use serde_json_path_parser::{ParseError, TextSource, parse};
 use std::alloc::Global;
 
 /// A JSONPath (RFC 9535).
@@ -35,8 +34,8 @@ pub struct JsonPath {
 }
 
 impl JsonPath {
-    ghost use Rattle.serde_json_path.specs.Parse.{IsParseOf};
-    ghost use Rattle.serde_json_path.specs.Paths.{path_tree, path_signatures};
+    ghost use Rattle.serde_json_path_parser.specs.Parse.{IsParseOf};
+    ghost use Rattle.serde_json_path.specs.Paths.{path_tree, path_signatures, parser_answer};
 
     /// The path `$`, which selects the document itself. It takes no memory.
     pub fn new(alloc: Global) -> JsonPath
@@ -56,16 +55,17 @@ impl JsonPath {
     /// let path = JsonPath::parse(alloc, "$.store.book[?@.isbn].title")?;
     /// ```
     pub fn parse(alloc: Global, path_str: &str) -> Result<JsonPath, ParseError>
-        ensures parse { IsParseOf builtin_functions.signature path_str.now result }
+        ensures parse { IsParseOf builtin_functions.signature path_str.now (parser_answer result) }
         ensures fits { IfOk result (λ path. Fits builtin_functions (path_signatures path)) }
     {
         let mut source = TextSource::new(path_str);
-        parse_under(alloc, &mut source, &Builtin)
+        let checked = parse(alloc, &mut source, &Builtin)?;
+        Ok(JsonPath { checked })
     }
 
     /// Reads a path, as `parse` does. `std::str::FromStr` hands in no allocator.
     pub fn from_str(alloc: Global, path_str: &str) -> Result<JsonPath, ParseError>
-        ensures parse { IsParseOf builtin_functions.signature path_str.now result }
+        ensures parse { IsParseOf builtin_functions.signature path_str.now (parser_answer result) }
         ensures fits { IfOk result (λ path. Fits builtin_functions (path_signatures path)) }
     {
         JsonPath::parse(alloc, path_str)
@@ -83,7 +83,7 @@ impl JsonPath {
         path_str: &str,
         functions: &F,
     ) -> Result<JsonPath, ParseError>
-        ensures parse { IsParseOf (both (F.set functions.now) builtin_functions).signature path_str.now result }
+        ensures parse { IsParseOf (both (F.set functions.now) builtin_functions).signature path_str.now (parser_answer result) }
         ensures fits { IfOk result (λ path. Fits (both (F.set functions.now) builtin_functions) (path_signatures path)) }
     {
         let mut source = TextSource::new(path_str);

@@ -1,87 +1,48 @@
-//! Texts that are looked at byte by byte.
+//! Paths from the sources of their texts.
 
-ghost use Rattle.std.specs.Prelude.{◌≡◌, ◌<◌, ◌-◌, ◌^◌, length, slice_index};
-ghost use Rattle.std.specs.Str.{IsUtf8};
-ghost use Rattle.serde_json_path.specs.Source.{Told, looked};
+ghost use Rattle.std.specs.Prelude.{◌≡◌, ◌+◌, ◌-◌, ◌*◌, ◌^◌, ◌≤◌, max, true, length, IfOk, IfErr};
+ghost use Rattle.serde_json_path_functions.specs.Functions.{both, Fits};
+ghost use Rattle.serde_json_path_functions.specs.Patterns.{builtin_functions};
+ghost use Rattle.serde_json_path_parser.specs.Errors.{kind_of, position_of, is_told_at_next};
+ghost use Rattle.serde_json_path_parser.specs.Parse.{IsParseOf};
+ghost use Rattle.serde_json_path.specs.Paths.{path_signatures, parser_answer};
 
-/// One text that does not change, as the bytes of its UTF-8. Each call of `byte` is one look.
-pub trait PathSource {
-    /// The text, the number of looks so far, and the farthest byte looked at.
-    ghost told: { Self → Told };
+use crate::path::JsonPath;
+use serde_json_path_core::functions::{Both, Builtin, Functions};
+use serde_json_path_parser::{ParseError, PathSource, parse};
+use std::alloc::Global;
 
-    /// The length of the text in bytes. This is no look.
-    fn len(&self) -> usize
-        ensures bytes { result ≡ length (told self.now).text }
-        ensures utf8 { IsUtf8 (told self.now).text };
-
-    /// The byte of that index, from 0.
-    fn byte(&mut self, index: usize) -> u8
-        requires { index < length (told self.old).text }
-        ensures value { result ≡ slice_index (told self.old).text index }
-        ensures look { told self.new ≡ looked (told self.old) index };
-}
-
-/// The source of a text in memory. It counts looks.
-#[derive(Drop)]
-pub struct TextSource<'t> {
-    text: &'t str,
-    /// How many bytes from the first one on were looked at in order. A parse looks at its text so, and this one number then
-    /// tells both the looks and the farthest byte.
-    in_order: usize,
-    other_looks: u128,
-    other_farthest: usize,
-}
-
-impl<'t> TextSource<'t> {
-    ghost use Rattle.serde_json_path.specs.TextSources.{told_by};
-
-    /// A source that was not looked at yet.
-    pub fn new(text: &'t str) -> TextSource<'t>
-        ensures { told_by result ≡ record { text = text.now; looks = 0; farthest = 0 } }
-    {
-        TextSource {
-            text,
-            in_order: 0,
-            other_looks: 0,
-            other_farthest: 0,
-        }
-    }
-
-    /// How often the text was looked at; at 2^128 - 1 the count stays.
-    pub fn looks(&self) -> u128
-        ensures { result ≡ (told_by self.now).looks }
-    {
-        self.other_looks.saturating_add(self.in_order as u128)
-    }
-
-    /// Counts a look at the byte of that index which is not the next in order.
-    #[cold]
-    #[inline(never)]
-    fn look_elsewhere(&mut self, index: usize)
-        requires { index < 2 ^ 64 - 1 }
-        ensures { told_by self.new ≡ looked (told_by self.old) index }
-    {
-        self.other_looks = self.other_looks.saturating_add(1);
-        self.other_farthest = self.other_farthest.max(index + 1);
-    }
-}
-
-impl PathSource for TextSource<'_> {
-    ghost use Rattle.serde_json_path.specs.TextSources.{told_by};
-
-    ghost told = { told_by };
-
-    fn len(&self) -> usize {
-        self.text.as_bytes().len()
-    }
-
-    fn byte(&mut self, index: usize) -> u8 {
-        if index == self.in_order {
-            // Not by its own last value, so that no look waits for the one before it.
-            self.in_order = index + 1;
-        } else {
-            self.look_elsewhere(index);
-        }
-        self.text.as_bytes()[index]
-    }
+/// Reads the path that a source tells, from left to right by its `byte` alone; the first refusal that is met is told.
+///
+/// Filters call functions of the set, and the built-in ones behind them; the path fits these. A text of n bytes is looked at
+/// 32(n + 1) times at most, and where a root, a name, a selector or a closing bracket is missing, nothing beyond the byte
+/// behind the one that does not fit was looked at.
+///
+/// An error tells why and where ([`ParseError`]): unless it is `NoMemory`, the text is no path. A text of `usize::MAX` bytes,
+/// whose end would have no position, is refused as `NoMemory` before any look.
+///
+/// ```text
+/// let mut source = TextSource::new("$..book[-1:].title");
+/// let path = parse_source(alloc, &mut source, &Builtin)?;
+/// let looks = source.looks();
+/// ```
+pub fn parse_source<S: PathSource, F: Functions>(
+    alloc: Global,
+    source: &mut S,
+    functions: &F,
+) -> Result<JsonPath, ParseError>
+    ensures parse { IsParseOf (both (F.set functions.now) builtin_functions).signature (S.told source.old).text (parser_answer result) }
+    // The signatures that the path keeps are those of the set, with the built-in ones behind them.
+    ensures fits { IfOk result (λ path. Fits (both (F.set functions.now) builtin_functions) (path_signatures path)) }
+    // The source still tells its text.
+    ensures same_text { (S.told source.new).text ≡ (S.told source.old).text }
+    // However the parse ends, there are at most 32(n + 1) looks more at n bytes.
+    ensures looks { (S.told source.new).looks ≤ (S.told source.old).looks + 32 * (length (S.told source.old).text + 1) }
+    // Of four kinds nothing beyond the byte behind the position was looked at.
+    ensures farthest { IfErr result (λ e. is_told_at_next (kind_of e) ≡ true
+        → (S.told source.new).farthest ≤ max (S.told source.old).farthest (position_of e + 1)) }
+    ensures unseen { length (S.told source.old).text ≡ 2 ^ 64 - 1 → S.told source.new ≡ S.told source.old }
+{
+    let checked = parse(alloc, source, &Both(functions, Builtin))?;
+    Ok(JsonPath { checked })
 }

@@ -1,6 +1,6 @@
 use Rattle.std.proofs.Common.{Err, sym, ap, subst, ◌∙◌}
 use Rattle.serde_json_path_functions.specs.Patterns.{builtin_functions}
-use Rattle.serde_json_path.specs.Parse.{IsParseOf}
+use Rattle.serde_json_path_parser.specs.Parse.{IsParseOf}
 use Rattle.jsonpath.specs.Report.{IsReportOf}
 use Rattle.jsonpath.proofs.Runs.{one_word, whole_read, refused_path}
 use Rattle.jsonpath.proofs.run.run.Goals as goal

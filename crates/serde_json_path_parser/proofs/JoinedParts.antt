@@ -1,0 +1,58 @@
+-- Parts that stand for what is joined by `||` and by `&&`, one more at a time.
+use Rattle.std.proofs.Common.{◌≡◌, List, [], ◌∷◌, ◌++◌, refl, sym, ap, subst, ◌∙◌}
+use Rattle.serde_json_path_core.specs.Tree.{LogicalOr, LogicalAnd, Basic}
+use Rattle.serde_json_path_core.specs.Piece.{Piece, an_and, a_basic}
+use Rattle.serde_json_path_core.specs.Parts.{IsPart, ArePartsFor, AreOrPartsOf, AreAndPartsOf, KeepsParts, or_pieces, and_pieces}
+use Rattle.serde_json_path_core.specs.declared.syntax.node.Part.{Part}
+use Rattle.serde_json_path_core.specs.declared.syntax.builder.SyntaxBuilder.{SyntaxBuilder}
+use Rattle.serde_json_path_core.proofs.NamedParts.{parts_for_kept, or_parts_for, and_parts_for}
+use Rattle.serde_json_path_parser.specs.Filters.{and_list, or_list}
+use Rattle.serde_json_path_parser.proofs.PartLists.{one_more}
+
+-- one part more of those that were there before the builder grew
+more_kept : (old new : SyntaxBuilder) (parts : List Part) (pieces whole : List Piece) (part : Part) (piece : Piece) → KeepsParts old new → ArePartsFor old parts pieces
+    → IsPart new part piece → pieces ++ piece ∷ [] ≡ whole
+    → ArePartsFor new (parts ++ part ∷ []) whole
+more_kept old new parts pieces whole part piece keeps h is e = subst (ArePartsFor new (parts ++ part ∷ [])) e (one_more new parts pieces part piece (parts_for_kept old new keeps parts pieces h) is)
+
+-- ---- `||`
+
+or_behind : (xs : List LogicalAnd) (x : LogicalAnd) → or_pieces (or_list xs) ++ an_and x ∷ [] ≡ or_pieces (or_list (xs ++ x ∷ []))
+or_behind [] x = refl
+or_behind (y ∷ xs) x = ap (λ (l : List Piece). an_and y ∷ l) (or_behind xs x)
+
+some_ors : (builder : SyntaxBuilder) (parts : List Part) (part : Part) (e : LogicalOr) → ArePartsFor builder (parts ++ part ∷ []) (or_pieces e) → AreOrPartsOf builder (parts ++ part ∷ []) e
+some_ors builder [] part e h = h
+some_ors builder (q ∷ parts) part e h = h
+
+pub first_or : (builder : SyntaxBuilder) (empty parts : List Part) (part : Part) (x : LogicalAnd) → empty ≡ [] → parts ≡ empty ++ part ∷ [] → IsPart builder part (an_and x)
+    → AreOrPartsOf builder parts (or_list (x ∷ []))
+first_or builder empty parts part x none e is = subst (λ (ps : List Part). AreOrPartsOf builder ps (or_list (x ∷ []))) (sym (e ∙ ap (λ (ps : List Part). ps ++ part ∷ []) none)) (is, tt)
+
+pub or_pushed : (old new : SyntaxBuilder) (parts pushed : List Part) (xs : List LogicalAnd) (part : Part) (x : LogicalAnd) → KeepsParts old new → AreOrPartsOf old parts (or_list xs)
+    → IsPart new part (an_and x)
+    → pushed ≡ parts ++ part ∷ [] → AreOrPartsOf new pushed (or_list (xs ++ x ∷ []))
+or_pushed old new parts pushed xs part x keeps h is e =
+    let more = more_kept old new parts (or_pieces (or_list xs)) (or_pieces (or_list (xs ++ x ∷ []))) part (an_and x) keeps (or_parts_for old parts (or_list xs) h) is (or_behind xs x) in
+    subst (λ (ps : List Part). AreOrPartsOf new ps (or_list (xs ++ x ∷ []))) (sym e) (some_ors new parts part (or_list (xs ++ x ∷ [])) more)
+
+-- ---- `&&`
+
+and_behind : (bs : List Basic) (b : Basic) → and_pieces (and_list bs) ++ a_basic b ∷ [] ≡ and_pieces (and_list (bs ++ b ∷ []))
+and_behind [] b = refl
+and_behind (y ∷ bs) b = ap (λ (l : List Piece). a_basic y ∷ l) (and_behind bs b)
+
+some_ands : (builder : SyntaxBuilder) (parts : List Part) (part : Part) (e : LogicalAnd) → ArePartsFor builder (parts ++ part ∷ []) (and_pieces e) → AreAndPartsOf builder (parts ++ part ∷ []) e
+some_ands builder [] part e h = h
+some_ands builder (q ∷ parts) part e h = h
+
+pub first_and : (builder : SyntaxBuilder) (empty parts : List Part) (part : Part) (b : Basic) → empty ≡ [] → parts ≡ empty ++ part ∷ [] → IsPart builder part (a_basic b)
+    → AreAndPartsOf builder parts (and_list (b ∷ []))
+first_and builder empty parts part b none e is = subst (λ (ps : List Part). AreAndPartsOf builder ps (and_list (b ∷ []))) (sym (e ∙ ap (λ (ps : List Part). ps ++ part ∷ []) none)) (is, tt)
+
+pub and_pushed : (old new : SyntaxBuilder) (parts pushed : List Part) (bs : List Basic) (part : Part) (b : Basic) → KeepsParts old new → AreAndPartsOf old parts (and_list bs)
+    → IsPart new part (a_basic b)
+    → pushed ≡ parts ++ part ∷ [] → AreAndPartsOf new pushed (and_list (bs ++ b ∷ []))
+and_pushed old new parts pushed bs part b keeps h is e =
+    let more = more_kept old new parts (and_pieces (and_list bs)) (and_pieces (and_list (bs ++ b ∷ []))) part (a_basic b) keeps (and_parts_for old parts (and_list bs) h) is (and_behind bs b) in
+    subst (λ (ps : List Part). AreAndPartsOf new ps (and_list (bs ++ b ∷ []))) (sym e) (some_ands new parts part (and_list (bs ++ b ∷ [])) more)

@@ -1,0 +1,92 @@
+-- What is read as a whole path is well-typed and at most 128 deep, and each of those is read.
+use Rattle.std.proofs.Common.{◌≡◌, ℕ, ◌≤◌, true, false, cond, List, [], ◌∷◌, ◌++◌, length, drop, Option, Result, Ok, Err, refl, sym, ap, subst, ◌∙◌, arith}
+use Rattle.std.specs.Prelude.{◌==◌, encode_utf8}
+use Rattle.std.specs.Str.{encode_utf8_all}
+use Rattle.std.proofs.lemmas.List.{append-nil, length-append, nil_from_length}
+use Rattle.std.proofs.lemmas.Bool.{eqb-true}
+use Rattle.serde_json_path_core.specs.Tree.{SegmentKind, Segments, Segment}
+use Rattle.serde_json_path_core.specs.Typing.{AreTypedSegments}
+use Rattle.serde_json_path_core.specs.Depth.{segments_depth}
+use Rattle.serde_json_path_functions.specs.Functions.{Signature}
+use Rattle.serde_json_path_parser.specs.declared.error.ParseErrorKind.TheVariants.{ExpectedRoot, TextAfterPath}
+use Rattle.serde_json_path_parser.specs.declared.error.Place.TheVariants as place
+use Rattle.serde_json_path_parser.specs.declared.error.Refusal.{Refusal}
+use Rattle.serde_json_path_parser.specs.Lexical.{begins}
+use Rattle.serde_json_path_parser.specs.Grammar.{ReadSegments}
+use Rattle.serde_json_path_parser.specs.Parsed.{Parsed, ◌>>=◌, refusal}
+use Rattle.serde_json_path_parser.specs.Parsing.{opens_next, segments_at, segment_list, opens_behind_root}
+use Rattle.serde_json_path_parser.specs.Filters.{filter_at, level, path_at}
+use Rattle.serde_json_path_parser.proofs.Decoding.{some_bytes}
+use Rattle.serde_json_path_parser.proofs.Filtered.{FilterLaws}
+use Rattle.serde_json_path_parser.proofs.FilterTexts.{filter_laws}
+use Rattle.serde_json_path_parser.proofs.Levels.{level_laws}
+use Rattle.serde_json_path_parser.proofs.LogicalForms.{IsGoodInside, good_segments, segments_good}
+use Rattle.serde_json_path_parser.proofs.SegmentTexts.{segments_sound, segments_again, same_segments, no_segments_read}
+use Rattle.serde_json_path_parser.proofs.Steps.{bind_ok, guard, done, ok_is, after_one}
+
+-- the end of a text whose segments were read
+abbrev at_end : Parsed (List (SegmentKind × Segment)) → Result Segments Refusal
+at_end read = read >>= λ ss. cond (length ss.1 == 0) (Ok (segment_list ss.0)) (Err (refusal TextAfterPath place.Path ss.1))
+
+nothing : (cs : List ℕ) → (length cs == 0) ≡ true → cs ≡ []
+nothing cs e = nil_from_length cs (eqb-true (length cs) 0 e)
+
+-- where no byte is left, no character is
+pub all_read : (rest : List ℕ) (bytes : ℕ) → bytes ≡ length (encode_utf8_all rest) → bytes ≡ 0 → (length rest == 0) ≡ true
+all_read [] bytes is none = refl
+all_read (c ∷ rest) bytes is none = absurd (omega (arith, is, none, length-append (encode_utf8 c) (encode_utf8_all rest), some_bytes c))
+
+module _ (signature : List ℕ → Option Signature) where
+  -- the segments of a path
+  abbrev pub path_segments_at : List ℕ → Parsed (List (SegmentKind × Segment))
+  path_segments_at cs = segments_at (filter_at signature (level signature 128)) place.Path cs
+
+  -- how the filters of a path are read
+  pub path_filters : FilterLaws (IsGoodInside signature 128) (filter_at signature (level signature 128))
+  path_filters = filter_laws signature 128 (level signature 128) (level_laws signature 128)
+
+  -- segments in a row, well-typed and at most 128 deep
+  abbrev pub ArePathSegments : List ℕ → Segments → Type 0
+  ArePathSegments t segs = (AreTypedSegments signature segs × (segments_depth segs ≤ 128)) × ReadSegments segs t
+
+  -- ---- the steps of the code
+
+  rooted : (cs ds : List ℕ) (c : ℕ) → begins (λ d. d == 36) cs ≡ true → cs ≡ c ∷ ds → path_at signature cs ≡ at_end (path_segments_at ds)
+  unfolding path_at
+  rooted cs ds c b e = rw b (ap (λ (l : List ℕ). at_end (path_segments_at (drop 1 l))) e)
+
+  module _ (cs ds rest : List ℕ) (c : ℕ) (ss : List (SegmentKind × Segment)) (root : begins (λ d. d == 36) cs ≡ true) (split : cs ≡ c ∷ ds) (read : path_segments_at ds ≡ Ok (ss, rest)) where
+    pub path_ends : (length rest == 0) ≡ true → path_at signature cs ≡ Ok (segment_list ss)
+    path_ends e = rooted cs ds c root split ∙ ap at_end read ∙ rw e refl
+
+  -- where no segment begins behind `$`, none is read
+  pub none_read : (cs ds rest : List ℕ) (c : ℕ) (ss : List (SegmentKind × Segment)) → begins (λ d. d == 36) cs ≡ true → cs ≡ c ∷ ds → path_segments_at ds ≡ Ok (ss, rest) → opens_behind_root cs ≡ false → ss ≡ []
+  none_read cs ds rest c ss root split read none =
+      let closed : opens_next ds ≡ false = sym (rw (root, split) refl) ∙ none in
+      let empty = no_segments_read (filter_at signature (level signature 128)) place.Path ds closed in
+      ap (λ (x : List (SegmentKind × Segment) × List ℕ). x.0) (ok_is (ss, rest) ([], ds) (sym read ∙ empty))
+
+  -- ---- the whole text
+
+  pub path_segments_sound : (cs : List ℕ) (x : List (SegmentKind × Segment) × List ℕ) → path_segments_at cs ≡ Ok x → (t : List ℕ) × ArePathSegments t (segment_list x.0) × (cs ≡ t ++ x.1)
+  path_segments_sound cs x e =
+      let r = segments_sound (filter_at signature (level signature 128)) (IsGoodInside signature 128) path_filters place.Path cs x e in
+      (r.text, (good_segments signature 128 (segment_list x.0) r.is_so.0, r.is_so.1), r.split)
+
+  pub path_sound : (cs : List ℕ) (segs : Segments) → path_at signature cs ≡ Ok segs → (a : List ℕ) × ArePathSegments a segs × (cs ≡ 36 ∷ a)
+  unfolding path_at
+  path_sound cs segs e =
+      let g = guard (begins (λ c. c == 36) cs) (refusal ExpectedRoot place.Path cs) (at_end (path_segments_at (drop 1 cs))) segs e in
+      let b = bind_ok (path_segments_at (drop 1 cs)) (λ ss. cond (length ss.1 == 0) (Ok (segment_list ss.0)) (Err (refusal TextAfterPath place.Path ss.1))) segs g.1 in
+      let k = guard (length b.0.1 == 0) (refusal TextAfterPath place.Path b.0.1) (done (segment_list b.0.0)) segs b.2 in
+      let r = path_segments_sound (drop 1 cs) b.0 b.1 in
+      subst (λ (ss : Segments). (a : List ℕ) × ArePathSegments a ss × (cs ≡ 36 ∷ a)) (ok_is (segment_list b.0.0) segs k.1)
+      (r.0, r.1, after_one 36 cs g.0 ∙ ap (λ (l : List ℕ). 36 ∷ l) (r.2 ∙ ap (λ (l : List ℕ). r.0 ++ l) (nothing b.0.1 k.0) ∙ append-nil r.0))
+
+  pub path_again : (t a : List ℕ) (segs : Segments) → ArePathSegments a segs → t ≡ 36 ∷ a → path_at signature t ≡ Ok segs
+  unfolding path_at
+  path_again t a segs h e =
+      let good = segments_good signature 128 segs h.0.0 h.0.1 in
+      let again = segments_again (filter_at signature (level signature 128)) (IsGoodInside signature 128) path_filters place.Path a segs [] (good, h.1) refl refl in
+      let all = ap path_segments_at (sym (append-nil a)) ∙ again in
+      ap (path_at signature) e ∙ rw all (ap (λ (ss : Segments). Ok ss) (same_segments segs))

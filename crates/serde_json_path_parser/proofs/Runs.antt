@@ -1,0 +1,130 @@
+-- What begins a list; its front whose elements pass a test, and what is behind it; and the value of digits, one by one.
+use Rattle.std.proofs.Common.{◌≡◌, ℕ, ◌+◌, ◌-◌, ◌*◌, ◌<◌, ◌≤◌, min, Bool, true, false, true≢false, List, [], ◌∷◌, ◌++◌, length, refl, sym, ap, ◌∙◌, append_assoc, inl, inr, arith}
+use Rattle.std.proofs.lemmas.Bool.{cases_lt, eqb-true}
+use Rattle.std.specs.Str.{encode_utf8_all}
+use Rattle.std.specs.Prelude.{encode_utf8, ◌==◌}
+use Rattle.std.specs.List.{AllByRecursion}
+use Rattle.serde_json_path_parser.specs.Lexical.{begins, is_blank, is_digit, value_from}
+use Rattle.serde_json_path_parser.specs.Parsed.{front, behind}
+
+-- ---- what begins a list
+
+pub some_begun : (p : ℕ → Bool) (t : List ℕ) → begins p t ≡ true → 0 < length t
+some_begun p [] e = absurd cc
+some_begun p (c ∷ t) e = omega arith
+
+-- a list begins as its front does, where that is there
+pub begins_front : (p : ℕ → Bool) (b : Bool) (t rest : List ℕ) → 0 < length t → begins p t ≡ b → begins p (t ++ rest) ≡ b
+begins_front p b [] rest l e = absurd (omega arith)
+begins_front p b (c ∷ t) rest l e = e
+
+-- a list begins so where each character that begins it so does
+pub begins_where : (p q : ℕ → Bool) (b : Bool) (cs : List ℕ) → ((c : ℕ) → p c ≡ true → q c ≡ b) → begins p cs ≡ true → begins q cs ≡ b
+begins_where p q b [] h e = absurd cc
+begins_where p q b (c ∷ cs) h e = h c e
+
+-- ---- characters that differ
+
+-- a character that passes a test is none that fails it
+pub differs : (p : ℕ → Bool) (k c : ℕ) → p k ≡ false → p c ≡ true → (c == k) ≡ false
+differs p k c fails passes = by_test (c == k) refl
+  where
+    by_test : (b : Bool) → (c == k) ≡ b → (c == k) ≡ false
+    by_test true e = absurd (true≢false (sym passes ∙ ap p (eqb-true c k e) ∙ fails))
+    by_test false e = e
+
+-- nor a blank, where each blank fails
+pub no_blank : (p : ℕ → Bool) (c : ℕ) → p 32 ≡ false → p 9 ≡ false → p 10 ≡ false → p 13 ≡ false → p c ≡ true → is_blank c ≡ false
+no_blank p c space tab feed return passes = rw (differs p 32 c space passes, differs p 9 c tab passes, differs p 10 c feed passes, differs p 13 c return passes) refl
+
+-- a list that begins with one that passes begins with none that fails
+pub begins_differs : (p : ℕ → Bool) (k : ℕ) (cs : List ℕ) → p k ≡ false → begins p cs ≡ true → begins (λ c. c == k) cs ≡ false
+begins_differs p k cs fails begun = begins_where p (λ c. c == k) false cs (λ c e. differs p k c fails e) begun
+
+-- ---- a front and what is behind it
+
+-- the front and what is behind it are the whole
+pub whole : (p : ℕ → Bool) (cs : List ℕ) → cs ≡ front p cs ++ behind p cs
+whole p [] = refl
+whole p (c ∷ cs) = by_test (p c) refl (whole p cs)
+  where
+    by_test : (b : Bool) → p c ≡ b → cs ≡ front p cs ++ behind p cs → c ∷ cs ≡ front p (c ∷ cs) ++ behind p (c ∷ cs)
+    by_test true e h = rw e (ap (λ (l : List ℕ). c ∷ l) h)
+    by_test false e h = rw e refl
+
+pub front_each : (p : ℕ → Bool) (cs : List ℕ) → AllByRecursion (λ c. p c ≡ true) (front p cs)
+front_each p [] = tt
+front_each p (c ∷ cs) = by_test (p c) refl (front_each p cs)
+  where
+    by_test : (b : Bool) → p c ≡ b → AllByRecursion (λ c. p c ≡ true) (front p cs) → AllByRecursion (λ c. p c ≡ true) (front p (c ∷ cs))
+    by_test true e h = rw e (e, h)
+    by_test false e h = rw e tt
+
+-- the front begins as the list does
+pub front_begins : (p q : ℕ → Bool) (cs : List ℕ) → ((c : ℕ) → q c ≡ true → p c ≡ true) → begins q cs ≡ true → begins q (front p cs) ≡ true
+front_begins p q [] sub e = absurd cc
+front_begins p q (c ∷ cs) sub e = rw (sub c e) e
+
+pub front_begins_not : (p q : ℕ → Bool) (cs : List ℕ) → begins q cs ≡ false → begins q (front p cs) ≡ false
+front_begins_not p q [] e = refl
+front_begins_not p q (c ∷ cs) e = by_test (p c) refl
+  where
+    by_test : (b : Bool) → p c ≡ b → begins q (front p (c ∷ cs)) ≡ false
+    by_test true t = rw t e
+    by_test false t = rw t refl
+
+pub front_all : (p : ℕ → Bool) (t rest : List ℕ) → AllByRecursion (λ c. p c ≡ true) t → begins p rest ≡ false → front p (t ++ rest) ≡ t
+front_all p [] [] h e = refl
+front_all p [] (c ∷ rest) h e = rw e refl
+front_all p (c ∷ t) rest h e = rw h.0 (ap (λ (l : List ℕ). c ∷ l) (front_all p t rest h.1 e))
+
+pub behind_all : (p : ℕ → Bool) (t rest : List ℕ) → AllByRecursion (λ c. p c ≡ true) t → begins p rest ≡ false → behind p (t ++ rest) ≡ rest
+behind_all p [] [] h e = refl
+behind_all p [] (c ∷ rest) h e = rw e refl
+behind_all p (c ∷ t) rest h e = rw h.0 (behind_all p t rest h.1 e)
+
+-- what is behind a text that passes, and more
+pub behind_past : (p : ℕ → Bool) (t rest : List ℕ) → AllByRecursion (λ c. p c ≡ true) t → behind p (t ++ rest) ≡ behind p rest
+behind_past p [] rest h = refl
+behind_past p (c ∷ t) rest h = rw h.0 (behind_past p t rest h.1)
+
+pub front_more : (p : ℕ → Bool) (cs ds : List ℕ) (c : ℕ) → cs ≡ c ∷ ds → begins p cs ≡ true → front p cs ≡ c ∷ front p ds
+front_more p cs ds c e t = let k : p c ≡ true = sym (ap (begins p) e) ∙ t in ap (front p) e ∙ rw k refl
+
+pub behind_more : (p : ℕ → Bool) (cs ds : List ℕ) (c : ℕ) → cs ≡ c ∷ ds → begins p cs ≡ true → behind p cs ≡ behind p ds
+behind_more p cs ds c e t = let k : p c ≡ true = sym (ap (begins p) e) ∙ t in ap (behind p) e ∙ rw k refl
+
+pub front_end : (p : ℕ → Bool) (cs : List ℕ) → begins p cs ≡ false → front p cs ≡ []
+front_end p [] t = refl
+front_end p (c ∷ cs) t = rw t refl
+
+pub behind_end : (p : ℕ → Bool) (cs : List ℕ) → begins p cs ≡ false → behind p cs ≡ cs
+behind_end p [] t = refl
+behind_end p (c ∷ cs) t = rw t refl
+
+-- one more character of the front is taken into a text
+pub taken : (p : ℕ → Bool) (cs ds : List ℕ) (c : ℕ) (text whole : List ℕ) → cs ≡ c ∷ ds → begins p cs ≡ true
+    → text ++ encode_utf8_all (front p cs) ≡ whole → (text ++ encode_utf8 c) ++ encode_utf8_all (front p ds) ≡ whole
+taken p cs ds c text whole e t h = append_assoc text (encode_utf8 c) (encode_utf8_all (front p ds)) ∙ ap (λ (l : List ℕ). text ++ encode_utf8_all l) (sym (front_more p cs ds c e t)) ∙ h
+
+-- ---- the value of digits
+
+pub value_grows : (n m : ℕ) (ds : List ℕ) → n ≤ m → value_from n ds ≤ value_from m ds
+value_grows n m [] h = h
+value_grows n m (d ∷ ds) h = value_grows (n * 10 + (d - 48)) (m * 10 + (d - 48)) ds (omega (arith, h))
+
+pub value_least : (n : ℕ) (ds : List ℕ) → n ≤ value_from n ds
+value_least n [] = omega arith
+value_least n (d ∷ ds) = omega (arith, value_least (n * 10 + (d - 48)) ds)
+
+-- a number that stops at the largest one stays there
+pub saturated : (n m limit : ℕ) (ds : List ℕ) → n ≡ min m limit → min (value_from n ds) limit ≡ min (value_from m ds) limit
+saturated n m limit ds e = elim (cases_lt m limit) [
+  | inl lt ↦ let same : n ≡ m = omega (arith, e, lt) in ap (λ (k : ℕ). min (value_from k ds) limit) same
+  | inr le ↦ omega (arith, e, le, value_least n ds, value_least m ds)
+]
+
+pub digit_taken : (cs ds : List ℕ) (c n m limit whole : ℕ) → cs ≡ c ∷ ds → begins is_digit cs ≡ true → m ≡ min (n * 10 + (c - 48)) limit
+    → min (value_from n (front is_digit cs)) limit ≡ whole → min (value_from m (front is_digit ds)) limit ≡ whole
+digit_taken cs ds c n m limit whole e t s h =
+    saturated m (n * 10 + (c - 48)) limit (front is_digit ds) s ∙ ap (λ (l : List ℕ). min (value_from n l) limit) (sym (front_more is_digit cs ds c e t)) ∙ h

@@ -1,0 +1,13 @@
+use Rattle.std.proofs.Common.{sym, ap, ◌∙◌}
+use Rattle.serde_json_path_functions.specs.Terms.{kind_view}
+use Rattle.serde_json_path_parser.specs.Operands.{fits}
+use Rattle.serde_json_path_parser.proofs.CallSteps.{literal_fits, query_fits}
+use Rattle.serde_json_path_parser.proofs.parser.call.Argument.fits.Goals as goal
+
+pub returns-in-Value : goal.returns-in-Value
+returns-in-Value c = λ signature x h.
+    literal_fits signature c.args.builder.now c.args.self.now x h c.in-Literal.literal c.is_value.result c.in-Literal.is c.is_value.ensures ∙ ap (λ k. fits signature x (kind_view k)) (sym c.in-Value.is)
+
+pub returns-in-Value-kind : goal.returns-in-Value-kind
+returns-in-Value-kind c = λ signature x h.
+    query_fits signature c.args.builder.now c.args.self.now x h c.in-Query.query c.is_singular.result c.in-Query.is c.is_singular.ensures ∙ ap (λ k. fits signature x (kind_view k)) (sym c.in-Value-kind.is)

@@ -1,0 +1,842 @@
+use Rattle.serde_json_path_parser.proofs.Refusals.{same_fails}
+use Rattle.std.proofs.Common.{◌≡◌, ◌∙◌, ◌∷◌, [], true, false, Some, Ok, Err, ◌++◌, ◌≤◌, ◌<◌, length, refl, sym, ap, subst, map, drop, option_map, arith, true≢false}
+use Rattle.std.specs.Prelude.{◌==◌, ◌||◌, string_bytes}
+use Rattle.std.proofs.lemmas.List.{nil_from_length}
+use Rattle.std.proofs.lemmas.Result.{err_from_is_err_and}
+use Rattle.serde_json_path_core.specs.Literals.{literal_view, number_amount, operator_view}
+use Rattle.serde_json_path_core.specs.Parts.{AreArgumentsOf, ArePartsOf, AreSelectorsOf}
+use Rattle.serde_json_path_core.specs.Piece.{an_argument, an_or, a_basic, a_comparable}
+use Rattle.serde_json_path_core.specs.Tree.{logical_argument, call, number}
+use Rattle.serde_json_path_functions.specs.Terms.{kind_view, signature_view}
+use Rattle.serde_json_path_parser.specs.Filters.{alone, word, ended, arguments_at, parameters_at, level, and_list, or_list, named_at}
+use Rattle.serde_json_path_parser.specs.Giving.{Fails, MakesOperand, MakesArguments, StartsSegment, Makes}
+use Rattle.serde_json_path_parser.specs.Levels.{signatures, deeper, filter_at}
+use Rattle.serde_json_path_parser.specs.Lexical.{begins, begins_both}
+use Rattle.serde_json_path_parser.specs.Operands.{a_literal, a_query, a_call}
+use Rattle.serde_json_path_parser.specs.Parsed.{past_blanks}
+use Rattle.serde_json_path_parser.specs.Reading.{left}
+use Rattle.serde_json_path_parser.proofs.ArgumentSteps as of_arguments
+use Rattle.serde_json_path_parser.proofs.CalledSteps as of_calls
+use Rattle.serde_json_path_parser.proofs.Levels.{level_laws}
+use Rattle.serde_json_path_parser.proofs.parser.level.Level.+level.Goals.{argument-then-sees-via-then-sees, argument-then-sees-via-else-sees+then-sees-2}
+use Rattle.std.proofs.lemmas.Grind.{common_steps}
+use Rattle.serde_json_path_core.specs.Flat.{parts_in, segment_kind_view, kind_view as query_kind_view}
+use Rattle.serde_json_path_core.proofs.NamedParts.{parts_kept}
+use Rattle.serde_json_path_parser.specs.Parsing.{opens, opens_next, bracket_at, next_selector_at, selectors_at, selector_list, segment_at, next_segment_at, segments_at, segment_list}
+use Rattle.serde_json_path_parser.proofs.Blanks.{no_longer}
+use Rattle.serde_json_path_parser.proofs.BracketTexts.{is_comma}
+use Rattle.serde_json_path_parser.proofs.FilterSteps.{filter_reads, filter_fails, query_reads, query_fails}
+use Rattle.serde_json_path_parser.proofs.LevelSteps.{selector_takes, segment_takes, segment_shorter}
+use Rattle.serde_json_path_parser.proofs.PartLists.{segment_pushed, first_selector, selector_pushed, selectors_kept}
+use Rattle.serde_json_path_parser.proofs.SegmentSteps.{selectors_begin, selectors_fail, next_selector_reads, next_selector_fails, bracket_reads, next_reads, next_fails}
+use Rattle.serde_json_path_parser.proofs.JoinedParts.{first_or, or_pushed, first_and, and_pushed}
+use Rattle.serde_json_path_parser.proofs.LogicalSteps.{behind_one, behind_two, some_text, read_more, row_shorter, row_goes_on, row_fails, row_done, ands, ors, too_deep, inside_is, no_operator_read, left_fails, operand_fails, right_fails, relation_read, call_is, paren_read, not_paren_read, no_current_read, no_root_read, negated_is_name, name_fails, no_call_read, value_refused, not_test_read}
+use Rattle.serde_json_path_parser.proofs.Many.{with_front}
+use Rattle.serde_json_path_parser.proofs.parser.level.Level.+level.Goals as goal
+use Rattle.serde_json_path_core.specs.Tree as tree
+use Rattle.serde_json_path_parser.proofs.Many as m
+
+pub and_from-parts-init : goal.and_from-parts-init
+and_from-parts-init g t c = record {
+  moves = grind (arith, common_steps);
+  keeps = λ part piece h. h;
+  so_far = λ x is. (x ∷ [], first_and c.args.builder.now _ _ _ x c.new-parts.ensures.items c.in_ok-push.ensures.items is, refl);
+}
+
+pub and_from-returns-in_err-part-clause-moves : goal.and_from-returns-in_err-part-clause-moves
+and_from-returns-in_err-part-clause-moves g t c = grind (arith, common_steps)
+
+pub and_from-returns-in_err-part-clause-keeps : goal.and_from-returns-in_err-part-clause-keeps
+and_from-returns-in_err-part-clause-keeps g t c = λ part piece h. c.basic.ensures.keeps part piece (c.parts.invariant.keeps part piece h)
+
+pub and_from-returns-in_err-part-clause-gives : goal.and_from-returns-in_err-part-clause-gives
+and_from-returns-in_err-part-clause-gives g t c = λ x is.
+    let p = err_from_is_err_and c.from_residual-in_err-part.result c.from_residual-in_err-part.ensures.1 in
+    let so_far = c.parts.invariant.so_far x is in
+    let sign : begins_both 38 38 (left c.parts.reader) ≡ true = sym c.sees_both.ensures.value ∙ c.parts-test.true in
+    let behind = behind_two _ _ _ _ c.sees_both.ensures.stays c.take_two.ensures.left c.skip_blanks.ensures.left in
+    rw (p.1, p.2) (row_fails (ands (signatures g.F.Functions.set c.args.self.now) c.args.self.now.depth) c.in_err-part.field-0.0 x so_far.0 _ _ _ sign behind c.in_err-part.ensures.gives so_far.2)
+
+pub and_from-parts-smaller : goal.and_from-parts-smaller
+and_from-parts-smaller g t c =
+    let sign : begins_both 38 38 (left c.parts.reader) ≡ true = sym c.sees_both.ensures.value ∙ c.parts-test.true in
+    let behind = behind_two _ _ _ _ c.sees_both.ensures.stays c.take_two.ensures.left c.skip_blanks.ensures.left in
+    row_shorter (ands (signatures g.F.Functions.set c.args.self.now) c.args.self.now.depth) _ _ _ c.in_ok-part.ensures.gives.0 sign behind c.in_ok-part.ensures.gives.2
+
+pub and_from-parts-preserved : goal.and_from-parts-preserved
+and_from-parts-preserved g t c =
+    let sign : begins_both 38 38 (left c.parts.reader) ≡ true = sym c.sees_both.ensures.value ∙ c.parts-test.true in
+    let behind = behind_two _ _ _ _ c.sees_both.ensures.stays c.take_two.ensures.left c.skip_blanks.ensures.left in
+    let one = c.in_ok-part.ensures.gives in
+    record {
+      moves = grind (arith, common_steps);
+      keeps = λ part piece h. c.basic.ensures.keeps part piece (c.parts.invariant.keeps part piece h);
+      so_far = λ x is.
+          let so_far = c.parts.invariant.so_far x is in
+          let total = with_front (x ∷ []) (read_more (ands (signatures g.F.Functions.set c.args.self.now) c.args.self.now.depth) (left c.args.reader.now)) in (
+            so_far.0 ++ one.0 ∷ [],
+            and_pushed c.parts.builder c.basic.new.builder (parts_in c.parts.parts) (parts_in c.push-in-parts.new.self) so_far.0 _ one.0 c.basic.ensures.keeps so_far.1 one.1 c.in_ok-push-2.ensures.items,
+            row_goes_on (ands (signatures g.F.Functions.set c.args.self.now) c.args.self.now.depth) so_far.0 _ _ _ one.0 total sign behind one.2 so_far.2,
+          );
+    }
+
+pub and_from-returns-in_err-push-2-clause-moves : goal.and_from-returns-in_err-push-2-clause-moves
+and_from-returns-in_err-push-2-clause-moves g t c = grind (arith, common_steps)
+
+pub and_from-returns-in_err-push-2-clause-keeps : goal.and_from-returns-in_err-push-2-clause-keeps
+and_from-returns-in_err-push-2-clause-keeps g t c = λ part piece h. c.basic.ensures.keeps part piece (c.parts.invariant.keeps part piece h)
+
+pub and_from-logical_and-requires : goal.and_from-logical_and-requires
+and_from-logical_and-requires g t c = let so_far = c.parts.invariant.so_far c.requires.0 c.requires.1 in (and_list so_far.0, so_far.1)
+
+pub and_from-returns-in_err-expression-clause-keeps : goal.and_from-returns-in_err-expression-clause-keeps
+and_from-returns-in_err-expression-clause-keeps g t c = λ part piece h. c.logical_and.ensures.keeps part piece (c.parts.invariant.keeps part piece h)
+
+pub and_from-returns-clause-moves : goal.and_from-returns-clause-moves
+and_from-returns-clause-moves g t c = grind (arith, common_steps)
+
+pub and_from-returns-clause-keeps : goal.and_from-returns-clause-keeps
+and_from-returns-clause-keeps g t c = λ part piece h. c.logical_and.ensures.keeps part piece (c.parts.invariant.keeps part piece h)
+
+pub and_from-returns-clause-gives : goal.and_from-returns-clause-gives
+and_from-returns-clause-gives g t c = λ x is.
+    let so_far = c.parts.invariant.so_far x is in
+    let ends : begins_both 38 38 (left c.parts.reader) ≡ false = sym c.sees_both.ensures.value ∙ c.parts-test.false in (
+      and_list so_far.0,
+      c.in_ok-expression.ensures.made (and_list so_far.0) so_far.1,
+      row_done (ands (signatures g.F.Functions.set c.args.self.now) c.args.self.now.depth) x so_far.0 _ _ ends so_far.2 ∙ ap (λ l. Ok (and_list so_far.0, l)) (sym c.sees_both.ensures.stays),
+    )
+
+pub argument-returns-in_err-expression-clause-gives : goal.argument-returns-in_err-expression-clause-gives
+argument-returns-in_err-expression-clause-gives g t c =
+    let opened : (begins (λ c. c == 40) (left c.args.reader.now) || begins (λ c. c == 33) (left c.args.reader.now)) ≡ true =
+    elim c.then-sees.branch [
+      | argument-then-sees-via-then-sees w ↦ rw (sym c.sees.ensures ∙ w.if-sees.true) refl
+      | argument-then-sees-via-else-sees+then-sees-2 w ↦ rw (sym c.sees.ensures ∙ w.if-sees.false, sym w.sees-else-sees.ensures ∙ w.if-sees-2.true) refl
+    ] in
+    let p = err_from_is_err_and c.from_residual.result c.from_residual.ensures.1 in
+    rw (p.1, p.2) (of_arguments.expression_fails (signatures g.F.Functions.set c.args.self.now) (deeper g.F.Functions.set c.args.self.now) (left c.args.reader.now) opened c.in_err-expression.field-0.0 c.in_err-expression.ensures.gives)
+
+pub argument-returns-then-sees-clause-gives : goal.argument-returns-then-sees-clause-gives
+argument-returns-then-sees-clause-gives g t c =
+    let opened : (begins (λ c. c == 40) (left c.args.reader.now) || begins (λ c. c == 33) (left c.args.reader.now)) ≡ true =
+    elim c.then-sees.branch [
+      | argument-then-sees-via-then-sees w ↦ rw (sym c.sees.ensures ∙ w.if-sees.true) refl
+      | argument-then-sees-via-else-sees+then-sees-2 w ↦ rw (sym c.sees.ensures ∙ w.if-sees.false, sym w.sees-else-sees.ensures ∙ w.if-sees-2.true) refl
+    ] in
+    let e = c.in_ok-expression.ensures.gives in
+    (logical_argument e.0, e.1, of_arguments.expression_argument (signatures g.F.Functions.set c.args.self.now) (deeper g.F.Functions.set c.args.self.now) (left c.args.reader.now) opened e.0 (left c.logical_or.new.reader) e.2)
+
+pub argument-returns-in_err-operand-clause-gives : goal.argument-returns-in_err-operand-clause-gives
+argument-returns-in_err-operand-clause-gives g t c =
+    let p = err_from_is_err_and c.from_residual-in_err-operand.result c.from_residual-in_err-operand.ensures.1 in
+    rw (p.1, p.2) (of_arguments.operand_fails (signatures g.F.Functions.set c.args.self.now) (deeper g.F.Functions.set c.args.self.now) (left c.args.reader.now) (sym c.sees.ensures ∙ c.if-sees.false) (sym c.sees-else-sees.ensures ∙ c.if-sees-2.false) c.in_err-operand.field-0.0 c.in_err-operand.ensures.gives)
+
+pub argument-returns-then-sees_end_of_argument-clause-gives : goal.argument-returns-then-sees_end_of_argument-clause-gives
+argument-returns-then-sees_end_of_argument-clause-gives g t c =
+    let o = c.in_ok-operand.ensures.gives in
+    (alone o.0, c.alone.ensures (signatures g.F.Functions.set c.args.self.now) c.operand.new.builder o.0 o.1, of_arguments.alone_argument (signatures g.F.Functions.set c.args.self.now) (deeper g.F.Functions.set c.args.self.now) (left c.args.reader.now) (sym c.sees.ensures ∙ c.if-sees.false) (sym c.sees-else-sees.ensures ∙ c.if-sees-2.false) o.0 (left c.operand.new.reader) o.2 (sym c.sees_end_of_argument.ensures ∙ c.if-sees_end_of_argument.true))
+
+pub argument-returns-in_err-basic-clause-keeps : goal.argument-returns-in_err-basic-clause-keeps
+argument-returns-in_err-basic-clause-keeps g t c = λ part piece h. c.basic_from.ensures.keeps part piece (c.operand.ensures.keeps part piece (h))
+
+pub argument-returns-in_err-basic-clause-gives : goal.argument-returns-in_err-basic-clause-gives
+argument-returns-in_err-basic-clause-gives g t c =
+    let o = c.in_ok-operand.ensures.gives in
+    let open_yet = sym c.sees_end_of_argument.ensures ∙ c.if-sees_end_of_argument.false in
+    let p = err_from_is_err_and c.from_residual-in_err-basic.result c.from_residual-in_err-basic.ensures.1 in
+    rw (p.1, p.2) (of_arguments.basic_fails (signatures g.F.Functions.set c.args.self.now) (deeper g.F.Functions.set c.args.self.now) (left c.args.reader.now) (sym c.sees.ensures ∙ c.if-sees.false) (sym c.sees-else-sees.ensures ∙ c.if-sees-2.false) o.0 (left c.operand.new.reader) o.2 open_yet c.in_err-basic.field-0.0 (c.in_err-basic.ensures.gives o.0 o.1 (left c.args.reader.now) c.bytes_left-start.ensures.value))
+
+pub argument-returns-in_err-and-clause-keeps : goal.argument-returns-in_err-and-clause-keeps
+argument-returns-in_err-and-clause-keeps g t c = λ part piece h. c.and_from.ensures.keeps part piece (c.basic_from.ensures.keeps part piece (c.operand.ensures.keeps part piece (h)))
+
+pub argument-returns-in_err-and-clause-gives : goal.argument-returns-in_err-and-clause-gives
+argument-returns-in_err-and-clause-gives g t c =
+    let o = c.in_ok-operand.ensures.gives in
+    let open_yet = sym c.sees_end_of_argument.ensures ∙ c.if-sees_end_of_argument.false in
+    let b = c.in_ok-basic.ensures.gives o.0 o.1 (left c.args.reader.now) c.bytes_left-start.ensures.value in
+    let p = err_from_is_err_and c.from_residual-in_err-and.result c.from_residual-in_err-and.ensures.1 in
+    rw (p.1, p.2) (of_arguments.and_fails (signatures g.F.Functions.set c.args.self.now) (deeper g.F.Functions.set c.args.self.now) (left c.args.reader.now) (sym c.sees.ensures ∙ c.if-sees.false) (sym c.sees-else-sees.ensures ∙ c.if-sees-2.false) o.0 (left c.operand.new.reader) o.2 open_yet b.0 (left c.basic_from.new.reader) b.2 c.in_err-and.field-0.0 (c.in_err-and.ensures.gives b.0 b.1))
+
+pub argument-returns-in_err-expression-2-clause-keeps : goal.argument-returns-in_err-expression-2-clause-keeps
+argument-returns-in_err-expression-2-clause-keeps g t c = λ part piece h. c.or_from.ensures.keeps part piece (c.and_from.ensures.keeps part piece (c.basic_from.ensures.keeps part piece (c.operand.ensures.keeps part piece (h))))
+
+pub argument-returns-in_err-expression-2-clause-gives : goal.argument-returns-in_err-expression-2-clause-gives
+argument-returns-in_err-expression-2-clause-gives g t c =
+    let o = c.in_ok-operand.ensures.gives in
+    let open_yet = sym c.sees_end_of_argument.ensures ∙ c.if-sees_end_of_argument.false in
+    let b = c.in_ok-basic.ensures.gives o.0 o.1 (left c.args.reader.now) c.bytes_left-start.ensures.value in
+    let a = c.in_ok-and.ensures.gives b.0 b.1 in
+    let p = err_from_is_err_and c.from_residual-in_err-expression-2.result c.from_residual-in_err-expression-2.ensures.1 in
+    rw (p.1, p.2) (of_arguments.or_fails (signatures g.F.Functions.set c.args.self.now) (deeper g.F.Functions.set c.args.self.now) (left c.args.reader.now) (sym c.sees.ensures ∙ c.if-sees.false) (sym c.sees-else-sees.ensures ∙ c.if-sees-2.false) o.0 (left c.operand.new.reader) o.2 open_yet b.0 (left c.basic_from.new.reader) b.2 a.0 (left c.and_from.new.reader) a.2 c.in_err-expression-2.field-0.0 (c.in_err-expression-2.ensures.gives a.0 a.1))
+
+pub argument-returns-clause-keeps : goal.argument-returns-clause-keeps
+argument-returns-clause-keeps g t c = λ part piece h. c.or_from.ensures.keeps part piece (c.and_from.ensures.keeps part piece (c.basic_from.ensures.keeps part piece (c.operand.ensures.keeps part piece (h))))
+
+pub argument-returns-clause-gives : goal.argument-returns-clause-gives
+argument-returns-clause-gives g t c =
+    let o = c.in_ok-operand.ensures.gives in
+    let open_yet = sym c.sees_end_of_argument.ensures ∙ c.if-sees_end_of_argument.false in
+    let b = c.in_ok-basic.ensures.gives o.0 o.1 (left c.args.reader.now) c.bytes_left-start.ensures.value in
+    let a = c.in_ok-and.ensures.gives b.0 b.1 in
+    let e = c.in_ok-expression-2.ensures.gives a.0 a.1 in
+    (logical_argument e.0, e.1, of_arguments.joined_argument (signatures g.F.Functions.set c.args.self.now) (deeper g.F.Functions.set c.args.self.now) (left c.args.reader.now) (sym c.sees.ensures ∙ c.if-sees.false) (sym c.sees-else-sees.ensures ∙ c.if-sees-2.false) o.0 (left c.operand.new.reader) o.2 open_yet b.0 (left c.basic_from.new.reader) b.2 a.0 (left c.and_from.new.reader) a.2 e.0 (left c.or_from.new.reader) e.2)
+
+pub arguments-returns-in_err-argument-clause-gives : goal.arguments-returns-in_err-argument-clause-gives
+arguments-returns-in_err-argument-clause-gives g t c = λ place e fuel enough.
+    let p = err_from_is_err_and c.from_residual.result c.from_residual.ensures.1 in
+    rw (p.1, p.2) (of_arguments.argument_fails (signatures g.F.Functions.set c.args.self.now) (deeper g.F.Functions.set c.args.self.now) place (map kind_view c.args.kinds.now) fuel (left c.args.reader.now) enough c.in_err-argument.field-0.0 c.in_err-argument.ensures.gives)
+
+pub arguments-returns-then-not-sees_end_of_argument-clause-gives : goal.arguments-returns-then-not-sees_end_of_argument-clause-gives
+arguments-returns-then-not-sees_end_of_argument-clause-gives g t c = λ place e fuel enough.
+    let a = c.in_ok-argument.ensures.gives in
+    rw c.refuse.ensures.value (of_arguments.open_argument (signatures g.F.Functions.set c.args.self.now) (deeper g.F.Functions.set c.args.self.now) place (map kind_view c.args.kinds.now) fuel (left c.args.reader.now) enough a.0 (left c.argument.new.reader) a.2 (sym c.sees_end_of_argument.ensures ∙ c.if-not-sees_end_of_argument.true))
+
+pub arguments-returns-in_default-clause-gives : goal.arguments-returns-in_default-clause-gives
+arguments-returns-in_default-clause-gives g t c = λ place e fuel enough.
+    let a = c.in_ok-argument.ensures.gives in
+    rw (c.in_long_hand.ensures, e) (of_arguments.too_many (signatures g.F.Functions.set c.args.self.now) (deeper g.F.Functions.set c.args.self.now) place (map kind_view c.args.kinds.now) fuel (left c.args.reader.now) enough a.0 (left c.argument.new.reader) a.2 (sym c.sees_end_of_argument.ensures ∙ c.if-not-sees_end_of_argument.false) (ap (map kind_view) (nil_from_length c.args.kinds.now c.in_default.ensures.cases)))
+
+pub arguments-returns-then-not-fits-clause-gives : goal.arguments-returns-then-not-fits-clause-gives
+arguments-returns-then-not-fits-clause-gives g t c = λ place e fuel enough.
+    let a = c.in_ok-argument.ensures.gives in
+    let kind = kind_view c.in-Some.kind.now in
+    let more = map kind_view c.in-Some.more.now in
+    let first : map kind_view c.args.kinds.now ≡ kind ∷ more = ap (map kind_view) c.in-Some.ensures.cases.0 in
+    rw (c.in_long_hand-then-not-fits.ensures, c.bytes_left-begin.ensures.value) (of_arguments.wrong_type (signatures g.F.Functions.set c.args.self.now) (deeper g.F.Functions.set c.args.self.now) place (map kind_view c.args.kinds.now) fuel (left c.args.reader.now) enough a.0 (left c.argument.new.reader) a.2 (sym c.sees_end_of_argument.ensures ∙ c.if-not-sees_end_of_argument.false) kind more first (sym (c.fits.ensures (signatures g.F.Functions.set c.args.self.now) a.0 a.1) ∙ c.if-not-fits.true))
+
+pub arguments-returns-in_err-part-clause-keeps : goal.arguments-returns-in_err-part-clause-keeps
+arguments-returns-in_err-part-clause-keeps g t c = λ part piece h. c.part.ensures.keeps part piece (c.argument.ensures.keeps part piece (h))
+
+pub arguments-returns-in_err-push-clause-keeps : goal.arguments-returns-in_err-push-clause-keeps
+arguments-returns-in_err-push-clause-keeps g t c = λ part piece h. c.part.ensures.keeps part piece (c.argument.ensures.keeps part piece (h))
+
+pub arguments-returns-then-sees-clause-keeps : goal.arguments-returns-then-sees-clause-keeps
+arguments-returns-then-sees-clause-keeps g t c = λ part piece h. c.arguments.ensures.keeps part piece (c.part.ensures.keeps part piece (c.argument.ensures.keeps part piece (h)))
+
+pub arguments-returns-then-sees-clause-gives : goal.arguments-returns-then-sees-clause-gives
+arguments-returns-then-sees-clause-gives g t c = λ place e fuel enough.
+    let a = c.in_ok-argument.ensures.gives in
+    let kind = kind_view c.in-Some.kind.now in
+    let more = map kind_view c.in-Some.more.now in
+    let first : map kind_view c.args.kinds.now ≡ kind ∷ more = ap (map kind_view) c.in-Some.ensures.cases.0 in
+    let fitting = sym (c.fits.ensures (signatures g.F.Functions.set c.args.self.now) a.0 a.1) ∙ c.if-not-fits.false in
+    let comma = sym c.sees.ensures ∙ c.if-sees.true in
+    let further : left c.skip_blanks.new.self ≡ past_blanks (drop 1 (left c.argument.new.reader)) = c.skip_blanks.ensures.left ∙ ap past_blanks (sym (ap (drop 1) c.take_char.ensures.value)) in
+    let less = of_arguments.fuel_behind (signatures g.F.Functions.set c.args.self.now) (deeper g.F.Functions.set c.args.self.now) place (map kind_view c.args.kinds.now) fuel (left c.args.reader.now) enough a.0 (left c.argument.new.reader) a.2 (sym c.sees_end_of_argument.ensures ∙ c.if-not-sees_end_of_argument.false) kind more first fitting in
+    let enough_there = of_arguments.enough_behind (signatures g.F.Functions.set c.args.self.now) (deeper g.F.Functions.set c.args.self.now) place (map kind_view c.args.kinds.now) fuel (left c.args.reader.now) enough a.0 (left c.argument.new.reader) a.2 (sym c.sees_end_of_argument.ensures ∙ c.if-not-sees_end_of_argument.false) kind more first fitting c.args.self.now.depth (level_laws (signatures g.F.Functions.set c.args.self.now) c.args.self.now.depth) comma in
+    let rests = subst (λ l. length l ≤ less → MakesArguments c.arguments.new.builder c.push.new.self.items c.arguments.new.parts.items c.arguments.result c.arguments.new.reader (arguments_at (signatures g.F.Functions.set c.args.self.now) (deeper g.F.Functions.set c.args.self.now) less place more l)) further (c.arguments.ensures.gives place e less) enough_there in
+    of_arguments.more_made c.arguments.new.builder c.args.parts.now.items c.arguments.result c.arguments.new.reader (arguments_at (signatures g.F.Functions.set c.args.self.now) (deeper g.F.Functions.set c.args.self.now) less place more (past_blanks (drop 1 (left c.argument.new.reader)))) (arguments_at (signatures g.F.Functions.set c.args.self.now) (deeper g.F.Functions.set c.args.self.now) fuel place (map kind_view c.args.kinds.now) (left c.args.reader.now)) c.push.new.self.items c.in_ok-part.part a.0 c.in_ok-push.ensures.items
+    (c.arguments.ensures.keeps c.in_ok-part.part (an_argument a.0) (c.in_ok-part.ensures.made (signatures g.F.Functions.set c.args.self.now) a.0 a.1))
+    (λ args behind h. of_arguments.more_read (signatures g.F.Functions.set c.args.self.now) (deeper g.F.Functions.set c.args.self.now) place (map kind_view c.args.kinds.now) fuel (left c.args.reader.now) enough a.0 (left c.argument.new.reader) a.2 (sym c.sees_end_of_argument.ensures ∙ c.if-not-sees_end_of_argument.false) kind more first fitting args behind comma h) (λ s h. of_arguments.more_fail (signatures g.F.Functions.set c.args.self.now) (deeper g.F.Functions.set c.args.self.now) place (map kind_view c.args.kinds.now) fuel (left c.args.reader.now) enough a.0 (left c.argument.new.reader) a.2 (sym c.sees_end_of_argument.ensures ∙ c.if-not-sees_end_of_argument.false) kind more first fitting s comma h) c.arguments.new.parts.items rests
+
+pub arguments-returns-clause-keeps : goal.arguments-returns-clause-keeps
+arguments-returns-clause-keeps g t c = λ part piece h. c.part.ensures.keeps part piece (c.argument.ensures.keeps part piece (h))
+
+pub arguments-returns-clause-gives : goal.arguments-returns-clause-gives
+arguments-returns-clause-gives g t c = λ place e fuel enough.
+    let a = c.in_ok-argument.ensures.gives in
+    let kind = kind_view c.in-Some.kind.now in
+    let more = map kind_view c.in-Some.more.now in
+    let first : map kind_view c.args.kinds.now ≡ kind ∷ more = ap (map kind_view) c.in-Some.ensures.cases.0 in
+    let fitting = sym (c.fits.ensures (signatures g.F.Functions.set c.args.self.now) a.0 a.1) ∙ c.if-not-fits.false in
+    let no_comma = sym c.sees.ensures ∙ c.if-sees.false in
+    of_arguments.last_made c.part.new.builder c.args.parts.now.items c.end.result c.end.new.reader (ended place more (drop 1 (left c.argument.new.reader))) (arguments_at (signatures g.F.Functions.set c.args.self.now) (deeper g.F.Functions.set c.args.self.now) fuel place (map kind_view c.args.kinds.now) (left c.args.reader.now)) c.push.new.self.items c.in_ok-part.part a.0 c.in_ok-push.ensures.items (c.in_ok-part.ensures.made (signatures g.F.Functions.set c.args.self.now) a.0 a.1)
+    (λ args behind h. of_arguments.last (signatures g.F.Functions.set c.args.self.now) (deeper g.F.Functions.set c.args.self.now) place (map kind_view c.args.kinds.now) fuel (left c.args.reader.now) enough a.0 (left c.argument.new.reader) a.2 (sym c.sees_end_of_argument.ensures ∙ c.if-not-sees_end_of_argument.false) kind more first fitting args behind no_comma h) (λ s h. of_arguments.last_fails (signatures g.F.Functions.set c.args.self.now) (deeper g.F.Functions.set c.args.self.now) place (map kind_view c.args.kinds.now) fuel (left c.args.reader.now) enough a.0 (left c.argument.new.reader) a.2 (sym c.sees_end_of_argument.ensures ∙ c.if-not-sees_end_of_argument.false) kind more first fitting s no_comma h) (c.end.ensures.gives place e)
+
+pub basic-returns-in_err-paren-clause-keeps : goal.basic-returns-in_err-paren-clause-keeps
+basic-returns-in_err-paren-clause-keeps g t c = λ part piece h. c.paren-then-sees.ensures.keeps part piece (c.paren.ensures.keeps part piece h)
+
+pub basic-returns-then-sees-clause-keeps : goal.basic-returns-then-sees-clause-keeps
+basic-returns-then-sees-clause-keeps g t c = λ part piece h. c.paren-then-sees.ensures.keeps part piece (c.paren.ensures.keeps part piece h)
+
+pub basic-returns-then-sees-clause-gives : goal.basic-returns-then-sees-clause-gives
+basic-returns-then-sees-clause-gives g t c =
+    let inner = c.in_ok-inner.ensures.gives in (
+      tree.paren inner.0,
+      c.in_ok-paren.ensures.made inner.0 inner.1,
+      paren_read _ _ _ inner.0 _ (sym c.sees.ensures ∙ c.if-sees.true) inner.2,
+    )
+
+pub basic-returns-clause-keeps : goal.basic-returns-clause-keeps
+basic-returns-clause-keeps g t c = λ part piece h. c.basic_from.ensures.keeps part piece (c.operand.ensures.keeps part piece h)
+
+pub basic_from-returns-in_default-clause-gives : goal.basic_from-returns-in_default-clause-gives
+basic_from-returns-in_default-clause-gives g t c = λ x is place e.
+    subst (Makes a_basic c.test.new.builder c.test.result c.operator.new.reader)
+    (sym (no_operator_read _ _ place x _ _ c.in_default.ensures.value (c.in_default.ensures.stays refl)))
+    (c.test.ensures.gives x is place e)
+
+pub basic_from-returns-in_err-left-clause-gives : goal.basic_from-returns-in_err-left-clause-gives
+basic_from-returns-in_err-left-clause-gives g t c = λ x is place e.
+    let p = err_from_is_err_and c.from_residual.result c.from_residual.ensures.1 in
+    rw (p.1, p.2) (left_fails _ _ place x _ _ _ _ c.in-Some.ensures.value c.skip_blanks.ensures.left c.in_err-left.field-0.0 (c.in_err-left.ensures.gives x is place e))
+
+pub basic_from-returns-in_err-operand-clause-keeps : goal.basic_from-returns-in_err-operand-clause-keeps
+basic_from-returns-in_err-operand-clause-keeps g t c = λ part piece h. c.operand.ensures.keeps part piece (c.comparable.ensures.keeps part piece h)
+
+pub basic_from-returns-in_err-operand-clause-gives : goal.basic_from-returns-in_err-operand-clause-gives
+basic_from-returns-in_err-operand-clause-gives g t c = λ x is place e.
+    let p = err_from_is_err_and c.from_residual-in_err-operand.result c.from_residual-in_err-operand.ensures.1 in
+    let a = c.in_ok-left.ensures.gives x is place e in
+    rw (p.1, p.2) (operand_fails _ _ place x _ _ _ _ c.in-Some.ensures.value c.skip_blanks.ensures.left c.in_err-operand.field-0.0 a.0 _ a.2 c.in_err-operand.ensures.gives)
+
+pub basic_from-returns-in_err-right-clause-keeps : goal.basic_from-returns-in_err-right-clause-keeps
+basic_from-returns-in_err-right-clause-keeps g t c = λ part piece h. c.comparable-2.ensures.keeps part piece (c.operand.ensures.keeps part piece (c.comparable.ensures.keeps part piece h))
+
+pub basic_from-returns-in_err-right-clause-gives : goal.basic_from-returns-in_err-right-clause-gives
+basic_from-returns-in_err-right-clause-gives g t c = λ x is place e.
+    let p = err_from_is_err_and c.from_residual-in_err-right.result c.from_residual-in_err-right.ensures.1 in
+    let a = c.in_ok-left.ensures.gives x is place e in
+    let o = c.in_ok-operand.ensures.gives in
+    let refused = c.in_err-right.ensures.gives o.0 o.1 (left c.skip_blanks.new.self) c.bytes_left-begin.ensures.value in
+    rw (p.1, p.2) (right_fails _ _ place x _ _ _ _ c.in-Some.ensures.value c.skip_blanks.ensures.left c.in_err-right.field-0.0 a.0 _ _ o.0 a.2 o.2 refused)
+
+pub basic_from-relation-requires-clause-left : goal.basic_from-relation-requires-clause-left
+basic_from-relation-requires-clause-left g t c =
+    let text = some_text c.args.start in
+    let a = c.in_ok-left.ensures.gives c.requires.0 c.requires.1 text.0 text.1 in
+    (a.0, c.comparable-2.ensures.keeps c.in_ok-left.left (a_comparable a.0) (c.operand.ensures.keeps c.in_ok-left.left (a_comparable a.0) a.1))
+
+pub basic_from-returns-in_err-relation-clause-keeps : goal.basic_from-returns-in_err-relation-clause-keeps
+basic_from-returns-in_err-relation-clause-keeps g t c = λ part piece h. c.relation.ensures.keeps part piece (c.comparable-2.ensures.keeps part piece (c.operand.ensures.keeps part piece (c.comparable.ensures.keeps part piece h)))
+
+pub basic_from-returns-clause-keeps : goal.basic_from-returns-clause-keeps
+basic_from-returns-clause-keeps g t c = λ part piece h. c.relation.ensures.keeps part piece (c.comparable-2.ensures.keeps part piece (c.operand.ensures.keeps part piece (c.comparable.ensures.keeps part piece h)))
+
+pub basic_from-returns-clause-gives : goal.basic_from-returns-clause-gives
+basic_from-returns-clause-gives g t c = λ x is place e.
+    let a = c.in_ok-left.ensures.gives x is place e in
+    let o = c.in_ok-operand.ensures.gives in
+    let b = c.in_ok-right.ensures.gives o.0 o.1 (left c.skip_blanks.new.self) c.bytes_left-begin.ensures.value in
+    let kept = c.comparable-2.ensures.keeps c.in_ok-left.left (a_comparable a.0) (c.operand.ensures.keeps c.in_ok-left.left (a_comparable a.0) a.1) in (
+      tree.relation a.0 (operator_view c.in-Some.operator) b.0,
+      c.in_ok-relation.ensures.made a.0 b.0 kept b.1,
+      relation_read _ _ place x _ _ _ _ c.in-Some.ensures.value c.skip_blanks.ensures.left a.0 b.0 _ _ _ o.0 a.2 o.2 b.2,
+    )
+
+pub bracket-returns-in_err-segment-clause-keeps : goal.bracket-returns-in_err-segment-clause-keeps
+bracket-returns-in_err-segment-clause-keeps g t c = λ part piece h. c.long_hand.ensures.keeps part piece (c.selectors.ensures.keeps part piece h)
+
+pub bracket-returns-clause-keeps : goal.bracket-returns-clause-keeps
+bracket-returns-clause-keeps g t c = λ part piece h. c.long_hand.ensures.keeps part piece (c.selectors.ensures.keeps part piece h)
+
+pub bracket-returns-clause-gives : goal.bracket-returns-clause-gives
+bracket-returns-clause-gives g t c =
+    let kind = segment_kind_view c.args.kind in
+    let read = c.in_ok-selectors.ensures.gives in (
+      (kind, tree.long_hand (selector_list read.0)),
+      c.in_ok-segment.ensures.made (selector_list read.0) read.1,
+      bracket_reads (filter_at g.F.Functions.set c.args.self.now) kind (left c.args.reader.now) (left c.selectors.new.reader) (left c.take_char.new.self) read.0 c.take_char.result read.2 (sym c.sees.ensures ∙ c.if-not-sees.false) c.take_char.ensures.value,
+    )
+
+pub call-returns-then-self-eq0-clause-gives : goal.call-returns-then-self-eq0-clause-gives
+call-returns-then-self-eq0-clause-gives g t c = λ place e.
+    rw (c.in_long_hand.ensures, e) (of_calls.level_none (signatures g.F.Functions.set c.args.self.now) c.args.self.now.depth place (string_bytes c.args.name) (drop 1 (left c.args.reader.now)) c.if-self-eq0.true)
+
+pub call-returns-in_default-clause-gives : goal.call-returns-in_default-clause-gives
+call-returns-in_default-clause-gives g t c = λ place e.
+    let f = string_bytes c.args.name in
+    rw (c.in_long_hand-in_default.ensures, e) (of_calls.level_undefined (signatures g.F.Functions.set c.args.self.now) c.args.self.now.depth place f (drop 1 (left c.args.reader.now)) (omega (arith, c.if-self-eq0.false)) (ap (signatures g.F.Functions.set c.args.self.now) (sym c.as_str.ensures.value) ∙ sym c.signature.ensures ∙ ap (option_map signature_view) c.in_default.is))
+
+pub call-returns-in_err-parameters-clause-gives : goal.call-returns-in_err-parameters-clause-gives
+call-returns-in_err-parameters-clause-gives g t c = λ place e.
+    let there : drop 1 (left c.args.reader.now) ≡ left c.take_char.new.self = ap (drop 1) c.take_char.ensures.value in
+    let s = signature_view c.in-Some.signature in
+    let f = string_bytes c.args.name in
+    let declared : signatures g.F.Functions.set c.args.self.now f ≡ Some s = ap (signatures g.F.Functions.set c.args.self.now) (sym c.as_str.ensures.value) ∙ sym c.signature.ensures ∙ ap (option_map signature_view) c.in-Some.is in
+    let inner = level (signatures g.F.Functions.set c.args.self.now) c.deeper.result.depth in
+    let at_call = of_calls.level_call (signatures g.F.Functions.set c.args.self.now) c.args.self.now.depth c.deeper.result.depth place f (drop 1 (left c.args.reader.now)) (omega (arith, c.if-self-eq0.false)) c.deeper.ensures.depth in
+    let read = subst (λ ks. MakesArguments c.parameters.new.builder c.new-arguments.result.items c.parameters.new.parts.items (Err c.in_err-parameters.field-0.0) c.parameters.new.reader (parameters_at (signatures g.F.Functions.set c.args.self.now) inner place ks (past_blanks (drop 1 (left c.args.reader.now))))) c.params.ensures
+    (subst (λ l. MakesArguments c.parameters.new.builder c.new-arguments.result.items c.parameters.new.parts.items (Err c.in_err-parameters.field-0.0) c.parameters.new.reader (parameters_at (signatures g.F.Functions.set c.args.self.now) inner place (map kind_view c.params.result.now) l)) (c.skip_blanks.ensures.left ∙ ap past_blanks (sym there))
+    (subst (λ fs. MakesArguments c.parameters.new.builder c.new-arguments.result.items c.parameters.new.parts.items (Err c.in_err-parameters.field-0.0) c.parameters.new.reader (parameters_at (g.F.Functions.set fs).signature (level (g.F.Functions.set fs).signature c.deeper.result.depth) place (map kind_view c.params.result.now) (left c.skip_blanks.new.self))) c.deeper.ensures.functions (c.in_err-parameters.ensures.gives place e))) in
+    let p = err_from_is_err_and c.from_residual.result c.from_residual.ensures.1 in
+    rw (p.1, p.2) (same_fails c.in_err-parameters.field-0.0 _ _ at_call (of_calls.parameters_fail (signatures g.F.Functions.set c.args.self.now) inner place f (drop 1 (left c.args.reader.now)) s declared c.in_err-parameters.field-0.0 read))
+
+pub call-call-requires : goal.call-call-requires
+call-call-requires g t c =
+    let e = of_arguments.some_place c.args.start in
+    let read = c.in_ok-parameters.ensures.gives e.0 e.1 in
+    (read.0, subst (λ ps. AreArgumentsOf c.parameters.new.builder ps read.0) (sym (read.2 ∙ ap (λ ps. ps ++ read.1) c.new-arguments.ensures.items)) read.3)
+
+pub call-returns-in_err-call-clause-keeps : goal.call-returns-in_err-call-clause-keeps
+call-returns-in_err-call-clause-keeps g t c = λ part piece h. c.call.ensures.keeps part piece (c.parameters.ensures.keeps part piece (h))
+
+pub call-returns-clause-keeps : goal.call-returns-clause-keeps
+call-returns-clause-keeps g t c = λ part piece h. c.call.ensures.keeps part piece (c.parameters.ensures.keeps part piece (h))
+
+pub call-returns-clause-gives : goal.call-returns-clause-gives
+call-returns-clause-gives g t c = λ place e.
+    let there : drop 1 (left c.args.reader.now) ≡ left c.take_char.new.self = ap (drop 1) c.take_char.ensures.value in
+    let s = signature_view c.in-Some.signature in
+    let f = string_bytes c.args.name in
+    let declared : signatures g.F.Functions.set c.args.self.now f ≡ Some s = ap (signatures g.F.Functions.set c.args.self.now) (sym c.as_str.ensures.value) ∙ sym c.signature.ensures ∙ ap (option_map signature_view) c.in-Some.is in
+    let inner = level (signatures g.F.Functions.set c.args.self.now) c.deeper.result.depth in
+    let at_call = of_calls.level_call (signatures g.F.Functions.set c.args.self.now) c.args.self.now.depth c.deeper.result.depth place f (drop 1 (left c.args.reader.now)) (omega (arith, c.if-self-eq0.false)) c.deeper.ensures.depth in
+    let read = subst (λ ks. MakesArguments c.parameters.new.builder c.new-arguments.result.items c.parameters.new.parts.items (Ok tt) c.parameters.new.reader (parameters_at (signatures g.F.Functions.set c.args.self.now) inner place ks (past_blanks (drop 1 (left c.args.reader.now))))) c.params.ensures
+    (subst (λ l. MakesArguments c.parameters.new.builder c.new-arguments.result.items c.parameters.new.parts.items (Ok tt) c.parameters.new.reader (parameters_at (signatures g.F.Functions.set c.args.self.now) inner place (map kind_view c.params.result.now) l)) (c.skip_blanks.ensures.left ∙ ap past_blanks (sym there))
+    (subst (λ fs. MakesArguments c.parameters.new.builder c.new-arguments.result.items c.parameters.new.parts.items (Ok tt) c.parameters.new.reader (parameters_at (g.F.Functions.set fs).signature (level (g.F.Functions.set fs).signature c.deeper.result.depth) place (map kind_view c.params.result.now) (left c.skip_blanks.new.self))) c.deeper.ensures.functions (c.in_ok-parameters.ensures.gives place e))) in
+    let are = subst (λ ps. AreArgumentsOf c.parameters.new.builder ps read.0) (sym (read.2 ∙ ap (λ ps. ps ++ read.1) c.new-arguments.ensures.items)) read.3 in
+    (call f read.0, c.in_ok-call.ensures.made read.0 are, of_calls.result_is (signatures g.F.Functions.set c.args.self.now) inner place f (drop 1 (left c.args.reader.now)) s declared read.0 ∙ ap (λ k. Some k) (sym c.result.ensures), at_call ∙ of_calls.called (signatures g.F.Functions.set c.args.self.now) inner place f (drop 1 (left c.args.reader.now)) s declared read.0 (left c.parameters.new.reader) read.4)
+
+pub inside-returns-then-self-eq0-clause-gives : goal.inside-returns-then-self-eq0-clause-gives
+inside-returns-then-self-eq0-clause-gives g t c =
+    let none : c.args.self.now.depth ≡ 0 = omega (arith, c.if-self-eq0.true) in
+    rw c.refuse.ensures.value (too_deep _ _ _ _ none)
+
+pub inside-returns-clause-gives : goal.inside-returns-clause-gives
+inside-returns-clause-gives g t c =
+    let some : 0 < c.args.self.now.depth = omega (arith, c.if-self-eq0.false) in
+    let behind = behind_one _ _ _ _ c.take_char.ensures.value c.skip_blanks.ensures.left in
+    let same = ap (λ f. (g.F.Functions.set f).signature) c.deeper.ensures.functions in
+    subst (Makes an_or c.logical_or.new.builder c.logical_or.result c.logical_or.new.reader)
+    (sym (inside_is _ _ _ _ _ _ _ some same c.deeper.ensures.depth behind))
+    c.logical_or.ensures.gives
+
+pub logical_and-returns-clause-keeps : goal.logical_and-returns-clause-keeps
+logical_and-returns-clause-keeps g t c = λ part piece h. c.and_from.ensures.keeps part piece (c.basic.ensures.keeps part piece h)
+
+pub logical_or-returns-clause-keeps : goal.logical_or-returns-clause-keeps
+logical_or-returns-clause-keeps g t c = λ part piece h. c.or_from.ensures.keeps part piece (c.logical_and.ensures.keeps part piece h)
+
+pub named-returns-in_err-call-clause-gives : goal.named-returns-in_err-call-clause-gives
+named-returns-in_err-call-clause-gives g t c =
+    let p = err_from_is_err_and c.from_residual-in_err-call.result c.from_residual-in_err-call.ensures.1 in
+    rw (p.1, p.2) (of_calls.named_call_fails (signatures g.F.Functions.set c.args.self.now) (deeper g.F.Functions.set c.args.self.now) (left c.args.reader.now) c.requires c.in_err-call.field-0.0 (ap (begins (λ c. c == 40)) (sym c.in_ok-word.ensures.rest) ∙ sym c.sees.ensures ∙ c.if-sees.true) (subst (λ l. Fails c.in_err-call.field-0.0 ((deeper g.F.Functions.set c.args.self.now).call_of (left c.args.reader.now) (word (left c.args.reader.now)) (drop 1 l))) c.in_ok-word.ensures.rest (subst (λ f. Fails c.in_err-call.field-0.0 ((deeper g.F.Functions.set c.args.self.now).call_of (left c.args.reader.now) f (drop 1 (left c.read_word.new.reader)))) (c.in_ok-name.ensures (word (left c.args.reader.now)) c.in_ok-word.ensures.word) (c.in_err-call.ensures.gives (left c.args.reader.now) c.bytes_left-start.ensures.value))))
+
+pub named-returns-then-sees-clause-gives : goal.named-returns-then-sees-clause-gives
+named-returns-then-sees-clause-gives g t c =
+    let k = c.in_ok-call.ensures.gives (left c.args.reader.now) c.bytes_left-start.ensures.value in
+    (a_call k.0, (k.1, k.2), of_calls.named_call (signatures g.F.Functions.set c.args.self.now) (deeper g.F.Functions.set c.args.self.now) (left c.args.reader.now) c.requires k.0 (left c.call.new.reader) (ap (begins (λ c. c == 40)) (sym c.in_ok-word.ensures.rest) ∙ sym c.sees.ensures ∙ c.if-sees.true) (subst (λ l. (deeper g.F.Functions.set c.args.self.now).call_of (left c.args.reader.now) (word (left c.args.reader.now)) (drop 1 l) ≡ Ok (k.0, left c.call.new.reader)) c.in_ok-word.ensures.rest (subst (λ f. (deeper g.F.Functions.set c.args.self.now).call_of (left c.args.reader.now) f (drop 1 (left c.read_word.new.reader)) ≡ Ok (k.0, left c.call.new.reader)) (c.in_ok-name.ensures (word (left c.args.reader.now)) c.in_ok-word.ensures.word) k.3)))
+
+pub named-returns-in-Some-clause-gives : goal.named-returns-in-Some-clause-gives
+named-returns-in-Some-clause-gives g t c =
+    let l = literal_view c.in-Some.literal in
+    (a_literal l, refl, of_calls.named_literal (signatures g.F.Functions.set c.args.self.now) (deeper g.F.Functions.set c.args.self.now) (left c.args.reader.now) c.requires l (ap (begins (λ c. c == 40)) (sym c.in_ok-word.ensures.rest) ∙ sym c.sees.ensures ∙ c.if-sees.false) (sym (c.literal.ensures (word (left c.args.reader.now)) c.in_ok-word.ensures.word) ∙ ap (option_map literal_view) c.in-Some.is) ∙ ap (λ r. Ok (a_literal l, r)) (ap past_blanks (sym c.in_ok-word.ensures.rest) ∙ sym c.skip_blanks.ensures.left))
+
+pub named-returns-clause-gives : goal.named-returns-clause-gives
+named-returns-clause-gives g t c =
+    rw (c.in_long_hand.ensures, c.bytes_left-start.ensures.value) (of_calls.named_nothing (signatures g.F.Functions.set c.args.self.now) (deeper g.F.Functions.set c.args.self.now) (left c.args.reader.now) c.requires (ap (begins (λ c. c == 40)) (sym c.in_ok-word.ensures.rest) ∙ sym c.sees.ensures ∙ c.if-sees.false) (sym (c.literal.ensures (word (left c.args.reader.now)) c.in_ok-word.ensures.word) ∙ ap (option_map literal_view) c.in-None.is))
+
+pub negated-returns-in_err-paren-clause-keeps : goal.negated-returns-in_err-paren-clause-keeps
+negated-returns-in_err-paren-clause-keeps g t c = λ part piece h. c.not_paren.ensures.keeps part piece (c.paren.ensures.keeps part piece h)
+
+pub negated-returns-then-sees-clause-keeps : goal.negated-returns-then-sees-clause-keeps
+negated-returns-then-sees-clause-keeps g t c = λ part piece h. c.not_paren.ensures.keeps part piece (c.paren.ensures.keeps part piece h)
+
+pub negated-returns-then-sees-clause-gives : goal.negated-returns-then-sees-clause-gives
+negated-returns-then-sees-clause-gives g t c =
+    let inner = c.in_ok-inner.ensures.gives in (
+      tree.not_paren inner.0,
+      c.in_ok-paren.ensures.made inner.0 inner.1,
+      not_paren_read _ _ _ inner.0 _ (sym c.sees.ensures ∙ c.if-sees.true) inner.2,
+    )
+
+pub negated-returns-in_err-test-clause-keeps : goal.negated-returns-in_err-test-clause-keeps
+negated-returns-in_err-test-clause-keeps g t c = λ part piece h. c.not_exist.ensures.keeps part piece (c.query.ensures.keeps part piece h)
+
+pub negated-returns-then-sees-2-clause-keeps : goal.negated-returns-then-sees-2-clause-keeps
+negated-returns-then-sees-2-clause-keeps g t c = λ part piece h. c.not_exist.ensures.keeps part piece (c.query.ensures.keeps part piece h)
+
+pub negated-returns-then-sees-2-clause-gives : goal.negated-returns-then-sees-2-clause-gives
+negated-returns-then-sees-2-clause-gives g t c =
+    let q = c.in_ok-query.ensures.gives in (
+      tree.not_exist q.0,
+      c.in_ok-test.ensures.made q.0 q.1,
+      no_current_read _ _ _ q.0 _ (sym c.sees.ensures ∙ c.if-sees.false) (sym c.sees-2.ensures ∙ c.if-sees-2.true) q.2,
+    )
+
+pub negated-returns-in_err-test-2-clause-keeps : goal.negated-returns-in_err-test-2-clause-keeps
+negated-returns-in_err-test-2-clause-keeps g t c = λ part piece h. c.not_exist-then-sees-3.ensures.keeps part piece (c.query-then-sees-3.ensures.keeps part piece h)
+
+pub negated-returns-then-sees-3-clause-keeps : goal.negated-returns-then-sees-3-clause-keeps
+negated-returns-then-sees-3-clause-keeps g t c = λ part piece h. c.not_exist-then-sees-3.ensures.keeps part piece (c.query-then-sees-3.ensures.keeps part piece h)
+
+pub negated-returns-then-sees-3-clause-gives : goal.negated-returns-then-sees-3-clause-gives
+negated-returns-then-sees-3-clause-gives g t c =
+    let q = c.in_ok-query-2.ensures.gives in (
+      tree.not_exist q.0,
+      c.in_ok-test-2.ensures.made q.0 q.1,
+      no_root_read _ _ _ q.0 _ (sym c.sees.ensures ∙ c.if-sees.false) (sym c.sees-2.ensures ∙ c.if-sees-2.false) (sym c.sees-3.ensures ∙ c.if-sees-3.true) q.2,
+    )
+
+pub negated-returns-then-sees_small_letter-clause-gives : goal.negated-returns-then-sees_small_letter-clause-gives
+negated-returns-then-sees_small_letter-clause-gives g t c =
+    subst (Makes a_basic c.negated_call.new.builder c.negated_call.result c.negated_call.new.reader)
+    (sym (negated_is_name _ _ _ (sym c.sees.ensures ∙ c.if-sees.false) (sym c.sees-2.ensures ∙ c.if-sees-2.false) (sym c.sees-3.ensures ∙ c.if-sees-3.false)))
+    c.negated_call.ensures.gives
+
+pub negated_call-returns-in_err-call-clause-gives : goal.negated_call-returns-in_err-call-clause-gives
+negated_call-returns-in_err-call-clause-gives g t c =
+    let p = err_from_is_err_and c.from_residual.result c.from_residual.ensures.1 in
+    rw (p.1, p.2) (name_fails _ _ _ c.in_err-call.field-0.0 c.in_err-call.ensures.gives)
+
+pub negated_call-returns-in_default : goal.negated_call-returns-in_default
+negated_call-returns-in_default g t c =
+    let o = c.in_ok-call.ensures.gives in
+    record {
+      moves = c.named.ensures.moves;
+      near = rw c.in_long_hand.ensures (λ e. absurd cc);
+      keeps = c.named.ensures.keeps;
+      gives = rw (c.in_long_hand.ensures, c.bytes_left-start.ensures.value) (no_call_read _ _ _ c.named.new.builder _ o.0 _ c.in_default.not-Call o.1 o.2);
+    }
+
+pub negated_call-returns-then-eq-clause-gives : goal.negated_call-returns-then-eq-clause-gives
+negated_call-returns-then-eq-clause-gives g t c =
+    let o = c.in_ok-call.ensures.gives in
+    let f = call_is (signatures g.F.Functions.set c.args.self.now) c.named.new.builder _ _ _ o.0 c.in-Call.is o.1 in
+    let read = subst (λ y. named_at (signatures g.F.Functions.set c.args.self.now) (deeper g.F.Functions.set c.args.self.now) (left c.args.reader.now) ≡ Ok (y, left c.named.new.reader)) f.1 o.2 in
+    rw (c.in_long_hand-then-eq.ensures, c.bytes_left-start.ensures.value) (value_refused _ _ _ f.0 _ _ _ f.3 c.eq.ensures read c.if-eq.true)
+
+pub negated_call-returns-in_err-test-clause-keeps : goal.negated_call-returns-in_err-test-clause-keeps
+negated_call-returns-in_err-test-clause-keeps g t c = λ part piece h. c.not_test.ensures.keeps part piece (c.named.ensures.keeps part piece h)
+
+pub negated_call-returns-clause-keeps : goal.negated_call-returns-clause-keeps
+negated_call-returns-clause-keeps g t c = λ part piece h. c.not_test.ensures.keeps part piece (c.named.ensures.keeps part piece h)
+
+pub negated_call-returns-clause-gives : goal.negated_call-returns-clause-gives
+negated_call-returns-clause-gives g t c =
+    let o = c.in_ok-call.ensures.gives in
+    let f = call_is (signatures g.F.Functions.set c.args.self.now) c.named.new.builder _ _ _ o.0 c.in-Call.is o.1 in
+    let read = subst (λ y. named_at (signatures g.F.Functions.set c.args.self.now) (deeper g.F.Functions.set c.args.self.now) (left c.args.reader.now) ≡ Ok (y, left c.named.new.reader)) f.1 o.2 in (
+      tree.not_test f.0,
+      c.in_ok-test.ensures.made f.0 f.2,
+      not_test_read _ _ _ f.0 _ _ _ f.3 c.eq.ensures read c.if-eq.false,
+    )
+
+pub operand-returns-then-sees-3-clause-gives : goal.operand-returns-then-sees-3-clause-gives
+operand-returns-then-sees-3-clause-gives g t c =
+    let q = c.in_ok-query.ensures.gives in
+    (a_query q.0, q.1, of_calls.current_operand (signatures g.F.Functions.set c.args.self.now) (deeper g.F.Functions.set c.args.self.now) (left c.args.reader.now) (sym c.sees.ensures ∙ c.if-sees.false) (sym c.sees-2.ensures ∙ c.if-sees-2.false) q.0 (left c.query.new.reader) (sym c.sees-3.ensures ∙ c.if-sees-3.true) q.2)
+
+pub operand-returns-then-sees-4-clause-gives : goal.operand-returns-then-sees-4-clause-gives
+operand-returns-then-sees-4-clause-gives g t c =
+    let q = c.in_ok-query-2.ensures.gives in
+    (a_query q.0, q.1, of_calls.root_operand (signatures g.F.Functions.set c.args.self.now) (deeper g.F.Functions.set c.args.self.now) (left c.args.reader.now) (sym c.sees.ensures ∙ c.if-sees.false) (sym c.sees-2.ensures ∙ c.if-sees-2.false) (sym c.sees-3.ensures ∙ c.if-sees-3.false) q.0 (left c.query-then-sees-4.new.reader) (sym c.sees-4.ensures ∙ c.if-sees-4.true) q.2)
+
+pub operand-returns-then-sees_small_letter-clause-gives : goal.operand-returns-then-sees_small_letter-clause-gives
+operand-returns-then-sees_small_letter-clause-gives g t c =
+    subst (λ read. MakesOperand (signatures g.F.Functions.set c.args.self.now) c.named.new.builder c.named.result c.named.new.reader read) (sym (of_calls.named_operand (signatures g.F.Functions.set c.args.self.now) (deeper g.F.Functions.set c.args.self.now) (left c.args.reader.now) (sym c.sees.ensures ∙ c.if-sees.false) (sym c.sees-2.ensures ∙ c.if-sees-2.false) (sym c.sees-3.ensures ∙ c.if-sees-3.false) (sym c.sees-4.ensures ∙ c.if-sees-4.false) (sym c.sees_small_letter.ensures ∙ c.if-sees_small_letter.true))) c.named.ensures.gives
+
+pub operand-returns-clause-gives : goal.operand-returns-clause-gives
+operand-returns-clause-gives g t c =
+    let n = number_amount c.in_ok-number.number in
+    (a_literal (number n), refl, of_calls.number_operand (signatures g.F.Functions.set c.args.self.now) (deeper g.F.Functions.set c.args.self.now) (left c.args.reader.now) (sym c.sees.ensures ∙ c.if-sees.false) (sym c.sees-2.ensures ∙ c.if-sees-2.false) (sym c.sees-3.ensures ∙ c.if-sees-3.false) (sym c.sees-4.ensures ∙ c.if-sees-4.false) n (left c.number.new.reader) (sym c.sees_small_letter.ensures ∙ c.if-sees_small_letter.false) c.in_ok-number.ensures.gives ∙ ap (λ l. Ok (a_literal (number n), l)) (sym c.skip_blanks.ensures.left))
+
+pub or_from-parts-init : goal.or_from-parts-init
+or_from-parts-init g t c = record {
+  moves = grind (arith, common_steps);
+  keeps = λ part piece h. h;
+  so_far = λ x is. (x ∷ [], first_or c.args.builder.now _ _ _ x c.new-parts.ensures.items c.in_ok-push.ensures.items is, refl);
+}
+
+pub or_from-returns-in_err-part-clause-moves : goal.or_from-returns-in_err-part-clause-moves
+or_from-returns-in_err-part-clause-moves g t c = grind (arith, common_steps)
+
+pub or_from-returns-in_err-part-clause-keeps : goal.or_from-returns-in_err-part-clause-keeps
+or_from-returns-in_err-part-clause-keeps g t c = λ part piece h. c.logical_and.ensures.keeps part piece (c.parts.invariant.keeps part piece h)
+
+pub or_from-returns-in_err-part-clause-gives : goal.or_from-returns-in_err-part-clause-gives
+or_from-returns-in_err-part-clause-gives g t c = λ x is.
+    let p = err_from_is_err_and c.from_residual-in_err-part.result c.from_residual-in_err-part.ensures.1 in
+    let so_far = c.parts.invariant.so_far x is in
+    let sign : begins_both 124 124 (left c.parts.reader) ≡ true = sym c.sees_both.ensures.value ∙ c.parts-test.true in
+    let behind = behind_two _ _ _ _ c.sees_both.ensures.stays c.take_two.ensures.left c.skip_blanks.ensures.left in
+    rw (p.1, p.2) (row_fails (ors (signatures g.F.Functions.set c.args.self.now) c.args.self.now.depth) c.in_err-part.field-0.0 x so_far.0 _ _ _ sign behind c.in_err-part.ensures.gives so_far.2)
+
+pub or_from-parts-smaller : goal.or_from-parts-smaller
+or_from-parts-smaller g t c =
+    let sign : begins_both 124 124 (left c.parts.reader) ≡ true = sym c.sees_both.ensures.value ∙ c.parts-test.true in
+    let behind = behind_two _ _ _ _ c.sees_both.ensures.stays c.take_two.ensures.left c.skip_blanks.ensures.left in
+    row_shorter (ors (signatures g.F.Functions.set c.args.self.now) c.args.self.now.depth) _ _ _ c.in_ok-part.ensures.gives.0 sign behind c.in_ok-part.ensures.gives.2
+
+pub or_from-parts-preserved : goal.or_from-parts-preserved
+or_from-parts-preserved g t c =
+    let sign : begins_both 124 124 (left c.parts.reader) ≡ true = sym c.sees_both.ensures.value ∙ c.parts-test.true in
+    let behind = behind_two _ _ _ _ c.sees_both.ensures.stays c.take_two.ensures.left c.skip_blanks.ensures.left in
+    let one = c.in_ok-part.ensures.gives in
+    record {
+      moves = grind (arith, common_steps);
+      keeps = λ part piece h. c.logical_and.ensures.keeps part piece (c.parts.invariant.keeps part piece h);
+      so_far = λ x is.
+          let so_far = c.parts.invariant.so_far x is in
+          let total = with_front (x ∷ []) (read_more (ors (signatures g.F.Functions.set c.args.self.now) c.args.self.now.depth) (left c.args.reader.now)) in (
+            so_far.0 ++ one.0 ∷ [],
+            or_pushed c.parts.builder c.logical_and.new.builder (parts_in c.parts.parts) (parts_in c.push-in-parts.new.self) so_far.0 _ one.0 c.logical_and.ensures.keeps so_far.1 one.1 c.in_ok-push-2.ensures.items,
+            row_goes_on (ors (signatures g.F.Functions.set c.args.self.now) c.args.self.now.depth) so_far.0 _ _ _ one.0 total sign behind one.2 so_far.2,
+          );
+    }
+
+pub or_from-returns-in_err-push-2-clause-moves : goal.or_from-returns-in_err-push-2-clause-moves
+or_from-returns-in_err-push-2-clause-moves g t c = grind (arith, common_steps)
+
+pub or_from-returns-in_err-push-2-clause-keeps : goal.or_from-returns-in_err-push-2-clause-keeps
+or_from-returns-in_err-push-2-clause-keeps g t c = λ part piece h. c.logical_and.ensures.keeps part piece (c.parts.invariant.keeps part piece h)
+
+pub or_from-logical_or-requires : goal.or_from-logical_or-requires
+or_from-logical_or-requires g t c = let so_far = c.parts.invariant.so_far c.requires.0 c.requires.1 in (or_list so_far.0, so_far.1)
+
+pub or_from-returns-in_err-expression-clause-keeps : goal.or_from-returns-in_err-expression-clause-keeps
+or_from-returns-in_err-expression-clause-keeps g t c = λ part piece h. c.logical_or.ensures.keeps part piece (c.parts.invariant.keeps part piece h)
+
+pub or_from-returns-clause-moves : goal.or_from-returns-clause-moves
+or_from-returns-clause-moves g t c = grind (arith, common_steps)
+
+pub or_from-returns-clause-keeps : goal.or_from-returns-clause-keeps
+or_from-returns-clause-keeps g t c = λ part piece h. c.logical_or.ensures.keeps part piece (c.parts.invariant.keeps part piece h)
+
+pub or_from-returns-clause-gives : goal.or_from-returns-clause-gives
+or_from-returns-clause-gives g t c = λ x is.
+    let so_far = c.parts.invariant.so_far x is in
+    let ends : begins_both 124 124 (left c.parts.reader) ≡ false = sym c.sees_both.ensures.value ∙ c.parts-test.false in (
+      or_list so_far.0,
+      c.in_ok-expression.ensures.made (or_list so_far.0) so_far.1,
+      row_done (ors (signatures g.F.Functions.set c.args.self.now) c.args.self.now.depth) x so_far.0 _ _ ends so_far.2 ∙ ap (λ l. Ok (or_list so_far.0, l)) (sym c.sees_both.ensures.stays),
+    )
+
+pub parameters-returns-then-sees-clause-gives : goal.parameters-returns-then-sees-clause-gives
+parameters-returns-then-sees-clause-gives g t c = λ place e.
+    of_arguments.none_made c.args.builder.now c.args.parts.now.items c.end.result c.end.new.reader (ended place (map kind_view c.args.kinds.now) (drop 1 (left c.args.reader.now))) (parameters_at (signatures g.F.Functions.set c.args.self.now) (deeper g.F.Functions.set c.args.self.now) place (map kind_view c.args.kinds.now) (left c.args.reader.now)) (of_calls.no_argument (signatures g.F.Functions.set c.args.self.now) (deeper g.F.Functions.set c.args.self.now) place (map kind_view c.args.kinds.now) (left c.args.reader.now) (sym c.sees.ensures ∙ c.if-sees.true)) (c.end.ensures.gives place e)
+
+pub parameters-returns-clause-gives : goal.parameters-returns-clause-gives
+parameters-returns-clause-gives g t c = λ place e.
+    subst (λ read. MakesArguments c.arguments.new.builder c.args.parts.now.items c.arguments.new.parts.items c.arguments.result c.arguments.new.reader read) (sym (of_calls.some_arguments (signatures g.F.Functions.set c.args.self.now) (deeper g.F.Functions.set c.args.self.now) place (map kind_view c.args.kinds.now) (left c.args.reader.now) (sym c.sees.ensures ∙ c.if-sees.false))) (c.arguments.ensures.gives place e (length (left c.args.reader.now)) (omega arith))
+
+pub query-returns-in_err-parts-clause-gives : goal.query-returns-in_err-parts-clause-gives
+query-returns-in_err-parts-clause-gives g t c =
+    let p = err_from_is_err_and c.from_residual.result c.from_residual.ensures.1 in
+    let level = c.args.self.now in
+    rw (p.1, p.2) (query_fails (signatures g.F.Functions.set level) (deeper g.F.Functions.set level) (query_kind_view c.args.kind) c.take_char.result (left c.args.reader.now) (left c.take_char.new.self) c.take_char.ensures.value c.in_err-parts.field-0.0 c.in_err-parts.ensures.gives)
+
+pub query-returns-in_err-query-clause-keeps : goal.query-returns-in_err-query-clause-keeps
+query-returns-in_err-query-clause-keeps g t c = λ part piece h. c.query.ensures.keeps part piece (c.segments.ensures.keeps part piece h)
+
+pub query-returns-clause-keeps : goal.query-returns-clause-keeps
+query-returns-clause-keeps g t c = λ part piece h. c.query.ensures.keeps part piece (c.segments.ensures.keeps part piece h)
+
+pub query-returns-clause-gives : goal.query-returns-clause-gives
+query-returns-clause-gives g t c =
+    let level = c.args.self.now in
+    let kind = query_kind_view c.args.kind in
+    let read = c.in_ok-parts.ensures.gives in (
+      tree.query kind (segment_list read.0),
+      c.in_ok-query.ensures.made (segment_list read.0) read.2,
+      query_reads (signatures g.F.Functions.set level) (deeper g.F.Functions.set level) kind c.take_char.result (left c.args.reader.now) (left c.take_char.new.self) c.take_char.ensures.value read.1 (left c.segments.new.reader) read.0 read.5 read.4,
+    )
+
+pub segment-returns-in-Dotted-clause-gives : goal.segment-returns-in-Dotted-clause-gives
+segment-returns-in-Dotted-clause-gives g t c =
+    let filters = filter_at g.F.Functions.set c.args.self.now in
+    subst (λ start. StartsSegment c.segment_start.new.builder (Ok start) c.segment_start.new.reader (bracket_at filters) (segment_at filters c.args.place (left c.args.reader.now))) c.in-Dotted.is (c.in_ok-segment.ensures.gives filters)
+
+pub segment-returns-in-Bracket-clause-keeps : goal.segment-returns-in-Bracket-clause-keeps
+segment-returns-in-Bracket-clause-keeps g t c = λ part piece h. c.bracket.ensures.keeps part piece (c.segment_start.ensures.keeps part piece h)
+
+pub segments-segments-init : goal.segments-segments-init
+segments-segments-init g t c =
+    let start = left c.args.reader.now in
+    record {
+      moves = c.skip_blanks.ensures.moves;
+      keeps = λ part piece h. h;
+      none = λ e. ap (begins opens) c.skip_blanks.ensures.left ∙ e;
+      so_far = ([], start, subst (λ parts. ArePartsOf c.args.builder.now parts tree.no_segments) (sym c.new-parts.ensures.items) tt, c.bytes_left-rest.ensures.value, c.skip_blanks.ensures.left, m.with_none (segments_at (filter_at g.F.Functions.set c.args.self.now) c.args.place start));
+    }
+
+pub segments-returns-in_err-part-clause-moves : goal.segments-returns-in_err-part-clause-moves
+segments-returns-in_err-part-clause-moves g t c = grind (arith, common_steps)
+
+pub segments-returns-in_err-part-clause-keeps : goal.segments-returns-in_err-part-clause-keeps
+segments-returns-in_err-part-clause-keeps g t c = λ part piece h. c.segment.ensures.keeps part piece (c.segments.invariant.keeps part piece h)
+
+pub segments-returns-in_err-part-clause-gives : goal.segments-returns-in_err-part-clause-gives
+segments-returns-in_err-part-clause-gives g t c =
+    let filters = filter_at g.F.Functions.set c.args.self.now in
+    let p = err_from_is_err_and c.from_residual.result c.from_residual.ensures.1 in
+    let so_far = c.segments.invariant.so_far in
+    let starts : opens_next so_far.1 ≡ true = ap (begins opens) (sym so_far.4) ∙ sym c.sees_segment.ensures ∙ c.segments-test.true in
+    let refused = next_fails filters c.args.place so_far.1 (left c.segments.reader) c.in_err-part.field-0.0 so_far.4 c.in_err-part.ensures.gives in
+    rw (p.1, p.2) (m.fails opens_next (next_segment_at filters c.args.place) (segment_takes g.F.Functions.set c.args.self.now c.args.place) c.in_err-part.field-0.0 so_far.0 so_far.1 (segments_at filters c.args.place (left c.args.reader.now)) starts refused so_far.5)
+
+pub segments-returns-in_err-part-clause-spares : goal.segments-returns-in_err-part-clause-spares
+segments-returns-in_err-part-clause-spares g t c =
+    let p = err_from_is_err_and c.from_residual.result c.from_residual.ensures.1 in
+    let opened : begins opens (left c.segments.reader) ≡ true = sym c.sees_segment.ensures ∙ c.segments-test.true in
+    rw p.1 (λ e. absurd (true≢false (sym opened ∙ c.segments.invariant.none e)))
+
+pub segments-returns-in_err-push-clause-moves : goal.segments-returns-in_err-push-clause-moves
+segments-returns-in_err-push-clause-moves g t c = grind (arith, common_steps)
+
+pub segments-returns-in_err-push-clause-keeps : goal.segments-returns-in_err-push-clause-keeps
+segments-returns-in_err-push-clause-keeps g t c = λ part piece h. c.segment.ensures.keeps part piece (c.segments.invariant.keeps part piece h)
+
+pub segments-returns-in_err-push-clause-spares : goal.segments-returns-in_err-push-clause-spares
+segments-returns-in_err-push-clause-spares g t c =
+    let p = err_from_is_err_and c.from_residual-in_err-push.result c.from_residual-in_err-push.ensures.1 in
+    let opened : begins opens (left c.segments.reader) ≡ true = sym c.sees_segment.ensures ∙ c.segments-test.true in
+    rw p.1 (λ e. absurd (true≢false (sym opened ∙ c.segments.invariant.none e)))
+
+pub segments-segments-smaller : goal.segments-segments-smaller
+segments-segments-smaller g t c =
+    let opened : begins opens (left c.segments.reader) ≡ true = sym c.sees_segment.ensures ∙ c.segments-test.true in
+    let shorter = segment_shorter g.F.Functions.set c.args.self.now c.args.place (left c.segments.reader) (left c.segment.new.reader) c.in_ok-part.ensures.gives.0 opened c.in_ok-part.ensures.gives.2 in
+    rw c.skip_blanks-in-segments.ensures.left (omega (arith, shorter, no_longer (left c.segment.new.reader)))
+
+pub segments-segments-preserved : goal.segments-segments-preserved
+segments-segments-preserved g t c =
+    let filters = filter_at g.F.Functions.set c.args.self.now in
+    let so_far = c.segments.invariant.so_far in
+    let before = so_far.0 in
+    let opened : begins opens (left c.segments.reader) ≡ true = sym c.sees_segment.ensures ∙ c.segments-test.true in
+    let starts : opens_next so_far.1 ≡ true = ap (begins opens) (sym so_far.4) ∙ opened in
+    let seg = c.in_ok-part.ensures.gives.0 in
+    let kept = parts_kept c.segments.builder c.segment.new.builder c.segment.ensures.keeps (parts_in c.segments.parts) (segment_list before) so_far.2 in
+    let pushed = segment_pushed c.segment.new.builder (parts_in c.segments.parts) before c.in_ok-part.part seg kept c.in_ok-part.ensures.gives.1 in
+    let rest = left c.segment.new.reader in
+    record {
+      moves = grind (arith, common_steps);
+      keeps = λ part piece h. c.segment.ensures.keeps part piece (c.segments.invariant.keeps part piece h);
+      none = λ e. absurd (true≢false (sym opened ∙ c.segments.invariant.none e));
+      so_far = (
+        before ++ seg ∷ [],
+        rest,
+        subst (λ parts. ArePartsOf c.segment.new.builder parts (segment_list (before ++ seg ∷ []))) (sym c.in_ok-push.ensures.items) pushed,
+        c.bytes_left-rest-in-segments.ensures.value,
+        c.skip_blanks-in-segments.ensures.left,
+        m.goes_on opens_next (next_segment_at filters c.args.place) (segment_takes g.F.Functions.set c.args.self.now c.args.place) before so_far.1 rest seg (segments_at filters c.args.place (left c.args.reader.now)) starts (next_reads filters c.args.place so_far.1 (left c.segments.reader) _ so_far.4 c.in_ok-part.ensures.gives.2) so_far.5,
+      );
+    }
+
+pub segments-returns-clause-moves : goal.segments-returns-clause-moves
+segments-returns-clause-moves g t c = grind (arith, common_steps)
+
+pub segments-returns-clause-keeps : goal.segments-returns-clause-keeps
+segments-returns-clause-keeps g t c = c.segments.invariant.keeps
+
+pub segments-returns-clause-gives : goal.segments-returns-clause-gives
+segments-returns-clause-gives g t c =
+    let filters = filter_at g.F.Functions.set c.args.self.now in
+    let so_far = c.segments.invariant.so_far in
+    let ended : opens_next so_far.1 ≡ false = ap (begins opens) (sym so_far.4) ∙ sym c.sees_segment.ensures ∙ c.segments-test.false in
+    (so_far.0, so_far.1, so_far.2, so_far.3, so_far.4, m.is_done opens_next (next_segment_at filters c.args.place) (segment_takes g.F.Functions.set c.args.self.now c.args.place) so_far.0 so_far.1 (segments_at filters c.args.place (left c.args.reader.now)) ended so_far.5)
+
+pub selector-returns-in_err-test-clause-gives : goal.selector-returns-in_err-test-clause-gives
+selector-returns-in_err-test-clause-gives g t c =
+    let p = err_from_is_err_and c.from_residual.result c.from_residual.ensures.1 in
+    let level = c.args.self.now in
+    rw (p.1, p.2) (filter_fails (signatures g.F.Functions.set level) (deeper g.F.Functions.set level) c.in_err-test.field-0.0 (left c.args.reader.now) (sym c.sees.ensures ∙ c.if-sees.true) c.in_err-test.ensures.gives)
+
+pub selector-returns-in_err-filter-clause-keeps : goal.selector-returns-in_err-filter-clause-keeps
+selector-returns-in_err-filter-clause-keeps g t c = λ part piece h. c.filter.ensures.keeps part piece (c.inside.ensures.keeps part piece h)
+
+pub selector-returns-then-sees-clause-keeps : goal.selector-returns-then-sees-clause-keeps
+selector-returns-then-sees-clause-keeps g t c = λ part piece h. c.filter.ensures.keeps part piece (c.inside.ensures.keeps part piece h)
+
+pub selector-returns-then-sees-clause-gives : goal.selector-returns-then-sees-clause-gives
+selector-returns-then-sees-clause-gives g t c =
+    let level = c.args.self.now in
+    let read = c.in_ok-test.ensures.gives in (
+      tree.filter read.0,
+      c.in_ok-filter.ensures.made read.0 read.1,
+      filter_reads (signatures g.F.Functions.set level) (deeper g.F.Functions.set level) (left c.args.reader.now) (left c.inside.new.reader) read.0 (sym c.sees.ensures ∙ c.if-sees.true) read.2,
+    )
+
+pub selectors-returns-in_err-first-clause-gives : goal.selectors-returns-in_err-first-clause-gives
+selectors-returns-in_err-first-clause-gives g t c =
+    let p = err_from_is_err_and c.from_residual.result c.from_residual.ensures.1 in
+    rw (p.1, p.2) (selectors_fail (filter_at g.F.Functions.set c.args.self.now) c.in_err-first.field-0.0 (left c.args.reader.now) (left c.skip_blanks.new.self) c.skip_blanks.ensures.left c.in_err-first.ensures.gives)
+
+pub selectors-selectors-init : goal.selectors-selectors-init
+selectors-selectors-init g t c =
+    let filters = filter_at g.F.Functions.set c.args.self.now in
+    let read = c.in_ok-first.ensures.gives in
+    record {
+      moves = grind (arith, common_steps);
+      keeps = c.selector.ensures.keeps;
+      so_far = (
+        read.0 ∷ [],
+        first_selector c.selector.new.builder (parts_in c.new-parts.result) (parts_in c.push.new.self) c.in_ok-first.first read.0 c.new-parts.ensures.items c.in_ok-push.ensures.items read.1,
+        selectors_begin filters (left c.args.reader.now) (left c.skip_blanks.new.self) (left c.selector.new.reader) read.0 c.skip_blanks.ensures.left read.2,
+      );
+    }
+
+pub selectors-returns-in_err-part-clause-moves : goal.selectors-returns-in_err-part-clause-moves
+selectors-returns-in_err-part-clause-moves g t c = grind (arith, common_steps)
+
+pub selectors-returns-in_err-part-clause-keeps : goal.selectors-returns-in_err-part-clause-keeps
+selectors-returns-in_err-part-clause-keeps g t c = λ part piece h. c.selector-in-selectors.ensures.keeps part piece (c.selectors.invariant.keeps part piece h)
+
+pub selectors-returns-in_err-part-clause-gives : goal.selectors-returns-in_err-part-clause-gives
+selectors-returns-in_err-part-clause-gives g t c =
+    let level = c.args.self.now in
+    let filters = filter_at g.F.Functions.set level in
+    let so_far = c.selectors.invariant.so_far in
+    let comma : begins is_comma (left c.selectors.reader) ≡ true = sym c.sees.ensures ∙ c.selectors-test.true in
+    let p = err_from_is_err_and c.from_residual-in_err-part.result c.from_residual-in_err-part.ensures.1 in
+    let refused = next_selector_fails filters c.in_err-part.field-0.0 (left c.selectors.reader) (left c.take_char.new.self) (left c.skip_blanks-in-selectors.new.self) c.take_char.result c.take_char.ensures.value c.skip_blanks-in-selectors.ensures.left c.in_err-part.ensures.gives in
+    rw (p.1, p.2) (m.fails (begins is_comma) (next_selector_at filters) (selector_takes g.F.Functions.set level) c.in_err-part.field-0.0 so_far.0 (left c.selectors.reader) (selectors_at filters (left c.args.reader.now)) comma refused so_far.2)
+
+pub selectors-selectors-smaller : goal.selectors-selectors-smaller
+selectors-selectors-smaller g t c =
+    let level = c.args.self.now in
+    let filters = filter_at g.F.Functions.set level in
+    let comma : begins is_comma (left c.selectors.reader) ≡ true = sym c.sees.ensures ∙ c.selectors-test.true in
+    let sel = c.in_ok-part.ensures.gives.0 in
+    let read = next_selector_reads filters (left c.selectors.reader) (left c.take_char.new.self) (left c.skip_blanks-in-selectors.new.self) c.take_char.result c.take_char.ensures.value c.skip_blanks-in-selectors.ensures.left _ c.in_ok-part.ensures.gives.2 in
+    (selector_takes g.F.Functions.set level).shorter (left c.selectors.reader) (left c.selector-in-selectors.new.reader) sel comma read
+
+pub selectors-selectors-preserved : goal.selectors-selectors-preserved
+selectors-selectors-preserved g t c =
+    let level = c.args.self.now in
+    let filters = filter_at g.F.Functions.set level in
+    let so_far = c.selectors.invariant.so_far in
+    let comma : begins is_comma (left c.selectors.reader) ≡ true = sym c.sees.ensures ∙ c.selectors-test.true in
+    let sel = c.in_ok-part.ensures.gives.0 in
+    let read = next_selector_reads filters (left c.selectors.reader) (left c.take_char.new.self) (left c.skip_blanks-in-selectors.new.self) c.take_char.result c.take_char.ensures.value c.skip_blanks-in-selectors.ensures.left _ c.in_ok-part.ensures.gives.2 in
+    let before = so_far.0 in
+    let kept = selectors_kept c.selectors.builder c.selector-in-selectors.new.builder (parts_in c.selectors.parts) before c.selector-in-selectors.ensures.keeps so_far.1 in
+    let pushed = selector_pushed c.selector-in-selectors.new.builder (parts_in c.selectors.parts) before c.in_ok-part.part sel kept c.in_ok-part.ensures.gives.1 in
+    record {
+      moves = grind (arith, common_steps);
+      keeps = λ part piece h. c.selector-in-selectors.ensures.keeps part piece (c.selectors.invariant.keeps part piece h);
+      so_far = (
+        before ++ sel ∷ [],
+        subst (λ parts. AreSelectorsOf c.selector-in-selectors.new.builder parts (selector_list (before ++ sel ∷ []))) (sym c.in_ok-push-2.ensures.items) pushed,
+        m.goes_on (begins is_comma) (next_selector_at filters) (selector_takes g.F.Functions.set level) before (left c.selectors.reader) (left c.selector-in-selectors.new.reader) sel (selectors_at filters (left c.args.reader.now)) comma read so_far.2,
+      );
+    }
+
+pub selectors-returns-in_err-push-2-clause-moves : goal.selectors-returns-in_err-push-2-clause-moves
+selectors-returns-in_err-push-2-clause-moves g t c = grind (arith, common_steps)
+
+pub selectors-returns-in_err-push-2-clause-keeps : goal.selectors-returns-in_err-push-2-clause-keeps
+selectors-returns-in_err-push-2-clause-keeps g t c = λ part piece h. c.selector-in-selectors.ensures.keeps part piece (c.selectors.invariant.keeps part piece h)
+
+pub selectors-returns-clause-moves : goal.selectors-returns-clause-moves
+selectors-returns-clause-moves g t c = grind (arith, common_steps)
+
+pub selectors-returns-clause-keeps : goal.selectors-returns-clause-keeps
+selectors-returns-clause-keeps g t c = c.selectors.invariant.keeps
+
+pub selectors-returns-clause-gives : goal.selectors-returns-clause-gives
+selectors-returns-clause-gives g t c =
+    let level = c.args.self.now in
+    let filters = filter_at g.F.Functions.set level in
+    let so_far = c.selectors.invariant.so_far in
+    let ended : begins is_comma (left c.selectors.reader) ≡ false = sym c.sees.ensures ∙ c.selectors-test.false in
+    (so_far.0, so_far.1, m.is_done (begins is_comma) (next_selector_at filters) (selector_takes g.F.Functions.set level) so_far.0 (left c.selectors.reader) (selectors_at filters (left c.args.reader.now)) ended so_far.2)
+
+pub and_from-returns-clause-made : goal.and_from-returns-clause-made
+and_from-returns-clause-made g t c =
+    let made = and_from-returns-clause-gives g t c c.requires.0 c.requires.1 in
+    (made.0, made.1)
+
+pub basic_from-returns-in_default-clause-made : goal.basic_from-returns-in_default-clause-made
+basic_from-returns-in_default-clause-made g t c =
+    let place = of_arguments.some_place c.args.start in
+    of_arguments.was_made a_basic c.test.new.builder c.test.result c.operator.new.reader _ (c.test.ensures.gives c.requires.0 c.requires.1 place.0 place.1)
+
+pub basic_from-returns-clause-made : goal.basic_from-returns-clause-made
+basic_from-returns-clause-made g t c =
+    let place = of_arguments.some_place c.args.start in
+    let made = basic_from-returns-clause-gives g t c c.requires.0 c.requires.1 place.0 place.1 in
+    (made.0, made.1)

@@ -1,0 +1,39 @@
+use Rattle.std.proofs.Common.{◌≡◌, ◌-◌, ◌^◌, ◌<◌, length, sym, ap, subst, ◌∙◌, arith, false}
+use Rattle.serde_json_path_parser.specs.Filters.{path_at}
+use Rattle.serde_json_path_parser.specs.Giving.{Fails, IsRefused}
+use Rattle.serde_json_path_parser.specs.Parsing.{opens_behind_root}
+use Rattle.serde_json_path_parser.proofs.Parses.{too_long, parsed, refused, within}
+use Rattle.serde_json_path_parser.proofs.parser.parse.Goals as goal
+
+pub returns-then-len-eq18446744073709551615-clause-parse : goal.returns-then-len-eq18446744073709551615-clause-parse
+returns-then-len-eq18446744073709551615-clause-parse g c =
+    let text = (g.S.PathSource.told c.args.source.now).text in
+    let long : length text ≡ 2 ^ 64 - 1 = sym c.len.ensures.bytes ∙ c.if-len-eq18446744073709551615.true in
+    rw c.in_text.ensures (too_long (g.F.Functions.set c.args.functions.now).signature text c.len.ensures.utf8 long)
+
+pub in_text-requires-in-Err-clause-within : goal.in_text-requires-in-Err-clause-within
+in_text-requires-in-Err-clause-within g c =
+    let text = (g.S.PathSource.told c.args.source.now).text in
+    let signature = (g.F.Functions.set c.args.functions.now).signature in
+    let total : c.len-total.result ≡ length text = c.len-total.ensures ∙ ap length (c.query-read.ensures.moves.same_text ∙ c.new-reader.ensures.same_text) in
+    within signature text c.len.ensures.utf8 c.in-Err.stop c.len-total.result total
+    (subst (λ cs. Fails c.in-Err.stop (path_at signature cs)) c.new-reader.ensures.left c.in-Err.ensures.gives)
+
+pub returns-in-Ok-clause-parse : goal.returns-in-Ok-clause-parse
+returns-in-Ok-clause-parse g c =
+    let text = (g.S.PathSource.told c.args.source.now).text in
+    let signature = (g.F.Functions.set c.args.functions.now).signature in
+    let short : length text < 2 ^ 64 - 1 = omega arith in
+    let read = c.in-Ok.ensures.gives in
+    parsed signature text c.len.ensures.utf8 short read.0 _ read.1 read.3 (ap (path_at signature) (sym c.new-reader.ensures.left) ∙ read.2)
+
+pub returns-in-Err-clause-parse : goal.returns-in-Err-clause-parse
+returns-in-Err-clause-parse g c =
+    let text = (g.S.PathSource.told c.args.source.now).text in
+    let signature = (g.F.Functions.set c.args.functions.now).signature in
+    let short : length text < 2 ^ 64 - 1 = omega arith in
+    let total : c.len-total.result ≡ length text = c.len-total.ensures ∙ ap length (c.query-read.ensures.moves.same_text ∙ c.new-reader.ensures.same_text) in
+    rw c.in_text-in-Err.ensures
+    (refused signature text c.len.ensures.utf8 short c.in-Err.stop c.len-total.result total
+    (subst (λ cs. Fails c.in-Err.stop (path_at signature cs)) c.new-reader.ensures.left c.in-Err.ensures.gives)
+    (subst (λ cs. opens_behind_root cs ≡ false → IsRefused c.in-Err.stop) c.new-reader.ensures.left c.in-Err.ensures.spares))

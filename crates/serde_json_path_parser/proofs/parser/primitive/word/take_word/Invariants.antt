@@ -1,0 +1,15 @@
+use Rattle.std.proofs.Common.{◌≡◌, ◌++◌, length}
+use Rattle.std.specs.Prelude.{string_bytes}
+use Rattle.serde_json_path_parser.specs.Filters.{word, behind_word}
+use Rattle.serde_json_path_parser.specs.Reading.{left, Moves}
+use Rattle.serde_json_path_parser.proofs.parser.primitive.word.take_word.Given as goal
+
+abbrev pub invariant-loop-text : goal.invariant-loop-text
+invariant-loop-text g l = record {
+  moves : Moves l.fn.reader l.reader;
+  text : string_bytes l.text ++ word (left l.reader) ≡ string_bytes l.fn.text ++ word (left l.fn.reader);
+  rest : behind_word (left l.reader) ≡ behind_word (left l.fn.reader);
+}
+
+abbrev pub decreases-loop-text : goal.decreases-loop-text
+decreases-loop-text g l = length (left l.reader)

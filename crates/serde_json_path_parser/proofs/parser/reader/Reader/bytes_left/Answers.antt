@@ -1,0 +1,10 @@
+use Rattle.std.proofs.Common.{refl}
+use Rattle.std.proofs.lemmas.List.{length-drop}
+use Rattle.std.proofs.lemmas.Str.{encodes-chars}
+use Rattle.serde_json_path_parser.proofs.FirstByte.{utf8_of}
+use Rattle.serde_json_path_parser.proofs.parser.reader.Reader.bytes_left.Goals as goal
+
+pub returns-clause-value : goal.returns-clause-value
+returns-clause-value g c =
+    let r = c.args.self.now in
+    rw (encodes-chars _ (utf8_of _ r.utf8), length-drop, c.len.ensures.bytes) refl

@@ -1,0 +1,72 @@
+use Rattle.std.proofs.Common.{◌≡◌, ◌+◌, length, refl, sym, ap, subst, ◌∙◌, arith}
+use Rattle.std.specs.Prelude.{IsSome}
+use Rattle.std.proofs.lemmas.Option.{slice_get_past}
+use Rattle.serde_json_path_parser.specs.Ahead.{limit_of}
+use Rattle.serde_json_path_parser.proofs.FirstByte.{is_there, is_some_at, utf8_of, step, step_one}
+use Rattle.serde_json_path_parser.proofs.parser.reader.Reader.take_char.Goals as goal
+use Rattle.serde_json_path_parser.proofs.parser.reader.Reader.take_char.Goals.{in-None+in-None-second, in-Some, in-None+in-Some-second}
+
+pub unwrap-lead-requires : goal.unwrap-lead-requires
+unwrap-lead-requires g c =
+    let r = c.args.self.now in
+    let k = is_some_at (g.S.PathSource.told r.source.now).text r.index (is_there (g.S.PathSource.told r.source.now).text r.index c.requires) in
+    subst IsSome (sym (r.next_is ∙ k.1)) refl
+
+pub invariant_of-self-clause-utf8 : goal.invariant_of-self-clause-utf8
+invariant_of-self-clause-utf8 g c =
+    let r = c.args.self.now in
+    let s = step_one (g.S.PathSource.told r.source.now).text r.index c.unwrap-lead.result r.within r.utf8 (sym r.next_is ∙ c.unwrap-lead.ensures) c.if-lead-lt128.true in
+    rw c.byte_below.ensures.looks.same_text s.utf8
+
+pub invariant_of-self-clause-next_is : goal.invariant_of-self-clause-next_is
+invariant_of-self-clause-next_is g c = rw c.byte_below.ensures.looks.same_text (sym (c.byte_below.ensures.some c.in-Some.next c.in-Some.is).1)
+
+pub invariant_of-self-in-Some-second-clause-utf8 : goal.invariant_of-self-in-Some-second-clause-utf8
+invariant_of-self-in-Some-second-clause-utf8 g c =
+    let r = c.args.self.now in
+    let s = step_one (g.S.PathSource.told r.source.now).text r.index c.unwrap-lead.result r.within r.utf8 (sym r.next_is ∙ c.unwrap-lead.ensures) c.if-lead-lt128.true in
+    rw c.byte_below.ensures.looks.same_text s.utf8
+
+pub invariant_of-self-in-Some-second-clause-next_is : goal.invariant_of-self-in-Some-second-clause-next_is
+invariant_of-self-in-Some-second-clause-next_is g c = rw c.byte_below.ensures.looks.same_text (c.args.self.now.second_is c.in-Some-second.second c.in-Some-second.is).0
+
+pub invariant_of-self-in-None-second-clause-utf8 : goal.invariant_of-self-in-None-second-clause-utf8
+invariant_of-self-in-None-second-clause-utf8 g c =
+    let r = c.args.self.now in
+    let s = step_one (g.S.PathSource.told r.source.now).text r.index c.unwrap-lead.result r.within r.utf8 (sym r.next_is ∙ c.unwrap-lead.ensures) c.if-lead-lt128.true in
+    rw c.byte_below.ensures.looks.same_text s.utf8
+
+pub invariant_of-self-in-None-second-clause-next_is : goal.invariant_of-self-in-None-second-clause-next_is
+invariant_of-self-in-None-second-clause-next_is g c =
+    let r = c.args.self.now in
+    let text = (g.S.PathSource.told r.source.now).text in
+    let whole : r.limit ≡ length text = r.limit_is ∙ ap (λ o. limit_of o (length text)) c.in-None-second.is in
+    rw c.byte_below.ensures.looks.same_text (sym (slice_get_past text (r.index + 1) (omega (arith, whole, c.byte_below.ensures.none c.in-None.is))))
+
+pub returns-then-lead-lt128-clause-value : goal.returns-then-lead-lt128-clause-value
+returns-then-lead-lt128-clause-value g c =
+    let r = c.args.self.now in
+    let s = step_one (g.S.PathSource.told r.source.now).text r.index c.unwrap-lead.result r.within r.utf8 (sym r.next_is ∙ c.unwrap-lead.ensures) c.if-lead-lt128.true in
+    elim c.match-byte_below.branch [
+      | in-Some w ↦ rw (w.self-is, c.byte_below.ensures.looks.same_text) s.left
+      | in-None+in-Some-second w ↦ rw (w.self-is, c.byte_below.ensures.looks.same_text) s.left
+      | in-None+in-None-second w ↦ rw (w.self-is, c.byte_below.ensures.looks.same_text) s.left
+    ]
+
+pub wide_character_at-c-requires-clause-utf8 : goal.wide_character_at-c-requires-clause-utf8
+wide_character_at-c-requires-clause-utf8 g c = utf8_of _ c.args.self.now.utf8
+
+pub invariant_of-self-2-clause-utf8 : goal.invariant_of-self-2-clause-utf8
+invariant_of-self-2-clause-utf8 g c =
+    let r = c.args.self.now in
+    let s = step (g.S.PathSource.told r.source.now).text r.index c.wide_character_at-c.result.0 c.wide_character_at-c.result.1 r.within r.utf8 c.wide_character_at-c.ensures.decodes in
+    rw (c.byte_at-self.ensures.looks.same_text, c.wide_character_at-c.ensures.looks.same_text) s.utf8
+
+pub invariant_of-self-2-clause-next_is : goal.invariant_of-self-2-clause-next_is
+invariant_of-self-2-clause-next_is g c = c.byte_at-self.ensures.value ∙ rw c.byte_at-self.ensures.looks.same_text refl
+
+pub returns-clause-value : goal.returns-clause-value
+returns-clause-value g c =
+    let r = c.args.self.now in
+    let s = step (g.S.PathSource.told r.source.now).text r.index c.wide_character_at-c.result.0 c.wide_character_at-c.result.1 r.within r.utf8 c.wide_character_at-c.ensures.decodes in
+    rw (c.byte_at-self.ensures.looks.same_text, c.wide_character_at-c.ensures.looks.same_text) s.left

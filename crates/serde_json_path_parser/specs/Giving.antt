@@ -1,0 +1,142 @@
+-- What a function of the parser returned is what reading gives.
+use Rattle.std.specs.Prelude.{◌≡◌, ℕ, true, length, ◌≤◌, ◌+◌, ◌-◌, List, ◌++◌, Option, Some, Result, Ok, Err}
+use Rattle.std.specs.Str.{encode_utf8_all}
+use Rattle.serde_json_path_core.specs.Tree.{query, root, SegmentKind, Segments, Segment, Selector, Call, Arguments, no_arguments, Argument, literal_argument, query_argument, call_argument, logical_argument}
+use Rattle.serde_json_path_core.specs.Flat.{parts_in, segment_kind_view}
+use Rattle.serde_json_path_core.specs.Literals.{literal_view}
+use Rattle.serde_json_path_core.specs.Piece as piece
+use Rattle.serde_json_path_core.specs.Piece.{Piece, a_segment}
+use Rattle.serde_json_path_core.specs.Parts.{IsPart, ArePartsOf, AreSelectorsOf, AreArgumentsOf, signatures_of, tree_of}
+use Rattle.serde_json_path_core.specs.Typing.{result_kind}
+use Rattle.serde_json_path_core.specs.Used.{AreCalled}
+use Rattle.serde_json_path_functions.specs.Functions.{Signature, FunctionSet, Fits}
+use Rattle.serde_json_path_functions.specs.Terms.{kind_view}
+use Rattle.serde_json_path_functions.specs.declared.types.FunctionArgType.{FunctionArgType}
+use Rattle.serde_json_path_core.specs.declared.syntax.node.Part.{Part}
+use Rattle.serde_json_path_core.specs.declared.syntax.parts.Parts.{Parts}
+use Rattle.serde_json_path_core.specs.declared.syntax.builder.SyntaxBuilder.{SyntaxBuilder}
+use Rattle.serde_json_path_core.specs.declared.syntax.checked.Checked.{Checked}
+use Rattle.serde_json_path_parser.specs.declared.error.Refusal.{Refusal}
+use Rattle.serde_json_path_parser.specs.declared.error.Stop.{Stop}
+use Rattle.serde_json_path_parser.specs.declared.error.Stop.TheVariants as stops
+use Rattle.serde_json_path_parser.specs.Errors.{is_told_at_next}
+use Rattle.serde_json_path_parser.specs.declared.error.ParseErrorKind.TheVariants.{NoMemory}
+use Rattle.serde_json_path_parser.specs.declared.error.Place.TheVariants as place
+use Rattle.serde_json_path_parser.specs.declared.error.ParseError.{ParseError}
+use Rattle.serde_json_path_parser.specs.declared.source.PathSource.{Ghosts}
+use Rattle.serde_json_path_parser.specs.declared.parser.reader.Reader.{Reader}
+use Rattle.serde_json_path_parser.specs.Reading.{left, seen, told}
+use Rattle.serde_json_path_parser.specs.Parsed.{Parsed, past_blanks}
+use Rattle.serde_json_path_parser.specs.Parsing.{selector_list, segment_list, of_kind}
+use Rattle.serde_json_path_parser.specs.Operands.{Operand, a_literal, a_query, a_call}
+use Rattle.serde_json_path_parser.specs.declared.parser.segment.SegmentStart as declared
+use Rattle.serde_json_path_parser.specs.declared.parser.segment.SegmentStart.TheVariants as starts
+use Rattle.serde_json_path_parser.specs.declared.parser.operand.Operand as operands
+use Rattle.serde_json_path_parser.specs.declared.parser.operand.Operand.TheVariants as the_operands
+use Rattle.serde_json_path_parser.specs.declared.parser.call.Argument as arguments
+use Rattle.serde_json_path_parser.specs.declared.parser.call.Argument.TheVariants as the_arguments
+
+-- it stops with what reading refuses, unless memory was refused
+abbrev pub Fails : {Y : Type 0} → Stop → Result Y Refusal → Type 0
+Fails stops.Memory read = Unit {0}
+Fails (stops.Refused r) read = read ≡ Err r
+
+-- The result, seen by view, is what reading gives, and the reader stands behind it.
+abbrev pub Gives : {X Y S : Type 0} {g : Ghosts S} → (X → Y) → Result X Stop → Reader S g → Parsed Y → Type 0
+Gives view (Ok x) reader read = read ≡ Ok (view x, left reader)
+Gives view (Err e) reader read = Fails e read
+
+-- The part that was made stands, as such a piece, for what reading gives.
+abbrev pub Makes : {A S : Type 0} {g : Ghosts S} → (A → Piece) → SyntaxBuilder → Result Part Stop → Reader S g → Parsed A → Type 0
+Makes {A} piece builder (Ok part) reader read = (x : A) × IsPart builder part (piece x) × (read ≡ Ok (x, left reader))
+Makes piece builder (Err e) reader read = Fails e read
+
+-- a segment's piece
+abbrev pub segment_piece : SegmentKind × Segment → Piece
+segment_piece s = a_segment s.0 s.1
+
+-- The parts that were made stand for the selectors that reading gives.
+abbrev pub MakesSelectors : {S : Type 0} {g : Ghosts S} → SyntaxBuilder → Result Parts Stop → Reader S g → Parsed (List Selector) → Type 0
+MakesSelectors builder (Ok parts) reader read = (ss : List Selector) × AreSelectorsOf builder (parts_in parts) (selector_list ss) × (read ≡ Ok (ss, left reader))
+MakesSelectors builder (Err e) reader read = Fails e read
+
+-- A segment was made, or a bracket begins, behind which reading goes on.
+abbrev pub StartsSegment : {S : Type 0} {g : Ghosts S} → SyntaxBuilder → Result declared.SegmentStart Stop → Reader S g → (List ℕ → Parsed Segment) → Parsed (SegmentKind × Segment) → Type 0
+StartsSegment builder (Ok (starts.Dotted part)) reader bracket_at read = (s : SegmentKind × Segment) × IsPart builder part (segment_piece s) × (read ≡ Ok (s, left reader))
+StartsSegment builder (Ok (starts.Bracket kind)) reader bracket_at read = read ≡ of_kind (segment_kind_view kind) (bracket_at (left reader))
+StartsSegment builder (Err e) reader bracket_at read = Fails e read
+
+-- The parts that were made stand for the segments that reading gives. So many bytes are left behind the last one, and
+-- the reader stands behind the blanks there.
+abbrev pub MakesSegments : {S : Type 0} {g : Ghosts S} → SyntaxBuilder → Result (Parts × ℕ) Stop → Reader S g → Parsed (List (SegmentKind × Segment)) → Type 0
+MakesSegments builder (Ok parts) reader read =
+    (ss : List (SegmentKind × Segment)) × (rest : List ℕ) × ArePartsOf builder (parts_in parts.0) (segment_list ss)
+    × (parts.1 ≡ length (encode_utf8_all rest)) × (left reader ≡ past_blanks rest) × (read ≡ Ok (ss, rest))
+MakesSegments builder (Err e) reader read = Fails e read
+
+-- The tree is that of the segments that reading gives, and the signatures are those of the names that it calls.
+abbrev pub GivesQuery : FunctionSet → Result Checked Stop → Result Segments Refusal → Type 0
+GivesQuery F (Ok checked) read = (segs : Segments) × (tree_of checked ≡ query root segs) × (read ≡ Ok segs) × AreCalled (signatures_of checked) (query root segs) × Fits F (signatures_of checked)
+GivesQuery F (Err e) read = Fails e read
+
+-- The operand is the one that reading gives.
+abbrev pub IsOperandOf : (List ℕ → Option Signature) → SyntaxBuilder → operands.Operand → Operand → Type 0
+IsOperandOf signature builder (the_operands.Literal l) (a_literal x) = literal_view l ≡ x
+IsOperandOf signature builder (the_operands.Query part) (a_query q) = IsPart builder part (piece.a_query q)
+IsOperandOf signature builder (the_operands.Call part kind) (a_call c) = IsPart builder part (piece.a_call c) × (result_kind signature c ≡ Some (kind_view kind))
+IsOperandOf signature builder _ _ = ⊥
+
+abbrev pub MakesOperand : {S : Type 0} {g : Ghosts S} → (List ℕ → Option Signature) → SyntaxBuilder → Result operands.Operand Stop → Reader S g → Parsed Operand → Type 0
+MakesOperand signature builder (Ok o) reader read = (x : Operand) × IsOperandOf signature builder o x × (read ≡ Ok (x, left reader))
+MakesOperand signature builder (Err e) reader read = Fails e read
+
+-- The call is the one that reading gives, and its result is of that type.
+abbrev pub MakesCall : {S : Type 0} {g : Ghosts S} → (List ℕ → Option Signature) → SyntaxBuilder → Result (Part × FunctionArgType) Stop → Reader S g → Parsed Call → Type 0
+MakesCall signature builder (Ok call) reader read = (c : Call) × IsPart builder call.0 (piece.a_call c) × (result_kind signature c ≡ Some (kind_view call.1)) × (read ≡ Ok (c, left reader))
+MakesCall signature builder (Err e) reader read = Fails e read
+
+-- The argument is the one that reading gives.
+abbrev pub IsArgumentOf : (List ℕ → Option Signature) → SyntaxBuilder → arguments.Argument → Argument → Type 0
+IsArgumentOf signature builder (the_arguments.Literal l) (literal_argument x) = literal_view l ≡ x
+IsArgumentOf signature builder (the_arguments.Query part) (query_argument q) = IsPart builder part (piece.a_query q)
+IsArgumentOf signature builder (the_arguments.Call part kind) (call_argument c) = IsPart builder part (piece.a_call c) × (result_kind signature c ≡ Some (kind_view kind))
+IsArgumentOf signature builder (the_arguments.Logical part) (logical_argument e) = IsPart builder part (piece.an_or e)
+IsArgumentOf signature builder _ _ = ⊥
+
+abbrev pub MakesArgument : {S : Type 0} {g : Ghosts S} → (List ℕ → Option Signature) → SyntaxBuilder → Result arguments.Argument Stop → Reader S g → Parsed Argument → Type 0
+MakesArgument signature builder (Ok a) reader read = (x : Argument) × IsArgumentOf signature builder a x × (read ≡ Ok (x, left reader))
+MakesArgument signature builder (Err e) reader read = Fails e read
+
+-- The parts that were put behind others stand for the arguments that reading gives.
+abbrev pub MakesArguments : {S : Type 0} {g : Ghosts S} → SyntaxBuilder → List Part → List Part → Result Unit Stop → Reader S g → Parsed Arguments → Type 0
+MakesArguments builder before after (Ok u) reader read = (args : Arguments) × (parts : List Part) × (after ≡ before ++ parts) × AreArgumentsOf builder parts args × (read ≡ Ok (args, left reader))
+MakesArguments builder before after (Err e) reader read = Fails e read
+
+-- the end of the arguments is what reading gives
+abbrev pub GivesEnd : {S : Type 0} {g : Ghosts S} → Result Unit Stop → Reader S g → Parsed Arguments → Type 0
+GivesEnd (Ok u) reader read = read ≡ Ok (no_arguments, left reader)
+GivesEnd (Err e) reader read = Fails e read
+
+-- a refusal, and not want of memory
+abbrev pub IsRefused : Stop → Type 0
+IsRefused stops.Memory = ⊥
+IsRefused (stops.Refused r) = Unit {0}
+
+-- Where a refusal is told at the byte that is next, no byte was seen beyond the one behind its place.
+abbrev pub StopsNear : {S : Type 0} {g : Ghosts S} → Stop → Reader S g → Type 0
+StopsNear stops.Memory reader = Unit {0}
+StopsNear (stops.Refused r) reader = is_told_at_next r.kind ≡ true → seen reader + r.left ≤ length (told reader).text + 2
+
+abbrev pub IsNear : {X S : Type 0} {g : Ghosts S} → Result X Stop → Reader S g → Type 0
+IsNear (Ok x) reader = Unit {0}
+IsNear (Err e) reader = StopsNear e reader
+
+-- a refusal stands within a text of so many bytes
+abbrev pub IsWithin : Stop → ℕ → Type 0
+IsWithin stops.Memory total = Unit {0}
+IsWithin (stops.Refused r) total = r.left ≤ total
+
+-- what is told of a stop in a text of so many bytes
+abbrev pub error_of : Stop → ℕ → ParseError
+error_of stops.Memory total = record { kind = NoMemory; place = place.Path; position = 1 }
+error_of (stops.Refused r) total = record { kind = r.kind; place = r.place; position = total - r.left + 1 }

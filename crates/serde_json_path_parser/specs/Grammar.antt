@@ -1,0 +1,151 @@
+-- The grammar: which text has which tree (RFC 9535, sections 2.1 to 2.5). A text is a list of characters, and the
+-- joining of the texts of its parts, of signs and of blanks.
+use Rattle.std.specs.Prelude.{◌≡◌, ℕ, ℤ, List, [], ◌++◌, ◌⊎◌, true, false, Option, Some, None, codes}
+use Rattle.serde_json_path_core.specs.Tree.{Query, query, Segments, no_segments, segment, SegmentKind, Segment, dot_name, dot_wildcard, long_hand, Selectors, no_selectors, selector, Selector, name, wildcard, index, slice, filter, Slice, LogicalOr, no_or, or, LogicalAnd, no_and, and, Basic, paren, not_paren, relation, exist, not_exist, test, not_test, Comparable, literal, singular, called, Call, call, Arguments, no_arguments, argument, Argument, literal_argument, query_argument, call_argument, logical_argument, Literal, text, number, truth, null, IsSingular}
+use Rattle.serde_json_path_core.specs.Text.{query_kind_text, operator_text, dots_of, bracket_dots_of}
+use Rattle.serde_json_path_parser.specs.Lexical.{IsBlank, IsName, IsFunctionName, IsInt, IsNumber, IsString}
+
+-- ---- slices (section 2.3.4.1)
+
+-- an integer and blanks, or nothing
+abbrev pub IsBound : Option ℤ → List ℕ → Type 0
+IsBound None t = t ≡ []
+IsBound (Some i) t = (a k : List ℕ) × IsInt a i × IsBlank k × (t ≡ a ++ k)
+
+-- a second colon with or without a step, or nothing
+abbrev pub IsSliceStep : Option ℤ → List ℕ → Type 0
+IsSliceStep None t = (t ≡ []) ⊎ (t ≡ codes ":")
+IsSliceStep (Some i) t = (k a : List ℕ) × IsBlank k × IsInt a i × (t ≡ codes ":" ++ (k ++ a))
+
+abbrev pub IsSlice : Slice → List ℕ → Type 0
+IsSlice s t =
+    (a k b c : List ℕ) × IsBound s.start a × IsBlank k × IsBound s.end b × IsSliceStep s.step c
+    × (t ≡ a ++ (codes ":" ++ (k ++ (b ++ c))))
+
+-- ---- literals and tests
+
+-- `true`, `false`, `null`, a string or a number (section 2.3.5.1)
+abbrev pub IsLiteral : Literal → List ℕ → Type 0
+IsLiteral (text bytes) t = IsString t bytes
+IsLiteral (number amount) t = IsNumber t amount
+IsLiteral (truth true) t = t ≡ codes "true"
+IsLiteral (truth false) t = t ≡ codes "false"
+IsLiteral null t = t ≡ codes "null"
+
+-- in parentheses
+abbrev pub InParentheses : (List ℕ → Type 0) → List ℕ → Type 0
+InParentheses ReadsInside t =
+    (j a k : List ℕ) × IsBlank j × ReadsInside a × IsBlank k × (t ≡ codes "(" ++ (j ++ (a ++ (k ++ codes ")"))))
+
+-- behind `!` and blanks
+abbrev pub Negated : (List ℕ → Type 0) → List ℕ → Type 0
+Negated ReadsInside t = (k a : List ℕ) × IsBlank k × ReadsInside a × (t ≡ codes "!" ++ (k ++ a))
+
+-- blanks, a sign and blanks
+abbrev pub IsSign : List ℕ → List ℕ → Type 0
+IsSign sign t = (j k : List ℕ) × IsBlank j × IsBlank k × (t ≡ j ++ (sign ++ k))
+
+-- A query or a call alone: as an argument it is read as that and not as a logical expression. The RFC's grammar allows
+-- both; this is the project's own choice.
+abbrev pub StandsAlone : LogicalOr → Type 0
+StandsAlone (or (and (exist q) no_and) no_or) = Unit {0}
+StandsAlone (or (and (test c) no_and) no_or) = Unit {0}
+StandsAlone _ = ⊥
+
+-- ---- the grammar
+
+abbrev mutual
+  -- `$` or `@`, and segments
+  pub Reads : Query → List ℕ → Type 0
+  Reads (query kind segs) t = (a : List ℕ) × ReadSegments segs a × (t ≡ query_kind_text kind ++ a)
+
+  -- blanks may stand before each segment
+  pub ReadSegments : Segments → List ℕ → Type 0
+  ReadSegments no_segments t = t ≡ []
+  ReadSegments (segment kind seg more) t =
+      (k a b : List ℕ) × IsBlank k × ReadsSegment seg kind a × ReadSegments more b × (t ≡ k ++ (a ++ b))
+
+  -- `.name`, `.*` and `[..]`, or with `..` before them (section 2.5)
+  pub ReadsSegment : Segment → SegmentKind → List ℕ → Type 0
+  ReadsSegment (dot_name bytes) kind t = (a : List ℕ) × IsName a bytes × (t ≡ dots_of kind ++ a)
+  ReadsSegment dot_wildcard kind t = t ≡ dots_of kind ++ codes "*"
+  ReadsSegment (long_hand sels) kind t =
+      (j a k : List ℕ) × IsBlank j × ReadSelectors sels a × IsBlank k
+      × (t ≡ bracket_dots_of kind ++ (codes "[" ++ (j ++ (a ++ (k ++ codes "]")))))
+
+  -- one or more, with commas and blanks round them
+  pub ReadSelectors : Selectors → List ℕ → Type 0
+  ReadSelectors no_selectors t = ⊥
+  ReadSelectors (selector sel more) t = (a b : List ℕ) × ReadsSelector sel a × ReadMoreSelectors more b × (t ≡ a ++ b)
+
+  pub ReadMoreSelectors : Selectors → List ℕ → Type 0
+  ReadMoreSelectors no_selectors t = t ≡ []
+  ReadMoreSelectors (selector sel more) t =
+      (s a b : List ℕ) × IsSign (codes ",") s × ReadsSelector sel a × ReadMoreSelectors more b × (t ≡ s ++ (a ++ b))
+
+  -- a name, `*`, an index, a slice or a filter (section 2.3)
+  pub ReadsSelector : Selector → List ℕ → Type 0
+  ReadsSelector (name bytes) t = IsString t bytes
+  ReadsSelector wildcard t = t ≡ codes "*"
+  ReadsSelector (index i) t = IsInt t i
+  ReadsSelector (slice s) t = IsSlice s t
+  ReadsSelector (filter e) t = (k a : List ℕ) × IsBlank k × ReadsOr e a × (t ≡ codes "?" ++ (k ++ a))
+
+  -- one or more parts, with `||` and blanks between them (section 2.3.5.1)
+  pub ReadsOr : LogicalOr → List ℕ → Type 0
+  ReadsOr no_or t = ⊥
+  ReadsOr (or part more) t = (a b : List ℕ) × ReadsAnd part a × ReadMoreOrs more b × (t ≡ a ++ b)
+
+  pub ReadMoreOrs : LogicalOr → List ℕ → Type 0
+  ReadMoreOrs no_or t = t ≡ []
+  ReadMoreOrs (or part more) t =
+      (s a b : List ℕ) × IsSign (codes "||") s × ReadsAnd part a × ReadMoreOrs more b × (t ≡ s ++ (a ++ b))
+
+  -- one or more parts, with `&&` and blanks between them
+  pub ReadsAnd : LogicalAnd → List ℕ → Type 0
+  ReadsAnd no_and t = ⊥
+  ReadsAnd (and part more) t = (a b : List ℕ) × ReadsBasic part a × ReadMoreAnds more b × (t ≡ a ++ b)
+
+  pub ReadMoreAnds : LogicalAnd → List ℕ → Type 0
+  ReadMoreAnds no_and t = t ≡ []
+  ReadMoreAnds (and part more) t =
+      (s a b : List ℕ) × IsSign (codes "&&") s × ReadsBasic part a × ReadMoreAnds more b × (t ≡ s ++ (a ++ b))
+
+  pub ReadsBasic : Basic → List ℕ → Type 0
+  ReadsBasic (paren e) t = InParentheses (ReadsOr e) t
+  ReadsBasic (not_paren e) t = Negated (InParentheses (ReadsOr e)) t
+  ReadsBasic (relation left op right) t =
+      (a s b : List ℕ) × ReadsComparable left a × IsSign (operator_text op) s × ReadsComparable right b × (t ≡ a ++ (s ++ b))
+  ReadsBasic (exist q) t = Reads q t
+  ReadsBasic (not_exist q) t = Negated (Reads q) t
+  ReadsBasic (test c) t = ReadsCall c t
+  ReadsBasic (not_test c) t = Negated (ReadsCall c) t
+
+  -- a query in a comparison is singular; blanks inside its brackets are the project's own choice
+  pub ReadsComparable : Comparable → List ℕ → Type 0
+  ReadsComparable (literal l) t = IsLiteral l t
+  ReadsComparable (singular q) t = IsSingular q × Reads q t
+  ReadsComparable (called c) t = ReadsCall c t
+
+  -- a name with `(` at once behind it (section 2.4)
+  pub ReadsCall : Call → List ℕ → Type 0
+  ReadsCall (call f args) t =
+      (n j a k : List ℕ) × IsFunctionName n f × IsBlank j × ReadArguments args a × IsBlank k
+      × (t ≡ n ++ (codes "(" ++ (j ++ (a ++ (k ++ codes ")")))))
+
+  -- none, or some with commas and blanks between them
+  pub ReadArguments : Arguments → List ℕ → Type 0
+  ReadArguments no_arguments t = t ≡ []
+  ReadArguments (argument arg more) t = (a b : List ℕ) × ReadsArgument arg a × ReadMoreArguments more b × (t ≡ a ++ b)
+
+  pub ReadMoreArguments : Arguments → List ℕ → Type 0
+  ReadMoreArguments no_arguments t = t ≡ []
+  ReadMoreArguments (argument arg more) t =
+      (s a b : List ℕ) × IsSign (codes ",") s × ReadsArgument arg a × ReadMoreArguments more b × (t ≡ s ++ (a ++ b))
+
+  -- a literal, a query or a call that stands alone is that, and all else is a logical expression
+  pub ReadsArgument : Argument → List ℕ → Type 0
+  ReadsArgument (literal_argument l) t = IsLiteral l t
+  ReadsArgument (query_argument q) t = Reads q t
+  ReadsArgument (call_argument c) t = ReadsCall c t
+  ReadsArgument (logical_argument e) t = (StandsAlone e → ⊥) × ReadsOr e t

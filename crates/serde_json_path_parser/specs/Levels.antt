@@ -1,0 +1,21 @@
+-- What is read at a level.
+use Rattle.std.specs.Prelude.{ℕ, List, Option}
+use Rattle.serde_json_path_core.specs.Tree.{Selector}
+use Rattle.serde_json_path_functions.specs.Functions.{Signature, FunctionSet}
+use Rattle.serde_json_path_parser.specs.declared.parser.level.Level.{Level}
+use Rattle.serde_json_path_parser.specs.Parsed.{Parsed}
+use Rattle.serde_json_path_parser.specs.Filters as filters
+use Rattle.serde_json_path_parser.specs.Filters.{Deeper}
+
+module _ {F : Type 0} (set : F → FunctionSet) where
+  -- the signatures of the functions that are called
+  abbrev pub signatures : Level F → List ℕ → Option Signature
+  signatures l = (set l.functions.now).signature
+
+  -- how what stands one filter, parenthesis or call deeper is read
+  abbrev pub deeper : Level F → Deeper
+  deeper l = filters.level (signatures l) l.depth
+
+  -- how a filter is read
+  abbrev pub filter_at : Level F → List ℕ → Parsed Selector
+  filter_at l = filters.filter_at (signatures l) (deeper l)

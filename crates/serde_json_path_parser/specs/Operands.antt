@@ -1,0 +1,73 @@
+-- What a filter compares or tests: a literal, a query or a call, which is read before its use is known; and what decides
+-- how it may be used.
+use Rattle.std.specs.Prelude.{◌≡◌, ℕ, ◌+◌, ◌%◌, ◌==◌, ◌&&◌, ◌||◌, Bool, true, false, ℤ, pos, negsuc, List, ◌∷◌, ◌++◌, Option, Some, None}
+use Rattle.serde_json_path_core.specs.Tree.{Query, query, Segments, no_segments, segment, child, descendant, Segment, dot_name, long_hand, selector, no_selectors, name, index, Call, Argument, literal_argument, query_argument, call_argument, logical_argument, Literal, number}
+use Rattle.serde_json_path_core.specs.Typing.{result_kind}
+use Rattle.serde_json_path_functions.specs.Functions.{Kind, of_value, of_nodes, of_logical, Signature}
+use Rattle.serde_json_path_parser.specs.Lexical.{IsFunctionName}
+
+pub data Operand : Type 0 where
+  a_literal : Literal → Operand
+  a_query : Query → Operand
+  a_call : Call → Operand
+
+-- ---- singular queries (RFC 9535, section 2.3.5.1)
+
+abbrev pub is_singular_segment : Segment → Bool
+is_singular_segment (dot_name k) = true
+is_singular_segment (long_hand (selector (name k) no_selectors)) = true
+is_singular_segment (long_hand (selector (index i) no_selectors)) = true
+is_singular_segment _ = false
+
+abbrev pub are_singular : Segments → Bool
+are_singular no_segments = true
+are_singular (segment child seg more) = is_singular_segment seg && are_singular more
+are_singular (segment descendant seg more) = false
+
+abbrev pub is_singular : Query → Bool
+is_singular (query kind segs) = are_singular segs
+
+-- ---- names of functions (section 2.4)
+
+-- a name with `(` at once behind it stands there, and no function of that name is declared
+abbrev pub IsUndeclared : (List ℕ → Option Signature) → List ℕ → Type 0
+IsUndeclared signature rest = (f more : List ℕ) × IsFunctionName f f × (rest ≡ f ++ (40 ∷ more)) × (signature f ≡ None)
+
+-- ---- results (section 2.4.3)
+
+abbrev pub is_result : Kind → Option Kind → Bool
+is_result of_value (Some of_value) = true
+is_result of_nodes (Some of_nodes) = true
+is_result of_logical (Some of_logical) = true
+is_result _ _ = false
+
+-- a result that may stand as a test
+abbrev pub is_test : Option Kind → Bool
+is_test kind = is_result of_nodes kind || is_result of_logical kind
+
+-- a parameter takes a call's result
+abbrev pub takes_result : Kind → Option Kind → Bool
+takes_result of_value kind = is_result of_value kind
+takes_result of_nodes kind = is_result of_nodes kind
+takes_result of_logical kind = is_test kind
+
+-- ---- arguments (section 2.4.3)
+
+-- whole billions of billionths
+abbrev pub is_whole : ℤ → Bool
+is_whole (pos n) = n % 1000000000 == 0
+is_whole (negsuc n) = (n + 1) % 1000000000 == 0
+
+abbrev pub is_value_literal : Literal → Bool
+is_value_literal (number amount) = is_whole amount
+is_value_literal _ = true
+
+-- the argument, whose parts are well-typed, is one for a parameter of that type
+abbrev pub fits : (List ℕ → Option Signature) → Argument → Kind → Bool
+fits signature (literal_argument l) of_value = is_value_literal l
+fits signature (literal_argument l) _ = false
+fits signature (query_argument q) of_value = is_singular q
+fits signature (query_argument q) _ = true
+fits signature (call_argument c) kind = takes_result kind (result_kind signature c)
+fits signature (logical_argument e) of_logical = true
+fits signature (logical_argument e) _ = false

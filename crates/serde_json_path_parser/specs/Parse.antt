@@ -1,0 +1,49 @@
+-- What a parse answers, whatever way it is asked.
+use Rattle.std.specs.Prelude.{◌≡◌, ◌≢◌, ◌==◌, ℕ, ◌-◌, ◌^◌, ◌<◌, ◌≤◌, ◌⊎◌, ◌↔◌, Bool, false, List, ◌∷◌, ◌++◌, length, take, drop, Option, Result, IfOk, IfErr, IsErrAnd}
+use Rattle.std.specs.Str.{chars, IsCharBoundary}
+use Rattle.serde_json_path_core.specs.declared.syntax.checked.Checked.{Checked}
+use Rattle.serde_json_path_core.specs.Parts.{tree_of, signatures_of}
+use Rattle.serde_json_path_core.specs.Tree.{Query}
+use Rattle.serde_json_path_core.specs.Used.{AreCalled}
+use Rattle.serde_json_path_functions.specs.Functions.{Signature}
+use Rattle.serde_json_path_parser.specs.declared.error.ParseErrorKind.TheVariants.{ExpectedRoot, UndefinedFunction, TextAfterPath, NoMemory}
+use Rattle.serde_json_path_parser.specs.declared.error.ParseError.{ParseError}
+use Rattle.serde_json_path_parser.specs.Lexical.{begins, is_blank, IsBlank}
+use Rattle.serde_json_path_parser.specs.Accepted.{IsAccepted}
+use Rattle.serde_json_path_parser.specs.Errors.{kind_of, position_of}
+use Rattle.serde_json_path_parser.specs.Operands.{IsUndeclared}
+use Rattle.serde_json_path_parser.specs.Parsing.{opens}
+
+abbrev pub is_dollar : ℕ → Bool
+is_dollar c = c == 36
+
+-- there is no `$` at the start, or behind it and blanks neither `.` nor `[`
+abbrev pub NeedsNoMemory : List ℕ → Type 0
+NeedsNoMemory text =
+    (begins is_dollar text ≡ false)
+    ⊎ ((blanks rest : List ℕ) × (text ≡ 36 ∷ (blanks ++ rest)) × IsBlank blanks × (begins is_blank rest ≡ false) × (begins opens rest ≡ false))
+
+-- The text is given by the bytes of its UTF-8.
+pub record IsParseOf (signature : List ℕ → Option Signature) (text : List ℕ) (result : Result Checked ParseError) : Type 0 where
+  -- what is accepted is in the typed grammar, with this tree
+  pub accepted : IfOk result (λ checked. IsAccepted signature (chars text) (tree_of checked))
+  -- it keeps the names that it calls, each once, and no other
+  pub kept : IfOk result (λ checked. AreCalled (signatures_of checked) (tree_of checked))
+  -- and is accepted with no other tree
+  pub only : IfOk result (λ checked. (q : Query) → IsAccepted signature (chars text) q → q ≡ tree_of checked)
+  -- a refusal, unless memory was refused, means that the text is accepted with no tree
+  pub refused : IfErr result (λ e. kind_of e ≢ NoMemory → (q : Query) → IsAccepted signature (chars text) q → ⊥)
+  -- a missing root is told exactly where the text does not begin with `$`
+  pub missing_root : IsErrAnd result (λ e. kind_of e ≡ ExpectedRoot) ↔ ((length text < 2 ^ 64 - 1) × (begins is_dollar (chars text) ≡ false))
+  -- text behind the path is told only where the bytes before the position are an accepted text
+  pub text_after : IfErr result (λ e. kind_of e ≡ TextAfterPath → (q : Query) × IsAccepted signature (chars (take (position_of e - 1) text)) q)
+  -- an undefined function is told only where a name that is not declared stands, with `(` at once behind it
+  pub undefined : IfErr result (λ e. kind_of e ≡ UndefinedFunction → IsUndeclared signature (chars (drop (position_of e - 1) text)))
+  -- a refusal stands at the start of a character, or at the end of the text
+  pub position : IfErr result (λ e. (1 ≤ position_of e) × IsCharBoundary text (position_of e - 1))
+  -- want of memory stands at 1
+  pub memory_position : IfErr result (λ e. kind_of e ≡ NoMemory → position_of e ≡ 1)
+  -- and is not told where nothing is to be kept
+  pub spares_memory : length text < 2 ^ 64 - 1 → NeedsNoMemory (chars text) → IfErr result (λ e. kind_of e ≢ NoMemory)
+  -- but of a text whose end has no number
+  pub too_long : length text ≡ 2 ^ 64 - 1 → IsErrAnd result (λ e. kind_of e ≡ NoMemory)

@@ -1,0 +1,42 @@
+-- What reading from left to right gives, on lists of characters: what was read and the characters behind it, or the first
+-- refusal that is met.
+use Rattle.std.specs.Prelude.{ℕ, zero, suc, Bool, List, [], ◌∷◌, length, Result, Ok, Err, if◌then◌else◌}
+use Rattle.std.specs.Str.{encode_utf8_all}
+use Rattle.serde_json_path_parser.specs.declared.error.ParseErrorKind.{ParseErrorKind}
+use Rattle.serde_json_path_parser.specs.declared.error.Place as declared
+use Rattle.serde_json_path_parser.specs.declared.error.Refusal.{Refusal}
+use Rattle.serde_json_path_parser.specs.Lexical.{is_blank}
+
+abbrev pub Parsed : Type 0 → Type 0
+Parsed A = Result (A × List ℕ) Refusal
+
+infixl 10 ◌>>=◌
+abbrev pub ◌>>=◌ : {A B : Type 0} → Result A Refusal → (A → Result B Refusal) → Result B Refusal
+(Ok x) >>= f = f x
+(Err e) >>= f = Err e
+
+-- a refusal at the first of these characters
+abbrev pub refusal : ParseErrorKind → declared.Place → List ℕ → Refusal
+refusal kind here cs = record { kind = kind; place = here; left = length (encode_utf8_all cs) }
+
+-- the longest front whose characters pass the test, and what is behind it
+abbrev pub front : (ℕ → Bool) → List ℕ → List ℕ
+front p [] = []
+front p (c ∷ cs) = if p c then c ∷ front p cs else []
+
+abbrev pub behind : (ℕ → Bool) → List ℕ → List ℕ
+behind p [] = []
+behind p (c ∷ cs) = if p c then behind p cs else c ∷ cs
+
+-- what is behind the blanks
+abbrev pub past_blanks : List ℕ → List ℕ
+past_blanks cs = behind is_blank cs
+
+-- as many items as there are while more says that one begins, and at most fuel of them
+unfoldable pub many_at : {A : Type 0} → (List ℕ → Bool) → (List ℕ → Parsed A) → ℕ → List ℕ → Parsed (List A)
+many_at more item zero cs = Ok ([], cs)
+many_at more item (suc fuel) cs =
+    if more cs then (item cs >>= λ x. many_at more item fuel x.1 >>= λ xs. Ok (x.0 ∷ xs.0, xs.1)) else Ok ([], cs)
+
+unfoldable pub many : {A : Type 0} → (List ℕ → Bool) → (List ℕ → Parsed A) → List ℕ → Parsed (List A)
+many more item cs = many_at more item (length cs) cs

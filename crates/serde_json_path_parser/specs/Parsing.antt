@@ -1,0 +1,146 @@
+-- Reading a path from left to right by one character of look-ahead: what the parser computes, on lists of characters.
+use Rattle.std.specs.Prelude.{ℕ, zero, suc, ℤ, pos, negsuc, ◌==◌, ◌||◌, ◌&&◌, Bool, List, [], ◌∷◌, drop, Option, Some, None, Ok, Err, nat_le, if◌then◌else◌}
+use Rattle.std.specs.Str.{encode_utf8_all}
+use Rattle.serde_json_path_core.specs.Tree.{largest, SegmentKind, child, descendant, Segments, no_segments, segment, Segment, dot_name, dot_wildcard, long_hand, Selectors, selector, no_selectors, Selector, name, wildcard, index, slice, Slice}
+use Rattle.serde_json_path_parser.specs.declared.error.ParseErrorKind.TheVariants.{BadMemberName, ExpectedClosingBracket, ExpectedSelector, IntegerOutOfRange}
+use Rattle.serde_json_path_parser.specs.declared.error.Place as declared
+use Rattle.serde_json_path_parser.specs.declared.error.Place.TheVariants as place
+use Rattle.serde_json_path_parser.specs.Lexical.{begins, is_digit, is_name_first, is_name_char, value_from}
+use Rattle.serde_json_path_parser.specs.Parsed.{Parsed, ◌>>=◌, refusal, front, behind, past_blanks, many}
+use Rattle.serde_json_path_parser.specs.Strings.{string_at}
+
+-- ---- names and integers
+
+unfoldable pub name_at : declared.Place → List ℕ → Parsed (List ℕ)
+name_at here cs =
+    if begins is_name_first cs then Ok (encode_utf8_all (front is_name_char cs), behind is_name_char cs)
+    else Err (refusal BadMemberName here cs)
+
+-- a digit that may stand first, behind `-` too
+abbrev pub is_first_digit : ℕ → Bool
+is_first_digit c = nat_le 49 c && nat_le c 57
+
+-- the digits of an integer that begins at start; they are read whole before their range is judged
+unfoldable pub digits_at : List ℕ → List ℕ → Parsed ℕ
+digits_at start cs =
+    if nat_le (value_from 0 (front is_digit cs)) largest then Ok (value_from 0 (front is_digit cs), behind is_digit cs)
+    else Err (refusal IntegerOutOfRange place.LongHand start)
+
+-- -n
+abbrev pub negative : ℕ → ℤ
+negative zero = pos 0
+negative (suc n) = negsuc n
+
+unfoldable pub int_at : List ℕ → Parsed ℤ
+int_at cs =
+    if begins (λ c. c == 45) cs then
+    (if begins is_first_digit (drop 1 cs) then (digits_at cs (drop 1 cs) >>= λ n. Ok (negative n.0, n.1)) else Err (refusal ExpectedSelector place.LongHand cs))
+    else if begins (λ c. c == 48) cs then Ok (pos 0, drop 1 cs)
+    else if begins is_first_digit cs then (digits_at cs cs >>= λ n. Ok (pos n.0, n.1))
+    else Err (refusal ExpectedSelector place.LongHand cs)
+
+-- ---- slices and selectors, each with the blanks behind it
+
+abbrev pub begins_int : ℕ → Bool
+begins_int c = c == 45 || is_digit c
+
+-- a part of a slice, or nothing
+unfoldable pub bound_at : List ℕ → Parsed (Option ℤ)
+bound_at cs = if begins begins_int cs then (int_at cs >>= λ i. Ok (Some i.0, past_blanks i.1)) else Ok (None, cs)
+
+-- a second colon and a step, or nothing
+unfoldable pub step_at : List ℕ → Parsed (Option ℤ)
+step_at cs = if begins (λ c. c == 58) cs then bound_at (past_blanks (drop 1 cs)) else Ok (None, cs)
+
+-- behind a slice's start and its first colon
+unfoldable pub slice_at : Option ℤ → List ℕ → Parsed Slice
+slice_at start cs =
+    bound_at (past_blanks cs) >>= λ end. step_at end.1 >>= λ step. Ok (record { start = start; end = end.0; step = step.0 }, step.1)
+
+-- an index, or a slice that begins with an integer
+unfoldable pub position_at : List ℕ → Parsed Selector
+position_at cs = int_at cs >>= λ i.
+    if begins (λ c. c == 58) (past_blanks i.1) then (slice_at (Some i.0) (drop 1 (past_blanks i.1)) >>= λ s. Ok (slice s.0, s.1))
+    else Ok (index i.0, past_blanks i.1)
+
+-- behind the opening quote
+unfoldable pub quoted_at : ℕ → List ℕ → Parsed Selector
+quoted_at quote cs = string_at quote cs >>= λ text. Ok (name text.0, past_blanks text.1)
+
+abbrev pub opens : ℕ → Bool
+opens c = c == 46 || c == 91
+
+-- a segment begins behind blanks
+abbrev pub opens_next : List ℕ → Bool
+opens_next cs = begins opens (past_blanks cs)
+
+abbrev pub selector_list : List Selector → Selectors
+selector_list [] = no_selectors
+selector_list (s ∷ ss) = selector s (selector_list ss)
+
+abbrev pub segment_list : List (SegmentKind × Segment) → Segments
+segment_list [] = no_segments
+segment_list (s ∷ ss) = segment s.0 s.1 (segment_list ss)
+
+-- where a refusal of a member name behind one dot stands
+abbrev pub behind_dot : declared.Place → declared.Place
+behind_dot place.Path = place.DotMemberName
+behind_dot here = here
+
+-- a segment and its kind
+abbrev pub of_kind : SegmentKind → Parsed Segment → Parsed (SegmentKind × Segment)
+of_kind kind read = read >>= λ s. Ok ((kind, s.0), s.1)
+
+-- behind `.` or `..`
+unfoldable pub dotted_at : declared.Place → List ℕ → Parsed Segment
+dotted_at here cs =
+    if begins (λ c. c == 42) cs then Ok (dot_wildcard, drop 1 cs) else (name_at here cs >>= λ n. Ok (dot_name n.0, n.1))
+
+-- how a filter is read, at its `?`
+module _ (filter_at : List ℕ → Parsed Selector) where
+  unfoldable pub selector_at : List ℕ → Parsed Selector
+  selector_at cs =
+      if begins (λ c. c == 39) cs then quoted_at 39 (drop 1 cs)
+      else if begins (λ c. c == 34) cs then quoted_at 34 (drop 1 cs)
+      else if begins (λ c. c == 42) cs then Ok (wildcard, past_blanks (drop 1 cs))
+      else if begins (λ c. c == 58) cs then (slice_at None (drop 1 cs) >>= λ s. Ok (slice s.0, s.1))
+      else if begins (λ c. c == 63) cs then filter_at cs
+      else position_at cs
+
+  -- at a comma
+  unfoldable pub next_selector_at : List ℕ → Parsed Selector
+  next_selector_at cs = selector_at (past_blanks (drop 1 cs))
+
+  unfoldable pub selectors_at : List ℕ → Parsed (List Selector)
+  selectors_at cs =
+      selector_at (past_blanks cs) >>= λ s. many (begins (λ c. c == 44)) next_selector_at s.1 >>= λ ss. Ok (s.0 ∷ ss.0, ss.1)
+
+  -- behind `[`
+  unfoldable pub bracket_at : List ℕ → Parsed Segment
+  bracket_at cs = selectors_at cs >>= λ ss.
+      if begins (λ c. c == 93) ss.1 then Ok (long_hand (selector_list ss.0), drop 1 ss.1) else Err (refusal ExpectedClosingBracket place.LongHand ss.1)
+
+-- segments that stand here
+module _ (filter_at : List ℕ → Parsed Selector) (here : declared.Place) where
+  -- behind `..`
+  unfoldable pub descendant_at : List ℕ → Parsed Segment
+  descendant_at cs = if begins (λ c. c == 91) cs then bracket_at filter_at (drop 1 cs) else dotted_at here cs
+
+  -- behind `.`
+  unfoldable pub dot_at : List ℕ → Parsed (SegmentKind × Segment)
+  dot_at cs = if begins (λ c. c == 46) cs then of_kind descendant (descendant_at (drop 1 cs)) else of_kind child (dotted_at (behind_dot here) cs)
+
+  -- at `.` or `[`
+  unfoldable pub segment_at : List ℕ → Parsed (SegmentKind × Segment)
+  segment_at cs = if begins (λ c. c == 46) cs then dot_at (drop 1 cs) else of_kind child (bracket_at filter_at (drop 1 cs))
+
+  -- blanks and a segment
+  unfoldable pub next_segment_at : List ℕ → Parsed (SegmentKind × Segment)
+  next_segment_at cs = segment_at (past_blanks cs)
+
+  abbrev pub segments_at : List ℕ → Parsed (List (SegmentKind × Segment))
+  segments_at cs = many opens_next next_segment_at cs
+
+-- a segment begins behind `$` and blanks
+abbrev pub opens_behind_root : List ℕ → Bool
+opens_behind_root cs = begins (λ c. c == 36) cs && opens_next (drop 1 cs)

@@ -1,0 +1,87 @@
+-- String literals, as they are read from left to right (RFC 9535, section 2.3.1.1), on lists of characters. A bad escape
+-- is told at its backslash: `escape` is the text from there on.
+use Rattle.std.specs.Prelude.{ℕ, ◌+◌, ◌-◌, ◌*◌, ◌==◌, ◌||◌, ◌&&◌, nat_le, not, Bool, List, [], ◌∷◌, drop, Ok, Err, if◌then◌else◌}
+use Rattle.std.specs.Str.{encode_utf8_all}
+use Rattle.serde_json_path_parser.specs.declared.error.ParseErrorKind.TheVariants.{ExpectedEndingQuote, BadEscape, ControlCharacter}
+use Rattle.serde_json_path_parser.specs.declared.error.Place.TheVariants as place
+use Rattle.serde_json_path_parser.specs.Lexical.{begins, is_digit, pair_of}
+use Rattle.serde_json_path_parser.specs.Parsed.{Parsed, ◌>>=◌, refusal, many}
+
+-- ---- hexadecimal digits
+
+abbrev pub is_hexadecimal : ℕ → Bool
+is_hexadecimal c = is_digit c || (nat_le 65 c && nat_le c 70) || (nat_le 97 c && nat_le c 102)
+
+abbrev pub hexadecimal_value : ℕ → ℕ
+hexadecimal_value c = if nat_le c 57 then c - 48 else (if nat_le c 70 then c - 55 else c - 87)
+
+abbrev pub head : List ℕ → ℕ
+head [] = 0
+head (c ∷ cs) = c
+
+unfoldable pub hexadecimal_at : List ℕ → List ℕ → Parsed ℕ
+hexadecimal_at escape cs =
+    if begins is_hexadecimal cs then Ok (hexadecimal_value (head cs), drop 1 cs) else Err (refusal BadEscape place.LongHand escape)
+
+unfoldable pub hex4_at : List ℕ → List ℕ → Parsed ℕ
+hex4_at escape cs = do
+  a ← hexadecimal_at escape cs
+  b ← hexadecimal_at escape a.1
+  c ← hexadecimal_at escape b.1
+  d ← hexadecimal_at escape c.1
+  Ok ((((4096 * a.0) + (256 * b.0)) + (16 * c.0)) + d.0, d.1)
+
+-- ---- surrogates
+
+abbrev pub is_high : ℕ → Bool
+is_high n = nat_le 0xd800 n && nat_le n 0xdbff
+
+abbrev pub is_low : ℕ → Bool
+is_low n = nat_le 0xdc00 n && nat_le n 0xdfff
+
+-- behind a high surrogate: `\u` and a low one
+unfoldable pub low_at : List ℕ → ℕ → List ℕ → Parsed ℕ
+low_at escape high cs =
+    if begins (λ c. c == 92) cs then
+    (if begins (λ c. c == 117) (drop 1 cs) then
+    (hex4_at escape (drop 1 (drop 1 cs)) >>= λ l. if is_low l.0 then Ok (pair_of high l.0, l.1) else Err (refusal BadEscape place.LongHand escape))
+    else Err (refusal BadEscape place.LongHand escape))
+    else Err (refusal BadEscape place.LongHand escape)
+
+-- behind `\u`
+unfoldable pub unicode_at : List ℕ → List ℕ → Parsed ℕ
+unicode_at escape cs = hex4_at escape cs >>= λ h.
+    if is_high h.0 then low_at escape h.0 h.1 else (if is_low h.0 then Err (refusal BadEscape place.LongHand escape) else Ok (h.0, h.1))
+
+-- ---- pieces
+
+-- what stands behind a backslash for one character, but for `u`
+abbrev pub is_letter_escape : ℕ → ℕ → Bool
+is_letter_escape quote c = c == 98 || c == 102 || c == 110 || c == 114 || c == 116 || c == 47 || c == 92 || c == quote
+
+abbrev pub letter_value : ℕ → ℕ
+letter_value c = if c == 98 then 8 else (if c == 102 then 12 else (if c == 110 then 10 else (if c == 114 then 13 else (if c == 116 then 9 else c))))
+
+-- at a backslash
+unfoldable pub escape_at : ℕ → List ℕ → Parsed ℕ
+escape_at quote cs =
+    if begins (λ c. c == 117) (drop 1 cs) then unicode_at cs (drop 1 (drop 1 cs))
+    else (if begins (is_letter_escape quote) (drop 1 cs) then Ok (letter_value (head (drop 1 cs)), drop 1 (drop 1 cs)) else Err (refusal BadEscape place.LongHand cs))
+
+abbrev pub is_control : ℕ → Bool
+is_control c = nat_le c 31
+
+unfoldable pub piece_at : ℕ → List ℕ → Parsed ℕ
+piece_at quote cs =
+    if begins (λ c. c == 92) cs then escape_at quote cs
+    else (if begins is_control cs then Err (refusal ControlCharacter place.LongHand cs) else Ok (head cs, drop 1 cs))
+
+-- ---- the string
+
+abbrev pub is_inside : ℕ → ℕ → Bool
+is_inside quote c = not (c == quote)
+
+-- behind the opening quote
+unfoldable pub string_at : ℕ → List ℕ → Parsed (List ℕ)
+string_at quote cs = many (begins (is_inside quote)) (piece_at quote) cs >>= λ s.
+    if begins (λ c. c == quote) s.1 then Ok (encode_utf8_all s.0, drop 1 s.1) else Err (refusal ExpectedEndingQuote place.LongHand s.1)

@@ -1,0 +1,71 @@
+//! Reading a path, from left to right and each byte once.
+
+mod call;
+mod decode;
+mod level;
+mod logical;
+mod name_part;
+mod operand;
+pub(crate) mod primitive;
+mod query;
+pub(crate) mod reader;
+mod segment;
+mod selector;
+mod slice;
+
+ghost use Rattle.std.specs.Prelude.{◌≡◌, ◌+◌, ◌-◌, ◌*◌, ◌^◌, ◌≤◌, max, true, length, IfOk, IfErr};
+ghost use Rattle.serde_json_path_core.specs.Parts.{signatures_of};
+ghost use Rattle.serde_json_path_functions.specs.Functions.{Fits};
+ghost use Rattle.serde_json_path_parser.specs.Errors.{kind_of, position_of, is_told_at_next};
+ghost use Rattle.serde_json_path_parser.specs.Parse.{IsParseOf};
+
+use crate::error::{ParseError, Stop};
+use crate::parser::query::query;
+use crate::parser::reader::Reader;
+use crate::source::PathSource;
+use serde_json_path_core::Checked;
+use serde_json_path_core::functions::Functions;
+use std::alloc::Global;
+
+/// Reads the path that a source tells, from left to right by its `byte` alone; the first refusal that is met is told.
+///
+/// Its filters call functions of this set alone, which the query fits. A text of n bytes is looked at 32(n + 1) times at most,
+/// and where a root, a name, a selector or a closing bracket is missing, nothing beyond the byte behind the one that does not
+/// fit was looked at.
+///
+/// An error tells why and where ([`ParseError`]): unless it is `NoMemory`, the text is no path. A text of `usize::MAX` bytes,
+/// whose end would have no position, is refused as `NoMemory` before any look.
+///
+/// ```text
+/// let mut source = TextSource::new("$..book[-1:].title");
+/// let checked = parse(alloc, &mut source, &Builtin)?;
+/// ```
+pub fn parse<S: PathSource, F: Functions>(
+    alloc: Global,
+    source: &mut S,
+    functions: &F,
+) -> Result<Checked, ParseError>
+    ensures parse { IsParseOf (F.set functions.now).signature (S.told source.old).text result }
+    // The signatures that the query keeps are those of the set.
+    ensures fits { IfOk result (λ checked. Fits (F.set functions.now) (signatures_of checked)) }
+    // The source still tells its text.
+    ensures same_text { (S.told source.new).text ≡ (S.told source.old).text }
+    // However the parse ends, there are at most 32(n + 1) looks more at n bytes.
+    ensures looks { (S.told source.new).looks ≤ (S.told source.old).looks + 32 * (length (S.told source.old).text + 1) }
+    // Of four kinds nothing beyond the byte behind the position was looked at.
+    ensures farthest { IfErr result (λ e. is_told_at_next (kind_of e) ≡ true
+        → (S.told source.new).farthest ≤ max (S.told source.old).farthest (position_of e + 1)) }
+    ensures unseen { length (S.told source.old).text ≡ 2 ^ 64 - 1 → S.told source.new ≡ S.told source.old }
+{
+    if source.len() == usize::MAX {
+        return Err(Stop::Memory.in_text(0));
+    }
+    let mut reader = Reader::new(source);
+    let read = query(alloc, &mut reader, functions);
+    let total = reader.len();
+    reader.close();
+    match read {
+        Ok(checked) => Ok(checked),
+        Err(stop) => Err(stop.in_text(total)),
+    }
+}

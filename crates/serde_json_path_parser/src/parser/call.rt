@@ -1,0 +1,230 @@
+//! Calls of functions (RFC 9535, section 2.4).
+
+ghost use Rattle.std.specs.Prelude.{◌≡◌, ◌==◌, ◌<◌, ℕ, List, drop, length, map, true, string_bytes, ◌≤◌, Option, IfOk};
+ghost use Rattle.std.specs.Str.{encode_utf8_all};
+ghost use Rattle.serde_json_path_core.specs.Parts.{KeepsParts, IsPart};
+ghost use Rattle.serde_json_path_core.specs.Piece.{an_argument};
+ghost use Rattle.serde_json_path_functions.specs.Functions.{Signature};
+ghost use Rattle.serde_json_path_functions.specs.Terms.{kind_view};
+ghost use Rattle.serde_json_path_parser.specs.Filters.{argument_at, logical_from, ended};
+ghost use Rattle.serde_json_path_parser.specs.Filters as filters;
+ghost use Rattle.serde_json_path_parser.specs.Giving.{Makes, MakesArgument, MakesArguments, MakesCall, IsArgumentOf, IsOperandOf, GivesEnd, IsNear};
+ghost use Rattle.serde_json_path_parser.specs.Levels.{signatures, deeper};
+ghost use Rattle.serde_json_path_parser.specs.Lexical.{begins};
+ghost use Rattle.serde_json_path_parser.specs.Operands as operands;
+ghost use Rattle.serde_json_path_parser.specs.Reading.{left, Moves};
+ghost use Rattle.serde_json_path_core.specs.Tree as tree;
+
+use crate::error::{ParseErrorKind, Place, Stop};
+use crate::parser::level::Level;
+use crate::parser::operand::Operand;
+use crate::parser::reader::Reader;
+use crate::source::PathSource;
+use serde_json_path_core::functions::{FunctionArgType, Functions};
+use serde_json_path_core::{Literal, Part, SyntaxBuilder};
+use std::alloc::AllocError;
+
+/// What stands between the parentheses of a call, before its type is judged.
+#[derive(Drop)]
+pub(crate) enum Argument {
+    /// A text, a number, `true`, `false` or `null`.
+    Literal(Literal),
+    /// A query alone.
+    Query(Part),
+    /// A call alone, and the type of its result.
+    Call(Part, FunctionArgType),
+    /// Any other logical expression.
+    Logical(Part),
+}
+
+impl Argument {
+    /// An operand that stands alone.
+    fn alone(operand: Operand) -> Argument
+        ensures { (signature : List ℕ → Option Signature) (builder : SyntaxBuilder) (x : operands.Operand) → IsOperandOf signature builder operand x → IsArgumentOf signature builder result (filters.alone x) }
+    {
+        match operand {
+            Operand::Literal(literal) => Argument::Literal(literal),
+            Operand::Query(query) => Argument::Query(query),
+            Operand::Call(call, result) => Argument::Call(call, result),
+        }
+    }
+
+    /// Whether a parameter of that type takes the argument (RFC 9535, section 2.4.3).
+    fn fits(&self, builder: &SyntaxBuilder, kind: FunctionArgType) -> bool
+        requires { (signature : List ℕ → Option Signature) × (x : tree.Argument) × IsArgumentOf signature builder.now self.now x }
+        ensures { (signature : List ℕ → Option Signature) (x : tree.Argument) → IsArgumentOf signature builder.now self.now x → result ≡ operands.fits signature x (kind_view kind) }
+    {
+        match self {
+            Argument::Literal(literal) => match kind {
+                FunctionArgType::Value => literal.is_value(),
+                _ => false,
+            },
+            Argument::Query(query) => match kind {
+                FunctionArgType::Value => builder.is_singular(*query),
+                _ => true,
+            },
+            Argument::Call(_, result) => {
+                kind == *result
+                    || kind == FunctionArgType::Logical && *result == FunctionArgType::Nodelist
+            }
+            Argument::Logical(_) => kind == FunctionArgType::Logical,
+        }
+    }
+
+    /// The argument as a part of the tree.
+    fn part(self, builder: &mut SyntaxBuilder) -> Result<Part, AllocError>
+        requires { (signature : List ℕ → Option Signature) × (x : tree.Argument) × IsArgumentOf signature builder.old self x }
+        ensures keeps { KeepsParts builder.old builder.new }
+        ensures made { IfOk result (λ part. (signature : List ℕ → Option Signature) (x : tree.Argument) → IsArgumentOf signature builder.old self x → IsPart builder.new part (an_argument x)) }
+    {
+        match self {
+            Argument::Literal(literal) => builder.literal_argument(literal),
+            Argument::Query(query) => builder.query_argument(query),
+            Argument::Call(call, _) => builder.call_argument(call),
+            Argument::Logical(expression) => builder.logical_argument(expression),
+        }
+    }
+}
+
+/// The end of a call, at its `)`, where these types are left of its parameters; start is how many bytes are left where the
+/// call begins. The blanks behind it are taken too.
+#[tactic(auto, unfolding(crate::specs::Filters::ended))]
+fn end<S: PathSource>(
+    reader: &mut Reader<'_, S>,
+    start: usize,
+    kinds: &[FunctionArgType],
+) -> Result<(), Stop>
+    requires { 0 < length (left reader.old) }
+    ensures moves { Moves reader.old reader.new }
+    ensures near { IsNear result reader.new }
+    ensures gives { (place : List ℕ) → start ≡ length (encode_utf8_all place) → GivesEnd result reader.new (ended place (map kind_view kinds.now) (drop 1 (left reader.old))) }
+{
+    if !kinds.is_empty() {
+        return Err(Stop::in_long_hand(ParseErrorKind::WrongNumberOfArguments, start));
+    }
+    reader.take_char();
+    reader.skip_blanks();
+    Ok(())
+}
+
+impl<F: Functions> Level<'_, F> {
+    /// A call of the function of that name, at its `(`, and the type of its result; start is how many bytes are left where
+    /// the call begins. The blanks behind it are taken too.
+    #[cycle(level)]
+    pub(crate) fn call<S: PathSource>(
+        &self,
+        builder: &mut SyntaxBuilder,
+        reader: &mut Reader<'_, S>,
+        start: usize,
+        name: String,
+    ) -> Result<(Part, FunctionArgType), Stop>
+        requires { 0 < length (left reader.old) }
+        ensures moves { Moves reader.old reader.new }
+        ensures near { IsNear result reader.new }
+        ensures keeps { KeepsParts builder.old builder.new }
+        ensures gives { (place : List ℕ) → start ≡ length (encode_utf8_all place)
+            → MakesCall (signatures F.set self.now) builder.new result reader.new ((deeper F.set self.now).call_of place (string_bytes name) (drop 1 (left reader.old))) }
+    {
+        if self.depth == 0 {
+            return Err(Stop::in_long_hand(ParseErrorKind::NestedTooDeep, start));
+        }
+        let Some(signature) = self.functions.signature(name.as_str()) else {
+            return Err(Stop::in_long_hand(ParseErrorKind::UndefinedFunction, start));
+        };
+        reader.take_char();
+        reader.skip_blanks();
+        let mut arguments = Vec::new(self.alloc);
+        self.deeper()
+            .parameters(builder, reader, start, signature.params(), &mut arguments)?;
+        let call = builder.call(name, arguments)?;
+        Ok((call, signature.result()))
+    }
+
+    /// The arguments of a call for parameters of these types, behind `(` and blanks, and its end; they are put behind
+    /// others.
+    #[cycle(level)]
+    fn parameters<S: PathSource>(
+        &self,
+        builder: &mut SyntaxBuilder,
+        reader: &mut Reader<'_, S>,
+        start: usize,
+        kinds: &[FunctionArgType],
+        parts: &mut Vec<Part>,
+    ) -> Result<(), Stop>
+        ensures moves { Moves reader.old reader.new }
+        ensures near { IsNear result reader.new }
+        ensures keeps { KeepsParts builder.old builder.new }
+        ensures gives { (place : List ℕ) → start ≡ length (encode_utf8_all place)
+            → MakesArguments builder.new parts.old.items parts.new.items result reader.new (filters.parameters_at (signatures F.set self.now) (deeper F.set self.now) place (map kind_view kinds.now) (left reader.old)) }
+    {
+        if reader.sees(b')') {
+            return end(reader, start, kinds);
+        }
+        self.arguments(builder, reader, start, kinds, parts)
+    }
+
+    /// One argument or more.
+    // A call has at most eight parameters, and a ninth argument is refused, so that the recursion stays flat.
+    #[cycle(level)]
+    fn arguments<S: PathSource>(
+        &self,
+        builder: &mut SyntaxBuilder,
+        reader: &mut Reader<'_, S>,
+        start: usize,
+        kinds: &[FunctionArgType],
+        parts: &mut Vec<Part>,
+    ) -> Result<(), Stop>
+        ensures moves { Moves reader.old reader.new }
+        ensures near { IsNear result reader.new }
+        ensures keeps { KeepsParts builder.old builder.new }
+        ensures gives { (place : List ℕ) → start ≡ length (encode_utf8_all place) → (fuel : ℕ) → length (left reader.old) ≤ fuel
+            → MakesArguments builder.new parts.old.items parts.new.items result reader.new (filters.arguments_at (signatures F.set self.now) (deeper F.set self.now) fuel place (map kind_view kinds.now) (left reader.old)) }
+    {
+        let begin = reader.bytes_left();
+        let argument = self.argument(builder, reader)?;
+        if !reader.sees_end_of_argument() {
+            return Err(reader.refuse(ParseErrorKind::ExpectedClosingParenthesis, Place::LongHand));
+        }
+        let Some((kind, more)) = kinds.split_first() else {
+            return Err(Stop::in_long_hand(ParseErrorKind::WrongNumberOfArguments, start));
+        };
+        if !argument.fits(builder, *kind) {
+            return Err(Stop::in_long_hand(ParseErrorKind::WrongArgumentType, begin));
+        }
+        let part = argument.part(builder)?;
+        parts.push(part)?;
+        if reader.sees(b',') {
+            reader.take_char();
+            reader.skip_blanks();
+            return self.arguments(builder, reader, start, more, parts);
+        }
+        end(reader, start, more)
+    }
+
+    /// An argument and the blanks behind it.
+    #[cycle(level)]
+    fn argument<S: PathSource>(
+        &self,
+        builder: &mut SyntaxBuilder,
+        reader: &mut Reader<'_, S>,
+    ) -> Result<Argument, Stop>
+        ensures moves { Moves reader.old reader.new }
+        ensures near { IsNear result reader.new }
+        ensures keeps { KeepsParts builder.old builder.new }
+        ensures gives { MakesArgument (signatures F.set self.now) builder.new result reader.new (argument_at (signatures F.set self.now) (deeper F.set self.now) (left reader.old)) }
+    {
+        if reader.sees(b'(') || reader.sees(b'!') {
+            let expression = self.logical_or(builder, reader)?;
+            return Ok(Argument::Logical(expression));
+        }
+        let start = reader.bytes_left();
+        let operand = self.operand(builder, reader)?;
+        if reader.sees_end_of_argument() {
+            return Ok(Argument::alone(operand));
+        }
+        let basic = self.basic_from(builder, reader, start, operand)?;
+        let and = self.and_from(builder, reader, basic)?;
+        let expression = self.or_from(builder, reader, and)?;
+        Ok(Argument::Logical(expression))
+    }
+}

@@ -1,0 +1,81 @@
+//! Characters out of bytes.
+
+ghost use Rattle.std.specs.Prelude.{◌≡◌, ◌<◌, ◌≤◌, ◌+◌, ◌-◌, ◌%◌, ◌^◌, length, slice_index, slice_get, drop, Some, None};
+ghost use Rattle.std.specs.Option.{ForSome};
+ghost use Rattle.std.specs.Str.{IsUtf8};
+ghost use Rattle.std.specs.Str.Pattern.{StartsWithChar};
+ghost use Rattle.std.specs.Char.{IsScalar};
+ghost use Rattle.serde_json_path_parser.specs.Looking.{LooksOn, up_to};
+
+use crate::source::PathSource;
+
+/// The byte of that index, if it is below a limit.
+pub(crate) fn byte_below<S: PathSource>(source: &mut S, index: usize, limit: usize) -> Option<u8>
+    requires { limit ≤ length (S.told source.old).text }
+    ensures some { ForSome result (λ b. (index < limit) × (slice_get (S.told source.old).text index ≡ Some b)) }
+    ensures none { result ≡ None → limit ≤ index }
+    ensures looks { LooksOn (S.told source.old) (S.told source.new) (up_to index result - index) (up_to index result) }
+{
+    if index < limit {
+        Some(source.byte(index))
+    } else {
+        None
+    }
+}
+
+/// The byte of that index, unless the text ends there.
+pub(crate) fn byte_at<S: PathSource>(source: &mut S, index: usize) -> Option<u8>
+    ensures value { result ≡ slice_get (S.told source.old).text index }
+    ensures looks { LooksOn (S.told source.old) (S.told source.new) (up_to index result - index) (up_to index result) }
+{
+    let end = source.len();
+    byte_below(source, index, end)
+}
+
+/// The six low bits of a byte.
+fn low_bits<S: PathSource>(source: &mut S, index: usize) -> u32
+    requires { index < length (S.told source.old).text }
+    ensures value { result ≡ slice_index (S.told source.old).text index % 64 }
+    ensures looks { LooksOn (S.told source.old) (S.told source.new) 1 (index + 1) }
+{
+    source.byte(index) as u32 % 64
+}
+
+fn character(code: u32) -> char
+    requires { IsScalar code }
+    ensures { result ≡ code }
+{
+    char::from_u32(code).unwrap()
+}
+
+/// The character of two bytes or more that begins at an index with this byte, and how many bytes it takes.
+// Out of line, so that characters of one byte, which are most, are read in few steps.
+#[inline(never)]
+pub(crate) fn wide_character_at<S: PathSource>(
+    source: &mut S,
+    index: usize,
+    lead: u8,
+) -> (char, usize)
+    requires utf8 { IsUtf8 (drop index (S.told source.old).text) }
+    requires lead { slice_get (S.told source.old).text index ≡ Some lead }
+    requires short { length (S.told source.old).text < 2 ^ 64 }
+    requires wide { 128 ≤ lead }
+    ensures decodes { StartsWithChar (drop index (S.told source.old).text) result.0 result.1 }
+    ensures scalar { IsScalar result.0 }
+    ensures looks { LooksOn (S.told source.old) (S.told source.new) (result.1 - 1) (index + result.1) }
+{
+    let first = lead as u32;
+    let second = low_bits(source, index + 1);
+    if first < 0xe0 {
+        return (character(first % 32 * 64 + second), 2);
+    }
+    let third = low_bits(source, index + 2);
+    if first < 0xf0 {
+        return (character(first % 16 * 4096 + second * 64 + third), 3);
+    }
+    let fourth = low_bits(source, index + 3);
+    (
+        character(first % 8 * 262144 + second * 4096 + third * 64 + fourth),
+        4,
+    )
+}

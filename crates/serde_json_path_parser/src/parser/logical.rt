@@ -1,0 +1,274 @@
+//! Logical expressions (RFC 9535, section 2.3.5.1).
+
+ghost use Rattle.std.specs.Prelude.{◌≡◌, ◌==◌, ◌<◌, ℕ, List, drop, length, true, IfOk};
+ghost use Rattle.std.specs.Str.{encode_utf8_all};
+ghost use Rattle.serde_json_path_core.specs.Parts.{KeepsParts, IsPart};
+ghost use Rattle.serde_json_path_core.specs.Piece.{an_or, an_and, a_basic};
+ghost use Rattle.serde_json_path_core.specs.Tree as tree;
+ghost use Rattle.serde_json_path_parser.specs.Filters.{paren_at, negated_at, basic_at, and_from, and_at, or_from, or_at};
+ghost use Rattle.serde_json_path_parser.specs.Filters as filters;
+ghost use Rattle.serde_json_path_parser.specs.Giving.{Makes, IsOperandOf, IsNear};
+ghost use Rattle.serde_json_path_parser.specs.Levels.{signatures, deeper};
+ghost use Rattle.serde_json_path_parser.specs.Lexical.{begins, is_small_letter};
+ghost use Rattle.serde_json_path_parser.specs.Operands as operands;
+ghost use Rattle.serde_json_path_parser.specs.Parsed.{past_blanks};
+ghost use Rattle.serde_json_path_parser.specs.Reading.{left, Moves};
+
+use crate::error::{ParseErrorKind, Place, Stop};
+use crate::parser::level::Level;
+use crate::parser::operand::Operand;
+use crate::parser::primitive::operator::operator;
+use crate::parser::reader::Reader;
+use crate::source::PathSource;
+use serde_json_path_core::functions::{FunctionArgType, Functions};
+use serde_json_path_core::{Part, Parts, QueryKind, SyntaxBuilder};
+
+impl<F: Functions> Level<'_, F> {
+    /// The expression of a filter or a parenthesis, at its `?` or `(`.
+    #[cycle(level)]
+    pub(crate) fn inside<S: PathSource>(
+        &self,
+        builder: &mut SyntaxBuilder,
+        reader: &mut Reader<'_, S>,
+    ) -> Result<Part, Stop>
+        requires { 0 < length (left reader.old) }
+        ensures moves { Moves reader.old reader.new }
+        ensures near { IsNear result reader.new }
+        ensures keeps { KeepsParts builder.old builder.new }
+        ensures gives { Makes an_or builder.new result reader.new ((deeper F.set self.now).expression (left reader.old) (past_blanks (drop 1 (left reader.old)))) }
+    {
+        if self.depth == 0 {
+            return Err(reader.refuse(ParseErrorKind::NestedTooDeep, Place::LongHand));
+        }
+        reader.take_char();
+        reader.skip_blanks();
+        self.deeper().logical_or(builder, reader)
+    }
+
+    /// Parts with `||` between them, and the blanks behind the last one.
+    #[cycle(level)]
+    #[tactic(auto, unfolding(crate::specs::Filters::or_at))]
+    pub(crate) fn logical_or<S: PathSource>(
+        &self,
+        builder: &mut SyntaxBuilder,
+        reader: &mut Reader<'_, S>,
+    ) -> Result<Part, Stop>
+        ensures moves { Moves reader.old reader.new }
+        ensures near { IsNear result reader.new }
+        ensures keeps { KeepsParts builder.old builder.new }
+        ensures gives { Makes an_or builder.new result reader.new (or_at (signatures F.set self.now) (deeper F.set self.now) (left reader.old)) }
+    {
+        let first = self.logical_and(builder, reader)?;
+        self.or_from(builder, reader, first)
+    }
+
+    /// What goes on with `||` behind a first part.
+    #[cycle(level)]
+    pub(crate) fn or_from<S: PathSource>(
+        &self,
+        builder: &mut SyntaxBuilder,
+        reader: &mut Reader<'_, S>,
+        first: Part,
+    ) -> Result<Part, Stop>
+        requires { (a : tree.LogicalAnd) × IsPart builder.old first (an_and a) }
+        ensures moves { Moves reader.old reader.new }
+        ensures near { IsNear result reader.new }
+        ensures keeps { KeepsParts builder.old builder.new }
+        ensures gives { (a : tree.LogicalAnd) → IsPart builder.old first (an_and a) → Makes an_or builder.new result reader.new (or_from (signatures F.set self.now) (deeper F.set self.now) a (left reader.old)) }
+    {
+        let mut parts = Parts::new(self.alloc);
+        parts.push(first)?;
+        'parts: while reader.sees_both(b'|', b'|') {
+            reader.take_two();
+            reader.skip_blanks();
+            let part = self.logical_and(builder, reader)?;
+            parts.push(part)?;
+        }
+        let expression = builder.logical_or(parts)?;
+        Ok(expression)
+    }
+
+    /// Parts with `&&` between them, and the blanks behind the last one.
+    #[cycle(level)]
+    #[tactic(auto, unfolding(crate::specs::Filters::and_at))]
+    fn logical_and<S: PathSource>(
+        &self,
+        builder: &mut SyntaxBuilder,
+        reader: &mut Reader<'_, S>,
+    ) -> Result<Part, Stop>
+        ensures moves { Moves reader.old reader.new }
+        ensures near { IsNear result reader.new }
+        ensures keeps { KeepsParts builder.old builder.new }
+        ensures gives { Makes an_and builder.new result reader.new (and_at (signatures F.set self.now) (deeper F.set self.now) (left reader.old)) }
+    {
+        let first = self.basic(builder, reader)?;
+        self.and_from(builder, reader, first)
+    }
+
+    /// What goes on with `&&` behind a first part.
+    #[cycle(level)]
+    pub(crate) fn and_from<S: PathSource>(
+        &self,
+        builder: &mut SyntaxBuilder,
+        reader: &mut Reader<'_, S>,
+        first: Part,
+    ) -> Result<Part, Stop>
+        requires { (b : tree.Basic) × IsPart builder.old first (a_basic b) }
+        ensures moves { Moves reader.old reader.new }
+        ensures near { IsNear result reader.new }
+        ensures keeps { KeepsParts builder.old builder.new }
+        ensures made { IfOk result (λ part. (a : tree.LogicalAnd) × IsPart builder.new part (an_and a)) }
+        ensures gives { (b : tree.Basic) → IsPart builder.old first (a_basic b) → Makes an_and builder.new result reader.new (and_from (signatures F.set self.now) (deeper F.set self.now) b (left reader.old)) }
+    {
+        let mut parts = Parts::new(self.alloc);
+        parts.push(first)?;
+        'parts: while reader.sees_both(b'&', b'&') {
+            reader.take_two();
+            reader.skip_blanks();
+            let part = self.basic(builder, reader)?;
+            parts.push(part)?;
+        }
+        let expression = builder.logical_and(parts)?;
+        Ok(expression)
+    }
+
+    /// A parenthesis, a negation, a comparison or a test, and the blanks behind it.
+    #[cycle(level)]
+    #[tactic(auto, unfolding(crate::specs::Filters::basic_at))]
+    fn basic<S: PathSource>(
+        &self,
+        builder: &mut SyntaxBuilder,
+        reader: &mut Reader<'_, S>,
+    ) -> Result<Part, Stop>
+        ensures moves { Moves reader.old reader.new }
+        ensures near { IsNear result reader.new }
+        ensures keeps { KeepsParts builder.old builder.new }
+        ensures gives { Makes a_basic builder.new result reader.new (basic_at (signatures F.set self.now) (deeper F.set self.now) (left reader.old)) }
+    {
+        if reader.sees(b'(') {
+            let inner = self.paren(builder, reader)?;
+            let paren = builder.paren(inner)?;
+            return Ok(paren);
+        }
+        if reader.sees(b'!') {
+            reader.take_char();
+            reader.skip_blanks();
+            return self.negated(builder, reader);
+        }
+        let start = reader.bytes_left();
+        let operand = self.operand(builder, reader)?;
+        self.basic_from(builder, reader, start, operand)
+    }
+
+    /// A comparison or a test behind its first operand; start is how many bytes are left where that begins.
+    #[cycle(level)]
+    pub(crate) fn basic_from<S: PathSource>(
+        &self,
+        builder: &mut SyntaxBuilder,
+        reader: &mut Reader<'_, S>,
+        start: usize,
+        operand: Operand,
+    ) -> Result<Part, Stop>
+        requires { (x : operands.Operand) × IsOperandOf (signatures F.set self.now) builder.old operand x }
+        ensures moves { Moves reader.old reader.new }
+        ensures near { IsNear result reader.new }
+        ensures keeps { KeepsParts builder.old builder.new }
+        ensures made { IfOk result (λ part. (b : tree.Basic) × IsPart builder.new part (a_basic b)) }
+        ensures gives { (x : operands.Operand) → IsOperandOf (signatures F.set self.now) builder.old operand x → (place : List ℕ) → start ≡ length (encode_utf8_all place)
+            → Makes a_basic builder.new result reader.new (filters.basic_from (signatures F.set self.now) (deeper F.set self.now) place x (left reader.old)) }
+    {
+        let Some(operator) = operator(reader) else {
+            return self.test(builder, reader, start, operand);
+        };
+        reader.skip_blanks();
+        let left = self.comparable(builder, reader, start, operand)?;
+        let begin = reader.bytes_left();
+        let operand = self.operand(builder, reader)?;
+        let right = self.comparable(builder, reader, begin, operand)?;
+        let relation = builder.relation(left, operator, right)?;
+        Ok(relation)
+    }
+
+    /// A parenthesis, at its `(`, and the blanks behind it.
+    #[cycle(level)]
+    #[tactic(auto, unfolding(crate::specs::Filters::paren_at))]
+    fn paren<S: PathSource>(
+        &self,
+        builder: &mut SyntaxBuilder,
+        reader: &mut Reader<'_, S>,
+    ) -> Result<Part, Stop>
+        requires { begins (λ c. c == 40) (left reader.old) ≡ true }
+        ensures moves { Moves reader.old reader.new }
+        ensures near { IsNear result reader.new }
+        ensures keeps { KeepsParts builder.old builder.new }
+        ensures gives { Makes an_or builder.new result reader.new (paren_at (signatures F.set self.now) (deeper F.set self.now) (left reader.old)) }
+    {
+        let inner = self.inside(builder, reader)?;
+        if !reader.sees(b')') {
+            return Err(reader.refuse(ParseErrorKind::ExpectedClosingParenthesis, Place::LongHand));
+        }
+        reader.take_char();
+        reader.skip_blanks();
+        Ok(inner)
+    }
+
+    /// What stands behind `!` and blanks, and the blanks behind it.
+    // Within `basic` its nodes would widen the frame of each parenthesis.
+    #[inline(never)]
+    #[cycle(level)]
+    #[tactic(auto, unfolding(crate::specs::Filters::negated_at))]
+    fn negated<S: PathSource>(
+        &self,
+        builder: &mut SyntaxBuilder,
+        reader: &mut Reader<'_, S>,
+    ) -> Result<Part, Stop>
+        ensures moves { Moves reader.old reader.new }
+        ensures near { IsNear result reader.new }
+        ensures keeps { KeepsParts builder.old builder.new }
+        ensures gives { Makes a_basic builder.new result reader.new (negated_at (signatures F.set self.now) (deeper F.set self.now) (left reader.old)) }
+    {
+        if reader.sees(b'(') {
+            let inner = self.paren(builder, reader)?;
+            let paren = builder.not_paren(inner)?;
+            return Ok(paren);
+        }
+        if reader.sees(b'@') {
+            let query = self.query(builder, reader, QueryKind::Current)?;
+            let test = builder.not_exist(query)?;
+            return Ok(test);
+        }
+        if reader.sees(b'$') {
+            let query = self.query(builder, reader, QueryKind::Root)?;
+            let test = builder.not_exist(query)?;
+            return Ok(test);
+        }
+        if reader.sees_small_letter() {
+            return self.negated_call(builder, reader);
+        }
+        Err(reader.refuse(ParseErrorKind::ExpectedExpression, Place::LongHand))
+    }
+
+    /// A call behind `!`, and the blanks behind it.
+    #[cycle(level)]
+    fn negated_call<S: PathSource>(
+        &self,
+        builder: &mut SyntaxBuilder,
+        reader: &mut Reader<'_, S>,
+    ) -> Result<Part, Stop>
+        requires { begins is_small_letter (left reader.old) ≡ true }
+        ensures moves { Moves reader.old reader.new }
+        ensures near { IsNear result reader.new }
+        ensures keeps { KeepsParts builder.old builder.new }
+        ensures gives { Makes a_basic builder.new result reader.new (filters.negated_name_at (signatures F.set self.now) (deeper F.set self.now) (left reader.old)) }
+    {
+        let start = reader.bytes_left();
+        let Operand::Call(call, result) = self.named(builder, reader)? else {
+            return Err(Stop::in_long_hand(ParseErrorKind::ExpectedExpression, start));
+        };
+        if result == FunctionArgType::Value {
+            return Err(Stop::in_long_hand(ParseErrorKind::WrongReturnType, start));
+        }
+        let test = builder.not_test(call)?;
+        Ok(test)
+    }
+}

@@ -1,0 +1,212 @@
+//! Operands: what a filter compares or tests, read before its use is known (RFC 9535, section 2.3.5.1).
+
+ghost use Rattle.std.specs.Prelude.{◌≡◌, ◌==◌, ◌<◌, ℕ, List, length, true, Option};
+ghost use Rattle.std.specs.Str.{encode_utf8_all};
+ghost use Rattle.serde_json_path_core.specs.Flat.{kind_view};
+ghost use Rattle.serde_json_path_core.specs.Parts.{KeepsParts};
+ghost use Rattle.serde_json_path_core.specs.Piece.{a_query, a_comparable, a_basic};
+ghost use Rattle.serde_json_path_functions.specs.Functions.{Signature};
+ghost use Rattle.serde_json_path_parser.specs.Filters.{query_at, operand_at, comparable_at, named_at, test_at, text_at};
+ghost use Rattle.serde_json_path_parser.specs.Giving.{Makes, MakesOperand, IsOperandOf, IsNear};
+ghost use Rattle.serde_json_path_parser.specs.Levels.{signatures, deeper};
+ghost use Rattle.serde_json_path_parser.specs.Lexical.{begins, is_small_letter, IsQuote};
+ghost use Rattle.serde_json_path_parser.specs.Operands as operands;
+ghost use Rattle.serde_json_path_parser.specs.Reading.{left, Moves};
+
+use crate::error::{ParseErrorKind, Place, Stop};
+use crate::parser::level::Level;
+use crate::parser::primitive::number::number;
+use crate::parser::primitive::string::string;
+use crate::parser::primitive::word::read_word;
+use crate::parser::reader::Reader;
+use crate::source::PathSource;
+use serde_json_path_core::functions::{FunctionArgType, Functions};
+use serde_json_path_core::{Literal, Part, QueryKind, SyntaxBuilder};
+use std::alloc::Global;
+
+/// What a filter compares or tests.
+#[derive(Drop)]
+pub(crate) enum Operand {
+    /// A text, a number, `true`, `false` or `null`.
+    Literal(Literal),
+    /// A query.
+    Query(Part),
+    /// A call, and the type of its result.
+    Call(Part, FunctionArgType),
+}
+
+/// A string as an operand, at its quote, and the blanks behind it.
+#[tactic(auto, unfolding(crate::specs::Filters::text_at))]
+fn text<S: PathSource>(
+    alloc: Global,
+    reader: &mut Reader<'_, S>,
+    quote: u8,
+) -> Result<Operand, Stop>
+    requires quote { IsQuote quote }
+    requires begins { begins (λ c. c == quote) (left reader.old) ≡ true }
+    ensures moves { Moves reader.old reader.new }
+    ensures near { IsNear result reader.new }
+    ensures gives { (signature : List ℕ → Option Signature) (builder : SyntaxBuilder) → MakesOperand signature builder result reader.new (text_at quote (left reader.old)) }
+{
+    reader.take_char();
+    let text = string(alloc, reader, quote)?;
+    reader.skip_blanks();
+    Ok(Operand::Literal(Literal::String(text)))
+}
+
+impl<F: Functions> Level<'_, F> {
+    /// A query in a filter, at its `@` or `$`, and the blanks behind it.
+    #[cycle(level)]
+    pub(crate) fn query<S: PathSource>(
+        &self,
+        builder: &mut SyntaxBuilder,
+        reader: &mut Reader<'_, S>,
+        kind: QueryKind,
+    ) -> Result<Part, Stop>
+        requires { 0 < length (left reader.old) }
+        ensures moves { Moves reader.old reader.new }
+        ensures near { IsNear result reader.new }
+        ensures keeps { KeepsParts builder.old builder.new }
+        ensures gives { Makes a_query builder.new result reader.new (query_at (signatures F.set self.now) (deeper F.set self.now) (kind_view kind) (left reader.old)) }
+    {
+        reader.take_char();
+        let (parts, _rest) = self.segments(builder, reader, Place::LongHand)?;
+        let query = builder.query(kind, parts)?;
+        Ok(query)
+    }
+
+    /// What begins with a small letter: a call, `true`, `false` or `null`, and the blanks behind it.
+    #[cycle(level)]
+    pub(crate) fn named<S: PathSource>(
+        &self,
+        builder: &mut SyntaxBuilder,
+        reader: &mut Reader<'_, S>,
+    ) -> Result<Operand, Stop>
+        requires { begins is_small_letter (left reader.old) ≡ true }
+        ensures moves { Moves reader.old reader.new }
+        ensures near { IsNear result reader.new }
+        ensures keeps { KeepsParts builder.old builder.new }
+        ensures gives { MakesOperand (signatures F.set self.now) builder.new result reader.new (named_at (signatures F.set self.now) (deeper F.set self.now) (left reader.old)) }
+    {
+        let start = reader.bytes_left();
+        let word = read_word(self.alloc, reader)?;
+        if reader.sees(b'(') {
+            let name = word.into_name(self.alloc)?;
+            let (call, result) = self.call(builder, reader, start, name)?;
+            return Ok(Operand::Call(call, result));
+        }
+        match word.literal() {
+            Some(literal) => {
+                reader.skip_blanks();
+                Ok(Operand::Literal(literal))
+            }
+            None => Err(Stop::in_long_hand(ParseErrorKind::ExpectedExpression, start)),
+        }
+    }
+
+    /// An operand and the blanks behind it.
+    #[cycle(level)]
+    #[tactic(auto, unfolding(crate::specs::Filters::operand_at))]
+    pub(crate) fn operand<S: PathSource>(
+        &self,
+        builder: &mut SyntaxBuilder,
+        reader: &mut Reader<'_, S>,
+    ) -> Result<Operand, Stop>
+        ensures moves { Moves reader.old reader.new }
+        ensures near { IsNear result reader.new }
+        ensures keeps { KeepsParts builder.old builder.new }
+        ensures gives { MakesOperand (signatures F.set self.now) builder.new result reader.new (operand_at (signatures F.set self.now) (deeper F.set self.now) (left reader.old)) }
+    {
+        if reader.sees(b'\'') {
+            return text(self.alloc, reader, b'\'');
+        }
+        if reader.sees(b'"') {
+            return text(self.alloc, reader, b'"');
+        }
+        if reader.sees(b'@') {
+            let query = self.query(builder, reader, QueryKind::Current)?;
+            return Ok(Operand::Query(query));
+        }
+        if reader.sees(b'$') {
+            let query = self.query(builder, reader, QueryKind::Root)?;
+            return Ok(Operand::Query(query));
+        }
+        if reader.sees_small_letter() {
+            return self.named(builder, reader);
+        }
+        let number = number(reader)?;
+        reader.skip_blanks();
+        Ok(Operand::Literal(Literal::Number(number)))
+    }
+
+    /// An operand as a side of a comparison; start is how many bytes are left where it begins.
+    #[tactic(auto, unfolding(crate::specs::Filters::comparable_at))]
+    pub(crate) fn comparable<S: PathSource>(
+        &self,
+        builder: &mut SyntaxBuilder,
+        reader: &Reader<'_, S>,
+        start: usize,
+        operand: Operand,
+    ) -> Result<Part, Stop>
+        requires { (x : operands.Operand) × IsOperandOf (signatures F.set self.now) builder.old operand x }
+        ensures near { IsNear result reader.now }
+        ensures keeps { KeepsParts builder.old builder.new }
+        ensures gives { (x : operands.Operand) → IsOperandOf (signatures F.set self.now) builder.old operand x → (place : List ℕ) → start ≡ length (encode_utf8_all place)
+            → Makes a_comparable builder.new result reader.now (comparable_at (signatures F.set self.now) (deeper F.set self.now) place x (left reader.now)) }
+    {
+        match operand {
+            Operand::Literal(literal) => {
+                let side = builder.literal(literal)?;
+                Ok(side)
+            }
+            Operand::Query(query) => {
+                if !builder.is_singular(query) {
+                    return Err(Stop::in_long_hand(ParseErrorKind::NonSingularQuery, start));
+                }
+                let side = builder.singular(query)?;
+                Ok(side)
+            }
+            Operand::Call(call, result) => {
+                if result != FunctionArgType::Value {
+                    return Err(Stop::in_long_hand(ParseErrorKind::WrongReturnType, start));
+                }
+                let side = builder.called(call)?;
+                Ok(side)
+            }
+        }
+    }
+
+    /// An operand as a test; start is how many bytes are left where it begins.
+    #[tactic(auto, unfolding(crate::specs::Filters::test_at))]
+    pub(crate) fn test<S: PathSource>(
+        &self,
+        builder: &mut SyntaxBuilder,
+        reader: &Reader<'_, S>,
+        start: usize,
+        operand: Operand,
+    ) -> Result<Part, Stop>
+        requires { (x : operands.Operand) × IsOperandOf (signatures F.set self.now) builder.old operand x }
+        ensures near { IsNear result reader.now }
+        ensures keeps { KeepsParts builder.old builder.new }
+        ensures gives { (x : operands.Operand) → IsOperandOf (signatures F.set self.now) builder.old operand x → (place : List ℕ) → start ≡ length (encode_utf8_all place)
+            → Makes a_basic builder.new result reader.now (test_at (signatures F.set self.now) (deeper F.set self.now) place x (left reader.now)) }
+    {
+        match operand {
+            Operand::Literal(_literal) => Err(reader.refuse(
+                ParseErrorKind::ExpectedComparisonOperator,
+                Place::LongHand,
+            )),
+            Operand::Query(query) => {
+                let test = builder.exist(query)?;
+                Ok(test)
+            }
+            Operand::Call(call, result) => {
+                if result == FunctionArgType::Value {
+                    return Err(Stop::in_long_hand(ParseErrorKind::WrongReturnType, start));
+                }
+                let test = builder.test(call)?;
+                Ok(test)
+            }
+        }
+    }
+}

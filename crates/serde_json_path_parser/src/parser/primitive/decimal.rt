@@ -1,0 +1,23 @@
+//! Digits.
+
+ghost use Rattle.std.specs.Prelude.{◌≡◌, ◌-◌, ◌^◌, min};
+ghost use Rattle.serde_json_path_parser.specs.Lexical.{is_digit, value_from};
+ghost use Rattle.serde_json_path_parser.specs.Parsed.{front, behind};
+ghost use Rattle.serde_json_path_parser.specs.Reading.{left, Moves};
+
+use crate::parser::reader::Reader;
+use crate::source::PathSource;
+
+/// The number that the digits which are next write, or `u128::MAX` where it is greater.
+pub(crate) fn decimal<S: PathSource>(reader: &mut Reader<'_, S>) -> u128
+    ensures moves { Moves reader.old reader.new }
+    ensures value { result ≡ min (value_from 0 (front is_digit (left reader.old))) (2 ^ 128 - 1) }
+    ensures rest { left reader.new ≡ behind is_digit (left reader.old) }
+{
+    let mut n: u128 = 0;
+    while reader.sees_digit() {
+        let digit = reader.take_char() as u128 - 48;
+        n = n.saturating_mul(10).saturating_add(digit);
+    }
+    n
+}

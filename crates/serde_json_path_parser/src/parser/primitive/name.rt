@@ -1,0 +1,30 @@
+//! Member names.
+
+ghost use Rattle.std.specs.Prelude.{◌≡◌, string_bytes};
+ghost use Rattle.serde_json_path_parser.specs.Giving.{Gives, IsNear};
+ghost use Rattle.serde_json_path_parser.specs.Parsing.{name_at};
+ghost use Rattle.serde_json_path_parser.specs.Reading.{left, Moves};
+
+use crate::error::{ParseErrorKind, Place, Stop};
+use crate::parser::reader::Reader;
+use crate::source::PathSource;
+use std::alloc::Global;
+
+/// A member name (RFC 9535, section 2.5.1.1).
+#[tactic(auto, unfolding(crate::specs::Parsing::name_at))]
+pub(crate) fn name<S: PathSource>(
+    alloc: Global,
+    reader: &mut Reader<'_, S>,
+    place: Place,
+) -> Result<String, Stop>
+    ensures moves { Moves reader.old reader.new }
+    ensures near { IsNear result reader.new }
+    ensures gives { Gives (λ text. string_bytes text) result reader.new (name_at place (left reader.old)) }
+{
+    if !reader.sees_name_first() {
+        return Err(reader.refuse(ParseErrorKind::BadMemberName, place));
+    }
+    let mut text = String::new(alloc);
+    reader.take_name_chars(&mut text)?;
+    Ok(text)
+}

@@ -1,0 +1,43 @@
+//! Comparison operators.
+
+ghost use Rattle.std.specs.Prelude.{◌≡◌, IsNone, option_map};
+ghost use Rattle.serde_json_path_core.specs.Literals.{operator_view};
+ghost use Rattle.serde_json_path_parser.specs.Filters.{operator_at};
+ghost use Rattle.serde_json_path_parser.specs.Reading.{left, Moves};
+
+use crate::parser::reader::Reader;
+use crate::source::PathSource;
+use serde_json_path_core::ComparisonOperator;
+
+/// The comparison operator that stands here, the longest one; it is taken (RFC 9535, section 2.3.5.1).
+pub(crate) fn operator<S: PathSource>(reader: &mut Reader<'_, S>) -> Option<ComparisonOperator>
+    ensures moves { Moves reader.old reader.new }
+    ensures stays { IsNone result → left reader.new ≡ left reader.old }
+    ensures value { operator_at (left reader.old) ≡ option_map (λ op. (operator_view op, left reader.new)) result }
+{
+    if reader.sees_both(b'=', b'=') {
+        reader.take_two();
+        return Some(ComparisonOperator::EqualTo);
+    }
+    if reader.sees_both(b'!', b'=') {
+        reader.take_two();
+        return Some(ComparisonOperator::NotEqualTo);
+    }
+    if reader.sees_both(b'<', b'=') {
+        reader.take_two();
+        return Some(ComparisonOperator::LessThanEqualTo);
+    }
+    if reader.sees(b'<') {
+        reader.take_char();
+        return Some(ComparisonOperator::LessThan);
+    }
+    if reader.sees_both(b'>', b'=') {
+        reader.take_two();
+        return Some(ComparisonOperator::GreaterThanEqualTo);
+    }
+    if reader.sees(b'>') {
+        reader.take_char();
+        return Some(ComparisonOperator::GreaterThan);
+    }
+    None
+}

@@ -1,0 +1,161 @@
+//! String literals.
+
+ghost use Rattle.std.specs.Prelude.{◌≡◌, ◌==◌, ◌<◌, ◌≤◌, ◌+◌, ◌^◌, ℕ, List, length, true, IfOk, string_bytes};
+ghost use Rattle.std.specs.Char.{IsScalar};
+ghost use Rattle.std.specs.Str.{encode_utf8_all};
+ghost use Rattle.serde_json_path_parser.specs.Giving.{Gives, IsNear};
+ghost use Rattle.serde_json_path_parser.specs.Lexical.{begins, IsQuote};
+ghost use Rattle.serde_json_path_parser.specs.Reading.{left, Moves};
+ghost use Rattle.serde_json_path_parser.specs.Strings.{hexadecimal_at, hex4_at, is_high, low_at, unicode_at, escape_at, piece_at, is_inside, string_at};
+
+use crate::error::{ParseErrorKind, Place, Stop};
+use crate::parser::reader::Reader;
+use crate::source::PathSource;
+use std::alloc::Global;
+
+/// The value of a hexadecimal digit of either case.
+#[tactic(auto, unfolding(crate::specs::Strings::hexadecimal_at))]
+fn hexadecimal<S: PathSource>(reader: &mut Reader<'_, S>, start: usize) -> Result<u32, Stop>
+    ensures moves { Moves reader.old reader.new }
+    ensures near { IsNear result reader.new }
+    ensures small { IfOk result (λ n. n < 16) }
+    ensures gives { (escape : List ℕ) → start ≡ length (encode_utf8_all escape) → Gives (λ n. n) result reader.new (hexadecimal_at escape (left reader.old)) }
+{
+    if !reader.sees_hexadecimal() {
+        return Err(Stop::in_long_hand(ParseErrorKind::BadEscape, start));
+    }
+    let digit = reader.take_char() as u32;
+    if digit <= 57 {
+        Ok(digit - 48)
+    } else if digit <= 70 {
+        Ok(digit - 55)
+    } else {
+        Ok(digit - 87)
+    }
+}
+
+/// The value of four hexadecimal digits.
+#[tactic(auto, unfolding(crate::specs::Strings::hex4_at))]
+fn hex4<S: PathSource>(reader: &mut Reader<'_, S>, start: usize) -> Result<u32, Stop>
+    ensures moves { Moves reader.old reader.new }
+    ensures near { IsNear result reader.new }
+    ensures small { IfOk result (λ n. n < 65536) }
+    ensures gives { (escape : List ℕ) → start ≡ length (encode_utf8_all escape) → Gives (λ n. n) result reader.new (hex4_at escape (left reader.old)) }
+{
+    let a = hexadecimal(reader, start)?;
+    let b = hexadecimal(reader, start)?;
+    let c = hexadecimal(reader, start)?;
+    let d = hexadecimal(reader, start)?;
+    Ok(4096 * a + 256 * b + 16 * c + d)
+}
+
+/// The character of a pair of surrogates, behind the high one.
+#[tactic(auto, unfolding(crate::specs::Strings::low_at))]
+fn low<S: PathSource>(reader: &mut Reader<'_, S>, start: usize, high: u32) -> Result<char, Stop>
+    requires { is_high high ≡ true }
+    ensures moves { Moves reader.old reader.new }
+    ensures near { IsNear result reader.new }
+    ensures gives { (escape : List ℕ) → start ≡ length (encode_utf8_all escape) → Gives (λ c. c) result reader.new (low_at escape high (left reader.old)) }
+{
+    if !reader.sees(b'\\') {
+        return Err(Stop::in_long_hand(ParseErrorKind::BadEscape, start));
+    }
+    reader.take_char();
+    if !reader.sees(b'u') {
+        return Err(Stop::in_long_hand(ParseErrorKind::BadEscape, start));
+    }
+    reader.take_char();
+    let low = hex4(reader, start)?;
+    if low < 0xdc00 || low > 0xdfff {
+        return Err(Stop::in_long_hand(ParseErrorKind::BadEscape, start));
+    }
+    Ok(char::from_u32(0x10000 + 0x400 * (high - 0xd800) + (low - 0xdc00)).unwrap())
+}
+
+/// The character of an escape, behind its `u`.
+#[tactic(auto, unfolding(crate::specs::Strings::unicode_at))]
+fn unicode<S: PathSource>(reader: &mut Reader<'_, S>, start: usize) -> Result<char, Stop>
+    ensures moves { Moves reader.old reader.new }
+    ensures near { IsNear result reader.new }
+    ensures gives { (escape : List ℕ) → start ≡ length (encode_utf8_all escape) → Gives (λ c. c) result reader.new (unicode_at escape (left reader.old)) }
+{
+    let code = hex4(reader, start)?;
+    if code >= 0xd800 && code <= 0xdbff {
+        return low(reader, start, code);
+    }
+    if code >= 0xdc00 && code <= 0xdfff {
+        return Err(Stop::in_long_hand(ParseErrorKind::BadEscape, start));
+    }
+    Ok(char::from_u32(code).unwrap())
+}
+
+/// The character of an escape, at its backslash.
+#[tactic(auto, unfolding(crate::specs::Strings::escape_at))]
+fn escape<S: PathSource>(reader: &mut Reader<'_, S>, quote: u8) -> Result<char, Stop>
+    requires quote { quote < 128 }
+    requires slash { begins (λ c. c == 92) (left reader.old) ≡ true }
+    ensures moves { Moves reader.old reader.new }
+    ensures near { IsNear result reader.new }
+    ensures gives { Gives (λ c. c) result reader.new (escape_at quote (left reader.old)) }
+{
+    let start = reader.bytes_left();
+    reader.take_char();
+    if reader.sees(b'u') {
+        reader.take_char();
+        return unicode(reader, start);
+    }
+    if !reader.sees_letter_escape(quote) {
+        return Err(Stop::in_long_hand(ParseErrorKind::BadEscape, start));
+    }
+    let letter = reader.take_char();
+    Ok(match letter {
+        'b' => '\u{8}',
+        'f' => '\u{c}',
+        'n' => '\n',
+        'r' => '\r',
+        't' => '\t',
+        _ => letter,
+    })
+}
+
+/// One character of a string, or an escape that stands for one.
+#[tactic(auto, unfolding(crate::specs::Strings::piece_at))]
+fn piece<S: PathSource>(reader: &mut Reader<'_, S>, quote: u8) -> Result<char, Stop>
+    requires quote { quote < 128 }
+    requires inside { begins (is_inside quote) (left reader.old) ≡ true }
+    ensures moves { Moves reader.old reader.new }
+    ensures near { IsNear result reader.new }
+    ensures gives { Gives (λ c. c) result reader.new (piece_at quote (left reader.old)) }
+{
+    if reader.sees(b'\\') {
+        return escape(reader, quote);
+    }
+    if reader.sees_control() {
+        return Err(reader.refuse(ParseErrorKind::ControlCharacter, Place::LongHand));
+    }
+    Ok(reader.take_char())
+}
+
+/// A string (RFC 9535, section 2.3.1.1), behind its opening quote, up to and with the ending one.
+#[tactic(auto, unfolding(crate::specs::Strings::string_at))]
+pub(crate) fn string<S: PathSource>(
+    alloc: Global,
+    reader: &mut Reader<'_, S>,
+    quote: u8,
+) -> Result<String, Stop>
+    requires { IsQuote quote }
+    ensures moves { Moves reader.old reader.new }
+    ensures near { IsNear result reader.new }
+    ensures gives { Gives (λ text. string_bytes text) result reader.new (string_at quote (left reader.old)) }
+{
+    let mut text = String::new(alloc);
+    'pieces: while reader.sees_inside(quote) {
+        let c = piece(reader, quote)?;
+        text.push(c)?;
+    }
+    if !reader.sees(quote) {
+        return Err(reader.refuse(ParseErrorKind::ExpectedEndingQuote, Place::LongHand));
+    }
+    reader.take_char();
+    Ok(text)
+}

@@ -1,0 +1,54 @@
+//! The whole query.
+
+ghost use Rattle.std.specs.Prelude.{◌≡◌, false, IfErr};
+ghost use Rattle.serde_json_path_parser.specs.Filters.{path_at};
+ghost use Rattle.serde_json_path_parser.specs.Giving.{GivesQuery, IsNear, IsRefused};
+ghost use Rattle.serde_json_path_parser.specs.Parsing.{opens_behind_root};
+ghost use Rattle.serde_json_path_parser.specs.Reading.{left, Moves};
+
+use crate::error::{ParseErrorKind, Place, Refusal, Stop};
+use crate::parser::level::Level;
+use crate::parser::reader::Reader;
+use crate::source::PathSource;
+use serde_json_path_core::functions::Functions;
+use serde_json_path_core::{Checked, QueryKind, SyntaxBuilder};
+use std::alloc::Global;
+
+/// `$` and segments up to the end of the text (RFC 9535, section 2.1.1), whose filters call functions of this set.
+///
+/// Memory is asked for only once a segment has begun.
+#[tactic(auto, unfolding(crate::specs::Filters::path_at))]
+pub(crate) fn query<S: PathSource, F: Functions>(
+    alloc: Global,
+    reader: &mut Reader<'_, S>,
+    functions: &F,
+) -> Result<Checked, Stop>
+    ensures moves { Moves reader.old reader.new }
+    ensures near { IsNear result reader.new }
+    ensures gives { GivesQuery (F.set functions.now) result (path_at (F.set functions.now).signature (left reader.old)) }
+    ensures spares { IfErr result (λ stop. opens_behind_root (left reader.old) ≡ false → IsRefused stop) }
+{
+    if !reader.sees(b'$') {
+        return Err(reader.refuse(ParseErrorKind::ExpectedRoot, Place::Path));
+    }
+    reader.take_char();
+    let mut builder = SyntaxBuilder::new(alloc);
+    let (parts, rest) = Level::outermost(alloc, functions).segments(
+        &mut builder,
+        reader,
+        Place::Path,
+    )?;
+    if rest != 0 {
+        return Err(Stop::Refused(Refusal {
+            kind: ParseErrorKind::TextAfterPath,
+            place: Place::Path,
+            left: rest,
+        }));
+    }
+    if parts.is_empty() {
+        return Ok(Checked::new(alloc));
+    }
+    let part = builder.query(QueryKind::Root, parts)?;
+    let used = builder.signatures(alloc, part, functions)?;
+    Ok(builder.finish(part, used))
+}

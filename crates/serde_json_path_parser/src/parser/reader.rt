@@ -1,0 +1,459 @@
+//! A text that is read character by character, and each byte looked at once.
+
+ghost use Rattle.std.specs.Prelude.{◌≡◌, ◌==◌, ◌<◌, ◌≤◌, ◌+◌, ◌-◌, ◌^◌, ◌∷◌, ℕ, length, slice_get, drop, true, max, None, IfOk, string_bytes, ◌++◌};
+ghost use Rattle.std.specs.Str.{is_utf8, chars, encode_utf8_all as encoded};
+ghost use Rattle.std.specs.Char.{IsScalar};
+ghost use Rattle.serde_json_path_parser.specs.Lexical.{begins, begins_both, is_blank, is_digit, is_name_first, is_name_char, is_small_letter, is_function_char};
+ghost use Rattle.serde_json_path_parser.specs.Ahead.{is_ascii, limit_of, IsAhead, IsSecond};
+ghost use Rattle.serde_json_path_parser.specs.Looking.{up_to};
+ghost use Rattle.serde_json_path_parser.specs.Parsed.{front, behind};
+ghost use Rattle.serde_json_path_parser.specs.Numbers.{is_exponent};
+ghost use Rattle.serde_json_path_parser.specs.Strings.{is_hexadecimal, is_letter_escape, is_control, is_inside};
+
+use crate::error::{ParseErrorKind, Place, Refusal, Stop};
+use crate::parser::decode::{byte_at, byte_below, wide_character_at};
+use crate::parser::name_part::push_name_part;
+use crate::source::PathSource;
+use std::alloc::AllocError;
+
+/// A text with one byte of look-ahead, and with a second one where the next may be the first of two that are asked for. A
+/// character is decoded only when it is taken, so that no byte beyond these is looked at.
+pub(crate) struct Reader<'s, S: PathSource> {
+    pub(crate) source: &'s mut S,
+    index: usize,
+    next: Option<u8>,
+    /// The byte behind the next one, where it was looked at.
+    second: Option<Option<u8>>,
+    /// Below this index a byte may be looked at: the text's length, or 0 while `second` is known.
+    limit: usize,
+    ghost short: { length (S.told source.now).text < 2 ^ 64 - 1 },
+    ghost within: { index ≤ length (S.told source.now).text },
+    ghost utf8: { is_utf8 (drop index (S.told source.now).text) ≡ true },
+    ghost next_is: { next ≡ slice_get (S.told source.now).text index },
+    ghost second_is: { IsSecond second next (slice_get (S.told source.now).text (index + 1)) },
+    ghost limit_is: { limit ≡ limit_of second (length (S.told source.now).text) },
+}
+
+impl<'s, S: PathSource> Reader<'s, S> {
+    ghost use Rattle.std.specs.Str.{encode_utf8_all};
+    ghost use Rattle.serde_json_path_parser.specs.Parsed.{refusal, past_blanks};
+    ghost use Rattle.serde_json_path_parser.specs.Parsing.{is_first_digit, begins_int, opens};
+    ghost use Rattle.serde_json_path_parser.specs.Reading.{told, left, seen, Moves};
+    ghost use Rattle.serde_json_path_parser.specs.Filters.{ends_argument};
+    ghost use Rattle.serde_json_path_parser.specs.Giving.{StopsNear};
+
+    /// A reader at the start of a text.
+    pub(crate) fn new(source: &'s mut S) -> Reader<'s, S>
+        requires { length (S.told source.old).text < 2 ^ 64 - 1 }
+        ensures same_source { result.source.ghost_name ≡ source.entry.ghost_name }
+        ensures same_text { (told result).text ≡ (S.told source.old).text }
+        ensures left { left result ≡ chars (S.told source.old).text }
+        ensures looks { (told result).looks ≤ (S.told source.old).looks + seen result }
+        ensures farthest { (told result).farthest ≤ max (S.told source.old).farthest (seen result) }
+    {
+        let limit = source.len();
+        let next = byte_at(source, 0);
+        Reader {
+            source,
+            index: 0,
+            next,
+            second: None,
+            limit,
+        }
+    }
+
+    /// A reader at an index of a text, where this byte is next.
+    fn resume(source: &'s mut S, index: usize, next: Option<u8>) -> Reader<'s, S>
+        requires short { length (S.told source.old).text < 2 ^ 64 - 1 }
+        requires within { index ≤ length (S.told source.old).text }
+        requires utf8 { is_utf8 (drop index (S.told source.old).text) ≡ true }
+        requires next_is { next ≡ slice_get (S.told source.old).text index }
+        ensures same_source { result.source.ghost_name ≡ source.entry.ghost_name }
+        ensures told { told result ≡ S.told source.old }
+        ensures index { result.index ≡ index }
+        ensures next { result.next ≡ next }
+        ensures second { result.second ≡ None }
+    {
+        let limit = source.len();
+        Reader {
+            source,
+            index,
+            next,
+            second: None,
+            limit,
+        }
+    }
+
+    /// The byte that is next.
+    fn peek(&self) -> Option<u8>
+        ensures { IsAhead result (left self.now) }
+    {
+        self.next
+    }
+
+    /// Takes the next character.
+    #[inline(always)]
+    pub(crate) fn take_char(&mut self) -> char
+        requires { 0 < length (left self.old) }
+        ensures value { left self.old ≡ result ∷ left self.new }
+        ensures scalar { IsScalar result }
+        ensures moves { Moves self.old self.new }
+        ensures second { self.new.second ≡ None }
+    {
+        let lead = self.next.unwrap();
+        // A character of one byte has a way of its own, in which nothing is decoded.
+        if lead < 0x80 {
+            self.index += 1;
+            // One test finds both the text's end and a known byte, so that a second byte costs the others nothing.
+            match byte_below(self.source, self.index, self.limit) {
+                Some(next) => self.next = Some(next),
+                None => match self.second {
+                    Some(second) => {
+                        self.next = second;
+                        self.second = None;
+                        self.limit = self.source.len();
+                    }
+                    None => self.next = None,
+                },
+            }
+            return lead as char;
+        }
+        let (c, width) = wide_character_at(self.source, self.index, lead);
+        self.index += width;
+        self.next = byte_at(self.source, self.index);
+        c
+    }
+
+    /// Takes the next two characters.
+    pub(crate) fn take_two(&mut self)
+        requires { 1 < length (left self.old) }
+        ensures moves { Moves self.old self.new }
+        ensures left { left self.new ≡ drop 2 (left self.old) }
+    {
+        self.take_char();
+        self.take_char();
+    }
+
+    /// Whether an argument ends here.
+    pub(crate) fn sees_end_of_argument(&self) -> bool
+        ensures { result ≡ begins ends_argument (left self.now) }
+    {
+        self.sees(b',') || self.sees(b')')
+    }
+
+    /// How many bytes are left.
+    pub(crate) fn bytes_left(&self) -> usize
+        ensures value { result ≡ length (encode_utf8_all (left self.now)) }
+        ensures sum { result + self.now.index ≡ length (told self.now).text }
+    {
+        self.source.len() - self.index
+    }
+
+    /// A refusal at the next character.
+    pub(crate) fn refuse(&self, kind: ParseErrorKind, place: Place) -> Stop
+        ensures value { result ≡ Stop.Refused (refusal kind place (left self.now)) }
+        ensures near { StopsNear result self.now }
+    {
+        Stop::Refused(Refusal {
+            kind,
+            place,
+            left: self.bytes_left(),
+        })
+    }
+
+    /// A refusal at the ASCII character that was just taken.
+    pub(crate) fn refuse_before(&self, kind: ParseErrorKind, place: Place) -> Stop
+        requires { self.now.second ≡ None }
+        ensures value { (c : ℕ) → c < 128 → result ≡ Stop.Refused (refusal kind place (c ∷ left self.now)) }
+        ensures near { StopsNear result self.now }
+    {
+        Stop::Refused(Refusal {
+            kind,
+            place,
+            left: self.bytes_left() + 1,
+        })
+    }
+
+    /// Whether this ASCII character is next.
+    pub(crate) fn sees(&self, b: u8) -> bool
+        requires { b < 128 }
+        ensures { result ≡ begins (λ c. c == b) (left self.now) }
+    {
+        match self.peek() {
+            Some(next) => next == b,
+            None => false,
+        }
+    }
+
+    /// The byte behind the next one, which is ASCII. It is looked at once.
+    fn peek_second(&mut self) -> Option<u8>
+        requires { is_ascii self.old.next ≡ true }
+        ensures moves { Moves self.old self.new }
+        ensures stays { left self.new ≡ left self.old }
+        ensures value { IsAhead result (drop 1 (left self.old)) }
+    {
+        if let Some(second) = self.second {
+            return second;
+        }
+        let second = byte_at(self.source, self.index + 1);
+        self.second = Some(second);
+        self.limit = 0;
+        second
+    }
+
+    /// Whether these two ASCII characters are next. The byte behind the next one is looked at, once, only where the first
+    /// fits.
+    pub(crate) fn sees_both(&mut self, first: u8, second: u8) -> bool
+        requires first { first < 128 }
+        requires second { second < 128 }
+        ensures moves { Moves self.old self.new }
+        ensures stays { left self.new ≡ left self.old }
+        ensures value { result ≡ begins_both first second (left self.old) }
+    {
+        if !self.sees(first) {
+            return false;
+        }
+        match self.peek_second() {
+            Some(next) => next == second,
+            None => false,
+        }
+    }
+
+    /// Whether a blank is next.
+    pub(crate) fn sees_blank(&self) -> bool
+        ensures { result ≡ begins is_blank (left self.now) }
+    {
+        match self.peek() {
+            Some(next) => matches!(next, b' ' | b'\t' | b'\n' | b'\r'),
+            None => false,
+        }
+    }
+
+    /// Takes the blanks that are next.
+    pub(crate) fn skip_blanks(&mut self)
+        ensures moves { Moves self.old self.new }
+        ensures left { left self.new ≡ past_blanks (left self.old) }
+    {
+        while self.sees_blank() {
+            self.take_char();
+        }
+    }
+
+    /// Whether a digit is next.
+    pub(crate) fn sees_digit(&self) -> bool
+        ensures { result ≡ begins is_digit (left self.now) }
+    {
+        match self.peek() {
+            Some(next) => next.is_ascii_digit(),
+            None => false,
+        }
+    }
+
+    /// Whether a small letter is next.
+    pub(crate) fn sees_small_letter(&self) -> bool
+        ensures { result ≡ begins is_small_letter (left self.now) }
+    {
+        match self.peek() {
+            Some(next) => next.is_ascii_lowercase(),
+            None => false,
+        }
+    }
+
+    /// Whether a function's name goes on here.
+    pub(crate) fn sees_function_char(&self) -> bool
+        ensures { result ≡ begins is_function_char (left self.now) }
+    {
+        self.sees_small_letter() || self.sees(b'_') || self.sees_digit()
+    }
+
+    /// Whether a digit is next that is not `0`.
+    pub(crate) fn sees_first_digit(&self) -> bool
+        ensures { result ≡ begins is_first_digit (left self.now) }
+    {
+        match self.peek() {
+            Some(next) => next >= b'1' && next <= b'9',
+            None => false,
+        }
+    }
+
+    /// Whether an exponent begins here.
+    pub(crate) fn sees_exponent(&self) -> bool
+        ensures { result ≡ begins is_exponent (left self.now) }
+    {
+        match self.peek() {
+            Some(next) => matches!(next, b'e' | b'E'),
+            None => false,
+        }
+    }
+
+    /// Whether an integer begins here.
+    pub(crate) fn sees_int(&self) -> bool
+        ensures { result ≡ begins begins_int (left self.now) }
+    {
+        self.sees(b'-') || self.sees_digit()
+    }
+
+    /// Whether a member name begins here.
+    pub(crate) fn sees_name_first(&self) -> bool
+        ensures { result ≡ begins is_name_first (left self.now) }
+    {
+        match self.peek() {
+            Some(next) => next >= 128 || next.is_ascii_alphabetic() || next == b'_',
+            None => false,
+        }
+    }
+
+    /// Whether a member name goes on here.
+    pub(crate) fn sees_name_char(&self) -> bool
+        ensures { result ≡ begins is_name_char (left self.now) }
+    {
+        self.sees_name_first() || self.sees_digit()
+    }
+
+    /// Takes the characters of a member name that are next, and puts them behind a text.
+    pub(crate) fn take_name_chars(&mut self, text: &mut String) -> Result<(), AllocError>
+        ensures moves { Moves self.old self.new }
+        ensures text { IfOk result (λ u. string_bytes text.new ≡ string_bytes text.old ++ encode_utf8_all (front is_name_char (left self.old))) }
+        ensures rest { IfOk result (λ u. left self.new ≡ behind is_name_char (left self.old)) }
+    {
+        if self.second.is_some() {
+            if !self.sees_name_char() {
+                return Ok(());
+            }
+            text.push(self.take_char())?;
+        }
+        let (index, next, pushed) = name_chars(self.source, self.index, self.next, text);
+        self.index = index;
+        self.next = next;
+        pushed
+    }
+
+    /// Takes one or more characters of a member name that are next, and puts them behind a text.
+    fn take_name_part(&mut self, text: &mut String) -> Result<(), AllocError>
+        requires begun { begins is_name_char (left self.old) ≡ true }
+        requires second { self.old.second ≡ None }
+        ensures moves { Moves self.old self.new }
+        ensures second { self.new.second ≡ None }
+        ensures less { length (left self.new) < length (left self.old) }
+        ensures text { IfOk result (λ u. string_bytes text.new ++ encode_utf8_all (front is_name_char (left self.new)) ≡ string_bytes text.old ++ encode_utf8_all (front is_name_char (left self.old))) }
+        ensures rest { behind is_name_char (left self.new) ≡ behind is_name_char (left self.old) }
+    {
+        let first = self.next.unwrap();
+        // Many at a time only behind a longer text, since a short name would gain nothing.
+        if first >= 0x80 || text.len() < 32 {
+            return text.push(self.take_char());
+        }
+        let (index, next, pushed) = push_name_part(self.source, self.index, first, text);
+        self.index = index;
+        self.next = next;
+        pushed
+    }
+
+    /// Whether a hexadecimal digit is next.
+    pub(crate) fn sees_hexadecimal(&self) -> bool
+        ensures { result ≡ begins is_hexadecimal (left self.now) }
+    {
+        match self.peek() {
+            Some(next) => next.is_ascii_hexdigit(),
+            None => false,
+        }
+    }
+
+    /// Whether a character is next that stands behind a backslash for one character, in a string of these quotes; not
+    /// for `u`.
+    pub(crate) fn sees_letter_escape(&self, quote: u8) -> bool
+        requires { quote < 128 }
+        ensures { result ≡ begins (is_letter_escape quote) (left self.now) }
+    {
+        match self.peek() {
+            Some(next) => {
+                matches!(next, b'b' | b'f' | b'n' | b'r' | b't' | b'/' | b'\\') || next == quote
+            }
+            None => false,
+        }
+    }
+
+    /// Whether a control character is next.
+    pub(crate) fn sees_control(&self) -> bool
+        ensures { result ≡ begins is_control (left self.now) }
+    {
+        match self.peek() {
+            Some(next) => next < 32,
+            None => false,
+        }
+    }
+
+    /// Whether a string of these quotes goes on here.
+    pub(crate) fn sees_inside(&self, quote: u8) -> bool
+        requires { quote < 128 }
+        ensures { result ≡ begins (is_inside quote) (left self.now) }
+    {
+        match self.peek() {
+            Some(next) => next != quote,
+            None => false,
+        }
+    }
+
+    /// Whether a segment begins here.
+    pub(crate) fn sees_segment(&self) -> bool
+        ensures { result ≡ begins opens (left self.now) }
+    {
+        self.sees(b'.') || self.sees(b'[')
+    }
+
+    /// The length of the text in bytes.
+    pub(crate) fn len(&self) -> usize
+        ensures { result ≡ length (told self.now).text }
+    {
+        self.source.len()
+    }
+
+    /// Gives the source back to its owner.
+    pub(crate) fn close(self)
+        ensures { self.exit.0.now ≡ self.entry.source.now }
+    {
+        let Reader {
+            source: _,
+            index: _,
+            next: _,
+            second: _,
+            limit: _,
+        } = self;
+    }
+}
+
+/// Takes the characters of a member name that stand at an index, where this byte is next: the index and the next byte
+/// behind them. The reader is a local one, so that long names are read without a step through memory for each byte.
+fn name_chars<S: PathSource>(
+    source: &mut S,
+    index: usize,
+    next: Option<u8>,
+    text: &mut String,
+) -> (usize, Option<u8>, Result<(), AllocError>)
+    requires short { length (S.told source.old).text < 2 ^ 64 - 1 }
+    requires within { index ≤ length (S.told source.old).text }
+    requires utf8 { is_utf8 (drop index (S.told source.old).text) ≡ true }
+    requires next_is { next ≡ slice_get (S.told source.old).text index }
+    ensures same_text { (S.told source.new).text ≡ (S.told source.old).text }
+    ensures within { result.0 ≤ length (S.told source.new).text }
+    ensures utf8 { is_utf8 (drop result.0 (S.told source.new).text) ≡ true }
+    ensures next_is { result.1 ≡ slice_get (S.told source.new).text result.0 }
+    ensures looks { (S.told source.new).looks + up_to index next ≤ (S.told source.old).looks + up_to result.0 result.1 }
+    ensures farthest { (S.told source.new).farthest ≤ max (S.told source.old).farthest (up_to result.0 result.1) }
+    ensures on { up_to index next ≤ up_to result.0 result.1 }
+    ensures text { IfOk result.2 (λ u. string_bytes text.new ≡ string_bytes text.old ++ encoded (front is_name_char (chars (drop index (S.told source.old).text)))) }
+    ensures rest { IfOk result.2 (λ u. chars (drop result.0 (S.told source.new).text) ≡ behind is_name_char (chars (drop index (S.told source.old).text))) }
+{
+    let mut reader = Reader::resume(source, index, next);
+    let mut pushed = Ok(());
+    while reader.sees_name_char() {
+        pushed = reader.take_name_part(text);
+        if pushed.is_err() {
+            break;
+        }
+    }
+    let index = reader.index;
+    let next = reader.next;
+    reader.close();
+    (index, next, pushed)
+}

@@ -1,0 +1,149 @@
+//! Selectors.
+
+ghost use Rattle.std.specs.Prelude.{◌≡◌, ◌==◌, ℕ, List, true, false};
+ghost use Rattle.serde_json_path_core.specs.Parts.{KeepsParts};
+ghost use Rattle.serde_json_path_core.specs.Piece.{a_selector};
+ghost use Rattle.serde_json_path_core.specs.Tree.{Selector};
+ghost use Rattle.serde_json_path_parser.specs.Giving.{Makes, MakesSelectors, IsNear};
+ghost use Rattle.serde_json_path_parser.specs.Levels.{filter_at};
+ghost use Rattle.serde_json_path_parser.specs.Parsed.{Parsed, past_blanks};
+ghost use Rattle.serde_json_path_parser.specs.Lexical.{begins, IsQuote};
+ghost use Rattle.serde_json_path_parser.specs.Parsing.{position_at, quoted_at, selector_at, selectors_at};
+ghost use Rattle.serde_json_path_parser.specs.Reading.{left, Moves};
+
+use crate::error::Stop;
+use crate::parser::level::Level;
+use crate::parser::primitive::int::int;
+use crate::parser::primitive::string::string;
+use crate::parser::reader::Reader;
+use crate::parser::slice::rest_of_slice;
+use crate::source::PathSource;
+use serde_json_path_core::functions::Functions;
+use serde_json_path_core::{Part, Parts, SyntaxBuilder};
+use std::alloc::Global;
+
+/// An index, or a slice that begins with an integer, and the blanks behind it (RFC 9535, sections 2.3.3 and 2.3.4).
+#[tactic(auto, unfolding(crate::specs::Parsing::position_at))]
+fn position<S: PathSource>(
+    builder: &mut SyntaxBuilder,
+    reader: &mut Reader<'_, S>,
+) -> Result<Part, Stop>
+    ensures moves { Moves reader.old reader.new }
+    ensures near { IsNear result reader.new }
+    ensures keeps { KeepsParts builder.old builder.new }
+    ensures gives { Makes a_selector builder.new result reader.new (position_at (left reader.old)) }
+{
+    let start = int(reader)?;
+    reader.skip_blanks();
+    if reader.sees(b':') {
+        reader.take_char();
+        let slice = rest_of_slice(reader, Some(start))?;
+        let selector = builder.slice(slice)?;
+        return Ok(selector);
+    }
+    let selector = builder.index(start)?;
+    Ok(selector)
+}
+
+/// A name selector behind its opening quote, and the blanks behind it (RFC 9535, section 2.3.1).
+#[tactic(auto, unfolding(crate::specs::Parsing::quoted_at))]
+fn quoted<S: PathSource>(
+    alloc: Global,
+    builder: &mut SyntaxBuilder,
+    reader: &mut Reader<'_, S>,
+    quote: u8,
+) -> Result<Part, Stop>
+    requires { IsQuote quote }
+    ensures moves { Moves reader.old reader.new }
+    ensures near { IsNear result reader.new }
+    ensures keeps { KeepsParts builder.old builder.new }
+    ensures gives { Makes a_selector builder.new result reader.new (quoted_at quote (left reader.old)) }
+{
+    let text = string(alloc, reader, quote)?;
+    reader.skip_blanks();
+    let selector = builder.name(text)?;
+    Ok(selector)
+}
+
+/// A selector that is no filter, and the blanks behind it (RFC 9535, section 2.3).
+#[tactic(auto, unfolding(crate::specs::Parsing::selector_at))]
+fn plain_selector<S: PathSource>(
+    alloc: Global,
+    builder: &mut SyntaxBuilder,
+    reader: &mut Reader<'_, S>,
+) -> Result<Part, Stop>
+    requires { begins (λ c. c == 63) (left reader.old) ≡ false }
+    ensures moves { Moves reader.old reader.new }
+    ensures near { IsNear result reader.new }
+    ensures keeps { KeepsParts builder.old builder.new }
+    ensures gives { (filter_at : List ℕ → Parsed Selector) → Makes a_selector builder.new result reader.new (selector_at filter_at (left reader.old)) }
+{
+    if reader.sees(b'\'') {
+        reader.take_char();
+        return quoted(alloc, builder, reader, b'\'');
+    }
+    if reader.sees(b'"') {
+        reader.take_char();
+        return quoted(alloc, builder, reader, b'"');
+    }
+    if reader.sees(b'*') {
+        reader.take_char();
+        reader.skip_blanks();
+        let wildcard = builder.wildcard()?;
+        return Ok(wildcard);
+    }
+    if reader.sees(b':') {
+        reader.take_char();
+        let slice = rest_of_slice(reader, None)?;
+        let selector = builder.slice(slice)?;
+        return Ok(selector);
+    }
+    position(builder, reader)
+}
+
+impl<F: Functions> Level<'_, F> {
+    /// A selector and the blanks behind it (RFC 9535, section 2.3).
+    #[cycle(level)]
+    fn selector<S: PathSource>(
+        &self,
+        builder: &mut SyntaxBuilder,
+        reader: &mut Reader<'_, S>,
+    ) -> Result<Part, Stop>
+        ensures moves { Moves reader.old reader.new }
+        ensures near { IsNear result reader.new }
+        ensures keeps { KeepsParts builder.old builder.new }
+        ensures gives { Makes a_selector builder.new result reader.new (selector_at (filter_at F.set self.now) (left reader.old)) }
+    {
+        if reader.sees(b'?') {
+            let test = self.inside(builder, reader)?;
+            let filter = builder.filter(test)?;
+            return Ok(filter);
+        }
+        plain_selector(self.alloc, builder, reader)
+    }
+
+    /// The selectors behind a bracket, with commas between them and blanks round them (RFC 9535, section 2.5.1).
+    #[cycle(level)]
+    pub(crate) fn selectors<S: PathSource>(
+        &self,
+        builder: &mut SyntaxBuilder,
+        reader: &mut Reader<'_, S>,
+    ) -> Result<Parts, Stop>
+        ensures moves { Moves reader.old reader.new }
+        ensures near { IsNear result reader.new }
+        ensures keeps { KeepsParts builder.old builder.new }
+        ensures gives { MakesSelectors builder.new result reader.new (selectors_at (filter_at F.set self.now) (left reader.old)) }
+    {
+        reader.skip_blanks();
+        let first = self.selector(builder, reader)?;
+        let mut parts = Parts::new(self.alloc);
+        parts.push(first)?;
+        'selectors: while reader.sees(b',') {
+            reader.take_char();
+            reader.skip_blanks();
+            let part = self.selector(builder, reader)?;
+            parts.push(part)?;
+        }
+        Ok(parts)
+    }
+}

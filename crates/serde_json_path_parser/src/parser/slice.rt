@@ -1,0 +1,66 @@
+//! Slices.
+
+ghost use Rattle.std.specs.Prelude.{IfOk};
+ghost use Rattle.serde_json_path_core.specs.SliceView.{slice_view};
+ghost use Rattle.serde_json_path_core.specs.WellFormed.{IsOptionalInteger};
+ghost use Rattle.serde_json_path_parser.specs.Giving.{Gives, IsNear};
+ghost use Rattle.serde_json_path_parser.specs.Parsing.{bound_at, step_at, slice_at};
+ghost use Rattle.serde_json_path_parser.specs.Reading.{left, Moves};
+
+use crate::error::Stop;
+use crate::parser::primitive::int::int;
+use crate::parser::reader::Reader;
+use crate::source::PathSource;
+use serde_json_path_core::Slice;
+
+/// A part of a slice and the blanks behind it, or nothing.
+#[tactic(auto, unfolding(crate::specs::Parsing::bound_at))]
+fn bound<S: PathSource>(reader: &mut Reader<'_, S>) -> Result<Option<i64>, Stop>
+    ensures moves { Moves reader.old reader.new }
+    ensures near { IsNear result reader.new }
+    ensures gives { Gives (λ i. i) result reader.new (bound_at (left reader.old)) }
+    ensures range { IfOk result (λ i. IsOptionalInteger i) }
+{
+    if !reader.sees_int() {
+        return Ok(None);
+    }
+    let i = int(reader)?;
+    reader.skip_blanks();
+    Ok(Some(i))
+}
+
+/// A second colon and a step, or nothing.
+#[tactic(auto, unfolding(crate::specs::Parsing::step_at))]
+fn step<S: PathSource>(reader: &mut Reader<'_, S>) -> Result<Option<i64>, Stop>
+    ensures moves { Moves reader.old reader.new }
+    ensures near { IsNear result reader.new }
+    ensures gives { Gives (λ i. i) result reader.new (step_at (left reader.old)) }
+    ensures range { IfOk result (λ i. IsOptionalInteger i) }
+{
+    if !reader.sees(b':') {
+        return Ok(None);
+    }
+    reader.take_char();
+    reader.skip_blanks();
+    bound(reader)
+}
+
+/// A slice (RFC 9535, section 2.3.4.1), behind its start and its first colon, and the blanks behind it.
+#[tactic(auto, unfolding(crate::specs::Parsing::slice_at))]
+pub(crate) fn rest_of_slice<S: PathSource>(
+    reader: &mut Reader<'_, S>,
+    start: Option<i64>,
+) -> Result<Slice, Stop>
+    requires { IsOptionalInteger start }
+    ensures moves { Moves reader.old reader.new }
+    ensures near { IsNear result reader.new }
+    ensures gives { Gives slice_view result reader.new (slice_at start (left reader.old)) }
+    ensures start { IfOk result (λ slice. IsOptionalInteger slice.start) }
+    ensures end { IfOk result (λ slice. IsOptionalInteger slice.end) }
+    ensures step { IfOk result (λ slice. IsOptionalInteger slice.step) }
+{
+    reader.skip_blanks();
+    let end = bound(reader)?;
+    let step = step(reader)?;
+    Ok(Slice { start, end, step })
+}
