@@ -12,7 +12,7 @@ use Rattle.std.proofs.lemmas.Int.Digits.{all_below_base_digits_of, first_digits_
 use Rattle.std.proofs.lemmas.Str.{encodes-append, encode_ascii, chars-encodes, encodes-chars, scalars-chars}
 use Rattle.serde_json_path_nodes.specs.Place.{Step, by_name, by_position, IsProper}
 use Rattle.serde_json_path_nodes.specs.Text.{hexadecimal_escape, escape_of, in_quotes, in_decimal, normal_step, normal}
-use Rattle.serde_json_path_core.specs.Tree.{largest, query, root, child, long_hand, no_selectors, selector}
+use Rattle.serde_json_path_syntax.specs.Tree.{largest, query, root, child, long_hand, no_selectors, selector}
 use Rattle.serde_json_path_functions.specs.Functions.{Signature}
 use Rattle.serde_json_path_parser.specs.Lexical.{begins, is_digit, AllPass, value_from, IsDecimal, IsInt, hexadecimal_of, IsHex4, is_plain, IsPiece, plain, quote_escape, letter_escape, hex_escape, ArePieces, IsString}
 use Rattle.serde_json_path_parser.specs.Grammar.{ReadSegments, ReadsSegment, ReadsSelector}

@@ -1,8 +1,8 @@
 -- What contracts see of a path.
 use Rattle.std.specs.Prelude.{ℕ, List, Result, Ok, Err}
-use Rattle.serde_json_path_core.specs.Tree.{Query}
-use Rattle.serde_json_path_core.specs.Parts.{tree_of, signatures_of}
-use Rattle.serde_json_path_core.specs.declared.syntax.checked.Checked.{Checked}
+use Rattle.serde_json_path_syntax.specs.Tree.{Query}
+use Rattle.serde_json_path_syntax.specs.Parts.{tree_of, signatures_of}
+use Rattle.serde_json_path_syntax.specs.declared.checked.Checked.{Checked}
 use Rattle.serde_json_path_functions.specs.Functions.{Signature}
 use Rattle.serde_json_path_parser.specs.declared.error.ParseError.{ParseError}
 use Rattle.serde_json_path.specs.declared.path.JsonPath.{JsonPath}

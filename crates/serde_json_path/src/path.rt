@@ -4,8 +4,9 @@ ghost use Rattle.std.specs.Prelude.{◌≡◌, List, map, IfOk, IfErr, IsTrue, �
 ghost use Rattle.serde_json.specs.View.{view};
 ghost use Rattle.serde_json_path_nodes.specs.Place.{Located};
 ghost use Rattle.serde_json_path_nodes.specs.Views.{located_nodes, node_values};
-ghost use Rattle.serde_json_path_core.specs.Calls.{EachCall, GoesWithoutPattern, IsClear};
-ghost use Rattle.serde_json_path_core.specs.Tree.{query, root, no_segments};
+ghost use Rattle.serde_json_path_syntax.specs.Calls.{EachCall};
+ghost use Rattle.serde_json_path_core.specs.Clear.{GoesWithoutPattern, IsClear};
+ghost use Rattle.serde_json_path_syntax.specs.Tree.{query, root, no_segments};
 ghost use Rattle.serde_json_path_core.specs.Meaning.{IsResult};
 ghost use Rattle.serde_json_path_core.specs.Walks.{rest, query_of, set_of, document_of, beginning_of};
 ghost use Rattle.serde_json_path_functions.specs.Functions.{both, Fits};

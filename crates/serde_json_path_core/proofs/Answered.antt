@@ -2,17 +2,18 @@
 use Rattle.std.proofs.Common.{◌≡◌, ◌⊎◌, ℕ, List, [], ◌∷◌, ◌++◌, length, map, inl, inr, Result, Ok, Err, IfOk, refl, sym, ap, subst, ◌∙◌}
 use Rattle.std.proofs.lemmas.List.{append-nil}
 use Rattle.serde_json.specs.Data.{Data}
-use Rattle.serde_json_path_core.specs.Tree.{Call, call, Arguments}
+use Rattle.serde_json_path_syntax.specs.Tree.{Call, call, Arguments}
 use Rattle.serde_json_path_functions.specs.Functions.{Term, FunctionSet}
 use Rattle.serde_json_path_functions.specs.Terms.{kind_view, term_view}
 use Rattle.serde_json_path_core.specs.Meaning.{params_of}
-use Rattle.serde_json_path_core.specs.Typing.{IsTypedCall, AreTypedArguments}
+use Rattle.serde_json_path_syntax.specs.Typing.{IsTypedCall, AreTypedArguments}
 use Rattle.serde_json_path_functions.specs.Patterns.{IsPromised}
-use Rattle.serde_json_path_core.specs.Calls.{StandsIn, EachFrom, IsClearCall, arguments_of, name_of}
+use Rattle.serde_json_path_core.specs.Clear.{StandsIn, IsClearCall}
+use Rattle.serde_json_path_syntax.specs.Calls.{EachFrom, arguments_of, name_of}
 use Rattle.serde_json_path_core.specs.Computed.{answer, arguments}
-use Rattle.serde_json_path_core.specs.Piece.{Piece}
-use Rattle.serde_json_path_core.specs.Flat.{arguments_in, pieces_named}
-use Rattle.serde_json_path_core.specs.declared.syntax.node.Part.{Part}
+use Rattle.serde_json_path_syntax.specs.Piece.{Piece}
+use Rattle.serde_json_path_syntax.specs.Flat.{arguments_in, pieces_named}
+use Rattle.serde_json_path_syntax.specs.declared.node.Part.{Part}
 use Rattle.serde_json_path_functions.specs.declared.types.FunctionArgType.{FunctionArgType}
 use Rattle.serde_json_path_functions.specs.declared.types.FunctionValue.{FunctionValue}
 use Rattle.serde_json_path_core.proofs.Derived.{arguments_right}

@@ -6,7 +6,8 @@ use Rattle.serde_json.specs.Data.{Data}
 use Rattle.serde_json_path_nodes.specs.Place.{Step, child_at}
 use Rattle.serde_json_path_functions.specs.Functions.{FunctionSet}
 use Rattle.serde_json_path_core.specs.Height.{height}
-use Rattle.serde_json_path_core.specs.Rest.{Stage, Frame, begun, rest_of, work, IsOfValue, IsChain, IsStack}
+use Rattle.serde_json_path_syntax.specs.Stages.{Stage}
+use Rattle.serde_json_path_core.specs.Rest.{Frame, begun, rest_of, work, IsOfValue, IsChain, IsStack}
 use Rattle.serde_json_path_core.specs.Advances.{IsSamePlace, ComesTo, IsDone}
 use Rattle.serde_json_path_core.proofs.Heights.{height-child_at}
 use Rattle.serde_json_path_core.proofs.Moves.{IsChildOf, opened-of}

@@ -10,11 +10,11 @@ use Rattle.serde_json.specs.Data.{Data, null, boolean, number, string, array, ob
 use Rattle.serde_json.specs.Find.{get_item, get_member}
 use Rattle.serde_json.proofs.Views.{get_member-put, get_member-put_other}
 use Rattle.serde_json_path_nodes.specs.Place.{Step, by_name, by_position, child_at, StepBefore}
-use Rattle.serde_json_path_core.specs.Derivation.{IsIn, IsInOrder}
+use Rattle.serde_json_path_syntax.specs.Lists.{IsIn, IsInOrder}
 use Rattle.serde_json_path_core.specs.Meaning.{SelectsIndex, IsPositionOf}
 use Rattle.serde_json_path_core.specs.Selected.{child_by, item_at}
 use Rattle.serde_json_path_core.specs.Computed.{children, items_from, members_all, in_order}
-use Rattle.serde_json_path_core.proofs.InLists.{in_option}
+use Rattle.serde_json_path_syntax.proofs.InLists.{in_option}
 use Rattle.serde_json_path_core.proofs.Singular.{by_step, there_by, item_sound, item_complete}
 
 -- ---- items

@@ -10,16 +10,10 @@ use Rattle.std.proofs.lemmas.Int.{ints}
 use Rattle.std.proofs.lemmas.Slice.Eq.{bytes_eq-Decides}
 use Rattle.serde_json.specs.Data.{Data, null, boolean, number, string, array, object, Items, no_items, item, Members, no_members, member}
 use Rattle.serde_json.specs.Find.{as_integer}
-use Rattle.serde_json_path_core.specs.Tree.{Operator, equal, not_equal, less, less_or_equal, greater, greater_or_equal}
+use Rattle.serde_json_path_syntax.specs.Tree.{Operator, equal, not_equal, less, less_or_equal, greater, greater_or_equal}
 use Rattle.serde_json_path_core.specs.Compared.{Compared, nothing, value, billionths, amount_of, AreEqualAmounts, AreRisingAmounts, EqualData, EqualItems, EqualMembers, AreEqual, IsLess, Compares}
 use Rattle.serde_json_path_core.specs.Computed.{same_amount, rising_amount, same_data, same_items, same_members, is_same, comes_before, compare}
-
--- a test that fails decides what nothing proves
-pub never : Decides false ⊥
-never = (λ e. true≢false (sym e), λ h. absurd h)
-
-pub always : Decides true (Unit {0})
-always = (λ e. tt, λ h. refl)
+use Rattle.serde_json_path_syntax.proofs.Deciding.{always, never}
 
 Decides-int_lt : (a b : ℤ) → Decides (int_lt a b) (a <ℤ b)
 Decides-int_lt a b = (λ e. grind (arith, ints), λ h. grind (arith, ints))

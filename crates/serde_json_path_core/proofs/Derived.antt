@@ -1,26 +1,32 @@
 -- The computed ends are those of the derivations, and the computed tests hold where the defined ones do.
-use Rattle.std.proofs.Common.{◌≡◌, ℕ, zero, suc, ◌+◌, List, [], ◌∷◌, ◌++◌, map, ◌↔◌, inl, inr, Bool, Option, Some, None, option_and_then, option_to_list, refl, sym, ap, subst, ◌∙◌, arith, true≢false, append_assoc, zero-add}
+use Rattle.std.proofs.Common.{◌≡◌, ℕ, zero, suc, ◌+◌, List, [], ◌∷◌, ◌++◌, map, ◌↔◌, inl, inr, Bool, true, Option, Some, None, option_and_then, option_to_list, refl, sym, ap, subst, ◌∙◌, arith, true≢false, append_assoc, zero-add}
 use Rattle.std.specs.Bool.{Decides}
 use Rattle.std.specs.List.{AllZip}
 use Rattle.std.proofs.lemmas.Bool.Decides.{Decides-and, Decides-or, Decides-not, same_from_decides}
 use Rattle.std.proofs.lemmas.Option.{same_Some, none-some}
 use Rattle.serde_json.specs.Data.{Data}
 use Rattle.serde_json_path_nodes.specs.Place.{Step, by_name, child_at, at, Located}
-use Rattle.serde_json_path_core.specs.Tree.{QueryKind, Query, query, SegmentKind, child, descendant, Segments, no_segments, segment, Segment, dot_name, dot_wildcard, long_hand, Selectors, no_selectors, selector, Selector, name, wildcard, index, slice, filter, LogicalOr, no_or, or, LogicalAnd, no_and, and, Basic, paren, not_paren, relation, exist, not_exist, test, not_test, Operator, Comparable, literal, singular, called, Call, call, Arguments, no_arguments, argument, Argument, literal_argument, query_argument, call_argument, logical_argument}
+use Rattle.serde_json_path_syntax.specs.Tree.{QueryKind, Query, query, SegmentKind, child, descendant, Segments, no_segments, segment, Segment, dot_name, dot_wildcard, long_hand, Selectors, no_selectors, selector, Selector, name, wildcard, index, slice, filter, LogicalOr, no_or, or, LogicalAnd, no_and, and, Basic, paren, not_paren, relation, exist, not_exist, test, not_test, Operator, Comparable, literal, singular, called, Call, call, Arguments, no_arguments, argument, Argument, literal_argument, query_argument, call_argument, logical_argument}
 use Rattle.serde_json_path_functions.specs.Functions.{Kind, of_value, of_nodes, of_logical, Term, value, nodes, logical, FunctionSet}
 use Rattle.serde_json_path_core.specs.Compared.{Compared, Compares, literal_compared, value_compared}
-use Rattle.serde_json_path_core.specs.Derivation.{Triple, location_of, start_of, BelongsTo, Before, IsIn}
+use Rattle.serde_json_path_core.specs.Derivation.{Triple, location_of, start_of, BelongsTo, Before}
+use Rattle.serde_json_path_syntax.specs.Lists.{IsIn}
 use Rattle.serde_json_path_core.specs.Meaning.{MayDescend, Derives, AdmitsIn, AdmitsBy, Admits, Holds, HoldsAll, HoldsBasic, Exists, IsResult, IsComparedAs, Answers, AreArguments, IsArgument, AnswersYes, IsTruthOf, first_value, params_of}
-use Rattle.serde_json_path_core.specs.Typing.{IsTyped, AreTypedSegments, IsTypedSegment, AreTypedSelectors, IsTypedSelector, IsTypedOr, IsTypedAnd, IsTypedBasic, IsTypedComparable, IsTypedCall, AreTypedArguments, IsTypedArgument}
+use Rattle.serde_json_path_syntax.specs.Typing.{IsTyped, AreTypedSegments, IsTypedSegment, AreTypedSelectors, IsTypedSelector, IsTypedOr, IsTypedAnd, IsTypedBasic, IsTypedComparable, IsTypedCall, AreTypedArguments, IsTypedArgument}
 use Rattle.serde_json_path_core.specs.Selected.{child_by}
 use Rattle.serde_json_path_core.specs.Computed.{itself, children, results, selected, is_true, all_true, basic_true, compare_sides, compared, answer, arguments, argument_as, answers_yes, answer_compared, is_nonempty}
-use Rattle.serde_json_path_core.proofs.InLists.{in_append, in_map, map_in, in_flat_map, in_keep, nonempty_is, in_order-map}
+use Rattle.serde_json_path_syntax.proofs.InLists.{in_append, in_map, map_in, in_flat_map, in_keep, in_order-map}
 use Rattle.serde_json_path_core.proofs.ChildSteps.{in_children, in_child_by, in_item_at}
 use Rattle.serde_json_path_core.proofs.Comparisons.{Decides-compare}
 use Rattle.serde_json_path_core.proofs.Descents.{in_descents}
 use Rattle.serde_json_path_core.proofs.Ends.{End, triple_at, after, levels, picks_by, picks, through, ends, ends_ordered, node_at, results-ends}
 use Rattle.serde_json_path_core.proofs.Order.{result_once}
 use Rattle.serde_json_path_core.proofs.SlicePositions.{in_sliced}
+
+-- a list with a member is not empty
+nonempty_is : {A : Type 0} (xs : List A) → (is_nonempty xs ≡ true) ↔ ((x : A) × IsIn x xs)
+nonempty_is [] = (λ e. absurd (true≢false (sym e)), λ h. absurd h.1)
+nonempty_is (x ∷ xs) = (λ e. (x, inl refl), λ h. refl)
 
 -- ---- locations
 

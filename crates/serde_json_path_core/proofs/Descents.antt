@@ -7,10 +7,10 @@ use Rattle.std.proofs.lemmas.Option.{same_Some, none-some, option_and_then_some}
 use Rattle.serde_json.specs.Data.{Data, null, boolean, number, string, array, object, Items, no_items, item, Members, no_members, member, put}
 use Rattle.serde_json.specs.Find.{get_item, get_member}
 use Rattle.serde_json_path_nodes.specs.Place.{Step, by_name, by_position, child_at, at, Located, StepBefore, DescentBefore}
-use Rattle.serde_json_path_core.specs.Derivation.{IsIn, IsInOrder}
+use Rattle.serde_json_path_syntax.specs.Lists.{IsIn, IsInOrder}
 use Rattle.serde_json_path_core.specs.Selected.{beneath}
 use Rattle.serde_json_path_core.specs.Computed.{children, items_from, members_all, in_order, itself, below_member, descents, items_descents, members_descents}
-use Rattle.serde_json_path_core.proofs.InLists.{in_map, map_in, in_flat_map, weaker, in_order-map, in_order-flat_map}
+use Rattle.serde_json_path_syntax.proofs.InLists.{in_map, map_in, in_flat_map, weaker, in_order-map, in_order-flat_map}
 use Rattle.serde_json_path_core.proofs.ChildSteps.{in_children, children_ordered}
 
 -- ---- child by child

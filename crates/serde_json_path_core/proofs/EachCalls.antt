@@ -1,10 +1,11 @@
 -- What holds of each call of a query, where something that follows from it is asked.
 use Rattle.std.proofs.Common.{List, Option, None, Some, IsNone, true≢false}
 use Rattle.serde_json.specs.Data.{Data}
-use Rattle.serde_json_path_core.specs.Tree.{Query, query, Segments, no_segments, segment, Segment, dot_name, dot_wildcard, long_hand, Selectors, no_selectors, selector, Selector, name, wildcard, index, slice, filter, LogicalOr, no_or, or, LogicalAnd, no_and, and, Basic, paren, not_paren, relation, exist, not_exist, test, not_test, Comparable, literal, singular, called, Call, call, Arguments, no_arguments, argument, Argument, literal_argument, query_argument, call_argument, logical_argument}
+use Rattle.serde_json_path_syntax.specs.Tree.{Query, query, Segments, no_segments, segment, Segment, dot_name, dot_wildcard, long_hand, Selectors, no_selectors, selector, Selector, name, wildcard, index, slice, filter, LogicalOr, no_or, or, LogicalAnd, no_and, and, Basic, paren, not_paren, relation, exist, not_exist, test, not_test, Comparable, literal, singular, called, Call, call, Arguments, no_arguments, argument, Argument, literal_argument, query_argument, call_argument, logical_argument}
 use Rattle.serde_json_path_functions.specs.Functions.{Term, Matching, FunctionSet}
 use Rattle.serde_json_path_functions.specs.Patterns.{IsPromised}
-use Rattle.serde_json_path_core.specs.Calls.{EachCall, EachInSegments, EachInSegment, EachInSelectors, EachInSelector, EachInOr, EachInAnd, EachInBasic, EachInComparable, EachFrom, EachInArguments, EachInArgument, GoesWithoutPattern, IsClear, IsClearCall}
+use Rattle.serde_json_path_syntax.specs.Calls.{EachCall, EachInSegments, EachInSegment, EachInSelectors, EachInSelector, EachInOr, EachInAnd, EachInBasic, EachInComparable, EachFrom, EachInArguments, EachInArgument}
+use Rattle.serde_json_path_core.specs.Clear.{GoesWithoutPattern, IsClear, IsClearCall}
 
 module _ (Given Asked : Call → Type 0) (follows : (c : Call) → Given c → Asked c) where
   mutual

@@ -4,12 +4,13 @@ use Rattle.std.proofs.lemmas.List.{append-nil, map-append}
 use Rattle.std.proofs.lemmas.List.Folds.{flat_map-map}
 use Rattle.serde_json.specs.Data.{Data}
 use Rattle.serde_json_path_nodes.specs.Place.{Step, by_name, Located, StepBefore, DescentBefore}
-use Rattle.serde_json_path_core.specs.Tree.{SegmentKind, child, descendant, Segments, no_segments, segment, Segment, dot_name, dot_wildcard, long_hand, Selectors, no_selectors, selector, Selector, name, wildcard, index, slice, filter}
+use Rattle.serde_json_path_syntax.specs.Tree.{SegmentKind, child, descendant, Segments, no_segments, segment, Segment, dot_name, dot_wildcard, long_hand, Selectors, no_selectors, selector, Selector, name, wildcard, index, slice, filter}
 use Rattle.serde_json_path_functions.specs.Functions.{FunctionSet}
-use Rattle.serde_json_path_core.specs.Derivation.{Triple, location_of, IsIn, IsInOrder, SelectedBefore, SelectedBeforeBy, TripleBefore, Before}
+use Rattle.serde_json_path_core.specs.Derivation.{Triple, location_of, SelectedBefore, SelectedBeforeBy, TripleBefore, Before}
+use Rattle.serde_json_path_syntax.specs.Lists.{IsIn, IsInOrder}
 use Rattle.serde_json_path_core.specs.Selected.{child_by, item_at, beneath}
 use Rattle.serde_json_path_core.specs.Computed.{itself, children, descents, reached, placed, results_from, chosen, chosen_by, selected, is_true}
-use Rattle.serde_json_path_core.proofs.InLists.{in_append, in_map, weaker, in_order-append, in_order-map, in_order-flat_map, in_order-keep, in_order-option, flat_map-same, flat_map-flat_map, map-flat_map}
+use Rattle.serde_json_path_syntax.proofs.InLists.{in_append, in_map, weaker, in_order-append, in_order-map, in_order-flat_map, in_order-keep, in_order-option, flat_map-same, flat_map-flat_map, map-flat_map}
 use Rattle.serde_json_path_core.proofs.ChildSteps.{children_ordered}
 use Rattle.serde_json_path_core.proofs.Descents.{descents_ordered}
 use Rattle.serde_json_path_core.proofs.SlicePositions.{sliced_ordered}

@@ -7,15 +7,16 @@ use Rattle.serde_json.specs.View.{view}
 use Rattle.serde_json.specs.declared.value.Value.{Value}
 use Rattle.serde_json_path_nodes.specs.Place.{Located}
 use Rattle.serde_json_path_nodes.specs.Views.{node_value}
-use Rattle.serde_json_path_core.specs.Tree.{or, and}
+use Rattle.serde_json_path_syntax.specs.Tree.{or, and}
 use Rattle.serde_json_path_functions.specs.Functions.{FunctionSet}
 use Rattle.serde_json_path_core.specs.Meaning.{first_value}
-use Rattle.serde_json_path_core.specs.Piece.{Piece}
-use Rattle.serde_json_path_core.specs.Flat.{and_in, basic_in, ors_in, ands_in, piece_in, pieces_named}
-use Rattle.serde_json_path_core.specs.Rest.{Stage, rest_of, EndsAt}
+use Rattle.serde_json_path_syntax.specs.Piece.{Piece}
+use Rattle.serde_json_path_syntax.specs.Flat.{and_in, basic_in, ors_in, ands_in, piece_in, pieces_named}
+use Rattle.serde_json_path_syntax.specs.Stages.{Stage}
+use Rattle.serde_json_path_core.specs.Rest.{rest_of, EndsAt}
 use Rattle.serde_json_path_core.specs.Places.{frames_of}
 use Rattle.serde_json_path_core.specs.declared.evaluation.place.Place.{Place}
-use Rattle.serde_json_path_core.specs.declared.syntax.node.Part.{Part}
+use Rattle.serde_json_path_syntax.specs.declared.node.Part.{Part}
 use Rattle.serde_json_path_core.proofs.Rests.{rest-ends}
 
 pub or-part : (ps : List Piece) (parts : List Part) (i : ℕ) (d : Part) → i < length parts

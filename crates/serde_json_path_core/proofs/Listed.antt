@@ -2,13 +2,13 @@
 use Rattle.std.proofs.Common.{◌≡◌, List, flat_map, map, ◌↔◌, IsTrue, Some, sym}
 use Rattle.serde_json.specs.Data.{Data}
 use Rattle.serde_json_path_nodes.specs.Place.{Located}
-use Rattle.serde_json_path_core.specs.Tree.{Query, SegmentKind, Segments, segment, Segment, LogicalOr, Comparable, Call}
+use Rattle.serde_json_path_syntax.specs.Tree.{Query, SegmentKind, Segments, segment, Segment, LogicalOr, Comparable, Call}
 use Rattle.serde_json_path_functions.specs.Functions.{FunctionSet, Term}
 use Rattle.serde_json_path_core.specs.Compared.{Compared}
 use Rattle.serde_json_path_core.specs.Meaning.{Holds, Exists, IsResult, IsComparedAs, Answers}
-use Rattle.serde_json_path_core.specs.Typing.{IsTyped, IsTypedOr, IsTypedComparable, IsTypedCall}
+use Rattle.serde_json_path_syntax.specs.Typing.{IsTyped, IsTypedOr, IsTypedComparable, IsTypedCall}
 use Rattle.serde_json_path_core.specs.Computed.{results, results_from, reached, placed, chosen, picked, is_true, compared, answer, is_nonempty}
-use Rattle.serde_json_path_core.proofs.InLists.{flat_map-flat_map}
+use Rattle.serde_json_path_syntax.proofs.InLists.{flat_map-flat_map}
 use Rattle.serde_json_path_core.proofs.Order.{result_once}
 use Rattle.serde_json_path_core.proofs.Derived.{query_right, or_right, compared_right, call_right}
 

@@ -2,11 +2,11 @@
 use Rattle.std.proofs.Common.{◌≡◌, ℕ, List, [], ◌∷◌, Some, Bool, true, false, bytes_eq, if◌then◌else◌, refl, sym, ap, ◌∙◌}
 use Rattle.std.proofs.lemmas.Option.{none-some}
 use Rattle.std.proofs.lemmas.Slice.Eq.{bytes_eq-Decides}
-use Rattle.serde_json_path_core.specs.Tree.{Query}
+use Rattle.serde_json_path_syntax.specs.Tree.{Query}
 use Rattle.serde_json_path_functions.specs.Functions.{Signature, FunctionSet, Fits}
-use Rattle.serde_json_path_core.specs.Typing.{IsTyped}
-use Rattle.serde_json_path_core.specs.Used.{signature_in}
-use Rattle.serde_json_path_core.proofs.TypedByNames.{typed_by_names}
+use Rattle.serde_json_path_syntax.specs.Typing.{IsTyped}
+use Rattle.serde_json_path_syntax.specs.Used.{signature_in}
+use Rattle.serde_json_path_syntax.proofs.TypedByNames.{typed_by_names}
 
 -- the signatures that the set declares
 declared : (F : FunctionSet) (used : List (List ℕ × Signature)) → Fits F used → (f : List ℕ) (s : Signature) → signature_in used f ≡ Some s → F.signature f ≡ Some s

@@ -5,8 +5,9 @@ use Rattle.std.proofs.lemmas.List.Elements.{All-nil, All-from_recursion, recursi
 use Rattle.serde_json.specs.Data.{Data}
 use Rattle.serde_json_path_nodes.specs.Place.{Step, child_at}
 use Rattle.serde_json_path_functions.specs.Functions.{FunctionSet}
-use Rattle.serde_json_path_core.specs.Tree.{SegmentKind, child, descendant, Selector, name, wildcard, index, slice, filter}
-use Rattle.serde_json_path_core.specs.Rest.{Stage, Frame, candidates, admitted, unfiltered, opened, tasks, EndsIn}
+use Rattle.serde_json_path_syntax.specs.Tree.{SegmentKind, child, descendant, Selector, name, wildcard, index, slice, filter}
+use Rattle.serde_json_path_syntax.specs.Stages.{Stage}
+use Rattle.serde_json_path_core.specs.Rest.{Frame, candidates, admitted, unfiltered, opened, tasks, EndsIn}
 use Rattle.serde_json_path_core.specs.Advances.{Chooses, Passes, ComesTo, IsDone}
 use Rattle.serde_json_path_core.proofs.OfValue.{children-of_value, sliced-of_value, child_by-of_value, item_at-of_value}
 use Rattle.serde_json_path_nodes.specs.Place.{by_name}

@@ -2,11 +2,11 @@
 use Rattle.std.proofs.Common.{◌≡◌, ◌↔◌, sym, subst, ◌∙◌}
 use Rattle.std.proofs.lemmas.Option.{same_Some}
 use Rattle.serde_json.specs.Data.{Data}
-use Rattle.serde_json_path_core.specs.Tree.{relation, equal, not_equal, Comparable}
+use Rattle.serde_json_path_syntax.specs.Tree.{relation, equal, not_equal, Comparable}
 use Rattle.serde_json_path_functions.specs.Functions.{FunctionSet, KeepsTypes}
 use Rattle.serde_json_path_core.specs.Compared.{Compared, AreEqual}
 use Rattle.serde_json_path_core.specs.Meaning.{HoldsBasic, IsComparedAs}
-use Rattle.serde_json_path_core.specs.Typing.{IsTypedComparable}
+use Rattle.serde_json_path_syntax.specs.Typing.{IsTypedComparable}
 use Rattle.serde_json_path_core.proofs.AnswerKinds.{compared_there}
 use Rattle.serde_json_path_core.proofs.Listed.{compared_computed}
 

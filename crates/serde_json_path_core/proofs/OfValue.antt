@@ -4,8 +4,8 @@ use Rattle.std.specs.List.{All}
 use Rattle.std.proofs.lemmas.List.Elements.{All-nil, All-cons}
 use Rattle.serde_json.specs.Data.{Data}
 use Rattle.serde_json_path_nodes.specs.Place.{Step, child_at}
-use Rattle.serde_json_path_core.specs.Tree.{Slice}
-use Rattle.serde_json_path_core.specs.Derivation.{IsIn}
+use Rattle.serde_json_path_syntax.specs.Tree.{Slice}
+use Rattle.serde_json_path_syntax.specs.Lists.{IsIn}
 use Rattle.serde_json_path_core.specs.Selected.{child_by, item_at}
 use Rattle.serde_json_path_core.specs.Computed.{children, sliced}
 use Rattle.serde_json_path_core.proofs.ChildSteps.{in_children, in_child_by, in_item_at}

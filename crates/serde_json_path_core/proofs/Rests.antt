@@ -4,7 +4,8 @@ use Rattle.std.proofs.lemmas.Bool.{cases_lt}
 use Rattle.std.proofs.lemmas.Grind.{not_there}
 use Rattle.serde_json.specs.Data.{Data}
 use Rattle.serde_json_path_functions.specs.Functions.{FunctionSet}
-use Rattle.serde_json_path_core.specs.Rest.{Stage, stack_path, rest_of, work, EndsAt, IsStack}
+use Rattle.serde_json_path_syntax.specs.Stages.{Stage}
+use Rattle.serde_json_path_core.specs.Rest.{stack_path, rest_of, work, EndsAt, IsStack}
 use Rattle.serde_json_path_core.specs.Places.{frame_of, frames_of}
 use Rattle.serde_json_path_core.specs.declared.evaluation.place.Place.{Place}
 use Rattle.serde_json_path_core.proofs.Chains.{stack-front}

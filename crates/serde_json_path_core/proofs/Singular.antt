@@ -6,7 +6,7 @@ use Rattle.std.proofs.lemmas.Option.{none-some, same_Some, option_and_then_some}
 use Rattle.serde_json.specs.Data.{Data, null, boolean, number, string, array, object, Items}
 use Rattle.serde_json_path_nodes.specs.Place.{Step, by_name, by_position, child_at, at, Located}
 use Rattle.serde_json.specs.Events.{items_len}
-use Rattle.serde_json_path_core.specs.Tree.{QueryKind, Query, query, Segments, no_segments, segment, child, descendant, Segment, dot_name, dot_wildcard, long_hand, no_selectors, selector, name, wildcard, index, slice, filter, IsSingularSegment, AreSingular, IsSingular}
+use Rattle.serde_json_path_syntax.specs.Tree.{QueryKind, Query, query, Segments, no_segments, segment, child, descendant, Segment, dot_name, dot_wildcard, long_hand, no_selectors, selector, name, wildcard, index, slice, filter, IsSingularSegment, AreSingular, IsSingular}
 use Rattle.serde_json_path_functions.specs.Functions.{FunctionSet}
 use Rattle.serde_json_path_core.specs.Derivation.{Triple, location_of, start_of}
 use Rattle.serde_json_path_core.specs.Meaning.{SelectsIndex, IsPositionOf, Derives, AdmitsIn, IsResult}

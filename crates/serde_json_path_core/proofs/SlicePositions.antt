@@ -10,9 +10,10 @@ use Rattle.serde_json.specs.Data.{Data, null, boolean, number, string, array, ob
 use Rattle.serde_json.specs.Find.{get_item}
 use Rattle.serde_json_path_nodes.specs.Place.{Step, by_position, child_at}
 use Rattle.serde_json.specs.Events.{items_len}
-use Rattle.serde_json_path_core.specs.Tree.{Slice, slice}
+use Rattle.serde_json_path_syntax.specs.Tree.{Slice, slice}
 use Rattle.serde_json_path_core.specs.Slices.{step_of, from_end, bound_of, SelectsPosition}
-use Rattle.serde_json_path_core.specs.Derivation.{IsIn, IsInOrder, SelectedBefore}
+use Rattle.serde_json_path_syntax.specs.Lists.{IsIn, IsInOrder}
+use Rattle.serde_json_path_core.specs.Derivation.{SelectedBefore}
 use Rattle.serde_json_path_core.specs.Meaning.{IsPositionOf}
 use Rattle.serde_json_path_core.specs.Computed.{Course, count_within, strided, rising, falling, course_by, sliced, next_position}
 

@@ -2,15 +2,15 @@
 use Rattle.std.proofs.Common.{◌≡◌, ℕ, zero, suc, ◌<◌, List, [], ◌∷◌, length, get_or, slice_get, Some, sym, subst, arith}
 use Rattle.std.proofs.lemmas.Option.{none-some, same_Some}
 use Rattle.serde_json.specs.Data.{Data}
-use Rattle.serde_json_path_core.specs.Tree.{Query, query, Segments, segments_of, Segment, dot_name, dot_wildcard, long_hand, Selectors, no_selectors, selector, Selector, name, wildcard}
+use Rattle.serde_json_path_syntax.specs.Tree.{Query, query, Segments, segments_of, Segment, dot_name, dot_wildcard, long_hand, Selectors, no_selectors, selector, Selector, name, wildcard}
 use Rattle.serde_json_path_functions.specs.Functions.{FunctionSet}
-use Rattle.serde_json_path_core.specs.Typing.{AreTypedSelectors}
-use Rattle.serde_json_path_core.specs.Calls.{EachInSelectors}
-use Rattle.serde_json_path_core.specs.Piece.{Piece}
-use Rattle.serde_json_path_core.specs.Flat.{piece_in, pieces_named, segment_in, segments_in, and_in, ors_in, basic_in, ands_in}
-use Rattle.serde_json_path_core.specs.Rest.{selectors_list, selectors_of}
+use Rattle.serde_json_path_syntax.specs.Typing.{AreTypedSelectors}
+use Rattle.serde_json_path_syntax.specs.Calls.{EachInSelectors}
+use Rattle.serde_json_path_syntax.specs.Piece.{Piece}
+use Rattle.serde_json_path_syntax.specs.Flat.{piece_in, pieces_named, segment_in, segments_in, and_in, ors_in, basic_in, ands_in}
+use Rattle.serde_json_path_syntax.specs.Stages.{selectors_list, selectors_of}
 use Rattle.serde_json_path_core.specs.Sound.{IsSoundPart, IsSound, AreSoundSegments, IsSoundSegment, IsSoundSelector, IsSoundOr, IsSoundAnd, IsSoundBasic}
-use Rattle.serde_json_path_core.specs.declared.syntax.node.Part.{Part}
+use Rattle.serde_json_path_syntax.specs.declared.node.Part.{Part}
 
 module _ (F : FunctionSet) (top : Data) (q : Query) where
   -- the segments of a query

@@ -5,12 +5,13 @@ use Rattle.std.proofs.lemmas.List.{append-nil, drop-drop}
 use Rattle.std.proofs.lemmas.List.Folds.{flat_map-map}
 use Rattle.serde_json.specs.Data.{Data}
 use Rattle.serde_json_path_nodes.specs.Place.{Step, Located}
-use Rattle.serde_json_path_core.specs.Tree.{SegmentKind, child, descendant, Selector}
+use Rattle.serde_json_path_syntax.specs.Tree.{SegmentKind, child, descendant, Selector}
 use Rattle.serde_json_path_core.specs.Selected.{beneath}
 use Rattle.serde_json_path_core.specs.Computed.{children, descents, placed, reached}
-use Rattle.serde_json_path_core.specs.Rest.{Stage, Frame, candidates, lower, begun, tasks, frame_tasks, here, stack_path, visit, visit_rest, visit_place, visit_stack}
+use Rattle.serde_json_path_syntax.specs.Stages.{Stage}
+use Rattle.serde_json_path_core.specs.Rest.{Frame, candidates, lower, begun, tasks, frame_tasks, here, stack_path, visit, visit_rest, visit_place, visit_stack}
 use Rattle.serde_json_path_core.proofs.Descents.{below_child, descents_are}
-use Rattle.serde_json_path_core.proofs.InLists.{flat_map-same, flat_map-flat_map}
+use Rattle.serde_json_path_syntax.proofs.InLists.{flat_map-same, flat_map-flat_map}
 use Rattle.serde_json_path_core.proofs.Tasks.{next_opened}
 
 abbrev pub located : List Step → Data → Located

@@ -1,12 +1,11 @@
 -- The stages of a query's parts, and what is left of a list behind so many elements.
 use Rattle.std.proofs.Common.{◌≡◌, ℕ, zero, suc, ◌+◌, ◌<◌, ◌≤◌, List, [], ◌∷◌, drop, length, slice_get, option_map, Option, Some, None, slice_index_or, refl, ap, sym, ◌∙◌, arith}
 use Rattle.std.proofs.lemmas.Option.{none-some, same_Some, slice_get_read, slice_get_past}
-use Rattle.serde_json_path_core.specs.Piece.{Piece}
-use Rattle.serde_json_path_core.specs.declared.syntax.node.Node.{Node}
-use Rattle.serde_json_path_core.specs.declared.syntax.node.Part.{Part}
-use Rattle.serde_json_path_core.specs.Flat.{piece_in, pieces, pieces_named, segment_in, segment_kind_in, segments_in}
-use Rattle.serde_json_path_core.specs.Rest.{stage_of, stages}
-use Rattle.serde_json_path_core.specs.Stages.{stage_at, stages_at}
+use Rattle.serde_json_path_syntax.specs.Piece.{Piece}
+use Rattle.serde_json_path_syntax.specs.declared.node.Node.{Node}
+use Rattle.serde_json_path_syntax.specs.declared.node.Part.{Part}
+use Rattle.serde_json_path_syntax.specs.Flat.{piece_in, pieces, pieces_named, segment_in, segment_kind_in, segments_in}
+use Rattle.serde_json_path_syntax.specs.Stages.{stage_of, stages, stage_at, stages_at}
 
 -- behind so many elements stands the one of that number
 pub drop-some : {A : Type 0} (xs : List A) (i : ℕ) (x : A) → slice_get xs i ≡ Some x → drop i xs ≡ x ∷ drop (i + 1) xs

@@ -5,13 +5,15 @@ use Rattle.std.proofs.lemmas.List.Elements.{recursion_from_All}
 use Rattle.std.proofs.Math.Logic.{∥∥₁_map, ∥∥₁_elim, ∥∥₁_prop}
 use Rattle.serde_json.specs.Data.{Data}
 use Rattle.serde_json_path_nodes.specs.Place.{Step, child_at, at}
-use Rattle.serde_json_path_core.specs.Tree.{QueryKind, root, current, Query, query}
-use Rattle.serde_json_path_core.specs.Derivation.{IsIn, start_of}
-use Rattle.serde_json_path_core.specs.Calls.{StandsIn}
-use Rattle.serde_json_path_core.specs.Rest.{Frame, place_of, stages, EndsIn, IsChain, IsStack, IsStackIn, IsInside, AllStandIn}
+use Rattle.serde_json_path_syntax.specs.Tree.{QueryKind, root, current, Query, query}
+use Rattle.serde_json_path_syntax.specs.Lists.{IsIn}
+use Rattle.serde_json_path_core.specs.Derivation.{start_of}
+use Rattle.serde_json_path_core.specs.Clear.{StandsIn}
+use Rattle.serde_json_path_core.specs.Rest.{Frame, place_of, EndsIn, IsChain, IsStack, IsStackIn, IsInside, AllStandIn}
+use Rattle.serde_json_path_syntax.specs.Stages.{stages}
 use Rattle.serde_json_path_core.proofs.Chains.{stack-started}
 use Rattle.serde_json_path_core.proofs.Derived.{at-append}
-use Rattle.serde_json_path_core.proofs.InLists.{in_append}
+use Rattle.serde_json_path_syntax.proofs.InLists.{in_append}
 
 pub root_stands : (top : Data) → StandsIn top top
 root_stands top = ∣ ([], refl) ∣₁

@@ -5,11 +5,12 @@ use Rattle.std.proofs.lemmas.List.Folds.{flat_map-map}
 use Rattle.serde_json.specs.Data.{Data}
 use Rattle.serde_json_path_nodes.specs.Place.{Located}
 use Rattle.serde_json_path_functions.specs.Functions.{FunctionSet}
-use Rattle.serde_json_path_core.specs.Tree.{Query, query, kind_of, segments_of, Segments, no_segments, segment, Segment, dot_name, dot_wildcard, long_hand, Selectors, no_selectors, selector, Selector, name, wildcard, index, slice, filter}
+use Rattle.serde_json_path_syntax.specs.Tree.{Query, query, kind_of, segments_of, Segments, no_segments, segment, Segment, dot_name, dot_wildcard, long_hand, Selectors, no_selectors, selector, Selector, name, wildcard, index, slice, filter}
 use Rattle.serde_json_path_core.specs.Derivation.{start_of}
 use Rattle.serde_json_path_core.specs.Computed.{results, placed, reached, results_from, chosen, chosen_by, selected}
-use Rattle.serde_json_path_core.specs.Rest.{Frame, candidates, admitted, begun, place_of, selectors_of, selectors_list, stages, visit, visit_rest, rest_of}
-use Rattle.serde_json_path_core.proofs.InLists.{flat_map-same}
+use Rattle.serde_json_path_core.specs.Rest.{Frame, candidates, admitted, begun, place_of, visit, visit_rest, rest_of}
+use Rattle.serde_json_path_syntax.specs.Stages.{selectors_of, selectors_list, stages}
+use Rattle.serde_json_path_syntax.proofs.InLists.{flat_map-same}
 use Rattle.serde_json_path_core.proofs.Stacks.{located, enters}
 
 -- the place of these segments at that start is where the query begins

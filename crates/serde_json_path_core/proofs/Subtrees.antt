@@ -5,17 +5,17 @@ use Rattle.std.proofs.lemmas.List.Folds.{flat_map-map}
 use Rattle.std.proofs.lemmas.Simd.{map-map}
 use Rattle.serde_json.specs.Data.{Data}
 use Rattle.serde_json_path_nodes.specs.Place.{Step, StepBefore, Located}
-use Rattle.serde_json_path_core.specs.Tree.{Query, query, current, Segments, segment, child, descendant, Segment}
+use Rattle.serde_json_path_syntax.specs.Tree.{Query, query, current, Segments, segment, child, descendant, Segment}
 use Rattle.serde_json_path_functions.specs.Functions.{FunctionSet}
 use Rattle.serde_json_path_core.specs.Meaning.{IsResult}
-use Rattle.serde_json_path_core.specs.Typing.{IsTyped}
+use Rattle.serde_json_path_syntax.specs.Typing.{IsTyped}
 use Rattle.serde_json_path_core.specs.Selected.{beneath}
 use Rattle.serde_json_path_core.specs.Computed.{itself, children, descents, placed, results, results_from, chosen}
 use Rattle.serde_json_path_core.specs.Laws.{AreChildren, AreSubtreeResults}
 use Rattle.serde_json_path_core.proofs.ChildSteps.{in_children, children_ordered}
 use Rattle.serde_json_path_core.proofs.Descents.{below_child, descents_are}
 use Rattle.serde_json_path_core.proofs.Ends.{node_at, ends, results-ends}
-use Rattle.serde_json_path_core.proofs.InLists.{flat_map-same, flat_map-flat_map, map-flat_map}
+use Rattle.serde_json_path_syntax.proofs.InLists.{flat_map-same, flat_map-flat_map, map-flat_map}
 use Rattle.serde_json_path_core.proofs.Listed.{computed_only}
 use Rattle.serde_json_path_core.proofs.Order.{step_once, in_order_once}
 

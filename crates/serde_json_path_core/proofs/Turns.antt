@@ -3,7 +3,8 @@ use Rattle.std.proofs.Common.{◌≡◌, ℕ, ◌+◌, ◌<◌, List, [], ◌∷
 use Rattle.serde_json.specs.Data.{Data}
 use Rattle.serde_json_path_nodes.specs.Place.{Step, Located}
 use Rattle.serde_json_path_functions.specs.Functions.{FunctionSet}
-use Rattle.serde_json_path_core.specs.Rest.{Stage, Frame, admitted, unfiltered, begun, frame_tasks, here, stack_path, visit, visit_stack, rest_of, work}
+use Rattle.serde_json_path_syntax.specs.Stages.{Stage}
+use Rattle.serde_json_path_core.specs.Rest.{Frame, admitted, unfiltered, begun, frame_tasks, here, stack_path, visit, visit_stack, rest_of, work}
 use Rattle.serde_json_path_core.proofs.Stacks.{located, gives, drops, moves}
 
 -- the last place gives its node

@@ -2,14 +2,14 @@
 use Rattle.std.proofs.Common.{◌≡◌, ℕ, List, sym, subst}
 use Rattle.std.proofs.Math.Logic.{∥∥₁_map₂}
 use Rattle.serde_json.specs.Data.{Data}
-use Rattle.serde_json_path_core.specs.Tree.{Query}
+use Rattle.serde_json_path_syntax.specs.Tree.{Query}
 use Rattle.serde_json_path_functions.specs.Functions.{Signature, FunctionSet, Fits}
-use Rattle.serde_json_path_core.specs.Used.{signature_in}
-use Rattle.serde_json_path_core.specs.Typing.{IsTyped}
-use Rattle.serde_json_path_core.specs.Calls.{IsClear}
+use Rattle.serde_json_path_syntax.specs.Used.{signature_in}
+use Rattle.serde_json_path_syntax.specs.Typing.{IsTyped}
+use Rattle.serde_json_path_core.specs.Clear.{IsClear}
 use Rattle.serde_json_path_core.specs.Sound.{IsSound}
 use Rattle.serde_json_path_core.proofs.MoreSignatures.{typed_under}
-use Rattle.serde_json_path_core.proofs.Typings.{typed_recovered}
+use Rattle.serde_json_path_syntax.proofs.Typings.{typed_recovered}
 
 pub whole-sound : (F : FunctionSet) (top : Data) (used : List (List ℕ × Signature)) (q : Query) → ∥ Fits F used ∥₁ → ∥ IsTyped (signature_in used) q ∥₁ → IsSound F top q q
 whole-sound F top used q fits typed = (typed_recovered F.signature q (∥∥₁_map₂ fits typed (λ f t. typed_under F used q f t)), λ c. c, λ p. p)

@@ -10,15 +10,16 @@ use Rattle.serde_json.specs.Find.{as_array}
 use Rattle.serde_json.specs.Data.{Items, Data, null, boolean, number, string, array, object, unsigned, negative, float, item, no_items, no_members}
 use Rattle.serde_json_path_nodes.specs.Place.{at, Step, by_position, Located}
 use Rattle.serde_json.specs.Events.{items_len}
-use Rattle.serde_json_path_core.specs.Tree.{LogicalOr, Slice, largest, Query, query, root, current, Segments, no_segments, segment, child, descendant, dot_name, dot_wildcard, long_hand, no_selectors, selector, name, wildcard, index, slice, filter, no_or, or, no_and, and, paren, not_paren, relation, exist, not_exist, literal, singular, Operator, equal, not_equal, less, less_or_equal, greater, greater_or_equal}
-use Rattle.serde_json_path_core.specs.Tree as tree
+use Rattle.serde_json_path_syntax.specs.Tree.{LogicalOr, Slice, largest, Query, query, root, current, Segments, no_segments, segment, child, descendant, dot_name, dot_wildcard, long_hand, no_selectors, selector, name, wildcard, index, slice, filter, no_or, or, no_and, and, paren, not_paren, relation, exist, not_exist, literal, singular, Operator, equal, not_equal, less, less_or_equal, greater, greater_or_equal}
+use Rattle.serde_json_path_syntax.specs.Tree as tree
 use Rattle.serde_json_path_core.specs.Slices.{SelectsPosition}
 use Rattle.serde_json_path_functions.specs.Functions.{FunctionSet}
 use Rattle.serde_json_path_core.specs.Compared.{Compared, nothing, value, billionths, Compares, value_compared}
-use Rattle.serde_json_path_core.specs.Depth.{depth}
-use Rattle.serde_json_path_core.specs.Derivation.{Triple, Before, IsIn, IsInOrder, SelectedBefore}
+use Rattle.serde_json_path_syntax.specs.Depth.{depth}
+use Rattle.serde_json_path_core.specs.Derivation.{Triple, Before, SelectedBefore}
+use Rattle.serde_json_path_syntax.specs.Lists.{IsIn, IsInOrder}
 use Rattle.serde_json_path_core.specs.Meaning.{first_value, AdmitsIn, Derives, Holds, IsResult}
-use Rattle.serde_json_path_core.specs.Text.{query_text, literal_text}
+use Rattle.serde_json_path_syntax.specs.Text.{query_text, literal_text}
 use Rattle.serde_json_path_core.proofs.Order.{result_once}
 use Rattle.serde_json_path_core.proofs.Singular.{narrow_result}
 

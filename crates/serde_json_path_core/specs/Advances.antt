@@ -3,8 +3,9 @@ use Rattle.std.specs.Prelude.{◌≡◌, ℕ, List, [], ◌∷◌, Option, Some,
 use Rattle.serde_json.specs.Data.{Data}
 use Rattle.serde_json_path_nodes.specs.Place.{Step, child_at}
 use Rattle.serde_json_path_functions.specs.Functions.{FunctionSet}
-use Rattle.serde_json_path_core.specs.Tree.{Selector}
-use Rattle.serde_json_path_core.specs.Rest.{Stage, Frame, admitted, unfiltered, frame_tasks, EndsIn, IsOfValue}
+use Rattle.serde_json_path_syntax.specs.Tree.{Selector}
+use Rattle.serde_json_path_syntax.specs.Stages.{Stage}
+use Rattle.serde_json_path_core.specs.Rest.{Frame, admitted, unfiltered, frame_tasks, EndsIn, IsOfValue}
 
 -- the same value, where the same segment is applied
 abbrev pub IsSamePlace : Frame → Frame → Type 0

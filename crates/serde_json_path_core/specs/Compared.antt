@@ -8,8 +8,8 @@ use Rattle.std.specs.Cmp.Lexicographic.{slice_cmp}
 use Rattle.std.specs.Str.{chars}
 use Rattle.serde_json.specs.Data.{Data, null, boolean, number, string, array, object, Items, Members, no_items, item, no_members, member}
 use Rattle.serde_json.specs.Find.{as_integer}
-use Rattle.serde_json_path_core.specs.Tree.{Literal, Operator, equal, not_equal, less, less_or_equal, greater, greater_or_equal}
-use Rattle.serde_json_path_core.specs.Tree as tree
+use Rattle.serde_json_path_syntax.specs.Tree.{Literal, Operator, equal, not_equal, less, less_or_equal, greater, greater_or_equal}
+use Rattle.serde_json_path_syntax.specs.Tree as tree
 
 -- what a comparable stands for: Nothing, a value, or the billionths of a number literal
 pub data Compared : Type 0 where

@@ -3,7 +3,7 @@
 use Rattle.std.specs.Prelude.{◌≡◌, ℕ, zero, suc, ◌<◌, pos, ◌<ℤ◌, List, [], ◌∷◌, ◌++◌, ◌⊎◌, Some}
 use Rattle.serde_json.specs.Data.{Data}
 use Rattle.serde_json_path_nodes.specs.Place.{Step, at, StepBefore, DescentBefore, Located}
-use Rattle.serde_json_path_core.specs.Tree.{QueryKind, root, current, Segments, no_segments, segment, Segment, dot_name, dot_wildcard, long_hand, Selectors, no_selectors, selector, Selector, slice}
+use Rattle.serde_json_path_syntax.specs.Tree.{QueryKind, root, current, Segments, no_segments, segment, Segment, dot_name, dot_wildcard, long_hand, Selectors, no_selectors, selector, Selector, slice}
 use Rattle.serde_json_path_core.specs.Slices.{step_of}
 
 -- What a derivation does at one segment: child steps down to where the selectors are applied, the number of the
@@ -61,14 +61,3 @@ abbrev pub Before : Segments → List Triple → List Triple → Type 0
 Before no_segments xs ys = ⊥
 Before (segment kind seg more) (x ∷ xs) (y ∷ ys) = TripleBefore seg x y ⊎ ((x ≡ y) × Before more xs ys)
 Before (segment kind seg more) _ _ = ⊥
-
--- ---- lists
-
-abbrev pub IsIn : {A : Type 0} → A → List A → Type 0
-IsIn x [] = ⊥
-IsIn x (y ∷ ys) = (x ≡ y) ⊎ IsIn x ys
-
--- each stands before all that follow it
-abbrev pub IsInOrder : {A : Type 0} → (A → A → Type 0) → List A → Type 0
-IsInOrder R [] = Unit {0}
-IsInOrder {A} R (x ∷ xs) = ((y : A) → IsIn y xs → R x y) × IsInOrder R xs

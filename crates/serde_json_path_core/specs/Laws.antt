@@ -2,12 +2,12 @@
 use Rattle.std.specs.Prelude.{◌≡◌, ◌≤◌, List, [], ◌∷◌, ◌++◌, length, map, ◌⊎◌, ◌↔◌, Some}
 use Rattle.serde_json.specs.Data.{Data}
 use Rattle.serde_json_path_nodes.specs.Place.{Step, child_at, StepBefore, Located}
-use Rattle.serde_json_path_core.specs.Tree.{Query, query, current, Segments, segment, child, descendant, Segment, relation, equal, not_equal, less, less_or_equal, Comparable, IsSingular}
+use Rattle.serde_json_path_syntax.specs.Tree.{Query, query, current, Segments, segment, child, descendant, Segment, relation, equal, not_equal, less, less_or_equal, Comparable, IsSingular}
 use Rattle.serde_json_path_functions.specs.Functions.{FunctionSet, KeepsTypes}
-use Rattle.serde_json_path_core.specs.Derivation.{IsIn, IsInOrder}
+use Rattle.serde_json_path_syntax.specs.Lists.{IsIn, IsInOrder}
 use Rattle.serde_json_path_core.specs.Selected.{beneath}
 use Rattle.serde_json_path_core.specs.Meaning.{HoldsBasic, IsResult}
-use Rattle.serde_json_path_core.specs.Typing.{IsTyped, IsTypedComparable}
+use Rattle.serde_json_path_syntax.specs.Typing.{IsTyped, IsTypedComparable}
 
 -- the result of a singular query has one node at most (RFC 9535, section 2.3.5.1)
 abbrev pub SingularQuerySelectsAtMostOne : Type 0

@@ -3,36 +3,14 @@ use Rattle.std.specs.Prelude.{◌≡◌, ℕ, ◌+◌, List, [], ◌∷◌, ◌+
 use Rattle.std.specs.List.{All}
 use Rattle.serde_json.specs.Data.{Data}
 use Rattle.serde_json_path_nodes.specs.Place.{Step, by_name, child_at, Located}
-use Rattle.serde_json_path_core.specs.Tree.{Query, query, Segments, no_segments, segment, SegmentKind, child, descendant, Segment, dot_name, dot_wildcard, long_hand, Selectors, no_selectors, selector, Selector, name, wildcard, index, slice, filter}
+use Rattle.serde_json_path_syntax.specs.Tree.{Query, query, segment, SegmentKind, child, descendant, selector, Selector, name, wildcard, index, slice, filter}
+use Rattle.serde_json_path_syntax.specs.Stages.{Stage, stages}
 use Rattle.serde_json_path_functions.specs.Functions.{FunctionSet}
-use Rattle.serde_json_path_core.specs.Calls.{StandsIn}
-use Rattle.serde_json_path_core.specs.Derivation.{IsIn, start_of}
+use Rattle.serde_json_path_core.specs.Clear.{StandsIn}
+use Rattle.serde_json_path_syntax.specs.Lists.{IsIn}
+use Rattle.serde_json_path_core.specs.Derivation.{start_of}
 use Rattle.serde_json_path_core.specs.Selected.{child_by, item_at}
 use Rattle.serde_json_path_core.specs.Computed.{children, sliced, reached, placed, is_true}
-
--- ---- segments as a list
-
--- the selectors of a segment; a `.name` and a `.*` have one
-abbrev pub selectors_list : Selectors → List Selector
-selectors_list no_selectors = []
-selectors_list (selector sel more) = sel ∷ selectors_list more
-
-abbrev pub selectors_of : Segment → List Selector
-selectors_of (dot_name k) = name k ∷ []
-selectors_of dot_wildcard = wildcard ∷ []
-selectors_of (long_hand sels) = selectors_list sels
-
--- how a segment goes down, and its selectors
-pub record Stage : Type 0 where
-  pub kind : SegmentKind
-  pub selectors : List Selector
-
-abbrev pub stage_of : SegmentKind → Segment → Stage
-stage_of kind seg = record { kind = kind; selectors = selectors_of seg }
-
-abbrev pub stages : Segments → List Stage
-stages no_segments = []
-stages (segment kind seg more) = stage_of kind seg ∷ stages more
 
 -- ---- children
 

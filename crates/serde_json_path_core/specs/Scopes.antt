@@ -2,11 +2,12 @@
 use Rattle.std.specs.Prelude.{List}
 use Rattle.serde_json.specs.Data.{Data}
 use Rattle.serde_json.specs.View.{view}
-use Rattle.serde_json_path_core.specs.Tree.{Query}
+use Rattle.serde_json_path_syntax.specs.Tree.{Query}
 use Rattle.serde_json_path_functions.specs.Functions.{FunctionSet}
-use Rattle.serde_json_path_core.specs.Parts.{tree_of}
-use Rattle.serde_json_path_core.specs.Calls.{EachCall, GoesWithoutPattern, IsClear}
-use Rattle.serde_json_path_core.specs.declared.syntax.node.Node.{Node}
+use Rattle.serde_json_path_syntax.specs.Parts.{tree_of}
+use Rattle.serde_json_path_syntax.specs.Calls.{EachCall}
+use Rattle.serde_json_path_core.specs.Clear.{GoesWithoutPattern, IsClear}
+use Rattle.serde_json_path_syntax.specs.declared.node.Node.{Node}
 use Rattle.serde_json_path_core.specs.declared.evaluation.scope.Scope.{Scope}
 
 -- the nodes of the query's tree

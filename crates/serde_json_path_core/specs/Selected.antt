@@ -3,7 +3,7 @@ use Rattle.std.specs.Prelude.{ℕ, ◌+◌, ◌-◌, nat_lt, ℤ, pos, negsuc, L
 use Rattle.serde_json.specs.Data.{Data, array}
 use Rattle.serde_json.specs.Events.{items_len}
 use Rattle.serde_json_path_nodes.specs.Place.{Step, by_name, by_position, child_at, Located}
-use Rattle.serde_json_path_core.specs.Tree.{Segments, no_segments, segment, Segment, dot_name, long_hand, no_selectors, selector, name, index}
+use Rattle.serde_json_path_syntax.specs.Tree.{Segments, no_segments, segment, Segment, dot_name, long_hand, no_selectors, selector, name, index}
 
 -- the child at that step, with the step
 abbrev pub child_by : Data → Step → Option (Step × Data)

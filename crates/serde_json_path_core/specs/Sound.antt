@@ -2,10 +2,11 @@
 -- is so of each call of the part.
 use Rattle.std.specs.Prelude.{List}
 use Rattle.serde_json.specs.Data.{Data}
-use Rattle.serde_json_path_core.specs.Tree.{Query, Segments, Segment, Selector, LogicalOr, LogicalAnd, Basic, Comparable, Call, Arguments, Argument}
+use Rattle.serde_json_path_syntax.specs.Tree.{Query, Segments, Segment, Selector, LogicalOr, LogicalAnd, Basic, Comparable, Call, Arguments, Argument}
 use Rattle.serde_json_path_functions.specs.Functions.{Kind, FunctionSet}
-use Rattle.serde_json_path_core.specs.Typing.{IsTyped, AreTypedSegments, IsTypedSegment, IsTypedSelector, IsTypedOr, IsTypedAnd, IsTypedBasic, IsTypedComparable, IsTypedCall, AreTypedArguments, IsTypedArgument}
-use Rattle.serde_json_path_core.specs.Calls.{EachCall, EachInSegments, EachInSegment, EachInSelector, EachInOr, EachInAnd, EachInBasic, EachInComparable, EachFrom, EachInArguments, EachInArgument, GoesWithoutPattern, IsClear, IsClearCall}
+use Rattle.serde_json_path_syntax.specs.Typing.{IsTyped, AreTypedSegments, IsTypedSegment, IsTypedSelector, IsTypedOr, IsTypedAnd, IsTypedBasic, IsTypedComparable, IsTypedCall, AreTypedArguments, IsTypedArgument}
+use Rattle.serde_json_path_syntax.specs.Calls.{EachCall, EachInSegments, EachInSegment, EachInSelector, EachInOr, EachInAnd, EachInBasic, EachInComparable, EachFrom, EachInArguments, EachInArgument}
+use Rattle.serde_json_path_core.specs.Clear.{GoesWithoutPattern, IsClear, IsClearCall}
 
 module _ (F : FunctionSet) (top : Data) (q : Query) where
   -- the part is well-typed, and its calls are those of the query

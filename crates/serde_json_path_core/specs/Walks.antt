@@ -3,11 +3,12 @@ use Rattle.std.specs.Prelude.{ℕ, List, length}
 use Rattle.serde_json.specs.Data.{Data}
 use Rattle.serde_json.specs.View.{view}
 use Rattle.serde_json_path_nodes.specs.Place.{Located}
-use Rattle.serde_json_path_core.specs.Tree.{Query, segments_of}
+use Rattle.serde_json_path_syntax.specs.Tree.{Query, segments_of}
 use Rattle.serde_json_path_functions.specs.Functions.{FunctionSet}
-use Rattle.serde_json_path_core.specs.Parts.{tree_of}
+use Rattle.serde_json_path_syntax.specs.Parts.{tree_of}
 use Rattle.serde_json_path_core.specs.Places.{frames_of}
-use Rattle.serde_json_path_core.specs.Rest.{rest_of, stages, work}
+use Rattle.serde_json_path_core.specs.Rest.{rest_of, work}
+use Rattle.serde_json_path_syntax.specs.Stages.{stages}
 use Rattle.serde_json_path_core.specs.declared.evaluation.resume.Walk.{Walk}
 
 -- the query, the function set, the document's root, and the value where the walk began

@@ -12,22 +12,22 @@ ghost use Rattle.serde_json.specs.View.{view};
 ghost use Rattle.serde_json_path_nodes.specs.Place.{Located};
 ghost use Rattle.serde_json_path_nodes.specs.Views.{located_nodes, node_values};
 ghost use Rattle.serde_json_path_functions.specs.Functions.{Fits};
-ghost use Rattle.serde_json_path_core.specs.Calls.{EachCall, GoesWithoutPattern, IsClear};
+ghost use Rattle.serde_json_path_syntax.specs.Calls.{EachCall};
+ghost use Rattle.serde_json_path_core.specs.Clear.{GoesWithoutPattern, IsClear};
 ghost use Rattle.serde_json_path_core.specs.Derivation.{start_of};
-ghost use Rattle.serde_json_path_core.specs.Flat.{kind_view};
+ghost use Rattle.serde_json_path_syntax.specs.Flat.{kind_view};
 ghost use Rattle.serde_json_path_core.specs.Walks.{rest, query_of, set_of, document_of, beginning_of};
 ghost use Rattle.serde_json_path_core.specs.Meaning.{IsResult};
-ghost use Rattle.serde_json_path_core.specs.Parts.{signatures_of, tree_of};
+ghost use Rattle.serde_json_path_syntax.specs.Parts.{signatures_of, tree_of};
 ghost use Rattle.serde_json_path_functions.specs.declared.error.QueryError.TheVariants.{Memory};
 
 use crate::evaluation::place::Place;
 use crate::evaluation::resume::Walk;
 use crate::evaluation::scope::Scope;
-use crate::syntax::checked::Checked;
-use crate::syntax::node::QueryKind;
 use serde_json::Value;
 use serde_json_path_functions::{Functions, QueryError};
 use serde_json_path_nodes::{LocatedNodeList, NodeList};
+use serde_json_path_syntax::{Checked, QueryKind};
 use std::alloc::Global;
 
 /// The value at which a query of that kind begins.

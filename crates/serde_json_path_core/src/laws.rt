@@ -3,9 +3,10 @@
 ghost use Rattle.std.specs.Prelude.{◌≡◌, List};
 ghost use Rattle.serde_json.specs.Data.{Data};
 ghost use Rattle.serde_json_path_nodes.specs.Place.{Located};
-ghost use Rattle.serde_json_path_core.specs.Tree.{Query, segments_of};
+ghost use Rattle.serde_json_path_syntax.specs.Tree.{Query, segments_of};
 ghost use Rattle.serde_json_path_functions.specs.Functions.{FunctionSet};
-ghost use Rattle.serde_json_path_core.specs.Calls.{EachCall, GoesWithoutPattern, IsClear};
+ghost use Rattle.serde_json_path_syntax.specs.Calls.{EachCall};
+ghost use Rattle.serde_json_path_core.specs.Clear.{GoesWithoutPattern, IsClear};
 ghost use Rattle.serde_json_path_core.specs.Derivation.{Triple, Before};
 ghost use Rattle.serde_json_path_core.specs.Meaning.{IsResult};
 ghost use Rattle.serde_json_path_core.specs.Laws.{SingularQuerySelectsAtMostOne, NotEqualNegatesEqual, LessOrEqualIsEither, DescendantsInDocumentOrder};

@@ -1,11 +1,10 @@
-//! Syntax trees of JSONPath queries (RFC 9535), and what they select from `serde_json` values.
+//! What syntax trees of JSONPath queries (RFC 9535) select from `serde_json` values.
 #![tactic(auto)]
 
 mod child;
 mod evaluation;
 mod filter;
 mod laws;
-mod syntax;
 
 pub use evaluation::resume::Walk;
 pub use evaluation::{evaluate, evaluate_located, walk};
@@ -16,10 +15,7 @@ pub use laws::{
 };
 pub use serde_json_path_functions as functions;
 pub use serde_json_path_functions::QueryError;
-pub use syntax::builder::SyntaxBuilder;
-pub use syntax::checked::Checked;
-pub use syntax::literal::{Literal, NumberLiteral};
-pub use syntax::node::{Part, QueryKind, SegmentKind};
-pub use syntax::operator::ComparisonOperator;
-pub use syntax::parts::Parts;
-pub use syntax::slice::Slice;
+pub use serde_json_path_syntax::{
+    Checked, ComparisonOperator, Literal, NumberLiteral, Part, Parts, QueryKind, SegmentKind,
+    Slice, SyntaxBuilder,
+};

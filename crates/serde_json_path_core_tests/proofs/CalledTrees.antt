@@ -1,22 +1,22 @@
 -- Trees that call some names, out of the parts that they are built of.
 use Rattle.std.proofs.Common.{◌≡◌, ◌≢◌, ◌≤◌, ℕ, ◌+◌, max, List, [], ◌∷◌, ◌++◌, inl, inr, Option, Some, option_map, Result, Ok, Err, IfOk, refl, sym, ap, subst, ◌∙◌, arith}
 use Rattle.std.proofs.lemmas.List.{append-nil, map-append}
-use Rattle.serde_json_path_core.specs.Tree.{QueryKind, Query, root, LogicalOr, no_or, or, no_and, and, Basic, Call, call, Arguments, query_argument, call_argument}
+use Rattle.serde_json_path_syntax.specs.Tree.{QueryKind, Query, root, LogicalOr, no_or, or, no_and, and, Basic, Call, call, Arguments, query_argument, call_argument}
 use Rattle.serde_json_path_functions.specs.Functions.{Kind, of_value, of_nodes, of_logical, FunctionSet, Fits, Signature}
 use Rattle.serde_json_path_functions.specs.Terms.{kind_view}
 use Rattle.serde_json_path_functions.specs.declared.types.FunctionArgType.{FunctionArgType}
 use Rattle.serde_json_path_functions.specs.declared.types.FunctionArgType.TheVariants as kinds
-use Rattle.serde_json_path_core.specs.Typing.{IsTestKind, IsTyped, IsTypedOr, IsTypedBasic, IsTypedCall, AreTypedArguments, IsTypedArgument, result_kind}
-use Rattle.serde_json_path_core.specs.Depth.{depth, or_depth, basic_depth, call_depth, arguments_depth}
-use Rattle.serde_json_path_core.specs.Derivation.{IsIn}
-use Rattle.serde_json_path_core.specs.Parts.{KeepsParts}
-use Rattle.serde_json_path_core.specs.Used.{signature_in, AreCalled, MayFinish}
+use Rattle.serde_json_path_syntax.specs.Typing.{IsTestKind, IsTyped, IsTypedOr, IsTypedBasic, IsTypedCall, AreTypedArguments, IsTypedArgument, result_kind}
+use Rattle.serde_json_path_syntax.specs.Depth.{depth, or_depth, basic_depth, call_depth, arguments_depth}
+use Rattle.serde_json_path_syntax.specs.Lists.{IsIn}
+use Rattle.serde_json_path_syntax.specs.Parts.{KeepsParts}
+use Rattle.serde_json_path_syntax.specs.Used.{signature_in, AreCalled, MayFinish}
 use Rattle.serde_json_path_core_tests.specs.CallFree.{IsCallFree}
-use Rattle.serde_json_path_core.specs.CalledNames.{called_names, called_in_or, called_in_basic, called_from, called_in_arguments}
-use Rattle.serde_json_path_core.specs.Called.{names_in, HasEach, IsMade, filter_query}
-use Rattle.serde_json_path_core.specs.declared.syntax.builder.SyntaxBuilder.{SyntaxBuilder}
-use Rattle.serde_json_path_core.proofs.InLists.{in_append}
-use Rattle.serde_json_path_core.proofs.CalledNames.{each_named, no_names}
+use Rattle.serde_json_path_syntax.specs.CalledNames.{called_names, called_in_or, called_in_basic, called_from, called_in_arguments}
+use Rattle.serde_json_path_syntax.specs.Called.{names_in, HasEach, IsMade, filter_query}
+use Rattle.serde_json_path_syntax.specs.declared.builder.SyntaxBuilder.{SyntaxBuilder}
+use Rattle.serde_json_path_syntax.proofs.InLists.{in_append}
+use Rattle.serde_json_path_syntax.proofs.CalledNames.{each_named, no_names}
 
 -- ---- what is made of one part, or of two
 

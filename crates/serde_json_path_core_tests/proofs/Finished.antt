@@ -1,7 +1,7 @@
 -- A query from the root that calls no function may be finished without signatures.
 use Rattle.std.proofs.Common.{◌≤◌, ℕ, [], refl, arith}
-use Rattle.serde_json_path_core.specs.Tree.{query, root, Segments}
-use Rattle.serde_json_path_core.specs.Used.{deepest, signature_in, MayFinish}
+use Rattle.serde_json_path_syntax.specs.Tree.{query, root, Segments}
+use Rattle.serde_json_path_syntax.specs.Used.{deepest, signature_in, MayFinish}
 use Rattle.serde_json_path_core_tests.specs.CallFree.{AreCallFreeSegments}
 
 pub call_free_finished : (deep : ℕ) (segs : Segments) → deep ≤ deepest → AreCallFreeSegments deep segs → MayFinish [] (query root segs)

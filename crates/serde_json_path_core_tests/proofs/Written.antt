@@ -2,14 +2,14 @@
 use Rattle.std.proofs.Common.{◌≡◌, ◌≤◌, ℕ, ◌+◌, List, [], ◌∷◌, ◌++◌, arith, refl, sym, subst}
 use Rattle.std.specs.Prelude.{String}
 use Rattle.std.specs.Global.{Global}
-use Rattle.serde_json_path_core.specs.Tree as tree
-use Rattle.serde_json_path_core.specs.Piece.{a_segment, a_selector, an_and, a_basic}
-use Rattle.serde_json_path_core.specs.Parts.{IsPart, ArePartsFor, ArePartsOf, AreSelectorsOf, AreOrPartsOf, AreAndPartsOf, KeepsParts, or_pieces, and_pieces}
+use Rattle.serde_json_path_syntax.specs.Tree as tree
+use Rattle.serde_json_path_syntax.specs.Piece.{a_segment, a_selector, an_and, a_basic}
+use Rattle.serde_json_path_syntax.specs.Parts.{IsPart, ArePartsFor, ArePartsOf, AreSelectorsOf, AreOrPartsOf, AreAndPartsOf, KeepsParts, or_pieces, and_pieces}
 use Rattle.serde_json_path_core_tests.specs.CallFree.{AreCallFreeSegments, IsCallFreeSegment, AreCallFreeSelectors, IsCallFreeSelector, IsCallFreeOr, IsCallFreeAnd, IsCallFreeBasic, IsCallFreeComparable}
-use Rattle.serde_json_path_core.specs.Used.{MayFinish, used_view, deepest}
+use Rattle.serde_json_path_syntax.specs.Used.{MayFinish, used_view, deepest}
 use Rattle.serde_json_path_functions.specs.declared.signature.Signature as declared
-use Rattle.serde_json_path_core.specs.declared.syntax.node.Part.{Part}
-use Rattle.serde_json_path_core.specs.declared.syntax.builder.SyntaxBuilder.{SyntaxBuilder}
+use Rattle.serde_json_path_syntax.specs.declared.node.Part.{Part}
+use Rattle.serde_json_path_syntax.specs.declared.builder.SyntaxBuilder.{SyntaxBuilder}
 use Rattle.serde_json_path_core_tests.proofs.Finished.{call_free_finished}
 
 pub one_selector : (builder : SyntaxBuilder) (xs : List Part) (part : Part) (sel : tree.Selector)

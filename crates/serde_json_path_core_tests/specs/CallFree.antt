@@ -1,10 +1,10 @@
 -- Trees that call no function: they are well-typed under each signature.
 use Rattle.std.specs.Prelude.{◌≢◌, ◌≤◌, ℕ, List, Option}
-use Rattle.serde_json_path_core.specs.Tree.{Query, Segments, Segment, Selectors, Selector, LogicalOr, LogicalAnd, Basic, Comparable, Call}
+use Rattle.serde_json_path_syntax.specs.Tree.{Query, Segments, Segment, Selectors, Selector, LogicalOr, LogicalAnd, Basic, Comparable, Call}
 use Rattle.serde_json_path_functions.specs.Functions.{Signature}
-use Rattle.serde_json_path_core.specs.Typing.{IsTyped, AreTypedSegments, IsTypedSegment, AreTypedSelectors, IsTypedSelector, IsTypedOr, IsTypedAnd, IsTypedBasic, IsTypedComparable}
-use Rattle.serde_json_path_core.specs.Depth.{depth, segments_depth, segment_depth, selectors_depth, selector_depth, or_depth, and_depth, basic_depth, comparable_depth}
-use Rattle.serde_json_path_core.specs.Calls.{EachCall, EachInSegments, EachInSegment, EachInSelectors, EachInSelector, EachInOr, EachInAnd, EachInBasic, EachInComparable, name_of}
+use Rattle.serde_json_path_syntax.specs.Typing.{IsTyped, AreTypedSegments, IsTypedSegment, AreTypedSelectors, IsTypedSelector, IsTypedOr, IsTypedAnd, IsTypedBasic, IsTypedComparable}
+use Rattle.serde_json_path_syntax.specs.Depth.{depth, segments_depth, segment_depth, selectors_depth, selector_depth, or_depth, and_depth, basic_depth, comparable_depth}
+use Rattle.serde_json_path_syntax.specs.Calls.{EachCall, EachInSegments, EachInSegment, EachInSelectors, EachInSelector, EachInOr, EachInAnd, EachInBasic, EachInComparable, name_of}
 
 -- the tree is well-typed under each signature, calls no name, and at most so many filters and parentheses stand in each other
 abbrev pub GoesWithoutCalls : ((List ℕ → Option Signature) → Type 0) → ((Call → Type 0) → Type 0) → ℕ → ℕ → Type 0

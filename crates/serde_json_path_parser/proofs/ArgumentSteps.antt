@@ -3,17 +3,17 @@ use Rattle.std.proofs.Common.{◌≡◌, ℕ, zero, suc, ◌+◌, ◌≤◌, tru
 use Rattle.std.specs.Prelude.{◌==◌, ◌||◌, IfOk}
 use Rattle.std.specs.Str.{encode_utf8_all}
 use Rattle.std.proofs.lemmas.List.{length-append, nil_from_length, append-nil}
-use Rattle.serde_json_path_core.specs.Tree.{LogicalOr, LogicalAnd, Basic, Arguments, no_arguments, argument, Argument, logical_argument}
+use Rattle.serde_json_path_syntax.specs.Tree.{LogicalOr, LogicalAnd, Basic, Arguments, no_arguments, argument, Argument, logical_argument}
 use Rattle.serde_json_path_functions.specs.Functions.{Kind, Signature}
 use Rattle.serde_json_path_parser.specs.declared.error.Refusal.{Refusal}
 use Rattle.serde_json_path_parser.specs.declared.error.Stop.{Stop}
 use Rattle.serde_json_path_parser.specs.declared.error.Stop.TheVariants as stops
 use Rattle.serde_json_path_parser.specs.declared.error.ParseErrorKind.TheVariants.{ExpectedExpression, ExpectedClosingParenthesis, WrongNumberOfArguments, WrongArgumentType}
 use Rattle.serde_json_path_parser.specs.declared.error.Place.TheVariants as place
-use Rattle.serde_json_path_core.specs.Parts.{IsPart}
-use Rattle.serde_json_path_core.specs.Piece.{Piece, an_argument}
-use Rattle.serde_json_path_core.specs.declared.syntax.node.Part.{Part}
-use Rattle.serde_json_path_core.specs.declared.syntax.builder.SyntaxBuilder.{SyntaxBuilder}
+use Rattle.serde_json_path_syntax.specs.Parts.{IsPart}
+use Rattle.serde_json_path_syntax.specs.Piece.{Piece, an_argument}
+use Rattle.serde_json_path_syntax.specs.declared.node.Part.{Part}
+use Rattle.serde_json_path_syntax.specs.declared.builder.SyntaxBuilder.{SyntaxBuilder}
 use Rattle.serde_json_path_parser.specs.declared.source.PathSource.{Ghosts}
 use Rattle.serde_json_path_parser.specs.declared.parser.reader.Reader.{Reader}
 use Rattle.serde_json_path_parser.specs.Giving.{Fails, Makes, GivesEnd, MakesArguments}

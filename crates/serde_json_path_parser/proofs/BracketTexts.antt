@@ -1,8 +1,8 @@
 -- What is read in a bracket is in the grammar, and what is in the grammar is read.
 use Rattle.std.proofs.Common.{◌≡◌, ℕ, Bool, true, cond, List, [], ◌∷◌, ◌++◌, length, drop, Ok, Err, refl, sym, ap, subst, ◌∙◌, append_assoc, arith}
 use Rattle.std.specs.Prelude.{◌==◌, ◌||◌, codes}
-use Rattle.serde_json_path_core.specs.Tree.{SegmentKind, Segment, long_hand, Selectors, no_selectors, selector, Selector, LogicalOr}
-use Rattle.serde_json_path_core.specs.Text.{bracket_dots_of}
+use Rattle.serde_json_path_syntax.specs.Tree.{SegmentKind, Segment, long_hand, Selectors, no_selectors, selector, Selector, LogicalOr}
+use Rattle.serde_json_path_syntax.specs.Text.{bracket_dots_of}
 use Rattle.serde_json_path_parser.specs.declared.error.ParseErrorKind.TheVariants.{ExpectedClosingBracket}
 use Rattle.serde_json_path_parser.specs.declared.error.Place.TheVariants as place
 use Rattle.serde_json_path_parser.specs.Lexical.{begins, IsBlank}

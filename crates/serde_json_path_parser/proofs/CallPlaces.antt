@@ -1,7 +1,7 @@
 -- Each refusal of a call stands at a place of its text: that of an undeclared function where its name begins.
 use Rattle.std.proofs.Common.{◌≡◌, ℕ, zero, suc, inl, inr, cond, List, [], ◌∷◌, ◌++◌, length, drop, Option, Some, None, Ok, Err, refl, sym, ap, subst, ◌∙◌, append_assoc}
 use Rattle.std.specs.Prelude.{◌==◌, ◌||◌}
-use Rattle.serde_json_path_core.specs.Tree.{LogicalOr, LogicalAnd, Basic, Argument, logical_argument}
+use Rattle.serde_json_path_syntax.specs.Tree.{LogicalOr, LogicalAnd, Basic, Argument, logical_argument}
 use Rattle.serde_json_path_functions.specs.Functions.{Kind, Signature}
 use Rattle.serde_json_path_parser.specs.declared.error.Refusal.{Refusal}
 use Rattle.serde_json_path_parser.specs.declared.error.ParseErrorKind.TheVariants.{ExpectedExpression, ExpectedClosingParenthesis, UndefinedFunction, WrongNumberOfArguments, WrongArgumentType}

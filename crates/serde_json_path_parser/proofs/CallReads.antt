@@ -5,9 +5,9 @@ use Rattle.std.proofs.Math.Nat.{mul-mod_left}
 use Rattle.std.proofs.lemmas.Bool.{eq-eqb, or_parts}
 use Rattle.std.proofs.lemmas.Int.{ints}
 use Rattle.std.proofs.lemmas.List.{length-append}
-use Rattle.serde_json_path_core.specs.Tree.{LogicalOr, no_or, or, LogicalAnd, no_and, and, Basic, exist, test, Call, call, Arguments, no_arguments, argument, Argument, literal_argument, query_argument, call_argument, logical_argument, text, number, truth, null, Operator}
-use Rattle.serde_json_path_core.specs.Typing.{result_kind, IsTestKind, TakesResult, IsTypedArgument, AreTypedArguments, IsTypedCall}
-use Rattle.serde_json_path_core.specs.Depth.{argument_depth, arguments_depth, call_depth}
+use Rattle.serde_json_path_syntax.specs.Tree.{LogicalOr, no_or, or, LogicalAnd, no_and, and, Basic, exist, test, Call, call, Arguments, no_arguments, argument, Argument, literal_argument, query_argument, call_argument, logical_argument, text, number, truth, null, Operator}
+use Rattle.serde_json_path_syntax.specs.Typing.{result_kind, IsTestKind, TakesResult, IsTypedArgument, AreTypedArguments, IsTypedCall}
+use Rattle.serde_json_path_syntax.specs.Depth.{argument_depth, arguments_depth, call_depth}
 use Rattle.serde_json_path_functions.specs.Functions.{Kind, of_value, of_nodes, of_logical, Signature}
 use Rattle.serde_json_path_parser.specs.declared.error.ParseErrorKind.TheVariants.{WrongReturnType}
 use Rattle.serde_json_path_parser.specs.declared.error.Place.TheVariants as place

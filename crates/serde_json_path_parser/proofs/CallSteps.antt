@@ -1,15 +1,15 @@
 -- What the code says of an argument's type is what its definition says.
 use Rattle.std.proofs.Common.{◌≡◌, ℕ, Bool, true, false, List, Option, refl, sym, ap, subst, ◌∙◌}
 use Rattle.std.specs.Prelude.{◌↔◌, IsTrue}
-use Rattle.serde_json_path_core.specs.Literals.{literal_view}
-use Rattle.serde_json_path_core.specs.Parts.{IsPart}
-use Rattle.serde_json_path_core.specs.Piece.{a_query}
-use Rattle.serde_json_path_core.specs.Tree as tree
-use Rattle.serde_json_path_core.specs.Tree.{Literal, text, number, truth, null, Argument, literal_argument, query_argument, call_argument, logical_argument}
-use Rattle.serde_json_path_core.specs.Typing.{IsValueLiteral}
-use Rattle.serde_json_path_core.specs.declared.syntax.literal.Literal as core
-use Rattle.serde_json_path_core.specs.declared.syntax.node.Part.{Part}
-use Rattle.serde_json_path_core.specs.declared.syntax.builder.SyntaxBuilder.{SyntaxBuilder}
+use Rattle.serde_json_path_syntax.specs.Literals.{literal_view}
+use Rattle.serde_json_path_syntax.specs.Parts.{IsPart}
+use Rattle.serde_json_path_syntax.specs.Piece.{a_query}
+use Rattle.serde_json_path_syntax.specs.Tree as tree
+use Rattle.serde_json_path_syntax.specs.Tree.{Literal, text, number, truth, null, Argument, literal_argument, query_argument, call_argument, logical_argument}
+use Rattle.serde_json_path_syntax.specs.Typing.{IsValueLiteral}
+use Rattle.serde_json_path_syntax.specs.declared.literal.Literal as core
+use Rattle.serde_json_path_syntax.specs.declared.node.Part.{Part}
+use Rattle.serde_json_path_syntax.specs.declared.builder.SyntaxBuilder.{SyntaxBuilder}
 use Rattle.serde_json_path_functions.specs.Functions.{of_value, Signature}
 use Rattle.serde_json_path_parser.specs.declared.parser.call.Argument as declared
 use Rattle.serde_json_path_parser.specs.declared.parser.call.Argument.TheVariants as the_arguments

@@ -4,9 +4,9 @@ use Rattle.std.specs.Prelude.{◌==◌, ◌||◌, ℤ, pos, negsuc, ◌*ℤ◌, 
 use Rattle.std.proofs.lemmas.Bool.{eqb-true}
 use Rattle.std.proofs.lemmas.Int.{ints}
 use Rattle.std.proofs.lemmas.Nat.{div-add-mod'}
-use Rattle.serde_json_path_core.specs.Tree.{root, current, LogicalOr, LogicalAnd, Basic, paren, not_paren, relation, exist, not_exist, test, not_test, Call, call, Arguments, no_arguments, argument, Argument, literal_argument, query_argument, call_argument, logical_argument, text, number, truth, null, Operator}
-use Rattle.serde_json_path_core.specs.Typing.{result_kind, IsTestKind, TakesResult, IsTypedArgument, AreTypedArguments, IsTypedCall}
-use Rattle.serde_json_path_core.specs.Depth.{argument_depth, arguments_depth, call_depth}
+use Rattle.serde_json_path_syntax.specs.Tree.{root, current, LogicalOr, LogicalAnd, Basic, paren, not_paren, relation, exist, not_exist, test, not_test, Call, call, Arguments, no_arguments, argument, Argument, literal_argument, query_argument, call_argument, logical_argument, text, number, truth, null, Operator}
+use Rattle.serde_json_path_syntax.specs.Typing.{result_kind, IsTestKind, TakesResult, IsTypedArgument, AreTypedArguments, IsTypedCall}
+use Rattle.serde_json_path_syntax.specs.Depth.{argument_depth, arguments_depth, call_depth}
 use Rattle.serde_json_path_functions.specs.Functions.{Kind, of_value, of_nodes, of_logical, Signature}
 use Rattle.serde_json_path_parser.specs.declared.error.ParseErrorKind.TheVariants.{ExpectedExpression, ExpectedClosingParenthesis, WrongArgumentType, WrongReturnType}
 use Rattle.serde_json_path_parser.specs.declared.error.Place.TheVariants as place

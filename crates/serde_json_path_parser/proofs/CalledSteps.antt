@@ -1,8 +1,8 @@
 -- The steps of the code at names, calls and operands.
 use Rattle.std.proofs.Common.{◌≡◌, ℕ, zero, suc, ◌-◌, ◌<◌, true, false, List, drop, Option, Some, None, Ok, Err, refl, ap, ◌∙◌, arith, length}
 use Rattle.std.specs.Prelude.{◌==◌, ℤ}
-use Rattle.serde_json_path_core.specs.Tree.{Query, root, current, Call, call, Arguments, Literal, number}
-use Rattle.serde_json_path_core.specs.Typing.{result_kind}
+use Rattle.serde_json_path_syntax.specs.Tree.{Query, root, current, Call, call, Arguments, Literal, number}
+use Rattle.serde_json_path_syntax.specs.Typing.{result_kind}
 use Rattle.serde_json_path_functions.specs.Functions.{Kind, Signature}
 use Rattle.serde_json_path_parser.specs.declared.error.Stop.{Stop}
 use Rattle.serde_json_path_parser.specs.declared.error.ParseErrorKind.TheVariants.{ExpectedExpression, UndefinedFunction, NestedTooDeep}

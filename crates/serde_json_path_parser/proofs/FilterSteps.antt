@@ -1,7 +1,7 @@
 -- The steps of the code at filters and at the queries in them.
 use Rattle.std.proofs.Common.{◌≡◌, ℕ, true, false, List, ◌∷◌, drop, Option, Ok, refl, ap, ◌∙◌}
 use Rattle.std.specs.Prelude.{◌==◌}
-use Rattle.serde_json_path_core.specs.Tree.{SegmentKind, Segment, filter, LogicalOr, QueryKind, query}
+use Rattle.serde_json_path_syntax.specs.Tree.{SegmentKind, Segment, filter, LogicalOr, QueryKind, query}
 use Rattle.serde_json_path_functions.specs.Functions.{Signature}
 use Rattle.serde_json_path_parser.specs.declared.error.Place.TheVariants as place
 use Rattle.serde_json_path_parser.specs.declared.error.Stop.{Stop}

@@ -1,7 +1,7 @@
 -- What is read as a filter is a good one, each is read, and a refusal stands in its text, by what holds one level deeper.
 use Rattle.std.proofs.Common.{◌≡◌, ℕ, true, List, ◌∷◌, ◌++◌, drop, Option, Ok, refl, sym, ap, subst, ◌∙◌, append_assoc, arith}
 use Rattle.std.specs.Prelude.{◌==◌, ◌||◌}
-use Rattle.serde_json_path_core.specs.Tree.{Selector, filter, LogicalOr}
+use Rattle.serde_json_path_syntax.specs.Tree.{Selector, filter, LogicalOr}
 use Rattle.serde_json_path_functions.specs.Functions.{Signature}
 use Rattle.serde_json_path_parser.specs.Lexical.{begins}
 use Rattle.serde_json_path_parser.specs.Parsed.{past_blanks}

@@ -1,7 +1,7 @@
 -- How operands and logical expressions begin.
 use Rattle.std.proofs.Common.{◌≡◌, ℕ, Bool, true, false, List, ◌++◌, refl, ap, ◌∙◌, append_assoc, arith}
 use Rattle.std.specs.Prelude.{◌==◌, ◌||◌}
-use Rattle.serde_json_path_core.specs.Tree.{Query, query, root, current, LogicalOr, no_or, or, LogicalAnd, no_and, and, Basic, paren, not_paren, relation, exist, not_exist, test, not_test, Comparable, literal, singular, called, Call, call, Literal, text, number, truth, null}
+use Rattle.serde_json_path_syntax.specs.Tree.{Query, query, root, current, LogicalOr, no_or, or, LogicalAnd, no_and, and, Basic, paren, not_paren, relation, exist, not_exist, test, not_test, Comparable, literal, singular, called, Call, call, Literal, text, number, truth, null}
 use Rattle.serde_json_path_parser.specs.Lexical.{begins, is_blank, is_digit, is_small_letter}
 use Rattle.serde_json_path_parser.specs.Grammar.{IsLiteral, Reads, ReadsOr, ReadsAnd, ReadsBasic, ReadsComparable, ReadsCall}
 use Rattle.serde_json_path_parser.specs.Operands.{Operand, a_literal, a_query, a_call}

@@ -1,11 +1,11 @@
 -- Parts that stand for what is joined by `||` and by `&&`, one more at a time.
 use Rattle.std.proofs.Common.{◌≡◌, List, [], ◌∷◌, ◌++◌, refl, sym, ap, subst, ◌∙◌}
-use Rattle.serde_json_path_core.specs.Tree.{LogicalOr, LogicalAnd, Basic}
-use Rattle.serde_json_path_core.specs.Piece.{Piece, an_and, a_basic}
-use Rattle.serde_json_path_core.specs.Parts.{IsPart, ArePartsFor, AreOrPartsOf, AreAndPartsOf, KeepsParts, or_pieces, and_pieces}
-use Rattle.serde_json_path_core.specs.declared.syntax.node.Part.{Part}
-use Rattle.serde_json_path_core.specs.declared.syntax.builder.SyntaxBuilder.{SyntaxBuilder}
-use Rattle.serde_json_path_core.proofs.NamedParts.{parts_for_kept, or_parts_for, and_parts_for}
+use Rattle.serde_json_path_syntax.specs.Tree.{LogicalOr, LogicalAnd, Basic}
+use Rattle.serde_json_path_syntax.specs.Piece.{Piece, an_and, a_basic}
+use Rattle.serde_json_path_syntax.specs.Parts.{IsPart, ArePartsFor, AreOrPartsOf, AreAndPartsOf, KeepsParts, or_pieces, and_pieces}
+use Rattle.serde_json_path_syntax.specs.declared.node.Part.{Part}
+use Rattle.serde_json_path_syntax.specs.declared.builder.SyntaxBuilder.{SyntaxBuilder}
+use Rattle.serde_json_path_syntax.proofs.NamedParts.{parts_for_kept, or_parts_for, and_parts_for}
 use Rattle.serde_json_path_parser.specs.Filters.{and_list, or_list}
 use Rattle.serde_json_path_parser.proofs.PartLists.{one_more}
 

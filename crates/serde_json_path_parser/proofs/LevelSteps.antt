@@ -1,6 +1,6 @@
 -- At a level, each selector and each segment takes at least one character.
 use Rattle.std.proofs.Common.{◌≡◌, ℕ, ◌<◌, true, List, length, Ok}
-use Rattle.serde_json_path_core.specs.Tree.{SegmentKind, Segment}
+use Rattle.serde_json_path_syntax.specs.Tree.{SegmentKind, Segment}
 use Rattle.serde_json_path_functions.specs.Functions.{FunctionSet}
 use Rattle.serde_json_path_parser.specs.declared.error.Place as declared
 use Rattle.serde_json_path_parser.specs.declared.parser.level.Level.{Level}

@@ -1,6 +1,6 @@
 -- The laws of how filters, parentheses and calls are read hold at every level.
 use Rattle.std.proofs.Common.{◌≡◌, ℕ, zero, suc, inl, List, Option, Ok, Err, refl, arith}
-use Rattle.serde_json_path_core.specs.Tree.{LogicalOr, Call, call}
+use Rattle.serde_json_path_syntax.specs.Tree.{LogicalOr, Call, call}
 use Rattle.serde_json_path_functions.specs.Functions.{Signature}
 use Rattle.serde_json_path_parser.specs.declared.error.Refusal.{Refusal}
 use Rattle.serde_json_path_parser.specs.declared.error.ParseErrorKind.TheVariants.{NestedTooDeep}

@@ -2,10 +2,10 @@
 -- characters that may follow.
 use Rattle.std.proofs.Common.{◌≡◌, ℕ, ◌+◌, ◌≤◌, Bool, true, List, [], ◌∷◌, ◌++◌, Option, Ok, Err, refl, arith}
 use Rattle.std.specs.Prelude.{◌==◌, ◌||◌}
-use Rattle.serde_json_path_core.specs.Tree.{Query, query, Segments, no_segments, segment, child, descendant, Segment, dot_name, dot_wildcard, long_hand, Selectors, no_selectors, selector, Selector, name, wildcard, index, slice, filter, LogicalOr, Call, call, Arguments, IsSingularSegment, AreSingular, IsSingular}
+use Rattle.serde_json_path_syntax.specs.Tree.{Query, query, Segments, no_segments, segment, child, descendant, Segment, dot_name, dot_wildcard, long_hand, Selectors, no_selectors, selector, Selector, name, wildcard, index, slice, filter, LogicalOr, Call, call, Arguments, IsSingularSegment, AreSingular, IsSingular}
 use Rattle.std.proofs.lemmas.Bool.{and_parts}
-use Rattle.serde_json_path_core.specs.Typing.{IsTyped, AreTypedSegments, IsTypedSegment, AreTypedSelectors, IsTypedSelector, IsTypedOr, IsTypedCall}
-use Rattle.serde_json_path_core.specs.Depth.{depth, segments_depth, segment_depth, selectors_depth, selector_depth, or_depth, call_depth}
+use Rattle.serde_json_path_syntax.specs.Typing.{IsTyped, AreTypedSegments, IsTypedSegment, AreTypedSelectors, IsTypedSelector, IsTypedOr, IsTypedCall}
+use Rattle.serde_json_path_syntax.specs.Depth.{depth, segments_depth, segment_depth, selectors_depth, selector_depth, or_depth, call_depth}
 use Rattle.serde_json_path_functions.specs.Functions.{Signature}
 use Rattle.serde_json_path_parser.specs.declared.error.Refusal.{Refusal}
 use Rattle.serde_json_path_parser.specs.Lexical.{begins, IsBlank, IsFunctionName}

@@ -1,10 +1,10 @@
 -- Each refusal of a logical expression stands at a place of its text.
 use Rattle.std.proofs.Common.{◌≡◌, ℕ, inl, inr, true, false, List, [], ◌∷◌, ◌++◌, length, drop, Option, Some, None, Ok, Err, refl, ap, ◌∙◌}
 use Rattle.std.specs.Prelude.{◌==◌, codes, bytes_eq}
-use Rattle.serde_json_path_core.specs.Tree.{QueryKind, root, current, Basic, paren, not_paren, not_exist, test, not_test, Comparable, literal, singular, called, LogicalAnd, Operator, truth, null}
+use Rattle.serde_json_path_syntax.specs.Tree.{QueryKind, root, current, Basic, paren, not_paren, not_exist, test, not_test, Comparable, literal, singular, called, LogicalAnd, Operator, truth, null}
 use Rattle.std.proofs.lemmas.Bool.{and_parts}
-use Rattle.serde_json_path_core.specs.Text.{operator_text}
-use Rattle.serde_json_path_core.specs.Typing.{result_kind}
+use Rattle.serde_json_path_syntax.specs.Text.{operator_text}
+use Rattle.serde_json_path_syntax.specs.Typing.{result_kind}
 use Rattle.serde_json_path_functions.specs.Functions.{of_value, Signature}
 use Rattle.serde_json_path_parser.specs.declared.error.Refusal.{Refusal}
 use Rattle.serde_json_path_parser.specs.declared.error.ParseErrorKind.TheVariants.{ExpectedExpression, ExpectedClosingParenthesis, ExpectedComparisonOperator, NonSingularQuery, WrongReturnType}

@@ -2,10 +2,10 @@
 use Rattle.std.proofs.Common.{◌≡◌, ℕ, ◌≤◌, inl, inr, Bool, true, false, List, [], ◌∷◌, ◌++◌, drop, Option, Some, None, Ok, refl, sym, ap, ◌∙◌, append_assoc, arith}
 use Rattle.std.specs.Prelude.{◌==◌, codes}
 use Rattle.std.proofs.lemmas.Bool.{and_parts, eq-eqb}
-use Rattle.serde_json_path_core.specs.Tree.{root, current, Query, query, LogicalOr, no_or, or, LogicalAnd, no_and, and, Basic, paren, not_paren, relation, exist, not_exist, test, not_test, Comparable, literal, singular, called, Call, Operator, equal, not_equal, less, less_or_equal, greater, greater_or_equal}
-use Rattle.serde_json_path_core.specs.Text.{operator_text}
-use Rattle.serde_json_path_core.specs.Typing.{result_kind, IsTypedOr, IsTypedAnd, IsTestKind}
-use Rattle.serde_json_path_core.specs.Depth.{or_depth, and_depth}
+use Rattle.serde_json_path_syntax.specs.Tree.{root, current, Query, query, LogicalOr, no_or, or, LogicalAnd, no_and, and, Basic, paren, not_paren, relation, exist, not_exist, test, not_test, Comparable, literal, singular, called, Call, Operator, equal, not_equal, less, less_or_equal, greater, greater_or_equal}
+use Rattle.serde_json_path_syntax.specs.Text.{operator_text}
+use Rattle.serde_json_path_syntax.specs.Typing.{result_kind, IsTypedOr, IsTypedAnd, IsTestKind}
+use Rattle.serde_json_path_syntax.specs.Depth.{or_depth, and_depth}
 use Rattle.serde_json_path_functions.specs.Functions.{Kind, of_value, Signature}
 use Rattle.serde_json_path_parser.specs.Lexical.{begins, begins_both, is_blank, is_small_letter, IsBlank}
 use Rattle.serde_json_path_parser.specs.Grammar.{InParentheses, Reads, ReadsOr, ReadMoreOrs, ReadMoreAnds, ReadsCall}

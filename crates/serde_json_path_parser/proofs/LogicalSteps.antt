@@ -4,12 +4,12 @@ use denote.Enum.Bare.{sameb}
 use Rattle.std.specs.Prelude.{◌==◌, codes, bytes_eq}
 use Rattle.std.specs.Str.{encode_utf8_all}
 use Rattle.std.proofs.lemmas.Bool.{and_parts}
-use Rattle.serde_json_path_core.specs.Tree.{root, current, Query, LogicalOr, paren, not_paren, relation, not_exist, not_test, Comparable, Call, Literal, truth, null, Operator}
-use Rattle.serde_json_path_core.specs.Typing.{result_kind}
-use Rattle.serde_json_path_core.specs.Piece as piece
-use Rattle.serde_json_path_core.specs.Parts.{IsPart}
-use Rattle.serde_json_path_core.specs.declared.syntax.node.Part.{Part}
-use Rattle.serde_json_path_core.specs.declared.syntax.builder.SyntaxBuilder.{SyntaxBuilder}
+use Rattle.serde_json_path_syntax.specs.Tree.{root, current, Query, LogicalOr, paren, not_paren, relation, not_exist, not_test, Comparable, Call, Literal, truth, null, Operator}
+use Rattle.serde_json_path_syntax.specs.Typing.{result_kind}
+use Rattle.serde_json_path_syntax.specs.Piece as piece
+use Rattle.serde_json_path_syntax.specs.Parts.{IsPart}
+use Rattle.serde_json_path_syntax.specs.declared.node.Part.{Part}
+use Rattle.serde_json_path_syntax.specs.declared.builder.SyntaxBuilder.{SyntaxBuilder}
 use Rattle.serde_json_path_functions.specs.Functions.{of_value, Signature}
 use Rattle.serde_json_path_functions.specs.Terms.{kind_view}
 use Rattle.serde_json_path_functions.specs.contracts.types.FunctionArgType.{the_type}

@@ -3,10 +3,10 @@ use Rattle.std.proofs.Common.{◌≡◌, ℕ, ◌≤◌, inl, inr, true, false, 
 use Rattle.std.specs.Prelude.{◌==◌, codes}
 use Rattle.std.proofs.lemmas.Bool.{and_parts}
 use Rattle.std.proofs.lemmas.Option.{same_Some}
-use Rattle.serde_json_path_core.specs.Tree.{root, current, LogicalOr, LogicalAnd, Basic, paren, not_paren, relation, exist, not_exist, test, not_test, Comparable, literal, singular, called, Call, call, Operator, equal, not_equal, less, less_or_equal, greater, greater_or_equal}
-use Rattle.serde_json_path_core.specs.Text.{operator_text}
-use Rattle.serde_json_path_core.specs.Typing.{result_kind, IsTypedOr, IsTypedAnd, IsTypedBasic, IsTypedComparable, IsTestKind}
-use Rattle.serde_json_path_core.specs.Depth.{or_depth, and_depth, basic_depth, comparable_depth}
+use Rattle.serde_json_path_syntax.specs.Tree.{root, current, LogicalOr, LogicalAnd, Basic, paren, not_paren, relation, exist, not_exist, test, not_test, Comparable, literal, singular, called, Call, call, Operator, equal, not_equal, less, less_or_equal, greater, greater_or_equal}
+use Rattle.serde_json_path_syntax.specs.Text.{operator_text}
+use Rattle.serde_json_path_syntax.specs.Typing.{result_kind, IsTypedOr, IsTypedAnd, IsTypedBasic, IsTypedComparable, IsTestKind}
+use Rattle.serde_json_path_syntax.specs.Depth.{or_depth, and_depth, basic_depth, comparable_depth}
 use Rattle.serde_json_path_functions.specs.Functions.{Kind, of_value, of_nodes, of_logical, Signature}
 use Rattle.serde_json_path_parser.specs.declared.error.ParseErrorKind.TheVariants.{NonSingularQuery, WrongReturnType, ExpectedClosingParenthesis, ExpectedExpression}
 use Rattle.serde_json_path_parser.specs.declared.error.Place.TheVariants as place

@@ -3,8 +3,8 @@ use Rattle.std.proofs.Common.{◌≡◌, ℕ, inl, inr, Bool, true, false, true�
 use Rattle.std.specs.Prelude.{◌==◌, ◌||◌, codes, ℤ}
 use Rattle.std.specs.List.{AllByRecursion}
 use Rattle.std.proofs.lemmas.Bool.{and_parts, or_parts, or_left, or_right, false_from_ne_true}
-use Rattle.serde_json_path_core.specs.Tree.{QueryKind, root, current, query, Segments, Call, call, Literal, text, number, truth, null}
-use Rattle.serde_json_path_core.specs.Text.{query_kind_text}
+use Rattle.serde_json_path_syntax.specs.Tree.{QueryKind, root, current, query, Segments, Call, call, Literal, text, number, truth, null}
+use Rattle.serde_json_path_syntax.specs.Text.{query_kind_text}
 use Rattle.serde_json_path_functions.specs.Functions.{Signature}
 use Rattle.serde_json_path_parser.specs.declared.error.Place.TheVariants as place
 use Rattle.serde_json_path_parser.specs.Lexical.{AllPass, begins, is_blank, is_small_letter, is_function_char, is_name_char, IsNumber, IsQuote}

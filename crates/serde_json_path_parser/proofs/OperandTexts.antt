@@ -3,8 +3,8 @@ use Rattle.std.proofs.Common.{◌≡◌, ℕ, inl, inr, true, false, List, [], �
 use Rattle.std.specs.Prelude.{◌==◌, codes, bytes_eq}
 use Rattle.std.proofs.lemmas.Bool.{and_parts}
 use Rattle.std.proofs.lemmas.Slice.Eq.{bytes_eq-Decides}
-use Rattle.serde_json_path_core.specs.Tree.{QueryKind, root, current, Query, query, Call, Literal, text, number, truth, null}
-use Rattle.serde_json_path_core.specs.Text.{query_kind_text}
+use Rattle.serde_json_path_syntax.specs.Tree.{QueryKind, root, current, Query, query, Call, Literal, text, number, truth, null}
+use Rattle.serde_json_path_syntax.specs.Text.{query_kind_text}
 use Rattle.serde_json_path_functions.specs.Functions.{Signature}
 use Rattle.serde_json_path_parser.specs.declared.error.ParseErrorKind.TheVariants.{ExpectedExpression}
 use Rattle.serde_json_path_parser.specs.declared.error.Place.TheVariants as place

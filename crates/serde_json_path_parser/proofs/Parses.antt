@@ -5,19 +5,19 @@ use Rattle.std.specs.Str.{chars, IsUtf8, IsCharBoundary, encode_utf8_all, all_sc
 use Rattle.std.proofs.lemmas.List.{length-append}
 use Rattle.std.proofs.Math.Seq.{take-append_seam, drop-append_seam}
 use Rattle.std.proofs.lemmas.Str.{IsCharBoundary-start, chars-encodes, scalars-chars}
-use Rattle.serde_json_path_core.specs.Tree.{Query, query, root, current, Segments}
+use Rattle.serde_json_path_syntax.specs.Tree.{Query, query, root, current, Segments}
 use Rattle.serde_json_path_functions.specs.Functions.{Signature}
 use Rattle.serde_json_path_parser.specs.declared.error.Refusal.{Refusal}
 use Rattle.serde_json_path_parser.specs.declared.error.Stop.{Stop}
 use Rattle.serde_json_path_parser.specs.declared.error.Stop.TheVariants as stops
 use Rattle.serde_json_path_parser.specs.declared.error.ParseErrorKind.{ParseErrorKind}
 use Rattle.serde_json_path_parser.specs.declared.error.ParseErrorKind.TheVariants.{ExpectedRoot, UndefinedFunction, TextAfterPath, NoMemory}
-use Rattle.serde_json_path_core.specs.declared.syntax.checked.Checked.{Checked}
-use Rattle.serde_json_path_core.specs.Parts.{tree_of, signatures_of}
+use Rattle.serde_json_path_syntax.specs.declared.checked.Checked.{Checked}
+use Rattle.serde_json_path_syntax.specs.Parts.{tree_of, signatures_of}
 use Rattle.serde_json_path_parser.specs.Lexical.{begins}
 use Rattle.serde_json_path_parser.specs.Accepted.{IsAccepted}
 use Rattle.serde_json_path_parser.specs.Laws.{OneTreeAtMost}
-use Rattle.serde_json_path_core.specs.Used.{AreCalled}
+use Rattle.serde_json_path_syntax.specs.Used.{AreCalled}
 use Rattle.serde_json_path_parser.specs.Parsing.{opens, opens_next, opens_behind_root}
 use Rattle.serde_json_path_parser.specs.Operands.{IsUndeclared}
 use Rattle.serde_json_path_parser.specs.Filters.{path_at}

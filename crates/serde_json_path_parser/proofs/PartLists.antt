@@ -1,11 +1,11 @@
 -- Parts that stand for selectors and for segments, one more at a time.
 use Rattle.std.proofs.Common.{◌≡◌, List, [], ◌∷◌, ◌++◌, refl, sym, ap, subst, ◌∙◌}
-use Rattle.serde_json_path_core.specs.Tree.{SegmentKind, Segment, Selector}
-use Rattle.serde_json_path_core.specs.Piece.{Piece, a_segment, a_selector}
-use Rattle.serde_json_path_core.specs.Parts.{IsPart, ArePartsFor, ArePartsOf, AreSelectorsOf, KeepsParts, segment_pieces, selector_pieces}
-use Rattle.serde_json_path_core.specs.declared.syntax.node.Part.{Part}
-use Rattle.serde_json_path_core.specs.declared.syntax.builder.SyntaxBuilder.{SyntaxBuilder}
-use Rattle.serde_json_path_core.proofs.NamedParts.{parts_for_kept}
+use Rattle.serde_json_path_syntax.specs.Tree.{SegmentKind, Segment, Selector}
+use Rattle.serde_json_path_syntax.specs.Piece.{Piece, a_segment, a_selector}
+use Rattle.serde_json_path_syntax.specs.Parts.{IsPart, ArePartsFor, ArePartsOf, AreSelectorsOf, KeepsParts, segment_pieces, selector_pieces}
+use Rattle.serde_json_path_syntax.specs.declared.node.Part.{Part}
+use Rattle.serde_json_path_syntax.specs.declared.builder.SyntaxBuilder.{SyntaxBuilder}
+use Rattle.serde_json_path_syntax.proofs.NamedParts.{parts_for_kept}
 use Rattle.serde_json_path_parser.specs.Parsing.{selector_list, segment_list}
 
 pub one_more : (builder : SyntaxBuilder) (parts : List Part) (pieces : List Piece) (part : Part) (piece : Piece) → ArePartsFor builder parts pieces → IsPart builder part piece → ArePartsFor builder (parts ++ part ∷ []) (pieces ++ piece ∷ [])

@@ -4,9 +4,9 @@ use Rattle.std.specs.Prelude.{◌==◌, encode_utf8}
 use Rattle.std.specs.Str.{encode_utf8_all}
 use Rattle.std.proofs.lemmas.List.{append-nil, length-append, nil_from_length}
 use Rattle.std.proofs.lemmas.Bool.{eqb-true}
-use Rattle.serde_json_path_core.specs.Tree.{SegmentKind, Segments, Segment}
-use Rattle.serde_json_path_core.specs.Typing.{AreTypedSegments}
-use Rattle.serde_json_path_core.specs.Depth.{segments_depth}
+use Rattle.serde_json_path_syntax.specs.Tree.{SegmentKind, Segments, Segment}
+use Rattle.serde_json_path_syntax.specs.Typing.{AreTypedSegments}
+use Rattle.serde_json_path_syntax.specs.Depth.{segments_depth}
 use Rattle.serde_json_path_functions.specs.Functions.{Signature}
 use Rattle.serde_json_path_parser.specs.declared.error.ParseErrorKind.TheVariants.{ExpectedRoot, TextAfterPath}
 use Rattle.serde_json_path_parser.specs.declared.error.Place.TheVariants as place

@@ -2,7 +2,7 @@
 use Rattle.std.proofs.Common.{◌≡◌, ℕ, inl, inr, List, drop, length, Option, Ok, Err, refl}
 use Rattle.std.specs.Prelude.{◌==◌, codes}
 use Rattle.std.specs.Str.{encode_utf8_all}
-use Rattle.serde_json_path_core.specs.Tree.{SegmentKind, child, descendant, Segment, dot_name, dot_wildcard, long_hand, Selector, LogicalOr}
+use Rattle.serde_json_path_syntax.specs.Tree.{SegmentKind, child, descendant, Segment, dot_name, dot_wildcard, long_hand, Selector, LogicalOr}
 use Rattle.serde_json_path_functions.specs.Functions.{Signature}
 use Rattle.serde_json_path_parser.specs.declared.error.Refusal.{Refusal}
 use Rattle.serde_json_path_parser.specs.declared.error.ParseErrorKind.{ParseErrorKind}

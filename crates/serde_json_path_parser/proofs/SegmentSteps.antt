@@ -1,7 +1,7 @@
 -- The steps of the code at brackets and segments.
 use Rattle.std.proofs.Common.{◌≡◌, ℕ, true, false, List, [], ◌∷◌, drop, Ok, refl, sym, ap, subst, ◌∙◌}
 use Rattle.std.specs.Prelude.{◌==◌}
-use Rattle.serde_json_path_core.specs.Tree.{SegmentKind, Segment, dot_name, dot_wildcard, long_hand, Selector}
+use Rattle.serde_json_path_syntax.specs.Tree.{SegmentKind, Segment, dot_name, dot_wildcard, long_hand, Selector}
 use Rattle.serde_json_path_parser.specs.declared.error.Place as declared
 use Rattle.serde_json_path_parser.specs.declared.error.Stop.{Stop}
 use Rattle.serde_json_path_parser.specs.Giving.{Fails}

@@ -3,8 +3,8 @@ use Rattle.std.proofs.Common.{◌≡◌, ℕ, ◌<◌, inl, inr, true, false, Li
 use Rattle.std.specs.Prelude.{◌==◌}
 use Rattle.std.specs.Str.{encode_utf8_all}
 use Rattle.std.proofs.lemmas.List.{length-append}
-use Rattle.serde_json_path_core.specs.Tree.{SegmentKind, child, descendant, Segments, no_segments, segment, Segment, dot_name, dot_wildcard, long_hand, Selector, LogicalOr}
-use Rattle.serde_json_path_core.specs.Text.{dots_of}
+use Rattle.serde_json_path_syntax.specs.Tree.{SegmentKind, child, descendant, Segments, no_segments, segment, Segment, dot_name, dot_wildcard, long_hand, Selector, LogicalOr}
+use Rattle.serde_json_path_syntax.specs.Text.{dots_of}
 use Rattle.serde_json_path_parser.specs.declared.error.ParseErrorKind.TheVariants.{BadMemberName}
 use Rattle.serde_json_path_parser.specs.declared.error.Place as declared
 use Rattle.serde_json_path_parser.specs.Lexical.{begins, is_blank, IsBlank, is_name_first, is_name_char, IsName, Joined}

@@ -1,7 +1,7 @@
 -- Each refusal of a selector stands at a place of its text.
 use Rattle.std.proofs.Common.{◌≡◌, ℕ, inl, inr, List, drop, Option, Ok, Err, refl}
 use Rattle.std.specs.Prelude.{◌==◌, None}
-use Rattle.serde_json_path_core.specs.Tree.{Selector, wildcard, slice}
+use Rattle.serde_json_path_syntax.specs.Tree.{Selector, wildcard, slice}
 use Rattle.serde_json_path_functions.specs.Functions.{Signature}
 use Rattle.serde_json_path_parser.specs.declared.error.Refusal.{Refusal}
 use Rattle.serde_json_path_parser.specs.Lexical.{begins, IsQuote}

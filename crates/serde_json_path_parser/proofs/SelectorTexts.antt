@@ -1,7 +1,7 @@
 -- What is read as a selector is a good one, and each of those is read.
 use Rattle.std.proofs.Common.{◌≡◌, ℕ, inl, inr, false, List, [], ◌∷◌, ◌++◌, drop, Ok, refl, sym, ap, subst, ◌∙◌, append_assoc}
 use Rattle.std.specs.Prelude.{◌==◌, None}
-use Rattle.serde_json_path_core.specs.Tree.{Selector, name, wildcard, index, slice, filter, LogicalOr}
+use Rattle.serde_json_path_syntax.specs.Tree.{Selector, name, wildcard, index, slice, filter, LogicalOr}
 use Rattle.serde_json_path_parser.specs.Lexical.{begins, is_blank, IsQuote}
 use Rattle.serde_json_path_parser.specs.Parsed.{Parsed, ◌>>=◌, past_blanks}
 use Rattle.serde_json_path_parser.specs.Parsing.{slice_at, position_at, quoted_at, selector_at}

@@ -1,7 +1,7 @@
 -- Each refusal of an index or a slice stands at a place of its text.
 use Rattle.std.proofs.Common.{◌≡◌, ℕ, inl, inr, List, drop, Option, Some, None, Ok, Err}
 use Rattle.std.specs.Prelude.{ℤ, ◌==◌}
-use Rattle.serde_json_path_core.specs.Tree.{Selector, slice, index}
+use Rattle.serde_json_path_syntax.specs.Tree.{Selector, slice, index}
 use Rattle.serde_json_path_parser.specs.declared.error.Refusal.{Refusal}
 use Rattle.serde_json_path_parser.specs.Lexical.{begins}
 use Rattle.serde_json_path_parser.specs.Parsed.{Parsed, ◌>>=◌, past_blanks}

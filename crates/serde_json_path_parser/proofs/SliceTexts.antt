@@ -2,7 +2,7 @@
 use Rattle.std.proofs.Common.{◌≡◌, ℕ, inl, inr, Bool, true, false, true≢false, List, [], ◌∷◌, ◌++◌, drop, Option, Some, None, Ok, refl, sym, ap, subst, ◌∙◌, append_assoc}
 use Rattle.std.specs.Prelude.{ℤ, ◌==◌, ◌||◌}
 use Rattle.std.proofs.lemmas.List.{append-nil}
-use Rattle.serde_json_path_core.specs.Tree.{Slice, Selector, slice, index, LogicalOr}
+use Rattle.serde_json_path_syntax.specs.Tree.{Slice, Selector, slice, index, LogicalOr}
 use Rattle.serde_json_path_parser.specs.Grammar.{IsBound, IsSliceStep, IsSlice}
 use Rattle.serde_json_path_parser.specs.Lexical.{begins, is_blank, is_digit, IsBlank, IsInt}
 use Rattle.serde_json_path_parser.specs.Parsed.{Parsed, ◌>>=◌, front, past_blanks}

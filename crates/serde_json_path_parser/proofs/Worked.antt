@@ -4,7 +4,7 @@ use Rattle.std.specs.Prelude.{◌==◌, false, codes}
 use lib.Utf8.{encode}
 use Rattle.std.proofs.lemmas.Int.{ints}
 use Rattle.std.proofs.lemmas.Option.{none-some, same_Some}
-use Rattle.serde_json_path_core.specs.Tree.{Query, query, root, current, no_segments, segment, child, dot_name, long_hand, no_selectors, selector, name, filter, no_or, or, no_and, and, relation, exist, literal, singular, logical_argument, number, equal}
+use Rattle.serde_json_path_syntax.specs.Tree.{Query, query, root, current, no_segments, segment, child, dot_name, long_hand, no_selectors, selector, name, filter, no_or, or, no_and, and, relation, exist, literal, singular, logical_argument, number, equal}
 use Rattle.serde_json_path_parser.specs.Lexical.{IsDecimal, IsInt, IsFraction, IsNumber, IsPiece, plain, quote_escape, letter_escape, hex_escape, pair_escape, IsHex4, hexadecimal_of, escaped_by, is_plain, begins, value_from, ArePieces, IsString}
 use Rattle.serde_json_path_parser.specs.Grammar.{Reads, ReadsOr, ReadsArgument}
 

@@ -3,7 +3,7 @@ use Rattle.std.proofs.Common.{◌≡◌, ℕ, List, pos, negsuc, Some, Result, O
 use Rattle.std.specs.Prelude.{◌++◌, codes}
 use Rattle.std.specs.List.{repeat}
 use lib.Utf8.{encode}
-use Rattle.serde_json_path_core.specs.Tree.{QueryKind, root, current, Query, query, Segments, no_segments, segment, child, descendant, dot_name, dot_wildcard, long_hand, no_selectors, selector, name, wildcard, index, slice, filter, LogicalOr, no_or, or, no_and, and, Basic, paren, relation, exist, not_exist, test, literal, singular, called, call, no_arguments, argument, literal_argument, query_argument, text, number, equal, less}
+use Rattle.serde_json_path_syntax.specs.Tree.{QueryKind, root, current, Query, query, Segments, no_segments, segment, child, descendant, dot_name, dot_wildcard, long_hand, no_selectors, selector, name, wildcard, index, slice, filter, LogicalOr, no_or, or, no_and, and, Basic, paren, relation, exist, not_exist, test, literal, singular, called, call, no_arguments, argument, literal_argument, query_argument, text, number, equal, less}
 use Rattle.serde_json_path_functions.specs.Functions.{builtin_signature}
 use Rattle.serde_json_path_parser.specs.declared.error.ParseErrorKind.{ParseErrorKind}
 use Rattle.serde_json_path_parser.specs.declared.error.ParseErrorKind.TheVariants.{BadMemberName, ExpectedClosingBracket, ExpectedSelector, IntegerOutOfRange, ExpectedExpression, ExpectedClosingParenthesis, ExpectedComparisonOperator, NonSingularQuery, UndefinedFunction, WrongNumberOfArguments, WrongArgumentType, WrongReturnType, NestedTooDeep, TextAfterPath}

@@ -1,21 +1,21 @@
 -- What a function of the parser returned is what reading gives.
 use Rattle.std.specs.Prelude.{◌≡◌, ℕ, true, length, ◌≤◌, ◌+◌, ◌-◌, List, ◌++◌, Option, Some, Result, Ok, Err}
 use Rattle.std.specs.Str.{encode_utf8_all}
-use Rattle.serde_json_path_core.specs.Tree.{query, root, SegmentKind, Segments, Segment, Selector, Call, Arguments, no_arguments, Argument, literal_argument, query_argument, call_argument, logical_argument}
-use Rattle.serde_json_path_core.specs.Flat.{parts_in, segment_kind_view}
-use Rattle.serde_json_path_core.specs.Literals.{literal_view}
-use Rattle.serde_json_path_core.specs.Piece as piece
-use Rattle.serde_json_path_core.specs.Piece.{Piece, a_segment}
-use Rattle.serde_json_path_core.specs.Parts.{IsPart, ArePartsOf, AreSelectorsOf, AreArgumentsOf, signatures_of, tree_of}
-use Rattle.serde_json_path_core.specs.Typing.{result_kind}
-use Rattle.serde_json_path_core.specs.Used.{AreCalled}
+use Rattle.serde_json_path_syntax.specs.Tree.{query, root, SegmentKind, Segments, Segment, Selector, Call, Arguments, no_arguments, Argument, literal_argument, query_argument, call_argument, logical_argument}
+use Rattle.serde_json_path_syntax.specs.Flat.{parts_in, segment_kind_view}
+use Rattle.serde_json_path_syntax.specs.Literals.{literal_view}
+use Rattle.serde_json_path_syntax.specs.Piece as piece
+use Rattle.serde_json_path_syntax.specs.Piece.{Piece, a_segment}
+use Rattle.serde_json_path_syntax.specs.Parts.{IsPart, ArePartsOf, AreSelectorsOf, AreArgumentsOf, signatures_of, tree_of}
+use Rattle.serde_json_path_syntax.specs.Typing.{result_kind}
+use Rattle.serde_json_path_syntax.specs.Used.{AreCalled}
 use Rattle.serde_json_path_functions.specs.Functions.{Signature, FunctionSet, Fits}
 use Rattle.serde_json_path_functions.specs.Terms.{kind_view}
 use Rattle.serde_json_path_functions.specs.declared.types.FunctionArgType.{FunctionArgType}
-use Rattle.serde_json_path_core.specs.declared.syntax.node.Part.{Part}
-use Rattle.serde_json_path_core.specs.declared.syntax.parts.Parts.{Parts}
-use Rattle.serde_json_path_core.specs.declared.syntax.builder.SyntaxBuilder.{SyntaxBuilder}
-use Rattle.serde_json_path_core.specs.declared.syntax.checked.Checked.{Checked}
+use Rattle.serde_json_path_syntax.specs.declared.node.Part.{Part}
+use Rattle.serde_json_path_syntax.specs.declared.parts.Parts.{Parts}
+use Rattle.serde_json_path_syntax.specs.declared.builder.SyntaxBuilder.{SyntaxBuilder}
+use Rattle.serde_json_path_syntax.specs.declared.checked.Checked.{Checked}
 use Rattle.serde_json_path_parser.specs.declared.error.Refusal.{Refusal}
 use Rattle.serde_json_path_parser.specs.declared.error.Stop.{Stop}
 use Rattle.serde_json_path_parser.specs.declared.error.Stop.TheVariants as stops

@@ -1,6 +1,6 @@
 -- A law of the typed grammar.
 use Rattle.std.specs.Prelude.{◌≡◌, ℕ, List, Option}
-use Rattle.serde_json_path_core.specs.Tree.{Query}
+use Rattle.serde_json_path_syntax.specs.Tree.{Query}
 use Rattle.serde_json_path_functions.specs.Functions.{Signature}
 use Rattle.serde_json_path_parser.specs.Accepted.{IsAccepted}
 

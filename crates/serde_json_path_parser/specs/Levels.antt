@@ -1,6 +1,6 @@
 -- What is read at a level.
 use Rattle.std.specs.Prelude.{ℕ, List, Option}
-use Rattle.serde_json_path_core.specs.Tree.{Selector}
+use Rattle.serde_json_path_syntax.specs.Tree.{Selector}
 use Rattle.serde_json_path_functions.specs.Functions.{Signature, FunctionSet}
 use Rattle.serde_json_path_parser.specs.declared.parser.level.Level.{Level}
 use Rattle.serde_json_path_parser.specs.Parsed.{Parsed}

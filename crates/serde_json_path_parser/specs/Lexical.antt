@@ -3,8 +3,8 @@
 use Rattle.std.specs.Prelude.{◌≡◌, ◌==◌, ℕ, suc, ◌+◌, ◌-◌, ◌*◌, ◌<◌, ◌≤◌, ◌^◌, ◌⊎◌, ◌&&◌, ◌||◌, not, nat_le, ℤ, pos, negsuc, ◌-ℤ◌, Bool, true, false, List, [], ◌∷◌, ◌++◌, length, drop, codes, Option, Some, None, if◌then◌else◌}
 use Rattle.std.specs.List.{AllByRecursion}
 use Rattle.std.specs.Str.{encode_utf8_all}
-use Rattle.serde_json_path_core.specs.Tree.{IsInteger}
-use Rattle.serde_json_path_core.specs.WellFormed.{IsLiteralAmount}
+use Rattle.serde_json_path_syntax.specs.Tree.{IsInteger}
+use Rattle.serde_json_path_syntax.specs.WellFormed.{IsLiteralAmount}
 
 -- every character passes the test
 abbrev pub AllPass : (ℕ → Bool) → List ℕ → Type 0

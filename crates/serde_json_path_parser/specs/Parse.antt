@@ -1,10 +1,10 @@
 -- What a parse answers, whatever way it is asked.
 use Rattle.std.specs.Prelude.{◌≡◌, ◌≢◌, ◌==◌, ℕ, ◌-◌, ◌^◌, ◌<◌, ◌≤◌, ◌⊎◌, ◌↔◌, Bool, false, List, ◌∷◌, ◌++◌, length, take, drop, Option, Result, IfOk, IfErr, IsErrAnd}
 use Rattle.std.specs.Str.{chars, IsCharBoundary}
-use Rattle.serde_json_path_core.specs.declared.syntax.checked.Checked.{Checked}
-use Rattle.serde_json_path_core.specs.Parts.{tree_of, signatures_of}
-use Rattle.serde_json_path_core.specs.Tree.{Query}
-use Rattle.serde_json_path_core.specs.Used.{AreCalled}
+use Rattle.serde_json_path_syntax.specs.declared.checked.Checked.{Checked}
+use Rattle.serde_json_path_syntax.specs.Parts.{tree_of, signatures_of}
+use Rattle.serde_json_path_syntax.specs.Tree.{Query}
+use Rattle.serde_json_path_syntax.specs.Used.{AreCalled}
 use Rattle.serde_json_path_functions.specs.Functions.{Signature}
 use Rattle.serde_json_path_parser.specs.declared.error.ParseErrorKind.TheVariants.{ExpectedRoot, UndefinedFunction, TextAfterPath, NoMemory}
 use Rattle.serde_json_path_parser.specs.declared.error.ParseError.{ParseError}

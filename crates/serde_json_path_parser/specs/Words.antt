@@ -1,6 +1,6 @@
 -- Words: the literals `true`, `false` and `null`, and other ones, which may be functions' names.
 use Rattle.std.specs.Prelude.{◌≡◌, ◌==◌, ℕ, suc, ◌⊎◌, true, false, List, ◌∷◌, codes, bytes_eq, Option, Some, None, if◌then◌else◌, string_bytes}
-use Rattle.serde_json_path_core.specs.Tree.{Literal, truth, null}
+use Rattle.serde_json_path_syntax.specs.Tree.{Literal, truth, null}
 use Rattle.serde_json_path_parser.specs.declared.parser.primitive.word.Word as declared
 use Rattle.serde_json_path_parser.specs.declared.parser.primitive.word.Word.TheVariants.{True, False, Null, Other}
 

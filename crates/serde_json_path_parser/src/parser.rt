@@ -14,7 +14,7 @@ mod selector;
 mod slice;
 
 ghost use Rattle.std.specs.Prelude.{◌≡◌, ◌+◌, ◌-◌, ◌*◌, ◌^◌, ◌≤◌, max, true, length, IfOk, IfErr};
-ghost use Rattle.serde_json_path_core.specs.Parts.{signatures_of};
+ghost use Rattle.serde_json_path_syntax.specs.Parts.{signatures_of};
 ghost use Rattle.serde_json_path_functions.specs.Functions.{Fits};
 ghost use Rattle.serde_json_path_parser.specs.Errors.{kind_of, position_of, is_told_at_next};
 ghost use Rattle.serde_json_path_parser.specs.Parse.{IsParseOf};
@@ -23,8 +23,8 @@ use crate::error::{ParseError, Stop};
 use crate::parser::query::query;
 use crate::parser::reader::Reader;
 use crate::source::PathSource;
-use serde_json_path_core::Checked;
-use serde_json_path_core::functions::Functions;
+use serde_json_path_functions::Functions;
+use serde_json_path_syntax::Checked;
 use std::alloc::Global;
 
 /// Reads the path that a source tells, from left to right by its `byte` alone; the first refusal that is met is told.

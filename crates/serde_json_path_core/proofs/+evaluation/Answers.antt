@@ -6,29 +6,29 @@ use Rattle.serde_json.specs.Data.{Data}
 use Rattle.serde_json.specs.View.{view}
 use Rattle.serde_json_path_nodes.specs.Place.{Step, Located}
 use Rattle.serde_json_path_nodes.specs.Views.{node_value}
-use Rattle.serde_json_path_core.specs.Tree.{child, descendant}
+use Rattle.serde_json_path_syntax.specs.Tree.{child, descendant}
 use Rattle.serde_json_path_core.specs.Cursors.{cursor_left}
-use Rattle.serde_json_path_core.specs.Flat.{segment_kind_view, segment_in, segments_at, piece_at, piece_in, and_in, basic_in, or_at, ors_in, ands_in, call_at, part_query, pieces, pieces_named}
+use Rattle.serde_json_path_syntax.specs.Flat.{segment_kind_view, segment_in, segments_at, piece_at, piece_in, and_in, basic_in, or_at, ors_in, ands_in, call_at, part_query, pieces, pieces_named}
 use Rattle.serde_json_path_functions.specs.Terms.{term_view}
-use Rattle.serde_json_path_core.specs.Calls.{StandsIn}
+use Rattle.serde_json_path_core.specs.Clear.{StandsIn}
 use Rattle.serde_json_path_core.specs.Sound.{AreSoundSegments, IsSoundSegment, IsSoundSelector, IsSoundOr, IsSoundAnd, IsSoundBasic}
 use Rattle.serde_json_path_core.specs.Scopes.{Clear, nodes_of, query_of, set_of, top_of}
 use Rattle.serde_json_path_core.specs.Places.{frame_of, frames_of, task_view}
 use Rattle.serde_json_path_core.specs.Rest.{rest_of, IsStack, IsStackIn, IsInside, AllStandIn}
 use Rattle.serde_json_path_core.specs.Advances.{Advances, IsDone, ComesTo}
-use Rattle.serde_json_path_core.specs.Stages.{choice_view, stage_at, stages_at}
+use Rattle.serde_json_path_syntax.specs.Stages.{choice_view, stage_at, stages_at}
 use Rattle.serde_json_path_core.specs.Views.{child_view}
-use Rattle.serde_json_path_core.specs.Derivation.{IsIn}
+use Rattle.serde_json_path_syntax.specs.Lists.{IsIn}
 use Rattle.serde_json_path_core.specs.Computed as computed
-use Rattle.serde_json_path_core.specs.PartBounds.{parts_bound}
+use Rattle.serde_json_path_syntax.specs.PartBounds.{parts_bound}
 use Rattle.serde_json_path_core.proofs.Answered.{given-all, answered}
-use Rattle.serde_json_path_core.proofs.BoundedParts.{within_get, within_bound}
+use Rattle.serde_json_path_syntax.proofs.BoundedParts.{within_get, within_bound}
 use Rattle.serde_json_path_core.proofs.Joined.{or-part, and-part, keep-yes, keep-no, first-found}
 use Rattle.serde_json_path_core.proofs.Moves.{ends-trans, passes-start, passes-over, comes-onward, comes-down, done, chooses-none, chooses-some}
 use Rattle.serde_json_path_core.proofs.Started.{begun-results}
 use Rattle.serde_json_path_core.proofs.Standing.{left_stands, stack-inside, ends-stand, begun-inside}
 use Rattle.serde_json_path_core.proofs.SoundParts.{sound-segments, sound-segment, sound-selector, sound-and, sound-basic}
-use Rattle.serde_json_path_core.proofs.Bounds.{below_length, past_length}
+use Rattle.serde_json_path_syntax.proofs.Bounds.{below_length, past_length}
 use Rattle.serde_json_path_core.proofs.Chains.{IsTurn, turn-dropped, turn-moved}
 use Rattle.serde_json_path_core.proofs.Found.{found-none, found-some}
 use Rattle.serde_json_path_core.proofs.LastPlaces.{ends_with, sees_last, sees_last_two}

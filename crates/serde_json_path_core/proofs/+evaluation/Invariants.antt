@@ -7,15 +7,15 @@ use Rattle.serde_json_path_nodes.specs.Place.{Step, Located}
 use Rattle.serde_json_path_nodes.specs.Views.{node_value}
 use Rattle.serde_json_path_functions.specs.Functions.{kind_of_term}
 use Rattle.serde_json_path_functions.specs.Terms.{kind_view, term_view}
-use Rattle.serde_json_path_core.specs.Calls.{arguments_of, name_of}
+use Rattle.serde_json_path_syntax.specs.Calls.{arguments_of, name_of}
 use Rattle.serde_json_path_core.specs.Meaning.{params_of}
 use Rattle.serde_json_path_core.specs.Computed as computed
-use Rattle.serde_json_path_core.specs.Flat.{or_at, and_at, ors_in, ands_in, arguments_in, call_at, part_query, pieces, pieces_named}
-use Rattle.serde_json_path_core.specs.PartBounds.{parts_bound, choice_bound}
+use Rattle.serde_json_path_syntax.specs.Flat.{or_at, and_at, ors_in, ands_in, arguments_in, call_at, part_query, pieces, pieces_named}
+use Rattle.serde_json_path_syntax.specs.PartBounds.{parts_bound, choice_bound}
 use Rattle.serde_json_path_core.specs.Cursors.{cursor_left}
 use Rattle.serde_json_path_core.specs.Rest.{rest_of, work, EndsIn, IsStack, IsStackIn}
 use Rattle.serde_json_path_core.specs.Advances.{Passes}
-use Rattle.serde_json_path_core.specs.Stages.{stage_at, stages_at}
+use Rattle.serde_json_path_syntax.specs.Stages.{stage_at, stages_at}
 use Rattle.serde_json_path_core.specs.Sound.{AreSoundArguments}
 use Rattle.serde_json_path_core.specs.Scopes.{Clear, nodes_of, query_of, set_of, top_of}
 use Rattle.serde_json_path_core.specs.Places.{frame_of, frames_of}

@@ -4,13 +4,13 @@ ghost use Rattle.std.specs.Prelude.{◌≡◌, ◌<◌, ◌+ℤ◌, ◌-ℤ◌, 
 ghost use Rattle.serde_json_path_core.specs.Slices.{bound_of, step_of};
 ghost use Rattle.serde_json_path_core.specs.Computed.{count_within, course_by, falling, rising};
 ghost use Rattle.serde_json_path_core.specs.Courses.{course_left, course_view};
-ghost use Rattle.serde_json_path_core.specs.SliceView.{slice_view};
+ghost use Rattle.serde_json_path_syntax.specs.SliceView.{slice_view};
 ghost use Rattle.serde_json_path_core.specs.Views.{child_view};
 
 use crate::child::Child;
-use crate::syntax::slice::Slice;
 use serde_json::Value;
 use serde_json_path_nodes::PathElement;
+use serde_json_path_syntax::Slice;
 
 /// So many positions, each the stride above or below the one before.
 #[derive(Clone, Copy)]

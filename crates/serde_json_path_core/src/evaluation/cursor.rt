@@ -5,14 +5,14 @@ ghost use Rattle.serde_json.specs.Data.{object};
 ghost use Rattle.serde_json.specs.View.{view, members_view};
 ghost use Rattle.serde_json_path_core.specs.Computed.{children, sliced};
 ghost use Rattle.serde_json_path_core.specs.Cursors.{cursor_left};
-ghost use Rattle.serde_json_path_core.specs.SliceView.{slice_view};
+ghost use Rattle.serde_json_path_syntax.specs.SliceView.{slice_view};
 ghost use Rattle.serde_json_path_core.specs.Views.{child_view};
 
 use crate::child::Child;
 use crate::evaluation::course::Course;
-use crate::syntax::slice::Slice;
 use serde_json::{Map, Value};
 use serde_json_path_nodes::PathElement;
+use serde_json_path_syntax::Slice;
 use std::alloc::AllocError;
 use std::collections::btree_map::Iter;
 

@@ -2,16 +2,16 @@
 
 ghost use Rattle.std.specs.Prelude.{◌≡◌, ◌+◌, ◌<◌, ◌≤◌, ◌^◌, None, Some, IfOk, IfErr, MatchOption, drop, length, option_map};
 ghost use Rattle.serde_json.specs.View.{view};
-ghost use Rattle.serde_json_path_core.specs.Tree.{filter};
-ghost use Rattle.serde_json_path_core.specs.Flat.{or_at, piece_at, segment_in};
-ghost use Rattle.serde_json_path_core.specs.PartBounds.{parts_bound, choice_bound};
+ghost use Rattle.serde_json_path_syntax.specs.Tree.{filter};
+ghost use Rattle.serde_json_path_syntax.specs.Flat.{or_at, piece_at, segment_in};
+ghost use Rattle.serde_json_path_syntax.specs.PartBounds.{parts_bound, choice_bound};
 ghost use Rattle.serde_json_path_core.specs.Sound.{IsSoundOr, IsSoundSegment, IsSoundSelector};
 ghost use Rattle.serde_json_path_core.specs.Scopes.{Clear, WithoutPatterns, nodes_of, query_of, set_of, top_of};
 ghost use Rattle.serde_json_path_core.specs.Cursors.{cursor_left};
 ghost use Rattle.serde_json_path_core.specs.Views.{child_view};
 ghost use Rattle.serde_json_path_core.specs.Rest.{candidates, opened, begun, IsInside, AllStandIn};
 ghost use Rattle.serde_json_path_core.specs.Advances.{Advances, Chooses, ComesTo, IsDone};
-ghost use Rattle.serde_json_path_core.specs.Stages.{choice_view, stage_at, stages_at};
+ghost use Rattle.serde_json_path_syntax.specs.Stages.{choice_view, stage_at, stages_at};
 ghost use Rattle.serde_json_path_core.specs.Places.{frame_of, task_view};
 ghost use Rattle.serde_json_path_functions.specs.declared.error.QueryError.TheVariants.{Memory};
 
@@ -19,12 +19,10 @@ use crate::child::{Child, item, member};
 use crate::evaluation::cursor::Cursor;
 use crate::evaluation::scope::Scope;
 use crate::filter::logic::is_true;
-use crate::syntax::checked::Checked;
-use crate::syntax::choice::Choice;
-use crate::syntax::node::{Part, SegmentKind};
 use serde_json::Value;
 use serde_json_path_functions::{Functions, QueryError};
 use serde_json_path_nodes::PathElement;
+use serde_json_path_syntax::{Checked, Choice, Part, SegmentKind};
 
 /// A value where the segment of that number is applied, with the step that led to it. Its cursor has what is left for
 /// the selector of that number, or, behind the last selector, the children that are left to go down to.

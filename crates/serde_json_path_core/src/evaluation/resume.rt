@@ -1,7 +1,7 @@
 //! Walks that go on from call to call.
 
 ghost use Rattle.serde_json.specs.View.{view};
-ghost use Rattle.serde_json_path_core.specs.Calls.{StandsIn};
+ghost use Rattle.serde_json_path_core.specs.Clear.{StandsIn};
 ghost use Rattle.serde_json_path_core.specs.Rest.{IsStack};
 ghost use Rattle.serde_json_path_core.specs.Places.{frames_of};
 
@@ -29,7 +29,8 @@ impl<'q, 'b, F: Functions> Walk<'q, 'b, F> {
     ghost use Rattle.std.specs.Prelude.{◌≡◌, ◌+◌, ◌<◌, ◌≤◌, [], ◌∷◌, IfOk, IfErr, IfSome, IfNone, MatchOption};
     ghost use Rattle.serde_json_path_nodes.specs.Views.{located};
     ghost use Rattle.serde_json_path_nodes.specs.Place.{Located};
-    ghost use Rattle.serde_json_path_core.specs.Calls.{EachCall, GoesWithoutPattern, IsClear};
+    ghost use Rattle.serde_json_path_syntax.specs.Calls.{EachCall};
+    ghost use Rattle.serde_json_path_core.specs.Clear.{GoesWithoutPattern, IsClear};
     ghost use Rattle.serde_json_path_core.specs.Height.{height};
     ghost use Rattle.serde_json_path_core.specs.Walks.{query_of, set_of, document_of, beginning_of, rest, places_of, steps_of};
     ghost use Rattle.serde_json_path_functions.specs.declared.error.QueryError.TheVariants.{Memory};

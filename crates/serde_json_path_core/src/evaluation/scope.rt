@@ -1,11 +1,11 @@
 //! What an evaluation goes by.
 
 ghost use Rattle.serde_json_path_functions.specs.Functions.{Fits};
-ghost use Rattle.serde_json_path_core.specs.Parts.{signatures_of};
+ghost use Rattle.serde_json_path_syntax.specs.Parts.{signatures_of};
 
-use crate::syntax::checked::Checked;
 use serde_json::Value;
 use serde_json_path_functions::Functions;
+use serde_json_path_syntax::Checked;
 use std::alloc::Global;
 
 /// What an evaluation goes by: where its memory is from, the query, the document's root, and a function set that the

@@ -4,21 +4,21 @@ ghost use Rattle.std.specs.Prelude.{◌≡◌, ◌-◌, ◌<◌, ◌≤◌, [], 
 ghost use Rattle.serde_json.specs.Data.{Data};
 ghost use Rattle.serde_json.specs.View.{view};
 ghost use Rattle.serde_json_path_nodes.specs.Views.{located};
-ghost use Rattle.serde_json_path_core.specs.PartBounds.{parts_bound};
+ghost use Rattle.serde_json_path_syntax.specs.PartBounds.{parts_bound};
 ghost use Rattle.serde_json_path_core.specs.Sound.{AreSoundSegments};
 ghost use Rattle.serde_json_path_core.specs.Scopes.{Clear, WithoutPatterns, nodes_of, query_of, set_of, top_of};
 ghost use Rattle.serde_json_path_core.specs.Rest.{rest_of, stack_path, work, EndsAt, IsStack, IsStackIn};
-ghost use Rattle.serde_json_path_core.specs.Flat.{segments_at};
-ghost use Rattle.serde_json_path_core.specs.Stages.{stages_at};
+ghost use Rattle.serde_json_path_syntax.specs.Flat.{segments_at};
+ghost use Rattle.serde_json_path_syntax.specs.Stages.{stages_at};
 ghost use Rattle.serde_json_path_core.specs.Places.{frames_of};
 ghost use Rattle.serde_json_path_functions.specs.declared.error.QueryError.TheVariants.{Memory};
 
 use crate::evaluation::place::Place;
 use crate::evaluation::scope::Scope;
-use crate::syntax::node::Part;
 use serde_json::Value;
 use serde_json_path_functions::{Functions, QueryError};
 use serde_json_path_nodes::{LocatedNode, NormalizedPath};
+use serde_json_path_syntax::Part;
 use std::alloc::Global;
 
 /// The value of the last place, with its location.

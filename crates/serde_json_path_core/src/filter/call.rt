@@ -5,10 +5,10 @@ ghost use Rattle.serde_json.specs.View.{view};
 ghost use Rattle.serde_json_path_functions.specs.Functions.{kind_of_term, of_value};
 ghost use Rattle.serde_json_path_core.specs.Operands.{operand_view};
 ghost use Rattle.serde_json_path_functions.specs.Terms.{kind_view, term_view};
-ghost use Rattle.serde_json_path_core.specs.Typing.{result_kind};
-ghost use Rattle.serde_json_path_core.specs.Calls.{StandsIn};
+ghost use Rattle.serde_json_path_syntax.specs.Typing.{result_kind};
+ghost use Rattle.serde_json_path_core.specs.Clear.{StandsIn};
 ghost use Rattle.serde_json_path_core.specs.Computed as computed;
-ghost use Rattle.serde_json_path_core.specs.Flat.{argument_at, call_at, part_query};
+ghost use Rattle.serde_json_path_syntax.specs.Flat.{argument_at, call_at, part_query};
 ghost use Rattle.serde_json_path_core.specs.Sound.{IsSound, IsSoundArgument, IsSoundCall};
 ghost use Rattle.serde_json_path_core.specs.Scopes.{Clear, WithoutPatterns, nodes_of, query_of, set_of, top_of};
 ghost use Rattle.serde_json_path_functions.specs.declared.error.QueryError.TheVariants.{Memory};
@@ -16,11 +16,11 @@ ghost use Rattle.serde_json_path_functions.specs.declared.error.QueryError.TheVa
 use crate::evaluation::scope::Scope;
 use crate::filter::logic::{all_values, first, is_true};
 use crate::filter::operand::Operand;
-use crate::syntax::node::{Argument, Node, Part};
 use serde_json::Value;
 use serde_json_path_functions::{
     FunctionArgType, FunctionValue, Functions, LogicalType, NodesType, QueryError, ValueType,
 };
+use serde_json_path_syntax::{Argument, Node, Part};
 
 /// Whether an answer as a test holds (RFC 9535, section 2.4.2).
 pub(crate) fn answers_yes(answer: &FunctionValue<'_>) -> bool

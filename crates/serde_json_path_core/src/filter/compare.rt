@@ -5,14 +5,14 @@ ghost use Rattle.std.specs.Ordering.{nat_cmp, is_lt};
 ghost use Rattle.std.specs.Cmp.Lexicographic.{slice_cmp};
 ghost use Rattle.std.specs.Str.{chars};
 ghost use Rattle.serde_json_path_core.specs.Computed.{compare as comparison};
-ghost use Rattle.serde_json_path_core.specs.Literals.{operator_view};
+ghost use Rattle.serde_json_path_syntax.specs.Literals.{operator_view};
 ghost use Rattle.serde_json_path_core.specs.Operands.{operand_view};
 ghost use Rattle.serde_json_path_core.specs.Sides.{side_view, same_seen, less_seen};
 
 use crate::filter::equality::{same_items, same_members};
 use crate::filter::operand::Operand;
 use crate::filter::side::{Side, side_of};
-use crate::syntax::operator::ComparisonOperator;
+use serde_json_path_syntax::ComparisonOperator;
 
 /// Whether the comparison holds of what its two sides stand for.
 pub(crate) fn compare(operator: ComparisonOperator, left: &Operand, right: &Operand) -> bool

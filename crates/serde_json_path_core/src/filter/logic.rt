@@ -4,10 +4,10 @@ ghost use Rattle.std.specs.Prelude.{◌≡◌, ◌<◌, Some, IfOk, IfErr, lengt
 ghost use Rattle.serde_json.specs.View.{view};
 ghost use Rattle.serde_json_path_nodes.specs.Place.{Located};
 ghost use Rattle.serde_json_path_nodes.specs.Views.{node_value};
-ghost use Rattle.serde_json_path_core.specs.Calls.{StandsIn};
+ghost use Rattle.serde_json_path_core.specs.Clear.{StandsIn};
 ghost use Rattle.serde_json_path_core.specs.Meaning.{first_value};
 ghost use Rattle.serde_json_path_core.specs.Computed as computed;
-ghost use Rattle.serde_json_path_core.specs.Flat.{or_at, and_at, basic_at, comparable_at, part_query};
+ghost use Rattle.serde_json_path_syntax.specs.Flat.{or_at, and_at, basic_at, comparable_at, part_query};
 ghost use Rattle.serde_json_path_core.specs.Operands.{operand_view};
 ghost use Rattle.serde_json_path_core.specs.Places.{frame_of};
 ghost use Rattle.serde_json_path_core.specs.Rest.{place_of};
@@ -22,10 +22,9 @@ use crate::evaluation::start;
 use crate::filter::call::{answer, answers_yes, operand_of};
 use crate::filter::compare::compare;
 use crate::filter::operand::Operand;
-use crate::syntax::literal::Literal;
-use crate::syntax::node::{Basic, Comparable, Node, Part};
 use serde_json::Value;
 use serde_json_path_functions::{FunctionValue, Functions, QueryError};
+use serde_json_path_syntax::{Basic, Comparable, Literal, Node, Part};
 
 /// Whether a logical expression holds where `@` is the value: whether some part of it does that is joined by `||`.
 #[cycle(evaluation)]

@@ -1,7 +1,7 @@
 //! The sides of a comparison.
 
-use crate::syntax::literal::Literal;
 use serde_json::Value;
+use serde_json_path_syntax::Literal;
 
 /// What a side of a comparison stands for (RFC 9535, section 2.3.5.1). Contracts see a value alike, lent or made.
 #[derive(Drop)]

@@ -4,13 +4,16 @@ ghost use Rattle.std.specs.Prelude.{◌≡◌};
 ghost use Rattle.serde_json.specs.Data.{number as number_data};
 ghost use Rattle.serde_json.specs.View.{view, number_view};
 ghost use Rattle.serde_json_path_core.specs.Compared.{amount_of, value as a_value, literal_compared};
-ghost use Rattle.serde_json_path_core.specs.Literals.{literal_view};
+ghost use Rattle.serde_json_path_syntax.specs.Literals.{literal_view};
 ghost use Rattle.serde_json_path_core.specs.Operands.{operand_view};
 ghost use Rattle.serde_json_path_core.specs.Sides.{seen_of, side_view};
 
 use crate::filter::operand::Operand;
-use crate::syntax::literal::{Literal, ONE};
 use serde_json::{Map, Number, Value};
+use serde_json_path_syntax::Literal;
+
+/// How many billionths one is.
+const ONE: i128 = 1_000_000_000;
 
 /// What a comparison sees of an operand: the same of a literal and of a value that equals it.
 #[derive(Clone, Copy)]
@@ -62,7 +65,7 @@ fn side_of_literal(literal: &Literal) -> Side<'_>
 {
     match literal {
         Literal::String(text) => Side::Text(text.as_str()),
-        Literal::Number(number) => Side::Amount(Some(number.billionths)),
+        Literal::Number(number) => Side::Amount(Some(number.billionths())),
         Literal::Bool(truth) => Side::Bool(*truth),
         Literal::Null => Side::Null,
     }

@@ -1,11 +1,11 @@
 //! Queries out of the segments that a row of a table names.
 
 ghost use Rattle.std.specs.Prelude.{◌≡◌, [], IfOk};
-ghost use Rattle.serde_json_path_core.specs.Tree as tree;
-ghost use Rattle.serde_json_path_core.specs.Flat.{parts_in};
-ghost use Rattle.serde_json_path_core.specs.Piece.{a_query, a_segment, a_selector};
-ghost use Rattle.serde_json_path_core.specs.WellFormed.{IsOptionalInteger};
-ghost use Rattle.serde_json_path_core.specs.Parts.{AreSelectorsOf, IsPart, KeepsParts, signatures_of};
+ghost use Rattle.serde_json_path_syntax.specs.Tree as tree;
+ghost use Rattle.serde_json_path_syntax.specs.Flat.{parts_in};
+ghost use Rattle.serde_json_path_syntax.specs.Piece.{a_query, a_segment, a_selector};
+ghost use Rattle.serde_json_path_syntax.specs.WellFormed.{IsOptionalInteger};
+ghost use Rattle.serde_json_path_syntax.specs.Parts.{AreSelectorsOf, IsPart, KeepsParts, signatures_of};
 ghost use Rattle.serde_json_path_core_tests.specs.CallFree.{AreCallFreeSegments, AreCallFreeSelectors, IsCallFreeSegment, IsCallFreeSelector};
 
 use serde_json_path_core::{Checked, Part, Parts, QueryKind, SegmentKind, Slice, SyntaxBuilder};

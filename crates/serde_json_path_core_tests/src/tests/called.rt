@@ -1,15 +1,15 @@
 //! Queries of one filter that calls functions, put together out of parts which know the calls in them.
 
 ghost use Rattle.std.specs.Prelude.{◌≡◌, ◌≤◌, ◌↔◌, ◌+◌, ◌++◌, map, IfOk, IsTrue};
-ghost use Rattle.serde_json_path_core.specs.Tree as tree;
+ghost use Rattle.serde_json_path_syntax.specs.Tree as tree;
 ghost use Rattle.serde_json_path_functions.specs.Functions.{Fits};
 ghost use Rattle.serde_json_path_functions.specs.Terms.{kind_view, signature_view};
-ghost use Rattle.serde_json_path_core.specs.Flat.{kind_view as query_kind_view};
-ghost use Rattle.serde_json_path_core.specs.Piece.{a_query, an_or};
-ghost use Rattle.serde_json_path_core.specs.Parts.{IsPart, KeepsParts, signatures_of};
+ghost use Rattle.serde_json_path_syntax.specs.Flat.{kind_view as query_kind_view};
+ghost use Rattle.serde_json_path_syntax.specs.Piece.{a_query, an_or};
+ghost use Rattle.serde_json_path_syntax.specs.Parts.{IsPart, KeepsParts, signatures_of};
 ghost use Rattle.serde_json_path_core_tests.specs.CallFree.{IsCallFree};
-ghost use Rattle.serde_json_path_core.specs.Used.{MayFinish, used_view};
-ghost use Rattle.serde_json_path_core.specs.Called.{AreMadeArguments, IsMadeArgument, IsMadeBasic, IsMadeCall, IsMadeComparable, IsMadeOr, filter_query};
+ghost use Rattle.serde_json_path_syntax.specs.Used.{MayFinish, used_view};
+ghost use Rattle.serde_json_path_syntax.specs.Called.{AreMadeArguments, IsMadeArgument, IsMadeBasic, IsMadeCall, IsMadeComparable, IsMadeOr, filter_query};
 
 use crate::tests::building::locations;
 use crate::tests::parts::parts_of;

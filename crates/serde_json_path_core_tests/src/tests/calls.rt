@@ -4,9 +4,9 @@ ghost use Rattle.std.specs.Prelude.{IfOk};
 ghost use Rattle.serde_json_path_functions.specs.Functions.{Fits};
 ghost use Rattle.serde_json_path_core_tests.specs.Samples.{sample_functions};
 ghost use Rattle.serde_json_path_functions.specs.Terms.{kind_view};
-ghost use Rattle.serde_json_path_core.specs.Parts.{KeepsParts, signatures_of};
-ghost use Rattle.serde_json_path_core.specs.Used.{used_view};
-ghost use Rattle.serde_json_path_core.specs.Called.{IsMadeArgument, IsMadeBasic, IsMadeCall, IsMadeOr};
+ghost use Rattle.serde_json_path_syntax.specs.Parts.{KeepsParts, signatures_of};
+ghost use Rattle.serde_json_path_syntax.specs.Used.{used_view};
+ghost use Rattle.serde_json_path_syntax.specs.Called.{IsMadeArgument, IsMadeBasic, IsMadeCall, IsMadeOr};
 
 use crate::tests::called::{
     Asked, Built, all_of, alone, any_of, call_argument, call_of_none, call_of_one, call_of_two,

@@ -1,7 +1,7 @@
 //! Parts in order.
 
 ghost use Rattle.std.specs.Prelude.{◌≡◌, IfOk};
-ghost use Rattle.serde_json_path_core.specs.Flat.{parts_in};
+ghost use Rattle.serde_json_path_syntax.specs.Flat.{parts_in};
 
 use serde_json_path_core::{Part, Parts, SyntaxBuilder};
 use std::alloc::Global;

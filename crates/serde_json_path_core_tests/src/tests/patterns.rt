@@ -4,9 +4,9 @@ ghost use Rattle.std.specs.Prelude.{IfOk};
 ghost use Rattle.serde_json_path_functions.specs.Functions.{Fits};
 ghost use Rattle.serde_json_path_functions.specs.Patterns.{builtin_functions};
 ghost use Rattle.serde_json_path_functions.specs.Terms.{kind_view};
-ghost use Rattle.serde_json_path_core.specs.Parts.{signatures_of};
-ghost use Rattle.serde_json_path_core.specs.Used.{used_view};
-ghost use Rattle.serde_json_path_core.specs.Called.{IsMadeArgument};
+ghost use Rattle.serde_json_path_syntax.specs.Parts.{signatures_of};
+ghost use Rattle.serde_json_path_syntax.specs.Used.{used_view};
+ghost use Rattle.serde_json_path_syntax.specs.Called.{IsMadeArgument};
 
 use crate::tests::called::{
     Built, alone, call_of_two, filtered, number_argument, selected, tested, text_argument,

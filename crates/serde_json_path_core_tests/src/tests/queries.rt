@@ -1,7 +1,7 @@
 //! What queries select, on small documents.
 
 ghost use Rattle.std.specs.Prelude.{◌≡◌, [], IfOk};
-ghost use Rattle.serde_json_path_core.specs.Parts.{signatures_of};
+ghost use Rattle.serde_json_path_syntax.specs.Parts.{signatures_of};
 
 use crate::tests::building::{printed, query_of};
 use crate::tests::parts::parts_of;

@@ -1,9 +1,9 @@
 //! Which signatures a builder collects of the names that a query calls (RFC 9535, section 2.4.3).
 
 ghost use Rattle.std.specs.Prelude.{IfOk};
-ghost use Rattle.serde_json_path_core.specs.Parts.{KeepsParts};
-ghost use Rattle.serde_json_path_core.specs.Used.{used_view};
-ghost use Rattle.serde_json_path_core.specs.Called.{IsMadeBasic};
+ghost use Rattle.serde_json_path_syntax.specs.Parts.{KeepsParts};
+ghost use Rattle.serde_json_path_syntax.specs.Used.{used_view};
+ghost use Rattle.serde_json_path_syntax.specs.Called.{IsMadeBasic};
 
 use crate::tests::called::{
     Asked, Built, all_of, alone, call_of_two, compared, filter_test, number_of, side_of, signed,

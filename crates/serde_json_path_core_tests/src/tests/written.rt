@@ -5,10 +5,10 @@
 //! in a filter stands alone, as `@.a[?@ == 1]`.
 
 ghost use Rattle.std.specs.Prelude.{◌≡◌, ℕ, ◌+◌, [], IfOk};
-ghost use Rattle.serde_json_path_core.specs.Tree as tree;
-ghost use Rattle.serde_json_path_core.specs.Flat.{kind_view, parts_in};
-ghost use Rattle.serde_json_path_core.specs.Piece.{a_query, a_segment, an_or, an_and, a_basic, a_comparable};
-ghost use Rattle.serde_json_path_core.specs.Parts.{AreAndPartsOf, IsPart, KeepsParts, signatures_of};
+ghost use Rattle.serde_json_path_syntax.specs.Tree as tree;
+ghost use Rattle.serde_json_path_syntax.specs.Flat.{kind_view, parts_in};
+ghost use Rattle.serde_json_path_syntax.specs.Piece.{a_query, a_segment, an_or, an_and, a_basic, a_comparable};
+ghost use Rattle.serde_json_path_syntax.specs.Parts.{AreAndPartsOf, IsPart, KeepsParts, signatures_of};
 ghost use Rattle.serde_json_path_core_tests.specs.CallFree.{AreCallFreeSegments, IsCallFreeAnd, IsCallFreeBasic, IsCallFreeComparable, IsCallFreeOr, IsCallFreeSegment};
 
 use crate::tests::parts::parts_of;

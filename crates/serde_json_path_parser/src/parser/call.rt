@@ -2,8 +2,8 @@
 
 ghost use Rattle.std.specs.Prelude.{◌≡◌, ◌==◌, ◌<◌, ℕ, List, drop, length, map, true, string_bytes, ◌≤◌, Option, IfOk};
 ghost use Rattle.std.specs.Str.{encode_utf8_all};
-ghost use Rattle.serde_json_path_core.specs.Parts.{KeepsParts, IsPart};
-ghost use Rattle.serde_json_path_core.specs.Piece.{an_argument};
+ghost use Rattle.serde_json_path_syntax.specs.Parts.{KeepsParts, IsPart};
+ghost use Rattle.serde_json_path_syntax.specs.Piece.{an_argument};
 ghost use Rattle.serde_json_path_functions.specs.Functions.{Signature};
 ghost use Rattle.serde_json_path_functions.specs.Terms.{kind_view};
 ghost use Rattle.serde_json_path_parser.specs.Filters.{argument_at, logical_from, ended};
@@ -13,15 +13,15 @@ ghost use Rattle.serde_json_path_parser.specs.Levels.{signatures, deeper};
 ghost use Rattle.serde_json_path_parser.specs.Lexical.{begins};
 ghost use Rattle.serde_json_path_parser.specs.Operands as operands;
 ghost use Rattle.serde_json_path_parser.specs.Reading.{left, Moves};
-ghost use Rattle.serde_json_path_core.specs.Tree as tree;
+ghost use Rattle.serde_json_path_syntax.specs.Tree as tree;
 
 use crate::error::{ParseErrorKind, Place, Stop};
 use crate::parser::level::Level;
 use crate::parser::operand::Operand;
 use crate::parser::reader::Reader;
 use crate::source::PathSource;
-use serde_json_path_core::functions::{FunctionArgType, Functions};
-use serde_json_path_core::{Literal, Part, SyntaxBuilder};
+use serde_json_path_functions::{FunctionArgType, Functions};
+use serde_json_path_syntax::{Literal, Part, SyntaxBuilder};
 use std::alloc::AllocError;
 
 /// What stands between the parentheses of a call, before its type is judged.

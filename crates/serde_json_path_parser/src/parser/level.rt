@@ -2,7 +2,7 @@
 
 ghost use Rattle.std.specs.Prelude.{◌≡◌, ◌<◌, ◌-◌};
 
-use serde_json_path_core::functions::Functions;
+use serde_json_path_functions::Functions;
 use std::alloc::Global;
 
 /// How many filters, parentheses and calls may stand within each other.

@@ -2,9 +2,9 @@
 
 ghost use Rattle.std.specs.Prelude.{◌≡◌, ◌==◌, ◌<◌, ℕ, List, drop, length, true, IfOk};
 ghost use Rattle.std.specs.Str.{encode_utf8_all};
-ghost use Rattle.serde_json_path_core.specs.Parts.{KeepsParts, IsPart};
-ghost use Rattle.serde_json_path_core.specs.Piece.{an_or, an_and, a_basic};
-ghost use Rattle.serde_json_path_core.specs.Tree as tree;
+ghost use Rattle.serde_json_path_syntax.specs.Parts.{KeepsParts, IsPart};
+ghost use Rattle.serde_json_path_syntax.specs.Piece.{an_or, an_and, a_basic};
+ghost use Rattle.serde_json_path_syntax.specs.Tree as tree;
 ghost use Rattle.serde_json_path_parser.specs.Filters.{paren_at, negated_at, basic_at, and_from, and_at, or_from, or_at};
 ghost use Rattle.serde_json_path_parser.specs.Filters as filters;
 ghost use Rattle.serde_json_path_parser.specs.Giving.{Makes, IsOperandOf, IsNear};
@@ -20,8 +20,8 @@ use crate::parser::operand::Operand;
 use crate::parser::primitive::operator::operator;
 use crate::parser::reader::Reader;
 use crate::source::PathSource;
-use serde_json_path_core::functions::{FunctionArgType, Functions};
-use serde_json_path_core::{Part, Parts, QueryKind, SyntaxBuilder};
+use serde_json_path_functions::{FunctionArgType, Functions};
+use serde_json_path_syntax::{Part, Parts, QueryKind, SyntaxBuilder};
 
 impl<F: Functions> Level<'_, F> {
     /// The expression of a filter or a parenthesis, at its `?` or `(`.

@@ -2,9 +2,9 @@
 
 ghost use Rattle.std.specs.Prelude.{◌≡◌, ◌==◌, ◌<◌, ℕ, List, length, true, Option};
 ghost use Rattle.std.specs.Str.{encode_utf8_all};
-ghost use Rattle.serde_json_path_core.specs.Flat.{kind_view};
-ghost use Rattle.serde_json_path_core.specs.Parts.{KeepsParts};
-ghost use Rattle.serde_json_path_core.specs.Piece.{a_query, a_comparable, a_basic};
+ghost use Rattle.serde_json_path_syntax.specs.Flat.{kind_view};
+ghost use Rattle.serde_json_path_syntax.specs.Parts.{KeepsParts};
+ghost use Rattle.serde_json_path_syntax.specs.Piece.{a_query, a_comparable, a_basic};
 ghost use Rattle.serde_json_path_functions.specs.Functions.{Signature};
 ghost use Rattle.serde_json_path_parser.specs.Filters.{query_at, operand_at, comparable_at, named_at, test_at, text_at};
 ghost use Rattle.serde_json_path_parser.specs.Giving.{Makes, MakesOperand, IsOperandOf, IsNear};
@@ -20,8 +20,8 @@ use crate::parser::primitive::string::string;
 use crate::parser::primitive::word::read_word;
 use crate::parser::reader::Reader;
 use crate::source::PathSource;
-use serde_json_path_core::functions::{FunctionArgType, Functions};
-use serde_json_path_core::{Literal, Part, QueryKind, SyntaxBuilder};
+use serde_json_path_functions::{FunctionArgType, Functions};
+use serde_json_path_syntax::{Literal, Part, QueryKind, SyntaxBuilder};
 use std::alloc::Global;
 
 /// What a filter compares or tests.

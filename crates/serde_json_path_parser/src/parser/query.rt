@@ -10,8 +10,8 @@ use crate::error::{ParseErrorKind, Place, Refusal, Stop};
 use crate::parser::level::Level;
 use crate::parser::reader::Reader;
 use crate::source::PathSource;
-use serde_json_path_core::functions::Functions;
-use serde_json_path_core::{Checked, QueryKind, SyntaxBuilder};
+use serde_json_path_functions::Functions;
+use serde_json_path_syntax::{Checked, QueryKind, SyntaxBuilder};
 use std::alloc::Global;
 
 /// `$` and segments up to the end of the text (RFC 9535, section 2.1.1), whose filters call functions of this set.

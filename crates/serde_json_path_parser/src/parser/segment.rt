@@ -1,10 +1,10 @@
 //! Segments.
 
 ghost use Rattle.std.specs.Prelude.{◌≡◌, true, ℕ, List, IfErr, false};
-ghost use Rattle.serde_json_path_core.specs.Parts.{KeepsParts};
-ghost use Rattle.serde_json_path_core.specs.Flat.{segment_kind_view};
-ghost use Rattle.serde_json_path_core.specs.Tree.{Selector};
-ghost use Rattle.serde_json_path_core.specs.Tree as tree;
+ghost use Rattle.serde_json_path_syntax.specs.Parts.{KeepsParts};
+ghost use Rattle.serde_json_path_syntax.specs.Flat.{segment_kind_view};
+ghost use Rattle.serde_json_path_syntax.specs.Tree.{Selector};
+ghost use Rattle.serde_json_path_syntax.specs.Tree as tree;
 ghost use Rattle.serde_json_path_parser.specs.Giving.{Makes, MakesSegments, StartsSegment, segment_piece, IsNear, IsRefused};
 ghost use Rattle.serde_json_path_parser.specs.Levels.{filter_at};
 ghost use Rattle.serde_json_path_parser.specs.Lexical.{begins};
@@ -17,8 +17,8 @@ use crate::parser::level::Level;
 use crate::parser::primitive::name::name;
 use crate::parser::reader::Reader;
 use crate::source::PathSource;
-use serde_json_path_core::functions::Functions;
-use serde_json_path_core::{Part, Parts, SegmentKind, SyntaxBuilder};
+use serde_json_path_functions::Functions;
+use serde_json_path_syntax::{Part, Parts, SegmentKind, SyntaxBuilder};
 use std::alloc::Global;
 
 /// How a segment begins.

@@ -1,9 +1,9 @@
 //! Selectors.
 
 ghost use Rattle.std.specs.Prelude.{◌≡◌, ◌==◌, ℕ, List, true, false};
-ghost use Rattle.serde_json_path_core.specs.Parts.{KeepsParts};
-ghost use Rattle.serde_json_path_core.specs.Piece.{a_selector};
-ghost use Rattle.serde_json_path_core.specs.Tree.{Selector};
+ghost use Rattle.serde_json_path_syntax.specs.Parts.{KeepsParts};
+ghost use Rattle.serde_json_path_syntax.specs.Piece.{a_selector};
+ghost use Rattle.serde_json_path_syntax.specs.Tree.{Selector};
 ghost use Rattle.serde_json_path_parser.specs.Giving.{Makes, MakesSelectors, IsNear};
 ghost use Rattle.serde_json_path_parser.specs.Levels.{filter_at};
 ghost use Rattle.serde_json_path_parser.specs.Parsed.{Parsed, past_blanks};
@@ -18,8 +18,8 @@ use crate::parser::primitive::string::string;
 use crate::parser::reader::Reader;
 use crate::parser::slice::rest_of_slice;
 use crate::source::PathSource;
-use serde_json_path_core::functions::Functions;
-use serde_json_path_core::{Part, Parts, SyntaxBuilder};
+use serde_json_path_functions::Functions;
+use serde_json_path_syntax::{Part, Parts, SyntaxBuilder};
 use std::alloc::Global;
 
 /// An index, or a slice that begins with an integer, and the blanks behind it (RFC 9535, sections 2.3.3 and 2.3.4).

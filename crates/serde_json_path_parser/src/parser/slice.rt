@@ -1,8 +1,8 @@
 //! Slices.
 
 ghost use Rattle.std.specs.Prelude.{IfOk};
-ghost use Rattle.serde_json_path_core.specs.SliceView.{slice_view};
-ghost use Rattle.serde_json_path_core.specs.WellFormed.{IsOptionalInteger};
+ghost use Rattle.serde_json_path_syntax.specs.SliceView.{slice_view};
+ghost use Rattle.serde_json_path_syntax.specs.WellFormed.{IsOptionalInteger};
 ghost use Rattle.serde_json_path_parser.specs.Giving.{Gives, IsNear};
 ghost use Rattle.serde_json_path_parser.specs.Parsing.{bound_at, step_at, slice_at};
 ghost use Rattle.serde_json_path_parser.specs.Reading.{left, Moves};
@@ -11,7 +11,7 @@ use crate::error::Stop;
 use crate::parser::primitive::int::int;
 use crate::parser::reader::Reader;
 use crate::source::PathSource;
-use serde_json_path_core::Slice;
+use serde_json_path_syntax::Slice;
 
 /// A part of a slice and the blanks behind it, or nothing.
 #[tactic(auto, unfolding(crate::specs::Parsing::bound_at))]

@@ -1,4 +1,4 @@
-use Rattle.serde_json_path_core.specs.Tree.{query, root}
+use Rattle.serde_json_path_syntax.specs.Tree.{query, root}
 use Rattle.serde_json_path.proofs.NormalMeaning.{segments_to, node_selected}
 use Rattle.serde_json_path.proofs.NormalTexts.{normal_accepted}
 use Rattle.serde_json_path.proofs.laws.law_printed_path_selects_its_node.Goals as goal

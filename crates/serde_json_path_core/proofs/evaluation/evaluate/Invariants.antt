@@ -2,9 +2,9 @@ use Rattle.std.proofs.Common.{◌≡◌, ◌++◌, List, map}
 use Rattle.serde_json.specs.View.{view}
 use Rattle.serde_json_path_nodes.specs.Place.{Located}
 use Rattle.serde_json_path_nodes.specs.Views.{node_value}
-use Rattle.serde_json_path_core.specs.Calls.{IsClear}
+use Rattle.serde_json_path_core.specs.Clear.{IsClear}
 use Rattle.serde_json_path_core.specs.Meaning.{IsResult}
-use Rattle.serde_json_path_core.specs.Parts.{tree_of}
+use Rattle.serde_json_path_syntax.specs.Parts.{tree_of}
 use Rattle.serde_json_path_core.specs.Walks.{document_of, query_of, rest, set_of, steps_of}
 use Rattle.serde_json_path_core.proofs.evaluation.evaluate.Given as goal
 

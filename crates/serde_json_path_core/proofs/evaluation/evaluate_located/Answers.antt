@@ -2,9 +2,10 @@ use Rattle.std.proofs.Common.{◌≡◌, [], ◌∷◌, ◌++◌, map, IfErr, sy
 use Rattle.std.proofs.lemmas.List.{append-nil, map-append}
 use Rattle.serde_json.specs.View.{view}
 use Rattle.serde_json_path_nodes.specs.Views.{located}
-use Rattle.serde_json_path_core.specs.Calls.{EachCall, GoesWithoutPattern}
+use Rattle.serde_json_path_syntax.specs.Calls.{EachCall}
+use Rattle.serde_json_path_core.specs.Clear.{GoesWithoutPattern}
 use Rattle.serde_json_path_core.specs.Meaning.{IsResult}
-use Rattle.serde_json_path_core.specs.Parts.{tree_of}
+use Rattle.serde_json_path_syntax.specs.Parts.{tree_of}
 use Rattle.serde_json_path_core.specs.Walks.{document_of, query_of, rest, set_of}
 use Rattle.serde_json_path_functions.specs.declared.error.QueryError.TheVariants.{Memory}
 use Rattle.serde_json_path_core.proofs.Found.{found-none, found-some}

@@ -1,9 +1,9 @@
 use Rattle.std.proofs.Common.{◌≡◌, ◌++◌, map}
 use Rattle.serde_json.specs.View.{view}
 use Rattle.serde_json_path_nodes.specs.Views.{located}
-use Rattle.serde_json_path_core.specs.Calls.{IsClear}
+use Rattle.serde_json_path_core.specs.Clear.{IsClear}
 use Rattle.serde_json_path_core.specs.Meaning.{IsResult}
-use Rattle.serde_json_path_core.specs.Parts.{tree_of}
+use Rattle.serde_json_path_syntax.specs.Parts.{tree_of}
 use Rattle.serde_json_path_core.specs.Walks.{document_of, query_of, rest, set_of, steps_of}
 use Rattle.serde_json_path_core.proofs.evaluation.evaluate_located.Given as goal
 

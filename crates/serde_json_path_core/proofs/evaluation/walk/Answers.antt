@@ -1,12 +1,12 @@
 use Rattle.std.proofs.Common.{[], ◌∷◌, ◌++◌, sym, subst, ap, ◌∙◌}
 use Rattle.serde_json.specs.View.{view}
 use Rattle.serde_json_path_core.specs.Derivation.{start_of}
-use Rattle.serde_json_path_core.specs.Calls.{StandsIn}
-use Rattle.serde_json_path_core.specs.Flat.{segments_at}
-use Rattle.serde_json_path_core.specs.Parts.{signatures_of, tree_of}
+use Rattle.serde_json_path_core.specs.Clear.{StandsIn}
+use Rattle.serde_json_path_syntax.specs.Flat.{segments_at}
+use Rattle.serde_json_path_syntax.specs.Parts.{signatures_of, tree_of}
 use Rattle.serde_json_path_core.specs.Places.{frame_of, frames_of}
-use Rattle.serde_json_path_core.specs.Rest.{rest_of, stages, IsStack}
-use Rattle.serde_json_path_core.specs.Stages.{stages_at}
+use Rattle.serde_json_path_core.specs.Rest.{rest_of, IsStack}
+use Rattle.serde_json_path_syntax.specs.Stages.{stages, stages_at}
 use Rattle.serde_json_path_core.specs.Meaning.{IsResult}
 use Rattle.serde_json_path_core.proofs.Chains.{stack-started}
 use Rattle.serde_json_path_core.proofs.Listed.{computed_result}

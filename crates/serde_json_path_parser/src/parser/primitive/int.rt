@@ -2,7 +2,7 @@
 
 ghost use Rattle.std.specs.Prelude.{◌≡◌, ◌≤◌, List, ℕ, length, IfOk};
 ghost use Rattle.std.specs.Str.{encode_utf8_all};
-ghost use Rattle.serde_json_path_core.specs.Tree.{largest, IsInteger};
+ghost use Rattle.serde_json_path_syntax.specs.Tree.{largest, IsInteger};
 ghost use Rattle.serde_json_path_parser.specs.Giving.{Gives, IsNear};
 ghost use Rattle.serde_json_path_parser.specs.Parsing.{digits_at, int_at};
 ghost use Rattle.serde_json_path_parser.specs.Reading.{left, Moves};

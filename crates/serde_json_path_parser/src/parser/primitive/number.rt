@@ -2,7 +2,7 @@
 
 ghost use Rattle.std.specs.Prelude.{◌≡◌, ◌≤◌, ◌<◌, ℕ, List, length, IfOk};
 ghost use Rattle.std.specs.Str.{encode_utf8_all};
-ghost use Rattle.serde_json_path_core.specs.Literals.{number_amount};
+ghost use Rattle.serde_json_path_syntax.specs.Literals.{number_amount};
 ghost use Rattle.serde_json_path_parser.specs.Giving.{Gives, IsNear};
 ghost use Rattle.serde_json_path_parser.specs.Numbers.{whole_at, digits_behind_point_at, fraction_at, amount_at, number_at, capped};
 ghost use Rattle.serde_json_path_parser.specs.Reading.{left, Moves};
@@ -11,7 +11,7 @@ use crate::error::{ParseErrorKind, Stop};
 use crate::parser::primitive::decimal::decimal;
 use crate::parser::reader::Reader;
 use crate::source::PathSource;
-use serde_json_path_core::NumberLiteral;
+use serde_json_path_syntax::NumberLiteral;
 
 /// How many billionths one is.
 const ONE: u128 = 1_000_000_000;

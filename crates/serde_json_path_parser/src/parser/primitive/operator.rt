@@ -1,13 +1,13 @@
 //! Comparison operators.
 
 ghost use Rattle.std.specs.Prelude.{◌≡◌, IsNone, option_map};
-ghost use Rattle.serde_json_path_core.specs.Literals.{operator_view};
+ghost use Rattle.serde_json_path_syntax.specs.Literals.{operator_view};
 ghost use Rattle.serde_json_path_parser.specs.Filters.{operator_at};
 ghost use Rattle.serde_json_path_parser.specs.Reading.{left, Moves};
 
 use crate::parser::reader::Reader;
 use crate::source::PathSource;
-use serde_json_path_core::ComparisonOperator;
+use serde_json_path_syntax::ComparisonOperator;
 
 /// The comparison operator that stands here, the longest one; it is taken (RFC 9535, section 2.3.5.1).
 pub(crate) fn operator<S: PathSource>(reader: &mut Reader<'_, S>) -> Option<ComparisonOperator>

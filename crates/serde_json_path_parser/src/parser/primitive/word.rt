@@ -1,7 +1,7 @@
 //! Words: the literals `true`, `false` and `null`, and other ones.
 
 ghost use Rattle.std.specs.Prelude.{◌≡◌, true, List, ℕ, length, drop, IfOk, string_bytes, ◌++◌, option_map};
-ghost use Rattle.serde_json_path_core.specs.Literals.{literal_view};
+ghost use Rattle.serde_json_path_syntax.specs.Literals.{literal_view};
 ghost use Rattle.serde_json_path_parser.specs.Filters.{word, behind_word};
 ghost use Rattle.serde_json_path_parser.specs.Lexical.{begins, is_small_letter, is_function_char, AllPass};
 ghost use Rattle.serde_json_path_parser.specs.Reading.{left, Moves};
@@ -9,7 +9,7 @@ ghost use Rattle.serde_json_path_parser.specs.Words.{common, literal_word, IsWor
 
 use crate::parser::reader::Reader;
 use crate::source::PathSource;
-use serde_json_path_core::Literal;
+use serde_json_path_syntax::Literal;
 use std::alloc::{AllocError, Global};
 
 /// A word that begins with a small letter: a literal's, or another one, which may be a function's name.

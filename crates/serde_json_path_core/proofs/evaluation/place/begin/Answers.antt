@@ -1,8 +1,8 @@
-use Rattle.serde_json_path_core.proofs.BoundedParts.{within_bound}
+use Rattle.serde_json_path_syntax.proofs.BoundedParts.{within_bound}
 use Rattle.std.proofs.Common.{arith, sym, ap, ◌∙◌}
 use Rattle.serde_json.specs.View.{view}
 use Rattle.serde_json_path_core.specs.Rest.{begun}
-use Rattle.serde_json_path_core.proofs.Bounds.{below_length, past_length}
+use Rattle.serde_json_path_syntax.proofs.Bounds.{below_length, past_length}
 use Rattle.serde_json_path_core.proofs.StageLists.{stages-from, stages-past}
 use Rattle.serde_json_path_core.proofs.evaluation.place.begin.Goals as goal
 

@@ -1,8 +1,8 @@
 use Rattle.std.proofs.Common.{[], option_map, sym, ap, ◌∙◌}
 use Rattle.serde_json.specs.View.{view}
-use Rattle.serde_json_path_core.specs.Flat.{segment_kind_view}
+use Rattle.serde_json_path_syntax.specs.Flat.{segment_kind_view}
 use Rattle.serde_json_path_core.specs.Rest.{opened}
-use Rattle.serde_json_path_core.specs.Stages.{choice_view, stage_at}
+use Rattle.serde_json_path_syntax.specs.Stages.{choice_view, stage_at}
 use Rattle.serde_json_path_core.proofs.StageLists.{drop-some, drop-none}
 use Rattle.serde_json_path_core.proofs.evaluation.place.open.Goals as goal
 

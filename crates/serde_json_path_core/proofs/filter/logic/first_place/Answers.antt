@@ -1,7 +1,7 @@
 use Rattle.std.proofs.Common.{ap, ◌∙◌}
 use Rattle.serde_json.specs.View.{view}
 use Rattle.serde_json_path_core.specs.Derivation.{start_of}
-use Rattle.serde_json_path_core.specs.Flat.{part_query, segments_at}
+use Rattle.serde_json_path_syntax.specs.Flat.{part_query, segments_at}
 use Rattle.serde_json_path_core.specs.Places.{frame_of}
 use Rattle.serde_json_path_core.specs.Scopes.{nodes_of, top_of}
 use Rattle.serde_json_path_core.proofs.Started.{begun-place}

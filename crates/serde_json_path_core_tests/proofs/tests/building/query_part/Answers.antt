@@ -1,11 +1,11 @@
 use Rattle.std.proofs.Common.{List, [], ◌∷◌, ◌++◌, sym, subst, arith}
-use Rattle.serde_json_path_core.specs.Flat.{parts_in}
-use Rattle.serde_json_path_core.specs.Tree.{Segments, no_segments, segment, SegmentKind, Segment}
-use Rattle.serde_json_path_core.specs.Piece.{a_segment}
-use Rattle.serde_json_path_core.specs.Parts.{IsPart, ArePartsOf, KeepsParts}
+use Rattle.serde_json_path_syntax.specs.Flat.{parts_in}
+use Rattle.serde_json_path_syntax.specs.Tree.{Segments, no_segments, segment, SegmentKind, Segment}
+use Rattle.serde_json_path_syntax.specs.Piece.{a_segment}
+use Rattle.serde_json_path_syntax.specs.Parts.{IsPart, ArePartsOf, KeepsParts}
 use Rattle.serde_json_path_core_tests.specs.CallFree.{AreCallFreeSegments, IsCallFreeSegment}
-use Rattle.serde_json_path_core.specs.declared.syntax.node.Part.{Part}
-use Rattle.serde_json_path_core.specs.declared.syntax.builder.SyntaxBuilder.{SyntaxBuilder}
+use Rattle.serde_json_path_syntax.specs.declared.node.Part.{Part}
+use Rattle.serde_json_path_syntax.specs.declared.builder.SyntaxBuilder.{SyntaxBuilder}
 use Rattle.serde_json_path_core_tests.proofs.Written.{call_free_segments}
 use Rattle.serde_json_path_core_tests.proofs.tests.building.query_part.Goals as goal
 

@@ -1,6 +1,6 @@
-use Rattle.serde_json_path_core.specs.Flat.{parts_in}
-use Rattle.serde_json_path_core.specs.Tree.{Segments}
-use Rattle.serde_json_path_core.specs.Parts.{ArePartsOf}
+use Rattle.serde_json_path_syntax.specs.Flat.{parts_in}
+use Rattle.serde_json_path_syntax.specs.Tree.{Segments}
+use Rattle.serde_json_path_syntax.specs.Parts.{ArePartsOf}
 use Rattle.serde_json_path_core_tests.specs.CallFree.{AreCallFreeSegments}
 use Rattle.serde_json_path_core_tests.proofs.tests.building.query_part.Given as goal
 

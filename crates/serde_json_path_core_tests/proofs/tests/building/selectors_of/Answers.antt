@@ -1,11 +1,11 @@
 use Rattle.std.proofs.Common.{◌≡◌, ◌∙◌, List, [], ◌∷◌, ◌++◌, refl, sym, subst, true≢false, arith}
-use Rattle.serde_json_path_core.specs.Flat.{parts_in}
-use Rattle.serde_json_path_core.specs.Tree.{Selectors, no_selectors, selector, Selector}
-use Rattle.serde_json_path_core.specs.Piece.{a_selector}
-use Rattle.serde_json_path_core.specs.Parts.{IsPart, ArePartsFor, AreSelectorsOf, KeepsParts, selector_pieces}
+use Rattle.serde_json_path_syntax.specs.Flat.{parts_in}
+use Rattle.serde_json_path_syntax.specs.Tree.{Selectors, no_selectors, selector, Selector}
+use Rattle.serde_json_path_syntax.specs.Piece.{a_selector}
+use Rattle.serde_json_path_syntax.specs.Parts.{IsPart, ArePartsFor, AreSelectorsOf, KeepsParts, selector_pieces}
 use Rattle.serde_json_path_core_tests.specs.CallFree.{AreCallFreeSelectors, IsCallFreeSelector}
-use Rattle.serde_json_path_core.specs.declared.syntax.node.Part.{Part}
-use Rattle.serde_json_path_core.specs.declared.syntax.builder.SyntaxBuilder.{SyntaxBuilder}
+use Rattle.serde_json_path_syntax.specs.declared.node.Part.{Part}
+use Rattle.serde_json_path_syntax.specs.declared.builder.SyntaxBuilder.{SyntaxBuilder}
 use Rattle.serde_json_path_core_tests.proofs.Written.{call_free_selectors}
 use Rattle.serde_json_path_core_tests.proofs.tests.building.selectors_of.Goals as goal
 

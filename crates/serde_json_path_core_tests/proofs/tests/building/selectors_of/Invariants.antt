@@ -1,6 +1,6 @@
-use Rattle.serde_json_path_core.specs.Flat.{parts_in}
-use Rattle.serde_json_path_core.specs.Tree.{Selectors}
-use Rattle.serde_json_path_core.specs.Parts.{ArePartsFor, KeepsParts, selector_pieces}
+use Rattle.serde_json_path_syntax.specs.Flat.{parts_in}
+use Rattle.serde_json_path_syntax.specs.Tree.{Selectors}
+use Rattle.serde_json_path_syntax.specs.Parts.{ArePartsFor, KeepsParts, selector_pieces}
 use Rattle.serde_json_path_core_tests.specs.CallFree.{AreCallFreeSelectors}
 use Rattle.serde_json_path_core_tests.proofs.tests.building.selectors_of.Given as goal
 

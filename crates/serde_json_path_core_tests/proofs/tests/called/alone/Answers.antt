@@ -1,5 +1,5 @@
-use Rattle.serde_json_path_core.specs.Tree as tree
-use Rattle.serde_json_path_core.specs.Used.{used_view}
+use Rattle.serde_json_path_syntax.specs.Tree as tree
+use Rattle.serde_json_path_syntax.specs.Used.{used_view}
 use Rattle.serde_json_path_core_tests.proofs.Written.{one_basic, one_and}
 use Rattle.serde_json_path_core_tests.proofs.CalledTrees.{alone_made}
 use Rattle.serde_json_path_core_tests.proofs.tests.called.alone.Goals as goal

@@ -1,9 +1,9 @@
 use Rattle.std.proofs.Common.{List, sym, subst}
-use Rattle.serde_json_path_core.specs.Tree as tree
-use Rattle.serde_json_path_core.specs.Piece.{a_basic, an_and}
-use Rattle.serde_json_path_core.specs.Parts.{AreOrPartsOf}
-use Rattle.serde_json_path_core.specs.Used.{used_view}
-use Rattle.serde_json_path_core.specs.declared.syntax.node.Part.{Part}
+use Rattle.serde_json_path_syntax.specs.Tree as tree
+use Rattle.serde_json_path_syntax.specs.Piece.{a_basic, an_and}
+use Rattle.serde_json_path_syntax.specs.Parts.{AreOrPartsOf}
+use Rattle.serde_json_path_syntax.specs.Used.{used_view}
+use Rattle.serde_json_path_syntax.specs.declared.node.Part.{Part}
 use Rattle.serde_json_path_core_tests.proofs.Written.{one_basic}
 use Rattle.serde_json_path_core_tests.proofs.CalledTrees.{or_made}
 use Rattle.serde_json_path_core_tests.proofs.tests.called.any_of.Goals as goal

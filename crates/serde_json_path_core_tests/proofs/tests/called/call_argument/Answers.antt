@@ -1,6 +1,6 @@
-use Rattle.serde_json_path_core.specs.Tree as tree
+use Rattle.serde_json_path_syntax.specs.Tree as tree
 use Rattle.serde_json_path_functions.specs.Terms.{kind_view}
-use Rattle.serde_json_path_core.specs.Used.{used_view}
+use Rattle.serde_json_path_syntax.specs.Used.{used_view}
 use Rattle.serde_json_path_core_tests.proofs.CalledTrees.{call_argument_made}
 use Rattle.serde_json_path_core_tests.proofs.tests.called.call_argument.Goals as goal
 

@@ -1,14 +1,14 @@
 use Rattle.std.proofs.Common.{◌≡◌, List, [], refl, sym, subst}
-use Rattle.serde_json_path_core.specs.Tree as tree
+use Rattle.serde_json_path_syntax.specs.Tree as tree
 use Rattle.serde_json_path_functions.specs.Functions.{Kind}
 use Rattle.serde_json_path_functions.specs.Terms.{kind_view}
-use Rattle.serde_json_path_core.specs.Typing.{AreTypedArguments, IsTypedArgument}
-use Rattle.serde_json_path_core.specs.Depth.{arguments_depth, argument_depth}
-use Rattle.serde_json_path_core.specs.CalledNames.{called_in_arguments, called_in_argument}
-use Rattle.serde_json_path_core.specs.Parts.{AreArgumentsOf}
-use Rattle.serde_json_path_core.specs.Used.{used_view}
-use Rattle.serde_json_path_core.specs.Called.{IsMade}
-use Rattle.serde_json_path_core.specs.declared.syntax.node.Part.{Part}
+use Rattle.serde_json_path_syntax.specs.Typing.{AreTypedArguments, IsTypedArgument}
+use Rattle.serde_json_path_syntax.specs.Depth.{arguments_depth, argument_depth}
+use Rattle.serde_json_path_syntax.specs.CalledNames.{called_in_arguments, called_in_argument}
+use Rattle.serde_json_path_syntax.specs.Parts.{AreArgumentsOf}
+use Rattle.serde_json_path_syntax.specs.Used.{used_view}
+use Rattle.serde_json_path_syntax.specs.Called.{IsMade}
+use Rattle.serde_json_path_syntax.specs.declared.node.Part.{Part}
 use Rattle.serde_json_path_core_tests.proofs.CalledTrees.{made_of_last}
 use Rattle.serde_json_path_core_tests.proofs.tests.called.call_of_one.Goals as goal
 

@@ -1,8 +1,8 @@
 use Rattle.std.proofs.Common.{List, ℕ, ◌∷◌, ◌++◌, String, string_bytes, sym, ap, ◌∙◌}
 use Rattle.std.specs.Global.{Global}
-use Rattle.serde_json_path_core.specs.Tree as tree
+use Rattle.serde_json_path_syntax.specs.Tree as tree
 use Rattle.serde_json_path_functions.specs.Terms.{kind_view, signature_view}
-use Rattle.serde_json_path_core.specs.Used.{used_view}
+use Rattle.serde_json_path_syntax.specs.Used.{used_view}
 use Rattle.serde_json_path_functions.specs.declared.signature.Signature as declared
 use Rattle.serde_json_path_core_tests.proofs.CalledTrees.{call_made}
 use Rattle.serde_json_path_core_tests.proofs.tests.called.call_with.Goals as goal

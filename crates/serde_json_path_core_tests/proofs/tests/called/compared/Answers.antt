@@ -1,9 +1,9 @@
-use Rattle.serde_json_path_core.specs.Tree as tree
-use Rattle.serde_json_path_core.specs.Typing.{IsTypedComparable}
-use Rattle.serde_json_path_core.specs.Depth.{comparable_depth}
-use Rattle.serde_json_path_core.specs.CalledNames.{called_in_comparable}
-use Rattle.serde_json_path_core.specs.Literals.{operator_view}
-use Rattle.serde_json_path_core.specs.Used.{used_view}
+use Rattle.serde_json_path_syntax.specs.Tree as tree
+use Rattle.serde_json_path_syntax.specs.Typing.{IsTypedComparable}
+use Rattle.serde_json_path_syntax.specs.Depth.{comparable_depth}
+use Rattle.serde_json_path_syntax.specs.CalledNames.{called_in_comparable}
+use Rattle.serde_json_path_syntax.specs.Literals.{operator_view}
+use Rattle.serde_json_path_syntax.specs.Used.{used_view}
 use Rattle.serde_json_path_core_tests.proofs.CalledTrees.{made_of_both}
 use Rattle.serde_json_path_core_tests.proofs.tests.called.compared.Goals as goal
 

@@ -1,8 +1,8 @@
 use Rattle.std.proofs.Common.{List, String, sym, ap, ◌∙◌, arith}
 use Rattle.std.specs.Global.{Global}
-use Rattle.serde_json_path_core.specs.Tree as tree
-use Rattle.serde_json_path_core.specs.Used.{used_view}
-use Rattle.serde_json_path_core.specs.Called.{names_in}
+use Rattle.serde_json_path_syntax.specs.Tree as tree
+use Rattle.serde_json_path_syntax.specs.Used.{used_view}
+use Rattle.serde_json_path_syntax.specs.Called.{names_in}
 use Rattle.serde_json_path_functions.specs.declared.signature.Signature as declared
 use Rattle.serde_json_path_core_tests.proofs.CalledTrees.{none_called}
 use Rattle.serde_json_path_core_tests.proofs.tests.called.existing.Goals as goal

@@ -1,6 +1,6 @@
-use Rattle.serde_json_path_core.specs.Called.{filter_query}
-use Rattle.serde_json_path_core.specs.Tree as tree
-use Rattle.serde_json_path_core.specs.Used.{used_view}
+use Rattle.serde_json_path_syntax.specs.Called.{filter_query}
+use Rattle.serde_json_path_syntax.specs.Tree as tree
+use Rattle.serde_json_path_syntax.specs.Used.{used_view}
 use Rattle.serde_json_path_core_tests.proofs.CalledTrees.{filter_query_made}
 use Rattle.serde_json_path_core_tests.proofs.tests.called.filter_test.Goals as goal
 

@@ -1,4 +1,4 @@
-use Rattle.serde_json_path_core.specs.Tree as tree
+use Rattle.serde_json_path_syntax.specs.Tree as tree
 use Rattle.serde_json_path_core_tests.proofs.tests.called.logical_argument.Goals as goal
 
 pub returns-clause-made : goal.returns-clause-made

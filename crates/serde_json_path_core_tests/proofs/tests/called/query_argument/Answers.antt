@@ -1,12 +1,12 @@
 use Rattle.std.proofs.Common.{List, String, sym, subst}
 use Rattle.std.specs.Global.{Global}
-use Rattle.serde_json_path_core.specs.Tree as tree
+use Rattle.serde_json_path_syntax.specs.Tree as tree
 use Rattle.serde_json_path_functions.specs.Terms.{kind_view}
-use Rattle.serde_json_path_core.specs.Typing.{IsTypedArgument}
-use Rattle.serde_json_path_core.specs.Depth.{depth}
-use Rattle.serde_json_path_core.specs.CalledNames.{called_names}
-use Rattle.serde_json_path_core.specs.Used.{used_view}
-use Rattle.serde_json_path_core.specs.Called.{IsMade}
+use Rattle.serde_json_path_syntax.specs.Typing.{IsTypedArgument}
+use Rattle.serde_json_path_syntax.specs.Depth.{depth}
+use Rattle.serde_json_path_syntax.specs.CalledNames.{called_names}
+use Rattle.serde_json_path_syntax.specs.Used.{used_view}
+use Rattle.serde_json_path_syntax.specs.Called.{IsMade}
 use Rattle.serde_json_path_functions.specs.declared.signature.Signature as declared
 use Rattle.serde_json_path_core_tests.proofs.CalledTrees.{other_kind, query_made}
 use Rattle.serde_json_path_core_tests.proofs.tests.called.query_argument.Goals as goal

@@ -1,10 +1,10 @@
 use Rattle.std.proofs.Common.{◌≡◌, List, [], ◌∷◌, string_bytes, sym, subst, arith}
-use Rattle.serde_json_path_core.specs.Tree as tree
-use Rattle.serde_json_path_core.specs.Piece.{a_segment}
-use Rattle.serde_json_path_core.specs.Parts.{IsPart, ArePartsOf}
+use Rattle.serde_json_path_syntax.specs.Tree as tree
+use Rattle.serde_json_path_syntax.specs.Piece.{a_segment}
+use Rattle.serde_json_path_syntax.specs.Parts.{IsPart, ArePartsOf}
 use Rattle.serde_json_path_core_tests.proofs.Written.{one_segment}
-use Rattle.serde_json_path_core.specs.declared.syntax.node.Part.{Part}
-use Rattle.serde_json_path_core.specs.declared.syntax.builder.SyntaxBuilder.{SyntaxBuilder}
+use Rattle.serde_json_path_syntax.specs.declared.node.Part.{Part}
+use Rattle.serde_json_path_syntax.specs.declared.builder.SyntaxBuilder.{SyntaxBuilder}
 use Rattle.serde_json_path_core_tests.proofs.tests.called.query_of.Goals as goal
 
 -- the segments of two parts

@@ -1,4 +1,4 @@
-use Rattle.serde_json_path_core.specs.Tree as tree
+use Rattle.serde_json_path_syntax.specs.Tree as tree
 use Rattle.serde_json_path_core_tests.proofs.Written.{one_selector, one_segment}
 use Rattle.serde_json_path_core_tests.proofs.tests.called.query_of_expression.Goals as goal
 

@@ -1,12 +1,12 @@
 use Rattle.std.proofs.Common.{◌≡◌, Some, ap, subst}
-use Rattle.serde_json_path_core.specs.Tree as tree
+use Rattle.serde_json_path_syntax.specs.Tree as tree
 use Rattle.serde_json_path_functions.specs.Functions.{Kind}
 use Rattle.serde_json_path_functions.specs.Terms.{kind_view}
-use Rattle.serde_json_path_core.specs.Typing.{IsTypedCall, result_kind}
-use Rattle.serde_json_path_core.specs.Depth.{call_depth}
-use Rattle.serde_json_path_core.specs.CalledNames.{called_from}
-use Rattle.serde_json_path_core.specs.Used.{used_view}
-use Rattle.serde_json_path_core.specs.Called.{IsMade}
+use Rattle.serde_json_path_syntax.specs.Typing.{IsTypedCall, result_kind}
+use Rattle.serde_json_path_syntax.specs.Depth.{call_depth}
+use Rattle.serde_json_path_syntax.specs.CalledNames.{called_from}
+use Rattle.serde_json_path_syntax.specs.Used.{used_view}
+use Rattle.serde_json_path_syntax.specs.Called.{IsMade}
 use Rattle.serde_json_path_core_tests.proofs.tests.called.side_of.Goals as goal
 
 pub returns-in_ok-part-in-Value-clause-made : goal.returns-in_ok-part-in-Value-clause-made

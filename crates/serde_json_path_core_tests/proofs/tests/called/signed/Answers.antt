@@ -2,9 +2,9 @@ use Rattle.std.proofs.Common.{◌≤◌, ◌+◌, List, String, subst, arith}
 use Rattle.std.specs.Global.{Global}
 use Rattle.serde_json_path_functions.specs.Functions.{Fits}
 use Rattle.serde_json_path_functions.specs.declared.signature.Signature as declared
-use Rattle.serde_json_path_core.specs.Called.{filter_query}
-use Rattle.serde_json_path_core.specs.Tree as tree
-use Rattle.serde_json_path_core.specs.Used.{used_view}
+use Rattle.serde_json_path_syntax.specs.Called.{filter_query}
+use Rattle.serde_json_path_syntax.specs.Tree as tree
+use Rattle.serde_json_path_syntax.specs.Used.{used_view}
 use Rattle.serde_json_path_core_tests.proofs.CalledTrees.{filter_query_typed, filter_query_finishes}
 use Rattle.serde_json_path_core_tests.proofs.tests.called.signed.Goals as goal
 

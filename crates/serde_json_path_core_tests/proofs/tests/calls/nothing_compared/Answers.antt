@@ -1,4 +1,4 @@
-use Rattle.serde_json_path_core.specs.Piece.{a_comparable}
+use Rattle.serde_json_path_syntax.specs.Piece.{a_comparable}
 use Rattle.serde_json_path_core_tests.proofs.tests.calls.nothing_compared.Goals as goal
 
 pub compared-requires-clause-left : goal.compared-requires-clause-left

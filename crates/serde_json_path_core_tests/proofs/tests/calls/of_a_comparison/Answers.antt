@@ -1,4 +1,4 @@
-use Rattle.serde_json_path_core.specs.Piece.{a_comparable, an_argument}
+use Rattle.serde_json_path_syntax.specs.Piece.{a_comparable, an_argument}
 use Rattle.serde_json_path_core_tests.proofs.tests.calls.of_a_comparison.Goals as goal
 
 pub compared-requires-clause-left : goal.compared-requires-clause-left

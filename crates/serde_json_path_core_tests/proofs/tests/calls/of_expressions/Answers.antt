@@ -1,4 +1,4 @@
-use Rattle.serde_json_path_core.specs.Piece.{an_argument}
+use Rattle.serde_json_path_syntax.specs.Piece.{an_argument}
 use Rattle.serde_json_path_core_tests.proofs.tests.calls.of_expressions.Goals as goal
 
 pub both_of-requires-clause-first : goal.both_of-requires-clause-first

@@ -1,4 +1,4 @@
-use Rattle.serde_json_path_core.specs.Piece.{a_basic}
+use Rattle.serde_json_path_syntax.specs.Piece.{a_basic}
 use Rattle.serde_json_path_core_tests.proofs.tests.calls.refusing.Goals as goal
 
 pub joined-requires-clause-second : goal.joined-requires-clause-second

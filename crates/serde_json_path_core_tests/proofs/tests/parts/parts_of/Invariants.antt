@@ -1,5 +1,5 @@
 use Rattle.std.proofs.Common.{◌≡◌, take}
-use Rattle.serde_json_path_core.specs.Flat.{parts_in}
+use Rattle.serde_json_path_syntax.specs.Flat.{parts_in}
 use Rattle.serde_json_path_core_tests.proofs.tests.parts.parts_of.Given as goal
 
 abbrev pub invariant-loop-part : goal.invariant-loop-part

@@ -1,4 +1,4 @@
-use Rattle.serde_json_path_core.specs.Piece.{an_argument}
+use Rattle.serde_json_path_syntax.specs.Piece.{an_argument}
 use Rattle.serde_json_path_core_tests.proofs.tests.patterns.of_pattern.Goals as goal
 
 pub of_arguments-requires-clause-text : goal.of_arguments-requires-clause-text

@@ -1,10 +1,10 @@
 use Rattle.std.proofs.Common.{◌≡◌, ◌∙◌, List, [], ◌∷◌, sym, subst, arith, string_bytes}
-use Rattle.serde_json_path_core.specs.Flat.{parts_in}
-use Rattle.serde_json_path_core.specs.Tree as tree
-use Rattle.serde_json_path_core.specs.Piece.{a_selector}
-use Rattle.serde_json_path_core.specs.Parts.{AreSelectorsOf, IsPart, KeepsParts}
-use Rattle.serde_json_path_core.specs.declared.syntax.node.Part.{Part}
-use Rattle.serde_json_path_core.specs.declared.syntax.builder.SyntaxBuilder.{SyntaxBuilder}
+use Rattle.serde_json_path_syntax.specs.Flat.{parts_in}
+use Rattle.serde_json_path_syntax.specs.Tree as tree
+use Rattle.serde_json_path_syntax.specs.Piece.{a_selector}
+use Rattle.serde_json_path_syntax.specs.Parts.{AreSelectorsOf, IsPart, KeepsParts}
+use Rattle.serde_json_path_syntax.specs.declared.node.Part.{Part}
+use Rattle.serde_json_path_syntax.specs.declared.builder.SyntaxBuilder.{SyntaxBuilder}
 use Rattle.serde_json_path_core_tests.proofs.Written.{one_segment, finished_without_calls}
 use Rattle.serde_json_path_core_tests.proofs.tests.queries.made_from_the_end.Goals as goal
 

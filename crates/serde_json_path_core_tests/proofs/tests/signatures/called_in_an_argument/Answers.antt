@@ -1,4 +1,4 @@
-use Rattle.serde_json_path_core.specs.Piece.{an_argument}
+use Rattle.serde_json_path_syntax.specs.Piece.{an_argument}
 use Rattle.serde_json_path_core_tests.proofs.tests.signatures.called_in_an_argument.Goals as goal
 
 pub call_of_two-requires-clause-second : goal.call_of_two-requires-clause-second

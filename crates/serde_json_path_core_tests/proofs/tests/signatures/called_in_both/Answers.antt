@@ -1,4 +1,4 @@
-use Rattle.serde_json_path_core.specs.Piece.{a_comparable}
+use Rattle.serde_json_path_syntax.specs.Piece.{a_comparable}
 use Rattle.serde_json_path_core_tests.proofs.tests.signatures.called_in_both.Goals as goal
 
 pub compared-requires-clause-right : goal.compared-requires-clause-right

@@ -1,4 +1,4 @@
-use Rattle.serde_json_path_core.specs.Piece.{a_basic}
+use Rattle.serde_json_path_syntax.specs.Piece.{a_basic}
 use Rattle.serde_json_path_core_tests.proofs.tests.signatures.called_in_filters.Goals as goal
 
 pub all_of-requires-clause-second : goal.all_of-requires-clause-second

@@ -1,4 +1,4 @@
-use Rattle.serde_json_path_core.specs.Tree as tree
+use Rattle.serde_json_path_syntax.specs.Tree as tree
 use Rattle.serde_json_path_core_tests.proofs.Written.{no_segments}
 use Rattle.serde_json_path_core_tests.proofs.tests.signatures.has_none_of_a_query_without_calls.Goals as goal
 

@@ -1,4 +1,4 @@
-use Rattle.serde_json_path_core.specs.Piece.{a_comparable}
+use Rattle.serde_json_path_syntax.specs.Piece.{a_comparable}
 use Rattle.serde_json_path_core_tests.proofs.CalledTrees.{kept_since}
 use Rattle.serde_json_path_core_tests.proofs.tests.signatures.is_one.Goals as goal
 

@@ -1,4 +1,4 @@
-use Rattle.serde_json_path_core.specs.Tree.{query, root}
+use Rattle.serde_json_path_syntax.specs.Tree.{query, root}
 use Rattle.serde_json_path_core_tests.proofs.tests.singular.is_singular_with_filter.Goals as goal
 
 pub is_singular-requires : goal.is_singular-requires

@@ -1,9 +1,9 @@
 use Rattle.std.proofs.Common.{◌∙◌, List, sym, subst, true≢false, arith}
-use Rattle.serde_json_path_core.specs.Flat.{parts_in}
-use Rattle.serde_json_path_core.specs.Tree as tree
-use Rattle.serde_json_path_core.specs.Parts.{ArePartsFor, and_pieces}
+use Rattle.serde_json_path_syntax.specs.Flat.{parts_in}
+use Rattle.serde_json_path_syntax.specs.Tree as tree
+use Rattle.serde_json_path_syntax.specs.Parts.{ArePartsFor, and_pieces}
 use Rattle.serde_json_path_core_tests.specs.CallFree.{IsCallFreeAnd}
-use Rattle.serde_json_path_core.specs.declared.syntax.node.Part.{Part}
+use Rattle.serde_json_path_syntax.specs.declared.node.Part.{Part}
 use Rattle.serde_json_path_core_tests.proofs.Written.{basics_push, some_basics}
 use Rattle.serde_json_path_core_tests.proofs.tests.written.and_of.Goals as goal
 

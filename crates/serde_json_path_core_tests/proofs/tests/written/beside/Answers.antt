@@ -1,10 +1,10 @@
 use Rattle.std.proofs.Common.{◌≡◌, List, [], ◌∷◌, sym, subst, arith}
-use Rattle.serde_json_path_core.specs.Tree as tree
-use Rattle.serde_json_path_core.specs.Piece.{a_basic}
-use Rattle.serde_json_path_core.specs.Parts.{AreAndPartsOf, IsPart}
+use Rattle.serde_json_path_syntax.specs.Tree as tree
+use Rattle.serde_json_path_syntax.specs.Piece.{a_basic}
+use Rattle.serde_json_path_syntax.specs.Parts.{AreAndPartsOf, IsPart}
 use Rattle.serde_json_path_core_tests.specs.CallFree.{IsCallFreeAnd, IsCallFreeBasic}
-use Rattle.serde_json_path_core.specs.declared.syntax.node.Part.{Part}
-use Rattle.serde_json_path_core.specs.declared.syntax.builder.SyntaxBuilder.{SyntaxBuilder}
+use Rattle.serde_json_path_syntax.specs.declared.node.Part.{Part}
+use Rattle.serde_json_path_syntax.specs.declared.builder.SyntaxBuilder.{SyntaxBuilder}
 use Rattle.serde_json_path_core_tests.proofs.Written.{one_basic, call_free_and}
 use Rattle.serde_json_path_core_tests.proofs.tests.written.beside.Goals as goal
 

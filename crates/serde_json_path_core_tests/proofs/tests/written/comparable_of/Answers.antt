@@ -1,5 +1,5 @@
-use Rattle.serde_json_path_core.specs.Tree as tree
-use Rattle.serde_json_path_core.specs.Flat.{kind_view}
+use Rattle.serde_json_path_syntax.specs.Tree as tree
+use Rattle.serde_json_path_syntax.specs.Flat.{kind_view}
 use Rattle.serde_json_path_core_tests.proofs.tests.written.comparable_of.Goals as goal
 
 pub returns-in_err-singular-in-Some-clause-keeps : goal.returns-in_err-singular-in-Some-clause-keeps

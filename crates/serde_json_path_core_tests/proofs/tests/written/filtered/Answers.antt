@@ -1,5 +1,5 @@
 use Rattle.std.proofs.Common.{arith}
-use Rattle.serde_json_path_core.specs.Tree as tree
+use Rattle.serde_json_path_syntax.specs.Tree as tree
 use Rattle.serde_json_path_core_tests.proofs.Written.{finished_without_calls}
 use Rattle.serde_json_path_core_tests.proofs.tests.written.filtered.Goals as goal
 

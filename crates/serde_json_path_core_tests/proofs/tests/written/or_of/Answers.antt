@@ -1,9 +1,9 @@
 use Rattle.std.proofs.Common.{◌∙◌, List, sym, subst, true≢false, arith}
-use Rattle.serde_json_path_core.specs.Flat.{parts_in}
-use Rattle.serde_json_path_core.specs.Tree as tree
-use Rattle.serde_json_path_core.specs.Parts.{ArePartsFor, or_pieces}
+use Rattle.serde_json_path_syntax.specs.Flat.{parts_in}
+use Rattle.serde_json_path_syntax.specs.Tree as tree
+use Rattle.serde_json_path_syntax.specs.Parts.{ArePartsFor, or_pieces}
 use Rattle.serde_json_path_core_tests.specs.CallFree.{IsCallFreeOr}
-use Rattle.serde_json_path_core.specs.declared.syntax.node.Part.{Part}
+use Rattle.serde_json_path_syntax.specs.declared.node.Part.{Part}
 use Rattle.serde_json_path_core_tests.proofs.Written.{ands_push, some_ands}
 use Rattle.serde_json_path_core_tests.proofs.tests.written.or_of.Goals as goal
 

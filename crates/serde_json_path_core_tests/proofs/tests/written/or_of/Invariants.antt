@@ -1,6 +1,6 @@
-use Rattle.serde_json_path_core.specs.Flat.{parts_in}
-use Rattle.serde_json_path_core.specs.Tree as tree
-use Rattle.serde_json_path_core.specs.Parts.{ArePartsFor, KeepsParts, or_pieces}
+use Rattle.serde_json_path_syntax.specs.Flat.{parts_in}
+use Rattle.serde_json_path_syntax.specs.Tree as tree
+use Rattle.serde_json_path_syntax.specs.Parts.{ArePartsFor, KeepsParts, or_pieces}
 use Rattle.serde_json_path_core_tests.specs.CallFree.{IsCallFreeOr}
 use Rattle.serde_json_path_core_tests.proofs.tests.written.or_of.Given as goal
 

@@ -1,4 +1,4 @@
-use Rattle.serde_json_path_core.specs.Tree as tree
+use Rattle.serde_json_path_syntax.specs.Tree as tree
 use Rattle.serde_json_path_core_tests.proofs.Written.{call_free_paren, call_free_not_paren}
 use Rattle.serde_json_path_core_tests.proofs.tests.written.paren_of.Goals as goal
 

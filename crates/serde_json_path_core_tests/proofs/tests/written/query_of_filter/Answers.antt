@@ -1,11 +1,11 @@
 use Rattle.std.proofs.Common.{◌≡◌, ◌+◌, ℕ, List, [], ◌∷◌, sym, subst, arith}
-use Rattle.serde_json_path_core.specs.Tree as tree
-use Rattle.serde_json_path_core.specs.Flat.{segment_kind_view}
-use Rattle.serde_json_path_core.specs.Piece.{a_segment}
-use Rattle.serde_json_path_core.specs.Parts.{ArePartsOf, IsPart}
+use Rattle.serde_json_path_syntax.specs.Tree as tree
+use Rattle.serde_json_path_syntax.specs.Flat.{segment_kind_view}
+use Rattle.serde_json_path_syntax.specs.Piece.{a_segment}
+use Rattle.serde_json_path_syntax.specs.Parts.{ArePartsOf, IsPart}
 use Rattle.serde_json_path_core_tests.specs.CallFree.{IsCallFreeOr, IsCallFreeSegment}
-use Rattle.serde_json_path_core.specs.declared.syntax.node.Part.{Part}
-use Rattle.serde_json_path_core.specs.declared.syntax.builder.SyntaxBuilder.{SyntaxBuilder}
+use Rattle.serde_json_path_syntax.specs.declared.node.Part.{Part}
+use Rattle.serde_json_path_syntax.specs.declared.builder.SyntaxBuilder.{SyntaxBuilder}
 use Rattle.serde_json_path_core_tests.proofs.Written.{one_selector, one_segment, call_free_selectors, call_free_segments, call_free_filter}
 use Rattle.serde_json_path_core_tests.proofs.tests.written.query_of_filter.Goals as goal
 

@@ -1,6 +1,6 @@
-use Rattle.serde_json_path_core.specs.Tree as tree
-use Rattle.serde_json_path_core.specs.Literals.{operator_view}
-use Rattle.serde_json_path_core.specs.Piece.{a_comparable}
+use Rattle.serde_json_path_syntax.specs.Tree as tree
+use Rattle.serde_json_path_syntax.specs.Literals.{operator_view}
+use Rattle.serde_json_path_syntax.specs.Piece.{a_comparable}
 use Rattle.serde_json_path_core_tests.proofs.Written.{call_free_relation}
 use Rattle.serde_json_path_core_tests.proofs.tests.written.relation_of.Goals as goal
 

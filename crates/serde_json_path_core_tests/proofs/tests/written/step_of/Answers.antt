@@ -1,5 +1,5 @@
 use Rattle.std.proofs.Common.{arith}
-use Rattle.serde_json_path_core.specs.Tree as tree
+use Rattle.serde_json_path_syntax.specs.Tree as tree
 use Rattle.serde_json_path_core_tests.proofs.Written.{one_selector}
 use Rattle.serde_json_path_core_tests.proofs.tests.written.step_of.Goals as goal
 

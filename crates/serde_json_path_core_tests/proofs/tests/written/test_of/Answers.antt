@@ -1,4 +1,4 @@
-use Rattle.serde_json_path_core.specs.Tree as tree
+use Rattle.serde_json_path_syntax.specs.Tree as tree
 use Rattle.serde_json_path_core_tests.proofs.tests.written.test_of.Goals as goal
 
 pub returns-in_err-not_exist-in-Some-clause-keeps : goal.returns-in_err-not_exist-in-Some-clause-keeps

@@ -1,8 +1,8 @@
 use Rattle.std.proofs.Common.{◌≡◌, ◌∙◌, [], true≢false, Ok, refl, sym, ap, subst, arith}
 use Rattle.std.proofs.lemmas.Result.{err_from_is_err_and}
-use Rattle.serde_json_path_core.specs.Flat.{parts_in}
-use Rattle.serde_json_path_core.specs.Tree.{query, root}
-use Rattle.serde_json_path_core.specs.Used.{AreCalled}
+use Rattle.serde_json_path_syntax.specs.Flat.{parts_in}
+use Rattle.serde_json_path_syntax.specs.Tree.{query, root}
+use Rattle.serde_json_path_syntax.specs.Used.{AreCalled}
 use Rattle.serde_json_path_functions.specs.Functions.{Fits}
 use Rattle.serde_json_path_parser.specs.declared.error.Place.TheVariants as place
 use Rattle.serde_json_path_parser.specs.Filters as filters

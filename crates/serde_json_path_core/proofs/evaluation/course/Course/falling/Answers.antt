@@ -1,6 +1,6 @@
 use Rattle.std.proofs.Common.{◌≡◌, pos, SFits, w64, ap, ◌∙◌, sym, rules}
 use Rattle.std.proofs.lemmas.Int.{to_z-of_z}
-use Rattle.serde_json_path_core.specs.SliceView.{slice_view}
+use Rattle.serde_json_path_syntax.specs.SliceView.{slice_view}
 use Rattle.serde_json_path_core.specs.Computed.{count_within}
 use Rattle.serde_json_path_core.proofs.Courses.{top_of, bottom_of, top_of-none, bottom_of-none, falling-counted}
 use Rattle.serde_json_path_core.proofs.evaluation.course.Course.falling.Goals as goal

@@ -3,7 +3,7 @@ use Rattle.serde_json.specs.Events.{items_len}
 use Rattle.serde_json.specs.View.{view, items_view}
 use Rattle.serde_json.proofs.Views.{view-Array, items_len-items_view}
 use Rattle.serde_json_path_core.specs.Slices.{step_of}
-use Rattle.serde_json_path_core.specs.SliceView.{slice_view}
+use Rattle.serde_json_path_syntax.specs.SliceView.{slice_view}
 use Rattle.serde_json_path_core.specs.Computed.{course_by, on_course, sliced}
 use Rattle.serde_json_path_core.specs.Courses.{course_left}
 use Rattle.serde_json_path_core.proofs.evaluation.cursor.Cursor.slice.Goals as goal

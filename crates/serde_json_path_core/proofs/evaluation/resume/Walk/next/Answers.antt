@@ -2,13 +2,13 @@ use Rattle.std.proofs.Common.{[], rules, arith, ◌<◌, ◌∷◌, sym, subst, 
 use Rattle.std.proofs.Math.Logic.{∥∥₁_map}
 use Rattle.serde_json.specs.View.{view}
 use Rattle.serde_json_path_nodes.specs.Views.{located}
-use Rattle.serde_json_path_core.specs.Tree.{segments_of}
-use Rattle.serde_json_path_core.specs.Flat.{segments_at}
-use Rattle.serde_json_path_core.specs.Parts.{signatures_of}
+use Rattle.serde_json_path_syntax.specs.Tree.{segments_of}
+use Rattle.serde_json_path_syntax.specs.Flat.{segments_at}
+use Rattle.serde_json_path_syntax.specs.Parts.{signatures_of}
 use Rattle.serde_json_path_core.specs.Sound.{AreSoundSegments}
 use Rattle.serde_json_path_core.specs.Walks.{set_of, query_of, document_of, beginning_of}
-use Rattle.serde_json_path_core.specs.Rest.{IsStackIn, rest_of, work, stack_path, stages}
-use Rattle.serde_json_path_core.specs.Stages.{stages_at}
+use Rattle.serde_json_path_core.specs.Rest.{IsStackIn, rest_of, work, stack_path}
+use Rattle.serde_json_path_syntax.specs.Stages.{stages, stages_at}
 use Rattle.serde_json_path_core.specs.Places.{frames_of}
 use Rattle.serde_json_path_core.proofs.SoundParts.{sound-segments}
 use Rattle.serde_json_path_core.proofs.WholeQueries.{whole-sound}

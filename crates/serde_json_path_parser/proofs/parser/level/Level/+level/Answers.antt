@@ -3,10 +3,10 @@ use Rattle.std.proofs.Common.{◌≡◌, ◌∙◌, ◌∷◌, [], true, false, 
 use Rattle.std.specs.Prelude.{◌==◌, ◌||◌, string_bytes}
 use Rattle.std.proofs.lemmas.List.{nil_from_length}
 use Rattle.std.proofs.lemmas.Result.{err_from_is_err_and}
-use Rattle.serde_json_path_core.specs.Literals.{literal_view, number_amount, operator_view}
-use Rattle.serde_json_path_core.specs.Parts.{AreArgumentsOf, ArePartsOf, AreSelectorsOf}
-use Rattle.serde_json_path_core.specs.Piece.{an_argument, an_or, a_basic, a_comparable}
-use Rattle.serde_json_path_core.specs.Tree.{logical_argument, call, number}
+use Rattle.serde_json_path_syntax.specs.Literals.{literal_view, number_amount, operator_view}
+use Rattle.serde_json_path_syntax.specs.Parts.{AreArgumentsOf, ArePartsOf, AreSelectorsOf}
+use Rattle.serde_json_path_syntax.specs.Piece.{an_argument, an_or, a_basic, a_comparable}
+use Rattle.serde_json_path_syntax.specs.Tree.{logical_argument, call, number}
 use Rattle.serde_json_path_functions.specs.Terms.{kind_view, signature_view}
 use Rattle.serde_json_path_parser.specs.Filters.{alone, word, ended, arguments_at, parameters_at, level, and_list, or_list, named_at}
 use Rattle.serde_json_path_parser.specs.Giving.{Fails, MakesOperand, MakesArguments, StartsSegment, Makes}
@@ -20,8 +20,8 @@ use Rattle.serde_json_path_parser.proofs.CalledSteps as of_calls
 use Rattle.serde_json_path_parser.proofs.Levels.{level_laws}
 use Rattle.serde_json_path_parser.proofs.parser.level.Level.+level.Goals.{argument-then-sees-via-then-sees, argument-then-sees-via-else-sees+then-sees-2}
 use Rattle.std.proofs.lemmas.Grind.{common_steps}
-use Rattle.serde_json_path_core.specs.Flat.{parts_in, segment_kind_view, kind_view as query_kind_view}
-use Rattle.serde_json_path_core.proofs.NamedParts.{parts_kept}
+use Rattle.serde_json_path_syntax.specs.Flat.{parts_in, segment_kind_view, kind_view as query_kind_view}
+use Rattle.serde_json_path_syntax.proofs.NamedParts.{parts_kept}
 use Rattle.serde_json_path_parser.specs.Parsing.{opens, opens_next, bracket_at, next_selector_at, selectors_at, selector_list, segment_at, next_segment_at, segments_at, segment_list}
 use Rattle.serde_json_path_parser.proofs.Blanks.{no_longer}
 use Rattle.serde_json_path_parser.proofs.BracketTexts.{is_comma}
@@ -33,7 +33,7 @@ use Rattle.serde_json_path_parser.proofs.JoinedParts.{first_or, or_pushed, first
 use Rattle.serde_json_path_parser.proofs.LogicalSteps.{behind_one, behind_two, some_text, read_more, row_shorter, row_goes_on, row_fails, row_done, ands, ors, too_deep, inside_is, no_operator_read, left_fails, operand_fails, right_fails, relation_read, call_is, paren_read, not_paren_read, no_current_read, no_root_read, negated_is_name, name_fails, no_call_read, value_refused, not_test_read}
 use Rattle.serde_json_path_parser.proofs.Many.{with_front}
 use Rattle.serde_json_path_parser.proofs.parser.level.Level.+level.Goals as goal
-use Rattle.serde_json_path_core.specs.Tree as tree
+use Rattle.serde_json_path_syntax.specs.Tree as tree
 use Rattle.serde_json_path_parser.proofs.Many as m
 
 pub and_from-parts-init : goal.and_from-parts-init

@@ -1,9 +1,9 @@
 use Rattle.std.proofs.Common.{◌≡◌, ◌+◌, ◌*◌, ℕ, List, [], ◌∷◌, false, length}
 use Rattle.std.specs.Str.{encode_utf8_all}
-use Rattle.serde_json_path_core.specs.Flat.{parts_in}
-use Rattle.serde_json_path_core.specs.Tree.{SegmentKind, Segment, Selector, LogicalAnd, Basic}
-use Rattle.serde_json_path_core.specs.Parts.{IsPart, ArePartsOf, AreSelectorsOf, AreOrPartsOf, AreAndPartsOf, KeepsParts}
-use Rattle.serde_json_path_core.specs.Piece.{an_and, a_basic}
+use Rattle.serde_json_path_syntax.specs.Flat.{parts_in}
+use Rattle.serde_json_path_syntax.specs.Tree.{SegmentKind, Segment, Selector, LogicalAnd, Basic}
+use Rattle.serde_json_path_syntax.specs.Parts.{IsPart, ArePartsOf, AreSelectorsOf, AreOrPartsOf, AreAndPartsOf, KeepsParts}
+use Rattle.serde_json_path_syntax.specs.Piece.{an_and, a_basic}
 use Rattle.serde_json_path_parser.specs.Lexical.{begins, begins_both}
 use Rattle.serde_json_path_parser.specs.Filters.{and_list, or_list, next_basic_at, next_and_at}
 use Rattle.serde_json_path_parser.specs.Levels.{signatures, deeper, filter_at}

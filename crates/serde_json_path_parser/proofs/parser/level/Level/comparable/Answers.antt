@@ -1,5 +1,5 @@
 use Rattle.std.proofs.Common.{◌≡◌, Ok, sym, subst}
-use Rattle.serde_json_path_core.specs.Tree as tree
+use Rattle.serde_json_path_syntax.specs.Tree as tree
 use Rattle.serde_json_path_parser.specs.Filters.{comparable_at}
 use Rattle.serde_json_path_parser.specs.Levels.{signatures, deeper}
 use Rattle.serde_json_path_parser.specs.Reading.{left}

@@ -1,0 +1,41 @@
+-- The bound of some parts' numbers.
+use Rattle.std.proofs.Common.{◌≡◌, ℕ, zero, suc, ◌<◌, ◌≤◌, List, [], ◌∷◌, length, get_or, Option, Some, None, IfSome, ap, arith}
+use Rattle.std.specs.List.{All, AllByRecursion}
+use Rattle.std.proofs.lemmas.List.Elements.{recursion_from_All}
+use Rattle.serde_json_path_syntax.specs.Flat.{numbers}
+use Rattle.serde_json_path_syntax.specs.PartBounds.{parts_bound, choice_bound}
+use Rattle.serde_json_path_syntax.specs.declared.choice.Choice.{Choice}
+use Rattle.serde_json_path_syntax.specs.declared.node.Part.{Part}
+
+by_recursion : (parts : List Part) (bound : ℕ) → AllByRecursion (λ number. number < bound) (numbers parts) → parts_bound parts ≤ bound
+by_recursion [] bound h = omega arith
+by_recursion (part ∷ parts) bound h =
+    let here = h.0 in
+    let later = by_recursion parts bound h.1 in
+    omega arith
+
+-- parts whose numbers are below a number have it as a bound
+pub bounded : (parts : List Part) (bound : ℕ) → All (λ number. number < bound) (numbers parts) → parts_bound parts ≤ bound
+bounded parts bound h = by_recursion parts bound (recursion_from_All (λ number. number < bound) (numbers parts) h)
+
+-- each part's number is below the bound
+pub within_bound : (parts : List Part) (i : ℕ) (part : Part) → i < length parts → part ≡ get_or parts i part → part.number < parts_bound parts
+within_bound [] i part h e = omega (arith, h)
+within_bound (p ∷ parts) zero part h e =
+    let same : part.number ≡ p.number = ap (λ (x : Part). x.number) e in
+    omega arith
+within_bound (p ∷ parts) (suc i) part h e =
+    let later = within_bound parts i part (omega (arith, h)) e in
+    omega arith
+
+-- what a choice names is below a greater bound
+pub some_below : (found : Option Choice) (low high : ℕ) → low ≤ high → IfSome found (λ choice. choice_bound choice ≤ low) → IfSome found (λ choice. choice_bound choice ≤ high)
+some_below None low high le h = tt
+some_below (Some choice) low high le h = let below : choice_bound choice ≤ low = h in omega arith
+
+pub within_get : (parts : List Part) (i : ℕ) (d : Part) → i < length parts → (get_or parts i d).number < parts_bound parts
+within_get [] i d h = omega (arith, h)
+within_get (p ∷ parts) zero d h = omega arith
+within_get (p ∷ parts) (suc i) d h =
+    let later = within_get parts i d (omega (arith, h)) in
+    omega arith

@@ -1,0 +1,7 @@
+use Rattle.std.specs.Prelude.{◌↔◌, drop}
+use Rattle.serde_json_path_syntax.specs.Tree.{AreSingular, IsSingular}
+use Rattle.serde_json_path_syntax.specs.Flat.{part_query, segments_at}
+use Rattle.serde_json_path_syntax.proofs.singular.is_singular.Given as goal
+
+abbrev pub invariant-loop-segment : goal.invariant-loop-segment
+invariant-loop-segment l = IsSingular (part_query l.fn.nodes l.fn.query) ↔ AreSingular (segments_at l.fn.nodes (drop l.segment-index l.segment-items))

@@ -1,0 +1,275 @@
+-- The trees of a vector of nodes, each of which names earlier ones.
+use Rattle.std.specs.Prelude.{ℕ, pos, ◌<◌, List, [], ◌∷◌, ◌++◌, length, map, slice_index_or, string_bytes, Option, Some, None}
+use Rattle.std.specs.List.{All}
+use Rattle.serde_json.specs.Data.{Data, null as null_data, boolean, string}
+use Rattle.serde_json.specs.View.{view}
+use Rattle.serde_json_path_syntax.specs.Tree.{QueryKind, root, current, SegmentKind, child, descendant, Query, query, Segments, no_segments, segment, Segment, dot_name, dot_wildcard, long_hand, Selectors, no_selectors, selector, Selector, name, wildcard, index, slice, filter, LogicalOr, no_or, or, LogicalAnd, no_and, and, Basic, paren, not_paren, relation, exist, not_exist, test, not_test, Comparable, literal, singular, called, Call, call, Arguments, no_arguments, argument, Argument, literal_argument, query_argument, call_argument, logical_argument, Literal, text, truth, null}
+use Rattle.serde_json_path_syntax.specs.Tree as tree
+use Rattle.serde_json_path_syntax.specs.SliceView.{slice_view}
+use Rattle.serde_json_path_syntax.specs.Literals.{literal_view, number_amount, operator_view}
+use Rattle.serde_json_path_syntax.specs.Piece.{Piece, a_query, a_segment, a_selector, an_or, an_and, a_basic, a_comparable, a_call, an_argument}
+use Rattle.serde_json_path_syntax.specs.declared.node.Node.{Node}
+use Rattle.serde_json_path_syntax.specs.declared.node.Node.TheVariants as node
+use Rattle.serde_json_path_syntax.specs.declared.node.Segment as segments
+use Rattle.serde_json_path_syntax.specs.declared.node.Segment.TheVariants.{DotName, DotWildcard, LongHand}
+use Rattle.serde_json_path_syntax.specs.declared.node.Selector as selectors
+use Rattle.serde_json_path_syntax.specs.declared.node.Selector.TheVariants as one
+use Rattle.serde_json_path_syntax.specs.declared.node.Basic as basics
+use Rattle.serde_json_path_syntax.specs.declared.node.Basic.TheVariants.{Paren, NotParen, Relation, Exist, NotExist, Test, NotTest}
+use Rattle.serde_json_path_syntax.specs.declared.node.Comparable as comparables
+use Rattle.serde_json_path_syntax.specs.declared.node.Comparable.TheVariants as side
+use Rattle.serde_json_path_syntax.specs.declared.node.Argument as given
+use Rattle.serde_json_path_syntax.specs.declared.node.Argument.TheVariants as given_as
+use Rattle.serde_json_path_syntax.specs.declared.node.Part.{Part}
+use Rattle.serde_json_path_syntax.specs.declared.node.QueryKind as kind
+use Rattle.serde_json_path_syntax.specs.declared.node.QueryKind.TheVariants.{Root, Current}
+use Rattle.serde_json_path_syntax.specs.declared.node.SegmentKind as reach
+use Rattle.serde_json_path_syntax.specs.declared.node.SegmentKind.TheVariants.{Child, Descendant}
+use Rattle.serde_json_path_syntax.specs.declared.parts.Kept.{Kept}
+use Rattle.serde_json_path_syntax.specs.declared.parts.Kept.TheVariants as kept
+use Rattle.serde_json_path_syntax.specs.declared.parts.Parts.{Parts}
+
+abbrev pub kind_view : kind.QueryKind → QueryKind
+kind_view Root = root
+kind_view Current = current
+
+abbrev pub segment_kind_view : reach.SegmentKind → SegmentKind
+segment_kind_view Child = child
+segment_kind_view Descendant = descendant
+
+-- ---- out of pieces; what stands in the place of a piece of another kind is made by no builder
+
+abbrev pub no_piece : Piece
+no_piece = a_query (query root no_segments)
+
+-- the query of a piece
+abbrev pub query_in : Piece → Query
+query_in (a_query q) = q
+query_in _ = query root no_segments
+
+-- the kind and the segment of a piece
+abbrev pub segment_kind_in : Piece → SegmentKind
+segment_kind_in (a_segment kind seg) = kind
+segment_kind_in _ = child
+
+abbrev pub segment_in : Piece → Segment
+segment_in (a_segment kind seg) = seg
+segment_in _ = long_hand no_selectors
+
+abbrev pub selector_in : Piece → Selector
+selector_in (a_selector sel) = sel
+selector_in _ = wildcard
+
+abbrev pub or_in : Piece → LogicalOr
+or_in (an_or e) = e
+or_in _ = no_or
+
+abbrev pub and_in : Piece → LogicalAnd
+and_in (an_and e) = e
+and_in _ = no_and
+
+abbrev pub basic_in : Piece → Basic
+basic_in (a_basic b) = b
+basic_in _ = paren no_or
+
+abbrev pub comparable_in : Piece → Comparable
+comparable_in (a_comparable c) = c
+comparable_in _ = literal null
+
+abbrev pub call_in : Piece → Call
+call_in (a_call c) = c
+call_in _ = call [] no_arguments
+
+abbrev pub argument_in : Piece → Argument
+argument_in (an_argument a) = a
+argument_in _ = literal_argument null
+
+abbrev pub segments_in : List Piece → Segments
+segments_in [] = no_segments
+segments_in (piece ∷ more) = segment (segment_kind_in piece) (segment_in piece) (segments_in more)
+
+abbrev pub selectors_in : List Piece → Selectors
+selectors_in [] = no_selectors
+selectors_in (piece ∷ more) = selector (selector_in piece) (selectors_in more)
+
+abbrev pub ors_in : List Piece → LogicalOr
+ors_in [] = no_or
+ors_in (piece ∷ more) = or (and_in piece) (ors_in more)
+
+abbrev pub ands_in : List Piece → LogicalAnd
+ands_in [] = no_and
+ands_in (piece ∷ more) = and (basic_in piece) (ands_in more)
+
+abbrev pub arguments_in : List Piece → Arguments
+arguments_in [] = no_arguments
+arguments_in (piece ∷ more) = argument (argument_in piece) (arguments_in more)
+
+-- ---- nodes
+
+-- the piece of that number
+abbrev pub piece_in : List Piece → ℕ → Piece
+piece_in pieces number = slice_index_or pieces number no_piece
+
+-- the parts, in order
+abbrev pub kept_parts : Kept → List Part
+kept_parts kept.None = []
+kept_parts (kept.One part) = part ∷ []
+kept_parts (kept.Listed parts) = parts.items
+
+unfoldable pub parts_in : Parts → List Part
+parts_in parts = kept_parts parts.kept
+
+-- the pieces of so many parts
+abbrev pub pieces_named : List Piece → List Part → List Piece
+pieces_named earlier parts = map (λ (part : Part). piece_in earlier part.number) parts
+
+abbrev pub segment_of : List Piece → segments.Segment → Segment
+segment_of earlier (DotName k) = dot_name (string_bytes k)
+segment_of earlier DotWildcard = dot_wildcard
+segment_of earlier (LongHand parts) = long_hand (selectors_in (pieces_named earlier (parts_in parts)))
+
+abbrev pub selector_of : List Piece → selectors.Selector → Selector
+selector_of earlier (one.Name k) = name (string_bytes k)
+selector_of earlier one.Wildcard = wildcard
+selector_of earlier (one.Index i) = index i
+selector_of earlier (one.Slice s) = slice (slice_view s)
+selector_of earlier (one.Filter part) = filter (or_in (piece_in earlier part.number))
+
+abbrev pub basic_of : List Piece → basics.Basic → Basic
+basic_of earlier (Paren part) = paren (or_in (piece_in earlier part.number))
+basic_of earlier (NotParen part) = not_paren (or_in (piece_in earlier part.number))
+basic_of earlier (Relation left operator right) = relation (comparable_in (piece_in earlier left.number)) (operator_view operator) (comparable_in (piece_in earlier right.number))
+basic_of earlier (Exist part) = exist (query_in (piece_in earlier part.number))
+basic_of earlier (NotExist part) = not_exist (query_in (piece_in earlier part.number))
+basic_of earlier (Test part) = test (call_in (piece_in earlier part.number))
+basic_of earlier (NotTest part) = not_test (call_in (piece_in earlier part.number))
+
+abbrev pub comparable_of : List Piece → comparables.Comparable → Comparable
+comparable_of earlier (side.Literal l) = literal (literal_view l)
+comparable_of earlier (side.Singular part) = singular (query_in (piece_in earlier part.number))
+comparable_of earlier (side.Called part) = called (call_in (piece_in earlier part.number))
+
+-- the literal that writes a text, a truth value or null; what no builder makes of one stands for a number that is not whole
+abbrev pub literal_of : Data → Literal
+literal_of (string t) = text t
+literal_of (boolean b) = truth b
+literal_of null_data = null
+literal_of _ = tree.number (pos 1)
+
+abbrev pub argument_of : List Piece → given.Argument → Argument
+argument_of earlier (given_as.Value v) = literal_argument (literal_of (view v))
+argument_of earlier (given_as.Number n) = literal_argument (tree.number (number_amount n))
+argument_of earlier (given_as.Query part) = query_argument (query_in (piece_in earlier part.number))
+argument_of earlier (given_as.Call part) = call_argument (call_in (piece_in earlier part.number))
+argument_of earlier (given_as.Logical part) = logical_argument (or_in (piece_in earlier part.number))
+
+-- the piece that a node makes of earlier ones
+abbrev pub piece_of : List Piece → Node → Piece
+piece_of earlier (node.Query start parts) = a_query (query (kind_view start) (segments_in (pieces_named earlier (parts_in parts))))
+piece_of earlier (node.Segment kind seg) = a_segment (segment_kind_view kind) (segment_of earlier seg)
+piece_of earlier (node.Selector sel) = a_selector (selector_of earlier sel)
+piece_of earlier (node.LogicalOr parts) = an_or (ors_in (pieces_named earlier (parts_in parts)))
+piece_of earlier (node.LogicalAnd parts) = an_and (ands_in (pieces_named earlier (parts_in parts)))
+piece_of earlier (node.Basic b) = a_basic (basic_of earlier b)
+piece_of earlier (node.Comparable c) = a_comparable (comparable_of earlier c)
+piece_of earlier (node.Call k parts) = a_call (call (string_bytes k) (arguments_in (pieces_named earlier parts.items)))
+piece_of earlier (node.Argument a) = an_argument (argument_of earlier a)
+
+abbrev pub pieces_from : List Piece → List Node → List Piece
+pieces_from earlier [] = earlier
+pieces_from earlier (n ∷ nodes) = pieces_from (earlier ++ piece_of earlier n ∷ []) nodes
+
+unfoldable pub pieces : List Node → List Piece
+pieces nodes = pieces_from [] nodes
+
+abbrev pub piece_at : List Node → ℕ → Piece
+piece_at nodes number = piece_in (pieces nodes) number
+
+abbrev pub or_at : List Node → Part → LogicalOr
+or_at nodes part = or_in (piece_at nodes part.number)
+
+abbrev pub and_at : List Node → Part → LogicalAnd
+and_at nodes part = and_in (piece_at nodes part.number)
+
+abbrev pub basic_at : List Node → Part → Basic
+basic_at nodes part = basic_in (piece_at nodes part.number)
+
+abbrev pub comparable_at : List Node → Part → Comparable
+comparable_at nodes part = comparable_in (piece_at nodes part.number)
+
+abbrev pub call_at : List Node → Part → Call
+call_at nodes part = call_in (piece_at nodes part.number)
+
+abbrev pub argument_at : List Node → Part → Argument
+argument_at nodes part = argument_in (piece_at nodes part.number)
+
+-- the segments of so many parts
+abbrev pub segments_at : List Node → List Part → Segments
+segments_at nodes parts = segments_in (pieces_named (pieces nodes) parts)
+
+-- the query of a part
+abbrev pub part_query : List Node → Part → Query
+part_query nodes part = query_in (piece_at nodes part.number)
+
+-- the same, or `$` without segments
+abbrev pub query_at : List Node → Option Part → Query
+query_at nodes None = query root no_segments
+query_at nodes (Some part) = query_in (piece_at nodes part.number)
+
+-- ---- numbers
+
+abbrev pub numbers : List Part → List ℕ
+numbers parts = map (λ (part : Part). part.number) parts
+
+abbrev pub segment_numbers : segments.Segment → List ℕ
+segment_numbers (LongHand parts) = numbers (parts_in parts)
+segment_numbers (DotName k) = []
+segment_numbers DotWildcard = []
+
+abbrev pub selector_numbers : selectors.Selector → List ℕ
+selector_numbers (one.Filter part) = part.number ∷ []
+selector_numbers (one.Name k) = []
+selector_numbers one.Wildcard = []
+selector_numbers (one.Index i) = []
+selector_numbers (one.Slice s) = []
+
+abbrev pub basic_numbers : basics.Basic → List ℕ
+basic_numbers (Paren part) = part.number ∷ []
+basic_numbers (NotParen part) = part.number ∷ []
+basic_numbers (Relation left operator right) = left.number ∷ right.number ∷ []
+basic_numbers (Exist part) = part.number ∷ []
+basic_numbers (NotExist part) = part.number ∷ []
+basic_numbers (Test part) = part.number ∷ []
+basic_numbers (NotTest part) = part.number ∷ []
+
+abbrev pub comparable_numbers : comparables.Comparable → List ℕ
+comparable_numbers (side.Literal l) = []
+comparable_numbers (side.Singular part) = part.number ∷ []
+comparable_numbers (side.Called part) = part.number ∷ []
+
+abbrev pub argument_numbers : given.Argument → List ℕ
+argument_numbers (given_as.Value v) = []
+argument_numbers (given_as.Number n) = []
+argument_numbers (given_as.Query part) = part.number ∷ []
+argument_numbers (given_as.Call part) = part.number ∷ []
+argument_numbers (given_as.Logical part) = part.number ∷ []
+
+-- the numbers that a node names
+abbrev pub numbers_of : Node → List ℕ
+numbers_of (node.Query start parts) = numbers (parts_in parts)
+numbers_of (node.Segment kind seg) = segment_numbers seg
+numbers_of (node.Selector sel) = selector_numbers sel
+numbers_of (node.LogicalOr parts) = numbers (parts_in parts)
+numbers_of (node.LogicalAnd parts) = numbers (parts_in parts)
+numbers_of (node.Basic b) = basic_numbers b
+numbers_of (node.Comparable c) = comparable_numbers c
+numbers_of (node.Call k parts) = numbers parts.items
+numbers_of (node.Argument a) = argument_numbers a
+
+-- the node names numbers below the bound alone
+abbrev pub NamesBelow : ℕ → Node → Type 0
+NamesBelow bound n = All (λ number. number < bound) (numbers_of n)
+
+-- each node names earlier ones
+abbrev pub IsGrown : List Node → Type 0
+IsGrown nodes = (i : ℕ) (d : Node) → i < length nodes → NamesBelow i (slice_index_or nodes i d)

@@ -1,0 +1,27 @@
+-- Literals and comparison operators as the definitions see them.
+use Rattle.std.specs.Prelude.{ℤ, string_bytes}
+use Rattle.serde_json_path_syntax.specs.Tree as tree
+use Rattle.serde_json_path_syntax.specs.Tree.{Literal, Operator, equal, not_equal, less, less_or_equal, greater, greater_or_equal}
+use Rattle.serde_json_path_syntax.specs.declared.literal.NumberLiteral.{NumberLiteral}
+use Rattle.serde_json_path_syntax.specs.declared.literal.Literal as declared
+use Rattle.serde_json_path_syntax.specs.declared.literal.Literal.TheVariants.{String, Number, Bool, Null}
+use Rattle.serde_json_path_syntax.specs.declared.operator.ComparisonOperator.{ComparisonOperator}
+use Rattle.serde_json_path_syntax.specs.declared.operator.ComparisonOperator.TheVariants.{EqualTo, NotEqualTo, LessThan, LessThanEqualTo, GreaterThan, GreaterThanEqualTo}
+
+-- the billionths of a number literal
+abbrev pub number_amount : NumberLiteral → ℤ
+number_amount literal = literal.billionths
+
+abbrev pub literal_view : declared.Literal → Literal
+literal_view (String text) = tree.text (string_bytes text)
+literal_view (Number literal) = tree.number (number_amount literal)
+literal_view (Bool b) = tree.truth b
+literal_view Null = tree.null
+
+abbrev pub operator_view : ComparisonOperator → Operator
+operator_view EqualTo = equal
+operator_view NotEqualTo = not_equal
+operator_view LessThan = less
+operator_view LessThanEqualTo = less_or_equal
+operator_view GreaterThan = greater
+operator_view GreaterThanEqualTo = greater_or_equal

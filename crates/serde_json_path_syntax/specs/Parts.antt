@@ -1,0 +1,90 @@
+-- The parts that a builder has made and the finished tree, as contracts see them.
+use Rattle.std.specs.Prelude.{◌≡◌, ◌<◌, ℕ, List, [], ◌∷◌, length}
+use Rattle.serde_json_path_syntax.specs.Tree.{Query, Segments, no_segments, segment, Selectors, no_selectors, selector, LogicalOr, no_or, or, LogicalAnd, no_and, and, Arguments, no_arguments, argument}
+use Rattle.serde_json_path_functions.specs.Functions.{Signature}
+use Rattle.serde_json_path_syntax.specs.Used.{used_view}
+use Rattle.serde_json_path_syntax.specs.Piece.{Piece, a_segment, a_selector, an_and, a_basic, an_argument}
+use Rattle.serde_json_path_syntax.specs.Flat.{piece_at, query_at}
+use Rattle.serde_json_path_syntax.specs.declared.node.Node.{Node}
+use Rattle.serde_json_path_syntax.specs.declared.node.Part.{Part}
+use Rattle.serde_json_path_syntax.specs.declared.builder.SyntaxBuilder.{SyntaxBuilder}
+use Rattle.serde_json_path_syntax.specs.declared.checked.Checked.{Checked}
+
+-- the part is good for the builder, and stands for that tree
+abbrev pub IsPart : SyntaxBuilder → Part → Piece → Type 0
+IsPart builder part piece = (part.number < length builder.nodes.items) × (piece_at builder.nodes.items part.number ≡ piece)
+
+-- no part is good for the builder
+abbrev pub HasNoParts : SyntaxBuilder → Type 0
+HasNoParts builder = (part : Part) (piece : Piece) → IsPart builder part piece → ⊥
+
+-- the parts stand for these pieces, one for each
+abbrev pub ArePartsFor : SyntaxBuilder → List Part → List Piece → Type 0
+ArePartsFor builder [] [] = Unit {0}
+ArePartsFor builder (part ∷ parts) (piece ∷ pieces) = IsPart builder part piece × ArePartsFor builder parts pieces
+ArePartsFor builder _ _ = ⊥
+
+-- the pieces of segments, and of selectors
+abbrev pub segment_pieces : Segments → List Piece
+segment_pieces no_segments = []
+segment_pieces (segment kind seg more) = a_segment kind seg ∷ segment_pieces more
+
+abbrev pub selector_pieces : Selectors → List Piece
+selector_pieces no_selectors = []
+selector_pieces (selector sel more) = a_selector sel ∷ selector_pieces more
+
+-- the pieces of what is joined by `||`, and by `&&`
+abbrev pub or_pieces : LogicalOr → List Piece
+or_pieces no_or = []
+or_pieces (or e more) = an_and e ∷ or_pieces more
+
+abbrev pub and_pieces : LogicalAnd → List Piece
+and_pieces no_and = []
+and_pieces (and e more) = a_basic e ∷ and_pieces more
+
+-- the pieces of arguments
+abbrev pub argument_pieces : Arguments → List Piece
+argument_pieces no_arguments = []
+argument_pieces (argument a more) = an_argument a ∷ argument_pieces more
+
+-- the parts stand for the segments, one for each
+abbrev pub ArePartsOf : SyntaxBuilder → List Part → Segments → Type 0
+ArePartsOf builder parts segs = ArePartsFor builder parts (segment_pieces segs)
+
+-- the parts stand for the selectors in brackets, of which there is one at least
+abbrev pub AreSelectorsOf : SyntaxBuilder → List Part → Selectors → Type 0
+AreSelectorsOf builder [] sels = ⊥
+AreSelectorsOf builder (part ∷ parts) sels = ArePartsFor builder (part ∷ parts) (selector_pieces sels)
+
+-- the parts stand for what is joined by `||`, of which there is one at least
+abbrev pub AreOrPartsOf : SyntaxBuilder → List Part → LogicalOr → Type 0
+AreOrPartsOf builder [] e = ⊥
+AreOrPartsOf builder (part ∷ parts) e = ArePartsFor builder (part ∷ parts) (or_pieces e)
+
+-- the parts stand for what is joined by `&&`, of which there is one at least
+abbrev pub AreAndPartsOf : SyntaxBuilder → List Part → LogicalAnd → Type 0
+AreAndPartsOf builder [] e = ⊥
+AreAndPartsOf builder (part ∷ parts) e = ArePartsFor builder (part ∷ parts) (and_pieces e)
+
+-- the parts stand for the arguments, one for each
+abbrev pub AreArgumentsOf : SyntaxBuilder → List Part → Arguments → Type 0
+AreArgumentsOf builder parts args = ArePartsFor builder parts (argument_pieces args)
+
+-- each part stays good, with its tree
+abbrev pub KeepsParts : SyntaxBuilder → SyntaxBuilder → Type 0
+KeepsParts old new = (part : Part) (piece : Piece) → IsPart old part piece → IsPart new part piece
+
+-- the number of a part, and the nodes of a finished query
+abbrev pub number_of : Part → ℕ
+number_of part = part.number
+
+abbrev pub nodes_in : Checked → List Node
+nodes_in checked = checked.nodes.items
+
+-- the names that a finished query calls, each with the signature under which it is well-typed
+abbrev pub signatures_of : Checked → List (List ℕ × Signature)
+signatures_of checked = used_view checked.used.items
+
+-- the tree of a finished query
+abbrev pub tree_of : Checked → Query
+tree_of checked = query_at checked.nodes.items checked.query

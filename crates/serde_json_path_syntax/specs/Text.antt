@@ -1,0 +1,140 @@
+-- The text in which a query is printed, as the bytes of its UTF-8.
+use Rattle.std.specs.Prelude.{ℕ, zero, suc, ◌*◌, ◌/◌, ◌%◌, ◌==◌, ℤ, pos, negsuc, List, [], ◌∷◌, ◌++◌, true, false, Option, Some, None, codes, if◌then◌else◌}
+use Rattle.std.specs.Fmt.{decimal, signed_decimal}
+use Rattle.std.specs.Char.{digit_char}
+use Rattle.serde_json_path_nodes.specs.Text.{quoted}
+use Rattle.serde_json_path_syntax.specs.Tree.{Query, query, QueryKind, root, current, Segments, no_segments, segment, SegmentKind, child, descendant, Segment, dot_name, dot_wildcard, long_hand, Selectors, no_selectors, selector, Selector, name, wildcard, index, slice, filter, Slice, LogicalOr, no_or, or, LogicalAnd, no_and, and, Basic, paren, not_paren, relation, exist, not_exist, test, not_test, Comparable, literal, singular, called, Call, call, Arguments, no_arguments, argument, Argument, literal_argument, query_argument, call_argument, logical_argument, Operator, equal, not_equal, less, less_or_equal, greater, greater_or_equal, Literal, text, number, truth, null}
+
+-- the digits of a fraction in billionths, up to the last that is not 0; a fraction has no more than nine
+abbrev pub fraction_digits : ℕ → ℕ → List ℕ
+fraction_digits zero rest = []
+fraction_digits (suc places) rest =
+    if rest == 0 then [] else (digit_char (rest / 100000000) ∷ fraction_digits places ((rest % 100000000) * 10))
+
+-- a point and the fraction's digits, unless it is 0
+abbrev pub fraction_text : ℕ → List ℕ
+fraction_text rest = if rest == 0 then [] else (codes "." ++ fraction_digits 9 rest)
+
+-- a number of billionths: its whole part in decimal, and its fraction
+abbrev pub amount_text : ℕ → List ℕ
+amount_text n = decimal (n / 1000000000) ++ fraction_text (n % 1000000000)
+
+abbrev pub number_text : ℤ → List ℕ
+number_text (pos n) = amount_text n
+number_text (negsuc n) = codes "-" ++ amount_text (suc n)
+
+abbrev pub literal_text : Literal → List ℕ
+literal_text (text t) = quoted t
+literal_text (number amount) = number_text amount
+literal_text (truth true) = codes "true"
+literal_text (truth false) = codes "false"
+literal_text null = codes "null"
+
+abbrev pub operator_text : Operator → List ℕ
+operator_text equal = codes "=="
+operator_text not_equal = codes "!="
+operator_text less = codes "<"
+operator_text less_or_equal = codes "<="
+operator_text greater = codes ">"
+operator_text greater_or_equal = codes ">="
+
+abbrev pub integer_text : Option ℤ → List ℕ
+integer_text None = []
+integer_text (Some i) = signed_decimal i
+
+-- a step that is there stands behind a second colon
+abbrev pub slice_step_text : Option ℤ → List ℕ
+slice_step_text None = []
+slice_step_text (Some i) = codes ":" ++ signed_decimal i
+
+abbrev pub slice_text : Slice → List ℕ
+slice_text s = ((integer_text s.start ++ codes ":") ++ integer_text s.end) ++ slice_step_text s.step
+
+abbrev pub query_kind_text : QueryKind → List ℕ
+query_kind_text root = codes "$"
+query_kind_text current = codes "@"
+
+-- what stands before a name or `*`, and what before a bracket
+abbrev pub dots_of : SegmentKind → List ℕ
+dots_of child = codes "."
+dots_of descendant = codes ".."
+
+abbrev pub bracket_dots_of : SegmentKind → List ℕ
+bracket_dots_of child = []
+bracket_dots_of descendant = codes ".."
+
+abbrev mutual
+  pub query_text : Query → List ℕ
+  query_text (query kind segs) = query_kind_text kind ++ segments_text segs
+
+  pub segments_text : Segments → List ℕ
+  segments_text no_segments = []
+  segments_text (segment kind seg more) = segment_text seg kind ++ segments_text more
+
+  pub segment_text : Segment → SegmentKind → List ℕ
+  segment_text (dot_name k) kind = dots_of kind ++ k
+  segment_text dot_wildcard kind = dots_of kind ++ codes "*"
+  segment_text (long_hand sels) kind = ((bracket_dots_of kind ++ codes "[") ++ selectors_text sels) ++ codes "]"
+
+  -- parts are joined by `, `, ` || ` and ` && `
+  pub selectors_text : Selectors → List ℕ
+  selectors_text no_selectors = []
+  selectors_text (selector sel more) = selector_text sel ++ more_selectors_text more
+
+  pub more_selectors_text : Selectors → List ℕ
+  more_selectors_text no_selectors = []
+  more_selectors_text (selector sel more) = (codes ", " ++ selector_text sel) ++ more_selectors_text more
+
+  pub selector_text : Selector → List ℕ
+  selector_text (name k) = quoted k
+  selector_text wildcard = codes "*"
+  selector_text (index i) = signed_decimal i
+  selector_text (slice s) = slice_text s
+  selector_text (filter e) = codes "?" ++ or_text e
+
+  pub or_text : LogicalOr → List ℕ
+  or_text no_or = []
+  or_text (or a more) = and_text a ++ more_or_text more
+
+  pub more_or_text : LogicalOr → List ℕ
+  more_or_text no_or = []
+  more_or_text (or a more) = (codes " || " ++ and_text a) ++ more_or_text more
+
+  pub and_text : LogicalAnd → List ℕ
+  and_text no_and = []
+  and_text (and b more) = basic_text b ++ more_and_text more
+
+  pub more_and_text : LogicalAnd → List ℕ
+  more_and_text no_and = []
+  more_and_text (and b more) = (codes " && " ++ basic_text b) ++ more_and_text more
+
+  pub basic_text : Basic → List ℕ
+  basic_text (paren e) = (codes "(" ++ or_text e) ++ codes ")"
+  basic_text (not_paren e) = (codes "!(" ++ or_text e) ++ codes ")"
+  basic_text (relation a op b) = (((comparable_text a ++ codes " ") ++ operator_text op) ++ codes " ") ++ comparable_text b
+  basic_text (exist q) = query_text q
+  basic_text (not_exist q) = codes "!" ++ query_text q
+  basic_text (test c) = call_text c
+  basic_text (not_test c) = codes "!" ++ call_text c
+
+  pub comparable_text : Comparable → List ℕ
+  comparable_text (literal l) = literal_text l
+  comparable_text (singular q) = query_text q
+  comparable_text (called c) = call_text c
+
+  pub call_text : Call → List ℕ
+  call_text (call f args) = ((f ++ codes "(") ++ arguments_text args) ++ codes ")"
+
+  pub arguments_text : Arguments → List ℕ
+  arguments_text no_arguments = []
+  arguments_text (argument a more) = argument_text a ++ more_arguments_text more
+
+  pub more_arguments_text : Arguments → List ℕ
+  more_arguments_text no_arguments = []
+  more_arguments_text (argument a more) = (codes ", " ++ argument_text a) ++ more_arguments_text more
+
+  pub argument_text : Argument → List ℕ
+  argument_text (literal_argument l) = literal_text l
+  argument_text (query_argument q) = query_text q
+  argument_text (call_argument c) = call_text c
+  argument_text (logical_argument e) = or_text e

@@ -1,0 +1,93 @@
+-- Well-typed queries (RFC 9535, section 2.4.3): each call names a declared function, has an argument for each parameter
+-- of a form that it takes, and stands where its result may stand.
+use Rattle.std.specs.Prelude.{◌≡◌, ℕ, ℤ, pos, ◌*ℤ◌, List, [], ◌∷◌, ◌⊎◌, Option, Some, option_map}
+use Rattle.serde_json_path_syntax.specs.Tree.{Query, query, Segments, no_segments, segment, Segment, dot_name, dot_wildcard, long_hand, Selectors, no_selectors, selector, Selector, name, wildcard, index, slice, filter, LogicalOr, no_or, or, LogicalAnd, no_and, and, Basic, paren, not_paren, relation, exist, not_exist, test, not_test, Comparable, literal, singular, called, Call, call, Arguments, no_arguments, argument, Argument, literal_argument, query_argument, call_argument, logical_argument, Literal, text, number, truth, null, IsSingular}
+use Rattle.serde_json_path_functions.specs.Functions.{Kind, of_value, of_nodes, of_logical, Signature}
+
+-- a literal that a parameter of type Value takes: by this project's own rule a number is whole
+abbrev pub IsValueLiteral : Literal → Type 0
+IsValueLiteral (number amount) = (whole : ℤ) × (amount ≡ (whole *ℤ pos 1000000000))
+IsValueLiteral (text t) = Unit {0}
+IsValueLiteral (truth b) = Unit {0}
+IsValueLiteral null = Unit {0}
+
+-- a result that may stand as a test
+abbrev pub IsTestKind : Option Kind → Type 0
+IsTestKind kind = (kind ≡ Some of_nodes) ⊎ (kind ≡ Some of_logical)
+
+module _ (signature : List ℕ → Option Signature) where
+  -- the type of a call's result
+  abbrev pub result_kind : Call → Option Kind
+  result_kind (call f args) = option_map (λ (s : Signature). s.result) (signature f)
+
+  -- a parameter takes a call's result: one of its own type, and for a truth value a node list too
+  abbrev pub TakesResult : Kind → Option Kind → Type 0
+  TakesResult of_value kind = kind ≡ Some of_value
+  TakesResult of_nodes kind = kind ≡ Some of_nodes
+  TakesResult of_logical kind = IsTestKind kind
+
+  abbrev mutual
+    pub IsTyped : Query → Type 0
+    IsTyped (query kind segs) = AreTypedSegments segs
+
+    pub AreTypedSegments : Segments → Type 0
+    AreTypedSegments no_segments = Unit {0}
+    AreTypedSegments (segment kind seg more) = IsTypedSegment seg × AreTypedSegments more
+
+    pub IsTypedSegment : Segment → Type 0
+    IsTypedSegment (dot_name k) = Unit {0}
+    IsTypedSegment dot_wildcard = Unit {0}
+    IsTypedSegment (long_hand sels) = AreTypedSelectors sels
+
+    pub AreTypedSelectors : Selectors → Type 0
+    AreTypedSelectors no_selectors = Unit {0}
+    AreTypedSelectors (selector sel more) = IsTypedSelector sel × AreTypedSelectors more
+
+    pub IsTypedSelector : Selector → Type 0
+    IsTypedSelector (filter e) = IsTypedOr e
+    IsTypedSelector (name k) = Unit {0}
+    IsTypedSelector wildcard = Unit {0}
+    IsTypedSelector (index i) = Unit {0}
+    IsTypedSelector (slice s) = Unit {0}
+
+    pub IsTypedOr : LogicalOr → Type 0
+    IsTypedOr no_or = Unit {0}
+    IsTypedOr (or a more) = IsTypedAnd a × IsTypedOr more
+
+    pub IsTypedAnd : LogicalAnd → Type 0
+    IsTypedAnd no_and = Unit {0}
+    IsTypedAnd (and b more) = IsTypedBasic b × IsTypedAnd more
+
+    -- a call as a test has a node list or a truth value as its result
+    pub IsTypedBasic : Basic → Type 0
+    IsTypedBasic (paren e) = IsTypedOr e
+    IsTypedBasic (not_paren e) = IsTypedOr e
+    IsTypedBasic (relation a op b) = IsTypedComparable a × IsTypedComparable b
+    IsTypedBasic (exist q) = IsTyped q
+    IsTypedBasic (not_exist q) = IsTyped q
+    IsTypedBasic (test c) = IsTypedCall c × IsTestKind (result_kind c)
+    IsTypedBasic (not_test c) = IsTypedCall c × IsTestKind (result_kind c)
+
+    -- a call in a comparison has a value as its result
+    pub IsTypedComparable : Comparable → Type 0
+    IsTypedComparable (literal l) = Unit {0}
+    IsTypedComparable (singular q) = IsTyped q
+    IsTypedComparable (called c) = IsTypedCall c × (result_kind c ≡ Some of_value)
+
+    pub IsTypedCall : Call → Type 0
+    IsTypedCall (call f args) = (s : Signature) × (signature f ≡ Some s) × AreTypedArguments args s.params
+
+    -- an argument for each parameter
+    pub AreTypedArguments : Arguments → List Kind → Type 0
+    AreTypedArguments no_arguments kinds = kinds ≡ []
+    AreTypedArguments (argument a more) [] = ⊥
+    AreTypedArguments (argument a more) (kind ∷ kinds) = IsTypedArgument a kind × AreTypedArguments more kinds
+
+    pub IsTypedArgument : Argument → Kind → Type 0
+    IsTypedArgument (literal_argument l) of_value = IsValueLiteral l
+    IsTypedArgument (literal_argument l) _ = ⊥
+    IsTypedArgument (query_argument q) of_value = IsTyped q × IsSingular q
+    IsTypedArgument (query_argument q) _ = IsTyped q
+    IsTypedArgument (call_argument c) kind = IsTypedCall c × TakesResult kind (result_kind c)
+    IsTypedArgument (logical_argument e) of_logical = IsTypedOr e
+    IsTypedArgument (logical_argument e) _ = ⊥

@@ -1,0 +1,384 @@
+//! Making syntax trees.
+
+ghost use Rattle.serde_json_path_syntax.specs.Flat.{IsGrown};
+
+use crate::checked::Checked;
+use crate::literal::Literal;
+use crate::node::{
+    Argument, Basic, Comparable, Node, Part, QueryKind, Segment, SegmentKind, Selector,
+};
+use crate::operator::ComparisonOperator;
+use crate::parts::Parts;
+use crate::signatures::{Form, calls_nothing, note_calls};
+use crate::singular::is_singular;
+use crate::slice::Slice;
+use serde_json::Value;
+use serde_json_path_functions::{Functions, Signature};
+use std::alloc::{AllocError, Global};
+
+/// Makes the parts of a syntax tree, each out of finished ones.
+///
+/// A part is good for the builder that made it, and stays good, with its tree, over every further call, refused or
+/// not. A call is refused only where memory is.
+#[derive(Drop)]
+pub struct SyntaxBuilder {
+    nodes: Vec<Node>,
+    ghost grown: { IsGrown nodes.items },
+}
+
+impl SyntaxBuilder {
+    ghost use Rattle.std.specs.Prelude.{◌≡◌, ◌↔◌, IfOk, IsTrue, string_bytes, length};
+    ghost use Rattle.serde_json_path_syntax.specs.Tree as tree;
+    ghost use Rattle.serde_json_path_syntax.specs.Literals.{literal_view, operator_view};
+    ghost use Rattle.serde_json_path_syntax.specs.Piece.{a_query, a_segment, a_selector, an_or, an_and, a_basic, a_comparable, a_call, an_argument};
+    ghost use Rattle.serde_json_path_syntax.specs.WellFormed.{IsOptionalInteger};
+    ghost use Rattle.serde_json_path_syntax.specs.Flat.{kind_view, segment_kind_view, NamesBelow, parts_in, piece_of, pieces};
+    ghost use Rattle.serde_json_path_syntax.specs.SliceView.{slice_view};
+    ghost use Rattle.serde_json_path_syntax.specs.Parts.{HasNoParts, IsPart, ArePartsOf, AreSelectorsOf, AreOrPartsOf, AreAndPartsOf, AreArgumentsOf, KeepsParts, tree_of, signatures_of};
+    ghost use Rattle.serde_json_path_syntax.specs.Typing.{IsTyped};
+    ghost use Rattle.serde_json_path_syntax.specs.Used.{AreCalled, MayFinish, signature_in, used_view};
+    ghost use Rattle.serde_json_path_functions.specs.Functions.{Fits};
+
+    /// A builder that has made no part yet. Takes no memory.
+    pub fn new(alloc: Global) -> SyntaxBuilder
+        ensures empty { HasNoParts result }
+    {
+        SyntaxBuilder {
+            nodes: Vec::new(alloc),
+        }
+    }
+
+    /// One node more, which names parts that are good.
+    // Within its callers a node is written into its place at once.
+    #[inline(always)]
+    fn push(&mut self, node: Node) -> Result<Part, AllocError>
+        requires { NamesBelow (length self.old.nodes.items) node }
+        ensures made { IfOk result (λ part. IsPart self.new part (piece_of (pieces self.old.nodes.items) node)) }
+        ensures keeps { KeepsParts self.old self.new }
+    {
+        let number = self.nodes.len();
+        self.nodes.push(node)?;
+        Ok(Part { number })
+    }
+
+    /// The segment `.name`.
+    pub fn dot_name(&mut self, kind: SegmentKind, name: String) -> Result<Part, AllocError>
+        ensures made { IfOk result (λ part. IsPart self.new part (a_segment (segment_kind_view kind) (tree.dot_name (string_bytes name)))) }
+        ensures keeps { KeepsParts self.old self.new }
+    {
+        self.push(Node::Segment {
+            kind,
+            segment: Segment::DotName(name),
+        })
+    }
+
+    /// The segment `.*`.
+    pub fn dot_wildcard(&mut self, kind: SegmentKind) -> Result<Part, AllocError>
+        ensures made { IfOk result (λ part. IsPart self.new part (a_segment (segment_kind_view kind) tree.dot_wildcard)) }
+        ensures keeps { KeepsParts self.old self.new }
+    {
+        self.push(Node::Segment {
+            kind,
+            segment: Segment::DotWildcard,
+        })
+    }
+
+    /// The segment of these selectors in brackets, in order, of which there is one at least.
+    pub fn long_hand(&mut self, kind: SegmentKind, selectors: Parts) -> Result<Part, AllocError>
+        requires { (sels : tree.Selectors) × AreSelectorsOf self.old (parts_in selectors) sels }
+        ensures made { IfOk result (λ part. (sels : tree.Selectors) → AreSelectorsOf self.old (parts_in selectors) sels
+            → IsPart self.new part (a_segment (segment_kind_view kind) (tree.long_hand sels))) }
+        ensures keeps { KeepsParts self.old self.new }
+    {
+        self.push(Node::Segment {
+            kind,
+            segment: Segment::LongHand(selectors),
+        })
+    }
+
+    /// A name selector in brackets.
+    pub fn name(&mut self, name: String) -> Result<Part, AllocError>
+        ensures made { IfOk result (λ part. IsPart self.new part (a_selector (tree.name (string_bytes name)))) }
+        ensures keeps { KeepsParts self.old self.new }
+    {
+        self.push(Node::Selector(Selector::Name(name)))
+    }
+
+    /// A wildcard selector in brackets.
+    pub fn wildcard(&mut self) -> Result<Part, AllocError>
+        ensures made { IfOk result (λ part. IsPart self.new part (a_selector tree.wildcard)) }
+        ensures keeps { KeepsParts self.old self.new }
+    {
+        self.push(Node::Selector(Selector::Wildcard))
+    }
+
+    /// An index selector, of -(2^53 - 1) to 2^53 - 1.
+    pub fn index(&mut self, index: i64) -> Result<Part, AllocError>
+        requires { tree.IsInteger index }
+        ensures made { IfOk result (λ part. IsPart self.new part (a_selector (tree.index index))) }
+        ensures keeps { KeepsParts self.old self.new }
+    {
+        self.push(Node::Selector(Selector::Index(index)))
+    }
+
+    /// A slice selector, whose parts are of -(2^53 - 1) to 2^53 - 1.
+    pub fn slice(&mut self, slice: Slice) -> Result<Part, AllocError>
+        requires start { IsOptionalInteger slice.start }
+        requires end { IsOptionalInteger slice.end }
+        requires step { IsOptionalInteger slice.step }
+        ensures made { IfOk result (λ part. IsPart self.new part (a_selector (tree.slice (slice_view slice)))) }
+        ensures keeps { KeepsParts self.old self.new }
+    {
+        self.push(Node::Selector(Selector::Slice(slice)))
+    }
+
+    /// A filter selector `?`, of the children for which a logical expression holds (RFC 9535, section 2.3.5).
+    pub fn filter(&mut self, test: Part) -> Result<Part, AllocError>
+        requires { (e : tree.LogicalOr) × IsPart self.old test (an_or e) }
+        ensures made { IfOk result (λ part. (e : tree.LogicalOr) → IsPart self.old test (an_or e)
+            → IsPart self.new part (a_selector (tree.filter e))) }
+        ensures keeps { KeepsParts self.old self.new }
+    {
+        self.push(Node::Selector(Selector::Filter(test)))
+    }
+
+    /// The logical expression of these parts, in order, with `||` between them (RFC 9535, section 2.3.5.1). There is
+    /// one at least.
+    pub fn logical_or(&mut self, parts: Parts) -> Result<Part, AllocError>
+        requires { (e : tree.LogicalOr) × AreOrPartsOf self.old (parts_in parts) e }
+        ensures made { IfOk result (λ part. (e : tree.LogicalOr) → AreOrPartsOf self.old (parts_in parts) e
+            → IsPart self.new part (an_or e)) }
+        ensures keeps { KeepsParts self.old self.new }
+    {
+        self.push(Node::LogicalOr(parts))
+    }
+
+    /// The part of a logical expression with `&&` between these parts, in order (RFC 9535, section 2.3.5.1). There is
+    /// one at least.
+    pub fn logical_and(&mut self, parts: Parts) -> Result<Part, AllocError>
+        requires { (e : tree.LogicalAnd) × AreAndPartsOf self.old (parts_in parts) e }
+        ensures made { IfOk result (λ part. (e : tree.LogicalAnd) → AreAndPartsOf self.old (parts_in parts) e
+            → IsPart self.new part (an_and e)) }
+        ensures keeps { KeepsParts self.old self.new }
+    {
+        self.push(Node::LogicalAnd(parts))
+    }
+
+    /// A logical expression in parentheses, as `(@.a || @.b)` (RFC 9535, section 2.3.5.1).
+    pub fn paren(&mut self, inner: Part) -> Result<Part, AllocError>
+        requires { (e : tree.LogicalOr) × IsPart self.old inner (an_or e) }
+        ensures made { IfOk result (λ part. (e : tree.LogicalOr) → IsPart self.old inner (an_or e)
+            → IsPart self.new part (a_basic (tree.paren e))) }
+        ensures keeps { KeepsParts self.old self.new }
+    {
+        self.push(Node::Basic(Basic::Paren(inner)))
+    }
+
+    /// A logical expression in parentheses behind `!`, as `!(@.a || @.b)` (RFC 9535, section 2.3.5.1).
+    pub fn not_paren(&mut self, inner: Part) -> Result<Part, AllocError>
+        requires { (e : tree.LogicalOr) × IsPart self.old inner (an_or e) }
+        ensures made { IfOk result (λ part. (e : tree.LogicalOr) → IsPart self.old inner (an_or e)
+            → IsPart self.new part (a_basic (tree.not_paren e))) }
+        ensures keeps { KeepsParts self.old self.new }
+    {
+        self.push(Node::Basic(Basic::NotParen(inner)))
+    }
+
+    /// The test whether a query selects a node, as `@.a` (RFC 9535, section 2.3.5.1).
+    pub fn exist(&mut self, query: Part) -> Result<Part, AllocError>
+        requires { (q : tree.Query) × IsPart self.old query (a_query q) }
+        ensures made { IfOk result (λ part. (q : tree.Query) → IsPart self.old query (a_query q)
+            → IsPart self.new part (a_basic (tree.exist q))) }
+        ensures keeps { KeepsParts self.old self.new }
+    {
+        self.push(Node::Basic(Basic::Exist(query)))
+    }
+
+    /// The test whether a query selects no node, as `!@.a` (RFC 9535, section 2.3.5.1).
+    pub fn not_exist(&mut self, query: Part) -> Result<Part, AllocError>
+        requires { (q : tree.Query) × IsPart self.old query (a_query q) }
+        ensures made { IfOk result (λ part. (q : tree.Query) → IsPart self.old query (a_query q)
+            → IsPart self.new part (a_basic (tree.not_exist q))) }
+        ensures keeps { KeepsParts self.old self.new }
+    {
+        self.push(Node::Basic(Basic::NotExist(query)))
+    }
+
+    /// A comparison, as `@.a < 1` (RFC 9535, section 2.3.5.1).
+    pub fn relation(
+        &mut self,
+        left: Part,
+        operator: ComparisonOperator,
+        right: Part,
+    ) -> Result<Part, AllocError>
+        requires left { (a : tree.Comparable) × IsPart self.old left (a_comparable a) }
+        requires right { (b : tree.Comparable) × IsPart self.old right (a_comparable b) }
+        ensures made { IfOk result (λ part. (a b : tree.Comparable) → IsPart self.old left (a_comparable a) → IsPart self.old right (a_comparable b)
+            → IsPart self.new part (a_basic (tree.relation a (operator_view operator) b))) }
+        ensures keeps { KeepsParts self.old self.new }
+    {
+        self.push(Node::Basic(Basic::Relation {
+            left,
+            operator,
+            right,
+        }))
+    }
+
+    /// A literal as a side of a comparison (RFC 9535, section 2.3.5.1).
+    pub fn literal(&mut self, literal: Literal) -> Result<Part, AllocError>
+        ensures made { IfOk result (λ part. IsPart self.new part (a_comparable (tree.literal (literal_view literal)))) }
+        ensures keeps { KeepsParts self.old self.new }
+    {
+        self.push(Node::Comparable(Comparable::Literal(literal)))
+    }
+
+    /// A singular query as a side of a comparison, as `@.a[0]` (RFC 9535, section 2.3.5.1).
+    pub fn singular(&mut self, query: Part) -> Result<Part, AllocError>
+        requires { (q : tree.Query) × IsPart self.old query (a_query q) × tree.IsSingular q }
+        ensures made { IfOk result (λ part. (q : tree.Query) → IsPart self.old query (a_query q)
+            → IsPart self.new part (a_comparable (tree.singular q))) }
+        ensures keeps { KeepsParts self.old self.new }
+    {
+        self.push(Node::Comparable(Comparable::Singular(query)))
+    }
+
+    /// Whether the part is a singular query: child segments alone, each a member name or a bracket with one name or one
+    /// index (RFC 9535, section 2.3.5.1). Takes no memory.
+    pub fn is_singular(&self, query: Part) -> bool
+        requires { (q : tree.Query) × IsPart self.now query (a_query q) }
+        ensures { (q : tree.Query) → IsPart self.now query (a_query q) → IsTrue result ↔ tree.IsSingular q }
+    {
+        is_singular(self.nodes.as_slice(), query)
+    }
+
+    /// A call as a side of a comparison, as `length(@.a)` (RFC 9535, section 2.3.5.1).
+    pub fn called(&mut self, call: Part) -> Result<Part, AllocError>
+        requires { (c : tree.Call) × IsPart self.old call (a_call c) }
+        ensures made { IfOk result (λ part. (c : tree.Call) → IsPart self.old call (a_call c)
+            → IsPart self.new part (a_comparable (tree.called c))) }
+        ensures keeps { KeepsParts self.old self.new }
+    {
+        self.push(Node::Comparable(Comparable::Called(call)))
+    }
+
+    /// The test of a call's answer, as `match(@.a, 'b')` (RFC 9535, section 2.4.2).
+    pub fn test(&mut self, call: Part) -> Result<Part, AllocError>
+        requires { (c : tree.Call) × IsPart self.old call (a_call c) }
+        ensures made { IfOk result (λ part. (c : tree.Call) → IsPart self.old call (a_call c)
+            → IsPart self.new part (a_basic (tree.test c))) }
+        ensures keeps { KeepsParts self.old self.new }
+    {
+        self.push(Node::Basic(Basic::Test(call)))
+    }
+
+    /// The test of a call's answer behind `!`, as `!match(@.a, 'b')` (RFC 9535, section 2.4.2).
+    pub fn not_test(&mut self, call: Part) -> Result<Part, AllocError>
+        requires { (c : tree.Call) × IsPart self.old call (a_call c) }
+        ensures made { IfOk result (λ part. (c : tree.Call) → IsPart self.old call (a_call c)
+            → IsPart self.new part (a_basic (tree.not_test c))) }
+        ensures keeps { KeepsParts self.old self.new }
+    {
+        self.push(Node::Basic(Basic::NotTest(call)))
+    }
+
+    /// A call of the function of that name with these arguments, in order (RFC 9535, section 2.4).
+    pub fn call(&mut self, name: String, arguments: Vec<Part>) -> Result<Part, AllocError>
+        requires { (args : tree.Arguments) × AreArgumentsOf self.old arguments.items args }
+        ensures made { IfOk result (λ part. (args : tree.Arguments) → AreArgumentsOf self.old arguments.items args
+            → IsPart self.new part (a_call (tree.call (string_bytes name) args))) }
+        ensures keeps { KeepsParts self.old self.new }
+    {
+        self.push(Node::Call { name, arguments })
+    }
+
+    /// A literal as an argument (RFC 9535, section 2.4).
+    pub fn literal_argument(&mut self, literal: Literal) -> Result<Part, AllocError>
+        ensures made { IfOk result (λ part. IsPart self.new part (an_argument (tree.literal_argument (literal_view literal)))) }
+        ensures keeps { KeepsParts self.old self.new }
+    {
+        let argument = match literal {
+            Literal::String(text) => Argument::Value(Value::String(text)),
+            Literal::Number(number) => Argument::Number(number),
+            Literal::Bool(truth) => Argument::Value(Value::Bool(truth)),
+            Literal::Null => Argument::Value(Value::Null),
+        };
+        self.push(Node::Argument(argument))
+    }
+
+    /// A query as an argument (RFC 9535, section 2.4).
+    pub fn query_argument(&mut self, query: Part) -> Result<Part, AllocError>
+        requires { (q : tree.Query) × IsPart self.old query (a_query q) }
+        ensures made { IfOk result (λ part. (q : tree.Query) → IsPart self.old query (a_query q)
+            → IsPart self.new part (an_argument (tree.query_argument q))) }
+        ensures keeps { KeepsParts self.old self.new }
+    {
+        self.push(Node::Argument(Argument::Query(query)))
+    }
+
+    /// A call as an argument (RFC 9535, section 2.4).
+    pub fn call_argument(&mut self, call: Part) -> Result<Part, AllocError>
+        requires { (c : tree.Call) × IsPart self.old call (a_call c) }
+        ensures made { IfOk result (λ part. (c : tree.Call) → IsPart self.old call (a_call c)
+            → IsPart self.new part (an_argument (tree.call_argument c))) }
+        ensures keeps { KeepsParts self.old self.new }
+    {
+        self.push(Node::Argument(Argument::Call(call)))
+    }
+
+    /// A logical expression as an argument (RFC 9535, section 2.4).
+    pub fn logical_argument(&mut self, expression: Part) -> Result<Part, AllocError>
+        requires { (e : tree.LogicalOr) × IsPart self.old expression (an_or e) }
+        ensures made { IfOk result (λ part. (e : tree.LogicalOr) → IsPart self.old expression (an_or e)
+            → IsPart self.new part (an_argument (tree.logical_argument e))) }
+        ensures keeps { KeepsParts self.old self.new }
+    {
+        self.push(Node::Argument(Argument::Logical(expression)))
+    }
+
+    /// A query of these segments, in order.
+    pub fn query(&mut self, kind: QueryKind, segments: Parts) -> Result<Part, AllocError>
+        requires { (segs : tree.Segments) × ArePartsOf self.old (parts_in segments) segs }
+        ensures made { IfOk result (λ part. (segs : tree.Segments) → ArePartsOf self.old (parts_in segments) segs
+            → IsPart self.new part (a_query (tree.query (kind_view kind) segs))) }
+        ensures keeps { KeepsParts self.old self.new }
+    {
+        self.push(Node::Query { kind, segments })
+    }
+
+    /// The names that the query of that part calls, each once, with their signatures in this set, for
+    /// [`finish`](SyntaxBuilder::finish) (RFC 9535, section 2.4.3).
+    ///
+    /// It is refused only where memory is.
+    pub fn signatures<F: Functions>(
+        &self,
+        alloc: Global,
+        query: Part,
+        functions: &F,
+    ) -> Result<Vec<(String, Signature)>, AllocError>
+        requires { (q : tree.Query) × IsPart self.now query (a_query q) × IsTyped (F.set functions.now).signature q }
+        ensures typed { IfOk result (λ used. (q : tree.Query) → IsPart self.now query (a_query q) → IsTyped (signature_in (used_view used.items)) q) }
+        ensures called { IfOk result (λ used. (q : tree.Query) → IsPart self.now query (a_query q) → AreCalled (used_view used.items) q) }
+        ensures fits { IfOk result (λ used. Fits (F.set functions.now) (used_view used.items)) }
+    {
+        let mut used = Vec::new(alloc);
+        let nodes = self.nodes.as_slice();
+        if calls_nothing(nodes) {
+            return Ok(used);
+        }
+        note_calls(alloc, nodes, Form::Query, query, functions, &mut used)?;
+        Ok(used)
+    }
+
+    /// The finished tree, which is that of the part. Takes no memory.
+    ///
+    /// `used` has the names that the query calls, each once, with the signatures under which it is well-typed
+    /// (RFC 9535, section 2.4.3). The query begins at the root, and at most 128 filters, parentheses and calls stand
+    /// within each other.
+    pub fn finish(self, part: Part, used: Vec<(String, Signature)>) -> Checked
+        requires { (q : tree.Query) × IsPart self part (a_query q) × MayFinish (used_view used.items) q }
+        ensures tree { (q : tree.Query) → IsPart self part (a_query q) → tree_of result ≡ q }
+        ensures used { signatures_of result ≡ used_view used.items }
+    {
+        Checked::of(self.nodes, part, used)
+    }
+}

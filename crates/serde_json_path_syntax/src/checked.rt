@@ -1,0 +1,233 @@
+//! Finished syntax trees.
+
+ghost use Rattle.std.specs.Prelude.{◌<◌, ◌≤◌, ◌≡◌, IfSome, ◌+◌, ◌^◌, [], ◌∷◌, IsSome, length, option_map, slice_get};
+ghost use Rattle.std.specs.Option.{ForSome};
+ghost use Rattle.serde_json_path_syntax.specs.Tree.{kind_of, root};
+ghost use Rattle.serde_json_path_syntax.specs.Typing.{IsTyped};
+ghost use Rattle.serde_json_path_syntax.specs.Depth.{depth};
+ghost use Rattle.serde_json_path_syntax.specs.Used.{deepest, signature_in, used_view};
+ghost use Rattle.serde_json_path_syntax.specs.Flat.{IsGrown, query_at};
+ghost use Rattle.serde_json_path_syntax.specs.Stages.{choice_view, stage_at};
+
+use crate::choice::Choice;
+use crate::node::{Node, Part, QueryKind, Segment, SegmentKind, Selector};
+use crate::reading::{and_parts, arguments, called_name, node_at, or_parts, query_segments};
+use crate::signatures::declares_each;
+use serde_json_path_functions::{Functions, Signature};
+use std::alloc::Global;
+
+/// A well-typed query from the document's root.
+///
+/// Contracts see it as its syntax tree and the signatures of the functions that it calls.
+#[derive(Drop)]
+pub struct Checked {
+    pub(crate) nodes: Vec<Node>,
+    pub(crate) query: Option<Part>,
+    pub(crate) used: Vec<(String, Signature)>,
+    ghost grown: { IsGrown nodes.items },
+    ghost within: { ForSome query (λ part. part.number < length nodes.items) },
+    pub ghost rooted: { kind_of (query_at nodes.items query) ≡ root },
+    pub ghost typed: { ∥ IsTyped (signature_in (used_view used.items)) (query_at nodes.items query) ∥₁ },
+    ghost shallow: { depth (query_at nodes.items query) ≤ deepest },
+}
+
+impl Checked {
+    ghost use Rattle.std.specs.List.{All};
+    ghost use Rattle.std.specs.Prelude.{◌↔◌, IsTrue};
+    ghost use Rattle.serde_json_path_syntax.specs.Tree.{query, no_segments, segments_of};
+    ghost use Rattle.serde_json_path_functions.specs.Functions.{Fits};
+    ghost use Rattle.serde_json_path_syntax.specs.Calls.{arguments_of, name_of};
+    ghost use Rattle.serde_json_path_syntax.specs.Used.{MayFinish};
+    ghost use Rattle.serde_json_path_syntax.specs.Flat.{or_at, ors_in, and_at, ands_in, call_at, arguments_in, part_query, kind_view, segment_kind_view, query_in, selector_in, selectors_in, piece_at, piece_of, pieces, pieces_named, segments_at, NamesBelow};
+    ghost use Rattle.serde_json_path_syntax.specs.Stages.{selectors_list};
+    ghost use Rattle.serde_json_path_syntax.specs.Parts.{nodes_in, number_of, tree_of, signatures_of};
+    ghost use Rattle.serde_json_path_syntax.specs.PartBounds.{parts_bound, choice_bound};
+
+    /// The query `$` without segments. Takes no memory.
+    pub fn new(alloc: Global) -> Checked
+        ensures tree { tree_of result ≡ query root no_segments }
+        ensures used { signatures_of result ≡ [] }
+    {
+        Checked {
+            nodes: Vec::new(alloc),
+            query: None,
+            used: Vec::new(alloc),
+        }
+    }
+
+    /// The tree of that part.
+    pub(crate) fn of(nodes: Vec<Node>, part: Part, used: Vec<(String, Signature)>) -> Checked
+        requires grown { IsGrown nodes.items }
+        requires within { part.number < length nodes.items }
+        requires complete { MayFinish (used_view used.items) (query_in (piece_at nodes.items part.number)) }
+        ensures tree { tree_of result ≡ query_in (piece_at nodes.items part.number) }
+        ensures used { signatures_of result ≡ used_view used.items }
+    {
+        Checked {
+            nodes,
+            query: Some(part),
+            used,
+        }
+    }
+
+    /// Whether the set declares each function that the query calls, with the signature under which the query is
+    /// well-typed (RFC 9535, section 2.4.3). Takes no memory.
+    pub fn fits<F: Functions>(&self, functions: &F) -> bool
+        ensures { IsTrue result ↔ Fits (F.set functions.now) (signatures_of self.now) }
+    {
+        declares_each(functions, self.used.as_slice())
+    }
+
+    /// The node of a part.
+    pub fn node(&self, part: Part) -> &Node
+        requires { number_of part < length (nodes_in self.now) }
+        ensures piece { piece_at (nodes_in self.now) (number_of part) ≡ piece_of (pieces (nodes_in self.now)) result.now }
+        ensures below { NamesBelow (number_of part) result.now }
+    {
+        node_at(self.nodes.as_slice(), part)
+    }
+
+    /// Where the query begins.
+    pub fn kind(&self) -> QueryKind
+        ensures { kind_view result ≡ kind_of (tree_of self.now) }
+    {
+        match self.query {
+            None => QueryKind::Root,
+            Some(part) => self.part_kind(part),
+        }
+    }
+
+    /// The query's segments, in order.
+    pub fn segments(&self) -> &[Part]
+        ensures tree { segments_at (nodes_in self.now) result.now ≡ segments_of (tree_of self.now) }
+        ensures within { parts_bound result.now ≤ length (nodes_in self.now) }
+    {
+        match self.query {
+            None => &[],
+            Some(part) => self.part_segments(part),
+        }
+    }
+
+    /// Where the query of a part begins.
+    pub fn part_kind(&self, query: Part) -> QueryKind
+        requires { number_of query < length (nodes_in self.now) }
+        ensures { kind_view result ≡ kind_of (part_query (nodes_in self.now) query) }
+    {
+        match self.node(query) {
+            Node::Query { kind, .. } => *kind,
+            _ => QueryKind::Root,
+        }
+    }
+
+    /// The segments of the query of a part, in order.
+    pub fn part_segments(&self, query: Part) -> &[Part]
+        requires { number_of query < length (nodes_in self.now) }
+        ensures tree { segments_at (nodes_in self.now) result.now ≡ segments_of (part_query (nodes_in self.now) query) }
+        ensures below { parts_bound result.now ≤ number_of query }
+    {
+        query_segments(self.nodes.as_slice(), query)
+    }
+
+    /// What a logical expression is joined of by `||`.
+    pub fn or_parts(&self, expression: Part) -> &[Part]
+        requires { number_of expression < length (nodes_in self.now) }
+        ensures tree { or_at (nodes_in self.now) expression ≡ ors_in (pieces_named (pieces (nodes_in self.now)) result.now) }
+        ensures below { parts_bound result.now ≤ number_of expression }
+    {
+        or_parts(self.nodes.as_slice(), expression)
+    }
+
+    /// What a part of a logical expression is joined of by `&&`.
+    pub fn and_parts(&self, expression: Part) -> &[Part]
+        requires { number_of expression < length (nodes_in self.now) }
+        ensures tree { and_at (nodes_in self.now) expression ≡ ands_in (pieces_named (pieces (nodes_in self.now)) result.now) }
+        ensures below { parts_bound result.now ≤ number_of expression }
+    {
+        and_parts(self.nodes.as_slice(), expression)
+    }
+
+    /// The name that a call calls.
+    pub fn called_name(&self, call: Part) -> &str
+        requires { number_of call < length (nodes_in self.now) }
+        ensures { result.now ≡ name_of (call_at (nodes_in self.now) call) }
+    {
+        called_name(self.nodes.as_slice(), call)
+    }
+
+    /// The arguments of a call, in order.
+    pub fn arguments(&self, call: Part) -> &[Part]
+        requires { number_of call < length (nodes_in self.now) }
+        ensures tree { arguments_of (call_at (nodes_in self.now) call) ≡ arguments_in (pieces_named (pieces (nodes_in self.now)) result.now) }
+        ensures below { parts_bound result.now ≤ number_of call }
+    {
+        arguments(self.nodes.as_slice(), call)
+    }
+
+    /// How far a segment goes down.
+    pub fn segment_kind(&self, segment: Part) -> SegmentKind
+        requires { number_of segment < length (nodes_in self.now) }
+        ensures { segment_kind_view result ≡ (stage_at (nodes_in self.now) segment).kind }
+    {
+        match self.node(segment) {
+            Node::Segment { kind, .. } => *kind,
+            _ => SegmentKind::Child,
+        }
+    }
+
+    /// The selector in brackets of that part.
+    fn selector(&self, part: Part) -> Choice<'_>
+        requires { part.number < length self.now.nodes.items }
+        ensures choice { choice_view self.now.nodes.items result ≡ selector_in (piece_at self.now.nodes.items part.number) }
+        ensures below { choice_bound result ≤ part.number }
+    {
+        match self.node(part) {
+            Node::Selector(selector) => match selector {
+                Selector::Name(name) => Choice::Name(name.as_str()),
+                Selector::Wildcard => Choice::Wildcard,
+                Selector::Index(index) => Choice::Index(*index),
+                Selector::Slice(slice) => Choice::Slice(*slice),
+                Selector::Filter(test) => Choice::Filter(*test),
+            },
+            _ => Choice::Wildcard,
+        }
+    }
+
+    /// The selector of that number among those in brackets, from 0.
+    fn bracketed(&self, selectors: &[Part], number: usize) -> Option<Choice<'_>>
+        requires { parts_bound selectors.now ≤ length self.now.nodes.items }
+        ensures more { IsSome result → number + 1 < 2 ^ 64 }
+        ensures below { IfSome result (λ choice. choice_bound choice ≤ parts_bound selectors.now) }
+        ensures choice { option_map (choice_view self.now.nodes.items) result ≡ slice_get (selectors_list (selectors_in (pieces_named (pieces self.now.nodes.items) selectors.now))) number }
+    {
+        match selectors.get(number) {
+            Some(part) => Some(self.selector(*part)),
+            None => None,
+        }
+    }
+
+    /// The selector of that number in a segment, from 0.
+    pub fn choice(&self, segment: Part, number: usize) -> Option<Choice<'_>>
+        requires { number_of segment < length (nodes_in self.now) }
+        ensures more { IsSome result → number + 1 < 2 ^ 64 }
+        ensures below { IfSome result (λ choice. choice_bound choice ≤ number_of segment) }
+        ensures choice { option_map (choice_view (nodes_in self.now)) result ≡ slice_get (stage_at (nodes_in self.now) segment).selectors number }
+    {
+        match self.node(segment) {
+            Node::Segment { segment, .. } => match segment {
+                Segment::DotName(name) => only(Choice::Name(name.as_str()), number),
+                Segment::DotWildcard => only(Choice::Wildcard, number),
+                Segment::LongHand(selectors) => self.bracketed(selectors.as_slice(), number),
+            },
+            _ => None,
+        }
+    }
+}
+
+/// The selector of that number where there is but one.
+fn only<'q>(choice: Choice<'q>, number: usize) -> Option<Choice<'q>>
+    ensures same { IfSome result (λ given. given ≡ choice.entry) }
+    ensures more { IsSome result → number + 1 < 2 ^ 64 }
+    ensures choice { result ≡ slice_get (choice.entry ∷ []) number }
+{
+    if number == 0 { Some(choice) } else { None }
+}

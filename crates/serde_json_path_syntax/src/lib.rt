@@ -1,0 +1,25 @@
+//! Syntax trees of JSONPath queries (RFC 9535), kept as one vector of nodes.
+#![tactic(auto)]
+
+mod builder;
+mod checked;
+mod choice;
+mod literal;
+mod node;
+mod operator;
+mod parts;
+mod reading;
+mod signatures;
+mod singular;
+mod slice;
+
+pub use builder::SyntaxBuilder;
+pub use checked::Checked;
+pub use choice::Choice;
+pub use literal::{Literal, NumberLiteral};
+pub use node::{
+    Argument, Basic, Comparable, Node, Part, QueryKind, Segment, SegmentKind, Selector,
+};
+pub use operator::ComparisonOperator;
+pub use parts::Parts;
+pub use slice::Slice;

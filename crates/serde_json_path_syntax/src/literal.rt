@@ -1,0 +1,90 @@
+//! Literals of filters (RFC 9535, section 2.3.5.1).
+
+ghost use Rattle.serde_json_path_syntax.specs.WellFormed.{IsLiteralAmount};
+
+use serde_json::Value;
+
+/// How many billionths one is.
+const ONE: i128 = 1_000_000_000;
+
+/// The least number of a literal, -2^63, in billionths.
+const LEAST: i128 = -(1 << 63) * ONE;
+
+/// The greatest number of a literal, 2^64 - 1, in billionths.
+const GREATEST: i128 = ((1 << 64) - 1) * ONE;
+
+/// A number literal, of -2^63 to 2^64 - 1, as a whole number of billionths: 1.5 is 1500000000 of them.
+#[derive(Clone, Copy, Debug)]
+pub struct NumberLiteral {
+    pub(crate) billionths: i128,
+    ghost range: { IsLiteralAmount billionths },
+}
+
+impl NumberLiteral {
+    ghost use Rattle.std.specs.Prelude.{◌≡◌, ◌↔◌, IsSome, IfSome, int_div, pos};
+    ghost use Rattle.serde_json.specs.Data.{number};
+    ghost use Rattle.serde_json.specs.Find.{of_integer};
+    ghost use Rattle.serde_json.specs.View.{view};
+    ghost use Rattle.serde_json_path_syntax.specs.Literals.{number_amount};
+
+    /// The number of that many billionths, or `None` where it is out of range.
+    pub fn from_billionths(billionths: i128) -> Option<NumberLiteral>
+        ensures range { IsSome result ↔ IsLiteralAmount billionths }
+        ensures amount { IfSome result (λ literal. number_amount literal ≡ billionths) }
+    {
+        if LEAST <= billionths && billionths <= GREATEST {
+            Some(NumberLiteral { billionths })
+        } else {
+            None
+        }
+    }
+
+    /// How many billionths the number is.
+    pub fn billionths(&self) -> i128
+        ensures { result ≡ number_amount self.now }
+    {
+        self.billionths
+    }
+
+    /// The whole part, rounded toward zero, as a document's number.
+    pub fn value(&self) -> Value
+        ensures { view result ≡ number (of_integer (int_div (number_amount self.now) (pos 1000000000))) }
+    {
+        let whole = self.billionths / ONE;
+        if whole < 0 {
+            Value::from(whole as i64)
+        } else {
+            Value::from(whole as u64)
+        }
+    }
+}
+
+/// A literal in a comparison or an argument.
+#[derive(Debug, Drop)]
+pub enum Literal {
+    /// A text.
+    String(String),
+    /// A number.
+    Number(NumberLiteral),
+    /// A truth value.
+    Bool(bool),
+    /// The value `null`.
+    Null,
+}
+
+impl Literal {
+    ghost use Rattle.std.specs.Prelude.{◌↔◌, IsTrue};
+    ghost use Rattle.serde_json_path_syntax.specs.Literals.{literal_view};
+    ghost use Rattle.serde_json_path_syntax.specs.Typing.{IsValueLiteral};
+
+    /// Whether the literal may be an argument of the type of values: each but a number with a fraction (RFC 9535,
+    /// section 2.4.3).
+    pub fn is_value(&self) -> bool
+        ensures { IsTrue result ↔ IsValueLiteral (literal_view self.now) }
+    {
+        match self {
+            Literal::Number(number) => number.billionths % ONE == 0,
+            Literal::String(_) | Literal::Bool(_) | Literal::Null => true,
+        }
+    }
+}
