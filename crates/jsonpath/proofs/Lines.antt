@@ -1,7 +1,7 @@
 -- Lines, one more at a time.
 use Rattle.std.proofs.Common.{ℕ, List, [], ◌∷◌, ◌++◌, refl, sym, ap, ◌∙◌, append_assoc}
 use Rattle.std.proofs.lemmas.List.{append-nil}
-use Rattle.serde_json_path_nodes.specs.Place.{Located}
+use Rattle.serde_json_path_nodes.specs.Location.{Located}
 use Rattle.jsonpath.specs.Report.{IsLineOf, AreLinesOf}
 
 pub lines_pushed : (ns : List Located) (text line : List ℕ) (n : Located) → AreLinesOf ns text → IsLineOf n line → AreLinesOf (ns ++ n ∷ []) (text ++ line)

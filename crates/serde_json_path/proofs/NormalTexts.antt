@@ -10,7 +10,7 @@ use Rattle.std.proofs.lemmas.Bool.Decides.{nat_tests}
 use Rattle.std.proofs.lemmas.Int.{ints}
 use Rattle.std.proofs.lemmas.Int.Digits.{all_below_base_digits_of, first_digits_of, number_digits_of}
 use Rattle.std.proofs.lemmas.Str.{encodes-append, encode_ascii, chars-encodes, encodes-chars, scalars-chars}
-use Rattle.serde_json_path_nodes.specs.Place.{Step, by_name, by_position, IsProper}
+use Rattle.serde_json_path_nodes.specs.Location.{Step, by_name, by_position, IsProper}
 use Rattle.serde_json_path_nodes.specs.Text.{hexadecimal_escape, escape_of, in_quotes, in_decimal, normal_step, normal}
 use Rattle.serde_json_path_syntax.specs.Tree.{largest, query, root, child, long_hand, no_selectors, selector}
 use Rattle.serde_json_path_functions.specs.Functions.{Signature}

@@ -2,7 +2,7 @@
 use Rattle.std.specs.Prelude.{◌≡◌, ℕ, ◌≤◌, List, [], ◌∷◌, Some}
 use Rattle.std.specs.Str.{chars}
 use Rattle.serde_json.specs.Data.{Data}
-use Rattle.serde_json_path_nodes.specs.Place.{Step, by_name, by_position, at, IsProper, Located}
+use Rattle.serde_json_path_nodes.specs.Location.{Step, by_name, by_position, at, IsProper, Located}
 use Rattle.serde_json_path_nodes.specs.Text.{normal}
 use Rattle.serde_json_path_syntax.specs.Tree.{Query, largest}
 use Rattle.serde_json_path_core.specs.Meaning.{IsResult}

@@ -9,7 +9,7 @@ use Rattle.std.proofs.lemmas.Slice.Eq.{bytes_eq-Decides}
 use Rattle.serde_json.specs.Data.{Data, null, boolean, number, string, array, object, Items, no_items, item, Members, no_members, member, put}
 use Rattle.serde_json.specs.Find.{get_item, get_member}
 use Rattle.serde_json.proofs.Views.{get_member-put, get_member-put_other}
-use Rattle.serde_json_path_nodes.specs.Place.{Step, by_name, by_position, child_at, StepBefore}
+use Rattle.serde_json_path_nodes.specs.Location.{Step, by_name, by_position, child_at, StepBefore}
 use Rattle.serde_json_path_syntax.specs.Lists.{IsIn, IsInOrder}
 use Rattle.serde_json_path_core.specs.Meaning.{SelectsIndex, IsPositionOf}
 use Rattle.serde_json_path_core.specs.Selected.{child_by, item_at}

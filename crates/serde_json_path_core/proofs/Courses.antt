@@ -6,7 +6,7 @@ use Rattle.std.proofs.lemmas.Int.{ints, clamps}
 use Rattle.serde_json.specs.View.{view, items_view}
 use Rattle.serde_json.specs.declared.value.Value.{Value}
 use Rattle.serde_json.proofs.Views.{get_item_within, get_item_past}
-use Rattle.serde_json_path_nodes.specs.Place.{by_position}
+use Rattle.serde_json_path_nodes.specs.Location.{by_position}
 use Rattle.serde_json_path_syntax.specs.Tree.{Slice}
 use Rattle.serde_json_path_core.specs.Slices.{bound_of}
 use Rattle.serde_json_path_core.specs.Computed.{Course, count_within, strided, falling, next_position}

@@ -6,7 +6,7 @@ use Rattle.std.specs.Ordering.{match_ordering}
 use Rattle.std.proofs.lemmas.Option.{same_Some, none-some, option_and_then_some}
 use Rattle.serde_json.specs.Data.{Data, null, boolean, number, string, array, object, Items, no_items, item, Members, no_members, member, put}
 use Rattle.serde_json.specs.Find.{get_item, get_member}
-use Rattle.serde_json_path_nodes.specs.Place.{Step, by_name, by_position, child_at, at, Located, StepBefore, DescentBefore}
+use Rattle.serde_json_path_nodes.specs.Location.{Step, by_name, by_position, child_at, at, Located, StepBefore, DescentBefore}
 use Rattle.serde_json_path_syntax.specs.Lists.{IsIn, IsInOrder}
 use Rattle.serde_json_path_core.specs.Selected.{beneath}
 use Rattle.serde_json_path_core.specs.Computed.{children, items_from, members_all, in_order, itself, below_member, descents, items_descents, members_descents}

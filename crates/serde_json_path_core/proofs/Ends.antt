@@ -3,7 +3,7 @@ use Rattle.std.proofs.Common.{◌≡◌, ℕ, suc, ◌+◌, ◌<◌, ◌≤◌, 
 use Rattle.std.proofs.lemmas.List.{append-nil, map-append}
 use Rattle.std.proofs.lemmas.List.Folds.{flat_map-map}
 use Rattle.serde_json.specs.Data.{Data}
-use Rattle.serde_json_path_nodes.specs.Place.{Step, by_name, Located, StepBefore, DescentBefore}
+use Rattle.serde_json_path_nodes.specs.Location.{Step, by_name, Located, StepBefore, DescentBefore}
 use Rattle.serde_json_path_syntax.specs.Tree.{SegmentKind, child, descendant, Segments, no_segments, segment, Segment, dot_name, dot_wildcard, long_hand, Selectors, no_selectors, selector, Selector, name, wildcard, index, slice, filter}
 use Rattle.serde_json_path_functions.specs.Functions.{FunctionSet}
 use Rattle.serde_json_path_core.specs.Derivation.{Triple, location_of, SelectedBefore, SelectedBeforeBy, TripleBefore, Before}

@@ -5,7 +5,7 @@ use Rattle.std.specs.Ordering.{match_ordering}
 use Rattle.std.proofs.lemmas.Option.{none-some, same_Some}
 use Rattle.serde_json.specs.Data.{Data, null, boolean, number, string, array, object, Items, no_items, item, Members, no_members, member}
 use Rattle.serde_json.specs.Find.{get_item, get_member}
-use Rattle.serde_json_path_nodes.specs.Place.{Step, by_name, by_position, child_at}
+use Rattle.serde_json_path_nodes.specs.Location.{Step, by_name, by_position, child_at}
 use Rattle.serde_json_path_core.specs.Height.{height, items_height, members_height}
 
 lower_item : (position : ℕ) (items : Items) (c : Data) → get_item position items ≡ Some c → height c < items_height items

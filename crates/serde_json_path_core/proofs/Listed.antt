@@ -1,7 +1,7 @@
 -- The computed list of a query is its result, and the computed tests, sides and answers are those of the definitions.
 use Rattle.std.proofs.Common.{◌≡◌, List, flat_map, map, ◌↔◌, IsTrue, Some, sym}
 use Rattle.serde_json.specs.Data.{Data}
-use Rattle.serde_json_path_nodes.specs.Place.{Located}
+use Rattle.serde_json_path_nodes.specs.Location.{Located}
 use Rattle.serde_json_path_syntax.specs.Tree.{Query, SegmentKind, Segments, segment, Segment, LogicalOr, Comparable, Call}
 use Rattle.serde_json_path_functions.specs.Functions.{FunctionSet, Term}
 use Rattle.serde_json_path_core.specs.Compared.{Compared}

@@ -3,14 +3,14 @@ use Rattle.std.proofs.Common.{◌≡◌, ℕ, ◌+◌, List, [], ◌∷◌, ◌+
 use Rattle.std.specs.List.{All}
 use Rattle.std.proofs.lemmas.List.Elements.{All-nil, All-from_recursion, recursion_from_All}
 use Rattle.serde_json.specs.Data.{Data}
-use Rattle.serde_json_path_nodes.specs.Place.{Step, child_at}
+use Rattle.serde_json_path_nodes.specs.Location.{Step, child_at}
 use Rattle.serde_json_path_functions.specs.Functions.{FunctionSet}
 use Rattle.serde_json_path_syntax.specs.Tree.{SegmentKind, child, descendant, Selector, name, wildcard, index, slice, filter}
 use Rattle.serde_json_path_syntax.specs.Stages.{Stage}
 use Rattle.serde_json_path_core.specs.Rest.{Frame, candidates, admitted, unfiltered, opened, tasks, EndsIn}
 use Rattle.serde_json_path_core.specs.Advances.{Chooses, Passes, ComesTo, IsDone}
 use Rattle.serde_json_path_core.proofs.OfValue.{children-of_value, sliced-of_value, child_by-of_value, item_at-of_value}
-use Rattle.serde_json_path_nodes.specs.Place.{by_name}
+use Rattle.serde_json_path_nodes.specs.Location.{by_name}
 use Rattle.serde_json_path_core.proofs.Tasks.{onward, gives_child, turns_over, goes_down, is_done}
 
 -- the step leads from the value to that child

@@ -3,7 +3,7 @@ use Rattle.std.proofs.Common.{◌≡◌, ℤ, List, [], ◌∷◌, Some, inl, in
 use Rattle.std.specs.List.{All}
 use Rattle.std.proofs.lemmas.List.Elements.{All-nil, All-cons}
 use Rattle.serde_json.specs.Data.{Data}
-use Rattle.serde_json_path_nodes.specs.Place.{Step, child_at}
+use Rattle.serde_json_path_nodes.specs.Location.{Step, child_at}
 use Rattle.serde_json_path_syntax.specs.Tree.{Slice}
 use Rattle.serde_json_path_syntax.specs.Lists.{IsIn}
 use Rattle.serde_json_path_core.specs.Selected.{child_by, item_at}

@@ -5,7 +5,7 @@ use Rattle.std.specs.Ordering.{ordering_reverse}
 use Rattle.std.proofs.lemmas.Cmp.{nat_list_cmp_total}
 use Rattle.std.proofs.lemmas.Int.{ints}
 use Rattle.serde_json.specs.Data.{Data}
-use Rattle.serde_json_path_nodes.specs.Place.{Step, by_name, by_position, at, StepBefore, DescentBefore, Located}
+use Rattle.serde_json_path_nodes.specs.Location.{Step, by_name, by_position, at, StepBefore, DescentBefore, Located}
 use Rattle.serde_json_path_syntax.specs.Tree.{Query, query, Segments, no_segments, segment, Segment, dot_name, dot_wildcard, long_hand, Selectors, no_selectors, selector, Selector, name, wildcard, index, slice, filter}
 use Rattle.serde_json_path_functions.specs.Functions.{FunctionSet}
 use Rattle.serde_json_path_core.specs.Derivation.{Triple, start_of, BelongsTo, SelectedBefore, SelectedBeforeBy, SelectedBeforeIn, TripleBefore, Before}

@@ -4,7 +4,7 @@ use Rattle.std.specs.Prelude.{◌<ℤ◌, ◌+ℤ◌, nat_lt, if◌then◌else�
 use Rattle.std.proofs.lemmas.Int.{ints}
 use Rattle.std.proofs.lemmas.Option.{none-some, same_Some, option_and_then_some}
 use Rattle.serde_json.specs.Data.{Data, null, boolean, number, string, array, object, Items}
-use Rattle.serde_json_path_nodes.specs.Place.{Step, by_name, by_position, child_at, at, Located}
+use Rattle.serde_json_path_nodes.specs.Location.{Step, by_name, by_position, child_at, at, Located}
 use Rattle.serde_json.specs.Events.{items_len}
 use Rattle.serde_json_path_syntax.specs.Tree.{QueryKind, Query, query, Segments, no_segments, segment, child, descendant, Segment, dot_name, dot_wildcard, long_hand, no_selectors, selector, name, wildcard, index, slice, filter, IsSingularSegment, AreSingular, IsSingular}
 use Rattle.serde_json_path_functions.specs.Functions.{FunctionSet}

@@ -8,7 +8,7 @@ use Rattle.std.proofs.lemmas.Int.{ints, clamps}
 use Rattle.std.proofs.lemmas.Option.{same_Some, none-some}
 use Rattle.serde_json.specs.Data.{Data, null, boolean, number, string, array, object, Items, no_items, item}
 use Rattle.serde_json.specs.Find.{get_item}
-use Rattle.serde_json_path_nodes.specs.Place.{Step, by_position, child_at}
+use Rattle.serde_json_path_nodes.specs.Location.{Step, by_position, child_at}
 use Rattle.serde_json.specs.Events.{items_len}
 use Rattle.serde_json_path_syntax.specs.Tree.{Slice, slice}
 use Rattle.serde_json_path_core.specs.Slices.{step_of, from_end, bound_of, SelectsPosition}

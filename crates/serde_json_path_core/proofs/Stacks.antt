@@ -4,7 +4,7 @@ use Rattle.std.proofs.lemmas.Grind.{flat_map-append}
 use Rattle.std.proofs.lemmas.List.{append-nil, drop-drop}
 use Rattle.std.proofs.lemmas.List.Folds.{flat_map-map}
 use Rattle.serde_json.specs.Data.{Data}
-use Rattle.serde_json_path_nodes.specs.Place.{Step, Located}
+use Rattle.serde_json_path_nodes.specs.Location.{Step, Located}
 use Rattle.serde_json_path_syntax.specs.Tree.{SegmentKind, child, descendant, Selector}
 use Rattle.serde_json_path_core.specs.Selected.{beneath}
 use Rattle.serde_json_path_core.specs.Computed.{children, descents, placed, reached}

@@ -4,7 +4,7 @@ use Rattle.std.specs.List.{AllByRecursion}
 use Rattle.std.proofs.lemmas.List.Elements.{recursion_from_All}
 use Rattle.std.proofs.Math.Logic.{∥∥₁_map, ∥∥₁_elim, ∥∥₁_prop}
 use Rattle.serde_json.specs.Data.{Data}
-use Rattle.serde_json_path_nodes.specs.Place.{Step, child_at, at}
+use Rattle.serde_json_path_nodes.specs.Location.{Step, child_at, at}
 use Rattle.serde_json_path_syntax.specs.Tree.{QueryKind, root, current, Query, query}
 use Rattle.serde_json_path_syntax.specs.Lists.{IsIn}
 use Rattle.serde_json_path_core.specs.Derivation.{start_of}

@@ -4,7 +4,7 @@ use Rattle.std.proofs.lemmas.List.{append-nil, map-id}
 use Rattle.std.proofs.lemmas.List.Folds.{flat_map-map}
 use Rattle.std.proofs.lemmas.Simd.{map-map}
 use Rattle.serde_json.specs.Data.{Data}
-use Rattle.serde_json_path_nodes.specs.Place.{Step, StepBefore, Located}
+use Rattle.serde_json_path_nodes.specs.Location.{Step, StepBefore, Located}
 use Rattle.serde_json_path_syntax.specs.Tree.{Query, query, current, Segments, segment, child, descendant, Segment}
 use Rattle.serde_json_path_functions.specs.Functions.{FunctionSet}
 use Rattle.serde_json_path_core.specs.Meaning.{IsResult}

@@ -2,7 +2,7 @@
 use Rattle.std.proofs.Common.{◌≡◌, ℕ, ◌+◌, List, [], ◌∷◌, ◌++◌, map, flat_map, refl, ap, ◌∙◌, sym, append_assoc}
 use Rattle.std.proofs.lemmas.List.{map-append}
 use Rattle.serde_json.specs.Data.{Data}
-use Rattle.serde_json_path_nodes.specs.Place.{Step}
+use Rattle.serde_json_path_nodes.specs.Location.{Step}
 use Rattle.serde_json_path_syntax.specs.Tree.{SegmentKind, child, descendant, Selector}
 use Rattle.serde_json_path_core.specs.Rest.{candidates, lower, opened, lower_left, tasks}
 

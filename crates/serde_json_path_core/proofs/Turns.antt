@@ -1,7 +1,7 @@
 -- What is left, and how much work, after one turn of a walk.
 use Rattle.std.proofs.Common.{◌≡◌, ℕ, ◌+◌, ◌<◌, List, [], ◌∷◌, ◌++◌, drop, length, flat_map, Some, ap, ◌∙◌, arith, length-append}
 use Rattle.serde_json.specs.Data.{Data}
-use Rattle.serde_json_path_nodes.specs.Place.{Step, Located}
+use Rattle.serde_json_path_nodes.specs.Location.{Step, Located}
 use Rattle.serde_json_path_functions.specs.Functions.{FunctionSet}
 use Rattle.serde_json_path_syntax.specs.Stages.{Stage}
 use Rattle.serde_json_path_core.specs.Rest.{Frame, admitted, unfiltered, begun, frame_tasks, here, stack_path, visit, visit_stack, rest_of, work}

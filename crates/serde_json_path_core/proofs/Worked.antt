@@ -8,7 +8,7 @@ use Rattle.std.proofs.lemmas.Int.{ints}
 use Rattle.std.proofs.lemmas.Option.{same_Some}
 use Rattle.serde_json.specs.Find.{as_array}
 use Rattle.serde_json.specs.Data.{Items, Data, null, boolean, number, string, array, object, unsigned, negative, float, item, no_items, no_members}
-use Rattle.serde_json_path_nodes.specs.Place.{at, Step, by_position, Located}
+use Rattle.serde_json_path_nodes.specs.Location.{at, Step, by_position, Located}
 use Rattle.serde_json.specs.Events.{items_len}
 use Rattle.serde_json_path_syntax.specs.Tree.{LogicalOr, Slice, largest, Query, query, root, current, Segments, no_segments, segment, child, descendant, dot_name, dot_wildcard, long_hand, no_selectors, selector, name, wildcard, index, slice, filter, no_or, or, no_and, and, paren, not_paren, relation, exist, not_exist, literal, singular, Operator, equal, not_equal, less, less_or_equal, greater, greater_or_equal}
 use Rattle.serde_json_path_syntax.specs.Tree as tree

@@ -1,7 +1,7 @@
 -- How a place moves on. What depends on filters holds where `Clear` does: where each call in them means what is stated.
 use Rattle.std.specs.Prelude.{◌≡◌, ℕ, List, [], ◌∷◌, Option, Some, MatchOption}
 use Rattle.serde_json.specs.Data.{Data}
-use Rattle.serde_json_path_nodes.specs.Place.{Step, child_at}
+use Rattle.serde_json_path_nodes.specs.Location.{Step, child_at}
 use Rattle.serde_json_path_functions.specs.Functions.{FunctionSet}
 use Rattle.serde_json_path_syntax.specs.Tree.{Selector}
 use Rattle.serde_json_path_syntax.specs.Stages.{Stage}

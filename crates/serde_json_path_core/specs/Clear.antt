@@ -1,7 +1,7 @@
 -- Queries whose calls mean what is promised.
 use Rattle.std.specs.Prelude.{◌≡◌, List, IsNone, Some}
 use Rattle.serde_json.specs.Data.{Data}
-use Rattle.serde_json_path_nodes.specs.Place.{Step, at}
+use Rattle.serde_json_path_nodes.specs.Location.{Step, at}
 use Rattle.serde_json_path_syntax.specs.Tree.{Query, Call, call}
 use Rattle.serde_json_path_functions.specs.Functions.{Term, FunctionSet}
 use Rattle.serde_json_path_syntax.specs.Calls.{EachCall}

@@ -11,7 +11,7 @@ use Rattle.std.specs.Str.{chars}
 use Rattle.serde_json.specs.Data.{Data, null as null_data, boolean, number, string, array, object, Items, no_items, item, Members, no_members, member, put}
 use Rattle.serde_json.specs.Find.{get_item, as_integer}
 use Rattle.serde_json.specs.Events.{items_len}
-use Rattle.serde_json_path_nodes.specs.Place.{Step, by_name, by_position, Located}
+use Rattle.serde_json_path_nodes.specs.Location.{Step, by_name, by_position, Located}
 use Rattle.serde_json_path_syntax.specs.Tree.{Query, query, Segments, no_segments, segment, SegmentKind, child, descendant, Segment, dot_name, dot_wildcard, long_hand, Selectors, no_selectors, selector, Selector, name, wildcard, index, slice, filter, Slice, LogicalOr, no_or, or, LogicalAnd, no_and, and, Basic, paren, not_paren, relation, exist, not_exist, test, not_test, Operator, equal, not_equal, less, less_or_equal, greater, greater_or_equal, Comparable, literal, singular, called, Call, call, Arguments, no_arguments, argument, Argument, literal_argument, query_argument, call_argument, logical_argument}
 use Rattle.serde_json_path_core.specs.Slices.{step_of, bound_of}
 use Rattle.serde_json_path_functions.specs.Functions.{Kind, of_value, of_nodes, of_logical, Term, nodes, logical, FunctionSet}

@@ -3,7 +3,7 @@ use Rattle.std.specs.Prelude.{List}
 use Rattle.serde_json.specs.Data.{Data}
 use Rattle.serde_json.specs.View.{items_view}
 use Rattle.serde_json.specs.declared.value.Value.{Value}
-use Rattle.serde_json_path_nodes.specs.Place.{Step}
+use Rattle.serde_json_path_nodes.specs.Location.{Step}
 use Rattle.serde_json_path_core.specs.Computed as computed
 use Rattle.serde_json_path_core.specs.declared.evaluation.course.Course.{Course}
 

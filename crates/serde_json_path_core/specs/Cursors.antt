@@ -2,7 +2,7 @@
 use Rattle.std.specs.Prelude.{List, drop, option_map, option_to_list}
 use Rattle.serde_json.specs.Data.{Data}
 use Rattle.serde_json.specs.View.{items_view, members_view}
-use Rattle.serde_json_path_nodes.specs.Place.{Step}
+use Rattle.serde_json_path_nodes.specs.Location.{Step}
 use Rattle.serde_json_path_core.specs.Computed.{items_from, members_all}
 use Rattle.serde_json_path_core.specs.Courses.{course_left}
 use Rattle.serde_json_path_core.specs.Views.{child_view}

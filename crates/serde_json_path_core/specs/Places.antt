@@ -2,7 +2,7 @@
 use Rattle.std.specs.Prelude.{ℕ, List, map, option_map}
 use Rattle.serde_json.specs.Data.{Data}
 use Rattle.serde_json.specs.View.{view}
-use Rattle.serde_json_path_nodes.specs.Place.{Step}
+use Rattle.serde_json_path_nodes.specs.Location.{Step}
 use Rattle.serde_json_path_nodes.specs.Views.{step_view}
 use Rattle.serde_json_path_core.specs.Cursors.{cursor_left}
 use Rattle.serde_json_path_core.specs.Rest.{Frame}

@@ -2,7 +2,7 @@
 use Rattle.std.specs.Prelude.{◌≡◌, ℕ, ◌+◌, List, [], ◌∷◌, ◌++◌, length, map, drop, flat_map, filter as keep, Option, Some, None, option_to_list}
 use Rattle.std.specs.List.{All}
 use Rattle.serde_json.specs.Data.{Data}
-use Rattle.serde_json_path_nodes.specs.Place.{Step, by_name, child_at, Located}
+use Rattle.serde_json_path_nodes.specs.Location.{Step, by_name, child_at, Located}
 use Rattle.serde_json_path_syntax.specs.Tree.{Query, query, segment, SegmentKind, child, descendant, selector, Selector, name, wildcard, index, slice, filter}
 use Rattle.serde_json_path_syntax.specs.Stages.{Stage, stages}
 use Rattle.serde_json_path_functions.specs.Functions.{FunctionSet}

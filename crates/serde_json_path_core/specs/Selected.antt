@@ -2,7 +2,7 @@
 use Rattle.std.specs.Prelude.{ℕ, ◌+◌, ◌-◌, nat_lt, ℤ, pos, negsuc, List, [], ◌∷◌, ◌++◌, Option, Some, None, option_map, option_and_then, if◌then◌else◌}
 use Rattle.serde_json.specs.Data.{Data, array}
 use Rattle.serde_json.specs.Events.{items_len}
-use Rattle.serde_json_path_nodes.specs.Place.{Step, by_name, by_position, child_at, Located}
+use Rattle.serde_json_path_nodes.specs.Location.{Step, by_name, by_position, child_at, Located}
 use Rattle.serde_json_path_syntax.specs.Tree.{Segments, no_segments, segment, Segment, dot_name, long_hand, no_selectors, selector, name, index}
 
 -- the child at that step, with the step

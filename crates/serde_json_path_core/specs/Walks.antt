@@ -2,7 +2,7 @@
 use Rattle.std.specs.Prelude.{ℕ, List, length}
 use Rattle.serde_json.specs.Data.{Data}
 use Rattle.serde_json.specs.View.{view}
-use Rattle.serde_json_path_nodes.specs.Place.{Located}
+use Rattle.serde_json_path_nodes.specs.Location.{Located}
 use Rattle.serde_json_path_syntax.specs.Tree.{Query, segments_of}
 use Rattle.serde_json_path_functions.specs.Functions.{FunctionSet}
 use Rattle.serde_json_path_syntax.specs.Parts.{tree_of}

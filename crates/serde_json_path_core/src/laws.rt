@@ -2,7 +2,7 @@
 
 ghost use Rattle.std.specs.Prelude.{◌≡◌, List};
 ghost use Rattle.serde_json.specs.Data.{Data};
-ghost use Rattle.serde_json_path_nodes.specs.Place.{Located};
+ghost use Rattle.serde_json_path_nodes.specs.Location.{Located};
 ghost use Rattle.serde_json_path_syntax.specs.Tree.{Query, segments_of};
 ghost use Rattle.serde_json_path_functions.specs.Functions.{FunctionSet};
 ghost use Rattle.serde_json_path_syntax.specs.Calls.{EachCall};

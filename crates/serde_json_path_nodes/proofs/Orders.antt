@@ -7,7 +7,7 @@ use Rattle.std.specs.Cmp.Lexicographic.{slice_cmp, lists_ties}
 use Rattle.std.specs.Ordering.{eq_by_cmp, ordering_reverse, ordering_then, nat_cmp}
 use Rattle.std.specs.declared.cmp.Ordering.{Ordering}
 use Rattle.std.specs.declared.cmp.Ordering.TheVariants.{Less, Equal, Greater}
-use Rattle.serde_json_path_nodes.specs.Place.{Step, by_name, by_position}
+use Rattle.serde_json_path_nodes.specs.Location.{Step, by_name, by_position}
 use Rattle.serde_json_path_nodes.specs.Same.{same_step, same_steps}
 use Rattle.serde_json_path_nodes.specs.StepOrder.{step_cmp, location_cmp}
 

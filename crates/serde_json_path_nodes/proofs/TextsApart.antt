@@ -6,7 +6,7 @@ use Rattle.std.specs.Str.{chars, encode_utf8_all}
 use Rattle.std.proofs.lemmas.Int.Digits.{all_below_base_digits_of, first_digits_of}
 use Rattle.std.proofs.lemmas.List.{append_cancel_left}
 use Rattle.std.proofs.lemmas.Str.{encodes-chars}
-use Rattle.serde_json_path_nodes.specs.Place.{Step, by_name, by_position, IsProper}
+use Rattle.serde_json_path_nodes.specs.Location.{Step, by_name, by_position, IsProper}
 use Rattle.serde_json_path_nodes.specs.Text.{in_decimal, in_quotes, normal_step, normal}
 use Rattle.serde_json_path_nodes.specs.Laws.{TextsTellLocations}
 use Rattle.serde_json_path_nodes.proofs.Decimals.{in_decimal_injective}

@@ -1,7 +1,7 @@
 pub mod Laws
 pub mod Lists
+pub mod Location
 pub mod NodeOrder
-pub mod Place
 pub mod Same
 pub mod StepOrder
 pub mod Text

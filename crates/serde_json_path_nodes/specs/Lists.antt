@@ -1,7 +1,7 @@
 -- Answers of lists of nodes (RFC 9535, section 1.1).
 use Rattle.std.specs.Prelude.{Bool, List, [], ◌∷◌, ◌++◌, length, Option, Some, None, Result, Ok, Err, if◌then◌else◌}
 use Rattle.std.specs.List.{list_any}
-use Rattle.serde_json_path_nodes.specs.Place.{Step, Located}
+use Rattle.serde_json_path_nodes.specs.Location.{Step, Located}
 use Rattle.serde_json_path_nodes.specs.Same.{same_steps}
 use Rattle.serde_json_path_nodes.specs.declared.error.AtMostOneError.{AtMostOneError}
 use Rattle.serde_json_path_nodes.specs.declared.error.ExactlyOneError.{ExactlyOneError}

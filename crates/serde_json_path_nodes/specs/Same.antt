@@ -3,7 +3,7 @@ use Rattle.std.specs.Prelude.{◌≡◌, Bool, true, false, nat_eq, List, refl}
 use Rattle.std.specs.Cmp.{IsEquivalence, nat_eq_equiv}
 use Rattle.std.specs.Cmp.Lexicographic.{pointwise, pointwise_decides, bytes_decides, nat_list_eq_equiv, lists_equiv}
 use Rattle.std.proofs.Common.{ap, sym, ◌∙◌, eqb-true}
-use Rattle.serde_json_path_nodes.specs.Place.{Step, by_name, by_position}
+use Rattle.serde_json_path_nodes.specs.Location.{Step, by_name, by_position}
 
 -- names are one byte by byte, positions by number
 abbrev pub same_step : Step → Step → Bool

@@ -4,7 +4,7 @@ use Rattle.std.specs.Cmp.Lexicographic.{slice_cmp}
 use Rattle.std.specs.Ordering.{nat_cmp}
 use Rattle.std.specs.declared.cmp.Ordering.{Ordering}
 use Rattle.std.specs.declared.cmp.Ordering.TheVariants.{Less, Greater}
-use Rattle.serde_json_path_nodes.specs.Place.{Step, by_name, by_position}
+use Rattle.serde_json_path_nodes.specs.Location.{Step, by_name, by_position}
 
 -- names stand before positions, by their bytes
 abbrev pub step_cmp : Step → Step → Ordering

@@ -5,7 +5,7 @@ use Rattle.std.specs.Str.{chars}
 use Rattle.std.specs.Char.{encode_utf8, digit_char}
 use Rattle.std.specs.Fmt.{decimal}
 use Rattle.std.specs.Int.Digits.{digits_of}
-use Rattle.serde_json_path_nodes.specs.Place.{Step, by_name, by_position}
+use Rattle.serde_json_path_nodes.specs.Location.{Step, by_name, by_position}
 use Rattle.serde_json_path_nodes.specs.declared.error.ExactlyOneError.{ExactlyOneError}
 use Rattle.serde_json_path_nodes.specs.declared.error.ExactlyOneError.TheVariants.{Empty, MoreThanOne}
 

@@ -5,7 +5,7 @@ use Rattle.std.specs.Slice.Iter.{iter_rest}
 use Rattle.serde_json.specs.Data.{Data}
 use Rattle.serde_json.specs.View.{view}
 use Rattle.serde_json.specs.declared.value.Value.{Value}
-use Rattle.serde_json_path_nodes.specs.Place.{Step, by_name, by_position, Located}
+use Rattle.serde_json_path_nodes.specs.Location.{Step, by_name, by_position, Located}
 use Rattle.serde_json_path_nodes.specs.declared.path_element.PathElement.{PathElement}
 use Rattle.serde_json_path_nodes.specs.declared.path_element.PathElement.TheVariants.{Name, Index}
 use Rattle.serde_json_path_nodes.specs.declared.located_node.LocatedNode.{LocatedNode}

@@ -21,7 +21,7 @@ pub struct PathElements<'a, 'b> {
 impl<'a, 'b> Model for PathElements<'a, 'b> {
     ghost use Rattle.std.specs.Prelude.{List, map};
     ghost use Rattle.std.specs.Slice.Iter.{iter_rest};
-    ghost use Rattle.serde_json_path_nodes.specs.Place.{Step};
+    ghost use Rattle.serde_json_path_nodes.specs.Location.{Step};
 
     ghost Value = { List Step };
 
@@ -202,7 +202,7 @@ pub struct Locations<'a, 'b> {
 impl<'a, 'b> Model for Locations<'a, 'b> {
     ghost use Rattle.std.specs.Prelude.{List, map};
     ghost use Rattle.std.specs.Slice.Iter.{iter_rest};
-    ghost use Rattle.serde_json_path_nodes.specs.Place.{Step};
+    ghost use Rattle.serde_json_path_nodes.specs.Location.{Step};
 
     ghost Value = { List (List Step) };
 

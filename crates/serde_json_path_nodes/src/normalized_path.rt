@@ -23,7 +23,7 @@ pub struct NormalizedPath<'b> {
 
 impl<'b> Model for NormalizedPath<'b> {
     ghost use Rattle.std.specs.Prelude.{List, map};
-    ghost use Rattle.serde_json_path_nodes.specs.Place.{Step};
+    ghost use Rattle.serde_json_path_nodes.specs.Location.{Step};
 
     ghost Value = { List Step };
 

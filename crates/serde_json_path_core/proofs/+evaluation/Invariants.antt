@@ -3,7 +3,7 @@ use Rattle.std.specs.Prelude.{filter as keep}
 use Rattle.std.specs.Slice.Iter.{iter_rest}
 use Rattle.serde_json.specs.Data.{Data}
 use Rattle.serde_json.specs.View.{view}
-use Rattle.serde_json_path_nodes.specs.Place.{Step, Located}
+use Rattle.serde_json_path_nodes.specs.Location.{Step, Located}
 use Rattle.serde_json_path_nodes.specs.Views.{node_value}
 use Rattle.serde_json_path_functions.specs.Functions.{kind_of_term}
 use Rattle.serde_json_path_functions.specs.Terms.{kind_view, term_view}

@@ -28,7 +28,7 @@ pub struct Walk<'q, 'b, F: Functions> {
 impl<'q, 'b, F: Functions> Walk<'q, 'b, F> {
     ghost use Rattle.std.specs.Prelude.{◌≡◌, ◌+◌, ◌<◌, ◌≤◌, [], ◌∷◌, IfOk, IfErr, IfSome, IfNone, MatchOption};
     ghost use Rattle.serde_json_path_nodes.specs.Views.{located};
-    ghost use Rattle.serde_json_path_nodes.specs.Place.{Located};
+    ghost use Rattle.serde_json_path_nodes.specs.Location.{Located};
     ghost use Rattle.serde_json_path_syntax.specs.Calls.{EachCall};
     ghost use Rattle.serde_json_path_core.specs.Clear.{GoesWithoutPattern, IsClear};
     ghost use Rattle.serde_json_path_core.specs.Height.{height};

@@ -1,6 +1,6 @@
 use Rattle.std.proofs.Common.{◌≡◌, List, ◌++◌}
 use Rattle.std.specs.Prelude.{string_bytes}
-use Rattle.serde_json_path_nodes.specs.Place.{Located}
+use Rattle.serde_json_path_nodes.specs.Location.{Located}
 use Rattle.serde_json_path_nodes.specs.Views.{located_nodes, located_nodes_left}
 use Rattle.jsonpath.specs.Report.{AreLinesOf}
 use Rattle.jsonpath.proofs.report.lines.Given as goal

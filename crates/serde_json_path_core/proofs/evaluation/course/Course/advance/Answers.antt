@@ -1,6 +1,6 @@
 use Rattle.std.proofs.Common.{◌≡◌, ◌-◌, ◌^◌, ◌<◌, ◌∷◌, length, get_or, inl, inr, ap, ◌∙◌, sym, arith, rules}
 use Rattle.serde_json.specs.View.{view, items_view}
-use Rattle.serde_json_path_nodes.specs.Place.{by_position}
+use Rattle.serde_json_path_nodes.specs.Location.{by_position}
 use Rattle.serde_json_path_core.specs.Computed.{strided, next_position}
 use Rattle.serde_json_path_core.proofs.Courses.{strided-none, strided-first, strided-up, strided-down}
 use Rattle.serde_json_path_core.proofs.evaluation.course.Course.advance.Goals as goal
