@@ -8,8 +8,7 @@ use Rattle.serde_json_path_nodes.specs.Location.{Located}
 use Rattle.serde_json_path_nodes.specs.Text.{normal}
 use Rattle.serde_json_path_syntax.specs.Tree.{Query}
 use Rattle.serde_json_path_functions.specs.Patterns.{builtin_functions}
-use Rattle.serde_json_path_core.specs.Clear.{IsClear}
-use Rattle.serde_json_path_core.specs.Meaning.{IsResult}
+use Rattle.serde_json_path_core.specs.Selects.{Selects}
 use Rattle.serde_json_path_parser.specs.Accepted.{IsAccepted}
 
 -- the bytes read as this document: they are UTF-8, and its text reads as the value
@@ -35,5 +34,5 @@ pub record IsReportOf (path document text : List ℕ) : Type 0 where
   pub nodes : List Located
   pub accepted : IsAccepted builtin_functions.signature (chars path) query
   pub reads : ReadsAs document value
-  pub selects : IsClear builtin_functions query value → IsResult builtin_functions value query value nodes
+  pub selects : Selects builtin_functions query value nodes
   pub lines : AreLinesOf nodes text

@@ -1,16 +1,13 @@
 //! Paths.
 
-ghost use Rattle.std.specs.Prelude.{◌≡◌, List, map, IfOk, IfErr, IsTrue, ◌↔◌};
+ghost use Rattle.std.specs.Prelude.{◌≡◌, IfOk, IfErr, IsTrue, ◌↔◌};
 ghost use Rattle.serde_json.specs.View.{view};
-ghost use Rattle.serde_json_path_nodes.specs.Location.{Located};
 ghost use Rattle.serde_json_path_nodes.specs.Views.{located_nodes, node_values};
-ghost use Rattle.serde_json_path_syntax.specs.Calls.{EachCall};
-ghost use Rattle.serde_json_path_core.specs.Clear.{GoesWithoutPattern, IsClear};
 ghost use Rattle.serde_json_path_syntax.specs.Tree.{query, root, no_segments};
-ghost use Rattle.serde_json_path_core.specs.Meaning.{IsResult};
-ghost use Rattle.serde_json_path_core.specs.Walks.{rest, query_of, set_of, document_of, beginning_of};
-ghost use Rattle.serde_json_path_functions.specs.Functions.{both, Fits};
-ghost use Rattle.serde_json_path_functions.specs.Patterns.{builtin_functions};
+ghost use Rattle.serde_json_path_core.specs.Selects.{OnlyMemory, Selects, SelectsValues};
+ghost use Rattle.serde_json_path_core.specs.Walks.{rest, query_of, set_of, document_of};
+ghost use Rattle.serde_json_path_functions.specs.Functions.{Fits};
+ghost use Rattle.serde_json_path_functions.specs.Patterns.{before_builtin, builtin_functions};
 ghost use Rattle.serde_json_path_functions.specs.declared.error.QueryError.TheVariants.{Memory};
 
 use crate::source::parse_source;
@@ -84,8 +81,8 @@ impl JsonPath {
         path_str: &str,
         functions: &F,
     ) -> Result<JsonPath, ParseError>
-        ensures parse { IsParseOf (both (F.set functions.now) builtin_functions).signature path_str.now (parser_answer result) }
-        ensures fits { IfOk result (λ path. Fits (both (F.set functions.now) builtin_functions) (path_signatures path)) }
+        ensures parse { IsParseOf (before_builtin (F.set functions.now)).signature path_str.now (parser_answer result) }
+        ensures fits { IfOk result (λ path. Fits (before_builtin (F.set functions.now)) (path_signatures path)) }
     {
         let mut source = TextSource::new(path_str);
         parse_source(alloc, &mut source, functions)
@@ -94,7 +91,7 @@ impl JsonPath {
     /// Whether the set, with the built-in functions behind it, declares each function that the path calls, with the
     /// signature that the path was read with (RFC 9535, section 2.4.3). Takes no memory.
     pub fn fits<F: Functions>(&self, functions: &F) -> bool
-        ensures { IsTrue result ↔ Fits (both (F.set functions.now) builtin_functions) (path_signatures self.now) }
+        ensures { IsTrue result ↔ Fits (before_builtin (F.set functions.now)) (path_signatures self.now) }
     {
         self.checked.fits(&Both(functions, Builtin))
     }
@@ -110,11 +107,11 @@ impl JsonPath {
         value: &'b Value,
     ) -> Result<LocatedNodeList<'b>, QueryError>
         requires { Fits builtin_functions (path_signatures self.now) }
-        ensures selects { IfOk result (λ list. IsClear builtin_functions (path_tree self.now) (view value.now)
-            → IsResult builtin_functions (view value.now) (path_tree self.now) (view value.now) (located_nodes list)) }
-        ensures refused { IfErr result (λ e. EachCall (GoesWithoutPattern builtin_functions) (path_tree self.now) → e ≡ Memory) }
+        ensures selects { IfOk result (λ list.
+            Selects builtin_functions (path_tree self.now) (view value.now) (located_nodes list)) }
+        ensures refused { OnlyMemory builtin_functions (path_tree self.now) result }
     {
-        evaluate_located(alloc, &self.checked, value, value, Builtin)
+        evaluate_located(alloc, &self.checked, value, Builtin)
     }
 
     /// What the path selects from a document, with locations, in order, as `query_located` gives it, under this set with
@@ -126,12 +123,12 @@ impl JsonPath {
         value: &'b Value,
         functions: &F,
     ) -> Result<LocatedNodeList<'b>, QueryError>
-        requires { Fits (both (F.set functions.now) builtin_functions) (path_signatures self.now) }
-        ensures selects { IfOk result (λ list. IsClear (both (F.set functions.now) builtin_functions) (path_tree self.now) (view value.now)
-            → IsResult (both (F.set functions.now) builtin_functions) (view value.now) (path_tree self.now) (view value.now) (located_nodes list)) }
-        ensures refused { IfErr result (λ e. EachCall (GoesWithoutPattern (both (F.set functions.now) builtin_functions)) (path_tree self.now) → e ≡ Memory) }
+        requires { Fits (before_builtin (F.set functions.now)) (path_signatures self.now) }
+        ensures selects { IfOk result (λ list.
+            Selects (before_builtin (F.set functions.now)) (path_tree self.now) (view value.now) (located_nodes list)) }
+        ensures refused { OnlyMemory (before_builtin (F.set functions.now)) (path_tree self.now) result }
     {
-        evaluate_located(alloc, &self.checked, value, value, Both(functions, Builtin))
+        evaluate_located(alloc, &self.checked, value, Both(functions, Builtin))
     }
 
     /// The values of what the path selects from a document, in order, as `query_located` gives them. No location is made.
@@ -143,11 +140,11 @@ impl JsonPath {
     /// ```
     pub fn query<'b>(&self, alloc: Global, value: &'b Value) -> Result<NodeList<'b>, QueryError>
         requires { Fits builtin_functions (path_signatures self.now) }
-        ensures selects { IfOk result (λ list. IsClear builtin_functions (path_tree self.now) (view value.now)
-            → (nodes : List Located) × IsResult builtin_functions (view value.now) (path_tree self.now) (view value.now) nodes × (node_values list ≡ map (λ n. n.value) nodes)) }
-        ensures refused { IfErr result (λ e. EachCall (GoesWithoutPattern builtin_functions) (path_tree self.now) → e ≡ Memory) }
+        ensures selects { IfOk result (λ list.
+            SelectsValues builtin_functions (path_tree self.now) (view value.now) (node_values list)) }
+        ensures refused { OnlyMemory builtin_functions (path_tree self.now) result }
     {
-        evaluate(alloc, &self.checked, value, value, Builtin)
+        evaluate(alloc, &self.checked, value, Builtin)
     }
 
     /// The values of what the path selects from a document, in order, as `query` gives them, under this set with the
@@ -158,12 +155,12 @@ impl JsonPath {
         value: &'b Value,
         functions: &F,
     ) -> Result<NodeList<'b>, QueryError>
-        requires { Fits (both (F.set functions.now) builtin_functions) (path_signatures self.now) }
-        ensures selects { IfOk result (λ list. IsClear (both (F.set functions.now) builtin_functions) (path_tree self.now) (view value.now)
-            → (nodes : List Located) × IsResult (both (F.set functions.now) builtin_functions) (view value.now) (path_tree self.now) (view value.now) nodes × (node_values list ≡ map (λ n. n.value) nodes)) }
-        ensures refused { IfErr result (λ e. EachCall (GoesWithoutPattern (both (F.set functions.now) builtin_functions)) (path_tree self.now) → e ≡ Memory) }
+        requires { Fits (before_builtin (F.set functions.now)) (path_signatures self.now) }
+        ensures selects { IfOk result (λ list.
+            SelectsValues (before_builtin (F.set functions.now)) (path_tree self.now) (view value.now) (node_values list)) }
+        ensures refused { OnlyMemory (before_builtin (F.set functions.now)) (path_tree self.now) result }
     {
-        evaluate(alloc, &self.checked, value, value, Both(functions, Builtin))
+        evaluate(alloc, &self.checked, value, Both(functions, Builtin))
     }
 
     /// A walk over what the path selects in a document, node by node, under this set with the built-in functions behind
@@ -181,15 +178,14 @@ impl JsonPath {
         value: &'b Value,
         functions: &'q F,
     ) -> Result<Walk<'q, 'b, Both<&'q F, Builtin>>, QueryError>
-        requires { Fits (both (F.set functions.now) builtin_functions) (path_signatures self.now) }
-        ensures selects { IfOk result (λ walk. IsClear (both (F.set functions.now) builtin_functions) (path_tree self.now) (view value.now)
-            → IsResult (both (F.set functions.now) builtin_functions) (view value.now) (path_tree self.now) (view value.now) (rest walk)) }
+        requires { Fits (before_builtin (F.set functions.now)) (path_signatures self.now) }
+        ensures selects { IfOk result (λ walk.
+            Selects (before_builtin (F.set functions.now)) (path_tree self.now) (view value.now) (rest walk)) }
         ensures query { IfOk result (λ walk. query_of walk ≡ path_tree self.now) }
-        ensures set { IfOk result (λ walk. set_of walk ≡ both (F.set functions.now) builtin_functions) }
+        ensures set { IfOk result (λ walk. set_of walk ≡ before_builtin (F.set functions.now)) }
         ensures document { IfOk result (λ walk. document_of walk ≡ view value.now) }
-        ensures beginning { IfOk result (λ walk. beginning_of walk ≡ view value.now) }
         ensures refused { IfErr result (λ e. e ≡ Memory) }
     {
-        walk(alloc, &self.checked, value, value, Both(functions, Builtin))
+        walk(alloc, &self.checked, value, Both(functions, Builtin))
     }
 }

@@ -1,8 +1,8 @@
 //! Paths from the sources of their texts.
 
 ghost use Rattle.std.specs.Prelude.{◌≡◌, ◌+◌, ◌-◌, ◌*◌, ◌^◌, ◌≤◌, max, true, length, IfOk, IfErr};
-ghost use Rattle.serde_json_path_functions.specs.Functions.{both, Fits};
-ghost use Rattle.serde_json_path_functions.specs.Patterns.{builtin_functions};
+ghost use Rattle.serde_json_path_functions.specs.Functions.{Fits};
+ghost use Rattle.serde_json_path_functions.specs.Patterns.{before_builtin};
 ghost use Rattle.serde_json_path_parser.specs.Errors.{kind_of, position_of, is_told_at_next};
 ghost use Rattle.serde_json_path_parser.specs.Parse.{IsParseOf};
 ghost use Rattle.serde_json_path.specs.Paths.{path_signatures, parser_answer};
@@ -31,9 +31,9 @@ pub fn parse_source<S: PathSource, F: Functions>(
     source: &mut S,
     functions: &F,
 ) -> Result<JsonPath, ParseError>
-    ensures parse { IsParseOf (both (F.set functions.now) builtin_functions).signature (S.told source.old).text (parser_answer result) }
+    ensures parse { IsParseOf (before_builtin (F.set functions.now)).signature (S.told source.old).text (parser_answer result) }
     // The signatures that the path keeps are those of the set, with the built-in ones behind them.
-    ensures fits { IfOk result (λ path. Fits (both (F.set functions.now) builtin_functions) (path_signatures path)) }
+    ensures fits { IfOk result (λ path. Fits (before_builtin (F.set functions.now)) (path_signatures path)) }
     // The source still tells its text.
     ensures same_text { (S.told source.new).text ≡ (S.told source.old).text }
     // However the parse ends, there are at most 32(n + 1) looks more at n bytes.

@@ -33,4 +33,3 @@ pub mod Subtrees
 pub mod Tasks
 pub mod Turns
 pub mod WholeQueries
-mod Worked

@@ -21,24 +21,6 @@ module _ (F : FunctionSet) (top : Data) where
   pub computed_only : (q : Query) (v : Data) (ns : List Located) → IsTyped F.signature q → IsResult F top q v ns → ns ≡ results F top q v
   computed_only q v ns typed h = result_once F top q v ns (results F top q v) h (computed_result q v typed)
 
-  -- the computed list has a node exactly where the query has a derivation
-  pub exists_computed : (q : Query) (v : Data) → IsTyped F.signature q → IsTrue (is_nonempty (results F top q v)) ↔ Exists F top q v
-  exists_computed q v typed = (query_right F top q typed v).1
-
-  -- a logical expression computes to true exactly where it holds
-  pub holds_computed : (e : LogicalOr) (v : Data) → IsTypedOr F.signature e → IsTrue (is_true F top e v) ↔ Holds F top e v
-  holds_computed e v typed = or_right F top e typed v
-
   -- a side of a comparison stands for what is computed, and for nothing else
   pub compared_computed : (a : Comparable) (v : Data) (x : Compared) → IsTypedComparable F.signature a → IsComparedAs F top a v x ↔ (compared F top a v ≡ Some x)
   compared_computed a v x typed = compared_right F top a typed v x
-
-  -- a call answers what is computed, and nothing else
-  pub answers_computed : (c : Call) (v : Data) (t : Term) → IsTypedCall F.signature c → Answers F top c v t ↔ (t ≡ answer F top c v)
-  answers_computed c v t typed = call_right F top c typed v t
-
-  -- the nodes of a list of segments are those of the later segments from each node that the first selects, in order
-  pub results-segment : (kind : SegmentKind) (seg : Segment) (more : Segments) (n : Located)
-      → results_from F top (segment kind seg more) n ≡ flat_map (results_from F top more) (picked F top kind seg n)
-  results-segment kind seg more n =
-      sym (flat_map-flat_map (results_from F top more) (λ (m : Located). map (placed m.location) (chosen F top seg m.value)) (reached kind n))

@@ -18,3 +18,4 @@ pub mod Walks
 pub mod Operands
 pub mod Sides
 pub mod Laws
+pub mod Selects

@@ -6,12 +6,13 @@ use Rattle.serde_json_path_nodes.specs.Location.{Located}
 use Rattle.serde_json_path_syntax.specs.Tree.{Query, segments_of}
 use Rattle.serde_json_path_functions.specs.Functions.{FunctionSet}
 use Rattle.serde_json_path_syntax.specs.Parts.{tree_of}
+use Rattle.serde_json_path_core.specs.Clear.{IsClear}
 use Rattle.serde_json_path_core.specs.Places.{frames_of}
 use Rattle.serde_json_path_core.specs.Rest.{rest_of, work}
 use Rattle.serde_json_path_syntax.specs.Stages.{stages}
 use Rattle.serde_json_path_core.specs.declared.evaluation.resume.Walk.{Walk}
 
--- the query, the function set, the document's root, and the value where the walk began
+-- the query, the function set and the document
 abbrev pub query_of : {F : Type 0} {g : _} → Walk F g → Query
 query_of w = tree_of w.scope.query.now
 
@@ -21,8 +22,9 @@ set_of {F} {g} w = g.set w.scope.functions
 abbrev pub document_of : {F : Type 0} {g : _} → Walk F g → Data
 document_of w = view w.scope.root.now
 
-abbrev pub beginning_of : {F : Type 0} {g : _} → Walk F g → Data
-beginning_of w = view w.start.now
+-- the meaning of each call of the query is promised
+abbrev pub IsClearWalk : {F : Type 0} {g : _} → Walk F g → Type 0
+IsClearWalk w = IsClear (set_of w) (query_of w) (document_of w)
 
 -- the nodes that it has still to give
 abbrev pub rest : {F : Type 0} {g : _} → Walk F g → List Located

@@ -7,17 +7,14 @@ pub(crate) mod resume;
 pub(crate) mod scope;
 pub(crate) mod stack;
 
-ghost use Rattle.std.specs.Prelude.{◌≡◌, List, IfOk, IfErr, map};
+ghost use Rattle.std.specs.Prelude.{◌≡◌, IfOk, IfErr};
 ghost use Rattle.serde_json.specs.View.{view};
-ghost use Rattle.serde_json_path_nodes.specs.Location.{Located};
 ghost use Rattle.serde_json_path_nodes.specs.Views.{located_nodes, node_values};
 ghost use Rattle.serde_json_path_functions.specs.Functions.{Fits};
-ghost use Rattle.serde_json_path_syntax.specs.Calls.{EachCall};
-ghost use Rattle.serde_json_path_core.specs.Clear.{GoesWithoutPattern, IsClear};
 ghost use Rattle.serde_json_path_core.specs.Derivation.{start_of};
 ghost use Rattle.serde_json_path_syntax.specs.Flat.{kind_view};
-ghost use Rattle.serde_json_path_core.specs.Walks.{rest, query_of, set_of, document_of, beginning_of};
-ghost use Rattle.serde_json_path_core.specs.Meaning.{IsResult};
+ghost use Rattle.serde_json_path_core.specs.Selects.{OnlyMemory, Selects, SelectsValues};
+ghost use Rattle.serde_json_path_core.specs.Walks.{rest, query_of, set_of, document_of};
 ghost use Rattle.serde_json_path_syntax.specs.Parts.{signatures_of, tree_of};
 ghost use Rattle.serde_json_path_functions.specs.declared.error.QueryError.TheVariants.{Memory};
 
@@ -40,61 +37,61 @@ pub(crate) fn start<'b>(kind: QueryKind, node: &'b Value, root: &'b Value) -> &'
     }
 }
 
-/// A walk over what the query selects in the document with this root, where `@` is the node
-/// (RFC 9535, sections 2.1.2 and 2.5), under a function set that the query fits, which it keeps.
+/// A walk over what the query selects in the document, node by node (RFC 9535, sections 2.1.2 and 2.5), under a function
+/// set that the query fits, which the walk keeps.
 ///
 /// The nodes and the names of their locations borrow the document. An error comes only where memory is refused. No
 /// function is called yet.
+///
+/// ```text
+/// let mut walk = walk(alloc, &query, &document, Builtin)?;
+/// let first = walk.next()?;
+/// ```
 pub fn walk<'q, 'b, F: Functions + Drop>(
     alloc: Global,
     query: &'q Checked,
-    node: &'b Value,
-    root: &'b Value,
+    document: &'b Value,
     functions: F,
 ) -> Result<Walk<'q, 'b, F>, QueryError>
     requires { Fits (F.set functions) (signatures_of query.now) }
-    ensures selects { IfOk result (λ walk. IsClear (F.set functions) (tree_of query.now) (view root.now)
-        → IsResult (F.set functions) (view root.now) (tree_of query.now) (view node.now) (rest walk)) }
+    ensures selects { IfOk result (λ walk. Selects (F.set functions) (tree_of query.now) (view document.now) (rest walk)) }
     ensures query { IfOk result (λ walk. query_of walk ≡ tree_of query.now) }
     ensures set { IfOk result (λ walk. set_of walk ≡ F.set functions) }
-    ensures document { IfOk result (λ walk. document_of walk ≡ view root.now) }
-    ensures beginning { IfOk result (λ walk. beginning_of walk ≡ view root.now) }
+    ensures document { IfOk result (λ walk. document_of walk ≡ view document.now) }
     ensures refused { IfErr result (λ e. e ≡ Memory) }
 {
-    let start = start(query.kind(), node, root);
     let mut places = Vec::new(alloc);
-    places.push(Place::start(query, query.segments(), start))?;
+    places.push(Place::start(query, query.segments(), document))?;
     let scope = Scope {
         alloc,
         query,
-        root,
+        root: document,
         functions,
     };
-    Ok(Walk {
-        scope,
-        start,
-        places,
-    })
+    Ok(Walk { scope, places })
 }
 
-/// What the query selects, with locations, in order: in the document with this root, where `@` is the node
-/// (RFC 9535, sections 2.1.2 and 2.5), under a function set that the query fits.
+/// What the query selects in the document, with locations, in order (RFC 9535, sections 2.1.2 and 2.5), under a function
+/// set that the query fits.
 ///
 /// The nodes and the names of their locations borrow the document. Where an error comes there is no list: `Pattern` comes
 /// only where the query calls a function that stands for `match` or `search`; every other error is of memory.
+///
+/// ```text
+/// let nodes = evaluate_located(alloc, &query, &document, Builtin)?;
+/// ```
 pub fn evaluate_located<'b, F: Functions + Drop>(
     alloc: Global,
     query: &Checked,
-    node: &'b Value,
-    root: &'b Value,
+    document: &'b Value,
     functions: F,
 ) -> Result<LocatedNodeList<'b>, QueryError>
     requires { Fits (F.set functions) (signatures_of query.now) }
-    ensures selects { IfOk result (λ list. IsClear (F.set functions) (tree_of query.now) (view root.now)
-        → IsResult (F.set functions) (view root.now) (tree_of query.now) (view node.now) (located_nodes list)) }
-    ensures refused { IfErr result (λ e. EachCall (GoesWithoutPattern (F.set functions)) (tree_of query.now) → e ≡ Memory) }
+    ensures selects { IfOk result (λ list.
+        Selects (F.set functions) (tree_of query.now) (view document.now) (located_nodes list)) }
+    ensures refused { OnlyMemory (F.set functions) (tree_of query.now) result }
 {
-    let mut walk = walk(alloc, query, node, root, functions)?;
+    let mut walk = walk(alloc, query, document, functions)?;
     let mut found = Vec::new(alloc);
     'nodes: while let Some(node) = walk.next()? {
         found.push(node)?;
@@ -107,16 +104,15 @@ pub fn evaluate_located<'b, F: Functions + Drop>(
 pub fn evaluate<'b, F: Functions + Drop>(
     alloc: Global,
     query: &Checked,
-    node: &'b Value,
-    root: &'b Value,
+    document: &'b Value,
     functions: F,
 ) -> Result<NodeList<'b>, QueryError>
     requires { Fits (F.set functions) (signatures_of query.now) }
-    ensures selects { IfOk result (λ list. IsClear (F.set functions) (tree_of query.now) (view root.now)
-        → (nodes : List Located) × IsResult (F.set functions) (view root.now) (tree_of query.now) (view node.now) nodes × (node_values list ≡ map (λ n. n.value) nodes)) }
-    ensures refused { IfErr result (λ e. EachCall (GoesWithoutPattern (F.set functions)) (tree_of query.now) → e ≡ Memory) }
+    ensures selects { IfOk result (λ list.
+        SelectsValues (F.set functions) (tree_of query.now) (view document.now) (node_values list)) }
+    ensures refused { OnlyMemory (F.set functions) (tree_of query.now) result }
 {
-    let mut walk = walk(alloc, query, node, root, functions)?;
+    let mut walk = walk(alloc, query, document, functions)?;
     let mut found = Vec::new(alloc);
     'values: while let Some(value) = walk.next_value()? {
         found.push(value)?;

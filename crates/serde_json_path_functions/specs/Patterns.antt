@@ -3,7 +3,7 @@ use Rattle.std.specs.Prelude.{ℕ, ◌≤◌, List, [], ◌∷◌, ◌++◌, Boo
 use Rattle.regex_syntax.specs.Grammar.{read}
 use Rattle.regex.specs.Patterns.{default_config, find_str}
 use Rattle.serde_json.specs.Data.{string}
-use Rattle.serde_json_path_functions.specs.Functions.{Term, value, logical, Matching, whole_text, any_part, FunctionSet, builtin_signature, builtin_by_regex, plain_meaning}
+use Rattle.serde_json_path_functions.specs.Functions.{Term, value, logical, Matching, whole_text, any_part, FunctionSet, builtin_signature, builtin_by_regex, plain_meaning, both}
 
 -- the text that is built of an argument
 abbrev pub built_text : Matching → List ℕ → List ℕ
@@ -40,3 +40,7 @@ builtin_functions = record {
   meaning = λ name ts. meaning_by (builtin_by_regex name) (plain_meaning name ts) ts;
   by_regex = builtin_by_regex;
 }
+
+-- a set's functions, and the built-in ones after them: of two functions with one name that of the set counts
+abbrev pub before_builtin : FunctionSet → FunctionSet
+before_builtin F = both F builtin_functions

@@ -9,6 +9,7 @@ pub mod NamedParts
 pub mod NotedNames
 pub mod Noting
 pub mod OtherNodes
+mod PrintedTexts
 pub mod SingularParts
 pub mod TypedByNames
 pub mod Typings

@@ -142,14 +142,6 @@ made_of_two old new left right piece_for make (Ok part) h = λ x y first second.
     (subst (λ piece. IsPart new part (make piece (piece_in (pieces old.nodes.items) right.number))) first.1 h)
 made_of_two old new left right piece_for make (Err e) h = tt
 
--- parts whose numbers are below a bound are below a greater one
-pub parts_below : (parts : List Part) (low high : ℕ) → low ≤ high → All (λ number. number < low) (numbers parts) → All (λ (part : Part). part.number < high) parts
-parts_below parts low high le h = All-from_recursion _ parts (each parts (recursion_from_All (λ number. number < low) _ h))
-  where
-    each : (ps : List Part) → AllByRecursion (λ number. number < low) (numbers ps) → AllByRecursion (λ (part : Part). part.number < high) ps
-    each [] g = tt
-    each (p ∷ ps) g = (let below = g.0 in omega arith, each ps g.1)
-
 pub parts_for_kept : (old new : SyntaxBuilder) → KeepsParts old new → (parts : List Part) (ps : List Piece) → ArePartsFor old parts ps → ArePartsFor new parts ps
 parts_for_kept old new keeps [] [] h = tt
 parts_for_kept old new keeps [] (p ∷ ps) h = absurd h

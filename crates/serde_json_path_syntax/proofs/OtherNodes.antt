@@ -6,17 +6,6 @@ use Rattle.serde_json_path_syntax.specs.declared.node.Node.{Node}
 use Rattle.serde_json_path_syntax.specs.declared.node.Node.TheVariants as node
 use Rattle.serde_json_path_syntax.specs.Flat.{piece_of, query_in, segment_kind_in, segment_in, selector_in, or_in, and_in, basic_in, comparable_in, call_in, argument_in}
 
-pub no_query : (ps : List Piece) (n : Node) → ((k : _) (parts : _) → n ≡ node.Query k parts → ⊥) → query_in (piece_of ps n) ≡ query root no_segments
-no_query ps (node.Query k parts) h = absurd (h k parts refl)
-no_query ps (node.Segment k seg) h = refl
-no_query ps (node.Selector sel) h = refl
-no_query ps (node.LogicalOr parts) h = refl
-no_query ps (node.LogicalAnd parts) h = refl
-no_query ps (node.Basic b) h = refl
-no_query ps (node.Comparable c) h = refl
-no_query ps (node.Call k parts) h = refl
-no_query ps (node.Argument a) h = refl
-
 pub no_segment_kind : (ps : List Piece) (n : Node) → ((k : _) (seg : _) → n ≡ node.Segment k seg → ⊥) → segment_kind_in (piece_of ps n) ≡ child
 no_segment_kind ps (node.Query k parts) h = refl
 no_segment_kind ps (node.Segment k seg) h = absurd (h k seg refl)
@@ -49,50 +38,6 @@ no_selector ps (node.Basic b) h = refl
 no_selector ps (node.Comparable c) h = refl
 no_selector ps (node.Call k parts) h = refl
 no_selector ps (node.Argument a) h = refl
-
-pub no_or_node : (ps : List Piece) (n : Node) → ((parts : _) → n ≡ node.LogicalOr parts → ⊥) → or_in (piece_of ps n) ≡ no_or
-no_or_node ps (node.Query k parts) h = refl
-no_or_node ps (node.Segment k seg) h = refl
-no_or_node ps (node.Selector sel) h = refl
-no_or_node ps (node.LogicalOr parts) h = absurd (h parts refl)
-no_or_node ps (node.LogicalAnd parts) h = refl
-no_or_node ps (node.Basic b) h = refl
-no_or_node ps (node.Comparable c) h = refl
-no_or_node ps (node.Call k parts) h = refl
-no_or_node ps (node.Argument a) h = refl
-
-pub no_and_node : (ps : List Piece) (n : Node) → ((parts : _) → n ≡ node.LogicalAnd parts → ⊥) → and_in (piece_of ps n) ≡ no_and
-no_and_node ps (node.Query k parts) h = refl
-no_and_node ps (node.Segment k seg) h = refl
-no_and_node ps (node.Selector sel) h = refl
-no_and_node ps (node.LogicalOr parts) h = refl
-no_and_node ps (node.LogicalAnd parts) h = absurd (h parts refl)
-no_and_node ps (node.Basic b) h = refl
-no_and_node ps (node.Comparable c) h = refl
-no_and_node ps (node.Call k parts) h = refl
-no_and_node ps (node.Argument a) h = refl
-
-pub no_basic : (ps : List Piece) (n : Node) → ((b : _) → n ≡ node.Basic b → ⊥) → basic_in (piece_of ps n) ≡ paren no_or
-no_basic ps (node.Query k parts) h = refl
-no_basic ps (node.Segment k seg) h = refl
-no_basic ps (node.Selector sel) h = refl
-no_basic ps (node.LogicalOr parts) h = refl
-no_basic ps (node.LogicalAnd parts) h = refl
-no_basic ps (node.Basic b) h = absurd (h b refl)
-no_basic ps (node.Comparable c) h = refl
-no_basic ps (node.Call k parts) h = refl
-no_basic ps (node.Argument a) h = refl
-
-pub no_comparable : (ps : List Piece) (n : Node) → ((c : _) → n ≡ node.Comparable c → ⊥) → comparable_in (piece_of ps n) ≡ literal null
-no_comparable ps (node.Query k parts) h = refl
-no_comparable ps (node.Segment k seg) h = refl
-no_comparable ps (node.Selector sel) h = refl
-no_comparable ps (node.LogicalOr parts) h = refl
-no_comparable ps (node.LogicalAnd parts) h = refl
-no_comparable ps (node.Basic b) h = refl
-no_comparable ps (node.Comparable c) h = absurd (h c refl)
-no_comparable ps (node.Call k parts) h = refl
-no_comparable ps (node.Argument a) h = refl
 
 pub no_call : (ps : List Piece) (n : Node) → ((k : _) (parts : _) → n ≡ node.Call k parts → ⊥) → call_in (piece_of ps n) ≡ call [] no_arguments
 no_call ps (node.Query k parts) h = refl

@@ -1,7 +1,6 @@
 //! Walks that go on from call to call.
 
 ghost use Rattle.serde_json.specs.View.{view};
-ghost use Rattle.serde_json_path_core.specs.Clear.{StandsIn};
 ghost use Rattle.serde_json_path_core.specs.Rest.{IsStack};
 ghost use Rattle.serde_json_path_core.specs.Places.{frames_of};
 
@@ -19,27 +18,23 @@ use serde_json_path_nodes::LocatedNode;
 #[derive(Drop)]
 pub struct Walk<'q, 'b, F: Functions> {
     pub(crate) scope: Scope<'q, 'b, F>,
-    pub(crate) start: &'b Value,
     pub(crate) places: Vec<Place<'b>>,
-    ghost inside: { StandsIn (view scope.root.now) (view start.now) },
-    ghost stack: { ∥ IsStack (view start.now) (frames_of places.items) ∥₁ },
+    ghost stack: { ∥ IsStack (view scope.root.now) (frames_of places.items) ∥₁ },
 }
 
 impl<'q, 'b, F: Functions> Walk<'q, 'b, F> {
     ghost use Rattle.std.specs.Prelude.{◌≡◌, ◌+◌, ◌<◌, ◌≤◌, [], ◌∷◌, IfOk, IfErr, IfSome, IfNone, MatchOption};
     ghost use Rattle.serde_json_path_nodes.specs.Views.{located};
     ghost use Rattle.serde_json_path_nodes.specs.Location.{Located};
-    ghost use Rattle.serde_json_path_syntax.specs.Calls.{EachCall};
-    ghost use Rattle.serde_json_path_core.specs.Clear.{GoesWithoutPattern, IsClear};
     ghost use Rattle.serde_json_path_core.specs.Height.{height};
-    ghost use Rattle.serde_json_path_core.specs.Walks.{query_of, set_of, document_of, beginning_of, rest, places_of, steps_of};
-    ghost use Rattle.serde_json_path_functions.specs.declared.error.QueryError.TheVariants.{Memory};
+    ghost use Rattle.serde_json_path_core.specs.Selects.{OnlyMemory};
+    ghost use Rattle.serde_json_path_core.specs.Walks.{query_of, set_of, document_of, rest, places_of, steps_of, IsClearWalk};
 
-    /// How many places the walk keeps: at most one more than the value where it began is high. Where it keeps none,
-    /// nothing is still to come.
+    /// How many places the walk keeps: at most one more than the document is high. Where it keeps none,
+    /// no node remains.
     pub fn places(&self) -> usize
         ensures count { result ≡ places_of self.now }
-        ensures within { result ≤ height (beginning_of self.now) + 1 }
+        ensures within { result ≤ height (document_of self.now) + 1 }
         ensures empty { result ≡ 0 → rest self.now ≡ [] }
     {
         self.places.len()
@@ -54,14 +49,13 @@ impl<'q, 'b, F: Functions> Walk<'q, 'b, F> {
         ensures query { query_of self.new ≡ query_of self.old }
         ensures set { set_of self.new ≡ set_of self.old }
         ensures document { document_of self.new ≡ document_of self.old }
-        ensures beginning { beginning_of self.new ≡ beginning_of self.old }
-        ensures given { IfOk result (λ next. IsClear (set_of self.old) (query_of self.old) (document_of self.old) → MatchOption next
+        ensures given { IfOk result (λ next. IsClearWalk self.old → MatchOption next
             ((rest self.old ≡ []) × (rest self.new ≡ []))
             (λ node. rest self.old ≡ located node ∷ rest self.new)) }
         ensures ended { IfOk result (λ next. IfNone next (places_of self.new ≡ 0)) }
         ensures nearer { IfOk result (λ next. IfSome next (λ node. steps_of self.new < steps_of self.old)) }
-        ensures unchanged { IfErr result (λ e. IsClear (set_of self.old) (query_of self.old) (document_of self.old) → rest self.new ≡ rest self.old) }
-        ensures refused { IfErr result (λ e. EachCall (GoesWithoutPattern (set_of self.old)) (query_of self.old) → e ≡ Memory) }
+        ensures unchanged { IfErr result (λ e. IsClearWalk self.old → rest self.new ≡ rest self.old) }
+        ensures refused { OnlyMemory (set_of self.old) (query_of self.old) result }
     {
         let scope = &self.scope;
         match find_next(scope, scope.query.segments(), &mut self.places)? {
@@ -79,11 +73,11 @@ impl<'q, 'b, F: Functions> Walk<'q, 'b, F> {
         ensures query { query_of self.new ≡ query_of self.old }
         ensures set { set_of self.new ≡ set_of self.old }
         ensures document { document_of self.new ≡ document_of self.old }
-        ensures given { IfOk result (λ next. IsClear (set_of self.old) (query_of self.old) (document_of self.old) → MatchOption next
+        ensures given { IfOk result (λ next. IsClearWalk self.old → MatchOption next
             (rest self.old ≡ [])
             (λ value. (node : Located) × (node.value ≡ view value.now) × (rest self.old ≡ node ∷ rest self.new))) }
         ensures nearer { IfOk result (λ next. IfSome next (λ value. steps_of self.new < steps_of self.old)) }
-        ensures refused { IfErr result (λ e. EachCall (GoesWithoutPattern (set_of self.old)) (query_of self.old) → e ≡ Memory) }
+        ensures refused { OnlyMemory (set_of self.old) (query_of self.old) result }
     {
         let scope = &self.scope;
         match find_next(scope, scope.query.segments(), &mut self.places)? {

@@ -26,13 +26,13 @@ values-preserved g c =
     let value = c.in-Some.value in
     let before = c.values.invariant in
     let left = rest c.next_value.new.self in
-    let nodes = IsResult (g.F.Functions.set c.args.functions) (view c.args.root.now) (tree_of c.args.query.now) (view c.args.node.now) in
+    let nodes = IsResult (g.F.Functions.set c.args.functions) (view c.args.document.now) (tree_of c.args.query.now) (view c.args.document.now) in
     record {
       set = c.next_value.ensures.set ∙ before.set;
       query = c.next_value.ensures.query ∙ before.query;
       document = c.next_value.ensures.document ∙ before.document;
       selected = λ clear.
-          let given = found-some _ _ c.in_ok-value.field-0 value c.in-Some.is (c.in_ok-value.ensures.given (clear-there (g.F.Functions.set c.args.functions) (set_of c.values.walk) (tree_of c.args.query.now) (query_of c.values.walk) (view c.args.root.now) (document_of c.values.walk) before.set before.query before.document clear)) in
+          let given = found-some _ _ c.in_ok-value.field-0 value c.in-Some.is (c.in_ok-value.ensures.given (clear-there (g.F.Functions.set c.args.functions) (set_of c.values.walk) (tree_of c.args.query.now) (query_of c.values.walk) (view c.args.document.now) (document_of c.values.walk) before.set before.query before.document clear)) in
           let found = before.selected clear in (
             found.0 ++ given.0 ∷ [],
             subst nodes (ap (λ more. found.0 ++ more) given.2 ∙ sym (append_assoc found.0 (given.0 ∷ []) left)) found.1,
@@ -46,9 +46,9 @@ pub returns-clause-selects : goal.returns-clause-selects
 returns-clause-selects g c =
     let before = c.values.invariant in
     λ clear.
-    let none = found-none _ _ c.in_ok-value.field-0 c.in_default.is (c.in_ok-value.ensures.given (clear-there (g.F.Functions.set c.args.functions) (set_of c.values.walk) (tree_of c.args.query.now) (query_of c.values.walk) (view c.args.root.now) (document_of c.values.walk) before.set before.query before.document clear)) in
+    let none = found-none _ _ c.in_ok-value.field-0 c.in_default.is (c.in_ok-value.ensures.given (clear-there (g.F.Functions.set c.args.functions) (set_of c.values.walk) (tree_of c.args.query.now) (query_of c.values.walk) (view c.args.document.now) (document_of c.values.walk) before.set before.query before.document clear)) in
     let found = before.selected clear in (
       found.0,
-      subst (IsResult (g.F.Functions.set c.args.functions) (view c.args.root.now) (tree_of c.args.query.now) (view c.args.node.now)) (ap (λ more. found.0 ++ more) none ∙ append-nil found.0) found.1,
+      subst (IsResult (g.F.Functions.set c.args.functions) (view c.args.document.now) (tree_of c.args.query.now) (view c.args.document.now)) (ap (λ more. found.0 ++ more) none ∙ append-nil found.0) found.1,
       c.from.ensures ∙ found.2,
     )

@@ -12,9 +12,9 @@ abbrev pub invariant-values : goal.invariant-values
 invariant-values g l = record {
   set : set_of l.walk ≡ g.F.Functions.set l.fn.functions;
   query : query_of l.walk ≡ tree_of l.fn.query;
-  document : document_of l.walk ≡ view l.fn.root;
-  selected : IsClear (g.F.Functions.set l.fn.functions) (tree_of l.fn.query) (view l.fn.root)
-      → (given : List Located) × IsResult (g.F.Functions.set l.fn.functions) (view l.fn.root) (tree_of l.fn.query) (view l.fn.node) (given ++ rest l.walk) × (map node_value l.found.items ≡ map (λ n. n.value) given);
+  document : document_of l.walk ≡ view l.fn.document;
+  selected : IsClear (g.F.Functions.set l.fn.functions) (tree_of l.fn.query) (view l.fn.document)
+      → (given : List Located) × IsResult (g.F.Functions.set l.fn.functions) (view l.fn.document) (tree_of l.fn.query) (view l.fn.document) (given ++ rest l.walk) × (map node_value l.found.items ≡ map (λ n. n.value) given);
 }
 
 abbrev pub decreases-values : goal.decreases-values

@@ -30,8 +30,8 @@ nodes-preserved g c =
       query = c.next.ensures.query ∙ before.query;
       document = c.next.ensures.document ∙ before.document;
       selected = λ clear.
-          let given = found-some _ _ c.in_ok-node.field-0 node c.in-Some.is (c.in_ok-node.ensures.given (clear-there (g.F.Functions.set c.args.functions) (set_of c.nodes.walk) (tree_of c.args.query.now) (query_of c.nodes.walk) (view c.args.root.now) (document_of c.nodes.walk) before.set before.query before.document clear)) in
-          subst (IsResult (g.F.Functions.set c.args.functions) (view c.args.root.now) (tree_of c.args.query.now) (view c.args.node.now))
+          let given = found-some _ _ c.in_ok-node.field-0 node c.in-Some.is (c.in_ok-node.ensures.given (clear-there (g.F.Functions.set c.args.functions) (set_of c.nodes.walk) (tree_of c.args.query.now) (query_of c.nodes.walk) (view c.args.document.now) (document_of c.nodes.walk) before.set before.query before.document clear)) in
+          subst (IsResult (g.F.Functions.set c.args.functions) (view c.args.document.now) (tree_of c.args.query.now) (view c.args.document.now))
           (ap (λ more. map located c.nodes.found.items ++ more) given ∙ sym (append_assoc (map located c.nodes.found.items) (located node ∷ []) left)
           ∙ ap (λ nodes. nodes ++ left) (sym (ap (map located) c.in_ok-push.ensures.items ∙ map-append located c.nodes.found.items (node ∷ []))))
           (before.selected clear);
@@ -41,7 +41,7 @@ pub returns-clause-selects : goal.returns-clause-selects
 returns-clause-selects g c =
     let before = c.nodes.invariant in
     λ clear.
-    let none = found-none _ _ c.in_ok-node.field-0 c.in_default.is (c.in_ok-node.ensures.given (clear-there (g.F.Functions.set c.args.functions) (set_of c.nodes.walk) (tree_of c.args.query.now) (query_of c.nodes.walk) (view c.args.root.now) (document_of c.nodes.walk) before.set before.query before.document clear)) in
-    subst (IsResult (g.F.Functions.set c.args.functions) (view c.args.root.now) (tree_of c.args.query.now) (view c.args.node.now))
+    let none = found-none _ _ c.in_ok-node.field-0 c.in_default.is (c.in_ok-node.ensures.given (clear-there (g.F.Functions.set c.args.functions) (set_of c.nodes.walk) (tree_of c.args.query.now) (query_of c.nodes.walk) (view c.args.document.now) (document_of c.nodes.walk) before.set before.query before.document clear)) in
+    subst (IsResult (g.F.Functions.set c.args.functions) (view c.args.document.now) (tree_of c.args.query.now) (view c.args.document.now))
     (ap (λ more. map located c.nodes.found.items ++ more) none.0 ∙ append-nil (map located c.nodes.found.items) ∙ sym c.from.ensures)
     (before.selected clear)

@@ -11,9 +11,9 @@ abbrev pub invariant-nodes : goal.invariant-nodes
 invariant-nodes g l = record {
   set : set_of l.walk ≡ g.F.Functions.set l.fn.functions;
   query : query_of l.walk ≡ tree_of l.fn.query;
-  document : document_of l.walk ≡ view l.fn.root;
-  selected : IsClear (g.F.Functions.set l.fn.functions) (tree_of l.fn.query) (view l.fn.root)
-      → IsResult (g.F.Functions.set l.fn.functions) (view l.fn.root) (tree_of l.fn.query) (view l.fn.node) (map located l.found.items ++ rest l.walk);
+  document : document_of l.walk ≡ view l.fn.document;
+  selected : IsClear (g.F.Functions.set l.fn.functions) (tree_of l.fn.query) (view l.fn.document)
+      → IsResult (g.F.Functions.set l.fn.functions) (view l.fn.document) (tree_of l.fn.query) (view l.fn.document) (map located l.found.items ++ rest l.walk);
 }
 
 abbrev pub decreases-nodes : goal.decreases-nodes

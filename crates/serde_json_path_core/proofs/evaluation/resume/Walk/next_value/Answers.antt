@@ -4,11 +4,12 @@ use Rattle.serde_json.specs.View.{view}
 use Rattle.serde_json_path_syntax.specs.Flat.{segments_at}
 use Rattle.serde_json_path_syntax.specs.Parts.{signatures_of}
 use Rattle.serde_json_path_core.specs.Sound.{AreSoundSegments}
-use Rattle.serde_json_path_core.specs.Walks.{set_of, query_of, document_of, beginning_of}
+use Rattle.serde_json_path_core.specs.Walks.{set_of, query_of, document_of}
 use Rattle.serde_json_path_core.specs.Rest.{IsStackIn, rest_of, work, stack_path}
 use Rattle.serde_json_path_syntax.specs.Stages.{stages, stages_at}
 use Rattle.serde_json_path_core.specs.Places.{frames_of}
 use Rattle.serde_json_path_core.proofs.SoundParts.{sound-segments}
+use Rattle.serde_json_path_core.proofs.Standing.{root_stands}
 use Rattle.serde_json_path_core.proofs.WholeQueries.{whole-sound}
 use Rattle.serde_json_path_core.proofs.Found.{found-none, found-some}
 use Rattle.serde_json_path_core.proofs.Rests.{has-last, rest-ends, stack-dropped, work-ends}
@@ -23,21 +24,20 @@ find_next-requires g c =
     let sound : AreSoundSegments (set_of w) (document_of w) (query_of w) segs =
     sound-segments (set_of w) (document_of w) (query_of w) (query_of w) segs c.segments.ensures.tree
     (whole-sound (set_of w) (document_of w) (signatures_of w.scope.query.now) (query_of w) w.scope.fits w.scope.query.now.typed) in
-    let inside : ∥ IsStackIn (document_of w) (frames_of w.places.items) ∥₁ = ∥∥₁_map w.stack (λ h. (beginning_of w, w.inside, h)) in
+    let inside : ∥ IsStackIn (document_of w) (frames_of w.places.items) ∥₁ = ∥∥₁_map w.stack (λ h. (document_of w, root_stands (document_of w), h)) in
     search rules
 
 pub invariant_of-self : goal.invariant_of-self
-invariant_of-self g c = record { inside = c.args.self.now.inside; stack = ∥∥₁_map c.args.self.now.stack (c.find_next.ensures.stack (view c.args.self.now.start.now)) }
+invariant_of-self g c = record { stack = ∥∥₁_map c.args.self.now.stack (c.find_next.ensures.stack (view c.args.self.now.scope.root.now)) }
 
 pub invariant_of-self-in-Some : goal.invariant_of-self-in-Some
 invariant_of-self-in-Some g c =
     let w = c.args.self.now in
     let ends = found-some _ _ c.in_ok-find_next.field-0 c.in-Some.value c.in-Some.is c.in_ok-find_next.ensures.found in
     record {
-      inside = w.inside;
       stack = ∥∥₁_map w.stack (λ h.
-          stack-dropped (stages_at w.scope.query.now.nodes.items c.segments.result.now) c.find_next.new.places.items (view c.in-Some.value.now) ends (view w.start.now) c.drop_last.new.places.items c.drop_last.ensures
-          (c.find_next.ensures.stack (view w.start.now) h));
+          stack-dropped (stages_at w.scope.query.now.nodes.items c.segments.result.now) c.find_next.new.places.items (view c.in-Some.value.now) ends (view w.scope.root.now) c.drop_last.new.places.items c.drop_last.ensures
+          (c.find_next.ensures.stack (view w.scope.root.now) h));
     }
 
 pub drop_last-requires : goal.drop_last-requires

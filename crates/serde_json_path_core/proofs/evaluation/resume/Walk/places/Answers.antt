@@ -10,5 +10,5 @@ use Rattle.serde_json_path_core.proofs.evaluation.resume.Walk.places.Goals as go
 pub returns-clause-within : goal.returns-clause-within
 returns-clause-within g c =
     let w = c.args.self.now in
-    at_most c.len.result (height (view w.start.now) + 1) w.stack
-    (λ stack. subst (λ n. n ≤ height (view w.start.now) + 1) (length-map w.places.items frame_of ∙ sym (c.len.ensures ∙ w.places.ok.0)) (stack-height (view w.start.now) (frames_of w.places.items) stack))
+    at_most c.len.result (height (view w.scope.root.now) + 1) w.stack
+    (λ stack. subst (λ n. n ≤ height (view w.scope.root.now) + 1) (length-map w.places.items frame_of ∙ sym (c.len.ensures ∙ w.places.ok.0)) (stack-height (view w.scope.root.now) (frames_of w.places.items) stack))
