@@ -1,4 +1,4 @@
--- Stacks of places, each at a child of the one below: what a turn keeps, and how many places there are at most.
+-- Stacks of frames, each at a child of the one below: what a turn keeps, and how many frames there are at most.
 use Rattle.std.proofs.Common.{◌≡◌, ℕ, ◌+◌, ◌<◌, ◌≤◌, List, [], ◌∷◌, ◌++◌, drop, length, Some, None, sym, ap, subst, ◌∙◌, arith}
 use Rattle.std.specs.List.{All}
 use Rattle.std.proofs.lemmas.List.Elements.{All-nil}
@@ -8,7 +8,7 @@ use Rattle.serde_json_path_functions.specs.Functions.{FunctionSet}
 use Rattle.serde_json_path_core.specs.Height.{height}
 use Rattle.serde_json_path_syntax.specs.Stages.{Stage}
 use Rattle.serde_json_path_core.specs.Rest.{Frame, begun, rest_of, work, IsOfValue, IsChain, IsStack}
-use Rattle.serde_json_path_core.specs.Advances.{IsSamePlace, ComesTo, IsDone}
+use Rattle.serde_json_path_core.specs.Advances.{IsSameFrame, ComesTo, IsDone}
 use Rattle.serde_json_path_core.proofs.Heights.{height-child_at}
 use Rattle.serde_json_path_core.proofs.Moves.{IsChildOf, opened-of}
 use Rattle.serde_json_path_core.proofs.Turns.{rest-dropped, rest-moved, work-dropped, work-moved}
@@ -27,8 +27,8 @@ chain-last : (v : Data) (ps : List Frame) (p : Frame) → IsChain v (ps ++ p ∷
 chain-last v [] p h = h.3
 chain-last v (q ∷ qs) p h = chain-last q.value qs p h.4
 
--- the last place is replaced by one at the same value, and a place at a child of it is put above
-chain-moved : (v : Data) (ps : List Frame) (p m q : Frame) (s : Step) → IsChain v (ps ++ p ∷ []) → IsSamePlace p m → q.step ≡ Some s → child_at p.value s ≡ Some q.value → IsOfValue q
+-- the last frame is replaced by one at the same value, and a frame at a child of it is put above
+chain-moved : (v : Data) (ps : List Frame) (p m q : Frame) (s : Step) → IsChain v (ps ++ p ∷ []) → IsSameFrame p m → q.step ≡ Some s → child_at p.value s ≡ Some q.value → IsOfValue q
     → IsChain v ((ps ++ m ∷ []) ++ q ∷ [])
 chain-moved v [] p m q s h same step leads left =
     (h.0, same.0 ∙ h.1, h.2 ∙ ap Some (sym same.1), same.3 h.3, (s, step, ap (λ w. child_at w s) same.1 ∙ leads, left, tt))
@@ -51,17 +51,17 @@ stack-last : (start : Data) (ps : List Frame) (p : Frame) → IsStack start (ps 
 stack-last start [] p h = h.2
 stack-last start (q ∷ qs) p h = chain-last q.value qs p h.3
 
-stack-moved : (start : Data) (ps : List Frame) (p m q : Frame) (s : Step) → IsStack start (ps ++ p ∷ []) → IsSamePlace p m → q.step ≡ Some s → child_at p.value s ≡ Some q.value → IsOfValue q
+stack-moved : (start : Data) (ps : List Frame) (p m q : Frame) (s : Step) → IsStack start (ps ++ p ∷ []) → IsSameFrame p m → q.step ≡ Some s → child_at p.value s ≡ Some q.value → IsOfValue q
     → IsStack start ((ps ++ m ∷ []) ++ q ∷ [])
 stack-moved start [] p m q s h same step leads left = (same.0 ∙ h.0, same.1 ∙ h.1, same.3 h.2, (s, step, ap (λ w. child_at w s) same.1 ∙ leads, left, tt))
 stack-moved start (r ∷ rs) p m q s h same step leads left = (h.0, h.1, h.2, chain-moved r.value rs p m q s h.3 same step leads left)
 
--- a place where a walk begins is a stack
+-- a frame where a walk begins is a stack
 pub stack-started : (all : List Stage) (start : Data) (q : Frame) → q ≡ record { step = None; value = start; segment = 0; selector = 0; left = begun all start } → IsStack start (q ∷ [])
 stack-started all start q e =
     (ap (λ (p : Frame). p.step) e, ap (λ (p : Frame). p.value) e, subst IsOfValue (sym e) (begun-of all start), tt)
 
--- a stack has at most one place more than the start is high
+-- a stack has at most one frame more than the start is high
 pub stack-height : (start : Data) (ps : List Frame) → IsStack start ps → length ps ≤ height start + 1
 stack-height start [] h = omega arith
 stack-height start (p ∷ ps) h =

@@ -14,7 +14,7 @@ use Rattle.serde_json_path_syntax.specs.Lists.{IsIn}
 use Rattle.serde_json_path_core.specs.Meaning.{MayDescend, Derives, AdmitsIn, AdmitsBy, Admits, Holds, HoldsAll, HoldsBasic, Exists, IsResult, IsComparedAs, Answers, AreArguments, IsArgument, AnswersYes, IsTruthOf, first_value, params_of}
 use Rattle.serde_json_path_syntax.specs.Typing.{IsTyped, AreTypedSegments, IsTypedSegment, AreTypedSelectors, IsTypedSelector, IsTypedOr, IsTypedAnd, IsTypedBasic, IsTypedComparable, IsTypedCall, AreTypedArguments, IsTypedArgument}
 use Rattle.serde_json_path_core.specs.Selected.{child_by}
-use Rattle.serde_json_path_core.specs.Computed.{itself, children, results, selected, is_true, all_true, basic_true, compare_sides, compared, answer, arguments, argument_as, answers_yes, answer_compared, is_nonempty}
+use Rattle.serde_json_path_core.specs.Computed.{itself, children, results, selected, is_true, all_true, basic_true, compare_sides, compared, answer, arguments, argument_as, answer_holds, answer_compared, is_nonempty}
 use Rattle.serde_json_path_syntax.proofs.InLists.{in_append, in_map, map_in, in_flat_map, in_keep, in_order-map}
 use Rattle.serde_json_path_core.proofs.ChildSteps.{in_children, in_child_by, in_item_at}
 use Rattle.serde_json_path_core.proofs.Comparisons.{Decides-compare}
@@ -65,7 +65,7 @@ in_triples down number cs t = (
 
 -- ---- tests and answers
 
-yes_decides : (t : Term) → Decides (answers_yes t) (AnswersYes t)
+yes_decides : (t : Term) → Decides (answer_holds t) (AnswersYes t)
 yes_decides (value v) = (λ e. true≢false (sym e), λ h. absurd h)
 yes_decides (nodes []) = (λ e. absurd (true≢false (sym e)), λ h. absurd (h refl))
 yes_decides (nodes (d ∷ ds)) = (λ e f. let g : [] ≡ d ∷ ds = sym f in cc, λ h. refl)
@@ -95,15 +95,15 @@ answer_side a A f x = (λ h. ap answer_compared (sym ((f (value h.0)).0 h.1)) �
     by (logical b) e g = absurd (none-some x g)
 
 -- an answer as a test
-answer_test : (a : Term) (A : Term → Type 0) → ((t : Term) → A t ↔ (t ≡ a)) → Decides (answers_yes a) ((t : Term) × A t × AnswersYes t)
+answer_test : (a : Term) (A : Term → Type 0) → ((t : Term) → A t ↔ (t ≡ a)) → Decides (answer_holds a) ((t : Term) × A t × AnswersYes t)
 answer_test a A f =
     let d = yes_decides a in
     (λ e. (a, (f a).1 refl, d.0 e), λ h. d.1 (subst AnswersYes ((f h.0).0 h.1) h.2))
 
 -- an answer as an argument of type Logical
-answer_logical : (a : Term) (A : Term → Type 0) → ((u : Term) → A u ↔ (u ≡ a)) → (t : Term) → ((u : Term) × A u × IsTruthOf (AnswersYes u) t) ↔ (t ≡ logical (answers_yes a))
+answer_logical : (a : Term) (A : Term → Type 0) → ((u : Term) → A u ↔ (u ≡ a)) → (t : Term) → ((u : Term) × A u × IsTruthOf (AnswersYes u) t) ↔ (t ≡ logical (answer_holds a))
 answer_logical a A f t =
-    let d = truth_of (AnswersYes a) (answers_yes a) t (yes_decides a) in
+    let d = truth_of (AnswersYes a) (answer_holds a) t (yes_decides a) in
     (λ h. d.0 (subst (λ u. IsTruthOf (AnswersYes u) t) ((f h.0).0 h.1) h.2), λ e. (a, (f a).1 refl, d.1 e))
 
 -- one argument and those after it
@@ -118,7 +118,7 @@ module _ (F : FunctionSet) (top : Data) where
   abbrev AreEnds : Segments → Type 0
   AreEnds segs = (v : Data) (e : End) → IsIn e (ends F top segs v) ↔ (Derives F top segs v e.0 × (at v (location_of e.0) ≡ Some e.1))
 
-  -- the segment's triples at a place are those that it admits there
+  -- the segment's triples at a frame are those that it admits there
   abbrev ArePicks : Segment → Type 0
   ArePicks seg =
       (down : List Step) (v : Data) (t : Triple × Data)
@@ -301,7 +301,7 @@ module _ (F : FunctionSet) (top : Data) where
     basic_right (exist q) typed v = (query_right q typed v).1
     basic_right (not_exist q) typed v = Decides-not (is_nonempty (results F top q v)) (query_right q typed v).1
     basic_right (test c) typed v = answer_test (answer F top c v) (Answers F top c v) (call_right c typed.0 v)
-    basic_right (not_test c) typed v = Decides-not (answers_yes (answer F top c v)) (answer_test (answer F top c v) (Answers F top c v) (call_right c typed.0 v))
+    basic_right (not_test c) typed v = Decides-not (answer_holds (answer F top c v)) (answer_test (answer F top c v) (Answers F top c v) (call_right c typed.0 v))
 
     -- a side of a comparison stands for what is computed, and for nothing else
     pub compared_right : (a : Comparable) → IsTypedComparable F.signature a → (v : Data) (x : Compared) → IsComparedAs F top a v x ↔ (compared F top a v ≡ Some x)

@@ -14,8 +14,8 @@ use Rattle.serde_json_path_syntax.specs.Piece.{Piece}
 use Rattle.serde_json_path_syntax.specs.Flat.{and_in, basic_in, ors_in, ands_in, piece_in, pieces_named}
 use Rattle.serde_json_path_syntax.specs.Stages.{Stage}
 use Rattle.serde_json_path_core.specs.Rest.{rest_of, EndsAt}
-use Rattle.serde_json_path_core.specs.Places.{frames_of}
-use Rattle.serde_json_path_core.specs.declared.evaluation.place.Place.{Place}
+use Rattle.serde_json_path_core.specs.Frames.{frames_view}
+use Rattle.serde_json_path_core.specs.declared.evaluation.frame.Frame.{Frame}
 use Rattle.serde_json_path_syntax.specs.declared.node.Part.{Part}
 use Rattle.serde_json_path_core.proofs.Rests.{rest-ends}
 
@@ -34,11 +34,11 @@ pub keep-no : {A : Type 0} (p : A → Bool) (x : A) (xs : List A) → p x ≡ fa
 keep-no p x xs e = ap (λ b. cond b (x ∷ keep p xs) (keep p xs)) e
 
 -- where the walk has come to the next node, its value is the first of the rest
-pub first-found : {E : Type 0} (Clear : Type 0) (F : FunctionSet) (top : Data) (all : List Stage) (places : List Place) (r : Result (Option (Bor Value)) E) (nodes : List Located)
-    → (Clear → rest_of F top all (frames_of places) ≡ nodes)
-    → IfOk r (λ found. MatchOption found (places ≡ []) (λ v. EndsAt all (frames_of places) (view v.now)))
+pub first-found : {E : Type 0} (Clear : Type 0) (F : FunctionSet) (top : Data) (all : List Stage) (frames : List Frame) (r : Result (Option (Bor Value)) E) (nodes : List Located)
+    → (Clear → rest_of F top all (frames_view frames) ≡ nodes)
+    → IfOk r (λ found. MatchOption found (frames ≡ []) (λ v. EndsAt all (frames_view frames) (view v.now)))
     → IfOk r (λ found. Clear → option_map node_value found ≡ first_value nodes)
-first-found Clear F top all places (Ok None) nodes rest h = λ clear. sym (ap first_value (sym (rest clear)) ∙ ap (λ ps. first_value (rest_of F top all (frames_of ps))) h)
-first-found Clear F top all places (Ok (Some v)) nodes rest h = λ clear.
-    sym (ap first_value (sym (rest clear) ∙ rest-ends all places (view v.now) h F top (take (length places - 1) places) refl))
-first-found Clear F top all places (Err e) nodes rest h = tt
+first-found Clear F top all frames (Ok None) nodes rest h = λ clear. sym (ap first_value (sym (rest clear)) ∙ ap (λ ps. first_value (rest_of F top all (frames_view ps))) h)
+first-found Clear F top all frames (Ok (Some v)) nodes rest h = λ clear.
+    sym (ap first_value (sym (rest clear) ∙ rest-ends all frames (view v.now) h F top (take (length frames - 1) frames) refl))
+first-found Clear F top all frames (Err e) nodes rest h = tt

@@ -3,7 +3,7 @@ pub mod Answered
 pub mod Chains
 pub mod ChildSteps
 pub mod Comparisons
-pub mod Courses
+pub mod PositionSteps
 pub mod Derived
 pub mod Descents
 pub mod EachCalls
@@ -11,7 +11,7 @@ pub mod Ends
 pub mod Found
 pub mod Heights
 pub mod Joined
-pub mod LastPlaces
+pub mod LastFrames
 pub mod Listed
 pub mod Lookups
 pub mod MapOrder

@@ -1,4 +1,4 @@
--- The steps of a place that moves on.
+-- The steps of a frame that moves on.
 use Rattle.std.proofs.Common.{◌≡◌, ℕ, ◌+◌, List, [], ◌∷◌, ◌++◌, map, drop, Option, Some, None, option_map, refl, sym, ap, subst, ◌∙◌, append_assoc}
 use Rattle.std.specs.List.{All}
 use Rattle.std.proofs.lemmas.List.Elements.{All-nil, All-from_recursion, recursion_from_All}
@@ -45,9 +45,9 @@ opened-of kind (sel ∷ more) v = candidates-of sel v
 opened-of child [] v = All-nil _
 opened-of descendant [] v = children-of_value v
 
--- ---- places
+-- ---- frames
 
--- a place at the selector of that number, with these children left
+-- a frame at the selector of that number, with these children left
 abbrev pub at_selector : Frame → ℕ → List (Step × Data) → Frame
 at_selector p number left = record { step = p.step; value = p.value; segment = p.segment; selector = number; left = left }
 
@@ -102,7 +102,7 @@ module _ (Clear : Type 0) (F : FunctionSet) (top : Data) (stage : Stage) where
   pub done : (old mid : Frame) → Passes Clear F top stage old mid → drop mid.selector stage.selectors ≡ [] → (stage.kind ≡ descendant → mid.left ≡ []) → IsDone Clear F top stage old
   done old mid before here none = λ clear. before.1 clear ∙ is_done (admitted F top) mid.segment stage.kind mid.value (drop mid.selector stage.selectors) mid.left here none
 
-  -- what a choice of no child says, and of one
+  -- what a selector_ref of no child says, and of one
   pub chooses-none : {A : Type 0} (see : A → Step × Data) (sel : Selector) (old new : List (Step × Data)) (found : Option A) → found ≡ None → Chooses Clear F top sel old (option_map see found) new
       → Clear → admitted F top sel old ≡ []
   chooses-none see sel old new found e h = subst (λ o. Chooses Clear F top sel old (option_map see o) new) e h

@@ -15,9 +15,9 @@ use Rattle.serde_json_path_core.specs.Slices.{step_of, from_end, bound_of, Selec
 use Rattle.serde_json_path_syntax.specs.Lists.{IsIn, IsInOrder}
 use Rattle.serde_json_path_core.specs.Derivation.{SelectedBefore}
 use Rattle.serde_json_path_core.specs.Meaning.{IsPositionOf}
-use Rattle.serde_json_path_core.specs.Computed.{Course, count_within, strided, rising, falling, course_by, sliced, next_position}
+use Rattle.serde_json_path_core.specs.Computed.{SlicePositions, count_within, strided, rising, falling, positions_by, sliced, next_position}
 
--- ---- items on a course
+-- ---- items on a positions
 
 -- an item is there at each position below the count
 item_there : (items : Items) (p : ℕ) → p < items_len items → (d : Data) × (get_item p items ≡ Some d)
@@ -26,22 +26,22 @@ item_there (item d more) zero h = (d, refl)
 item_there (item d more) (suc p) h = item_there more p (omega arith)
 
 -- the position after so many strides
-abbrev place : Bool → ℕ → ℕ → ℕ → ℕ
-place upwards first stride zero = first
-place upwards first stride (suc j) = place upwards (next_position upwards first stride) stride j
+abbrev frame : Bool → ℕ → ℕ → ℕ → ℕ
+frame upwards first stride zero = first
+frame upwards first stride (suc j) = frame upwards (next_position upwards first stride) stride j
 
-place_up : (first stride j : ℕ) → place true first stride j ≡ first + j * stride
+place_up : (first stride j : ℕ) → frame true first stride j ≡ first + j * stride
 place_up first stride zero = omega arith
 place_up first stride (suc j) = place_up (first + stride) stride j ∙ omega (arith, suc-mul j stride)
 
-place_down : (first stride j : ℕ) → place false first stride j ≡ first - j * stride
+place_down : (first stride j : ℕ) → frame false first stride j ≡ first - j * stride
 place_down first stride zero = omega arith
 place_down first stride (suc j) = place_down (first - stride) stride j ∙ omega (arith, suc-mul j stride)
 
 -- the child is at one of so many positions
 abbrev IsPlaced : ℕ → Bool → ℕ → ℕ → Items → Step × Data → Type 0
 IsPlaced count upwards first stride items c =
-    (j : ℕ) × (j < count) × (c.0 ≡ by_position (place upwards first stride j)) × (get_item (place upwards first stride j) items ≡ Some c.1)
+    (j : ℕ) × (j < count) × (c.0 ≡ by_position (frame upwards first stride j)) × (get_item (frame upwards first stride j) items ≡ Some c.1)
 
 -- the first of so many positions, and the others
 pub next_strided : (count : ℕ) (upwards : Bool) (first stride : ℕ) (items : Items) (o : Option Data) → get_item first items ≡ o
@@ -65,7 +65,7 @@ strided_sound (suc count) upwards first stride items c h =
     by None e later = absurd (subst (IsIn c) (next_strided count upwards first stride items None e) h)
     by (Some d) e later = from d e later (subst (IsIn c) (next_strided count upwards first stride items (Some d) e) h)
 
-strided_complete : (count : ℕ) (upwards : Bool) (first stride : ℕ) (items : Items) → ((j : ℕ) → j < count → place upwards first stride j < items_len items)
+strided_complete : (count : ℕ) (upwards : Bool) (first stride : ℕ) (items : Items) → ((j : ℕ) → j < count → frame upwards first stride j < items_len items)
     → (c : Step × Data) → IsPlaced count upwards first stride items c → IsIn c (strided count upwards first stride items)
 strided_complete zero upwards first stride items there c h = let k = h.1 in absurd (omega arith)
 strided_complete (suc count) upwards first stride items there c h =
@@ -75,13 +75,13 @@ strided_complete (suc count) upwards first stride items there c h =
   where
     by : (d : Data) → get_item first items ≡ Some d
         → ((c : Step × Data) → IsPlaced count upwards (next_position upwards first stride) stride items c → IsIn c (strided count upwards (next_position upwards first stride) stride items))
-        → (j : ℕ) → j < suc count → c.0 ≡ by_position (place upwards first stride j) → get_item (place upwards first stride j) items ≡ Some c.1
+        → (j : ℕ) → j < suc count → c.0 ≡ by_position (frame upwards first stride j) → get_item (frame upwards first stride j) items ≡ Some c.1
         → IsIn c ((by_position first, d) ∷ strided count upwards (next_position upwards first stride) stride items)
     by d e later zero k f g = let same = same_Some c.1 d (sym g ∙ e) in inl (λ i. (f i, same i))
     by d e later (suc j) k f g = inr (later c (j, omega arith, f, g))
 
 strided_ordered : (R : Step → Step → Type 0) (count : ℕ) (upwards : Bool) (first stride : ℕ) (items : Items)
-    → ((j k : ℕ) → j < k → k < count → R (by_position (place upwards first stride j)) (by_position (place upwards first stride k)))
+    → ((j k : ℕ) → j < k → k < count → R (by_position (frame upwards first stride j)) (by_position (frame upwards first stride k)))
     → IsInOrder (λ (a b : Step × Data). R a.0 b.0) (strided count upwards first stride items)
 strided_ordered R zero upwards first stride items before = tt
 strided_ordered R (suc count) upwards first stride items before =
@@ -115,11 +115,11 @@ natural (pos n) h = refl
 natural (negsuc n) h = absurd (omega (arith, ints))
 
 module _ (s : Slice) (len k : ℕ) where
-  -- where a rising course begins (RFC 9535, section 2.3.4.2.2)
+  -- where a rising positions begins (RFC 9535, section 2.3.4.2.2)
   abbrev low : ℤ
   low = bound_of (pos len) s.start (pos 0) (pos 0) (pos len)
 
-  -- where a rising course ends
+  -- where a rising positions ends
   abbrev high : ℤ
   high = bound_of (pos len) s.end (pos len) (pos 0) (pos len)
 
@@ -170,11 +170,11 @@ module _ (s : Slice) (len k : ℕ) where
   abbrev last : ℤ
   last = pos len -ℤ pos 1
 
-  -- where a falling course begins
+  -- where a falling positions begins
   abbrev top : ℤ
   top = bound_of (pos len) s.start last (pos 0 -ℤ pos 1) last
 
-  -- where a falling course ends
+  -- where a falling positions ends
   abbrev bottom : ℤ
   bottom = bound_of (pos len) s.end ((pos 0 -ℤ pos len) -ℤ pos 1) (pos 0 -ℤ pos 1) last
 
@@ -224,16 +224,16 @@ module _ (s : Slice) (len k : ℕ) where
           let there = upwards top bottom u l (j * suc k) b.0 b.1 ((counted_within j (u - l) k).0 h) same in
           inr (subst (λ z. z <ℤ pos 0) (sym e) (omega (arith, ints)), there.0, there.1, (j, there.2 ∙ ap (λ z. top +ℤ z) (sym (steps j))))
 
--- what a course with that step selects, where it lies and in which order
-record IsCourse (s : Slice) (len : ℕ) (c : Course) : Type 0 where
-  selects : (p : ℕ) → SelectsPosition s len p ↔ ((j : ℕ) × (j < c.count) × (p ≡ place c.upwards c.first c.stride j))
-  there : (j : ℕ) → j < c.count → place c.upwards c.first c.stride j < len
-  before : (i j : ℕ) → i < j → j < c.count → SelectedBefore (slice s) (by_position (place c.upwards c.first c.stride i)) (by_position (place c.upwards c.first c.stride j))
+-- what a positions with that step selects, where it lies and in which order
+record ArePositions (s : Slice) (len : ℕ) (c : SlicePositions) : Type 0 where
+  selects : (p : ℕ) → SelectsPosition s len p ↔ ((j : ℕ) × (j < c.count) × (p ≡ frame c.upwards c.first c.stride j))
+  there : (j : ℕ) → j < c.count → frame c.upwards c.first c.stride j < len
+  before : (i j : ℕ) → i < j → j < c.count → SelectedBefore (slice s) (by_position (frame c.upwards c.first c.stride i)) (by_position (frame c.upwards c.first c.stride j))
 
 strides_less : (i j k : ℕ) → i < j → i * suc k < j * suc k
 strides_less i j k h = mul-lt-mul_of_pos_right h (omega arith)
 
-is_course : (z : ℤ) (s : Slice) (len : ℕ) → step_of s ≡ z → IsCourse s len (course_by z s len)
+is_course : (z : ℤ) (s : Slice) (len : ℕ) → step_of s ≡ z → ArePositions s len (positions_by z s len)
 is_course (pos zero) s len e = record {
   selects = λ p. (
     elim [
@@ -275,14 +275,14 @@ in_sliced s (array items) x = (forth, λ h. back h.0.0 h.0.1 h.0.2 h.0.3 h.0.4 h
   where
     forth : IsIn x (sliced s (array items)) → IsPositionOf (SelectsPosition s) (array items) x.0 × (child_at (array items) x.0 ≡ Some x.1)
     forth h =
-        let c = course_by (step_of s) s (items_len items) in
+        let c = positions_by (step_of s) s (items_len items) in
         let k = strided_sound c.count c.upwards c.first c.stride items x h in
-        let p = place c.upwards c.first c.stride k.0 in
+        let p = frame c.upwards c.first c.stride k.0 in
         ((items, refl, p, k.2, ((is_course (step_of s) s (items_len items) refl).selects p).1 (k.0, k.1, refl)), ap (child_at (array items)) k.2 ∙ k.3)
 
     back : (same : Items) → Some items ≡ Some same → (p : ℕ) → x.0 ≡ by_position p → SelectsPosition s (items_len same) p → child_at (array items) x.0 ≡ Some x.1 → IsIn x (sliced s (array items))
     back same e p is selects found =
-        let c = course_by (step_of s) s (items_len items) in
+        let c = positions_by (step_of s) s (items_len items) in
         let good = is_course (step_of s) s (items_len items) refl in
         let k = (good.selects p).0 (subst (λ (xs : Items). SelectsPosition s (items_len xs) p) (sym (same_Some items same e)) selects) in
         strided_complete c.count c.upwards c.first c.stride items good.there x
@@ -296,7 +296,7 @@ in_sliced s (string t) x = (λ h. absurd h, λ h. absurd (none-some h.0.0 h.0.1)
 -- the children of a slice stand in its order
 pub sliced_ordered : (s : Slice) (v : Data) → IsInOrder (λ (a b : Step × Data). SelectedBefore (slice s) a.0 b.0) (sliced s v)
 sliced_ordered s (array items) =
-    let c = course_by (step_of s) s (items_len items) in
+    let c = positions_by (step_of s) s (items_len items) in
     strided_ordered (SelectedBefore (slice s)) c.count c.upwards c.first c.stride items (is_course (step_of s) s (items_len items) refl).before
 sliced_ordered s (object ms) = tt
 sliced_ordered s null = tt

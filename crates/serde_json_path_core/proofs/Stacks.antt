@@ -1,4 +1,4 @@
--- What a stack of places has left, when its last place gives its node, is dropped, or moves on to a child.
+-- What a stack of frames has left, when its last frame gives its node, is dropped, or moves on to a child.
 use Rattle.std.proofs.Common.{◌≡◌, ℕ, ◌+◌, List, [], ◌∷◌, ◌++◌, map, drop, flat_map, Some, option_to_list, refl, ap, ◌∙◌, sym, append_assoc}
 use Rattle.std.proofs.lemmas.Grind.{flat_map-append}
 use Rattle.std.proofs.lemmas.List.{append-nil, drop-drop}
@@ -87,19 +87,19 @@ module _ (admit : Selector → List (Step × Data) → List (Step × Data)) {A :
       ap (λ xs. xs ++ visit_place admit before leaf all (here above q) q) (of_stack-last (here above q) qs p)
       ∙ append_assoc (visit_place admit before leaf all (here (stack_path (here above q) qs) p) p) _ _
 
-  -- the last place gives its node
+  -- the last frame gives its node
   pub gives : (ps : List Frame) (p : Frame) → drop p.segment all ≡ [] → of_stack (ps ++ p ∷ []) ≡ leaf (located (stack_path [] (ps ++ p ∷ [])) p.value) ++ of_stack ps
   gives ps p d =
       of_stack-last [] ps p
       ∙ ap (λ s. visit_rest admit before leaf all s (here (stack_path [] ps) p) p ++ of_stack ps) d
       ∙ ap (λ location. leaf (located location p.value) ++ of_stack ps) (sym (stack_path-last [] ps p))
 
-  -- the last place has some tasks left, and then no more
+  -- the last frame has some tasks left, and then no more
   pub drops : (ps : List Frame) (p : Frame) (stage : Stage) (more : List Stage) → drop p.segment all ≡ stage ∷ more
       → of_stack (ps ++ p ∷ []) ≡ flat_map (of_task (here (stack_path [] ps) p)) (frame_tasks admit stage p) ++ of_stack ps
   drops ps p stage more d = of_stack-last [] ps p ∙ ap (λ s. visit_rest admit before leaf all s (here (stack_path [] ps) p) p ++ of_stack ps) d
 
-  -- a place where a task begins
+  -- a frame where a task begins
   pub enters : (number : ℕ) (stages : List Stage) (n : Located) (q : Frame) → stages ≡ drop number all
       → q.segment ≡ number → q.selector ≡ 0 → q.value ≡ n.value → q.left ≡ begun stages n.value
       → made stages n ≡ before ++ visit_rest admit before leaf all stages n.location q
@@ -113,7 +113,7 @@ module _ (admit : Selector → List (Step × Data) → List (Step × Data)) {A :
       ∙ ap (λ m. tasks admit number stage.kind (drop m stage.selectors) q.left q.value) (sym z)
       ∙ ap (λ m. tasks admit m stage.kind (drop q.selector stage.selectors) q.left q.value) (sym s))
 
-  -- the last place moves on, past some tasks, to a child
+  -- the last frame moves on, past some tasks, to a child
   pub moves : (ps : List Frame) (p m q : Frame) (stage : Stage) (more : List Stage) (front : List (ℕ × (Step × Data))) (number : ℕ) (c : Step × Data)
       → drop p.segment all ≡ stage ∷ more → frame_tasks admit stage p ≡ front ++ (number, c) ∷ frame_tasks admit stage m
       → m.step ≡ p.step → m.segment ≡ p.segment

@@ -1,4 +1,4 @@
--- Values that stand in the document: those of a walk's places, and their children.
+-- Values that stand in the document: those of a walk's frames, and their children.
 use Rattle.std.proofs.Common.{◌≡◌, List, [], ◌∷◌, ◌++◌, option_and_then, Some, inl, inr, refl, sym, ap, subst, ◌∙◌}
 use Rattle.std.specs.List.{AllByRecursion}
 use Rattle.std.proofs.lemmas.List.Elements.{recursion_from_All}
@@ -9,7 +9,7 @@ use Rattle.serde_json_path_syntax.specs.Tree.{QueryKind, root, current, Query, q
 use Rattle.serde_json_path_syntax.specs.Lists.{IsIn}
 use Rattle.serde_json_path_core.specs.Derivation.{start_of}
 use Rattle.serde_json_path_core.specs.Clear.{StandsIn}
-use Rattle.serde_json_path_core.specs.Rest.{Frame, place_of, EndsIn, IsChain, IsStack, IsStackIn, IsInside, AllStandIn}
+use Rattle.serde_json_path_core.specs.Rest.{Frame, starting_frame, EndsIn, IsChain, IsStack, IsStackIn, IsInside, AllStandIn}
 use Rattle.serde_json_path_syntax.specs.Stages.{stages}
 use Rattle.serde_json_path_core.proofs.Chains.{stack-started}
 use Rattle.serde_json_path_core.proofs.Derived.{at-append}
@@ -30,14 +30,14 @@ child_stands top v s c leads h =
       at-append top l.0 (s ∷ []) ∙ ap (option_and_then (λ d. at d (s ∷ []))) l.1 ∙ ap (option_and_then (λ d. at d [])) leads,
     ))
 
--- ---- places
+-- ---- frames
 
 is_in-all : {A : Type 0} (P : A → Type 0) (xs : List A) (x : A) → IsIn x xs → AllByRecursion P xs → P x
 is_in-all P [] x h all = absurd h
 is_in-all P (y ∷ ys) x (inl e) all = subst P (sym e) all.0
 is_in-all P (y ∷ ys) x (inr h) all = is_in-all P ys x h all.1
 
--- what is left at a place
+-- what is left at a frame
 pub left_stands : (top : Data) (p : Frame) → ∥ IsInside top p ∥₁ → AllStandIn top p.left
 left_stands top p h = λ c i.
     ∥∥₁_elim h ∥∥₁_prop (λ inside.
@@ -48,7 +48,7 @@ chain-inside : (top v : Data) (ps : List Frame) (p : Frame) → StandsIn top v �
 chain-inside top v [] p stands h = (child_stands top v h.0 p.value h.2 stands, h.3)
 chain-inside top v (q ∷ qs) p stands h = chain-inside top q.value qs p (child_stands top v h.0 q.value h.2 stands) h.4
 
--- the last place of a stack
+-- the last frame of a stack
 pub stack-inside : (top start : Data) (ps : List Frame) (p : Frame) → StandsIn top start → IsStack start (ps ++ p ∷ []) → IsInside top p
 stack-inside top start [] p stands h = (subst (StandsIn top) (sym h.1) stands, h.2)
 stack-inside top start (q ∷ qs) p stands h = chain-inside top q.value qs p (subst (StandsIn top) (sym h.1) stands) h.3
@@ -57,7 +57,7 @@ stack-inside top start (q ∷ qs) p stands h = chain-inside top q.value qs p (su
 pub ends-stand : (top : Data) (xs ys : List (Step × Data)) → EndsIn xs ys → AllStandIn top xs → AllStandIn top ys
 ends-stand top xs ys ends h = λ c i. h c (subst (IsIn c) (sym ends.1) ((in_append c ends.0 ys).1 (inr i)))
 
--- the place of a walk that begins
-pub begun-inside : (top : Data) (q : Query) (here : Data) (ps : List Frame) (first : Frame) → StandsIn top here → ps ≡ first ∷ [] → first ≡ place_of top q here → IsStackIn top ps
+-- the frame of a walk that begins
+pub begun-inside : (top : Data) (q : Query) (here : Data) (ps : List Frame) (first : Frame) → StandsIn top here → ps ≡ first ∷ [] → first ≡ starting_frame top q here → IsStackIn top ps
 begun-inside top (query kind segs) here ps first stands p begins =
     (start_of kind top here, start_stands kind top here stands, subst (IsStack (start_of kind top here)) (sym p) (stack-started (stages segs) (start_of kind top here) first begins))

@@ -8,15 +8,15 @@ use Rattle.serde_json_path_functions.specs.Functions.{FunctionSet}
 use Rattle.serde_json_path_syntax.specs.Tree.{Query, query, kind_of, segments_of, Segments, no_segments, segment, Segment, dot_name, dot_wildcard, long_hand, Selectors, no_selectors, selector, Selector, name, wildcard, index, slice, filter}
 use Rattle.serde_json_path_core.specs.Derivation.{start_of}
 use Rattle.serde_json_path_core.specs.Computed.{results, placed, reached, results_from, chosen, chosen_by, selected}
-use Rattle.serde_json_path_core.specs.Rest.{Frame, candidates, admitted, begun, place_of, visit, visit_rest, rest_of}
+use Rattle.serde_json_path_core.specs.Rest.{Frame, candidates, admitted, begun, starting_frame, visit, visit_rest, rest_of}
 use Rattle.serde_json_path_syntax.specs.Stages.{selectors_of, selectors_list, stages}
 use Rattle.serde_json_path_syntax.proofs.InLists.{flat_map-same}
 use Rattle.serde_json_path_core.proofs.Stacks.{located, enters}
 
--- the place of these segments at that start is where the query begins
-pub begun-place : (top : Data) (q : Query) (here start : Data) (segs : Segments) (first : Frame) → segs ≡ segments_of q → start ≡ start_of (kind_of q) top here
-    → first ≡ record { step = None; value = start; segment = 0; selector = 0; left = begun (stages segs) start } → first ≡ place_of top q here
-begun-place top (query kind more) here start segs first e v f =
+-- the frame of these segments at that start is where the query begins
+pub begun-frame : (top : Data) (q : Query) (here start : Data) (segs : Segments) (first : Frame) → segs ≡ segments_of q → start ≡ start_of (kind_of q) top here
+    → first ≡ record { step = None; value = start; segment = 0; selector = 0; left = begun (stages segs) start } → first ≡ starting_frame top q here
+begun-frame top (query kind more) here start segs first e v f =
     f ∙ ap (λ ss. record { step = None; value = start; segment = 0; selector = 0; left = begun (stages ss) start }) e
     ∙ ap (λ w. record { step = None; value = w; segment = 0; selector = 0; left = begun (stages more) w }) v
 
@@ -56,8 +56,8 @@ module _ (F : FunctionSet) (top : Data) where
       ∙ ap (λ k. visit_rest (admitted F top) [] (λ m. m ∷ []) (stages segs) (drop k (stages segs)) [] q) s
       ∙ sym (enters (admitted F top) [] (λ m. m ∷ []) (stages segs) 0 (stages segs) (located [] v) q refl s z w l) ∙ visit-results segs (located [] v)
 
-  -- the place of a walk that begins has the query's result left
-  pub begun-results : (q : Query) (here : Data) (segs : Segments) (ps : List Frame) (first : Frame) → segs ≡ segments_of q → ps ≡ first ∷ [] → first ≡ place_of top q here
+  -- the frame of a walk that begins has the query's result left
+  pub begun-results : (q : Query) (here : Data) (segs : Segments) (ps : List Frame) (first : Frame) → segs ≡ segments_of q → ps ≡ first ∷ [] → first ≡ starting_frame top q here
       → rest_of F top (stages segs) ps ≡ results F top q here
   begun-results (query kind more) here segs ps first e p begins =
       ap (λ ss. rest_of F top (stages ss) ps) e ∙ ap (rest_of F top (stages more)) p

@@ -7,7 +7,7 @@ use Rattle.serde_json_path_syntax.specs.Stages.{Stage}
 use Rattle.serde_json_path_core.specs.Rest.{Frame, admitted, unfiltered, begun, frame_tasks, here, stack_path, visit, visit_stack, rest_of, work}
 use Rattle.serde_json_path_core.proofs.Stacks.{located, gives, drops, moves}
 
--- the last place gives its node
+-- the last frame gives its node
 pub rest-given : (F : FunctionSet) (top : Data) (all : List Stage) (ps : List Frame) (p : Frame) → drop p.segment all ≡ []
     → rest_of F top all (ps ++ p ∷ []) ≡ located (stack_path [] (ps ++ p ∷ [])) p.value ∷ rest_of F top all ps
 rest-given F top all ps p d = gives (admitted F top) [] (λ n. n ∷ []) all ps p d
@@ -18,7 +18,7 @@ work-given all ps p d =
     let left = visit_stack unfiltered {A = ℕ} (0 ∷ 0 ∷ []) (λ n. 0 ∷ []) all [] ps in
     let marks : length (visit_stack unfiltered {A = ℕ} (0 ∷ 0 ∷ []) (λ n. 0 ∷ []) all [] (ps ++ p ∷ [])) ≡ 1 + length left =
     ap length {y = 0 ∷ left} (gives unfiltered (0 ∷ 0 ∷ []) (λ n. 0 ∷ []) all ps p d) ∙ omega arith in
-    let places : length (ps ++ p ∷ []) ≡ length ps + 1 = length-append ps (p ∷ []) in
+    let frames : length (ps ++ p ∷ []) ≡ length ps + 1 = length-append ps (p ∷ []) in
     omega arith
 
 -- it has no task left, and is dropped
@@ -37,7 +37,7 @@ pub rest-moved : (F : FunctionSet) (top : Data) (all : List Stage) (ps : List Fr
 rest-moved F top all ps p m q stage more number c d t ms mk qs qk qz qv ql =
     moves (admitted F top) [] (λ n. n ∷ []) all ps p m q stage more [] number c d t ms mk qs qk qz qv ql
 
--- a place less is less work
+-- a frame less is less work
 pub work-dropped : (all : List Stage) (ps : List Frame) (p : Frame) (stage : Stage) (more : List Stage) → drop p.segment all ≡ stage ∷ more → work all ps < work all (ps ++ p ∷ [])
 work-dropped all ps p stage more d =
     let of_task : ℕ × (Step × Data) → List ℕ = λ x. visit unfiltered (0 ∷ 0 ∷ []) (λ n. 0 ∷ []) (drop x.0 all) (record { location = here (stack_path [] ps) p ++ x.1.0 ∷ []; value = x.1.1 }) in
@@ -45,7 +45,7 @@ work-dropped all ps p stage more d =
     let left = visit_stack unfiltered {A = ℕ} (0 ∷ 0 ∷ []) (λ n. 0 ∷ []) all [] ps in
     let marks : length (visit_stack unfiltered {A = ℕ} (0 ∷ 0 ∷ []) (λ n. 0 ∷ []) all [] (ps ++ p ∷ [])) ≡ length tasks_of + length left =
     ap length {y = tasks_of ++ left} (drops unfiltered (0 ∷ 0 ∷ []) (λ n. 0 ∷ []) all ps p stage more d) ∙ length-append tasks_of left in
-    let places : length (ps ++ p ∷ []) ≡ length ps + 1 = length-append ps (p ∷ []) in
+    let frames : length (ps ++ p ∷ []) ≡ length ps + 1 = length-append ps (p ∷ []) in
     omega arith
 
 -- a move is less work, whatever is passed over

@@ -84,7 +84,7 @@ placed above c = record { location = above ++ c.0 ∷ []; value = c.1 }
 -- ---- slices (section 2.3.4.2)
 
 -- so many positions, each the stride above or below the one before
-pub record Course : Type 0 where
+pub record SlicePositions : Type 0 where
   pub upwards : Bool
   pub first : ℕ
   pub stride : ℕ
@@ -95,26 +95,26 @@ abbrev pub count_within : ℕ → ℕ → ℕ
 count_within zero stride = 0
 count_within (suc width) stride = suc (width / stride)
 
--- a slice's course with a step above 0: from the start up to the end
-abbrev pub rising : Slice → ℕ → ℕ → Course
+-- a slice's positions with a step above 0: from the start up to the end
+abbrev pub rising : Slice → ℕ → ℕ → SlicePositions
 rising s len stride =
     let start = nat_abs (bound_of (pos len) s.start (pos 0) (pos 0) (pos len)) in
     let end = nat_abs (bound_of (pos len) s.end (pos len) (pos 0) (pos len)) in
     record { upwards = true; first = start; stride = stride; count = count_within (end - start) stride }
 
--- a slice's course with a step below 0: from the start down to the end, each of which may be the place before position 0
-abbrev pub falling : Slice → ℕ → ℕ → Course
+-- a slice's positions with a step below 0: from the start down to the end, each of which may be the frame before position 0
+abbrev pub falling : Slice → ℕ → ℕ → SlicePositions
 falling s len stride =
     let last = pos len -ℤ pos 1 in
     let start = nat_abs (bound_of (pos len) s.start last (pos 0 -ℤ pos 1) last +ℤ pos 1) in
     let end = nat_abs (bound_of (pos len) s.end ((pos 0 -ℤ pos len) -ℤ pos 1) (pos 0 -ℤ pos 1) last +ℤ pos 1) in
     record { upwards = false; first = start - 1; stride = stride; count = count_within (start - end) stride }
 
--- the course of a slice with that step; step 0 has no positions
-abbrev pub course_by : ℤ → Slice → ℕ → Course
-course_by (pos zero) s len = record { upwards = true; first = 0; stride = 0; count = 0 }
-course_by (pos (suc k)) s len = rising s len (suc k)
-course_by (negsuc k) s len = falling s len (suc k)
+-- the positions of a slice with that step; step 0 has no positions
+abbrev pub positions_by : ℤ → Slice → ℕ → SlicePositions
+positions_by (pos zero) s len = record { upwards = true; first = 0; stride = 0; count = 0 }
+positions_by (pos (suc k)) s len = rising s len (suc k)
+positions_by (negsuc k) s len = falling s len (suc k)
 
 -- the position after this one
 abbrev pub next_position : Bool → ℕ → ℕ → ℕ
@@ -127,13 +127,13 @@ strided zero upwards position stride items = []
 strided (suc count) upwards position stride items =
     option_map_or (λ d. (by_position position, d) ∷ strided count upwards (next_position upwards position stride) stride items) (get_item position items) []
 
--- the items on a course
-abbrev pub on_course : Course → Items → List (Step × Data)
-on_course c items = strided c.count c.upwards c.first c.stride items
+-- the items on a positions
+abbrev pub at_positions : SlicePositions → Items → List (Step × Data)
+at_positions c items = strided c.count c.upwards c.first c.stride items
 
 -- the children that a slice selects, in its order
 abbrev pub sliced : Slice → Data → List (Step × Data)
-sliced s (array items) = on_course (course_by (step_of s) s (items_len items)) items
+sliced s (array items) = at_positions (positions_by (step_of s) s (items_len items)) items
 sliced s _ = []
 
 -- ---- comparisons (section 2.3.5.2.2)
@@ -206,10 +206,10 @@ is_nonempty [] = false
 is_nonempty (x ∷ xs) = true
 
 -- an answer as a test (section 2.4.2)
-abbrev pub answers_yes : Term → Bool
-answers_yes (functions.value v) = false
-answers_yes (nodes ds) = is_nonempty ds
-answers_yes (logical b) = b
+abbrev pub answer_holds : Term → Bool
+answer_holds (functions.value v) = false
+answer_holds (nodes ds) = is_nonempty ds
+answer_holds (logical b) = b
 
 -- an answer as a side of a comparison: a value or Nothing; an answer of another type stands for nothing that is compared
 abbrev pub answer_compared : Term → Option Compared
@@ -221,7 +221,7 @@ answer_compared (logical b) = None
 abbrev pub answer_as : Kind → Term → Term
 answer_as of_value t = t
 answer_as of_nodes t = t
-answer_as of_logical t = logical (answers_yes t)
+answer_as of_logical t = logical (answer_holds t)
 
 -- a query's result as an argument of that type (section 2.4.3)
 abbrev pub result_as : Kind → List Located → Term
@@ -279,8 +279,8 @@ module _ (F : FunctionSet) (top : Data) where
     basic_true (relation a op b) v = compare_sides op (compared a v) (compared b v)
     basic_true (exist q) v = is_nonempty (results q v)
     basic_true (not_exist q) v = not (is_nonempty (results q v))
-    basic_true (test c) v = answers_yes (answer c v)
-    basic_true (not_test c) v = not (answers_yes (answer c v))
+    basic_true (test c) v = answer_holds (answer c v)
+    basic_true (not_test c) v = not (answer_holds (answer c v))
 
     -- what a side of a comparison stands for (section 2.3.5.2.2), if its answer is a value
     pub compared : Comparable → Data → Option Compared

@@ -1,10 +1,10 @@
--- What a cursor over one value's children has still to give.
+-- What a cursor over one value's children has still to next_admitted.
 use Rattle.std.specs.Prelude.{List, drop, option_map, option_to_list}
 use Rattle.serde_json.specs.Data.{Data}
 use Rattle.serde_json.specs.View.{items_view, members_view}
 use Rattle.serde_json_path_nodes.specs.Location.{Step}
 use Rattle.serde_json_path_core.specs.Computed.{items_from, members_all}
-use Rattle.serde_json_path_core.specs.Courses.{course_left}
+use Rattle.serde_json_path_core.specs.PositionSteps.{positions_left}
 use Rattle.serde_json_path_core.specs.Views.{child_view}
 use Rattle.serde_json_path_core.specs.declared.evaluation.cursor.Cursor.{Cursor}
 use Rattle.serde_json_path_core.specs.declared.evaluation.cursor.Cursor.TheVariants.{Items, Members, One, Slice}
@@ -14,4 +14,4 @@ abbrev pub cursor_left : Cursor → List (Step × Data)
 cursor_left (Items items next) = items_from next (items_view (drop next items.now))
 cursor_left (Members entries) = members_all (members_view entries)
 cursor_left (One child) = option_to_list (option_map child_view child)
-cursor_left (Slice items course) = course_left course items.now
+cursor_left (Slice items positions) = positions_left positions items.now

@@ -9,13 +9,13 @@ pub mod Views
 pub mod Height
 pub mod Rest
 pub mod Advances
-pub mod Courses
+pub mod PositionSteps
 pub mod Cursors
 pub mod Sound
 pub mod Scopes
-pub mod Places
+pub mod Frames
 pub mod Walks
-pub mod Operands
+pub mod ComparedValues
 pub mod Sides
 pub mod Laws
 pub mod Selects

@@ -1,4 +1,4 @@
--- What a walk has still to give: from the places on its stack, the document and the query's segments alone.
+-- What a walk has still to next_admitted: from the frames on its stack, the document and the query's segments alone.
 use Rattle.std.specs.Prelude.{◌≡◌, ℕ, ◌+◌, List, [], ◌∷◌, ◌++◌, length, map, drop, flat_map, filter as keep, Option, Some, None, option_to_list}
 use Rattle.std.specs.List.{All}
 use Rattle.serde_json.specs.Data.{Data}
@@ -49,7 +49,7 @@ abbrev pub begun : List Stage → Data → List (Step × Data)
 begun [] v = []
 begun (stage ∷ more) v = opened stage.kind stage.selectors v
 
--- ---- places
+-- ---- frames
 
 -- A value where the segment of that number is applied: the step that led to it, the number of the selector at work, and
 -- the children that are left of it, or, behind the last selector, those that are left to go down to.
@@ -60,9 +60,9 @@ pub record Frame : Type 0 where
   pub selector : ℕ
   pub left : List (Step × Data)
 
--- the place where a query begins, where `@` is v
-abbrev pub place_of : Data → Query → Data → Frame
-place_of top (query kind segs) v =
+-- the frame where a query begins, where `@` is v
+abbrev pub starting_frame : Data → Query → Data → Frame
+starting_frame top (query kind segs) v =
     record { step = None; value = start_of kind top v; segment = 0; selector = 0; left = begun (stages segs) (start_of kind top v) }
 
 -- the children to go down to, where these selectors are left
@@ -71,11 +71,11 @@ lower_left child sels cs v = []
 lower_left descendant [] cs v = cs
 lower_left descendant (sel ∷ more) cs v = children v
 
--- the location of a place above which the location is that
+-- the location of a frame above which the location is that
 abbrev pub here : List Step → Frame → List Step
 here above p = above ++ option_to_list p.step
 
--- the location of the last of these places
+-- the location of the last of these frames
 abbrev pub stack_path : List Step → List Frame → List Step
 stack_path above [] = above
 stack_path above (p ∷ ps) = stack_path (here above p) ps
@@ -102,7 +102,7 @@ module _ (admit : Selector → List (Step × Data) → List (Step × Data)) wher
     visit (stage ∷ more) n =
         flat_map (λ m. before ++ flat_map (λ c. visit more (placed m.location c)) (flat_map (λ s. admit s (candidates s m.value)) stage.selectors)) (reached stage.kind n)
 
-    -- the same of a place where the first of these stages has done part of its work
+    -- the same of a frame where the first of these stages has done part of its work
     abbrev pub visit_rest : List Stage → List Stage → List Step → Frame → List A
     visit_rest all [] above p = leaf (record { location = above; value = p.value })
     visit_rest all (stage ∷ more) above p = flat_map (λ (x : ℕ × (Step × Data)). visit (drop x.0 all) (placed above x.1)) (frame_tasks stage p)
@@ -110,12 +110,12 @@ module _ (admit : Selector → List (Step × Data) → List (Step × Data)) wher
     abbrev pub visit_place : List Stage → List Step → Frame → List A
     visit_place all above p = visit_rest all (drop p.segment all) above p
 
-    -- the last place comes first
+    -- the last frame comes first
     abbrev pub visit_stack : List Stage → List Step → List Frame → List A
     visit_stack all above [] = []
     visit_stack all above (p ∷ ps) = visit_stack all (here above p) ps ++ visit_place all (here above p) p
 
--- the nodes that the places have still to give
+-- the nodes that the frames have still to next_admitted
 abbrev pub rest_of : FunctionSet → Data → List Stage → List Frame → List Located
 rest_of F top all ps = visit_stack (admitted F top) [] (λ n. n ∷ []) all [] ps
 
@@ -129,16 +129,16 @@ EndsIn {A} xs ys = (front : List A) × (xs ≡ front ++ ys)
 
 -- ---- stacks
 
--- what is left at a place are children of its value
+-- what is left at a frame are children of its value
 abbrev pub IsOfValue : Frame → Type 0
 IsOfValue p = All (λ (c : Step × Data). child_at p.value c.0 ≡ Some c.1) p.left
 
--- each place is at a child of the value of the place below it
+-- each frame is at a child of the value of the frame below it
 abbrev pub IsChain : Data → List Frame → Type 0
 IsChain v [] = Unit {0}
 IsChain v (p ∷ ps) = (s : Step) × (p.step ≡ Some s) × (child_at v s ≡ Some p.value) × IsOfValue p × IsChain p.value ps
 
--- the first place is at the start
+-- the first frame is at the start
 abbrev pub IsStack : Data → List Frame → Type 0
 IsStack start [] = Unit {0}
 IsStack start (p ∷ ps) = (p.step ≡ None) × (p.value ≡ start) × IsOfValue p × IsChain p.value ps
@@ -151,10 +151,10 @@ IsStackIn top ps = (start : Data) × StandsIn top start × IsStack start ps
 abbrev pub AllStandIn : Data → List (Step × Data) → Type 0
 AllStandIn top cs = (c : Step × Data) → IsIn c cs → StandsIn top c.1
 
--- the value stands in the document, and what is left at the place are children of it
+-- the value stands in the document, and what is left at the frame are children of it
 abbrev pub IsInside : Data → Frame → Type 0
 IsInside top p = StandsIn top p.value × IsOfValue p
 
--- the last place is where the stages end, at that value
+-- the last frame is where the stages end, at that value
 abbrev pub EndsAt : List Stage → List Frame → Data → Type 0
 EndsAt all ps v = (before : List Frame) × (last : Frame) × (ps ≡ before ++ last ∷ []) × (drop last.segment all ≡ []) × (last.value ≡ v)

@@ -7,10 +7,10 @@ use Rattle.serde_json_path_syntax.specs.Tree.{Query, segments_of}
 use Rattle.serde_json_path_functions.specs.Functions.{FunctionSet}
 use Rattle.serde_json_path_syntax.specs.Parts.{tree_of}
 use Rattle.serde_json_path_core.specs.Clear.{IsClear}
-use Rattle.serde_json_path_core.specs.Places.{frames_of}
+use Rattle.serde_json_path_core.specs.Frames.{frames_view}
 use Rattle.serde_json_path_core.specs.Rest.{rest_of, work}
 use Rattle.serde_json_path_syntax.specs.Stages.{stages}
-use Rattle.serde_json_path_core.specs.declared.evaluation.resume.Walk.{Walk}
+use Rattle.serde_json_path_core.specs.declared.evaluation.walks.Walk.{Walk}
 
 -- the query, the function set and the document
 abbrev pub query_of : {F : Type 0} {g : _} → Walk F g → Query
@@ -26,14 +26,14 @@ document_of w = view w.scope.root.now
 abbrev pub IsClearWalk : {F : Type 0} {g : _} → Walk F g → Type 0
 IsClearWalk w = IsClear (set_of w) (query_of w) (document_of w)
 
--- the nodes that it has still to give
+-- the nodes that it has still to next_admitted
 abbrev pub rest : {F : Type 0} {g : _} → Walk F g → List Located
-rest w = rest_of (set_of w) (document_of w) (stages (segments_of (query_of w))) (frames_of w.places.items)
+rest w = rest_of (set_of w) (document_of w) (stages (segments_of (query_of w))) (frames_view w.frames.items)
 
--- how many places its stack holds
+-- how many frames its stack holds
 abbrev pub places_of : {F : Type 0} {g : _} → Walk F g → ℕ
-places_of w = length w.places.items
+places_of w = length w.frames.items
 
 -- how many steps are left at most
 abbrev pub steps_of : {F : Type 0} {g : _} → Walk F g → ℕ
-steps_of w = work (stages (segments_of (query_of w))) (frames_of w.places.items)
+steps_of w = work (stages (segments_of (query_of w))) (frames_view w.frames.items)

@@ -1,11 +1,11 @@
 //! What a query selects: a walk, and its full runs.
 
-pub(crate) mod course;
 pub(crate) mod cursor;
-pub(crate) mod place;
-pub(crate) mod resume;
+pub(crate) mod frame;
 pub(crate) mod scope;
+pub(crate) mod slice_positions;
 pub(crate) mod stack;
+pub(crate) mod walks;
 
 ghost use Rattle.std.specs.Prelude.{◌≡◌, IfOk, IfErr};
 ghost use Rattle.serde_json.specs.View.{view};
@@ -18,9 +18,9 @@ ghost use Rattle.serde_json_path_core.specs.Walks.{rest, query_of, set_of, docum
 ghost use Rattle.serde_json_path_syntax.specs.Parts.{signatures_of, tree_of};
 ghost use Rattle.serde_json_path_functions.specs.declared.error.QueryError.TheVariants.{Memory};
 
-use crate::evaluation::place::Place;
-use crate::evaluation::resume::Walk;
+use crate::evaluation::frame::Frame;
 use crate::evaluation::scope::Scope;
+use crate::evaluation::walks::Walk;
 use serde_json::Value;
 use serde_json_path_functions::{Functions, QueryError};
 use serde_json_path_nodes::{LocatedNodeList, NodeList};
@@ -60,15 +60,15 @@ pub fn walk<'q, 'b, F: Functions + Drop>(
     ensures document { IfOk result (λ walk. document_of walk ≡ view document.now) }
     ensures refused { IfErr result (λ e. e ≡ Memory) }
 {
-    let mut places = Vec::new(alloc);
-    places.push(Place::start(query, query.segments(), document))?;
+    let mut frames = Vec::new(alloc);
+    frames.push(Frame::start(query, query.segments(), document))?;
     let scope = Scope {
         alloc,
         query,
         root: document,
         functions,
     };
-    Ok(Walk { scope, places })
+    Ok(Walk { scope, frames })
 }
 
 /// What the query selects in the document, with locations, in order (RFC 9535, sections 2.1.2 and 2.5), under a function

@@ -2,7 +2,7 @@
 
 pub(crate) mod call;
 pub(crate) mod compare;
+pub(crate) mod compared_value;
 mod equality;
 pub(crate) mod logic;
-pub(crate) mod operand;
 mod side;

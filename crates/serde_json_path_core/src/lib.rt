@@ -6,7 +6,7 @@ mod evaluation;
 mod filter;
 mod laws;
 
-pub use evaluation::resume::Walk;
+pub use evaluation::walks::Walk;
 pub use evaluation::{evaluate, evaluate_located, walk};
 pub use laws::{
     law_before_is_asymmetric, law_clear_without_patterns, law_descendants_in_document_order,

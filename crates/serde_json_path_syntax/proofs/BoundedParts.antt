@@ -3,8 +3,8 @@ use Rattle.std.proofs.Common.{◌≡◌, ℕ, zero, suc, ◌<◌, ◌≤◌, Lis
 use Rattle.std.specs.List.{All, AllByRecursion}
 use Rattle.std.proofs.lemmas.List.Elements.{recursion_from_All}
 use Rattle.serde_json_path_syntax.specs.Flat.{numbers}
-use Rattle.serde_json_path_syntax.specs.PartBounds.{parts_bound, choice_bound}
-use Rattle.serde_json_path_syntax.specs.declared.choice.Choice.{Choice}
+use Rattle.serde_json_path_syntax.specs.PartBounds.{parts_bound, selector_bound}
+use Rattle.serde_json_path_syntax.specs.declared.selector_ref.SelectorRef.{SelectorRef}
 use Rattle.serde_json_path_syntax.specs.declared.node.Part.{Part}
 
 by_recursion : (parts : List Part) (bound : ℕ) → AllByRecursion (λ number. number < bound) (numbers parts) → parts_bound parts ≤ bound
@@ -28,10 +28,10 @@ within_bound (p ∷ parts) (suc i) part h e =
     let later = within_bound parts i part (omega (arith, h)) e in
     omega arith
 
--- what a choice names is below a greater bound
-pub some_below : (found : Option Choice) (low high : ℕ) → low ≤ high → IfSome found (λ choice. choice_bound choice ≤ low) → IfSome found (λ choice. choice_bound choice ≤ high)
+-- what a selector_ref names is below a greater bound
+pub some_below : (found : Option SelectorRef) (low high : ℕ) → low ≤ high → IfSome found (λ selector_ref. selector_bound selector_ref ≤ low) → IfSome found (λ selector_ref. selector_bound selector_ref ≤ high)
 some_below None low high le h = tt
-some_below (Some choice) low high le h = let below : choice_bound choice ≤ low = h in omega arith
+some_below (Some selector_ref) low high le h = let below : selector_bound selector_ref ≤ low = h in omega arith
 
 pub within_get : (parts : List Part) (i : ℕ) (d : Part) → i < length parts → (get_or parts i d).number < parts_bound parts
 within_get [] i d h = omega (arith, h)

@@ -5,8 +5,8 @@ use Rattle.serde_json_path_syntax.specs.Flat.{or_at, segment_kind_in, segment_in
 use Rattle.serde_json_path_syntax.specs.SliceView.{slice_view}
 use Rattle.serde_json_path_syntax.specs.declared.node.Node.{Node}
 use Rattle.serde_json_path_syntax.specs.declared.node.Part.{Part}
-use Rattle.serde_json_path_syntax.specs.declared.choice.Choice.{Choice}
-use Rattle.serde_json_path_syntax.specs.declared.choice.Choice.TheVariants as choice
+use Rattle.serde_json_path_syntax.specs.declared.selector_ref.SelectorRef.{SelectorRef}
+use Rattle.serde_json_path_syntax.specs.declared.selector_ref.SelectorRef.TheVariants as selector_ref
 
 -- the selectors of a segment; a `.name` and a `.*` have one
 abbrev pub selectors_list : Selectors → List Selector
@@ -30,12 +30,12 @@ abbrev pub stages : Segments → List Stage
 stages no_segments = []
 stages (segment kind seg more) = stage_of kind seg ∷ stages more
 
-abbrev pub choice_view : List Node → Choice → Selector
-choice_view nodes (choice.Name k) = name k.now
-choice_view nodes choice.Wildcard = wildcard
-choice_view nodes (choice.Index i) = index i
-choice_view nodes (choice.Slice s) = slice (slice_view s)
-choice_view nodes (choice.Filter part) = filter (or_at nodes part)
+abbrev pub selector_view : List Node → SelectorRef → Selector
+selector_view nodes (selector_ref.Name k) = name k.now
+selector_view nodes selector_ref.Wildcard = wildcard
+selector_view nodes (selector_ref.Index i) = index i
+selector_view nodes (selector_ref.Slice s) = slice (slice_view s)
+selector_view nodes (selector_ref.Filter part) = filter (or_at nodes part)
 
 -- the stage of a part, and those of so many
 abbrev pub stage_at : List Node → Part → Stage

@@ -7,11 +7,11 @@ ghost use Rattle.serde_json_path_syntax.specs.Typing.{IsTyped};
 ghost use Rattle.serde_json_path_syntax.specs.Depth.{depth};
 ghost use Rattle.serde_json_path_syntax.specs.Used.{deepest, signature_in, used_view};
 ghost use Rattle.serde_json_path_syntax.specs.Flat.{IsGrown, query_at};
-ghost use Rattle.serde_json_path_syntax.specs.Stages.{choice_view, stage_at};
+ghost use Rattle.serde_json_path_syntax.specs.Stages.{selector_view, stage_at};
 
-use crate::choice::Choice;
 use crate::node::{Node, Part, QueryKind, Segment, SegmentKind, Selector};
 use crate::reading::{and_parts, arguments, called_name, node_at, or_parts, query_segments};
+use crate::selector_ref::SelectorRef;
 use crate::signatures::declares_each;
 use serde_json_path_functions::{Functions, Signature};
 use std::alloc::Global;
@@ -41,7 +41,7 @@ impl Checked {
     ghost use Rattle.serde_json_path_syntax.specs.Flat.{or_at, ors_in, and_at, ands_in, call_at, arguments_in, part_query, kind_view, segment_kind_view, query_in, selector_in, selectors_in, piece_at, piece_of, pieces, pieces_named, segments_at, NamesBelow};
     ghost use Rattle.serde_json_path_syntax.specs.Stages.{selectors_list};
     ghost use Rattle.serde_json_path_syntax.specs.Parts.{nodes_in, number_of, tree_of, signatures_of};
-    ghost use Rattle.serde_json_path_syntax.specs.PartBounds.{parts_bound, choice_bound};
+    ghost use Rattle.serde_json_path_syntax.specs.PartBounds.{parts_bound, selector_bound};
 
     /// The query `$` without segments. Takes no memory.
     pub fn new(alloc: Global) -> Checked
@@ -175,29 +175,29 @@ impl Checked {
     }
 
     /// The selector in brackets of that part.
-    fn selector(&self, part: Part) -> Choice<'_>
+    fn selector(&self, part: Part) -> SelectorRef<'_>
         requires { part.number < length self.now.nodes.items }
-        ensures choice { choice_view self.now.nodes.items result ≡ selector_in (piece_at self.now.nodes.items part.number) }
-        ensures below { choice_bound result ≤ part.number }
+        ensures selector_ref { selector_view self.now.nodes.items result ≡ selector_in (piece_at self.now.nodes.items part.number) }
+        ensures below { selector_bound result ≤ part.number }
     {
         match self.node(part) {
             Node::Selector(selector) => match selector {
-                Selector::Name(name) => Choice::Name(name.as_str()),
-                Selector::Wildcard => Choice::Wildcard,
-                Selector::Index(index) => Choice::Index(*index),
-                Selector::Slice(slice) => Choice::Slice(*slice),
-                Selector::Filter(test) => Choice::Filter(*test),
+                Selector::Name(name) => SelectorRef::Name(name.as_str()),
+                Selector::Wildcard => SelectorRef::Wildcard,
+                Selector::Index(index) => SelectorRef::Index(*index),
+                Selector::Slice(slice) => SelectorRef::Slice(*slice),
+                Selector::Filter(test) => SelectorRef::Filter(*test),
             },
-            _ => Choice::Wildcard,
+            _ => SelectorRef::Wildcard,
         }
     }
 
     /// The selector of that number among those in brackets, from 0.
-    fn bracketed(&self, selectors: &[Part], number: usize) -> Option<Choice<'_>>
+    fn bracketed(&self, selectors: &[Part], number: usize) -> Option<SelectorRef<'_>>
         requires { parts_bound selectors.now ≤ length self.now.nodes.items }
         ensures more { IsSome result → number + 1 < 2 ^ 64 }
-        ensures below { IfSome result (λ choice. choice_bound choice ≤ parts_bound selectors.now) }
-        ensures choice { option_map (choice_view self.now.nodes.items) result ≡ slice_get (selectors_list (selectors_in (pieces_named (pieces self.now.nodes.items) selectors.now))) number }
+        ensures below { IfSome result (λ selector_ref. selector_bound selector_ref ≤ parts_bound selectors.now) }
+        ensures selector_ref { option_map (selector_view self.now.nodes.items) result ≡ slice_get (selectors_list (selectors_in (pieces_named (pieces self.now.nodes.items) selectors.now))) number }
     {
         match selectors.get(number) {
             Some(part) => Some(self.selector(*part)),
@@ -206,16 +206,16 @@ impl Checked {
     }
 
     /// The selector of that number in a segment, from 0.
-    pub fn choice(&self, segment: Part, number: usize) -> Option<Choice<'_>>
+    pub fn selector_ref(&self, segment: Part, number: usize) -> Option<SelectorRef<'_>>
         requires { number_of segment < length (nodes_in self.now) }
         ensures more { IsSome result → number + 1 < 2 ^ 64 }
-        ensures below { IfSome result (λ choice. choice_bound choice ≤ number_of segment) }
-        ensures choice { option_map (choice_view (nodes_in self.now)) result ≡ slice_get (stage_at (nodes_in self.now) segment).selectors number }
+        ensures below { IfSome result (λ selector_ref. selector_bound selector_ref ≤ number_of segment) }
+        ensures selector_ref { option_map (selector_view (nodes_in self.now)) result ≡ slice_get (stage_at (nodes_in self.now) segment).selectors number }
     {
         match self.node(segment) {
             Node::Segment { segment, .. } => match segment {
-                Segment::DotName(name) => only(Choice::Name(name.as_str()), number),
-                Segment::DotWildcard => only(Choice::Wildcard, number),
+                Segment::DotName(name) => only(SelectorRef::Name(name.as_str()), number),
+                Segment::DotWildcard => only(SelectorRef::Wildcard, number),
                 Segment::LongHand(selectors) => self.bracketed(selectors.as_slice(), number),
             },
             _ => None,
@@ -224,10 +224,14 @@ impl Checked {
 }
 
 /// The selector of that number where there is but one.
-fn only<'q>(choice: Choice<'q>, number: usize) -> Option<Choice<'q>>
-    ensures same { IfSome result (λ given. given ≡ choice.entry) }
+fn only<'q>(selector_ref: SelectorRef<'q>, number: usize) -> Option<SelectorRef<'q>>
+    ensures same { IfSome result (λ given. given ≡ selector_ref.entry) }
     ensures more { IsSome result → number + 1 < 2 ^ 64 }
-    ensures choice { result ≡ slice_get (choice.entry ∷ []) number }
+    ensures selector_ref { result ≡ slice_get (selector_ref.entry ∷ []) number }
 {
-    if number == 0 { Some(choice) } else { None }
+    if number == 0 {
+        Some(selector_ref)
+    } else {
+        None
+    }
 }

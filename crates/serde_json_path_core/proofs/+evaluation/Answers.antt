@@ -13,10 +13,10 @@ use Rattle.serde_json_path_functions.specs.Terms.{term_view}
 use Rattle.serde_json_path_core.specs.Clear.{StandsIn}
 use Rattle.serde_json_path_core.specs.Sound.{AreSoundSegments, IsSoundSegment, IsSoundSelector, IsSoundOr, IsSoundAnd, IsSoundBasic}
 use Rattle.serde_json_path_core.specs.Scopes.{Clear, nodes_of, query_of, set_of, top_of}
-use Rattle.serde_json_path_core.specs.Places.{frame_of, frames_of, task_view}
+use Rattle.serde_json_path_core.specs.Frames.{frame_view, frames_view, task_view}
 use Rattle.serde_json_path_core.specs.Rest.{rest_of, IsStack, IsStackIn, IsInside, AllStandIn}
 use Rattle.serde_json_path_core.specs.Advances.{Advances, IsDone, ComesTo}
-use Rattle.serde_json_path_syntax.specs.Stages.{choice_view, stage_at, stages_at}
+use Rattle.serde_json_path_syntax.specs.Stages.{selector_view, stage_at, stages_at}
 use Rattle.serde_json_path_core.specs.Views.{child_view}
 use Rattle.serde_json_path_syntax.specs.Lists.{IsIn}
 use Rattle.serde_json_path_core.specs.Computed as computed
@@ -31,144 +31,144 @@ use Rattle.serde_json_path_core.proofs.SoundParts.{sound-segments, sound-segment
 use Rattle.serde_json_path_syntax.proofs.Bounds.{below_length, past_length}
 use Rattle.serde_json_path_core.proofs.Chains.{IsTurn, turn-dropped, turn-moved}
 use Rattle.serde_json_path_core.proofs.Found.{found-none, found-some}
-use Rattle.serde_json_path_core.proofs.LastPlaces.{ends_with, sees_last, sees_last_two}
+use Rattle.serde_json_path_core.proofs.LastFrames.{ends_with, sees_last, sees_last_two}
 use Rattle.serde_json_path_core.proofs.Rests.{rest-ends, stack-dropped, work-ends}
 use Rattle.serde_json_path_core.proofs.StageLists.{drop-some, drop-none, get-within, missing, stages-from, stages-past}
 use Rattle.serde_json_path_core.proofs.+evaluation.Goals as goal
 
--- ---- places
+-- ---- frames
 
-pub evaluation::place::Place::advance-give-requires : goal.evaluation::place::Place::advance-give-requires
-evaluation::place::Place::advance-give-requires g t c =
+pub evaluation::frame::Frame::advance-next_admitted-requires : goal.evaluation::frame::Frame::advance-next_admitted-requires
+evaluation::frame::Frame::advance-next_admitted-requires g t c =
     let scope = c.args.scope.now in
     let stage = stage_at (nodes_of scope) c.args.segment in
-    let sel = choice_view (nodes_of scope) c.in-Some.choice in
-    let same = c.loop-choice.invariant.1.0 in
+    let sel = selector_view (nodes_of scope) c.in-Some.selector_ref in
+    let same = c.loop-selector_ref.invariant.1.0 in
     let sound : IsSoundSelector (set_of scope) (top_of scope) (query_of scope) sel =
-    sound-selector (set_of scope) (top_of scope) (query_of scope) (segment_in (piece_at (nodes_of scope) c.args.segment.number)) c.loop-choice.self.selector sel
-    (sym (ap (option_map (choice_view (nodes_of scope))) (sym c.in-Some.is) ∙ c.choice.ensures.choice)) c.requires.sound in
-    let inside : AllStandIn (top_of scope) (cursor_left c.loop-choice.self.cursor) =
-    left_stands (top_of scope) (frame_of c.loop-choice.self) (∥∥₁_map c.requires.inside (λ h. (subst (StandsIn (top_of scope)) (sym same.1) h.0, same.3 h.1))) in
+    sound-selector (set_of scope) (top_of scope) (query_of scope) (segment_in (piece_at (nodes_of scope) c.args.segment.number)) c.loop-selector_ref.self.selector sel
+    (sym (ap (option_map (selector_view (nodes_of scope))) (sym c.in-Some.is) ∙ c.selector_ref.ensures.selector_ref)) c.requires.sound in
+    let inside : AllStandIn (top_of scope) (cursor_left c.loop-selector_ref.self.cursor) =
+    left_stands (top_of scope) (frame_view c.loop-selector_ref.self) (∥∥₁_map c.requires.inside (λ h. (subst (StandsIn (top_of scope)) (sym same.1) h.0, same.3 h.1))) in
     search rules
 
-pub evaluation::place::Place::advance-loop-choice-init : goal.evaluation::place::Place::advance-loop-choice-init
-evaluation::place::Place::advance-loop-choice-init g t c = (refl, passes-start (Clear c.args.scope.now) (set_of c.args.scope.now) (top_of c.args.scope.now) (stage_at (nodes_of c.args.scope.now) c.args.segment) (frame_of c.args.self.now))
+pub evaluation::frame::Frame::advance-loop-selector_ref-init : goal.evaluation::frame::Frame::advance-loop-selector_ref-init
+evaluation::frame::Frame::advance-loop-selector_ref-init g t c = (refl, passes-start (Clear c.args.scope.now) (set_of c.args.scope.now) (top_of c.args.scope.now) (stage_at (nodes_of c.args.scope.now) c.args.segment) (frame_view c.args.self.now))
 
-pub evaluation::place::Place::advance-loop-choice-preserved : goal.evaluation::place::Place::advance-loop-choice-preserved
-evaluation::place::Place::advance-loop-choice-preserved g t c =
+pub evaluation::frame::Frame::advance-loop-selector_ref-preserved : goal.evaluation::frame::Frame::advance-loop-selector_ref-preserved
+evaluation::frame::Frame::advance-loop-selector_ref-preserved g t c =
     let stage = stage_at (nodes_of c.args.scope.now) c.args.segment in
-    let sel = choice_view (nodes_of c.args.scope.now) c.in-Some.choice in
-    let mid = frame_of c.loop-choice.self in
-    let here = drop-some stage.selectors c.loop-choice.self.selector sel (sym (ap (option_map (choice_view (nodes_of c.args.scope.now))) (sym c.in-Some.is) ∙ c.choice.ensures.choice)) in (
-      c.loop-choice.invariant.0,
-      passes-over (Clear c.args.scope.now) (set_of c.args.scope.now) (top_of c.args.scope.now) stage (frame_of c.args.self.now) mid sel (cursor_left c.open-self.result) (c.loop-choice.invariant.1) here
-          (chooses-none (Clear c.args.scope.now) (set_of c.args.scope.now) (top_of c.args.scope.now) stage child_view sel mid.left (cursor_left c.give.new.cursor) c.in_ok-child.field-0 c.in-None.is (c.in_ok-child.ensures.chooses)) c.open-self.ensures,
+    let sel = selector_view (nodes_of c.args.scope.now) c.in-Some.selector_ref in
+    let mid = frame_view c.loop-selector_ref.self in
+    let here = drop-some stage.selectors c.loop-selector_ref.self.selector sel (sym (ap (option_map (selector_view (nodes_of c.args.scope.now))) (sym c.in-Some.is) ∙ c.selector_ref.ensures.selector_ref)) in (
+      c.loop-selector_ref.invariant.0,
+      passes-over (Clear c.args.scope.now) (set_of c.args.scope.now) (top_of c.args.scope.now) stage (frame_view c.args.self.now) mid sel (cursor_left c.open-self.result) (c.loop-selector_ref.invariant.1) here
+          (chooses-none (Clear c.args.scope.now) (set_of c.args.scope.now) (top_of c.args.scope.now) stage child_view sel mid.left (cursor_left c.next_admitted.new.cursor) c.in_ok-child.field-0 c.in-None.is (c.in_ok-child.ensures.chooses)) c.open-self.ensures,
     )
 
-pub evaluation::place::Place::advance-loop-choice-smaller : goal.evaluation::place::Place::advance-loop-choice-smaller
-evaluation::place::Place::advance-loop-choice-smaller g t c =
+pub evaluation::frame::Frame::advance-loop-selector_ref-smaller : goal.evaluation::frame::Frame::advance-loop-selector_ref-smaller
+evaluation::frame::Frame::advance-loop-selector_ref-smaller g t c =
     let stage = stage_at (nodes_of c.args.scope.now) c.args.segment in
-    let within = get-within stage.selectors c.loop-choice.self.selector (choice_view (nodes_of c.args.scope.now) c.in-Some.choice) (sym (ap (option_map (choice_view (nodes_of c.args.scope.now))) (sym c.in-Some.is) ∙ c.choice.ensures.choice)) in
+    let within = get-within stage.selectors c.loop-selector_ref.self.selector (selector_view (nodes_of c.args.scope.now) c.in-Some.selector_ref) (sym (ap (option_map (selector_view (nodes_of c.args.scope.now))) (sym c.in-Some.is) ∙ c.selector_ref.ensures.selector_ref)) in
     omega arith
 
-pub evaluation::place::Place::advance-returns-in-Some-2-clause-advances : goal.evaluation::place::Place::advance-returns-in-Some-2-clause-advances
-evaluation::place::Place::advance-returns-in-Some-2-clause-advances g t c =
+pub evaluation::frame::Frame::advance-returns-in-Some-2-clause-advances : goal.evaluation::frame::Frame::advance-returns-in-Some-2-clause-advances
+evaluation::frame::Frame::advance-returns-in-Some-2-clause-advances g t c =
     let stage = stage_at (nodes_of c.args.scope.now) c.args.segment in
-    let sel = choice_view (nodes_of c.args.scope.now) c.in-Some.choice in
-    let mid = frame_of c.loop-choice.self in
-    let here = drop-some stage.selectors c.loop-choice.self.selector sel (sym (ap (option_map (choice_view (nodes_of c.args.scope.now))) (sym c.in-Some.is) ∙ c.choice.ensures.choice)) in
-    let chosen = chooses-some (Clear c.args.scope.now) (set_of c.args.scope.now) (top_of c.args.scope.now) stage child_view sel mid.left (cursor_left c.give.new.cursor) c.in_ok-child.field-0 c.in-Some-2.child c.in-Some-2.is (c.in_ok-child.ensures.chooses) in
-    comes-onward (Clear c.args.scope.now) (set_of c.args.scope.now) (top_of c.args.scope.now) stage (frame_of c.args.self.now) mid sel (drop (c.loop-choice.self.selector + 1) stage.selectors) (child_view c.in-Some-2.child) (cursor_left c.give.new.cursor)
-    (c.loop-choice.invariant.1) here chosen.0 chosen.1
+    let sel = selector_view (nodes_of c.args.scope.now) c.in-Some.selector_ref in
+    let mid = frame_view c.loop-selector_ref.self in
+    let here = drop-some stage.selectors c.loop-selector_ref.self.selector sel (sym (ap (option_map (selector_view (nodes_of c.args.scope.now))) (sym c.in-Some.is) ∙ c.selector_ref.ensures.selector_ref)) in
+    let chosen = chooses-some (Clear c.args.scope.now) (set_of c.args.scope.now) (top_of c.args.scope.now) stage child_view sel mid.left (cursor_left c.next_admitted.new.cursor) c.in_ok-child.field-0 c.in-Some-2.child c.in-Some-2.is (c.in_ok-child.ensures.chooses) in
+    comes-onward (Clear c.args.scope.now) (set_of c.args.scope.now) (top_of c.args.scope.now) stage (frame_view c.args.self.now) mid sel (drop (c.loop-selector_ref.self.selector + 1) stage.selectors) (child_view c.in-Some-2.child) (cursor_left c.next_admitted.new.cursor)
+    (c.loop-selector_ref.invariant.1) here chosen.0 chosen.1
 
-pub evaluation::place::Place::advance-returns-in-Child-clause-advances : goal.evaluation::place::Place::advance-returns-in-Child-clause-advances
-evaluation::place::Place::advance-returns-in-Child-clause-advances g t c =
+pub evaluation::frame::Frame::advance-returns-in-Child-clause-advances : goal.evaluation::frame::Frame::advance-returns-in-Child-clause-advances
+evaluation::frame::Frame::advance-returns-in-Child-clause-advances g t c =
     let stage = stage_at (nodes_of c.args.scope.now) c.args.segment in
-    let here = drop-none stage.selectors c.loop-choice.self.selector (missing (choice_view (nodes_of c.args.scope.now)) c.choice.result _ c.in_default.not-Some c.choice.ensures.choice) in
-    done (Clear c.args.scope.now) (set_of c.args.scope.now) (top_of c.args.scope.now) stage (frame_of c.args.self.now) (frame_of c.loop-choice.self) (c.loop-choice.invariant.1) here
+    let here = drop-none stage.selectors c.loop-selector_ref.self.selector (missing (selector_view (nodes_of c.args.scope.now)) c.selector_ref.result _ c.in_default.not-Some c.selector_ref.ensures.selector_ref) in
+    done (Clear c.args.scope.now) (set_of c.args.scope.now) (top_of c.args.scope.now) stage (frame_view c.args.self.now) (frame_view c.loop-selector_ref.self) (c.loop-selector_ref.invariant.1) here
     (λ kind. let no : child ≡ descendant = sym (ap segment_kind_view c.in-Child.is) ∙ c.segment_kind.ensures ∙ kind in absurd cc)
 
-pub evaluation::place::Place::advance-returns-in-None-advance-clause-advances : goal.evaluation::place::Place::advance-returns-in-None-advance-clause-advances
-evaluation::place::Place::advance-returns-in-None-advance-clause-advances g t c =
+pub evaluation::frame::Frame::advance-returns-in-None-advance-clause-advances : goal.evaluation::frame::Frame::advance-returns-in-None-advance-clause-advances
+evaluation::frame::Frame::advance-returns-in-None-advance-clause-advances g t c =
     let stage = stage_at (nodes_of c.args.scope.now) c.args.segment in
-    let here = drop-none stage.selectors c.loop-choice.self.selector (missing (choice_view (nodes_of c.args.scope.now)) c.choice.result _ c.in_default.not-Some c.choice.ensures.choice) in
-    done (Clear c.args.scope.now) (set_of c.args.scope.now) (top_of c.args.scope.now) stage (frame_of c.args.self.now) (frame_of c.loop-choice.self) (c.loop-choice.invariant.1) here (λ kind. c.in-None-advance.ensures.0)
+    let here = drop-none stage.selectors c.loop-selector_ref.self.selector (missing (selector_view (nodes_of c.args.scope.now)) c.selector_ref.result _ c.in_default.not-Some c.selector_ref.ensures.selector_ref) in
+    done (Clear c.args.scope.now) (set_of c.args.scope.now) (top_of c.args.scope.now) stage (frame_view c.args.self.now) (frame_view c.loop-selector_ref.self) (c.loop-selector_ref.invariant.1) here (λ kind. c.in-None-advance.ensures.0)
 
-pub evaluation::place::Place::advance-returns-in-Some-advance-clause-advances : goal.evaluation::place::Place::advance-returns-in-Some-advance-clause-advances
-evaluation::place::Place::advance-returns-in-Some-advance-clause-advances g t c =
+pub evaluation::frame::Frame::advance-returns-in-Some-advance-clause-advances : goal.evaluation::frame::Frame::advance-returns-in-Some-advance-clause-advances
+evaluation::frame::Frame::advance-returns-in-Some-advance-clause-advances g t c =
     let stage = stage_at (nodes_of c.args.scope.now) c.args.segment in
-    let here = drop-none stage.selectors c.loop-choice.self.selector (missing (choice_view (nodes_of c.args.scope.now)) c.choice.result _ c.in_default.not-Some c.choice.ensures.choice) in
-    comes-down (Clear c.args.scope.now) (set_of c.args.scope.now) (top_of c.args.scope.now) stage (frame_of c.args.self.now) (frame_of c.loop-choice.self) (child_view c.in-Some-advance.child) (cursor_left c.advance.new.self)
-    (c.loop-choice.invariant.1) here (sym c.segment_kind.ensures ∙ ap segment_kind_view c.in-Descendant.is) c.in-Some-advance.ensures
+    let here = drop-none stage.selectors c.loop-selector_ref.self.selector (missing (selector_view (nodes_of c.args.scope.now)) c.selector_ref.result _ c.in_default.not-Some c.selector_ref.ensures.selector_ref) in
+    comes-down (Clear c.args.scope.now) (set_of c.args.scope.now) (top_of c.args.scope.now) stage (frame_view c.args.self.now) (frame_view c.loop-selector_ref.self) (child_view c.in-Some-advance.child) (cursor_left c.advance.new.self)
+    (c.loop-selector_ref.invariant.1) here (sym c.segment_kind.ensures ∙ ap segment_kind_view c.in-Descendant.is) c.in-Some-advance.ensures
 
-pub evaluation::place::Place::ahead-advance-requires : goal.evaluation::place::Place::ahead-advance-requires
-evaluation::place::Place::ahead-advance-requires g t c =
+pub evaluation::frame::Frame::peek-advance-requires : goal.evaluation::frame::Frame::peek-advance-requires
+evaluation::frame::Frame::peek-advance-requires g t c =
     let top = top_of c.args.scope.now in
-    let inside : ∥ IsInside top (frame_of c.in_ok-place.place) ∥₁ = subst (λ p. ∥ IsInside top p ∥₁) (sym c.in_ok-place.ensures.same) c.requires.inside in
+    let inside : ∥ IsInside top (frame_view c.in_ok-frame.frame) ∥₁ = subst (λ p. ∥ IsInside top p ∥₁) (sym c.in_ok-frame.ensures.same) c.requires.inside in
     search rules
 
-pub evaluation::place::Place::ahead-returns-in-Some-clause-ahead : goal.evaluation::place::Place::ahead-returns-in-Some-clause-ahead
-evaluation::place::Place::ahead-returns-in-Some-clause-ahead g t c =
+pub evaluation::frame::Frame::peek-returns-in-Some-clause-peeked : goal.evaluation::frame::Frame::peek-returns-in-Some-clause-peeked
+evaluation::frame::Frame::peek-returns-in-Some-clause-peeked g t c =
     let stage = stage_at (nodes_of c.args.scope.now) c.args.segment in
-    let new = frame_of c.advance.new.self in
-    subst (λ p. ComesTo (Clear c.args.scope.now) (set_of c.args.scope.now) (top_of c.args.scope.now) stage p (task_view c.in-Some.task) new) c.in_ok-place.ensures.same
-    (subst (λ o. Advances (Clear c.args.scope.now) (set_of c.args.scope.now) (top_of c.args.scope.now) stage (frame_of c.in_ok-place.place) (option_map task_view o) new) c.in-Some.is (c.in_ok-task.ensures.advances))
+    let new = frame_view c.advance.new.self in
+    subst (λ p. ComesTo (Clear c.args.scope.now) (set_of c.args.scope.now) (top_of c.args.scope.now) stage p (task_view c.in-Some.task) new) c.in_ok-frame.ensures.same
+    (subst (λ o. Advances (Clear c.args.scope.now) (set_of c.args.scope.now) (top_of c.args.scope.now) stage (frame_view c.in_ok-frame.frame) (option_map task_view o) new) c.in-Some.is (c.in_ok-task.ensures.advances))
 
-pub evaluation::place::Place::ahead-returns-in-None-clause-ahead : goal.evaluation::place::Place::ahead-returns-in-None-clause-ahead
-evaluation::place::Place::ahead-returns-in-None-clause-ahead g t c =
+pub evaluation::frame::Frame::peek-returns-in-None-clause-peeked : goal.evaluation::frame::Frame::peek-returns-in-None-clause-peeked
+evaluation::frame::Frame::peek-returns-in-None-clause-peeked g t c =
     let stage = stage_at (nodes_of c.args.scope.now) c.args.segment in
-    let new = frame_of c.advance.new.self in
-    subst (λ p. IsDone (Clear c.args.scope.now) (set_of c.args.scope.now) (top_of c.args.scope.now) stage p) c.in_ok-place.ensures.same
-    (subst (λ o. Advances (Clear c.args.scope.now) (set_of c.args.scope.now) (top_of c.args.scope.now) stage (frame_of c.in_ok-place.place) (option_map task_view o) new) c.in-None.is (c.in_ok-task.ensures.advances))
+    let new = frame_view c.advance.new.self in
+    subst (λ p. IsDone (Clear c.args.scope.now) (set_of c.args.scope.now) (top_of c.args.scope.now) stage p) c.in_ok-frame.ensures.same
+    (subst (λ o. Advances (Clear c.args.scope.now) (set_of c.args.scope.now) (top_of c.args.scope.now) stage (frame_view c.in_ok-frame.frame) (option_map task_view o) new) c.in-None.is (c.in_ok-task.ensures.advances))
 
 -- ---- the stack
 
 pub evaluation::stack::find_next-returns-in-None-clause-found : goal.evaluation::stack::find_next-returns-in-None-clause-found
 evaluation::stack::find_next-returns-in-None-clause-found g t c =
-    let items = c.loop-last.places.items in
+    let items = c.loop-last.frames.items in
     let item = c.in-Some.ensures.item in
     let last = c.in-Some.last.now in
     let ends = ends_with c.deref.result.now items last c.deref.ensures.value item.3.0 item.1 in (
-      frames_of (take (length items - 1) items),
-      frame_of last,
-      sees_last frame_of items (take (length items - 1) items) last ends.1,
+      frames_view (take (length items - 1) items),
+      frame_view last,
+      sees_last frame_view items (take (length items - 1) items) last ends.1,
       stages-past (nodes_of c.args.scope.now) c.args.segments.now last.segment (past_length _ _ c.in-None.ensures.lookup.0),
       refl,
     )
 
-pub evaluation::stack::find_next-ahead-requires : goal.evaluation::stack::find_next-ahead-requires
-evaluation::stack::find_next-ahead-requires g t c =
+pub evaluation::stack::find_next-peek-requires : goal.evaluation::stack::find_next-peek-requires
+evaluation::stack::find_next-peek-requires g t c =
     let scope = c.args.scope.now in
     let segment = c.in-Some-get.segment.now in
     let look = c.in-Some-get.ensures.lookup in
-    let items = c.loop-last.places.items in
+    let items = c.loop-last.frames.items in
     let item = c.in-Some.ensures.item in
     let last = c.in-Some.last.now in
     let ends = ends_with c.deref.result.now items last c.deref.ensures.value item.3.0 item.1 in
     let below : segment.number < parts_bound c.args.segments.now = within_bound c.args.segments.now last.segment segment (below_length _ _ look.0) look.1 in
     let sound : IsSoundSegment (set_of scope) (top_of scope) (query_of scope) (segment_in (piece_at (nodes_of scope) segment.number)) =
     sound-segment (set_of scope) (top_of scope) (query_of scope) (pieces (nodes_of scope)) c.args.segments.now last.segment segment (below_length _ _ look.0) look.1 c.requires.sound in
-    let inside : ∥ IsInside (top_of scope) (frame_of last) ∥₁ =
+    let inside : ∥ IsInside (top_of scope) (frame_view last) ∥₁ =
     ∥∥₁_map c.requires.inside (λ h.
-    stack-inside (top_of scope) h.0 (frames_of (take (length items - 1) items)) (frame_of last) h.1
-    (subst (IsStack h.0) (sees_last frame_of items (take (length items - 1) items) last ends.1) (c.loop-last.invariant.stack h.0 h.2))) in
+    stack-inside (top_of scope) h.0 (frames_view (take (length items - 1) items)) (frame_view last) h.1
+    (subst (IsStack h.0) (sees_last frame_view items (take (length items - 1) items) last ends.1) (c.loop-last.invariant.stack h.0 h.2))) in
     search rules
 
 dropped : (g : _) (t : ℕ) (c : goal.evaluation::stack::find_next-After-drop_last g t)
-    → IsTurn (Clear c.args.scope.now) (set_of c.args.scope.now) (top_of c.args.scope.now) (stages_at (nodes_of c.args.scope.now) c.args.segments.now) (frames_of c.loop-last.places.items) (frames_of c.drop_last.new.places.items)
+    → IsTurn (Clear c.args.scope.now) (set_of c.args.scope.now) (top_of c.args.scope.now) (stages_at (nodes_of c.args.scope.now) c.args.segments.now) (frames_view c.loop-last.frames.items) (frames_view c.drop_last.new.frames.items)
 dropped g t c =
     let scope = c.args.scope.now in
-    let items = c.loop-last.places.items in
+    let items = c.loop-last.frames.items in
     let front = take (length items - 1) items in
     let item = c.in-Some.ensures.item in
     let last = c.in-Some.last.now in
     let look = c.in-Some-get.ensures.lookup in
     let segment = c.in-Some-get.segment.now in
     let ends = ends_with c.deref.result.now items last c.deref.ensures.value item.3.0 item.1 in
-    turn-dropped (Clear scope) (set_of scope) (top_of scope) (stages_at (nodes_of scope) c.args.segments.now) (frames_of items) (frames_of c.drop_last.new.places.items) (frames_of front) (frame_of last)
-    (stage_at (nodes_of scope) segment) _ (sees_last frame_of items front last ends.1) (ap frames_of c.drop_last.ensures)
+    turn-dropped (Clear scope) (set_of scope) (top_of scope) (stages_at (nodes_of scope) c.args.segments.now) (frames_view items) (frames_view c.drop_last.new.frames.items) (frames_view front) (frame_view last)
+    (stage_at (nodes_of scope) segment) _ (sees_last frame_view items front last ends.1) (ap frames_view c.drop_last.ensures)
     (stages-from (nodes_of scope) c.args.segments.now last.segment segment (below_length _ _ look.0) look.1)
-    (found-none _ _ c.in_ok-ahead-in-Some-get.field-0 c.in-None-2.is c.in_ok-ahead-in-Some-get.ensures.ahead)
+    (found-none _ _ c.in_ok-peek-in-Some-get.field-0 c.in-None-2.is c.in_ok-peek-in-Some-get.ensures.peeked)
 
 pub evaluation::stack::find_next-loop-last-smaller-in-None-2 : goal.evaluation::stack::find_next-loop-last-smaller-in-None-2
 evaluation::stack::find_next-loop-last-smaller-in-None-2 g t c = (dropped g t c).1
@@ -183,24 +183,24 @@ evaluation::stack::find_next-loop-last-preserved-in-None-2 g t c =
     }
 
 moved : (g : _) (t : ℕ) (c : goal.evaluation::stack::find_next-In_ok-push_over-in-Some-2 g t)
-    → IsTurn (Clear c.args.scope.now) (set_of c.args.scope.now) (top_of c.args.scope.now) (stages_at (nodes_of c.args.scope.now) c.args.segments.now) (frames_of c.loop-last.places.items) (frames_of c.push_over.new.places.items)
+    → IsTurn (Clear c.args.scope.now) (set_of c.args.scope.now) (top_of c.args.scope.now) (stages_at (nodes_of c.args.scope.now) c.args.segments.now) (frames_view c.loop-last.frames.items) (frames_view c.push_over.new.frames.items)
 moved g t c =
     let scope = c.args.scope.now in
-    let items = c.loop-last.places.items in
+    let items = c.loop-last.frames.items in
     let front = take (length items - 1) items in
     let item = c.in-Some.ensures.item in
     let last = c.in-Some.last.now in
     let look = c.in-Some-get.ensures.lookup in
     let segment = c.in-Some-get.segment.now in
-    let ahead = c.in-Some-2.ahead in
-    let task = task_view ahead.task in
+    let peeked = c.in-Some-2.peeked in
+    let task = task_view peeked.task in
     let next = c.of-next.result in
     let ends = ends_with c.deref.result.now items last c.deref.ensures.value item.3.0 item.1 in
-    turn-moved (Clear scope) (set_of scope) (top_of scope) (stages_at (nodes_of scope) c.args.segments.now) (frames_of items) (frames_of c.push_over.new.places.items) (frames_of front) (frame_of last)
-    (frame_of ahead.place) (frame_of next) (stage_at (nodes_of scope) segment) _
-    task.0 task.1 (sees_last frame_of items front last ends.1) (sees_last_two frame_of c.push_over.new.places.items front ahead.place next c.in_ok-push_over-in-Some-2.ensures.ok)
+    turn-moved (Clear scope) (set_of scope) (top_of scope) (stages_at (nodes_of scope) c.args.segments.now) (frames_view items) (frames_view c.push_over.new.frames.items) (frames_view front) (frame_view last)
+    (frame_view peeked.frame) (frame_view next) (stage_at (nodes_of scope) segment) _
+    task.0 task.1 (sees_last frame_view items front last ends.1) (sees_last_two frame_view c.push_over.new.frames.items front peeked.frame next c.in_ok-push_over-in-Some-2.ensures.ok)
     (stages-from (nodes_of scope) c.args.segments.now last.segment segment (below_length _ _ look.0) look.1)
-    (found-some _ _ c.in_ok-ahead-in-Some-get.field-0 ahead c.in-Some-2.is c.in_ok-ahead-in-Some-get.ensures.ahead) c.of-next.ensures
+    (found-some _ _ c.in_ok-peek-in-Some-get.field-0 peeked c.in-Some-2.is c.in_ok-peek-in-Some-get.ensures.peeked) c.of-next.ensures
 
 pub evaluation::stack::find_next-loop-last-smaller : goal.evaluation::stack::find_next-loop-last-smaller
 evaluation::stack::find_next-loop-last-smaller g t c = (moved g t c).1
@@ -216,7 +216,7 @@ evaluation::stack::find_next-loop-last-preserved g t c =
 
 pub evaluation::stack::find_next-returns-in_err-push_over-in-Some-2-clause-stack : goal.evaluation::stack::find_next-returns-in_err-push_over-in-Some-2-clause-stack
 evaluation::stack::find_next-returns-in_err-push_over-in-Some-2-clause-stack g t c =
-    λ start h. subst (λ items. IsStack start (frames_of items)) (sym c.in_err-push_over-in-Some-2.ensures.unchanged) (c.loop-last.invariant.stack start h)
+    λ start h. subst (λ items. IsStack start (frames_view items)) (sym c.in_err-push_over-in-Some-2.ensures.unchanged) (c.loop-last.invariant.stack start h)
 
 -- ---- logical expressions
 
@@ -293,11 +293,11 @@ filter::logic::first-find_next-requires g t c =
     let scope = c.args.scope.now in
     let q = part_query (nodes_of scope) c.args.query in
     let segments = c.part_segments-segments.result.now in
-    let items = ap frames_of (c.in_ok-push.ensures.items ∙ ap (λ places. places ++ c.first_place.result ∷ []) c.new-places.ensures.items) in
+    let items = ap frames_view (c.in_ok-push.ensures.items ∙ ap (λ frames. frames ++ c.first_frame.result ∷ []) c.new-frames.ensures.items) in
     let sound : AreSoundSegments (set_of scope) (top_of scope) (query_of scope) (segments_at (nodes_of scope) segments) =
     sound-segments (set_of scope) (top_of scope) (query_of scope) q (segments_at (nodes_of scope) segments) c.part_segments-segments.ensures.tree c.requires.sound in
-    let inside : ∥ IsStackIn (top_of scope) (frames_of c.push.new.self.items) ∥₁ =
-    ∣ begun-inside (top_of scope) q (view c.args.value.now) (frames_of c.push.new.self.items) (frame_of c.first_place.result) c.requires.inside items c.first_place.ensures ∣₁ in
+    let inside : ∥ IsStackIn (top_of scope) (frames_view c.push.new.self.items) ∥₁ =
+    ∣ begun-inside (top_of scope) q (view c.args.value.now) (frames_view c.push.new.self.items) (frame_view c.first_frame.result) c.requires.inside items c.first_frame.ensures ∣₁ in
     search rules
 
 pub filter::logic::first-returns-clause-means : goal.filter::logic::first-returns-clause-means
@@ -306,16 +306,16 @@ filter::logic::first-returns-clause-means g t c =
     let q = part_query (nodes_of scope) c.args.query in
     let here = view c.args.value.now in
     let segments = c.part_segments-segments.result.now in
-    let items = ap frames_of (c.in_ok-push.ensures.items ∙ ap (λ places. places ++ c.first_place.result ∷ []) c.new-places.ensures.items) in
-    let begins = begun-results (set_of scope) (top_of scope) q here (segments_at (nodes_of scope) segments) (frames_of c.push.new.self.items) (frame_of c.first_place.result)
-    c.part_segments-segments.ensures.tree items c.first_place.ensures in
-    first-found (Clear scope) (set_of scope) (top_of scope) (stages_at (nodes_of scope) segments) c.find_next.new.places.items c.find_next.result (computed.results (set_of scope) (top_of scope) q here)
+    let items = ap frames_view (c.in_ok-push.ensures.items ∙ ap (λ frames. frames ++ c.first_frame.result ∷ []) c.new-frames.ensures.items) in
+    let begins = begun-results (set_of scope) (top_of scope) q here (segments_at (nodes_of scope) segments) (frames_view c.push.new.self.items) (frame_view c.first_frame.result)
+    c.part_segments-segments.ensures.tree items c.first_frame.ensures in
+    first-found (Clear scope) (set_of scope) (top_of scope) (stages_at (nodes_of scope) segments) c.find_next.new.frames.items c.find_next.result (computed.results (set_of scope) (top_of scope) q here)
     (λ clear. sym (c.find_next.ensures.rest clear) ∙ begins) c.find_next.ensures.found
 
 -- ---- children that a filter admits
 
-pub evaluation::place::give_true-is_true-requires : goal.evaluation::place::give_true-is_true-requires
-evaluation::place::give_true-is_true-requires g t c =
+pub evaluation::frame::next_passing-is_true-requires : goal.evaluation::frame::next_passing-is_true-requires
+evaluation::frame::next_passing-is_true-requires g t c =
     let top = top_of c.args.scope.now in
     let child = child_view c.in-Some.child in
     let left = cursor_left c.advance.new.self in
@@ -323,8 +323,8 @@ evaluation::place::give_true-is_true-requires g t c =
     ends-stand top (cursor_left c.args.cursor.now) (cursor_left c.loop-child.cursor) c.loop-child.invariant.1 c.requires.inside child (subst (IsIn child) (sym c.in-Some.ensures) (inl refl)) in
     search rules
 
-pub evaluation::place::give_true-loop-child-preserved : goal.evaluation::place::give_true-loop-child-preserved
-evaluation::place::give_true-loop-child-preserved g t c =
+pub evaluation::frame::next_passing-loop-child-preserved : goal.evaluation::frame::next_passing-loop-child-preserved
+evaluation::frame::next_passing-loop-child-preserved g t c =
     let child = child_view c.in-Some.child in
     let left = cursor_left c.advance.new.self in
     let before = c.loop-child.invariant in
@@ -333,8 +333,8 @@ evaluation::place::give_true-loop-child-preserved g t c =
       ends-trans _ _ _ before.1 (child ∷ [], c.in-Some.ensures),
     )
 
-pub evaluation::place::give_true-returns-then-branch-clause-chooses : goal.evaluation::place::give_true-returns-then-branch-clause-chooses
-evaluation::place::give_true-returns-then-branch-clause-chooses g t c =
+pub evaluation::frame::next_passing-returns-then-branch-clause-chooses : goal.evaluation::frame::next_passing-returns-then-branch-clause-chooses
+evaluation::frame::next_passing-returns-then-branch-clause-chooses g t c =
     let child = child_view c.in-Some.child in
     let left = cursor_left c.advance.new.self in
     let before = c.loop-child.invariant in
@@ -343,8 +343,8 @@ evaluation::place::give_true-returns-then-branch-clause-chooses g t c =
       ends-trans _ _ _ before.1 ([], c.in-Some.ensures),
     )
 
-pub evaluation::place::give_true-returns-clause-chooses : goal.evaluation::place::give_true-returns-clause-chooses
-evaluation::place::give_true-returns-clause-chooses g t c =
+pub evaluation::frame::next_passing-returns-clause-chooses : goal.evaluation::frame::next_passing-returns-clause-chooses
+evaluation::frame::next_passing-returns-clause-chooses g t c =
     let test = λ (x : Step × Data). computed.is_true (set_of c.args.scope.now) (top_of c.args.scope.now) (or_at (nodes_of c.args.scope.now) c.args.test) x.1 in
     λ clear. c.loop-child.invariant.0 clear ∙ ap (keep test) c.in_default.ensures.0
 
@@ -356,21 +356,21 @@ filter::logic::all_values-values-init g t c =
     let q = part_query (nodes_of scope) c.args.query in
     let here = view c.args.value.now in
     let segments = c.part_segments-segments.result.now in
-    let frames = frames_of c.push.new.self.items in
-    let items = ap frames_of (c.in_ok-push.ensures.items ∙ ap (λ places. places ++ c.first_place.result ∷ []) c.new-places.ensures.items) in
-    let begins = begun-results (set_of scope) (top_of scope) q here (segments_at (nodes_of scope) segments) frames (frame_of c.first_place.result) c.part_segments-segments.ensures.tree items c.first_place.ensures in
+    let frames = frames_view c.push.new.self.items in
+    let items = ap frames_view (c.in_ok-push.ensures.items ∙ ap (λ frames. frames ++ c.first_frame.result ∷ []) c.new-frames.ensures.items) in
+    let begins = begun-results (set_of scope) (top_of scope) q here (segments_at (nodes_of scope) segments) frames (frame_view c.first_frame.result) c.part_segments-segments.ensures.tree items c.first_frame.ensures in
     let values = map (λ (n : Located). n.value) in
     record {
       values = λ clear.
           ap values (sym begins) ∙ ap (λ found. map node_value found ++ values (rest_of (set_of scope) (top_of scope) (stages_at (nodes_of scope) segments) frames)) (sym c.new-found.ensures.items);
-      inside = ∣ begun-inside (top_of scope) q here frames (frame_of c.first_place.result) c.requires.inside items c.first_place.ensures ∣₁;
+      inside = ∣ begun-inside (top_of scope) q here frames (frame_view c.first_frame.result) c.requires.inside items c.first_frame.ensures ∣₁;
     }
 
 pub filter::logic::all_values-values-smaller : goal.filter::logic::all_values-values-smaller
 filter::logic::all_values-values-smaller g t c =
     let all = stages_at (nodes_of c.args.scope.now) c.part_segments-segments.result.now in
     let ends = found-some _ _ c.in_ok-node.field-0 c.in-Some.node c.in-Some.is c.in_ok-node.ensures.found in
-    let fewer = work-ends all c.find_next.new.places.items (view c.in-Some.node.now) ends c.drop_last.new.places.items c.drop_last.ensures in
+    let fewer = work-ends all c.find_next.new.frames.items (view c.in-Some.node.now) ends c.drop_last.new.frames.items c.drop_last.ensures in
     let less = c.find_next.ensures.less in
     omega arith
 
@@ -379,20 +379,20 @@ filter::logic::all_values-values-preserved g t c =
     let scope = c.args.scope.now in
     let all = stages_at (nodes_of scope) c.part_segments-segments.result.now in
     let node = c.in-Some.node in
-    let places = c.find_next.new.places.items in
-    let front = c.drop_last.new.places.items in
+    let frames = c.find_next.new.frames.items in
+    let front = c.drop_last.new.frames.items in
     let ends = found-some _ _ c.in_ok-node.field-0 node c.in-Some.is c.in_ok-node.ensures.found in
     let values = map (λ (n : Located). n.value) in
-    let left = values (rest_of (set_of scope) (top_of scope) all (frames_of front)) in
+    let left = values (rest_of (set_of scope) (top_of scope) all (frames_view front)) in
     let found = map node_value c.values.found.items in
     record {
       values = λ clear.
           c.values.invariant.values clear
-          ∙ ap (λ ns. found ++ values ns) (c.find_next.ensures.rest clear ∙ rest-ends all places (view node.now) ends (set_of scope) (top_of scope) front c.drop_last.ensures)
+          ∙ ap (λ ns. found ++ values ns) (c.find_next.ensures.rest clear ∙ rest-ends all frames (view node.now) ends (set_of scope) (top_of scope) front c.drop_last.ensures)
           ∙ sym (append_assoc found (view node.now ∷ []) left)
           ∙ ap (λ xs. xs ++ left) (sym (ap (map node_value) c.in_ok-push-2.ensures.items ∙ map-append node_value c.values.found.items (node ∷ [])));
       inside = ∥∥₁_map c.values.invariant.inside (λ h.
-          (h.0, h.1, stack-dropped all places (view node.now) ends h.0 front c.drop_last.ensures (c.find_next.ensures.stack h.0 h.2)));
+          (h.0, h.1, stack-dropped all frames (view node.now) ends h.0 front c.drop_last.ensures (c.find_next.ensures.stack h.0 h.2)));
     }
 
 -- ---- calls

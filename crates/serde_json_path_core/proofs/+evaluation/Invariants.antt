@@ -11,14 +11,14 @@ use Rattle.serde_json_path_syntax.specs.Calls.{arguments_of, name_of}
 use Rattle.serde_json_path_core.specs.Meaning.{params_of}
 use Rattle.serde_json_path_core.specs.Computed as computed
 use Rattle.serde_json_path_syntax.specs.Flat.{or_at, and_at, ors_in, ands_in, arguments_in, call_at, part_query, pieces, pieces_named}
-use Rattle.serde_json_path_syntax.specs.PartBounds.{parts_bound, choice_bound}
+use Rattle.serde_json_path_syntax.specs.PartBounds.{parts_bound, selector_bound}
 use Rattle.serde_json_path_core.specs.Cursors.{cursor_left}
 use Rattle.serde_json_path_core.specs.Rest.{rest_of, work, EndsIn, IsStack, IsStackIn}
 use Rattle.serde_json_path_core.specs.Advances.{Passes}
 use Rattle.serde_json_path_syntax.specs.Stages.{stage_at, stages_at}
 use Rattle.serde_json_path_core.specs.Sound.{AreSoundArguments}
 use Rattle.serde_json_path_core.specs.Scopes.{Clear, nodes_of, query_of, set_of, top_of}
-use Rattle.serde_json_path_core.specs.Places.{frame_of, frames_of}
+use Rattle.serde_json_path_core.specs.Frames.{frame_view, frames_view}
 use Rattle.serde_json_path_core.proofs.+evaluation.Given as goal
 
 abbrev pub decreases-filter::logic::is_true : goal.decreases-filter::logic::is_true
@@ -51,17 +51,17 @@ decreases-filter::call::result_as g l = 8 * l.query.number + 6
 abbrev pub decreases-evaluation::stack::find_next : goal.decreases-evaluation::stack::find_next
 decreases-evaluation::stack::find_next g l = 8 * parts_bound l.segments.now + 4
 
-abbrev pub decreases-evaluation::place::Place::ahead : goal.decreases-evaluation::place::Place::ahead
-decreases-evaluation::place::Place::ahead g l = 8 * l.segment.number + 7
+abbrev pub decreases-evaluation::frame::Frame::peek : goal.decreases-evaluation::frame::Frame::peek
+decreases-evaluation::frame::Frame::peek g l = 8 * l.segment.number + 7
 
-abbrev pub decreases-evaluation::place::Place::advance : goal.decreases-evaluation::place::Place::advance
-decreases-evaluation::place::Place::advance g l = 8 * l.segment.number + 6
+abbrev pub decreases-evaluation::frame::Frame::advance : goal.decreases-evaluation::frame::Frame::advance
+decreases-evaluation::frame::Frame::advance g l = 8 * l.segment.number + 6
 
-abbrev pub decreases-evaluation::place::give : goal.decreases-evaluation::place::give
-decreases-evaluation::place::give g l = 8 * choice_bound l.choice + 3
+abbrev pub decreases-evaluation::frame::next_admitted : goal.decreases-evaluation::frame::next_admitted
+decreases-evaluation::frame::next_admitted g l = 8 * selector_bound l.selector_ref + 3
 
-abbrev pub decreases-evaluation::place::give_true : goal.decreases-evaluation::place::give_true
-decreases-evaluation::place::give_true g l = 8 * l.test.number + 6
+abbrev pub decreases-evaluation::frame::next_passing : goal.decreases-evaluation::frame::next_passing
+decreases-evaluation::frame::next_passing g l = 8 * l.test.number + 6
 
 abbrev pub invariant-filter::logic::is_true-loop-part : goal.invariant-filter::logic::is_true-loop-part
 invariant-filter::logic::is_true-loop-part g l =
@@ -73,43 +73,43 @@ invariant-filter::logic::all_true-loop-part g l =
     Clear l.scope → computed.all_true (set_of l.fn.scope) (top_of l.fn.scope) (and_at (nodes_of l.fn.scope) l.fn.expression) (view l.fn.value)
     ≡ computed.all_true (set_of l.scope) (top_of l.scope) (ands_in (pieces_named (pieces (nodes_of l.scope)) (drop l.part-index l.part-items))) (view l.value)
 
-abbrev pub invariant-evaluation::place::Place::advance-loop-choice : goal.invariant-evaluation::place::Place::advance-loop-choice
-invariant-evaluation::place::Place::advance-loop-choice g l =
-    (l.self.segment ≡ l.fn.self.segment) × Passes (Clear l.scope) (set_of l.scope) (top_of l.scope) (stage_at (nodes_of l.scope) l.segment) (frame_of l.fn.self) (frame_of l.self)
+abbrev pub invariant-evaluation::frame::Frame::advance-loop-selector_ref : goal.invariant-evaluation::frame::Frame::advance-loop-selector_ref
+invariant-evaluation::frame::Frame::advance-loop-selector_ref g l =
+    (l.self.segment ≡ l.fn.self.segment) × Passes (Clear l.scope) (set_of l.scope) (top_of l.scope) (stage_at (nodes_of l.scope) l.segment) (frame_view l.fn.self) (frame_view l.self)
 
-abbrev pub decreases-evaluation::place::Place::advance-loop-choice : goal.decreases-evaluation::place::Place::advance-loop-choice
-decreases-evaluation::place::Place::advance-loop-choice g l = length (stage_at (nodes_of l.scope) l.segment).selectors - l.self.selector
+abbrev pub decreases-evaluation::frame::Frame::advance-loop-selector_ref : goal.decreases-evaluation::frame::Frame::advance-loop-selector_ref
+decreases-evaluation::frame::Frame::advance-loop-selector_ref g l = length (stage_at (nodes_of l.scope) l.segment).selectors - l.self.selector
 
-abbrev pub invariant-evaluation::place::give_true-loop-child : goal.invariant-evaluation::place::give_true-loop-child
-invariant-evaluation::place::give_true-loop-child g l =
+abbrev pub invariant-evaluation::frame::next_passing-loop-child : goal.invariant-evaluation::frame::next_passing-loop-child
+invariant-evaluation::frame::next_passing-loop-child g l =
     (Clear l.scope → keep (λ (c : Step × Data). computed.is_true (set_of l.scope) (top_of l.scope) (or_at (nodes_of l.scope) l.test) c.1) (cursor_left l.fn.cursor)
     ≡ keep (λ (c : Step × Data). computed.is_true (set_of l.scope) (top_of l.scope) (or_at (nodes_of l.scope) l.test) c.1) (cursor_left l.cursor))
     × EndsIn (cursor_left l.fn.cursor) (cursor_left l.cursor)
 
-abbrev pub decreases-evaluation::place::give_true-loop-child : goal.decreases-evaluation::place::give_true-loop-child
-decreases-evaluation::place::give_true-loop-child g l = length (cursor_left l.cursor)
+abbrev pub decreases-evaluation::frame::next_passing-loop-child : goal.decreases-evaluation::frame::next_passing-loop-child
+decreases-evaluation::frame::next_passing-loop-child g l = length (cursor_left l.cursor)
 
 abbrev pub invariant-evaluation::stack::find_next-loop-last : goal.invariant-evaluation::stack::find_next-loop-last
 invariant-evaluation::stack::find_next-loop-last g l = record {
   rest : Clear l.scope
-      → rest_of (set_of l.scope) (top_of l.scope) (stages_at (nodes_of l.scope) l.segments) (frames_of l.fn.places.items) ≡ rest_of (set_of l.scope) (top_of l.scope) (stages_at (nodes_of l.scope) l.segments) (frames_of l.places.items);
-  stack : (start : Data) → IsStack start (frames_of l.fn.places.items) → IsStack start (frames_of l.places.items);
-  less : work (stages_at (nodes_of l.scope) l.segments) (frames_of l.places.items) ≤ work (stages_at (nodes_of l.scope) l.segments) (frames_of l.fn.places.items);
+      → rest_of (set_of l.scope) (top_of l.scope) (stages_at (nodes_of l.scope) l.segments) (frames_view l.fn.frames.items) ≡ rest_of (set_of l.scope) (top_of l.scope) (stages_at (nodes_of l.scope) l.segments) (frames_view l.frames.items);
+  stack : (start : Data) → IsStack start (frames_view l.fn.frames.items) → IsStack start (frames_view l.frames.items);
+  less : work (stages_at (nodes_of l.scope) l.segments) (frames_view l.frames.items) ≤ work (stages_at (nodes_of l.scope) l.segments) (frames_view l.fn.frames.items);
 }
 
 abbrev pub decreases-evaluation::stack::find_next-loop-last : goal.decreases-evaluation::stack::find_next-loop-last
-decreases-evaluation::stack::find_next-loop-last g l = work (stages_at (nodes_of l.scope) l.segments) (frames_of l.places.items)
+decreases-evaluation::stack::find_next-loop-last g l = work (stages_at (nodes_of l.scope) l.segments) (frames_view l.frames.items)
 
 abbrev pub invariant-filter::logic::all_values-values : goal.invariant-filter::logic::all_values-values
 invariant-filter::logic::all_values-values g l = record {
   values : Clear l.scope
       → map (λ (n : Located). n.value) (computed.results (set_of l.fn.scope) (top_of l.fn.scope) (part_query (nodes_of l.fn.scope) l.fn.query) (view l.fn.value))
-      ≡ map node_value l.found.items ++ map (λ (n : Located). n.value) (rest_of (set_of l.scope) (top_of l.scope) (stages_at (nodes_of l.scope) l.segments) (frames_of l.places.items));
-  inside : ∥ IsStackIn (top_of l.scope) (frames_of l.places.items) ∥₁;
+      ≡ map node_value l.found.items ++ map (λ (n : Located). n.value) (rest_of (set_of l.scope) (top_of l.scope) (stages_at (nodes_of l.scope) l.segments) (frames_view l.frames.items));
+  inside : ∥ IsStackIn (top_of l.scope) (frames_view l.frames.items) ∥₁;
 }
 
 abbrev pub decreases-filter::logic::all_values-values : goal.decreases-filter::logic::all_values-values
-decreases-filter::logic::all_values-values g l = work (stages_at (nodes_of l.scope) l.segments) (frames_of l.places.items)
+decreases-filter::logic::all_values-values g l = work (stages_at (nodes_of l.scope) l.segments) (frames_view l.frames.items)
 
 abbrev pub invariant-filter::call::answer-loop-argument : goal.invariant-filter::call::answer-loop-argument
 invariant-filter::call::answer-loop-argument g l =

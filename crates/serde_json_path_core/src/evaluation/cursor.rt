@@ -1,4 +1,4 @@
-//! A place among the children of one value.
+//! A frame among the children of one value.
 
 ghost use Rattle.std.specs.Prelude.{◌≡◌, [], ◌∷◌, IfOk, MatchOption, option_map, option_to_list};
 ghost use Rattle.serde_json.specs.Data.{object};
@@ -9,7 +9,7 @@ ghost use Rattle.serde_json_path_syntax.specs.SliceView.{slice_view};
 ghost use Rattle.serde_json_path_core.specs.Views.{child_view};
 
 use crate::child::Child;
-use crate::evaluation::course::Course;
+use crate::evaluation::slice_positions::SlicePositions;
 use serde_json::{Map, Value};
 use serde_json_path_nodes::PathElement;
 use serde_json_path_syntax::Slice;
@@ -20,13 +20,19 @@ use std::collections::btree_map::Iter;
 #[derive(Drop)]
 pub(crate) enum Cursor<'b> {
     /// The items of an array, from a position on.
-    Items { items: &'b [Value], next: usize },
+    Items {
+        items: &'b [Value],
+        next: usize,
+    },
     /// Members of an object, in the order of their names.
     Members(Iter<'b, String, Value>),
     /// One child at most.
     One(Option<Child<'b>>),
     /// The items of an array at the positions of a slice.
-    Slice { items: &'b [Value], course: Course },
+    Slice {
+        items: &'b [Value],
+        positions: SlicePositions,
+    },
 }
 
 impl<'b> Cursor<'b> {
@@ -72,13 +78,13 @@ impl<'b> Cursor<'b> {
         match value {
             Value::Array(items) => Cursor::Slice {
                 items: items.as_slice(),
-                course: Course::new(slice, items.len()),
+                positions: SlicePositions::new(slice, items.len()),
             },
             _ => Cursor::none(),
         }
     }
 
-    /// A cursor at the same place; where memory is refused there is none.
+    /// A cursor at the same frame; where memory is refused there is none.
     pub(crate) fn try_clone(&self) -> Result<Cursor<'b>, AllocError>
         ensures { IfOk result (λ c. cursor_left c ≡ cursor_left self.now) }
     {
@@ -89,9 +95,9 @@ impl<'b> Cursor<'b> {
             }),
             Cursor::Members(members) => Ok(Cursor::Members(members.clone()?)),
             Cursor::One(child) => Ok(Cursor::One(*child)),
-            Cursor::Slice { items, course } => Ok(Cursor::Slice {
+            Cursor::Slice { items, positions } => Ok(Cursor::Slice {
                 items: *items,
-                course: *course,
+                positions: *positions,
             }),
         }
     }
@@ -120,7 +126,7 @@ impl<'b> Cursor<'b> {
                 })
             }
             Cursor::One(child) => child.take(),
-            Cursor::Slice { items, course } => course.advance(items),
+            Cursor::Slice { items, positions } => positions.advance(items),
         }
     }
 }

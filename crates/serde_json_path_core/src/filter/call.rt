@@ -3,7 +3,7 @@
 ghost use Rattle.std.specs.Prelude.{◌≡◌, ◌<◌, Some, IfOk, IfErr, length};
 ghost use Rattle.serde_json.specs.View.{view};
 ghost use Rattle.serde_json_path_functions.specs.Functions.{kind_of_term, of_value};
-ghost use Rattle.serde_json_path_core.specs.Operands.{operand_view};
+ghost use Rattle.serde_json_path_core.specs.ComparedValues.{compared_view};
 ghost use Rattle.serde_json_path_functions.specs.Terms.{kind_view, term_view};
 ghost use Rattle.serde_json_path_syntax.specs.Typing.{result_kind};
 ghost use Rattle.serde_json_path_core.specs.Clear.{StandsIn};
@@ -14,8 +14,8 @@ ghost use Rattle.serde_json_path_core.specs.Scopes.{Clear, WithoutPatterns, node
 ghost use Rattle.serde_json_path_functions.specs.declared.error.QueryError.TheVariants.{Memory};
 
 use crate::evaluation::scope::Scope;
+use crate::filter::compared_value::ComparedValue;
 use crate::filter::logic::{all_values, first, is_true};
-use crate::filter::operand::Operand;
 use serde_json::Value;
 use serde_json_path_functions::{
     FunctionArgType, FunctionValue, Functions, LogicalType, NodesType, QueryError, ValueType,
@@ -23,8 +23,8 @@ use serde_json_path_functions::{
 use serde_json_path_syntax::{Argument, Node, Part};
 
 /// Whether an answer as a test holds (RFC 9535, section 2.4.2).
-pub(crate) fn answers_yes(answer: &FunctionValue<'_>) -> bool
-    ensures { result ≡ computed.answers_yes (term_view answer.now) }
+pub(crate) fn answer_holds(answer: &FunctionValue<'_>) -> bool
+    ensures { result ≡ computed.answer_holds (term_view answer.now) }
 {
     match answer {
         FunctionValue::Value(_) => false,
@@ -34,14 +34,14 @@ pub(crate) fn answers_yes(answer: &FunctionValue<'_>) -> bool
 }
 
 /// An answer of type Value as a side of a comparison (RFC 9535, section 2.4.2).
-pub(crate) fn operand_of<'x>(answer: FunctionValue<'x>) -> Operand<'x>
+pub(crate) fn compared_answer<'x>(answer: FunctionValue<'x>) -> ComparedValue<'x>
     requires { kind_of_term (term_view answer) ≡ of_value }
-    ensures { Some (operand_view result) ≡ computed.answer_compared (term_view answer.entry) }
+    ensures { Some (compared_view result) ≡ computed.answer_compared (term_view answer.entry) }
 {
     match answer {
-        FunctionValue::Value(ValueType::Value(value)) => Operand::Made(value),
-        FunctionValue::Value(ValueType::Node(value)) => Operand::Node(value),
-        FunctionValue::Value(ValueType::Nothing) => Operand::Nothing,
+        FunctionValue::Value(ValueType::Value(value)) => ComparedValue::Made(value),
+        FunctionValue::Value(ValueType::Node(value)) => ComparedValue::Node(value),
+        FunctionValue::Value(ValueType::Nothing) => ComparedValue::Nothing,
         FunctionValue::Nodes(_) | FunctionValue::Logical(_) => unreachable!(),
     }
 }
@@ -53,7 +53,7 @@ fn answer_as<'x>(answer: FunctionValue<'x>, kind: FunctionArgType) -> FunctionVa
     match kind {
         FunctionArgType::Value | FunctionArgType::Nodelist => answer,
         FunctionArgType::Logical => {
-            FunctionValue::Logical(LogicalType::from(answers_yes(&answer)))
+            FunctionValue::Logical(LogicalType::from(answer_holds(&answer)))
         }
     }
 }

@@ -6,17 +6,21 @@ ghost use Rattle.std.specs.Cmp.Lexicographic.{slice_cmp};
 ghost use Rattle.std.specs.Str.{chars};
 ghost use Rattle.serde_json_path_core.specs.Computed.{compare as comparison};
 ghost use Rattle.serde_json_path_syntax.specs.Literals.{operator_view};
-ghost use Rattle.serde_json_path_core.specs.Operands.{operand_view};
+ghost use Rattle.serde_json_path_core.specs.ComparedValues.{compared_view};
 ghost use Rattle.serde_json_path_core.specs.Sides.{side_view, same_seen, less_seen};
 
+use crate::filter::compared_value::ComparedValue;
 use crate::filter::equality::{same_items, same_members};
-use crate::filter::operand::Operand;
 use crate::filter::side::{Side, side_of};
 use serde_json_path_syntax::ComparisonOperator;
 
 /// Whether the comparison holds of what its two sides stand for.
-pub(crate) fn compare(operator: ComparisonOperator, left: &Operand, right: &Operand) -> bool
-    ensures { result ≡ comparison (operator_view operator) (operand_view left.now) (operand_view right.now) }
+pub(crate) fn compare(
+    operator: ComparisonOperator,
+    left: &ComparedValue,
+    right: &ComparedValue,
+) -> bool
+    ensures { result ≡ comparison (operator_view operator) (compared_view left.now) (compared_view right.now) }
 {
     let left = side_of(left);
     let right = side_of(right);

@@ -8,20 +8,20 @@ ghost use Rattle.serde_json_path_core.specs.Clear.{StandsIn};
 ghost use Rattle.serde_json_path_core.specs.Meaning.{first_value};
 ghost use Rattle.serde_json_path_core.specs.Computed as computed;
 ghost use Rattle.serde_json_path_syntax.specs.Flat.{or_at, and_at, basic_at, comparable_at, part_query};
-ghost use Rattle.serde_json_path_core.specs.Operands.{operand_view};
-ghost use Rattle.serde_json_path_core.specs.Places.{frame_of};
-ghost use Rattle.serde_json_path_core.specs.Rest.{place_of};
+ghost use Rattle.serde_json_path_core.specs.ComparedValues.{compared_view};
+ghost use Rattle.serde_json_path_core.specs.Frames.{frame_view};
+ghost use Rattle.serde_json_path_core.specs.Rest.{starting_frame};
 ghost use Rattle.serde_json_path_core.specs.Sound.{IsSound, IsSoundOr, IsSoundAnd, IsSoundBasic, IsSoundComparable};
 ghost use Rattle.serde_json_path_core.specs.Scopes.{Clear, WithoutPatterns, nodes_of, query_of, set_of, top_of};
 ghost use Rattle.serde_json_path_functions.specs.declared.error.QueryError.TheVariants.{Memory};
 
-use crate::evaluation::place::Place;
+use crate::evaluation::frame::Frame;
 use crate::evaluation::scope::Scope;
 use crate::evaluation::stack::{drop_last, find_next};
 use crate::evaluation::start;
-use crate::filter::call::{answer, answers_yes, operand_of};
+use crate::filter::call::{answer, answer_holds, compared_answer};
 use crate::filter::compare::compare;
-use crate::filter::operand::Operand;
+use crate::filter::compared_value::ComparedValue;
 use serde_json::Value;
 use serde_json_path_functions::{FunctionValue, Functions, QueryError};
 use serde_json_path_syntax::{Basic, Comparable, Literal, Node, Part};
@@ -98,11 +98,11 @@ fn basic_true<'b, F: Functions>(
             Basic::NotExist(query) => Ok(first(scope, *query, value)?.is_none()),
             Basic::Test(call) => {
                 let answer = answer(scope, *call, value)?;
-                Ok(answers_yes(&answer))
+                Ok(answer_holds(&answer))
             }
             Basic::NotTest(call) => {
                 let answer = answer(scope, *call, value)?;
-                Ok(!answers_yes(&answer))
+                Ok(!answer_holds(&answer))
             }
         },
         _ => Ok(false),
@@ -115,46 +115,46 @@ fn compared<'x, 'q: 'x, 'b: 'x, F: Functions>(
     scope: &Scope<'q, 'b, F>,
     comparable: Part,
     value: &'b Value,
-) -> Result<Operand<'x>, QueryError>
+) -> Result<ComparedValue<'x>, QueryError>
     requires below { comparable.number < length (nodes_of scope.now) }
     requires sound { IsSoundComparable (set_of scope.now) (top_of scope.now) (query_of scope.now) (comparable_at (nodes_of scope.now) comparable) }
     requires inside { StandsIn (top_of scope.now) (view value.now) }
-    ensures means { IfOk result (λ operand. Clear scope.now → Some (operand_view operand) ≡ computed.compared (set_of scope.now) (top_of scope.now) (comparable_at (nodes_of scope.now) comparable) (view value.now)) }
+    ensures means { IfOk result (λ compared_value. Clear scope.now → Some (compared_view compared_value) ≡ computed.compared (set_of scope.now) (top_of scope.now) (comparable_at (nodes_of scope.now) comparable) (view value.now)) }
     ensures refused { IfErr result (λ e. WithoutPatterns scope.now → e ≡ Memory) }
 {
     match scope.query.node(comparable) {
         Node::Comparable(comparable) => match comparable {
             Comparable::Literal(literal) => {
                 let literal: &'x Literal = literal;
-                Ok(Operand::Literal(literal))
+                Ok(ComparedValue::Literal(literal))
             }
             Comparable::Singular(query) => match first(scope, *query, value)? {
                 Some(node) => {
                     let node: &'x Value = node;
-                    Ok(Operand::Node(node))
+                    Ok(ComparedValue::Node(node))
                 }
-                None => Ok(Operand::Nothing),
+                None => Ok(ComparedValue::Nothing),
             },
             Comparable::Called(call) => {
                 let answer: FunctionValue<'x> = answer(scope, *call, value)?;
-                Ok(operand_of(answer))
+                Ok(compared_answer(answer))
             }
         },
-        _ => Ok(Operand::Made(Value::Null)),
+        _ => Ok(ComparedValue::Made(Value::Null)),
     }
 }
 
-/// The place where a query begins.
-fn first_place<'b, F: Functions>(
+/// The frame where a query begins.
+fn first_frame<'b, F: Functions>(
     scope: &Scope<'_, 'b, F>,
     query: Part,
     value: &'b Value,
-) -> Place<'b>
+) -> Frame<'b>
     requires { query.number < length (nodes_of scope.now) }
-    ensures { frame_of result ≡ place_of (top_of scope.now) (part_query (nodes_of scope.now) query) (view value.now) }
+    ensures { frame_view result ≡ starting_frame (top_of scope.now) (part_query (nodes_of scope.now) query) (view value.now) }
 {
     let start = start(scope.query.part_kind(query), value, scope.root);
-    Place::start(scope.query, scope.query.part_segments(query), start)
+    Frame::start(scope.query, scope.query.part_segments(query), start)
 }
 
 /// The value of the first node of a query, if it selects one.
@@ -171,9 +171,9 @@ pub(crate) fn first<'b, F: Functions>(
     ensures refused { IfErr result (λ e. WithoutPatterns scope.now → e ≡ Memory) }
 {
     let segments = scope.query.part_segments(query);
-    let mut places = Vec::new(scope.alloc);
-    places.push(first_place(scope, query, value))?;
-    find_next(scope, segments, &mut places)
+    let mut frames = Vec::new(scope.alloc);
+    frames.push(first_frame(scope, query, value))?;
+    find_next(scope, segments, &mut frames)
 }
 
 /// The values of all nodes of a query, in order.
@@ -190,11 +190,11 @@ pub(crate) fn all_values<'x, 'q: 'x, 'b: 'x, F: Functions>(
     ensures refused { IfErr result (λ e. WithoutPatterns scope.now → e ≡ Memory) }
 {
     let segments = scope.query.part_segments(query);
-    let mut places = Vec::new(scope.alloc);
-    places.push(first_place(scope, query, value))?;
+    let mut frames = Vec::new(scope.alloc);
+    frames.push(first_frame(scope, query, value))?;
     let mut found: Vec<&'x Value> = Vec::new(scope.alloc);
-    'values: while let Some(node) = find_next(scope, segments, &mut places)? {
-        drop_last(&mut places);
+    'values: while let Some(node) = find_next(scope, segments, &mut frames)? {
+        drop_last(&mut frames);
         let node: &'x Value = node;
         found.push(node)?;
     }

@@ -5,17 +5,17 @@ ghost use Rattle.serde_json.specs.Data.{number as number_data};
 ghost use Rattle.serde_json.specs.View.{view, number_view};
 ghost use Rattle.serde_json_path_core.specs.Compared.{amount_of, value as a_value, literal_compared};
 ghost use Rattle.serde_json_path_syntax.specs.Literals.{literal_view};
-ghost use Rattle.serde_json_path_core.specs.Operands.{operand_view};
+ghost use Rattle.serde_json_path_core.specs.ComparedValues.{compared_view};
 ghost use Rattle.serde_json_path_core.specs.Sides.{seen_of, side_view};
 
-use crate::filter::operand::Operand;
+use crate::filter::compared_value::ComparedValue;
 use serde_json::{Map, Number, Value};
 use serde_json_path_syntax::Literal;
 
 /// How many billionths one is.
 const ONE: i128 = 1_000_000_000;
 
-/// What a comparison sees of an operand: the same of a literal and of a value that equals it.
+/// What a comparison sees of an compared_value: the same of a literal and of a value that equals it.
 #[derive(Clone, Copy)]
 pub(crate) enum Side<'s> {
     /// No value.
@@ -71,14 +71,14 @@ fn side_of_literal(literal: &Literal) -> Side<'_>
     }
 }
 
-/// The side of an operand.
-pub(crate) fn side_of<'s>(operand: &'s Operand<'_>) -> Side<'s>
-    ensures { side_view result ≡ seen_of (operand_view operand.now) }
+/// The side of an compared_value.
+pub(crate) fn side_of<'s>(compared_value: &'s ComparedValue<'_>) -> Side<'s>
+    ensures { side_view result ≡ seen_of (compared_view compared_value.now) }
 {
-    match operand {
-        Operand::Nothing => Side::Nothing,
-        Operand::Literal(literal) => side_of_literal(literal),
-        Operand::Node(value) => side_of_value(value),
-        Operand::Made(value) => side_of_value(value),
+    match compared_value {
+        ComparedValue::Nothing => Side::Nothing,
+        ComparedValue::Literal(literal) => side_of_literal(literal),
+        ComparedValue::Node(value) => side_of_value(value),
+        ComparedValue::Made(value) => side_of_value(value),
     }
 }

@@ -7,16 +7,16 @@ use Rattle.serde_json_path_syntax.proofs.BoundedParts.{within_bound}
 use Rattle.serde_json_path_syntax.proofs.Bounds.{below_length, past_length}
 use Rattle.serde_json_path_syntax.proofs.checked.Checked.bracketed.Goals as goal
 
-pub returns-in-Some-clause-choice : goal.returns-in-Some-clause-choice
-returns-in-Some-clause-choice c =
+pub returns-in-Some-clause-selector_ref : goal.returns-in-Some-clause-selector_ref
+returns-in-Some-clause-selector_ref c =
     let ps = pieces c.args.self.now.nodes.items in
     let look = c.in-Some.ensures.lookup in
-    ap Some c.selector.ensures.choice
+    ap Some c.selector.ensures.selector_ref
     ∙ sym (selectors_get ps c.args.selectors.now c.args.number
     ∙ ap (option_map (λ (part : Part). selector_in (piece_in ps part.number))) (slice_get_read c.args.selectors.now _ c.args.number _ refl (below_length _ _ look.0) look.1))
 
-pub returns-in-None-clause-choice : goal.returns-in-None-clause-choice
-returns-in-None-clause-choice c =
+pub returns-in-None-clause-selector_ref : goal.returns-in-None-clause-selector_ref
+returns-in-None-clause-selector_ref c =
     let ps = pieces c.args.self.now.nodes.items in
     let look = c.in-None.ensures.lookup in
     sym (selectors_get ps c.args.selectors.now c.args.number

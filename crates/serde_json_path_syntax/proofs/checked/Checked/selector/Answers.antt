@@ -8,31 +8,31 @@ use Rattle.serde_json_path_syntax.specs.Flat.{selector_in, selector_of, piece_of
 use Rattle.serde_json_path_syntax.proofs.OtherNodes.{no_selector}
 use Rattle.serde_json_path_syntax.proofs.checked.Checked.selector.Goals as goal
 
-pub returns-in-Name-clause-choice : goal.returns-in-Name-clause-choice
-returns-in-Name-clause-choice c =
+pub returns-in-Name-clause-selector_ref : goal.returns-in-Name-clause-selector_ref
+returns-in-Name-clause-selector_ref c =
     ap name c.as_str.ensures.value
     ∙ sym (ap selector_in c.node.ensures.piece ∙ ap (λ n. selector_in (piece_of (pieces c.args.self.now.nodes.items) n)) c.in-Selector.is ∙ ap (selector_of (pieces c.args.self.now.nodes.items)) c.in-Name.is)
 
-pub returns-in-Wildcard-clause-choice : goal.returns-in-Wildcard-clause-choice
-returns-in-Wildcard-clause-choice c =
+pub returns-in-Wildcard-clause-selector_ref : goal.returns-in-Wildcard-clause-selector_ref
+returns-in-Wildcard-clause-selector_ref c =
     sym (ap selector_in c.node.ensures.piece ∙ ap (λ n. selector_in (piece_of (pieces c.args.self.now.nodes.items) n)) c.in-Selector.is ∙ ap (selector_of (pieces c.args.self.now.nodes.items)) c.in-Wildcard.is)
 
-pub returns-in-Index-clause-choice : goal.returns-in-Index-clause-choice
-returns-in-Index-clause-choice c =
+pub returns-in-Index-clause-selector_ref : goal.returns-in-Index-clause-selector_ref
+returns-in-Index-clause-selector_ref c =
     let fits : SFits w64 c.in-Index.index = search rules in
     ap index (to_z-of_z w64 c.in-Index.index fits)
     ∙ sym (ap selector_in c.node.ensures.piece ∙ ap (λ n. selector_in (piece_of (pieces c.args.self.now.nodes.items) n)) c.in-Selector.is ∙ ap (selector_of (pieces c.args.self.now.nodes.items)) c.in-Index.is)
 
-pub returns-in-Slice-clause-choice : goal.returns-in-Slice-clause-choice
-returns-in-Slice-clause-choice c =
+pub returns-in-Slice-clause-selector_ref : goal.returns-in-Slice-clause-selector_ref
+returns-in-Slice-clause-selector_ref c =
     sym (ap selector_in c.node.ensures.piece ∙ ap (λ n. selector_in (piece_of (pieces c.args.self.now.nodes.items) n)) c.in-Selector.is ∙ ap (selector_of (pieces c.args.self.now.nodes.items)) c.in-Slice.is)
 
-pub returns-in-Filter-clause-choice : goal.returns-in-Filter-clause-choice
-returns-in-Filter-clause-choice c =
+pub returns-in-Filter-clause-selector_ref : goal.returns-in-Filter-clause-selector_ref
+returns-in-Filter-clause-selector_ref c =
     sym (ap selector_in c.node.ensures.piece ∙ ap (λ n. selector_in (piece_of (pieces c.args.self.now.nodes.items) n)) c.in-Selector.is ∙ ap (selector_of (pieces c.args.self.now.nodes.items)) c.in-Filter.is)
 
-pub returns-in_default-clause-choice : goal.returns-in_default-clause-choice
-returns-in_default-clause-choice c = sym (ap selector_in c.node.ensures.piece ∙ no_selector (pieces c.args.self.now.nodes.items) c.node.result.now c.in_default.not-Selector)
+pub returns-in_default-clause-selector_ref : goal.returns-in_default-clause-selector_ref
+returns-in_default-clause-selector_ref c = sym (ap selector_in c.node.ensures.piece ∙ no_selector (pieces c.args.self.now.nodes.items) c.node.result.now c.in_default.not-Selector)
 
 pub returns-in-Filter-clause-below : goal.returns-in-Filter-clause-below
 returns-in-Filter-clause-below c =

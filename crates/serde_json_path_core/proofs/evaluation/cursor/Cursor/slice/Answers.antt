@@ -4,8 +4,8 @@ use Rattle.serde_json.specs.View.{view, items_view}
 use Rattle.serde_json.proofs.Views.{view-Array, items_len-items_view}
 use Rattle.serde_json_path_core.specs.Slices.{step_of}
 use Rattle.serde_json_path_syntax.specs.SliceView.{slice_view}
-use Rattle.serde_json_path_core.specs.Computed.{course_by, on_course, sliced}
-use Rattle.serde_json_path_core.specs.Courses.{course_left}
+use Rattle.serde_json_path_core.specs.Computed.{positions_by, at_positions, sliced}
+use Rattle.serde_json_path_core.specs.PositionSteps.{positions_left}
 use Rattle.serde_json_path_core.proofs.evaluation.cursor.Cursor.slice.Goals as goal
 
 pub returns-in-Array : goal.returns-in-Array
@@ -13,6 +13,6 @@ returns-in-Array c =
     let s = slice_view c.args.slice.now in
     let items = c.in-Array.items in
     let many : c.len.result ≡ items_len (items_view items.items) = c.len.ensures ∙ items.ok.0 ∙ sym (items_len-items_view items.items) in
-    ap (course_left c.new.result) c.as_slice.ensures.value
-    ∙ ap (λ course. on_course course (items_view items.items)) (c.new.ensures ∙ ap (course_by (step_of s) s) many)
+    ap (positions_left c.new.result) c.as_slice.ensures.value
+    ∙ ap (λ positions. at_positions positions (items_view items.items)) (c.new.ensures ∙ ap (positions_by (step_of s) s) many)
     ∙ sym (ap (sliced s) (ap view c.in-Array.is ∙ view-Array items))

@@ -1,0 +1,255 @@
+//! Frames of a walk: values where a segment is applied.
+
+ghost use Rattle.std.specs.Prelude.{◌≡◌, ◌+◌, ◌<◌, ◌≤◌, ◌^◌, None, Some, IfOk, IfErr, MatchOption, drop, length, option_map};
+ghost use Rattle.serde_json.specs.View.{view};
+ghost use Rattle.serde_json_path_syntax.specs.Tree.{filter};
+ghost use Rattle.serde_json_path_syntax.specs.Flat.{or_at, piece_at, segment_in};
+ghost use Rattle.serde_json_path_syntax.specs.PartBounds.{parts_bound, selector_bound};
+ghost use Rattle.serde_json_path_core.specs.Sound.{IsSoundOr, IsSoundSegment, IsSoundSelector};
+ghost use Rattle.serde_json_path_core.specs.Scopes.{Clear, WithoutPatterns, nodes_of, query_of, set_of, top_of};
+ghost use Rattle.serde_json_path_core.specs.Cursors.{cursor_left};
+ghost use Rattle.serde_json_path_core.specs.Views.{child_view};
+ghost use Rattle.serde_json_path_core.specs.Rest.{candidates, opened, begun, IsInside, AllStandIn};
+ghost use Rattle.serde_json_path_core.specs.Advances.{Advances, Chooses, ComesTo, IsDone};
+ghost use Rattle.serde_json_path_syntax.specs.Stages.{selector_view, stage_at, stages_at};
+ghost use Rattle.serde_json_path_core.specs.Frames.{frame_view, task_view};
+ghost use Rattle.serde_json_path_functions.specs.declared.error.QueryError.TheVariants.{Memory};
+
+use crate::child::{Child, item, member};
+use crate::evaluation::cursor::Cursor;
+use crate::evaluation::scope::Scope;
+use crate::filter::logic::is_true;
+use serde_json::Value;
+use serde_json_path_functions::{Functions, QueryError};
+use serde_json_path_nodes::PathElement;
+use serde_json_path_syntax::{Checked, Part, SegmentKind, SelectorRef};
+
+/// A value where the segment of that number is applied, with the step that led to it. Its cursor has what is left for
+/// the selector of that number, or, behind the last selector, the children that are left to go down to.
+#[derive(Drop)]
+pub(crate) struct Frame<'b> {
+    pub(crate) step: Option<PathElement<'b>>,
+    pub(crate) value: &'b Value,
+    pub(crate) segment: usize,
+    pub(crate) selector: usize,
+    pub(crate) cursor: Cursor<'b>,
+}
+
+/// A child where the segment of that number is applied next.
+#[derive(Clone, Copy)]
+pub(crate) struct Task<'b> {
+    pub(crate) segment: usize,
+    pub(crate) child: Child<'b>,
+}
+
+/// A task, and the frame that came to it, moved on.
+#[derive(Drop)]
+pub(crate) struct Peeked<'b> {
+    pub(crate) frame: Frame<'b>,
+    pub(crate) task: Task<'b>,
+}
+
+/// The children that a selector chooses from.
+fn choose<'b>(query: &Checked, selector_ref: SelectorRef<'_>, value: &'b Value) -> Cursor<'b>
+    ensures { cursor_left result ≡ candidates (selector_view query.now.nodes.items selector_ref.entry) (view value.now) }
+{
+    match selector_ref {
+        SelectorRef::Name(name) => Cursor::one(member(value, name)),
+        SelectorRef::Wildcard => Cursor::all(value),
+        SelectorRef::Index(index) => Cursor::one(item(value, index)),
+        SelectorRef::Slice(slice) => Cursor::slice(value, &slice),
+        SelectorRef::Filter(_) => Cursor::all(value),
+    }
+}
+
+/// The children for the selector of that number, or, behind the last one, those to go down to.
+fn open<'b>(query: &Checked, segment: Part, selector: usize, value: &'b Value) -> Cursor<'b>
+    requires { segment.number < length query.now.nodes.items }
+    ensures { cursor_left result
+        ≡ opened (stage_at query.now.nodes.items segment).kind (drop selector (stage_at query.now.nodes.items segment).selectors) (view value.now) }
+{
+    match query.selector_ref(segment, selector) {
+        Some(selector_ref) => choose(query, selector_ref, value),
+        None => match query.segment_kind(segment) {
+            SegmentKind::Child => Cursor::none(),
+            SegmentKind::Descendant => Cursor::all(value),
+        },
+    }
+}
+
+/// The children with which the segment of that number begins.
+fn begin<'b>(query: &Checked, segments: &[Part], number: usize, value: &'b Value) -> Cursor<'b>
+    requires { parts_bound segments.now ≤ length query.now.nodes.items }
+    ensures { cursor_left result ≡ begun (drop number (stages_at query.now.nodes.items segments.now)) (view value.now) }
+{
+    match segments.get(number) {
+        Some(segment) => open(query, *segment, 0, value),
+        None => Cursor::none(),
+    }
+}
+
+impl<'b> Frame<'b> {
+    /// The frame where a walk begins.
+    pub(crate) fn start(query: &Checked, segments: &[Part], value: &'b Value) -> Frame<'b>
+        requires { parts_bound segments.now ≤ length query.now.nodes.items }
+        ensures { frame_view result ≡ record {
+          step = None;
+          value = view value.now;
+          segment = 0;
+          selector = 0;
+          left = begun (stages_at query.now.nodes.items segments.now) (view value.now);
+        } }
+    {
+        Frame {
+            step: None,
+            value,
+            segment: 0,
+            selector: 0,
+            cursor: begin(query, segments, 0, value),
+        }
+    }
+
+    /// The frame of a task.
+    pub(crate) fn of(query: &Checked, segments: &[Part], task: Task<'b>) -> Frame<'b>
+        requires { parts_bound segments.now ≤ length query.now.nodes.items }
+        ensures { let c = child_view task.entry.child in
+            frame_view result ≡ record {
+              step = Some c.0;
+              value = c.1;
+              segment = task.entry.segment;
+              selector = 0;
+              left = begun (drop task.entry.segment (stages_at query.now.nodes.items segments.now)) c.1;
+            } }
+    {
+        Frame {
+            step: Some(task.child.step),
+            value: task.child.value,
+            segment: task.segment,
+            selector: 0,
+            cursor: begin(query, segments, task.segment, task.child.value),
+        }
+    }
+
+    /// A frame like this one; where memory is refused there is none.
+    fn try_clone(&self) -> Result<Frame<'b>, QueryError>
+        ensures same { IfOk result (λ frame. frame_view frame ≡ frame_view self.now) }
+        ensures refused { IfErr result (λ e. e ≡ Memory) }
+    {
+        Ok(Frame {
+            step: self.step,
+            value: self.value,
+            segment: self.segment,
+            selector: self.selector,
+            cursor: self.cursor.try_clone()?,
+        })
+    }
+
+    /// Moves on to the next task, if one is left.
+    #[cycle(evaluation)]
+    fn advance<F: Functions>(
+        &mut self,
+        scope: &Scope<'_, 'b, F>,
+        segment: Part,
+    ) -> Result<Option<Task<'b>>, QueryError>
+        requires within { segment.number < length (nodes_of scope.now) }
+        requires number { self.old.segment + 1 < 2 ^ 64 }
+        requires sound { IsSoundSegment (set_of scope.now) (top_of scope.now) (query_of scope.now) (segment_in (piece_at (nodes_of scope.now) segment.number)) }
+        requires inside { ∥ IsInside (top_of scope.now) (frame_view self.old) ∥₁ }
+        ensures advances { IfOk result (λ found.
+            Advances (Clear scope.now) (set_of scope.now) (top_of scope.now) (stage_at (nodes_of scope.now) segment) (frame_view self.old) (option_map task_view found) (frame_view self.new)) }
+        ensures refused { IfErr result (λ e. WithoutPatterns scope.now → e ≡ Memory) }
+    {
+        while let Some(selector_ref) = scope.query.selector_ref(segment, self.selector) {
+            match next_admitted(scope, selector_ref, &mut self.cursor)? {
+                Some(child) => {
+                    return Ok(Some(Task {
+                        segment: self.segment + 1,
+                        child,
+                    }));
+                }
+                None => {
+                    self.selector += 1;
+                    self.cursor = open(scope.query, segment, self.selector, self.value);
+                }
+            }
+        }
+        match scope.query.segment_kind(segment) {
+            SegmentKind::Child => Ok(None),
+            SegmentKind::Descendant => match self.cursor.advance() {
+                None => Ok(None),
+                Some(child) => Ok(Some(Task {
+                    segment: self.segment,
+                    child,
+                })),
+            },
+        }
+    }
+
+    /// The next task, if one is left, and this frame moved on to it; the frame itself stays.
+    #[cycle(evaluation)]
+    pub(crate) fn peek<F: Functions>(
+        &self,
+        scope: &Scope<'_, 'b, F>,
+        segment: Part,
+    ) -> Result<Option<Peeked<'b>>, QueryError>
+        requires within { segment.number < length (nodes_of scope.now) }
+        requires number { self.now.segment + 1 < 2 ^ 64 }
+        requires sound { IsSoundSegment (set_of scope.now) (top_of scope.now) (query_of scope.now) (segment_in (piece_at (nodes_of scope.now) segment.number)) }
+        requires inside { ∥ IsInside (top_of scope.now) (frame_view self.now) ∥₁ }
+        ensures peeked { IfOk result (λ peeked. MatchOption peeked
+            (IsDone (Clear scope.now) (set_of scope.now) (top_of scope.now) (stage_at (nodes_of scope.now) segment) (frame_view self.now))
+            (λ a. ComesTo (Clear scope.now) (set_of scope.now) (top_of scope.now) (stage_at (nodes_of scope.now) segment) (frame_view self.now) (task_view a.task) (frame_view a.frame))) }
+        ensures refused { IfErr result (λ e. WithoutPatterns scope.now → e ≡ Memory) }
+    {
+        let mut frame = self.try_clone()?;
+        match frame.advance(scope, segment)? {
+            Some(task) => Ok(Some(Peeked { frame, task })),
+            None => Ok(None),
+        }
+    }
+}
+
+/// The next child that the selector admits, if one is left.
+#[cycle(evaluation)]
+fn next_admitted<'b, F: Functions>(
+    scope: &Scope<'_, 'b, F>,
+    selector_ref: SelectorRef<'_>,
+    cursor: &mut Cursor<'b>,
+) -> Result<Option<Child<'b>>, QueryError>
+    requires below { selector_bound selector_ref ≤ length (nodes_of scope.now) }
+    requires sound { IsSoundSelector (set_of scope.now) (top_of scope.now) (query_of scope.now) (selector_view (nodes_of scope.now) selector_ref) }
+    requires inside { AllStandIn (top_of scope.now) (cursor_left cursor.old) }
+    ensures chooses { IfOk result (λ found.
+        Chooses (Clear scope.now) (set_of scope.now) (top_of scope.now) (selector_view (nodes_of scope.now) selector_ref.entry) (cursor_left cursor.old) (option_map child_view found) (cursor_left cursor.new)) }
+    ensures refused { IfErr result (λ e. WithoutPatterns scope.now → e ≡ Memory) }
+{
+    match selector_ref {
+        SelectorRef::Filter(test) => next_passing(scope, test, cursor),
+        SelectorRef::Name(_)
+        | SelectorRef::Wildcard
+        | SelectorRef::Index(_)
+        | SelectorRef::Slice(_) => { Ok(cursor.advance()) }
+    }
+}
+
+/// The next child for which a logical expression holds, if one is left.
+#[cycle(evaluation)]
+fn next_passing<'b, F: Functions>(
+    scope: &Scope<'_, 'b, F>,
+    test: Part,
+    cursor: &mut Cursor<'b>,
+) -> Result<Option<Child<'b>>, QueryError>
+    requires below { test.number < length (nodes_of scope.now) }
+    requires sound { IsSoundOr (set_of scope.now) (top_of scope.now) (query_of scope.now) (or_at (nodes_of scope.now) test) }
+    requires inside { AllStandIn (top_of scope.now) (cursor_left cursor.old) }
+    ensures chooses { IfOk result (λ found.
+        Chooses (Clear scope.now) (set_of scope.now) (top_of scope.now) (filter (or_at (nodes_of scope.now) test)) (cursor_left cursor.old) (option_map child_view found) (cursor_left cursor.new)) }
+    ensures refused { IfErr result (λ e. WithoutPatterns scope.now → e ≡ Memory) }
+{
+    while let Some(child) = cursor.advance() {
+        if is_true(scope, test, child.value)? {
+            return Ok(Some(child));
+        }
+    }
+    Ok(None)
+}

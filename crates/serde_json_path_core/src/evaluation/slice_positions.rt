@@ -1,0 +1,147 @@
+//! The positions that a slice selects, one after the other (RFC 9535, section 2.3.4.2).
+
+ghost use Rattle.std.specs.Prelude.{◌≡◌, ◌<◌, ◌+ℤ◌, ◌-ℤ◌, pos, [], ◌∷◌, Some, MatchOption};
+ghost use Rattle.serde_json_path_core.specs.Slices.{bound_of, step_of};
+ghost use Rattle.serde_json_path_core.specs.Computed.{count_within, positions_by, falling, rising};
+ghost use Rattle.serde_json_path_core.specs.PositionSteps.{positions_left, positions_view};
+ghost use Rattle.serde_json_path_syntax.specs.SliceView.{slice_view};
+ghost use Rattle.serde_json_path_core.specs.Views.{child_view};
+
+use crate::child::Child;
+use serde_json::Value;
+use serde_json_path_nodes::PathElement;
+use serde_json_path_syntax::Slice;
+
+/// So many positions, each the stride above or below the one before.
+#[derive(Clone, Copy)]
+pub(crate) struct SlicePositions {
+    /// Whether each position is above the one before; else it is below.
+    upwards: bool,
+    /// The next position.
+    next: usize,
+    /// How far it is from one position to the one after it.
+    stride: usize,
+    /// How many positions are left.
+    left: usize,
+}
+
+impl SlicePositions {
+    /// The positions that a slice selects among so many items, in its order.
+    pub(crate) fn new(slice: &Slice, len: usize) -> SlicePositions
+        ensures { let s = slice_view slice.now in positions_view result ≡ positions_by (step_of s) s len }
+    {
+        let step = slice.step.unwrap_or(1);
+        let stride = step.unsigned_abs() as usize;
+        if step > 0 {
+            SlicePositions::rising(slice, len, stride)
+        } else if step < 0 {
+            SlicePositions::falling(slice, len, stride)
+        } else {
+            SlicePositions {
+                upwards: true,
+                next: 0,
+                stride: 0,
+                left: 0,
+            }
+        }
+    }
+
+    /// From the slice's start up to its end.
+    fn rising(slice: &Slice, len: usize, stride: usize) -> SlicePositions
+        requires { 0 < stride }
+        ensures { positions_view result ≡ rising (slice_view slice.now) len stride }
+    {
+        let start = match slice.start {
+            None => 0,
+            Some(bound) => items_before(bound, len),
+        };
+        let end = match slice.end {
+            None => len,
+            Some(bound) => items_before(bound, len),
+        };
+        SlicePositions {
+            upwards: true,
+            next: start,
+            stride,
+            left: strides_within(end.saturating_sub(start), stride),
+        }
+    }
+
+    /// From the slice's start down to its end, each of which may be the frame before position 0.
+    fn falling(slice: &Slice, len: usize, stride: usize) -> SlicePositions
+        requires { 0 < stride }
+        ensures { positions_view result ≡ falling (slice_view slice.now) len stride }
+    {
+        let start = match slice.start {
+            None => len,
+            Some(bound) => items_up_to(bound, len),
+        };
+        let end = match slice.end {
+            None => 0,
+            Some(bound) => items_up_to(bound, len),
+        };
+        SlicePositions {
+            upwards: false,
+            next: start.saturating_sub(1),
+            stride,
+            left: strides_within(start.saturating_sub(end), stride),
+        }
+    }
+
+    /// Takes the item at the next position, if one is left.
+    pub(crate) fn advance<'b>(&mut self, items: &'b [Value]) -> Option<Child<'b>>
+        ensures { MatchOption result ((positions_left self.old items.now ≡ []) × (positions_left self.new items.now ≡ [])) (λ c. positions_left self.old items.now ≡ child_view c ∷ positions_left self.new items.now) }
+    {
+        let position = self.next;
+        if self.left == 0 || position >= items.len() {
+            return None;
+        }
+        self.left -= 1;
+        // A sum that stops at the greatest number is past the last item all the same.
+        self.next = if self.upwards {
+            position.saturating_add(self.stride)
+        } else {
+            position.saturating_sub(self.stride)
+        };
+        Some(Child {
+            step: PathElement::Index(position),
+            value: &items[position],
+        })
+    }
+}
+
+/// How many items stand before a bound, which counts from the end where it is negative.
+fn items_before(bound: i64, len: usize) -> usize
+    ensures { pos result ≡ bound_of (pos len) (Some bound) (pos 0) (pos 0) (pos len) }
+{
+    let distance = bound.unsigned_abs() as usize;
+    if bound >= 0 {
+        distance.min(len)
+    } else {
+        len.saturating_sub(distance)
+    }
+}
+
+/// How many items stand up to a bound and at it, which counts from the end where it is negative.
+fn items_up_to(bound: i64, len: usize) -> usize
+    ensures { pos result ≡ (bound_of (pos len) (Some bound) (pos 0) (pos 0 -ℤ pos 1) (pos len -ℤ pos 1) +ℤ pos 1) }
+{
+    let distance = bound.unsigned_abs() as usize;
+    if bound >= 0 {
+        (distance + 1).min(len)
+    } else {
+        len.saturating_sub(distance - 1)
+    }
+}
+
+/// How many of 0, the stride, twice the stride and so on are below the width.
+fn strides_within(width: usize, stride: usize) -> usize
+    requires { 0 < stride }
+    ensures { result ≡ count_within width stride }
+{
+    if width == 0 {
+        0
+    } else {
+        (width - 1) / stride + 1
+    }
+}
