@@ -19,3 +19,4 @@ pub mod ComparedValues
 pub mod Sides
 pub mod Laws
 pub mod Selects
+pub mod Evaluates

@@ -3,14 +3,12 @@
 ghost use Rattle.std.specs.Prelude.{◌≡◌, ◌+◌, ◌<◌, ◌≤◌, ◌^◌, None, Some, IfOk, IfErr, MatchOption, drop, length, option_map};
 ghost use Rattle.serde_json.specs.View.{view};
 ghost use Rattle.serde_json_path_syntax.specs.Tree.{filter};
-ghost use Rattle.serde_json_path_syntax.specs.Flat.{or_at, piece_at, segment_in};
 ghost use Rattle.serde_json_path_syntax.specs.PartBounds.{parts_bound, selector_bound};
-ghost use Rattle.serde_json_path_core.specs.Sound.{IsSoundOr, IsSoundSegment, IsSoundSelector};
-ghost use Rattle.serde_json_path_core.specs.Scopes.{Clear, WithoutPatterns, nodes_of, query_of, set_of, top_of};
+ghost use Rattle.serde_json_path_core.specs.Evaluates.{Advances, Chooses, ComesTo, IsDone, SoundOr, SoundSegment, SoundSelector};
+ghost use Rattle.serde_json_path_core.specs.Scopes.{WithoutPatterns, nodes_of, top_of};
 ghost use Rattle.serde_json_path_core.specs.Cursors.{cursor_left};
 ghost use Rattle.serde_json_path_core.specs.Views.{child_view};
 ghost use Rattle.serde_json_path_core.specs.Rest.{candidates, opened, begun, IsInside, AllStandIn};
-ghost use Rattle.serde_json_path_core.specs.Advances.{Advances, Chooses, ComesTo, IsDone};
 ghost use Rattle.serde_json_path_syntax.specs.Stages.{selector_view, stage_at, stages_at};
 ghost use Rattle.serde_json_path_core.specs.Frames.{frame_view, task_view};
 ghost use Rattle.serde_json_path_functions.specs.declared.error.QueryError.TheVariants.{Memory};
@@ -153,10 +151,10 @@ impl<'b> Frame<'b> {
     ) -> Result<Option<Task<'b>>, QueryError>
         requires within { segment.number < length (nodes_of scope.now) }
         requires number { self.old.segment + 1 < 2 ^ 64 }
-        requires sound { IsSoundSegment (set_of scope.now) (top_of scope.now) (query_of scope.now) (segment_in (piece_at (nodes_of scope.now) segment.number)) }
+        requires sound { SoundSegment scope.now segment }
         requires inside { ∥ IsInside (top_of scope.now) (frame_view self.old) ∥₁ }
         ensures advances { IfOk result (λ found.
-            Advances (Clear scope.now) (set_of scope.now) (top_of scope.now) (stage_at (nodes_of scope.now) segment) (frame_view self.old) (option_map task_view found) (frame_view self.new)) }
+            Advances scope.now segment (frame_view self.old) (option_map task_view found) (frame_view self.new)) }
         ensures refused { IfErr result (λ e. WithoutPatterns scope.now → e ≡ Memory) }
     {
         while let Some(selector_ref) = scope.query.selector_ref(segment, self.selector) {
@@ -194,11 +192,11 @@ impl<'b> Frame<'b> {
     ) -> Result<Option<Peeked<'b>>, QueryError>
         requires within { segment.number < length (nodes_of scope.now) }
         requires number { self.now.segment + 1 < 2 ^ 64 }
-        requires sound { IsSoundSegment (set_of scope.now) (top_of scope.now) (query_of scope.now) (segment_in (piece_at (nodes_of scope.now) segment.number)) }
+        requires sound { SoundSegment scope.now segment }
         requires inside { ∥ IsInside (top_of scope.now) (frame_view self.now) ∥₁ }
         ensures peeked { IfOk result (λ peeked. MatchOption peeked
-            (IsDone (Clear scope.now) (set_of scope.now) (top_of scope.now) (stage_at (nodes_of scope.now) segment) (frame_view self.now))
-            (λ a. ComesTo (Clear scope.now) (set_of scope.now) (top_of scope.now) (stage_at (nodes_of scope.now) segment) (frame_view self.now) (task_view a.task) (frame_view a.frame))) }
+            (IsDone scope.now segment (frame_view self.now))
+            (λ a. ComesTo scope.now segment (frame_view self.now) (task_view a.task) (frame_view a.frame))) }
         ensures refused { IfErr result (λ e. WithoutPatterns scope.now → e ≡ Memory) }
     {
         let mut frame = self.try_clone()?;
@@ -217,10 +215,11 @@ fn next_admitted<'b, F: Functions>(
     cursor: &mut Cursor<'b>,
 ) -> Result<Option<Child<'b>>, QueryError>
     requires below { selector_bound selector_ref ≤ length (nodes_of scope.now) }
-    requires sound { IsSoundSelector (set_of scope.now) (top_of scope.now) (query_of scope.now) (selector_view (nodes_of scope.now) selector_ref) }
+    requires sound { SoundSelector scope.now selector_ref }
     requires inside { AllStandIn (top_of scope.now) (cursor_left cursor.old) }
     ensures chooses { IfOk result (λ found.
-        Chooses (Clear scope.now) (set_of scope.now) (top_of scope.now) (selector_view (nodes_of scope.now) selector_ref.entry) (cursor_left cursor.old) (option_map child_view found) (cursor_left cursor.new)) }
+        Chooses scope.now selector_ref.entry (cursor_left cursor.old)
+        (option_map child_view found) (cursor_left cursor.new)) }
     ensures refused { IfErr result (λ e. WithoutPatterns scope.now → e ≡ Memory) }
 {
     match selector_ref {
@@ -240,10 +239,11 @@ fn next_passing<'b, F: Functions>(
     cursor: &mut Cursor<'b>,
 ) -> Result<Option<Child<'b>>, QueryError>
     requires below { test.number < length (nodes_of scope.now) }
-    requires sound { IsSoundOr (set_of scope.now) (top_of scope.now) (query_of scope.now) (or_at (nodes_of scope.now) test) }
+    requires sound { SoundOr scope.now test }
     requires inside { AllStandIn (top_of scope.now) (cursor_left cursor.old) }
     ensures chooses { IfOk result (λ found.
-        Chooses (Clear scope.now) (set_of scope.now) (top_of scope.now) (filter (or_at (nodes_of scope.now) test)) (cursor_left cursor.old) (option_map child_view found) (cursor_left cursor.new)) }
+        Chooses scope.now (SelectorRef.Filter test) (cursor_left cursor.old)
+        (option_map child_view found) (cursor_left cursor.new)) }
     ensures refused { IfErr result (λ e. WithoutPatterns scope.now → e ≡ Memory) }
 {
     while let Some(child) = cursor.advance() {

@@ -5,10 +5,9 @@ ghost use Rattle.serde_json.specs.Data.{Data};
 ghost use Rattle.serde_json.specs.View.{view};
 ghost use Rattle.serde_json_path_nodes.specs.Views.{located};
 ghost use Rattle.serde_json_path_syntax.specs.PartBounds.{parts_bound};
-ghost use Rattle.serde_json_path_core.specs.Sound.{AreSoundSegments};
-ghost use Rattle.serde_json_path_core.specs.Scopes.{Clear, WithoutPatterns, nodes_of, query_of, set_of, top_of};
-ghost use Rattle.serde_json_path_core.specs.Rest.{rest_of, stack_path, work, EndsAt, IsStack, IsStackIn};
-ghost use Rattle.serde_json_path_syntax.specs.Flat.{segments_at};
+ghost use Rattle.serde_json_path_core.specs.Evaluates.{SoundSegments, remaining, work_left};
+ghost use Rattle.serde_json_path_core.specs.Scopes.{Clear, WithoutPatterns, nodes_of, top_of};
+ghost use Rattle.serde_json_path_core.specs.Rest.{stack_path, EndsAt, IsStack, IsStackIn};
 ghost use Rattle.serde_json_path_syntax.specs.Stages.{stages_at};
 ghost use Rattle.serde_json_path_core.specs.Frames.{frames_view};
 ghost use Rattle.serde_json_path_functions.specs.declared.error.QueryError.TheVariants.{Memory};
@@ -27,7 +26,8 @@ pub(crate) fn located_at<'b>(
     frames: &[Frame<'b>],
     value: &'b Value,
 ) -> Result<LocatedNode<'b>, QueryError>
-    ensures node { IfOk result (λ node. located node ≡ record { location = stack_path [] (frames_view frames.now); value = view value.now }) }
+    ensures node { IfOk result (λ node.
+        located node ≡ record { location = stack_path [] (frames_view frames.now); value = view value.now }) }
     ensures refused { IfErr result (λ e. e ≡ Memory) }
 {
     let mut steps = Vec::new(alloc);
@@ -73,11 +73,13 @@ pub(crate) fn find_next<'b, F: Functions>(
     frames: &mut Vec<Frame<'b>>,
 ) -> Result<Option<&'b Value>, QueryError>
     requires below { parts_bound segments.now ≤ length (nodes_of scope.now) }
-    requires sound { AreSoundSegments (set_of scope.now) (top_of scope.now) (query_of scope.now) (segments_at (nodes_of scope.now) segments.now) }
+    requires sound { SoundSegments scope.now segments.now }
     requires inside { ∥ IsStackIn (top_of scope.now) (frames_view frames.old.items) ∥₁ }
     ensures rest { Clear scope.now
-        → rest_of (set_of scope.now) (top_of scope.now) (stages_at (nodes_of scope.now) segments.now) (frames_view frames.old.items) ≡ rest_of (set_of scope.now) (top_of scope.now) (stages_at (nodes_of scope.now) segments.now) (frames_view frames.new.items) }
-    ensures less { work (stages_at (nodes_of scope.now) segments.now) (frames_view frames.new.items) ≤ work (stages_at (nodes_of scope.now) segments.now) (frames_view frames.old.items) }
+        → remaining scope.now segments.now (frames_view frames.old.items)
+        ≡ remaining scope.now segments.now (frames_view frames.new.items) }
+    ensures less { work_left scope.now segments.now (frames_view frames.new.items)
+        ≤ work_left scope.now segments.now (frames_view frames.old.items) }
     ensures found { IfOk result (λ found. MatchOption found (frames.new.items ≡ [])
         (λ value. EndsAt (stages_at (nodes_of scope.now) segments.now) (frames_view frames.new.items) (view value.now))) }
     ensures stack { (start : Data) → IsStack start (frames_view frames.old.items) → IsStack start (frames_view frames.new.items) }

@@ -3,14 +3,14 @@
 ghost use Rattle.std.specs.Prelude.{◌≡◌, ◌<◌, Some, IfOk, IfErr, length};
 ghost use Rattle.serde_json.specs.View.{view};
 ghost use Rattle.serde_json_path_functions.specs.Functions.{kind_of_term, of_value};
+ghost use Rattle.serde_json_path_core.specs.Evaluates.{SoundArgument, SoundCall, SoundQuery, answer_at, given_at, results_at};
 ghost use Rattle.serde_json_path_core.specs.ComparedValues.{compared_view};
 ghost use Rattle.serde_json_path_functions.specs.Terms.{kind_view, term_view};
 ghost use Rattle.serde_json_path_syntax.specs.Typing.{result_kind};
 ghost use Rattle.serde_json_path_core.specs.Clear.{StandsIn};
 ghost use Rattle.serde_json_path_core.specs.Computed as computed;
-ghost use Rattle.serde_json_path_syntax.specs.Flat.{argument_at, call_at, part_query};
-ghost use Rattle.serde_json_path_core.specs.Sound.{IsSound, IsSoundArgument, IsSoundCall};
-ghost use Rattle.serde_json_path_core.specs.Scopes.{Clear, WithoutPatterns, nodes_of, query_of, set_of, top_of};
+ghost use Rattle.serde_json_path_syntax.specs.Flat.{call_at};
+ghost use Rattle.serde_json_path_core.specs.Scopes.{Clear, WithoutPatterns, nodes_of, set_of, top_of};
 ghost use Rattle.serde_json_path_functions.specs.declared.error.QueryError.TheVariants.{Memory};
 
 use crate::evaluation::scope::Scope;
@@ -66,10 +66,12 @@ pub(crate) fn answer<'x, 'q: 'x, 'b: 'x, F: Functions>(
     value: &'b Value,
 ) -> Result<FunctionValue<'x>, QueryError>
     requires below { call.number < length (nodes_of scope.now) }
-    requires sound { IsSoundCall (set_of scope.now) (top_of scope.now) (query_of scope.now) (call_at (nodes_of scope.now) call) }
+    requires sound { SoundCall scope.now call }
     requires inside { StandsIn (top_of scope.now) (view value.now) }
-    ensures kind { IfOk result (λ answer. Some (kind_of_term (term_view answer)) ≡ result_kind (set_of scope.now).signature (call_at (nodes_of scope.now) call)) }
-    ensures means { IfOk result (λ answer. Clear scope.now → term_view answer ≡ computed.answer (set_of scope.now) (top_of scope.now) (call_at (nodes_of scope.now) call) (view value.now)) }
+    ensures kind { IfOk result (λ answer.
+        Some (kind_of_term (term_view answer)) ≡ result_kind (set_of scope.now).signature (call_at (nodes_of scope.now) call)) }
+    ensures means { IfOk result (λ answer.
+        Clear scope.now → term_view answer ≡ answer_at scope.now call (view value.now)) }
     ensures refused { IfErr result (λ e. WithoutPatterns scope.now → e ≡ Memory) }
 {
     let name = scope.query.called_name(call);
@@ -99,10 +101,11 @@ fn argument_as<'x, 'q: 'x, 'b: 'x, F: Functions>(
     value: &'b Value,
 ) -> Result<FunctionValue<'x>, QueryError>
     requires below { argument.number < length (nodes_of scope.now) }
-    requires sound { IsSoundArgument (set_of scope.now) (top_of scope.now) (query_of scope.now) (kind_view kind) (argument_at (nodes_of scope.now) argument) }
+    requires sound { SoundArgument scope.now (kind_view kind) argument }
     requires inside { StandsIn (top_of scope.now) (view value.now) }
     ensures kind { IfOk result (λ term. kind_of_term (term_view term) ≡ kind_view kind) }
-    ensures means { IfOk result (λ term. Clear scope.now → term_view term ≡ computed.argument_as (set_of scope.now) (top_of scope.now) (argument_at (nodes_of scope.now) argument) (kind_view kind) (view value.now)) }
+    ensures means { IfOk result (λ term.
+        Clear scope.now → term_view term ≡ given_at scope.now argument (kind_view kind) (view value.now)) }
     ensures refused { IfErr result (λ e. WithoutPatterns scope.now → e ≡ Memory) }
 {
     match scope.query.node(argument) {
@@ -135,10 +138,11 @@ fn result_as<'x, 'q: 'x, 'b: 'x, F: Functions>(
     value: &'b Value,
 ) -> Result<FunctionValue<'x>, QueryError>
     requires below { query.number < length (nodes_of scope.now) }
-    requires sound { IsSound (set_of scope.now) (top_of scope.now) (query_of scope.now) (part_query (nodes_of scope.now) query) }
+    requires sound { SoundQuery scope.now query }
     requires inside { StandsIn (top_of scope.now) (view value.now) }
     ensures kind { IfOk result (λ term. kind_of_term (term_view term) ≡ kind_view kind) }
-    ensures means { IfOk result (λ term. Clear scope.now → term_view term ≡ computed.result_as (kind_view kind) (computed.results (set_of scope.now) (top_of scope.now) (part_query (nodes_of scope.now) query) (view value.now))) }
+    ensures means { IfOk result (λ term.
+        Clear scope.now → term_view term ≡ computed.result_as (kind_view kind) (results_at scope.now query (view value.now))) }
     ensures refused { IfErr result (λ e. WithoutPatterns scope.now → e ≡ Memory) }
 {
     match kind {

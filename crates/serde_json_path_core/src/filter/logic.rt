@@ -2,17 +2,15 @@
 
 ghost use Rattle.std.specs.Prelude.{◌≡◌, ◌<◌, Some, IfOk, IfErr, length, map, option_map};
 ghost use Rattle.serde_json.specs.View.{view};
-ghost use Rattle.serde_json_path_nodes.specs.Location.{Located};
 ghost use Rattle.serde_json_path_nodes.specs.Views.{node_value};
+ghost use Rattle.serde_json_path_core.specs.Evaluates.{SoundAnd, SoundBasic, SoundComparable, SoundOr, SoundQuery, and_holds, basic_holds, compared_at, or_holds, results_at, values_at};
 ghost use Rattle.serde_json_path_core.specs.Clear.{StandsIn};
 ghost use Rattle.serde_json_path_core.specs.Meaning.{first_value};
-ghost use Rattle.serde_json_path_core.specs.Computed as computed;
-ghost use Rattle.serde_json_path_syntax.specs.Flat.{or_at, and_at, basic_at, comparable_at, part_query};
+ghost use Rattle.serde_json_path_syntax.specs.Flat.{part_query};
 ghost use Rattle.serde_json_path_core.specs.ComparedValues.{compared_view};
 ghost use Rattle.serde_json_path_core.specs.Frames.{frame_view};
 ghost use Rattle.serde_json_path_core.specs.Rest.{starting_frame};
-ghost use Rattle.serde_json_path_core.specs.Sound.{IsSound, IsSoundOr, IsSoundAnd, IsSoundBasic, IsSoundComparable};
-ghost use Rattle.serde_json_path_core.specs.Scopes.{Clear, WithoutPatterns, nodes_of, query_of, set_of, top_of};
+ghost use Rattle.serde_json_path_core.specs.Scopes.{Clear, WithoutPatterns, nodes_of, top_of};
 ghost use Rattle.serde_json_path_functions.specs.declared.error.QueryError.TheVariants.{Memory};
 
 use crate::evaluation::frame::Frame;
@@ -34,9 +32,10 @@ pub(crate) fn is_true<'b, F: Functions>(
     value: &'b Value,
 ) -> Result<bool, QueryError>
     requires below { expression.number < length (nodes_of scope.now) }
-    requires sound { IsSoundOr (set_of scope.now) (top_of scope.now) (query_of scope.now) (or_at (nodes_of scope.now) expression) }
+    requires sound { SoundOr scope.now expression }
     requires inside { StandsIn (top_of scope.now) (view value.now) }
-    ensures means { IfOk result (λ holds. Clear scope.now → holds ≡ computed.is_true (set_of scope.now) (top_of scope.now) (or_at (nodes_of scope.now) expression) (view value.now)) }
+    ensures means { IfOk result (λ holds.
+        Clear scope.now → holds ≡ or_holds scope.now expression (view value.now)) }
     ensures refused { IfErr result (λ e. WithoutPatterns scope.now → e ≡ Memory) }
 {
     for part in scope.query.or_parts(expression) {
@@ -55,9 +54,10 @@ fn all_true<'b, F: Functions>(
     value: &'b Value,
 ) -> Result<bool, QueryError>
     requires below { expression.number < length (nodes_of scope.now) }
-    requires sound { IsSoundAnd (set_of scope.now) (top_of scope.now) (query_of scope.now) (and_at (nodes_of scope.now) expression) }
+    requires sound { SoundAnd scope.now expression }
     requires inside { StandsIn (top_of scope.now) (view value.now) }
-    ensures means { IfOk result (λ holds. Clear scope.now → holds ≡ computed.all_true (set_of scope.now) (top_of scope.now) (and_at (nodes_of scope.now) expression) (view value.now)) }
+    ensures means { IfOk result (λ holds.
+        Clear scope.now → holds ≡ and_holds scope.now expression (view value.now)) }
     ensures refused { IfErr result (λ e. WithoutPatterns scope.now → e ≡ Memory) }
 {
     for part in scope.query.and_parts(expression) {
@@ -76,9 +76,10 @@ fn basic_true<'b, F: Functions>(
     value: &'b Value,
 ) -> Result<bool, QueryError>
     requires below { expression.number < length (nodes_of scope.now) }
-    requires sound { IsSoundBasic (set_of scope.now) (top_of scope.now) (query_of scope.now) (basic_at (nodes_of scope.now) expression) }
+    requires sound { SoundBasic scope.now expression }
     requires inside { StandsIn (top_of scope.now) (view value.now) }
-    ensures means { IfOk result (λ holds. Clear scope.now → holds ≡ computed.basic_true (set_of scope.now) (top_of scope.now) (basic_at (nodes_of scope.now) expression) (view value.now)) }
+    ensures means { IfOk result (λ holds.
+        Clear scope.now → holds ≡ basic_holds scope.now expression (view value.now)) }
     ensures refused { IfErr result (λ e. WithoutPatterns scope.now → e ≡ Memory) }
 {
     match scope.query.node(expression) {
@@ -117,9 +118,10 @@ fn compared<'x, 'q: 'x, 'b: 'x, F: Functions>(
     value: &'b Value,
 ) -> Result<ComparedValue<'x>, QueryError>
     requires below { comparable.number < length (nodes_of scope.now) }
-    requires sound { IsSoundComparable (set_of scope.now) (top_of scope.now) (query_of scope.now) (comparable_at (nodes_of scope.now) comparable) }
+    requires sound { SoundComparable scope.now comparable }
     requires inside { StandsIn (top_of scope.now) (view value.now) }
-    ensures means { IfOk result (λ compared_value. Clear scope.now → Some (compared_view compared_value) ≡ computed.compared (set_of scope.now) (top_of scope.now) (comparable_at (nodes_of scope.now) comparable) (view value.now)) }
+    ensures means { IfOk result (λ compared_value.
+        Clear scope.now → Some (compared_view compared_value) ≡ compared_at scope.now comparable (view value.now)) }
     ensures refused { IfErr result (λ e. WithoutPatterns scope.now → e ≡ Memory) }
 {
     match scope.query.node(comparable) {
@@ -165,9 +167,10 @@ pub(crate) fn first<'b, F: Functions>(
     value: &'b Value,
 ) -> Result<Option<&'b Value>, QueryError>
     requires below { query.number < length (nodes_of scope.now) }
-    requires sound { IsSound (set_of scope.now) (top_of scope.now) (query_of scope.now) (part_query (nodes_of scope.now) query) }
+    requires sound { SoundQuery scope.now query }
     requires inside { StandsIn (top_of scope.now) (view value.now) }
-    ensures means { IfOk result (λ found. Clear scope.now → option_map node_value found ≡ first_value (computed.results (set_of scope.now) (top_of scope.now) (part_query (nodes_of scope.now) query) (view value.now))) }
+    ensures means { IfOk result (λ found.
+        Clear scope.now → option_map node_value found ≡ first_value (results_at scope.now query (view value.now))) }
     ensures refused { IfErr result (λ e. WithoutPatterns scope.now → e ≡ Memory) }
 {
     let segments = scope.query.part_segments(query);
@@ -184,9 +187,10 @@ pub(crate) fn all_values<'x, 'q: 'x, 'b: 'x, F: Functions>(
     value: &'b Value,
 ) -> Result<Vec<&'x Value>, QueryError>
     requires below { query.number < length (nodes_of scope.now) }
-    requires sound { IsSound (set_of scope.now) (top_of scope.now) (query_of scope.now) (part_query (nodes_of scope.now) query) }
+    requires sound { SoundQuery scope.now query }
     requires inside { StandsIn (top_of scope.now) (view value.now) }
-    ensures means { IfOk result (λ found. Clear scope.now → map node_value found.items ≡ map (λ (n : Located). n.value) (computed.results (set_of scope.now) (top_of scope.now) (part_query (nodes_of scope.now) query) (view value.now))) }
+    ensures means { IfOk result (λ found.
+        Clear scope.now → map node_value found.items ≡ values_at scope.now query (view value.now)) }
     ensures refused { IfErr result (λ e. WithoutPatterns scope.now → e ≡ Memory) }
 {
     let segments = scope.query.part_segments(query);

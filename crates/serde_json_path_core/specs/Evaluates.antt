@@ -1,0 +1,109 @@
+-- The words of the functions that evaluate: what is asked of a part, and what it computes to where `@` is a value.
+use Rattle.std.specs.Prelude.{ℕ, List, map, Bool, Option, Result, IfErr, ◌≡◌}
+use Rattle.serde_json.specs.Data.{Data}
+use Rattle.serde_json_path_nodes.specs.Location.{Step, Located}
+use Rattle.serde_json_path_functions.specs.Functions.{Kind, Term}
+use Rattle.serde_json_path_syntax.specs.declared.node.Part.{Part}
+use Rattle.serde_json_path_syntax.specs.declared.selector_ref.SelectorRef.{SelectorRef}
+use Rattle.serde_json_path_syntax.specs.Flat.{or_at, and_at, basic_at, comparable_at, call_at, argument_at, part_query, piece_at, segment_in, segments_at}
+use Rattle.serde_json_path_syntax.specs.Stages.{Stage, selector_view, stage_at, stages_at}
+use Rattle.serde_json_path_core.specs.Advances as advances
+use Rattle.serde_json_path_core.specs.Compared.{Compared}
+use Rattle.serde_json_path_core.specs.Computed as computed
+use Rattle.serde_json_path_core.specs.Rest as rest
+use Rattle.serde_json_path_core.specs.Rest.{Frame}
+use Rattle.serde_json_path_core.specs.Scopes.{Clear, nodes_of, query_of, set_of, top_of}
+use Rattle.serde_json_path_core.specs.Sound.{AreSoundSegments, IsSound, IsSoundAnd, IsSoundArgument, IsSoundBasic, IsSoundCall, IsSoundComparable, IsSoundOr, IsSoundSegment, IsSoundSelector}
+use Rattle.serde_json_path_core.specs.declared.evaluation.scope.Scope.{Scope}
+
+-- ---- the part is well-typed under the set, and its calls are among the query's
+
+abbrev pub SoundQuery : {F : Type 0} {g : _} → Scope F g → Part → Type 0
+SoundQuery scope part = IsSound (set_of scope) (top_of scope) (query_of scope) (part_query (nodes_of scope) part)
+
+abbrev pub SoundSegments : {F : Type 0} {g : _} → Scope F g → List Part → Type 0
+SoundSegments scope parts = AreSoundSegments (set_of scope) (top_of scope) (query_of scope) (segments_at (nodes_of scope) parts)
+
+abbrev pub SoundSegment : {F : Type 0} {g : _} → Scope F g → Part → Type 0
+SoundSegment scope part = IsSoundSegment (set_of scope) (top_of scope) (query_of scope) (segment_in (piece_at (nodes_of scope) part.number))
+
+abbrev pub SoundSelector : {F : Type 0} {g : _} → Scope F g → SelectorRef → Type 0
+SoundSelector scope selector = IsSoundSelector (set_of scope) (top_of scope) (query_of scope) (selector_view (nodes_of scope) selector)
+
+abbrev pub SoundOr : {F : Type 0} {g : _} → Scope F g → Part → Type 0
+SoundOr scope part = IsSoundOr (set_of scope) (top_of scope) (query_of scope) (or_at (nodes_of scope) part)
+
+abbrev pub SoundAnd : {F : Type 0} {g : _} → Scope F g → Part → Type 0
+SoundAnd scope part = IsSoundAnd (set_of scope) (top_of scope) (query_of scope) (and_at (nodes_of scope) part)
+
+abbrev pub SoundBasic : {F : Type 0} {g : _} → Scope F g → Part → Type 0
+SoundBasic scope part = IsSoundBasic (set_of scope) (top_of scope) (query_of scope) (basic_at (nodes_of scope) part)
+
+abbrev pub SoundComparable : {F : Type 0} {g : _} → Scope F g → Part → Type 0
+SoundComparable scope part = IsSoundComparable (set_of scope) (top_of scope) (query_of scope) (comparable_at (nodes_of scope) part)
+
+abbrev pub SoundCall : {F : Type 0} {g : _} → Scope F g → Part → Type 0
+SoundCall scope part = IsSoundCall (set_of scope) (top_of scope) (query_of scope) (call_at (nodes_of scope) part)
+
+-- the same of an argument, as a parameter of that type takes it
+abbrev pub SoundArgument : {F : Type 0} {g : _} → Scope F g → Kind → Part → Type 0
+SoundArgument scope kind part = IsSoundArgument (set_of scope) (top_of scope) (query_of scope) kind (argument_at (nodes_of scope) part)
+
+-- ---- what a part computes to
+
+-- whether a logical expression holds
+abbrev pub or_holds : {F : Type 0} {g : _} → Scope F g → Part → Data → Bool
+or_holds scope part v = computed.is_true (set_of scope) (top_of scope) (or_at (nodes_of scope) part) v
+
+abbrev pub and_holds : {F : Type 0} {g : _} → Scope F g → Part → Data → Bool
+and_holds scope part v = computed.all_true (set_of scope) (top_of scope) (and_at (nodes_of scope) part) v
+
+abbrev pub basic_holds : {F : Type 0} {g : _} → Scope F g → Part → Data → Bool
+basic_holds scope part v = computed.basic_true (set_of scope) (top_of scope) (basic_at (nodes_of scope) part) v
+
+-- what a side of a comparison stands for
+abbrev pub compared_at : {F : Type 0} {g : _} → Scope F g → Part → Data → Option Compared
+compared_at scope part v = computed.compared (set_of scope) (top_of scope) (comparable_at (nodes_of scope) part) v
+
+-- what a call answers
+abbrev pub answer_at : {F : Type 0} {g : _} → Scope F g → Part → Data → Term
+answer_at scope part v = computed.answer (set_of scope) (top_of scope) (call_at (nodes_of scope) part) v
+
+-- an argument as a parameter of that type takes it
+abbrev pub given_at : {F : Type 0} {g : _} → Scope F g → Part → Kind → Data → Term
+given_at scope part kind v = computed.argument_as (set_of scope) (top_of scope) (argument_at (nodes_of scope) part) kind v
+
+-- the nodes of a query, and their values
+abbrev pub results_at : {F : Type 0} {g : _} → Scope F g → Part → Data → List Located
+results_at scope part v = computed.results (set_of scope) (top_of scope) (part_query (nodes_of scope) part) v
+
+abbrev pub values_at : {F : Type 0} {g : _} → Scope F g → Part → Data → List Data
+values_at scope part v = map (λ (n : Located). n.value) (results_at scope part v)
+
+-- ---- steps of a walk
+
+-- the nodes that remain of these frames
+abbrev pub remaining : {F : Type 0} {g : _} → Scope F g → List Part → List Frame → List Located
+remaining scope segments frames = rest.rest_of (set_of scope) (top_of scope) (stages_at (nodes_of scope) segments) frames
+
+-- how many steps these frames take at most
+abbrev pub work_left : {F : Type 0} {g : _} → Scope F g → List Part → List Frame → ℕ
+work_left scope segments frames = rest.work (stages_at (nodes_of scope) segments) frames
+
+-- of these children the selector has come to the next one that it admits, if there is one
+abbrev pub Chooses : {F : Type 0} {g : _} → Scope F g → SelectorRef → List (Step × Data) → Option (Step × Data) → List (Step × Data) → Type 0
+Chooses scope selector old found new =
+    advances.Chooses (Clear scope) (set_of scope) (top_of scope) (selector_view (nodes_of scope) selector) old found new
+
+-- the frame has come to its next task, if there is one
+abbrev pub Advances : {F : Type 0} {g : _} → Scope F g → Part → Frame → Option (ℕ × (Step × Data)) → Frame → Type 0
+Advances scope segment old found new =
+    advances.Advances (Clear scope) (set_of scope) (top_of scope) (stage_at (nodes_of scope) segment) old found new
+
+abbrev pub ComesTo : {F : Type 0} {g : _} → Scope F g → Part → Frame → ℕ × (Step × Data) → Frame → Type 0
+ComesTo scope segment old task new =
+    advances.ComesTo (Clear scope) (set_of scope) (top_of scope) (stage_at (nodes_of scope) segment) old task new
+
+-- the frame has no task left
+abbrev pub IsDone : {F : Type 0} {g : _} → Scope F g → Part → Frame → Type 0
+IsDone scope segment old = advances.IsDone (Clear scope) (set_of scope) (top_of scope) (stage_at (nodes_of scope) segment) old
