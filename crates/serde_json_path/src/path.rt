@@ -82,7 +82,8 @@ impl JsonPath {
         functions: &F,
     ) -> Result<JsonPath, ParseError>
         ensures parse { IsParseOf (before_builtin (F.set functions.now)).signature path_str.now (parser_answer result) }
-        ensures fits { IfOk result (λ path. Fits (before_builtin (F.set functions.now)) (path_signatures path)) }
+        ensures fits { IfOk result (λ path.
+            Fits (before_builtin (F.set functions.now)) (path_signatures path)) }
     {
         let mut source = TextSource::new(path_str);
         parse_source(alloc, &mut source, functions)
@@ -91,7 +92,8 @@ impl JsonPath {
     /// Whether the set, with the built-in functions behind it, declares each function that the path calls, with the
     /// signature that the path was read with (RFC 9535, section 2.4.3). Takes no memory.
     pub fn fits<F: Functions>(&self, functions: &F) -> bool
-        ensures { IsTrue result ↔ Fits (before_builtin (F.set functions.now)) (path_signatures self.now) }
+        ensures { IsTrue result
+            ↔ Fits (before_builtin (F.set functions.now)) (path_signatures self.now) }
     {
         self.checked.fits(&Both(functions, Builtin))
     }

@@ -33,15 +33,18 @@ pub fn parse_source<S: PathSource, F: Functions>(
 ) -> Result<JsonPath, ParseError>
     ensures parse { IsParseOf (before_builtin (F.set functions.now)).signature (S.told source.old).text (parser_answer result) }
     // The signatures that the path keeps are those of the set, with the built-in ones behind them.
-    ensures fits { IfOk result (λ path. Fits (before_builtin (F.set functions.now)) (path_signatures path)) }
+    ensures fits { IfOk result (λ path.
+        Fits (before_builtin (F.set functions.now)) (path_signatures path)) }
     // The source still tells its text.
     ensures same_text { (S.told source.new).text ≡ (S.told source.old).text }
     // However the parse ends, there are at most 32(n + 1) looks more at n bytes.
-    ensures looks { (S.told source.new).looks ≤ (S.told source.old).looks + 32 * (length (S.told source.old).text + 1) }
+    ensures looks { (S.told source.new).looks
+        ≤ (S.told source.old).looks + 32 * (length (S.told source.old).text + 1) }
     // Of four kinds nothing beyond the byte behind the position was looked at.
     ensures farthest { IfErr result (λ e. is_told_at_next (kind_of e) ≡ true
         → (S.told source.new).farthest ≤ max (S.told source.old).farthest (position_of e + 1)) }
-    ensures unseen { length (S.told source.old).text ≡ 2 ^ 64 - 1 → S.told source.new ≡ S.told source.old }
+    ensures unseen { length (S.told source.old).text ≡ 2 ^ 64 - 1 → S.told source.new
+        ≡ S.told source.old }
 {
     let checked = parse(alloc, source, &Both(functions, Builtin))?;
     Ok(JsonPath { checked })

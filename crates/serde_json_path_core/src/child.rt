@@ -28,7 +28,8 @@ pub(crate) fn member<'b>(value: &'b Value, name: &str) -> Option<Child<'b>>
 }
 
 fn member_of<'b>(members: &'b Map<String, Value>, name: &str) -> Option<Child<'b>>
-    ensures { option_map child_view result ≡ child_by (object (members_view members.now.entries)) (by_name name.now) }
+    ensures { option_map child_view result
+        ≡ child_by (object (members_view members.now.entries)) (by_name name.now) }
 {
     match members.get_key_value(name) {
         Some((key, value)) => Some(Child {
@@ -39,7 +40,7 @@ fn member_of<'b>(members: &'b Map<String, Value>, name: &str) -> Option<Child<'b
     }
 }
 
-/// The item that the index means, if the value is an array that has it; a negative index counts from the end.
+/// The item at an index, if the value is an array that has it; a negative index counts from the end.
 pub(crate) fn item<'b>(value: &'b Value, index: i64) -> Option<Child<'b>>
     ensures { option_map child_view result ≡ item_at (view value.now) index }
 {
@@ -67,7 +68,7 @@ fn item_of<'b>(items: &'b Vec<Value>, index: i64) -> Option<Child<'b>>
     }
 }
 
-/// The position that an index means in an array of that length.
+/// The position of an index in an array of `len` items, from 0; it may lie past the end.
 fn position(index: i64, len: usize) -> Option<usize>
     ensures { result ≡ position_in index len }
 {

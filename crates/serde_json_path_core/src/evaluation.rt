@@ -1,4 +1,4 @@
-//! What a query selects: a walk, and its full runs.
+//! What a query selects: node by node, or as a list.
 
 pub(crate) mod cursor;
 pub(crate) mod frame;
@@ -27,7 +27,7 @@ use serde_json_path_nodes::{LocatedNodeList, NodeList};
 use serde_json_path_syntax::{Checked, QueryKind};
 use std::alloc::Global;
 
-/// The value at which a query of that kind begins.
+/// The value at which a query of that kind starts.
 pub(crate) fn start<'b>(kind: QueryKind, node: &'b Value, root: &'b Value) -> &'b Value
     ensures { view result.now ≡ start_of (kind_view kind) (view root.now) (view node.now) }
 {
@@ -54,7 +54,8 @@ pub fn walk<'q, 'b, F: Functions + Drop>(
     functions: F,
 ) -> Result<Walk<'q, 'b, F>, QueryError>
     requires { Fits (F.set functions) (signatures_of query.now) }
-    ensures selects { IfOk result (λ walk. Selects (F.set functions) (tree_of query.now) (view document.now) (rest walk)) }
+    ensures selects { IfOk result (λ walk.
+        Selects (F.set functions) (tree_of query.now) (view document.now) (rest walk)) }
     ensures query { IfOk result (λ walk. query_of walk ≡ tree_of query.now) }
     ensures set { IfOk result (λ walk. set_of walk ≡ F.set functions) }
     ensures document { IfOk result (λ walk. document_of walk ≡ view document.now) }

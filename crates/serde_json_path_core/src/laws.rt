@@ -1,4 +1,4 @@
-//! Laws of the definitions, each the contract of a function with an empty body.
+//! Laws of what queries mean. Each is the contract of a function with an empty body.
 
 ghost use Rattle.std.specs.Prelude.{◌≡◌, List};
 ghost use Rattle.serde_json.specs.Data.{Data};
@@ -13,7 +13,8 @@ ghost use Rattle.serde_json_path_core.specs.Laws.{SingularQuerySelectsAtMostOne,
 
 /// Of two derivations of one query never both stand before the other (RFC 9535, sections 2.5.1.2 and 2.5.2.2).
 pub fn law_before_is_asymmetric()
-    ensures { (q : Query) (xs ys : List Triple) → Before (segments_of q) xs ys → Before (segments_of q) ys xs → ⊥ }
+    ensures { (q : Query) (xs ys : List Triple) → Before (segments_of q) xs ys
+        → Before (segments_of q) ys xs → ⊥ }
 {}
 
 /// A query has one result at most, whatever the function set and the document.
@@ -53,8 +54,10 @@ pub fn law_descendants_in_document_order()
     ensures { DescendantsInDocumentOrder }
 {}
 
-/// A query of which no call stands for `match` or `search` is clear: what the evaluation promises of such a query it
-/// promises without a premise.
+/// A query that calls nothing which stands for `match` or `search` is clear.
+///
+/// So what the evaluation promises holds of such a query without a premise.
 pub fn law_clear_without_patterns()
-    ensures { (F : FunctionSet) (q : Query) (top : Data) → EachCall (GoesWithoutPattern F) q → IsClear F q top }
+    ensures { (F : FunctionSet) (q : Query) (top : Data) → EachCall (GoesWithoutPattern F) q
+        → IsClear F q top }
 {}

@@ -1,4 +1,4 @@
-//! Making syntax trees.
+//! The builder of syntax trees.
 
 ghost use Rattle.serde_json_path_syntax.specs.Flat.{IsGrown};
 
@@ -16,10 +16,10 @@ use serde_json::Value;
 use serde_json_path_functions::{Functions, Signature};
 use std::alloc::{AllocError, Global};
 
-/// Makes the parts of a syntax tree, each out of finished ones.
+/// Builds a syntax tree from its leaves up: each call makes a part out of finished parts.
 ///
-/// A part is good for the builder that made it, and stays good, with its tree, over every further call, refused or
-/// not. A call is refused only where memory is.
+/// A part belongs to the builder that made it, and stands for the same tree after every further call, refused or not.
+/// A call fails only if memory is refused.
 #[derive(Drop)]
 pub struct SyntaxBuilder {
     nodes: Vec<Node>,
@@ -39,7 +39,7 @@ impl SyntaxBuilder {
     ghost use Rattle.serde_json_path_syntax.specs.Used.{AreCalled, MayFinish, signature_in, used_view};
     ghost use Rattle.serde_json_path_functions.specs.Functions.{Fits};
 
-    /// A builder that has made no part yet. Takes no memory.
+    /// A builder with no parts. Takes no memory.
     pub fn new(alloc: Global) -> SyntaxBuilder
         ensures empty { HasNoParts result }
     {
@@ -48,12 +48,13 @@ impl SyntaxBuilder {
         }
     }
 
-    /// One node more, which names parts that are good.
-    // Within its callers a node is written into its place at once.
+    /// Appends a node whose children already exist.
+    // Inlined, so that a caller writes the node straight into the vector.
     #[inline(always)]
     fn push(&mut self, node: Node) -> Result<Part, AllocError>
         requires { NamesBelow (length self.old.nodes.items) node }
-        ensures made { IfOk result (λ part. IsPart self.new part (piece_of (pieces self.old.nodes.items) node)) }
+        ensures made { IfOk result (λ part.
+            IsPart self.new part (piece_of (pieces self.old.nodes.items) node)) }
         ensures keeps { KeepsParts self.old self.new }
     {
         let number = self.nodes.len();
@@ -63,7 +64,8 @@ impl SyntaxBuilder {
 
     /// The segment `.name`.
     pub fn dot_name(&mut self, kind: SegmentKind, name: String) -> Result<Part, AllocError>
-        ensures made { IfOk result (λ part. IsPart self.new part (a_segment (segment_kind_view kind) (tree.dot_name (string_bytes name)))) }
+        ensures made { IfOk result (λ part.
+            IsPart self.new part (a_segment (segment_kind_view kind) (tree.dot_name (string_bytes name)))) }
         ensures keeps { KeepsParts self.old self.new }
     {
         self.push(Node::Segment {
@@ -74,7 +76,8 @@ impl SyntaxBuilder {
 
     /// The segment `.*`.
     pub fn dot_wildcard(&mut self, kind: SegmentKind) -> Result<Part, AllocError>
-        ensures made { IfOk result (λ part. IsPart self.new part (a_segment (segment_kind_view kind) tree.dot_wildcard)) }
+        ensures made { IfOk result (λ part.
+            IsPart self.new part (a_segment (segment_kind_view kind) tree.dot_wildcard)) }
         ensures keeps { KeepsParts self.old self.new }
     {
         self.push(Node::Segment {
@@ -83,10 +86,11 @@ impl SyntaxBuilder {
         })
     }
 
-    /// The segment of these selectors in brackets, in order, of which there is one at least.
+    /// A bracket segment of one selector or more, in order.
     pub fn long_hand(&mut self, kind: SegmentKind, selectors: Parts) -> Result<Part, AllocError>
         requires { (sels : tree.Selectors) × AreSelectorsOf self.old (parts_in selectors) sels }
-        ensures made { IfOk result (λ part. (sels : tree.Selectors) → AreSelectorsOf self.old (parts_in selectors) sels
+        ensures made { IfOk result (λ part.
+            (sels : tree.Selectors) → AreSelectorsOf self.old (parts_in selectors) sels
             → IsPart self.new part (a_segment (segment_kind_view kind) (tree.long_hand sels))) }
         ensures keeps { KeepsParts self.old self.new }
     {
@@ -98,7 +102,8 @@ impl SyntaxBuilder {
 
     /// A name selector in brackets.
     pub fn name(&mut self, name: String) -> Result<Part, AllocError>
-        ensures made { IfOk result (λ part. IsPart self.new part (a_selector (tree.name (string_bytes name)))) }
+        ensures made { IfOk result (λ part.
+            IsPart self.new part (a_selector (tree.name (string_bytes name)))) }
         ensures keeps { KeepsParts self.old self.new }
     {
         self.push(Node::Selector(Selector::Name(name)))
@@ -121,18 +126,19 @@ impl SyntaxBuilder {
         self.push(Node::Selector(Selector::Index(index)))
     }
 
-    /// A slice selector, whose parts are of -(2^53 - 1) to 2^53 - 1.
+    /// A slice selector, whose numbers are of -(2^53 - 1) to 2^53 - 1.
     pub fn slice(&mut self, slice: Slice) -> Result<Part, AllocError>
         requires start { IsOptionalInteger slice.start }
         requires end { IsOptionalInteger slice.end }
         requires step { IsOptionalInteger slice.step }
-        ensures made { IfOk result (λ part. IsPart self.new part (a_selector (tree.slice (slice_view slice)))) }
+        ensures made { IfOk result (λ part.
+            IsPart self.new part (a_selector (tree.slice (slice_view slice)))) }
         ensures keeps { KeepsParts self.old self.new }
     {
         self.push(Node::Selector(Selector::Slice(slice)))
     }
 
-    /// A filter selector `?`, of the children for which a logical expression holds (RFC 9535, section 2.3.5).
+    /// A filter selector, which selects the children for which a logical expression holds (RFC 9535, section 2.3.5).
     pub fn filter(&mut self, test: Part) -> Result<Part, AllocError>
         requires { (e : tree.LogicalOr) × IsPart self.old test (an_or e) }
         ensures made { IfOk result (λ part. (e : tree.LogicalOr) → IsPart self.old test (an_or e)
@@ -142,22 +148,22 @@ impl SyntaxBuilder {
         self.push(Node::Selector(Selector::Filter(test)))
     }
 
-    /// The logical expression of these parts, in order, with `||` between them (RFC 9535, section 2.3.5.1). There is
-    /// one at least.
+    /// A logical expression: one operand of `||` or more, in order (RFC 9535, section 2.3.5.1).
     pub fn logical_or(&mut self, parts: Parts) -> Result<Part, AllocError>
         requires { (e : tree.LogicalOr) × AreOrPartsOf self.old (parts_in parts) e }
-        ensures made { IfOk result (λ part. (e : tree.LogicalOr) → AreOrPartsOf self.old (parts_in parts) e
+        ensures made { IfOk result (λ part.
+            (e : tree.LogicalOr) → AreOrPartsOf self.old (parts_in parts) e
             → IsPart self.new part (an_or e)) }
         ensures keeps { KeepsParts self.old self.new }
     {
         self.push(Node::LogicalOr(parts))
     }
 
-    /// The part of a logical expression with `&&` between these parts, in order (RFC 9535, section 2.3.5.1). There is
-    /// one at least.
+    /// An operand of `||`: one operand of `&&` or more, in order (RFC 9535, section 2.3.5.1).
     pub fn logical_and(&mut self, parts: Parts) -> Result<Part, AllocError>
         requires { (e : tree.LogicalAnd) × AreAndPartsOf self.old (parts_in parts) e }
-        ensures made { IfOk result (λ part. (e : tree.LogicalAnd) → AreAndPartsOf self.old (parts_in parts) e
+        ensures made { IfOk result (λ part.
+            (e : tree.LogicalAnd) → AreAndPartsOf self.old (parts_in parts) e
             → IsPart self.new part (an_and e)) }
         ensures keeps { KeepsParts self.old self.new }
     {
@@ -174,7 +180,7 @@ impl SyntaxBuilder {
         self.push(Node::Basic(Basic::Paren(inner)))
     }
 
-    /// A logical expression in parentheses behind `!`, as `!(@.a || @.b)` (RFC 9535, section 2.3.5.1).
+    /// A negated logical expression in parentheses, as `!(@.a || @.b)` (RFC 9535, section 2.3.5.1).
     pub fn not_paren(&mut self, inner: Part) -> Result<Part, AllocError>
         requires { (e : tree.LogicalOr) × IsPart self.old inner (an_or e) }
         ensures made { IfOk result (λ part. (e : tree.LogicalOr) → IsPart self.old inner (an_or e)
@@ -184,7 +190,7 @@ impl SyntaxBuilder {
         self.push(Node::Basic(Basic::NotParen(inner)))
     }
 
-    /// The test whether a query selects a node, as `@.a` (RFC 9535, section 2.3.5.1).
+    /// A test whether a query selects a node, as `@.a` (RFC 9535, section 2.3.5.1).
     pub fn exist(&mut self, query: Part) -> Result<Part, AllocError>
         requires { (q : tree.Query) × IsPart self.old query (a_query q) }
         ensures made { IfOk result (λ part. (q : tree.Query) → IsPart self.old query (a_query q)
@@ -194,7 +200,7 @@ impl SyntaxBuilder {
         self.push(Node::Basic(Basic::Exist(query)))
     }
 
-    /// The test whether a query selects no node, as `!@.a` (RFC 9535, section 2.3.5.1).
+    /// A test whether a query selects no node, as `!@.a` (RFC 9535, section 2.3.5.1).
     pub fn not_exist(&mut self, query: Part) -> Result<Part, AllocError>
         requires { (q : tree.Query) × IsPart self.old query (a_query q) }
         ensures made { IfOk result (λ part. (q : tree.Query) → IsPart self.old query (a_query q)
@@ -213,7 +219,8 @@ impl SyntaxBuilder {
     ) -> Result<Part, AllocError>
         requires left { (a : tree.Comparable) × IsPart self.old left (a_comparable a) }
         requires right { (b : tree.Comparable) × IsPart self.old right (a_comparable b) }
-        ensures made { IfOk result (λ part. (a b : tree.Comparable) → IsPart self.old left (a_comparable a) → IsPart self.old right (a_comparable b)
+        ensures made { IfOk result (λ part.
+            (a b : tree.Comparable) → IsPart self.old left (a_comparable a) → IsPart self.old right (a_comparable b)
             → IsPart self.new part (a_basic (tree.relation a (operator_view operator) b))) }
         ensures keeps { KeepsParts self.old self.new }
     {
@@ -226,7 +233,8 @@ impl SyntaxBuilder {
 
     /// A literal as a side of a comparison (RFC 9535, section 2.3.5.1).
     pub fn literal(&mut self, literal: Literal) -> Result<Part, AllocError>
-        ensures made { IfOk result (λ part. IsPart self.new part (a_comparable (tree.literal (literal_view literal)))) }
+        ensures made { IfOk result (λ part.
+            IsPart self.new part (a_comparable (tree.literal (literal_view literal)))) }
         ensures keeps { KeepsParts self.old self.new }
     {
         self.push(Node::Comparable(Comparable::Literal(literal)))
@@ -242,11 +250,12 @@ impl SyntaxBuilder {
         self.push(Node::Comparable(Comparable::Singular(query)))
     }
 
-    /// Whether the part is a singular query: child segments alone, each a member name or a bracket with one name or one
-    /// index (RFC 9535, section 2.3.5.1). Takes no memory.
+    /// Whether the part is a singular query: only child segments, each of one name or one index (RFC 9535, section
+    /// 2.3.5.1). Takes no memory.
     pub fn is_singular(&self, query: Part) -> bool
         requires { (q : tree.Query) × IsPart self.now query (a_query q) }
-        ensures { (q : tree.Query) → IsPart self.now query (a_query q) → IsTrue result ↔ tree.IsSingular q }
+        ensures { (q : tree.Query) → IsPart self.now query (a_query q) → IsTrue result
+            ↔ tree.IsSingular q }
     {
         is_singular(self.nodes.as_slice(), query)
     }
@@ -261,7 +270,7 @@ impl SyntaxBuilder {
         self.push(Node::Comparable(Comparable::Called(call)))
     }
 
-    /// The test of a call's answer, as `match(@.a, 'b')` (RFC 9535, section 2.4.2).
+    /// A test of a call's answer, as `match(@.a, 'b')` (RFC 9535, section 2.4.2).
     pub fn test(&mut self, call: Part) -> Result<Part, AllocError>
         requires { (c : tree.Call) × IsPart self.old call (a_call c) }
         ensures made { IfOk result (λ part. (c : tree.Call) → IsPart self.old call (a_call c)
@@ -271,7 +280,7 @@ impl SyntaxBuilder {
         self.push(Node::Basic(Basic::Test(call)))
     }
 
-    /// The test of a call's answer behind `!`, as `!match(@.a, 'b')` (RFC 9535, section 2.4.2).
+    /// A negated test of a call's answer, as `!match(@.a, 'b')` (RFC 9535, section 2.4.2).
     pub fn not_test(&mut self, call: Part) -> Result<Part, AllocError>
         requires { (c : tree.Call) × IsPart self.old call (a_call c) }
         ensures made { IfOk result (λ part. (c : tree.Call) → IsPart self.old call (a_call c)
@@ -281,10 +290,11 @@ impl SyntaxBuilder {
         self.push(Node::Basic(Basic::NotTest(call)))
     }
 
-    /// A call of the function of that name with these arguments, in order (RFC 9535, section 2.4).
+    /// A call of a function by name, with its arguments in order (RFC 9535, section 2.4).
     pub fn call(&mut self, name: String, arguments: Vec<Part>) -> Result<Part, AllocError>
         requires { (args : tree.Arguments) × AreArgumentsOf self.old arguments.items args }
-        ensures made { IfOk result (λ part. (args : tree.Arguments) → AreArgumentsOf self.old arguments.items args
+        ensures made { IfOk result (λ part.
+            (args : tree.Arguments) → AreArgumentsOf self.old arguments.items args
             → IsPart self.new part (a_call (tree.call (string_bytes name) args))) }
         ensures keeps { KeepsParts self.old self.new }
     {
@@ -293,7 +303,8 @@ impl SyntaxBuilder {
 
     /// A literal as an argument (RFC 9535, section 2.4).
     pub fn literal_argument(&mut self, literal: Literal) -> Result<Part, AllocError>
-        ensures made { IfOk result (λ part. IsPart self.new part (an_argument (tree.literal_argument (literal_view literal)))) }
+        ensures made { IfOk result (λ part.
+            IsPart self.new part (an_argument (tree.literal_argument (literal_view literal)))) }
         ensures keeps { KeepsParts self.old self.new }
     {
         let argument = match literal {
@@ -328,7 +339,8 @@ impl SyntaxBuilder {
     /// A logical expression as an argument (RFC 9535, section 2.4).
     pub fn logical_argument(&mut self, expression: Part) -> Result<Part, AllocError>
         requires { (e : tree.LogicalOr) × IsPart self.old expression (an_or e) }
-        ensures made { IfOk result (λ part. (e : tree.LogicalOr) → IsPart self.old expression (an_or e)
+        ensures made { IfOk result (λ part.
+            (e : tree.LogicalOr) → IsPart self.old expression (an_or e)
             → IsPart self.new part (an_argument (tree.logical_argument e))) }
         ensures keeps { KeepsParts self.old self.new }
     {
@@ -338,26 +350,30 @@ impl SyntaxBuilder {
     /// A query of these segments, in order.
     pub fn query(&mut self, kind: QueryKind, segments: Parts) -> Result<Part, AllocError>
         requires { (segs : tree.Segments) × ArePartsOf self.old (parts_in segments) segs }
-        ensures made { IfOk result (λ part. (segs : tree.Segments) → ArePartsOf self.old (parts_in segments) segs
+        ensures made { IfOk result (λ part.
+            (segs : tree.Segments) → ArePartsOf self.old (parts_in segments) segs
             → IsPart self.new part (a_query (tree.query (kind_view kind) segs))) }
         ensures keeps { KeepsParts self.old self.new }
     {
         self.push(Node::Query { kind, segments })
     }
 
-    /// The names that the query of that part calls, each once, with their signatures in this set, for
-    /// [`finish`](SyntaxBuilder::finish) (RFC 9535, section 2.4.3).
+    /// The functions that a query calls, each name once, with its signature in this set (RFC 9535, section 2.4.3).
+    /// [`finish`](SyntaxBuilder::finish) asks for them.
     ///
-    /// It is refused only where memory is.
+    /// Fails only if memory is refused.
     pub fn signatures<F: Functions>(
         &self,
         alloc: Global,
         query: Part,
         functions: &F,
     ) -> Result<Vec<(String, Signature)>, AllocError>
-        requires { (q : tree.Query) × IsPart self.now query (a_query q) × IsTyped (F.set functions.now).signature q }
-        ensures typed { IfOk result (λ used. (q : tree.Query) → IsPart self.now query (a_query q) → IsTyped (signature_in (used_view used.items)) q) }
-        ensures called { IfOk result (λ used. (q : tree.Query) → IsPart self.now query (a_query q) → AreCalled (used_view used.items) q) }
+        requires { (q : tree.Query) × IsPart self.now query (a_query q)
+            × IsTyped (F.set functions.now).signature q }
+        ensures typed { IfOk result (λ used.
+            (q : tree.Query) → IsPart self.now query (a_query q) → IsTyped (signature_in (used_view used.items)) q) }
+        ensures called { IfOk result (λ used.
+            (q : tree.Query) → IsPart self.now query (a_query q) → AreCalled (used_view used.items) q) }
         ensures fits { IfOk result (λ used. Fits (F.set functions.now) (used_view used.items)) }
     {
         let mut used = Vec::new(alloc);
@@ -369,11 +385,10 @@ impl SyntaxBuilder {
         Ok(used)
     }
 
-    /// The finished tree, which is that of the part. Takes no memory.
+    /// The finished tree of a part. Takes no memory.
     ///
-    /// `used` has the names that the query calls, each once, with the signatures under which it is well-typed
-    /// (RFC 9535, section 2.4.3). The query begins at the root, and at most 128 filters, parentheses and calls stand
-    /// within each other.
+    /// The query starts at the root, and nests at most 128 filters, parentheses and calls. `used` has the functions that
+    /// it calls, each name once, with the signature under which the query is well-typed (RFC 9535, section 2.4.3).
     pub fn finish(self, part: Part, used: Vec<(String, Signature)>) -> Checked
         requires { (q : tree.Query) × IsPart self part (a_query q) × MayFinish (used_view used.items) q }
         ensures tree { (q : tree.Query) → IsPart self part (a_query q) → tree_of result ≡ q }

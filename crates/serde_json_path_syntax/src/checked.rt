@@ -43,7 +43,7 @@ impl Checked {
     ghost use Rattle.serde_json_path_syntax.specs.Parts.{nodes_in, number_of, tree_of, signatures_of};
     ghost use Rattle.serde_json_path_syntax.specs.PartBounds.{parts_bound, selector_bound};
 
-    /// The query `$` without segments. Takes no memory.
+    /// The query `$`. Takes no memory.
     pub fn new(alloc: Global) -> Checked
         ensures tree { tree_of result ≡ query root no_segments }
         ensures used { signatures_of result ≡ [] }
@@ -55,7 +55,7 @@ impl Checked {
         }
     }
 
-    /// The tree of that part.
+    /// The tree of a part.
     pub(crate) fn of(nodes: Vec<Node>, part: Part, used: Vec<(String, Signature)>) -> Checked
         requires grown { IsGrown nodes.items }
         requires within { part.number < length nodes.items }
@@ -81,7 +81,8 @@ impl Checked {
     /// The node of a part.
     pub fn node(&self, part: Part) -> &Node
         requires { number_of part < length (nodes_in self.now) }
-        ensures piece { piece_at (nodes_in self.now) (number_of part) ≡ piece_of (pieces (nodes_in self.now)) result.now }
+        ensures piece { piece_at (nodes_in self.now) (number_of part)
+            ≡ piece_of (pieces (nodes_in self.now)) result.now }
         ensures below { NamesBelow (number_of part) result.now }
     {
         node_at(self.nodes.as_slice(), part)
@@ -108,7 +109,7 @@ impl Checked {
         }
     }
 
-    /// Where the query of a part begins.
+    /// Where a query begins.
     pub fn part_kind(&self, query: Part) -> QueryKind
         requires { number_of query < length (nodes_in self.now) }
         ensures { kind_view result ≡ kind_of (part_query (nodes_in self.now) query) }
@@ -119,34 +120,37 @@ impl Checked {
         }
     }
 
-    /// The segments of the query of a part, in order.
+    /// The segments of a query, in order.
     pub fn part_segments(&self, query: Part) -> &[Part]
         requires { number_of query < length (nodes_in self.now) }
-        ensures tree { segments_at (nodes_in self.now) result.now ≡ segments_of (part_query (nodes_in self.now) query) }
+        ensures tree { segments_at (nodes_in self.now) result.now
+            ≡ segments_of (part_query (nodes_in self.now) query) }
         ensures below { parts_bound result.now ≤ number_of query }
     {
         query_segments(self.nodes.as_slice(), query)
     }
 
-    /// What a logical expression is joined of by `||`.
+    /// The operands of `||` in a logical expression.
     pub fn or_parts(&self, expression: Part) -> &[Part]
         requires { number_of expression < length (nodes_in self.now) }
-        ensures tree { or_at (nodes_in self.now) expression ≡ ors_in (pieces_named (pieces (nodes_in self.now)) result.now) }
+        ensures tree { or_at (nodes_in self.now) expression
+            ≡ ors_in (pieces_named (pieces (nodes_in self.now)) result.now) }
         ensures below { parts_bound result.now ≤ number_of expression }
     {
         or_parts(self.nodes.as_slice(), expression)
     }
 
-    /// What a part of a logical expression is joined of by `&&`.
+    /// The operands of `&&` in an operand of `||`.
     pub fn and_parts(&self, expression: Part) -> &[Part]
         requires { number_of expression < length (nodes_in self.now) }
-        ensures tree { and_at (nodes_in self.now) expression ≡ ands_in (pieces_named (pieces (nodes_in self.now)) result.now) }
+        ensures tree { and_at (nodes_in self.now) expression
+            ≡ ands_in (pieces_named (pieces (nodes_in self.now)) result.now) }
         ensures below { parts_bound result.now ≤ number_of expression }
     {
         and_parts(self.nodes.as_slice(), expression)
     }
 
-    /// The name that a call calls.
+    /// The name of the function that a call calls.
     pub fn called_name(&self, call: Part) -> &str
         requires { number_of call < length (nodes_in self.now) }
         ensures { result.now ≡ name_of (call_at (nodes_in self.now) call) }
@@ -157,7 +161,8 @@ impl Checked {
     /// The arguments of a call, in order.
     pub fn arguments(&self, call: Part) -> &[Part]
         requires { number_of call < length (nodes_in self.now) }
-        ensures tree { arguments_of (call_at (nodes_in self.now) call) ≡ arguments_in (pieces_named (pieces (nodes_in self.now)) result.now) }
+        ensures tree { arguments_of (call_at (nodes_in self.now) call)
+            ≡ arguments_in (pieces_named (pieces (nodes_in self.now)) result.now) }
         ensures below { parts_bound result.now ≤ number_of call }
     {
         arguments(self.nodes.as_slice(), call)
@@ -174,10 +179,11 @@ impl Checked {
         }
     }
 
-    /// The selector in brackets of that part.
+    /// A selector in brackets.
     fn selector(&self, part: Part) -> SelectorRef<'_>
         requires { part.number < length self.now.nodes.items }
-        ensures selector_ref { selector_view self.now.nodes.items result ≡ selector_in (piece_at self.now.nodes.items part.number) }
+        ensures selector_ref { selector_view self.now.nodes.items result
+            ≡ selector_in (piece_at self.now.nodes.items part.number) }
         ensures below { selector_bound result ≤ part.number }
     {
         match self.node(part) {
@@ -192,12 +198,14 @@ impl Checked {
         }
     }
 
-    /// The selector of that number among those in brackets, from 0.
+    /// The selector at that index, from 0, among those in brackets.
     fn bracketed(&self, selectors: &[Part], number: usize) -> Option<SelectorRef<'_>>
         requires { parts_bound selectors.now ≤ length self.now.nodes.items }
         ensures more { IsSome result → number + 1 < 2 ^ 64 }
-        ensures below { IfSome result (λ selector_ref. selector_bound selector_ref ≤ parts_bound selectors.now) }
-        ensures selector_ref { option_map (selector_view self.now.nodes.items) result ≡ slice_get (selectors_list (selectors_in (pieces_named (pieces self.now.nodes.items) selectors.now))) number }
+        ensures below { IfSome result (λ selector_ref.
+            selector_bound selector_ref ≤ parts_bound selectors.now) }
+        ensures selector_ref { option_map (selector_view self.now.nodes.items) result
+            ≡ slice_get (selectors_list (selectors_in (pieces_named (pieces self.now.nodes.items) selectors.now))) number }
     {
         match selectors.get(number) {
             Some(part) => Some(self.selector(*part)),
@@ -205,12 +213,14 @@ impl Checked {
         }
     }
 
-    /// The selector of that number in a segment, from 0.
+    /// The selector at that index, from 0, in a segment.
     pub fn selector_ref(&self, segment: Part, number: usize) -> Option<SelectorRef<'_>>
         requires { number_of segment < length (nodes_in self.now) }
         ensures more { IsSome result → number + 1 < 2 ^ 64 }
-        ensures below { IfSome result (λ selector_ref. selector_bound selector_ref ≤ number_of segment) }
-        ensures selector_ref { option_map (selector_view (nodes_in self.now)) result ≡ slice_get (stage_at (nodes_in self.now) segment).selectors number }
+        ensures below { IfSome result (λ selector_ref.
+            selector_bound selector_ref ≤ number_of segment) }
+        ensures selector_ref { option_map (selector_view (nodes_in self.now)) result
+            ≡ slice_get (stage_at (nodes_in self.now) segment).selectors number }
     {
         match self.node(segment) {
             Node::Segment { segment, .. } => match segment {
@@ -223,7 +233,7 @@ impl Checked {
     }
 }
 
-/// The selector of that number where there is but one.
+/// The selector at that index where there is only one.
 fn only<'q>(selector_ref: SelectorRef<'q>, number: usize) -> Option<SelectorRef<'q>>
     ensures same { IfSome result (λ given. given ≡ selector_ref.entry) }
     ensures more { IsSome result → number + 1 < 2 ^ 64 }

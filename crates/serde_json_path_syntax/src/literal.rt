@@ -4,7 +4,7 @@ ghost use Rattle.serde_json_path_syntax.specs.WellFormed.{IsLiteralAmount};
 
 use serde_json::Value;
 
-/// How many billionths one is.
+/// One, in billionths.
 const ONE: i128 = 1_000_000_000;
 
 /// The least number of a literal, -2^63, in billionths.
@@ -13,7 +13,7 @@ const LEAST: i128 = -(1 << 63) * ONE;
 /// The greatest number of a literal, 2^64 - 1, in billionths.
 const GREATEST: i128 = ((1 << 64) - 1) * ONE;
 
-/// A number literal, of -2^63 to 2^64 - 1, as a whole number of billionths: 1.5 is 1500000000 of them.
+/// A number literal from -2^63 to 2^64 - 1, as a whole number of billionths: 1.5 is 1500000000.
 #[derive(Clone, Copy, Debug)]
 pub struct NumberLiteral {
     pub(crate) billionths: i128,
@@ -27,7 +27,7 @@ impl NumberLiteral {
     ghost use Rattle.serde_json.specs.View.{view};
     ghost use Rattle.serde_json_path_syntax.specs.Literals.{number_amount};
 
-    /// The number of that many billionths, or `None` where it is out of range.
+    /// The number of that many billionths, or `None` if it is out of range.
     pub fn from_billionths(billionths: i128) -> Option<NumberLiteral>
         ensures range { IsSome result ↔ IsLiteralAmount billionths }
         ensures amount { IfSome result (λ literal. number_amount literal ≡ billionths) }
@@ -39,7 +39,7 @@ impl NumberLiteral {
         }
     }
 
-    /// How many billionths the number is.
+    /// The number in billionths.
     pub fn billionths(&self) -> i128
         ensures { result ≡ number_amount self.now }
     {
@@ -77,7 +77,7 @@ impl Literal {
     ghost use Rattle.serde_json_path_syntax.specs.Literals.{literal_view};
     ghost use Rattle.serde_json_path_syntax.specs.Typing.{IsValueLiteral};
 
-    /// Whether the literal may be an argument of the type of values: each but a number with a fraction (RFC 9535,
+    /// Whether the literal may be an argument of type Value: any literal but a number with a fraction (RFC 9535,
     /// section 2.4.3).
     pub fn is_value(&self) -> bool
         ensures { IsTrue result ↔ IsValueLiteral (literal_view self.now) }

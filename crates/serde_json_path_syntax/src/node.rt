@@ -6,12 +6,12 @@ use crate::parts::Parts;
 use crate::slice::Slice;
 use serde_json::Value;
 
-/// Where a query begins (RFC 9535, sections 2.2.1 and 2.3.5.1).
+/// Where a query starts (RFC 9535, sections 2.2.1 and 2.3.5.1).
 #[derive(Clone, Copy, Debug, PartialEq, Eq)]
 pub enum QueryKind {
     /// `$`: at the document's root.
     Root,
-    /// `@`: at the node under test.
+    /// `@`: at the current node of a filter.
     Current,
 }
 
@@ -24,13 +24,13 @@ pub enum SegmentKind {
     Descendant,
 }
 
-/// The number of a node, good for the builder that made it.
+/// A node of the tree that a builder makes, by its index.
 #[derive(Clone, Copy, Debug)]
 pub struct Part {
     pub(crate) number: usize,
 }
 
-/// A segment, without how far it goes down.
+/// The selectors of a segment, in the form in which they are written.
 #[derive(Drop)]
 pub enum Segment {
     /// `.name`
@@ -56,12 +56,12 @@ pub enum Selector {
     Filter(Part),
 }
 
-/// What a logical expression is joined of by `&&`; `!` stands before the negated forms.
+/// An operand of `&&`; the negated forms have `!` before them.
 #[derive(Drop)]
 pub enum Basic {
     /// A logical expression in parentheses.
     Paren(Part),
-    /// The same behind `!`.
+    /// The same with `!` before it.
     NotParen(Part),
     /// A comparison of two comparables.
     Relation {
@@ -71,11 +71,11 @@ pub enum Basic {
     },
     /// A test whether a query selects a node.
     Exist(Part),
-    /// The same behind `!`.
+    /// The same with `!` before it.
     NotExist(Part),
     /// A test of a call's answer.
     Test(Part),
-    /// The same behind `!`.
+    /// The same with `!` before it.
     NotTest(Part),
 }
 
@@ -93,7 +93,7 @@ pub enum Comparable {
 /// An argument of a call.
 #[derive(Drop)]
 pub enum Argument {
-    /// A literal, but no number, as the value that it writes.
+    /// A literal other than a number, as a value.
     Value(Value),
     /// A number literal.
     Number(NumberLiteral),
@@ -105,7 +105,7 @@ pub enum Argument {
     Logical(Part),
 }
 
-/// One node of a syntax tree; it names nodes that were made before it.
+/// A node of a syntax tree. It refers only to nodes that were made before it.
 #[derive(Drop)]
 pub enum Node {
     /// A query and its segments.
@@ -114,11 +114,11 @@ pub enum Node {
     Segment { kind: SegmentKind, segment: Segment },
     /// A selector.
     Selector(Selector),
-    /// Parts joined by `||`.
+    /// Operands of `||`.
     LogicalOr(Parts),
-    /// Parts joined by `&&`.
+    /// Operands of `&&`.
     LogicalAnd(Parts),
-    /// A part of an expression that is joined by `&&`.
+    /// An operand of `&&`.
     Basic(Basic),
     /// A side of a comparison.
     Comparable(Comparable),

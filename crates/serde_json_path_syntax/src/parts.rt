@@ -7,7 +7,7 @@ use crate::node::Part;
 use std::alloc::{AllocError, Global};
 use std::slice;
 
-/// Parts in order, of which a query, a bracket or an expression is made. One part alone takes no memory.
+/// The parts of a query, a bracket or an expression, in order. A single part takes no memory.
 #[derive(Debug, Drop)]
 pub struct Parts {
     alloc: Global,
@@ -17,9 +17,9 @@ pub struct Parts {
 /// How parts are kept.
 #[derive(Debug, Drop)]
 enum Kept {
-    /// There is none.
+    /// No part.
     None,
-    /// One part, beside which there is no other.
+    /// A single part.
     One(Part),
     /// A list of parts.
     Listed(Vec<Part>),
@@ -37,11 +37,12 @@ impl Parts {
         }
     }
 
-    /// Puts a part behind the others. It is refused only where memory is, and changes nothing then.
+    /// Appends a part. If memory is refused, nothing changes.
     #[tactic(auto, unfolding(crate::specs::Flat::parts_in))]
     #[inline(always)]
     pub fn push(&mut self, part: Part) -> Result<(), AllocError>
-        ensures items { parts_in self.new ≡ (if is_ok result then parts_in self.old ++ part ∷ [] else parts_in self.old) }
+        ensures items { parts_in self.new
+            ≡ (if is_ok result then parts_in self.old ++ part ∷ [] else parts_in self.old) }
     {
         match &mut self.kept {
             Kept::None => self.kept = Kept::One(part),

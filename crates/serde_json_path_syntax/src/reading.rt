@@ -1,4 +1,4 @@
-//! Reading a vector of nodes, each of which names earlier ones.
+//! Reading a vector of nodes, in which each node refers to earlier ones.
 
 ghost use Rattle.std.specs.Prelude.{◌<◌, ◌≤◌, ◌≡◌, length};
 ghost use Rattle.serde_json_path_syntax.specs.Calls.{arguments_of, name_of};
@@ -19,7 +19,7 @@ pub(crate) fn node_at(nodes: &[Node], part: Part) -> &Node
     &nodes[part.number]
 }
 
-/// The segments of the query of a part, in order.
+/// The segments of a query, in order.
 pub(crate) fn query_segments(nodes: &[Node], query: Part) -> &[Part]
     requires grown { IsGrown nodes.now }
     requires within { query.number < length nodes.now }
@@ -32,11 +32,12 @@ pub(crate) fn query_segments(nodes: &[Node], query: Part) -> &[Part]
     }
 }
 
-/// The selectors in brackets of the segment of a part, in order.
+/// The selectors in a segment's brackets, in order.
 pub(crate) fn bracketed_parts(nodes: &[Node], segment: Part) -> &[Part]
     requires grown { IsGrown nodes.now }
     requires within { segment.number < length nodes.now }
-    ensures tree { called_in_segment (segment_in (piece_at nodes.now segment.number)) ≡ called_in_selectors (selectors_in (pieces_named (pieces nodes.now) result.now)) }
+    ensures tree { called_in_segment (segment_in (piece_at nodes.now segment.number))
+        ≡ called_in_selectors (selectors_in (pieces_named (pieces nodes.now) result.now)) }
     ensures below { parts_bound result.now ≤ segment.number }
 {
     match node_at(nodes, segment) {
@@ -48,11 +49,12 @@ pub(crate) fn bracketed_parts(nodes: &[Node], segment: Part) -> &[Part]
     }
 }
 
-/// What the logical expression of a part is joined of by `||`.
+/// The operands of `||` in a logical expression.
 pub(crate) fn or_parts(nodes: &[Node], expression: Part) -> &[Part]
     requires grown { IsGrown nodes.now }
     requires within { expression.number < length nodes.now }
-    ensures tree { or_at nodes.now expression ≡ ors_in (pieces_named (pieces nodes.now) result.now) }
+    ensures tree { or_at nodes.now expression
+        ≡ ors_in (pieces_named (pieces nodes.now) result.now) }
     ensures below { parts_bound result.now ≤ expression.number }
 {
     match node_at(nodes, expression) {
@@ -61,11 +63,12 @@ pub(crate) fn or_parts(nodes: &[Node], expression: Part) -> &[Part]
     }
 }
 
-/// What the part of a logical expression is joined of by `&&`.
+/// The operands of `&&` in an operand of `||`.
 pub(crate) fn and_parts(nodes: &[Node], expression: Part) -> &[Part]
     requires grown { IsGrown nodes.now }
     requires within { expression.number < length nodes.now }
-    ensures tree { and_at nodes.now expression ≡ ands_in (pieces_named (pieces nodes.now) result.now) }
+    ensures tree { and_at nodes.now expression
+        ≡ ands_in (pieces_named (pieces nodes.now) result.now) }
     ensures below { parts_bound result.now ≤ expression.number }
 {
     match node_at(nodes, expression) {
@@ -74,7 +77,7 @@ pub(crate) fn and_parts(nodes: &[Node], expression: Part) -> &[Part]
     }
 }
 
-/// The name that the call of a part calls.
+/// The name of the function that a call calls.
 pub(crate) fn called_name(nodes: &[Node], call: Part) -> &str
     requires grown { IsGrown nodes.now }
     requires within { call.number < length nodes.now }
@@ -86,11 +89,12 @@ pub(crate) fn called_name(nodes: &[Node], call: Part) -> &str
     }
 }
 
-/// The arguments of the call of a part, in order.
+/// The arguments of a call, in order.
 pub(crate) fn arguments(nodes: &[Node], call: Part) -> &[Part]
     requires grown { IsGrown nodes.now }
     requires within { call.number < length nodes.now }
-    ensures tree { arguments_of (call_at nodes.now call) ≡ arguments_in (pieces_named (pieces nodes.now) result.now) }
+    ensures tree { arguments_of (call_at nodes.now call)
+        ≡ arguments_in (pieces_named (pieces nodes.now) result.now) }
     ensures below { parts_bound result.now ≤ call.number }
 {
     match node_at(nodes, call) {

@@ -1,9 +1,9 @@
-//! Selectors, wherever they stand.
+//! Selectors, after dots or in brackets.
 
 use crate::node::Part;
 use crate::slice::Slice;
 
-/// What one selector of a segment chooses, be it behind dots or in brackets.
+/// A selector of a segment, after its dots or in its brackets.
 #[derive(Clone, Copy)]
 pub enum SelectorRef<'q> {
     /// The member of that name.
@@ -14,6 +14,6 @@ pub enum SelectorRef<'q> {
     Index(i64),
     /// The items at some positions.
     Slice(Slice),
-    /// The children for which the logical expression of that part holds.
+    /// The children for which a logical expression holds.
     Filter(Part),
 }

@@ -18,7 +18,7 @@ use crate::reading::{
 use serde_json_path_functions::{Functions, Signature};
 use std::alloc::{AllocError, Global};
 
-/// The form in which a part is read: in a tree that a builder makes, its own.
+/// The kind of node that a part is expected to be.
 #[derive(Clone, Copy)]
 pub(crate) enum Form {
     /// A query.
@@ -27,11 +27,11 @@ pub(crate) enum Form {
     Segment,
     /// A selector in brackets.
     Selector,
-    /// Parts joined by `||`.
+    /// Operands of `||`.
     LogicalOr,
-    /// Parts joined by `&&`.
+    /// Operands of `&&`.
     LogicalAnd,
-    /// A part of an expression that is joined by `&&`.
+    /// An operand of `&&`.
     Basic,
     /// A side of a comparison.
     Comparable,
@@ -41,7 +41,7 @@ pub(crate) enum Form {
     Argument,
 }
 
-/// Whether the set declares each of the names, with that signature.
+/// Whether the set declares each name with the same signature.
 pub(crate) fn declares_each<F: Functions>(functions: &F, used: &[(String, Signature)]) -> bool
     ensures { IsTrue result ↔ Fits (F.set functions.now) (used_view used.now) }
 {
@@ -58,7 +58,7 @@ pub(crate) fn declares_each<F: Functions>(functions: &F, used: &[(String, Signat
     true
 }
 
-/// The signature that is noted of a name.
+/// The signature noted for a name, if there is one.
 fn known(used: &[(String, Signature)], name: &str) -> Option<Signature>
     ensures { option_map signature_view result ≡ signature_in (used_view used.now) name.now }
 {
@@ -70,14 +70,15 @@ fn known(used: &[(String, Signature)], name: &str) -> Option<Signature>
     None
 }
 
-/// Notes a name that the set declares, with its signature, unless it is noted already.
+/// Notes a name with its signature, if the set declares it and it has not been noted yet.
 fn note<F: Functions>(
     alloc: Global,
     name: &str,
     functions: &F,
     used: &mut Vec<(String, Signature)>,
 ) -> Result<(), AllocError>
-    ensures { IfOk result (λ done. used_view used.new.items ≡ noted_with (used_view used.old.items) name.now (signature_in (used_view used.old.items) name.now) ((F.set functions.now).signature name.now)) }
+    ensures { IfOk result (λ done.
+        used_view used.new.items ≡ noted_with (used_view used.old.items) name.now (signature_in (used_view used.old.items) name.now) ((F.set functions.now).signature name.now)) }
 {
     if known(used.as_slice(), name).is_some() {
         return Ok(());
@@ -88,7 +89,7 @@ fn note<F: Functions>(
     Ok(())
 }
 
-/// Whether none of the nodes is a call, or tests, compares or passes on what a call answers.
+/// Whether no node is a call, or tests, compares or passes on the answer of one.
 pub(crate) fn calls_nothing(nodes: &[Node]) -> bool
     ensures { IsTrue result ↔ All IsWithoutCall nodes.now }
 {
@@ -100,7 +101,7 @@ pub(crate) fn calls_nothing(nodes: &[Node]) -> bool
     true
 }
 
-/// Whether a node is no call, and neither tests, compares nor passes on what a call answers.
+/// Whether a node is not a call, and does not test, compare or pass on the answer of one.
 fn is_without_call(node: &Node) -> bool
     ensures { IsTrue result ↔ IsWithoutCall node.now }
 {
@@ -117,7 +118,7 @@ fn is_without_call(node: &Node) -> bool
     }
 }
 
-/// Notes the names that parts of that form call, in order.
+/// Notes the names that parts of that kind call, in order.
 #[cycle(noting)]
 fn note_each<F: Functions>(
     alloc: Global,
@@ -129,7 +130,8 @@ fn note_each<F: Functions>(
 ) -> Result<(), AllocError>
     requires grown { IsGrown nodes.now }
     requires within { parts_bound parts.now ≤ length nodes.now }
-    ensures { IfOk result (λ done. used_view used.new.items ≡ noted (F.set functions.now).signature (used_view used.old.items) (called_by_each form (pieces_named (pieces nodes.now) parts.now))) }
+    ensures { IfOk result (λ done.
+        used_view used.new.items ≡ noted (F.set functions.now).signature (used_view used.old.items) (called_by_each form (pieces_named (pieces nodes.now) parts.now))) }
 {
     for part in parts {
         note_calls(alloc, nodes, form, *part, functions, used)?;
@@ -137,7 +139,7 @@ fn note_each<F: Functions>(
     Ok(())
 }
 
-/// Notes the names that a part of that form calls, in the order in which they stand in it.
+/// Notes the names that a part of that kind calls, from left to right.
 #[cycle(noting)]
 pub(crate) fn note_calls<F: Functions>(
     alloc: Global,
@@ -149,7 +151,8 @@ pub(crate) fn note_calls<F: Functions>(
 ) -> Result<(), AllocError>
     requires grown { IsGrown nodes.now }
     requires within { part.number < length nodes.now }
-    ensures { IfOk result (λ done. used_view used.new.items ≡ noted (F.set functions.now).signature (used_view used.old.items) (called_as form (piece_at nodes.now part.number))) }
+    ensures { IfOk result (λ done.
+        used_view used.new.items ≡ noted (F.set functions.now).signature (used_view used.old.items) (called_as form (piece_at nodes.now part.number))) }
 {
     match form {
         Form::Query => {
@@ -180,7 +183,7 @@ pub(crate) fn note_calls<F: Functions>(
     }
 }
 
-/// Notes the names that the selector of a part calls.
+/// Notes the names that a selector calls.
 #[cycle(noting)]
 fn note_in_selector<F: Functions>(
     alloc: Global,
@@ -191,7 +194,8 @@ fn note_in_selector<F: Functions>(
 ) -> Result<(), AllocError>
     requires grown { IsGrown nodes.now }
     requires within { part.number < length nodes.now }
-    ensures { IfOk result (λ done. used_view used.new.items ≡ noted (F.set functions.now).signature (used_view used.old.items) (called_in_selector (selector_in (piece_at nodes.now part.number)))) }
+    ensures { IfOk result (λ done.
+        used_view used.new.items ≡ noted (F.set functions.now).signature (used_view used.old.items) (called_in_selector (selector_in (piece_at nodes.now part.number)))) }
 {
     match node_at(nodes, part) {
         Node::Selector(Selector::Filter(test)) => {
@@ -201,7 +205,7 @@ fn note_in_selector<F: Functions>(
     }
 }
 
-/// Notes the names that a part of an expression that is joined by `&&` calls.
+/// Notes the names that an operand of `&&` calls.
 #[cycle(noting)]
 fn note_in_basic<F: Functions>(
     alloc: Global,
@@ -212,7 +216,8 @@ fn note_in_basic<F: Functions>(
 ) -> Result<(), AllocError>
     requires grown { IsGrown nodes.now }
     requires within { part.number < length nodes.now }
-    ensures { IfOk result (λ done. used_view used.new.items ≡ noted (F.set functions.now).signature (used_view used.old.items) (called_in_basic (basic_in (piece_at nodes.now part.number)))) }
+    ensures { IfOk result (λ done.
+        used_view used.new.items ≡ noted (F.set functions.now).signature (used_view used.old.items) (called_in_basic (basic_in (piece_at nodes.now part.number)))) }
 {
     let Node::Basic(basic) = node_at(nodes, part) else {
         return Ok(());
@@ -234,7 +239,7 @@ fn note_in_basic<F: Functions>(
     }
 }
 
-/// Notes the names that the side of a comparison of a part calls.
+/// Notes the names that a side of a comparison calls.
 #[cycle(noting)]
 fn note_in_comparable<F: Functions>(
     alloc: Global,
@@ -245,7 +250,8 @@ fn note_in_comparable<F: Functions>(
 ) -> Result<(), AllocError>
     requires grown { IsGrown nodes.now }
     requires within { part.number < length nodes.now }
-    ensures { IfOk result (λ done. used_view used.new.items ≡ noted (F.set functions.now).signature (used_view used.old.items) (called_in_comparable (comparable_in (piece_at nodes.now part.number)))) }
+    ensures { IfOk result (λ done.
+        used_view used.new.items ≡ noted (F.set functions.now).signature (used_view used.old.items) (called_in_comparable (comparable_in (piece_at nodes.now part.number)))) }
 {
     let Node::Comparable(comparable) = node_at(nodes, part) else {
         return Ok(());
@@ -259,7 +265,7 @@ fn note_in_comparable<F: Functions>(
     }
 }
 
-/// Notes the names that the argument of a part calls.
+/// Notes the names that an argument calls.
 #[cycle(noting)]
 fn note_in_argument<F: Functions>(
     alloc: Global,
@@ -270,7 +276,8 @@ fn note_in_argument<F: Functions>(
 ) -> Result<(), AllocError>
     requires grown { IsGrown nodes.now }
     requires within { part.number < length nodes.now }
-    ensures { IfOk result (λ done. used_view used.new.items ≡ noted (F.set functions.now).signature (used_view used.old.items) (called_in_argument (argument_in (piece_at nodes.now part.number)))) }
+    ensures { IfOk result (λ done.
+        used_view used.new.items ≡ noted (F.set functions.now).signature (used_view used.old.items) (called_in_argument (argument_in (piece_at nodes.now part.number)))) }
 {
     let Node::Argument(argument) = node_at(nodes, part) else {
         return Ok(());

@@ -8,7 +8,7 @@ ghost use Rattle.serde_json_path_syntax.specs.Tree as tree;
 use crate::node::{Node, Part, Segment, SegmentKind, Selector};
 use crate::reading::{node_at, query_segments};
 
-/// Whether the query of a part is singular.
+/// Whether a query is singular.
 pub(crate) fn is_singular(nodes: &[Node], query: Part) -> bool
     requires grown { IsGrown nodes.now }
     requires within { query.number < length nodes.now }
@@ -22,7 +22,7 @@ pub(crate) fn is_singular(nodes: &[Node], query: Part) -> bool
     true
 }
 
-/// Whether the segment of a part goes to the children of a node, and selects one at most.
+/// Whether a segment is a child segment of one name or one index.
 fn is_singular_segment(nodes: &[Node], segment: Part) -> bool
     requires grown { IsGrown nodes.now }
     requires within { segment.number < length nodes.now }
@@ -54,11 +54,12 @@ fn selects_one(nodes: &[Node], segment: &Segment) -> bool
     }
 }
 
-/// Whether the selector of a part is a name or an index.
+/// Whether a selector is a name or an index.
 fn is_name_or_index(nodes: &[Node], selector: Part) -> bool
     requires grown { IsGrown nodes.now }
     requires within { selector.number < length nodes.now }
-    ensures { IsTrue result ↔ tree.IsSingularSegment (tree.long_hand (tree.selector (selector_in (piece_at nodes.now selector.number)) tree.no_selectors)) }
+    ensures { IsTrue result
+        ↔ tree.IsSingularSegment (tree.long_hand (tree.selector (selector_in (piece_at nodes.now selector.number)) tree.no_selectors)) }
 {
     match node_at(nodes, selector) {
         Node::Selector(selector) => matches!(selector, Selector::Name(_) | Selector::Index(_)),

@@ -7,6 +7,6 @@ pub struct Slice {
     pub start: Option<i64>,
     /// The position before which it ends; a negative one counts from the end.
     pub end: Option<i64>,
-    /// How far it is from one position to the next; below 0 it goes backwards, and 0 selects nothing.
+    /// The distance from one position to the next; a negative step goes backwards, and 0 selects nothing.
     pub step: Option<i64>,
 }

@@ -1,4 +1,4 @@
-//! A frame among the children of one value.
+//! Cursors over the children of one value.
 
 ghost use Rattle.std.specs.Prelude.{◌≡◌, [], ◌∷◌, IfOk, MatchOption, option_map, option_to_list};
 ghost use Rattle.serde_json.specs.Data.{object};
@@ -16,7 +16,7 @@ use serde_json_path_syntax::Slice;
 use std::alloc::AllocError;
 use std::collections::btree_map::Iter;
 
-/// The children of one value that are still to come, each reached in one step.
+/// The children of one value that remain, each with the step to it.
 #[derive(Drop)]
 pub(crate) enum Cursor<'b> {
     /// The items of an array, from a position on.
@@ -36,7 +36,7 @@ pub(crate) enum Cursor<'b> {
 }
 
 impl<'b> Cursor<'b> {
-    /// A cursor with nothing to come.
+    /// A cursor over no child.
     pub(crate) fn none() -> Cursor<'b>
         ensures { cursor_left result ≡ [] }
     {
@@ -84,7 +84,7 @@ impl<'b> Cursor<'b> {
         }
     }
 
-    /// A cursor at the same frame; where memory is refused there is none.
+    /// Copies the cursor, or fails for want of memory.
     pub(crate) fn try_clone(&self) -> Result<Cursor<'b>, AllocError>
         ensures { IfOk result (λ c. cursor_left c ≡ cursor_left self.now) }
     {
@@ -104,7 +104,9 @@ impl<'b> Cursor<'b> {
 
     /// Takes the next child, if one is left.
     pub(crate) fn advance(&mut self) -> Option<Child<'b>>
-        ensures { MatchOption result ((cursor_left self.old ≡ []) × (cursor_left self.new ≡ [])) (λ c. cursor_left self.old ≡ child_view c ∷ cursor_left self.new) }
+        ensures { MatchOption result
+            ((cursor_left self.old ≡ []) × (cursor_left self.new ≡ []))
+            (λ c. cursor_left self.old ≡ child_view c ∷ cursor_left self.new) }
     {
         match self {
             Cursor::Items { items, next } => {

@@ -1,4 +1,4 @@
-//! Frames of a walk: values where a segment is applied.
+//! Frames of a walk: a frame is a value at which one segment is being applied.
 
 ghost use Rattle.std.specs.Prelude.{◌≡◌, ◌+◌, ◌<◌, ◌≤◌, ◌^◌, None, Some, IfOk, IfErr, MatchOption, drop, length, option_map};
 ghost use Rattle.serde_json.specs.View.{view};
@@ -22,8 +22,10 @@ use serde_json_path_functions::{Functions, QueryError};
 use serde_json_path_nodes::PathElement;
 use serde_json_path_syntax::{Checked, Part, SegmentKind, SelectorRef};
 
-/// A value where the segment of that number is applied, with the step that led to it. Its cursor has what is left for
-/// the selector of that number, or, behind the last selector, the children that are left to go down to.
+/// A value at which a segment is applied, and the step that led to it.
+///
+/// The cursor holds the children that the current selector has not visited yet. After the last selector it holds the
+/// children into which a descendant segment has yet to go down.
 #[derive(Drop)]
 pub(crate) struct Frame<'b> {
     pub(crate) step: Option<PathElement<'b>>,
@@ -33,14 +35,14 @@ pub(crate) struct Frame<'b> {
     pub(crate) cursor: Cursor<'b>,
 }
 
-/// A child where the segment of that number is applied next.
+/// A child, and the segment to apply at it next.
 #[derive(Clone, Copy)]
 pub(crate) struct Task<'b> {
     pub(crate) segment: usize,
     pub(crate) child: Child<'b>,
 }
 
-/// A task, and the frame that came to it, moved on.
+/// The next task of a frame, and the frame as it is after that task was taken.
 #[derive(Drop)]
 pub(crate) struct Peeked<'b> {
     pub(crate) frame: Frame<'b>,
@@ -49,7 +51,8 @@ pub(crate) struct Peeked<'b> {
 
 /// The children that a selector chooses from.
 fn choose<'b>(query: &Checked, selector_ref: SelectorRef<'_>, value: &'b Value) -> Cursor<'b>
-    ensures { cursor_left result ≡ candidates (selector_view query.now.nodes.items selector_ref.entry) (view value.now) }
+    ensures { cursor_left result
+        ≡ candidates (selector_view query.now.nodes.items selector_ref.entry) (view value.now) }
 {
     match selector_ref {
         SelectorRef::Name(name) => Cursor::one(member(value, name)),
@@ -60,7 +63,7 @@ fn choose<'b>(query: &Checked, selector_ref: SelectorRef<'_>, value: &'b Value) 
     }
 }
 
-/// The children for the selector of that number, or, behind the last one, those to go down to.
+/// The children for one selector of a segment; after the last selector, those to go down to.
 fn open<'b>(query: &Checked, segment: Part, selector: usize, value: &'b Value) -> Cursor<'b>
     requires { segment.number < length query.now.nodes.items }
     ensures { cursor_left result
@@ -75,10 +78,11 @@ fn open<'b>(query: &Checked, segment: Part, selector: usize, value: &'b Value) -
     }
 }
 
-/// The children with which the segment of that number begins.
+/// The children with which a segment begins.
 fn begin<'b>(query: &Checked, segments: &[Part], number: usize, value: &'b Value) -> Cursor<'b>
     requires { parts_bound segments.now ≤ length query.now.nodes.items }
-    ensures { cursor_left result ≡ begun (drop number (stages_at query.now.nodes.items segments.now)) (view value.now) }
+    ensures { cursor_left result
+        ≡ begun (drop number (stages_at query.now.nodes.items segments.now)) (view value.now) }
 {
     match segments.get(number) {
         Some(segment) => open(query, *segment, 0, value),
@@ -87,7 +91,7 @@ fn begin<'b>(query: &Checked, segments: &[Part], number: usize, value: &'b Value
 }
 
 impl<'b> Frame<'b> {
-    /// The frame where a walk begins.
+    /// The first frame of a walk.
     pub(crate) fn start(query: &Checked, segments: &[Part], value: &'b Value) -> Frame<'b>
         requires { parts_bound segments.now ≤ length query.now.nodes.items }
         ensures { frame_view result ≡ record {
@@ -107,7 +111,7 @@ impl<'b> Frame<'b> {
         }
     }
 
-    /// The frame of a task.
+    /// The frame that a task opens.
     pub(crate) fn of(query: &Checked, segments: &[Part], task: Task<'b>) -> Frame<'b>
         requires { parts_bound segments.now ≤ length query.now.nodes.items }
         ensures { let c = child_view task.entry.child in
@@ -128,7 +132,7 @@ impl<'b> Frame<'b> {
         }
     }
 
-    /// A frame like this one; where memory is refused there is none.
+    /// Copies the frame, or fails for want of memory.
     fn try_clone(&self) -> Result<Frame<'b>, QueryError>
         ensures same { IfOk result (λ frame. frame_view frame ≡ frame_view self.now) }
         ensures refused { IfErr result (λ e. e ≡ Memory) }
@@ -142,7 +146,7 @@ impl<'b> Frame<'b> {
         })
     }
 
-    /// Moves on to the next task, if one is left.
+    /// Takes the next task, if one is left.
     #[cycle(evaluation)]
     fn advance<F: Functions>(
         &mut self,
@@ -183,7 +187,7 @@ impl<'b> Frame<'b> {
         }
     }
 
-    /// The next task, if one is left, and this frame moved on to it; the frame itself stays.
+    /// Looks up the next task, if one is left, without changing this frame.
     #[cycle(evaluation)]
     pub(crate) fn peek<F: Functions>(
         &self,
@@ -207,7 +211,7 @@ impl<'b> Frame<'b> {
     }
 }
 
-/// The next child that the selector admits, if one is left.
+/// Takes the next child that the selector admits, if one is left.
 #[cycle(evaluation)]
 fn next_admitted<'b, F: Functions>(
     scope: &Scope<'_, 'b, F>,
@@ -231,7 +235,7 @@ fn next_admitted<'b, F: Functions>(
     }
 }
 
-/// The next child for which a logical expression holds, if one is left.
+/// Takes the next child for which a logical expression holds, if one is left.
 #[cycle(evaluation)]
 fn next_passing<'b, F: Functions>(
     scope: &Scope<'_, 'b, F>,

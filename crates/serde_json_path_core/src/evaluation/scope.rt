@@ -1,4 +1,4 @@
-//! What an evaluation goes by.
+//! What stays the same throughout an evaluation.
 
 ghost use Rattle.serde_json_path_functions.specs.Functions.{Fits};
 ghost use Rattle.serde_json_path_syntax.specs.Parts.{signatures_of};
@@ -8,7 +8,7 @@ use serde_json_path_functions::Functions;
 use serde_json_path_syntax::Checked;
 use std::alloc::Global;
 
-/// What an evaluation goes by: where its memory is from, the query, the document's root, and a function set that the
+/// What stays the same throughout an evaluation: the allocator, the query, the document, and a function set that the
 /// query fits.
 #[derive(Drop)]
 pub(crate) struct Scope<'q, 'b, F: Functions> {

@@ -12,23 +12,24 @@ use serde_json::Value;
 use serde_json_path_nodes::PathElement;
 use serde_json_path_syntax::Slice;
 
-/// So many positions, each the stride above or below the one before.
+/// Evenly spaced positions, rising or falling.
 #[derive(Clone, Copy)]
 pub(crate) struct SlicePositions {
-    /// Whether each position is above the one before; else it is below.
+    /// Whether the positions rise.
     upwards: bool,
     /// The next position.
     next: usize,
-    /// How far it is from one position to the one after it.
+    /// The distance between two neighbours.
     stride: usize,
     /// How many positions are left.
     left: usize,
 }
 
 impl SlicePositions {
-    /// The positions that a slice selects among so many items, in its order.
+    /// The positions that a slice selects in an array of `len` items, in the slice's order.
     pub(crate) fn new(slice: &Slice, len: usize) -> SlicePositions
-        ensures { let s = slice_view slice.now in positions_view result ≡ positions_by (step_of s) s len }
+        ensures { let s = slice_view slice.now in positions_view result
+            ≡ positions_by (step_of s) s len }
     {
         let step = slice.step.unwrap_or(1);
         let stride = step.unsigned_abs() as usize;
@@ -67,7 +68,7 @@ impl SlicePositions {
         }
     }
 
-    /// From the slice's start down to its end, each of which may be the frame before position 0.
+    /// From the slice's start down to its end, each of which may lie just before position 0.
     fn falling(slice: &Slice, len: usize, stride: usize) -> SlicePositions
         requires { 0 < stride }
         ensures { positions_view result ≡ falling (slice_view slice.now) len stride }
@@ -90,14 +91,16 @@ impl SlicePositions {
 
     /// Takes the item at the next position, if one is left.
     pub(crate) fn advance<'b>(&mut self, items: &'b [Value]) -> Option<Child<'b>>
-        ensures { MatchOption result ((positions_left self.old items.now ≡ []) × (positions_left self.new items.now ≡ [])) (λ c. positions_left self.old items.now ≡ child_view c ∷ positions_left self.new items.now) }
+        ensures { MatchOption result
+            ((positions_left self.old items.now ≡ []) × (positions_left self.new items.now ≡ []))
+            (λ c. positions_left self.old items.now ≡ child_view c ∷ positions_left self.new items.now) }
     {
         let position = self.next;
         if self.left == 0 || position >= items.len() {
             return None;
         }
         self.left -= 1;
-        // A sum that stops at the greatest number is past the last item all the same.
+        // A saturated sum is past the last item too.
         self.next = if self.upwards {
             position.saturating_add(self.stride)
         } else {
@@ -110,7 +113,7 @@ impl SlicePositions {
     }
 }
 
-/// How many items stand before a bound, which counts from the end where it is negative.
+/// Items before `bound`; a negative bound counts from the end.
 fn items_before(bound: i64, len: usize) -> usize
     ensures { pos result ≡ bound_of (pos len) (Some bound) (pos 0) (pos 0) (pos len) }
 {
@@ -122,9 +125,10 @@ fn items_before(bound: i64, len: usize) -> usize
     }
 }
 
-/// How many items stand up to a bound and at it, which counts from the end where it is negative.
+/// Items up to and including `bound`; a negative bound counts from the end.
 fn items_up_to(bound: i64, len: usize) -> usize
-    ensures { pos result ≡ (bound_of (pos len) (Some bound) (pos 0) (pos 0 -ℤ pos 1) (pos len -ℤ pos 1) +ℤ pos 1) }
+    ensures { pos result
+        ≡ (bound_of (pos len) (Some bound) (pos 0) (pos 0 -ℤ pos 1) (pos len -ℤ pos 1) +ℤ pos 1) }
 {
     let distance = bound.unsigned_abs() as usize;
     if bound >= 0 {
@@ -134,7 +138,7 @@ fn items_up_to(bound: i64, len: usize) -> usize
     }
 }
 
-/// How many of 0, the stride, twice the stride and so on are below the width.
+/// How many multiples of `stride`, from 0 on, are below `width`.
 fn strides_within(width: usize, stride: usize) -> usize
     requires { 0 < stride }
     ensures { result ≡ count_within width stride }

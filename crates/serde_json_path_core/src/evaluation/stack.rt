@@ -1,4 +1,4 @@
-//! The stack of a walk's frames, and its way to the next node.
+//! The stack of a walk's frames, and how it reaches the next node.
 
 ghost use Rattle.std.specs.Prelude.{◌≡◌, ◌-◌, ◌<◌, ◌≤◌, [], ◌∷◌, ◌++◌, IfOk, IfErr, OnOk, OnErr, MatchOption, length, take};
 ghost use Rattle.serde_json.specs.Data.{Data};
@@ -39,7 +39,7 @@ pub(crate) fn located_at<'b>(
     Ok(LocatedNode::new(NormalizedPath::from_steps(steps), value))
 }
 
-/// Takes the last frame away.
+/// Removes the last frame.
 pub(crate) fn drop_last<'b>(frames: &mut Vec<Frame<'b>>)
     requires { 0 < length frames.old.items }
     ensures { frames.new.items ≡ take (length frames.old.items - 1) frames.old.items }
@@ -48,14 +48,15 @@ pub(crate) fn drop_last<'b>(frames: &mut Vec<Frame<'b>>)
     frames.truncate(last);
 }
 
-/// Puts one frame in the frame of the last one, and another above; where memory is refused nothing is changed.
+/// Replaces the last frame and pushes another one; if memory is refused, nothing changes.
 fn push_over<'b>(
     frames: &mut Vec<Frame<'b>>,
     moved: Frame<'b>,
     next: Frame<'b>,
 ) -> Result<(), QueryError>
     requires { 0 < length frames.old.items }
-    ensures ok { OnOk result (frames.new.items ≡ (take (length frames.old.items - 1) frames.old.items ++ moved.entry ∷ []) ++ next.entry ∷ []) }
+    ensures ok { OnOk result (frames.new.items
+        ≡ (take (length frames.old.items - 1) frames.old.items ++ moved.entry ∷ []) ++ next.entry ∷ []) }
     ensures unchanged { OnErr result (frames.new.items ≡ frames.old.items) }
     ensures refused { IfErr result (λ e. e ≡ Memory) }
 {
@@ -65,7 +66,7 @@ fn push_over<'b>(
     Ok(())
 }
 
-/// Goes on until the last frame is where the segments end, and answers its value; `None` where no frame is left.
+/// Goes on until the last frame is past the last segment, and gives that frame's value; `None` if no frame is left.
 #[cycle(evaluation)]
 pub(crate) fn find_next<'b, F: Functions>(
     scope: &Scope<'_, 'b, F>,
@@ -82,7 +83,8 @@ pub(crate) fn find_next<'b, F: Functions>(
         ≤ work_left scope.now segments.now (frames_view frames.old.items) }
     ensures found { IfOk result (λ found. MatchOption found (frames.new.items ≡ [])
         (λ value. EndsAt (stages_at (nodes_of scope.now) segments.now) (frames_view frames.new.items) (view value.now))) }
-    ensures stack { (start : Data) → IsStack start (frames_view frames.old.items) → IsStack start (frames_view frames.new.items) }
+    ensures stack { (start : Data) → IsStack start (frames_view frames.old.items)
+        → IsStack start (frames_view frames.new.items) }
     ensures refused { IfErr result (λ e. WithoutPatterns scope.now → e ≡ Memory) }
 {
     while let Some(last) = frames.last() {

@@ -1,4 +1,4 @@
-//! Walks that go on from call to call.
+//! Walks, which give one node with each call.
 
 ghost use Rattle.serde_json.specs.View.{view};
 ghost use Rattle.serde_json_path_core.specs.Rest.{IsStack};
@@ -13,8 +13,8 @@ use serde_json_path_nodes::LocatedNode;
 
 /// The nodes that a query selects, one at a time, in order.
 ///
-/// A walk keeps no list of nodes: it keeps one frame for each level of the document that it is in. A call of
-/// [`Walk::next`] that is refused changes nothing of what is still to come, and a later call goes on.
+/// A walk keeps no list of nodes, only one frame for each level of the document that it is in. When a call of
+/// [`Walk::next`] is refused, the remaining nodes stay as they were, and a later call goes on.
 #[derive(Drop)]
 pub struct Walk<'q, 'b, F: Functions> {
     pub(crate) scope: Scope<'q, 'b, F>,
@@ -30,8 +30,7 @@ impl<'q, 'b, F: Functions> Walk<'q, 'b, F> {
     ghost use Rattle.serde_json_path_core.specs.Selects.{OnlyMemory};
     ghost use Rattle.serde_json_path_core.specs.Walks.{query_of, set_of, document_of, rest, places_of, steps_of, IsClearWalk};
 
-    /// How many frames the walk keeps: at most one more than the document is high. Where it keeps none,
-    /// no node remains.
+    /// How many frames the walk keeps: at most one more than the document is high. With none, no node remains.
     pub fn places(&self) -> usize
         ensures count { result ≡ places_of self.now }
         ensures within { result ≤ height (document_of self.now) + 1 }
@@ -40,11 +39,11 @@ impl<'q, 'b, F: Functions> Walk<'q, 'b, F> {
         self.frames.len()
     }
 
-    /// The next node with its location, or `None` where there is no more.
+    /// The next node with its location, or `None` after the last one.
     ///
-    /// A refusal leaves what is still to come as it was, and the next call tries the same step again: what was refused for
-    /// want of memory may be given then, a pattern that was refused is refused again. `Pattern` comes only where the query calls a function that
-    /// stands for `match` or `search`; every other refusal is of memory.
+    /// A refusal leaves the remaining nodes as they were, and the next call tries the same step again. So it succeeds once
+    /// memory is there, while a pattern that was refused is refused again. `Pattern` comes only if the query calls a
+    /// function that stands for `match` or `search`; every other refusal is `Memory`.
     pub fn next(&mut self) -> Result<Option<LocatedNode<'b>>, QueryError>
         ensures query { query_of self.new ≡ query_of self.old }
         ensures set { set_of self.new ≡ set_of self.old }
@@ -53,8 +52,10 @@ impl<'q, 'b, F: Functions> Walk<'q, 'b, F> {
             ((rest self.old ≡ []) × (rest self.new ≡ []))
             (λ node. rest self.old ≡ located node ∷ rest self.new)) }
         ensures ended { IfOk result (λ next. IfNone next (places_of self.new ≡ 0)) }
-        ensures nearer { IfOk result (λ next. IfSome next (λ node. steps_of self.new < steps_of self.old)) }
-        ensures unchanged { IfErr result (λ e. IsClearWalk self.old → rest self.new ≡ rest self.old) }
+        ensures nearer { IfOk result (λ next.
+            IfSome next (λ node. steps_of self.new < steps_of self.old)) }
+        ensures unchanged { IfErr result (λ e.
+            IsClearWalk self.old → rest self.new ≡ rest self.old) }
         ensures refused { OnlyMemory (set_of self.old) (query_of self.old) result }
     {
         let scope = &self.scope;
@@ -68,7 +69,7 @@ impl<'q, 'b, F: Functions> Walk<'q, 'b, F> {
         }
     }
 
-    /// The value of the next node, or `None` where there is no more.
+    /// The value of the next node, or `None` after the last one.
     pub(crate) fn next_value(&mut self) -> Result<Option<&'b Value>, QueryError>
         ensures query { query_of self.new ≡ query_of self.old }
         ensures set { set_of self.new ≡ set_of self.old }
@@ -76,7 +77,8 @@ impl<'q, 'b, F: Functions> Walk<'q, 'b, F> {
         ensures given { IfOk result (λ next. IsClearWalk self.old → MatchOption next
             (rest self.old ≡ [])
             (λ value. (node : Located) × (node.value ≡ view value.now) × (rest self.old ≡ node ∷ rest self.new))) }
-        ensures nearer { IfOk result (λ next. IfSome next (λ value. steps_of self.new < steps_of self.old)) }
+        ensures nearer { IfOk result (λ next.
+            IfSome next (λ value. steps_of self.new < steps_of self.old)) }
         ensures refused { OnlyMemory (set_of self.old) (query_of self.old) result }
     {
         let scope = &self.scope;

@@ -22,7 +22,7 @@ use serde_json_path_functions::{
 };
 use serde_json_path_syntax::{Argument, Node, Part};
 
-/// Whether an answer as a test holds (RFC 9535, section 2.4.2).
+/// Whether a function's answer holds as a test (RFC 9535, section 2.4.2).
 pub(crate) fn answer_holds(answer: &FunctionValue<'_>) -> bool
     ensures { result ≡ computed.answer_holds (term_view answer.now) }
 {
@@ -58,7 +58,7 @@ fn answer_as<'x>(answer: FunctionValue<'x>, kind: FunctionArgType) -> FunctionVa
     }
 }
 
-/// The answer of a call, where `@` is the value.
+/// The answer of a call, with `@` at the value.
 #[cycle(evaluation)]
 pub(crate) fn answer<'x, 'q: 'x, 'b: 'x, F: Functions>(
     scope: &Scope<'q, 'b, F>,
@@ -92,7 +92,7 @@ pub(crate) fn answer<'x, 'q: 'x, 'b: 'x, F: Functions>(
     scope.functions.call(scope.alloc, name, given)
 }
 
-/// An argument as a parameter of that type takes it (RFC 9535, section 2.4.3).
+/// Evaluates an argument for a parameter of that type (RFC 9535, section 2.4.3).
 #[cycle(evaluation)]
 fn argument_as<'x, 'q: 'x, 'b: 'x, F: Functions>(
     scope: &Scope<'q, 'b, F>,
@@ -129,7 +129,7 @@ fn argument_as<'x, 'q: 'x, 'b: 'x, F: Functions>(
     }
 }
 
-/// A query's result as an argument of that type (RFC 9535, section 2.4.3).
+/// Evaluates a query that is an argument, for a parameter of that type (RFC 9535, section 2.4.3).
 #[cycle(evaluation)]
 fn result_as<'x, 'q: 'x, 'b: 'x, F: Functions>(
     scope: &Scope<'q, 'b, F>,

@@ -14,13 +14,14 @@ use crate::filter::equality::{same_items, same_members};
 use crate::filter::side::{Side, side_of};
 use serde_json_path_syntax::ComparisonOperator;
 
-/// Whether the comparison holds of what its two sides stand for.
+/// Whether a comparison of two values holds.
 pub(crate) fn compare(
     operator: ComparisonOperator,
     left: &ComparedValue,
     right: &ComparedValue,
 ) -> bool
-    ensures { result ≡ comparison (operator_view operator) (compared_view left.now) (compared_view right.now) }
+    ensures { result
+        ≡ comparison (operator_view operator) (compared_view left.now) (compared_view right.now) }
 {
     let left = side_of(left);
     let right = side_of(right);

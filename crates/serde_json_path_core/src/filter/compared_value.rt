@@ -1,9 +1,11 @@
-//! The sides of a comparison.
+//! Values as comparisons take them.
 
 use serde_json::Value;
 use serde_json_path_syntax::Literal;
 
-/// What a side of a comparison stands for (RFC 9535, section 2.3.5.1). Contracts see a value alike, lent or made.
+/// What a side of a comparison stands for (RFC 9535, section 2.3.5.1).
+///
+/// Contracts see the same value, whether it is borrowed or owned.
 #[derive(Drop)]
 pub(crate) enum ComparedValue<'x> {
     /// No value.

@@ -25,7 +25,8 @@ fn same_values(left: &Value, right: &Value) -> bool
 
 /// Whether two numbers are held as integers and equal.
 fn same_numbers(left: &Number, right: &Number) -> bool
-    ensures { result ≡ same_amount (as_integer (number_view left.now)) (as_integer (number_view right.now)) }
+    ensures { result
+        ≡ same_amount (as_integer (number_view left.now)) (as_integer (number_view right.now)) }
 {
     match (left.as_i128(), right.as_i128()) {
         (Some(left), Some(right)) => left == right,
@@ -49,7 +50,7 @@ pub(crate) fn same_items(left: &Vec<Value>, right: &Vec<Value>) -> bool
     true
 }
 
-/// Whether two objects are equal, by their names and values in order.
+/// Whether two objects have the same names with equal values.
 #[cycle(same)]
 pub(crate) fn same_members(left: &Map<String, Value>, right: &Map<String, Value>) -> bool
     ensures { result ≡ same_members_of (members_view left.now.entries) (members_view right.now.entries) }

@@ -24,7 +24,7 @@ use serde_json::Value;
 use serde_json_path_functions::{FunctionValue, Functions, QueryError};
 use serde_json_path_syntax::{Basic, Comparable, Literal, Node, Part};
 
-/// Whether a logical expression holds where `@` is the value: whether some part of it does that is joined by `||`.
+/// Whether a logical expression holds for `@` at the value: whether one of its operands of `||` does.
 #[cycle(evaluation)]
 pub(crate) fn is_true<'b, F: Functions>(
     scope: &Scope<'_, 'b, F>,
@@ -46,7 +46,7 @@ pub(crate) fn is_true<'b, F: Functions>(
     Ok(false)
 }
 
-/// Whether all parts of it hold that are joined by `&&`.
+/// Whether all operands of `&&` hold.
 #[cycle(evaluation)]
 fn all_true<'b, F: Functions>(
     scope: &Scope<'_, 'b, F>,
@@ -146,20 +146,21 @@ fn compared<'x, 'q: 'x, 'b: 'x, F: Functions>(
     }
 }
 
-/// The frame where a query begins.
+/// The first frame of a query.
 fn first_frame<'b, F: Functions>(
     scope: &Scope<'_, 'b, F>,
     query: Part,
     value: &'b Value,
 ) -> Frame<'b>
     requires { query.number < length (nodes_of scope.now) }
-    ensures { frame_view result ≡ starting_frame (top_of scope.now) (part_query (nodes_of scope.now) query) (view value.now) }
+    ensures { frame_view result
+        ≡ starting_frame (top_of scope.now) (part_query (nodes_of scope.now) query) (view value.now) }
 {
     let start = start(scope.query.part_kind(query), value, scope.root);
     Frame::start(scope.query, scope.query.part_segments(query), start)
 }
 
-/// The value of the first node of a query, if it selects one.
+/// The value of the first node that a query selects, if there is one.
 #[cycle(evaluation)]
 pub(crate) fn first<'b, F: Functions>(
     scope: &Scope<'_, 'b, F>,
@@ -179,7 +180,7 @@ pub(crate) fn first<'b, F: Functions>(
     find_next(scope, segments, &mut frames)
 }
 
-/// The values of all nodes of a query, in order.
+/// The values of all nodes that a query selects, in order.
 #[cycle(evaluation)]
 pub(crate) fn all_values<'x, 'q: 'x, 'b: 'x, F: Functions>(
     scope: &Scope<'q, 'b, F>,

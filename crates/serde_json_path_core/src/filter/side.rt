@@ -1,4 +1,4 @@
-//! What a comparison sees of its operands.
+//! Values by the kind that a comparison tells apart.
 
 ghost use Rattle.std.specs.Prelude.{◌≡◌};
 ghost use Rattle.serde_json.specs.Data.{number as number_data};
@@ -12,10 +12,10 @@ use crate::filter::compared_value::ComparedValue;
 use serde_json::{Map, Number, Value};
 use serde_json_path_syntax::Literal;
 
-/// How many billionths one is.
+/// One, in billionths.
 const ONE: i128 = 1_000_000_000;
 
-/// What a comparison sees of an compared_value: the same of a literal and of a value that equals it.
+/// A compared value by its kind. A literal and an equal value of the document look the same.
 #[derive(Clone, Copy)]
 pub(crate) enum Side<'s> {
     /// No value.
@@ -24,7 +24,7 @@ pub(crate) enum Side<'s> {
     Null,
     /// A truth value.
     Bool(bool),
-    /// A number: its billionths, or `None` for a value's number that is not held as an integer and equals none.
+    /// A number in billionths, or `None` for a number that the document does not hold as an integer, which equals none.
     Amount(Option<i128>),
     /// A text.
     Text(&'s str),
@@ -34,7 +34,7 @@ pub(crate) enum Side<'s> {
     Object(&'s Map<String, Value>),
 }
 
-/// The billionths of a number that is held as an integer; another number has none.
+/// A number in billionths, if it is held as an integer.
 fn amount(number: &Number) -> Option<i128>
     ensures { result ≡ amount_of (a_value (number_data (number_view number.now))) }
 {
@@ -45,7 +45,7 @@ fn amount(number: &Number) -> Option<i128>
     }
 }
 
-/// The side of a value.
+/// A value by its kind.
 fn side_of_value(value: &Value) -> Side<'_>
     ensures { side_view result ≡ seen_of (a_value (view value.now)) }
 {
@@ -59,7 +59,7 @@ fn side_of_value(value: &Value) -> Side<'_>
     }
 }
 
-/// The side of a literal.
+/// A literal by its kind.
 fn side_of_literal(literal: &Literal) -> Side<'_>
     ensures { side_view result ≡ seen_of (literal_compared (literal_view literal.now)) }
 {
@@ -71,7 +71,7 @@ fn side_of_literal(literal: &Literal) -> Side<'_>
     }
 }
 
-/// The side of an compared_value.
+/// A compared value by its kind.
 pub(crate) fn side_of<'s>(compared_value: &'s ComparedValue<'_>) -> Side<'s>
     ensures { side_view result ≡ seen_of (compared_view compared_value.now) }
 {
