@@ -19,7 +19,7 @@ use Rattle.serde_json_path_functions.specs.declared.types.FunctionValue.{Functio
 use Rattle.serde_json_path_core.proofs.Derived.{arguments_right}
 
 module _ (F : FunctionSet) (top : Data) where
-  -- where no argument is left, or no parameter, nothing is left to next_admitted
+  -- where no argument is left, or no parameter, nothing is left to give
   none-left : (ps : List Piece) (parts : List Part) (kinds : List FunctionArgType) (v : Data) → (length parts ≡ 0) ⊎ (length kinds ≡ 0)
       → arguments F top (arguments_in (pieces_named ps parts)) (map kind_view kinds) v ≡ []
   none-left ps [] kinds v h = refl

@@ -1,4 +1,4 @@
--- Stacks of frames, each at a child of the one below: what a turn keeps, and how many frames there are at most.
+-- Stacks of frames, each at a child of the one below: what a step keeps, and how many frames there are at most.
 use Rattle.std.proofs.Common.{◌≡◌, ℕ, ◌+◌, ◌<◌, ◌≤◌, List, [], ◌∷◌, ◌++◌, drop, length, Some, None, sym, ap, subst, ◌∙◌, arith}
 use Rattle.std.specs.List.{All}
 use Rattle.std.proofs.lemmas.List.Elements.{All-nil}
@@ -10,8 +10,8 @@ use Rattle.serde_json_path_syntax.specs.Stages.{Stage}
 use Rattle.serde_json_path_core.specs.Rest.{Frame, begun, rest_of, work, IsOfValue, IsChain, IsStack}
 use Rattle.serde_json_path_core.specs.Advances.{IsSameFrame, ComesTo, IsDone}
 use Rattle.serde_json_path_core.proofs.Heights.{height-child_at}
-use Rattle.serde_json_path_core.proofs.Moves.{IsChildOf, opened-of}
-use Rattle.serde_json_path_core.proofs.Turns.{rest-dropped, rest-moved, work-dropped, work-moved}
+use Rattle.serde_json_path_core.proofs.FrameSteps.{IsChildOf, opened-of}
+use Rattle.serde_json_path_core.proofs.AfterSteps.{rest-dropped, rest-moved, work-dropped, work-moved}
 
 begun-of : (all : List Stage) (v : Data) → All (IsChildOf v) (begun all v)
 begun-of [] v = All-nil _

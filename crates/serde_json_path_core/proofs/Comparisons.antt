@@ -1,5 +1,5 @@
 -- The computed comparisons answer as the definitions say.
-use Rattle.std.proofs.Common.{◌≡◌, ℤ, true, false, ◌&&◌, Option, Some, None, Ordering, Less, Equal, Greater, nat_cmp, refl, sym, arith, true≢false, chars, bytes_eq}
+use Rattle.std.proofs.Common.{◌≡◌, ℤ, ◌&&◌, Option, Some, None, Ordering, Less, Equal, Greater, nat_cmp, refl, sym, arith, true≢false, chars, bytes_eq}
 use Rattle.std.specs.Prelude.{◌<ℤ◌, int_lt}
 use Rattle.std.specs.Bool.{Decides}
 use Rattle.std.specs.Cmp.{booleans_Decides}

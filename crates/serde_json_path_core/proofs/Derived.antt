@@ -19,7 +19,7 @@ use Rattle.serde_json_path_syntax.proofs.InLists.{in_append, in_map, map_in, in_
 use Rattle.serde_json_path_core.proofs.ChildSteps.{in_children, in_child_by, in_item_at}
 use Rattle.serde_json_path_core.proofs.Comparisons.{Decides-compare}
 use Rattle.serde_json_path_core.proofs.Descents.{in_descents}
-use Rattle.serde_json_path_core.proofs.Ends.{End, triple_at, after, levels, picks_by, picks, through, ends, ends_ordered, node_at, results-ends}
+use Rattle.serde_json_path_core.proofs.DerivationEnds.{End, triple_at, after, levels, picks_by, picks, through, ends, ends_ordered, node_at, results-ends}
 use Rattle.serde_json_path_core.proofs.Order.{result_once}
 use Rattle.serde_json_path_core.proofs.SlicePositions.{in_sliced}
 
@@ -118,7 +118,7 @@ module _ (F : FunctionSet) (top : Data) where
   abbrev AreEnds : Segments → Type 0
   AreEnds segs = (v : Data) (e : End) → IsIn e (ends F top segs v) ↔ (Derives F top segs v e.0 × (at v (location_of e.0) ≡ Some e.1))
 
-  -- the segment's triples at a frame are those that it admits there
+  -- the segment's triples at a node are those that it admits there
   abbrev ArePicks : Segment → Type 0
   ArePicks seg =
       (down : List Step) (v : Data) (t : Triple × Data)

@@ -1,35 +1,80 @@
-pub mod AnswerKinds
-pub mod Answered
-pub mod Chains
+-- ---- the computed list of a query is its result, and no other list is
+
+-- the computed children of a value are those that a step leads to, in document order
 pub mod ChildSteps
-pub mod Comparisons
-pub mod PositionSteps
-pub mod Derived
-pub mod Descents
-pub mod EachCalls
-pub mod Ends
-pub mod Found
-pub mod Heights
-pub mod Joined
-pub mod LastFrames
-pub mod Listed
-pub mod Lookups
-pub mod MapOrder
-pub mod MoreSignatures
-pub mod Moves
-pub mod Negations
-pub mod OfValue
-pub mod Order
-pub mod Rests
-pub mod Seen
-pub mod Singular
+-- the computed children of a slice are those at the positions that it selects, in its order
 pub mod SlicePositions
-pub mod SoundParts
-pub mod Stacks
-pub mod StageLists
-pub mod Standing
-pub mod Started
+-- the computed values below a value are those at its locations, in document order
+pub mod Descents
+-- the computed comparisons answer as the definitions say
+pub mod Comparisons
+-- under a function set that keeps types, the computed arguments and answers of well-typed calls have their declared types
+pub mod AnswerKinds
+-- the ends of a query's derivations, computed
+pub mod DerivationEnds
+-- derivations are in an order
+pub mod Order
+-- the computed ends are those of the derivations, and the computed tests hold where the defined ones do
+pub mod Derived
+-- the computed list of a query is its result, and the computed tests, sides and answers are those of the definitions
+pub mod Listed
+-- ---- laws
+
+-- segments that select one child at most lead to one node at most, and that is the query's result
+pub mod Singular
+-- `!=` holds exactly where `==` does not
+pub mod Negations
+-- a descendant segment's nodes are the child segment's at the node, then those of each child's subtree
 pub mod Subtrees
+-- what holds of each call of a query, where something that follows from it is asked
+pub mod EachCalls
+-- ---- a walk gives the computed list
+
+-- what a stack of frames has left, when its last frame gives its node, is dropped, or moves on to a child
+pub mod Stacks
+-- the tasks of a frame, a step at a time
 pub mod Tasks
-pub mod Turns
+-- the stages of a query's parts, and what is left of a list after so many elements
+pub mod StageLists
+-- stacks of frames, each at a child of the one below: what a step keeps, and how many frames there are at most
+pub mod Chains
+-- a child is lower than its value
+pub mod Heights
+-- all that a cursor over a value's children begins with are children of the value
+pub mod CursorChildren
+-- the steps of a frame that moves on
+pub mod FrameSteps
+-- what remains, and how much work, after one step of a walk
+pub mod AfterSteps
+-- the last of so many frames
+pub mod LastFrames
+-- the rest of a walk whose last frame is where the segments end, and without that frame
+pub mod LastFrameDone
+-- what a walk that begins has left is the result of the segments
+pub mod Started
+-- values that stand in the document: those of a walk's frames, and their children
+pub mod InDocument
+-- ---- what an evaluation stands on
+
+-- what an evaluation stands on of a part, for the parts of that part
+pub mod SoundParts
+-- a query that fits a set is sound as a whole
 pub mod WholeQueries
+-- what is well-typed under some signatures is so under each that have these
+pub mod MoreSignatures
+-- ---- steps of the code
+
+-- a call of a set answers what is computed, where the meaning is promised
+pub mod Answered
+-- a look-up in a map or a vector finds what the same look-up in their data finds
+pub mod Lookups
+-- the members of a map stand in order already, as its keys rise
+pub mod MapOrder
+-- the positions of a slice by the bounds that the code computes, and how they go on by one
+pub mod PositionSteps
+-- a comparison of two sides is that of what is seen of them
+pub mod ComparedSides
+-- parts of logical expressions one by one, and the first of the nodes that a query selects
+pub mod OperandLists
+-- what is so of an option whose case is known
+pub mod KnownCases

@@ -1,16 +1,15 @@
 -- The computed list of a query is its result, and the computed tests, sides and answers are those of the definitions.
-use Rattle.std.proofs.Common.{◌≡◌, List, flat_map, map, ◌↔◌, IsTrue, Some, sym}
+use Rattle.std.proofs.Common.{◌≡◌, List, ◌↔◌, Some}
 use Rattle.serde_json.specs.Data.{Data}
 use Rattle.serde_json_path_nodes.specs.Location.{Located}
-use Rattle.serde_json_path_syntax.specs.Tree.{Query, SegmentKind, Segments, segment, Segment, LogicalOr, Comparable, Call}
-use Rattle.serde_json_path_functions.specs.Functions.{FunctionSet, Term}
+use Rattle.serde_json_path_syntax.specs.Tree.{Query, Comparable}
+use Rattle.serde_json_path_functions.specs.Functions.{FunctionSet}
 use Rattle.serde_json_path_core.specs.Compared.{Compared}
-use Rattle.serde_json_path_core.specs.Meaning.{Holds, Exists, IsResult, IsComparedAs, Answers}
-use Rattle.serde_json_path_syntax.specs.Typing.{IsTyped, IsTypedOr, IsTypedComparable, IsTypedCall}
-use Rattle.serde_json_path_core.specs.Computed.{results, results_from, reached, placed, chosen, picked, is_true, compared, answer, is_nonempty}
-use Rattle.serde_json_path_syntax.proofs.InLists.{flat_map-flat_map}
+use Rattle.serde_json_path_core.specs.Meaning.{IsResult, IsComparedAs}
+use Rattle.serde_json_path_syntax.specs.Typing.{IsTyped, IsTypedComparable}
+use Rattle.serde_json_path_core.specs.Computed.{results, compared}
 use Rattle.serde_json_path_core.proofs.Order.{result_once}
-use Rattle.serde_json_path_core.proofs.Derived.{query_right, or_right, compared_right, call_right}
+use Rattle.serde_json_path_core.proofs.Derived.{query_right, compared_right}
 
 module _ (F : FunctionSet) (top : Data) where
   -- the computed list of a well-typed query is its result

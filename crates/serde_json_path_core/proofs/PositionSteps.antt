@@ -1,4 +1,4 @@
--- The courses of a slice by the bounds that the code computes, and a positions that goes on by one position.
+-- The positions of a slice by the bounds that the code computes, and how they go on by one.
 use Rattle.std.proofs.Common.{◌≡◌, ℕ, zero, suc, ◌+◌, ◌-◌, min, ◌<◌, ◌≤◌, ℤ, pos, nat_abs, List, [], ◌∷◌, length, get_or, Bool, true, false, Option, Some, None, ◌⊎◌, inl, inr, refl, sym, ap, ◌∙◌, arith, true≢false}
 use Rattle.std.specs.Prelude.{◌+ℤ◌, ◌-ℤ◌}
 use Rattle.std.proofs.lemmas.Bool.{cases_lt}
@@ -14,11 +14,11 @@ use Rattle.serde_json_path_core.proofs.SlicePositions.{next_strided}
 
 -- ---- the positions of a slice
 
--- where a falling positions begins: so many items stand up to there
+-- where falling positions begin: so many items are up to there
 abbrev pub top_of : Option ℤ → ℕ → ℤ
 top_of start len = bound_of (pos len) start (pos len -ℤ pos 1) (pos 0 -ℤ pos 1) (pos len -ℤ pos 1) +ℤ pos 1
 
--- where a falling positions ends
+-- where falling positions end
 abbrev pub bottom_of : Option ℤ → ℕ → ℤ
 bottom_of end len = bound_of (pos len) end ((pos 0 -ℤ pos len) -ℤ pos 1) (pos 0 -ℤ pos 1) (pos len -ℤ pos 1) +ℤ pos 1
 
@@ -30,7 +30,7 @@ top_of-none len = grind (arith, ints, clamps)
 pub bottom_of-none : (len : ℕ) → pos 0 ≡ bottom_of None len
 bottom_of-none len = grind (arith, ints, clamps)
 
--- a falling positions by the numbers of items up to its start and up to its end
+-- falling positions by the numbers of items up to its start and up to its end
 pub falling-counted : (s : Slice) (len stride start end first count : ℕ) → pos start ≡ top_of s.start len → pos end ≡ bottom_of s.end len → first ≡ start - 1 → count ≡ count_within (start - end) stride
     → ◌≡◌ {A = SlicePositions} (record { upwards = false; first = first; stride = stride; count = count }) (falling s len stride)
 falling-counted s len stride start end first count from upto f g =
@@ -42,7 +42,7 @@ falling-counted s len stride start end first count from upto f g =
 
 -- ---- one position more
 
--- nothing is left of a positions with no position left, and of one that is past the items
+-- nothing is left where no position is, nor past the items
 pub strided-none : (items : List Value) (count : ℕ) (upwards : Bool) (first stride : ℕ) → (count ≡ 0) ⊎ (length items ≤ first) → strided count upwards first stride (items_view items) ≡ []
 strided-none items zero upwards first stride h = refl
 strided-none items (suc count) upwards first stride (inl none) = absurd (omega arith)

@@ -17,7 +17,7 @@ use Rattle.serde_json_path_core.specs.Derivation.{SelectedBefore}
 use Rattle.serde_json_path_core.specs.Meaning.{IsPositionOf}
 use Rattle.serde_json_path_core.specs.Computed.{SlicePositions, count_within, strided, rising, falling, positions_by, sliced, next_position}
 
--- ---- items on a positions
+-- ---- items at positions
 
 -- an item is there at each position below the count
 item_there : (items : Items) (p : ℕ) → p < items_len items → (d : Data) × (get_item p items ≡ Some d)
@@ -115,11 +115,11 @@ natural (pos n) h = refl
 natural (negsuc n) h = absurd (omega (arith, ints))
 
 module _ (s : Slice) (len k : ℕ) where
-  -- where a rising positions begins (RFC 9535, section 2.3.4.2.2)
+  -- where rising positions begin (RFC 9535, section 2.3.4.2.2)
   abbrev low : ℤ
   low = bound_of (pos len) s.start (pos 0) (pos 0) (pos len)
 
-  -- where a rising positions ends
+  -- where rising positions end
   abbrev high : ℤ
   high = bound_of (pos len) s.end (pos len) (pos 0) (pos len)
 
@@ -170,11 +170,11 @@ module _ (s : Slice) (len k : ℕ) where
   abbrev last : ℤ
   last = pos len -ℤ pos 1
 
-  -- where a falling positions begins
+  -- where falling positions begin
   abbrev top : ℤ
   top = bound_of (pos len) s.start last (pos 0 -ℤ pos 1) last
 
-  -- where a falling positions ends
+  -- where falling positions end
   abbrev bottom : ℤ
   bottom = bound_of (pos len) s.end ((pos 0 -ℤ pos len) -ℤ pos 1) (pos 0 -ℤ pos 1) last
 
@@ -224,7 +224,7 @@ module _ (s : Slice) (len k : ℕ) where
           let there = upwards top bottom u l (j * suc k) b.0 b.1 ((counted_within j (u - l) k).0 h) same in
           inr (subst (λ z. z <ℤ pos 0) (sym e) (omega (arith, ints)), there.0, there.1, (j, there.2 ∙ ap (λ z. top +ℤ z) (sym (steps j))))
 
--- what a positions with that step selects, where it lies and in which order
+-- what positions with that step select, where they lie and in which order
 record ArePositions (s : Slice) (len : ℕ) (c : SlicePositions) : Type 0 where
   selects : (p : ℕ) → SelectsPosition s len p ↔ ((j : ℕ) × (j < c.count) × (p ≡ frame c.upwards c.first c.stride j))
   there : (j : ℕ) → j < c.count → frame c.upwards c.first c.stride j < len

@@ -1,4 +1,4 @@
--- The stages of a query's parts, and what is left of a list behind so many elements.
+-- The stages of a query's parts, and what is left of a list after so many elements.
 use Rattle.std.proofs.Common.{◌≡◌, ℕ, zero, suc, ◌+◌, ◌<◌, ◌≤◌, List, [], ◌∷◌, drop, length, slice_get, option_map, Option, Some, None, slice_index_or, refl, ap, sym, ◌∙◌, arith}
 use Rattle.std.proofs.lemmas.Option.{none-some, same_Some, slice_get_read, slice_get_past}
 use Rattle.serde_json_path_syntax.specs.Piece.{Piece}

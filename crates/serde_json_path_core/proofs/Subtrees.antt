@@ -14,7 +14,7 @@ use Rattle.serde_json_path_core.specs.Computed.{itself, children, descents, plac
 use Rattle.serde_json_path_core.specs.Laws.{AreChildren, AreSubtreeResults}
 use Rattle.serde_json_path_core.proofs.ChildSteps.{in_children, children_ordered}
 use Rattle.serde_json_path_core.proofs.Descents.{below_child, descents_are}
-use Rattle.serde_json_path_core.proofs.Ends.{node_at, ends, results-ends}
+use Rattle.serde_json_path_core.proofs.DerivationEnds.{node_at, ends, results-ends}
 use Rattle.serde_json_path_syntax.proofs.InLists.{flat_map-same, flat_map-flat_map, map-flat_map}
 use Rattle.serde_json_path_core.proofs.Listed.{computed_only}
 use Rattle.serde_json_path_core.proofs.Order.{step_once, in_order_once}

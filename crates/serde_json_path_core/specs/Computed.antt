@@ -83,7 +83,7 @@ placed above c = record { location = above ++ c.0 ∷ []; value = c.1 }
 
 -- ---- slices (section 2.3.4.2)
 
--- so many positions, each the stride above or below the one before
+-- evenly spaced positions, rising or falling
 pub record SlicePositions : Type 0 where
   pub upwards : Bool
   pub first : ℕ
@@ -102,7 +102,7 @@ rising s len stride =
     let end = nat_abs (bound_of (pos len) s.end (pos len) (pos 0) (pos len)) in
     record { upwards = true; first = start; stride = stride; count = count_within (end - start) stride }
 
--- a slice's positions with a step below 0: from the start down to the end, each of which may be the frame before position 0
+-- a slice's positions with a step below 0: from the start down to the end, each of which may lie just before position 0
 abbrev pub falling : Slice → ℕ → ℕ → SlicePositions
 falling s len stride =
     let last = pos len -ℤ pos 1 in
@@ -127,7 +127,7 @@ strided zero upwards position stride items = []
 strided (suc count) upwards position stride items =
     option_map_or (λ d. (by_position position, d) ∷ strided count upwards (next_position upwards position stride) stride items) (get_item position items) []
 
--- the items on a positions
+-- the items at some positions
 abbrev pub at_positions : SlicePositions → Items → List (Step × Data)
 at_positions c items = strided c.count c.upwards c.first c.stride items
 

@@ -1,10 +1,10 @@
--- What a cursor over one value's children has still to next_admitted.
+-- The children that a cursor has not given yet.
 use Rattle.std.specs.Prelude.{List, drop, option_map, option_to_list}
 use Rattle.serde_json.specs.Data.{Data}
 use Rattle.serde_json.specs.View.{items_view, members_view}
 use Rattle.serde_json_path_nodes.specs.Location.{Step}
 use Rattle.serde_json_path_core.specs.Computed.{items_from, members_all}
-use Rattle.serde_json_path_core.specs.PositionSteps.{positions_left}
+use Rattle.serde_json_path_core.specs.PositionViews.{positions_left}
 use Rattle.serde_json_path_core.specs.Views.{child_view}
 use Rattle.serde_json_path_core.specs.declared.evaluation.cursor.Cursor.{Cursor}
 use Rattle.serde_json_path_core.specs.declared.evaluation.cursor.Cursor.TheVariants.{Items, Members, One, Slice}

@@ -1,12 +1,12 @@
 -- The words of the functions that evaluate: what is asked of a part, and what it computes to where `@` is a value.
-use Rattle.std.specs.Prelude.{ℕ, List, map, Bool, Option, Result, IfErr, ◌≡◌}
+use Rattle.std.specs.Prelude.{ℕ, List, map, Bool, Option}
 use Rattle.serde_json.specs.Data.{Data}
 use Rattle.serde_json_path_nodes.specs.Location.{Step, Located}
 use Rattle.serde_json_path_functions.specs.Functions.{Kind, Term}
 use Rattle.serde_json_path_syntax.specs.declared.node.Part.{Part}
 use Rattle.serde_json_path_syntax.specs.declared.selector_ref.SelectorRef.{SelectorRef}
 use Rattle.serde_json_path_syntax.specs.Flat.{or_at, and_at, basic_at, comparable_at, call_at, argument_at, part_query, piece_at, segment_in, segments_at}
-use Rattle.serde_json_path_syntax.specs.Stages.{Stage, selector_view, stage_at, stages_at}
+use Rattle.serde_json_path_syntax.specs.Stages.{selector_view, stage_at, stages_at}
 use Rattle.serde_json_path_core.specs.Advances as advances
 use Rattle.serde_json_path_core.specs.Compared.{Compared}
 use Rattle.serde_json_path_core.specs.Computed as computed

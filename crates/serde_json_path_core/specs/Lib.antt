@@ -1,22 +1,50 @@
+-- ---- what contracts cite, in the terms of RFC 9535
+
+-- which positions of an array a slice selects (RFC 9535, section 2.3.4.2)
 pub mod Slices
+-- comparison of values (RFC 9535, section 2.3.5.2.2)
 pub mod Compared
+-- derivations of a query
 pub mod Derivation
+-- what a query selects (RFC 9535, sections 2.1 to 2.5), under a function set and at the root of a document
 pub mod Meaning
+-- queries whose calls mean what is promised
 pub mod Clear
-pub mod Selected
-pub mod Computed
-pub mod Views
-pub mod Height
-pub mod Rest
-pub mod Advances
-pub mod PositionSteps
-pub mod Cursors
-pub mod Sound
-pub mod Scopes
-pub mod Frames
-pub mod Walks
-pub mod ComparedValues
-pub mod Sides
-pub mod Laws
+-- what the calls that evaluate promise: which nodes are selected, and when a call is refused
 pub mod Selects
+-- walks as contracts see them
+pub mod Walks
+-- how far down a value goes
+pub mod Height
+-- laws of the definitions
+pub mod Laws
+-- ---- what the code computes, on plain data
+
+-- the one child that a segment of one name or one index selects, and the one node that such segments lead to, computed
+pub mod Selected
+-- what a query selects, computed
+pub mod Computed
+-- the nodes that remain of a walk, from the frames on its stack, the document and the query's segments alone
+pub mod Rest
+-- how a frame moves on
+pub mod Advances
+-- what the evaluation of a part of a query stands on
+pub mod Sound
+-- ---- the code's values as the definitions see them
+
+-- the program's values as the definitions see them
+pub mod Views
+-- slice positions as the definitions see them, and the items at those that are left
+pub mod PositionViews
+-- the children that a cursor has not given yet
+pub mod Cursors
+-- the frames of a walk as the definitions see them
+pub mod Frames
+-- the sides of a comparison as the definitions see them
+pub mod ComparedValues
+-- what a comparison sees of its sides: the same of a literal and of a value that equals it
+pub mod Sides
+-- what an evaluation goes by
+pub mod Scopes
+-- the words of the functions that evaluate
 pub mod Evaluates

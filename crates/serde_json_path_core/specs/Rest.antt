@@ -1,9 +1,9 @@
--- What a walk has still to next_admitted: from the frames on its stack, the document and the query's segments alone.
+-- The nodes that remain of a walk, from the frames on its stack, the document and the query's segments alone.
 use Rattle.std.specs.Prelude.{◌≡◌, ℕ, ◌+◌, List, [], ◌∷◌, ◌++◌, length, map, drop, flat_map, filter as keep, Option, Some, None, option_to_list}
 use Rattle.std.specs.List.{All}
 use Rattle.serde_json.specs.Data.{Data}
 use Rattle.serde_json_path_nodes.specs.Location.{Step, by_name, child_at, Located}
-use Rattle.serde_json_path_syntax.specs.Tree.{Query, query, segment, SegmentKind, child, descendant, selector, Selector, name, wildcard, index, slice, filter}
+use Rattle.serde_json_path_syntax.specs.Tree.{Query, query, SegmentKind, child, descendant, Selector, name, wildcard, index, slice, filter}
 use Rattle.serde_json_path_syntax.specs.Stages.{Stage, stages}
 use Rattle.serde_json_path_functions.specs.Functions.{FunctionSet}
 use Rattle.serde_json_path_core.specs.Clear.{StandsIn}
@@ -115,7 +115,7 @@ module _ (admit : Selector → List (Step × Data) → List (Step × Data)) wher
     visit_stack all above [] = []
     visit_stack all above (p ∷ ps) = visit_stack all (here above p) ps ++ visit_place all (here above p) p
 
--- the nodes that the frames have still to next_admitted
+-- the nodes that remain of the frames
 abbrev pub rest_of : FunctionSet → Data → List Stage → List Frame → List Located
 rest_of F top all ps = visit_stack (admitted F top) [] (λ n. n ∷ []) all [] ps
 

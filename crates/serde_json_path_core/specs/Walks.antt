@@ -26,7 +26,7 @@ document_of w = view w.scope.root.now
 abbrev pub IsClearWalk : {F : Type 0} {g : _} → Walk F g → Type 0
 IsClearWalk w = IsClear (set_of w) (query_of w) (document_of w)
 
--- the nodes that it has still to next_admitted
+-- the nodes that remain
 abbrev pub rest : {F : Type 0} {g : _} → Walk F g → List Located
 rest w = rest_of (set_of w) (document_of w) (stages (segments_of (query_of w))) (frames_view w.frames.items)
 

@@ -28,7 +28,7 @@ within_bound (p ∷ parts) (suc i) part h e =
     let later = within_bound parts i part (omega (arith, h)) e in
     omega arith
 
--- what a selector_ref names is below a greater bound
+-- what a selector refers to is below a greater bound
 pub some_below : (found : Option SelectorRef) (low high : ℕ) → low ≤ high → IfSome found (λ selector_ref. selector_bound selector_ref ≤ low) → IfSome found (λ selector_ref. selector_bound selector_ref ≤ high)
 some_below None low high le h = tt
 some_below (Some selector_ref) low high le h = let below : selector_bound selector_ref ≤ low = h in omega arith

@@ -1,5 +1,5 @@
 -- Tests that always hold, and that never do.
-use Rattle.std.proofs.Common.{◌≡◌, true, false, refl, sym, true≢false}
+use Rattle.std.proofs.Common.{true, false, refl, sym, true≢false}
 use Rattle.std.specs.Bool.{Decides}
 
 -- a test that fails decides what nothing proves

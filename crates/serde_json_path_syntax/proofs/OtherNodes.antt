@@ -1,10 +1,10 @@
 -- What is read of a node of another kind than is asked for.
 use Rattle.std.proofs.Common.{◌≡◌, List, [], refl}
-use Rattle.serde_json_path_syntax.specs.Tree.{query, root, no_segments, child, long_hand, no_selectors, wildcard, no_or, no_and, paren, literal, call, no_arguments, literal_argument, null}
+use Rattle.serde_json_path_syntax.specs.Tree.{child, long_hand, no_selectors, wildcard, call, no_arguments, literal_argument, null}
 use Rattle.serde_json_path_syntax.specs.Piece.{Piece}
 use Rattle.serde_json_path_syntax.specs.declared.node.Node.{Node}
 use Rattle.serde_json_path_syntax.specs.declared.node.Node.TheVariants as node
-use Rattle.serde_json_path_syntax.specs.Flat.{piece_of, query_in, segment_kind_in, segment_in, selector_in, or_in, and_in, basic_in, comparable_in, call_in, argument_in}
+use Rattle.serde_json_path_syntax.specs.Flat.{piece_of, segment_kind_in, segment_in, selector_in, call_in, argument_in}
 
 pub no_segment_kind : (ps : List Piece) (n : Node) → ((k : _) (seg : _) → n ≡ node.Segment k seg → ⊥) → segment_kind_in (piece_of ps n) ≡ child
 no_segment_kind ps (node.Query k parts) h = refl

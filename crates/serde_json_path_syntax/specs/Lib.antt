@@ -1,19 +1,46 @@
+-- ---- what contracts cite, in the terms of RFC 9535
+
+-- syntax trees (RFC 9535, sections 2.1 to 2.5)
 pub mod Tree
+-- well-typed queries (RFC 9535, section 2.4.3)
 pub mod Typing
+-- how many filters, parentheses and calls stand within each other at most
 pub mod Depth
-pub mod WellFormed
-pub mod Used
-pub mod Called
-pub mod CalledNames
-pub mod Piece
-pub mod SliceView
-pub mod Literals
-pub mod Flat
-pub mod PartBounds
-pub mod WithoutCall
-pub mod Parts
-pub mod Noted
-pub mod Stages
-pub mod Lists
+-- the calls that a query makes
 pub mod Calls
+-- the names that a query calls, each with the signature under which the query is well-typed
+pub mod Used
+-- the text in which a query is printed, as the bytes of its UTF-8
 pub mod Text
+-- the range of the numbers in a tree
+pub mod WellFormed
+-- what is in a list, and lists in an order
+pub mod Lists
+-- ---- what contracts see of builders and finished trees
+
+-- the parts that a builder has made and the finished tree, as contracts see them
+pub mod Parts
+-- the trees that one part of a builder may stand for
+pub mod Piece
+-- trees that are handed on with their calls
+pub mod Called
+-- literals and comparison operators as the definitions see them
+pub mod Literals
+-- a slice selector of the program as the definitions see it
+pub mod SliceView
+-- ---- how a vector of nodes stands for a tree
+
+-- the trees of a vector of nodes, each of which names earlier ones
+pub mod Flat
+-- bounds of the numbers of parts
+pub mod PartBounds
+-- the segments of a tree as a walk takes them: each with its kind and the list of its selectors
+pub mod Stages
+-- ---- the names that a query calls
+
+-- the names that a query calls, in the order in which they stand in it, each as often as it is called
+pub mod CalledNames
+-- names that are noted one after the other, each once, with their signatures in a set
+pub mod Noted
+-- nodes that have nothing to do with a call
+pub mod WithoutCall

@@ -23,16 +23,16 @@ use Rattle.serde_json_path_core.specs.Computed as computed
 use Rattle.serde_json_path_syntax.specs.PartBounds.{parts_bound}
 use Rattle.serde_json_path_core.proofs.Answered.{given-all, answered}
 use Rattle.serde_json_path_syntax.proofs.BoundedParts.{within_get, within_bound}
-use Rattle.serde_json_path_core.proofs.Joined.{or-part, and-part, keep-yes, keep-no, first-found}
-use Rattle.serde_json_path_core.proofs.Moves.{ends-trans, passes-start, passes-over, comes-onward, comes-down, done, chooses-none, chooses-some}
+use Rattle.serde_json_path_core.proofs.OperandLists.{or-part, and-part, keep-yes, keep-no, first-found}
+use Rattle.serde_json_path_core.proofs.FrameSteps.{ends-trans, passes-start, passes-over, comes-onward, comes-down, done, chooses-none, chooses-some}
 use Rattle.serde_json_path_core.proofs.Started.{begun-results}
-use Rattle.serde_json_path_core.proofs.Standing.{left_stands, stack-inside, ends-stand, begun-inside}
+use Rattle.serde_json_path_core.proofs.InDocument.{left_stands, stack-inside, ends-stand, begun-inside}
 use Rattle.serde_json_path_core.proofs.SoundParts.{sound-segments, sound-segment, sound-selector, sound-and, sound-basic}
 use Rattle.serde_json_path_syntax.proofs.Bounds.{below_length, past_length}
 use Rattle.serde_json_path_core.proofs.Chains.{IsTurn, turn-dropped, turn-moved}
-use Rattle.serde_json_path_core.proofs.Found.{found-none, found-some}
+use Rattle.serde_json_path_core.proofs.KnownCases.{found-none, found-some}
 use Rattle.serde_json_path_core.proofs.LastFrames.{ends_with, sees_last, sees_last_two}
-use Rattle.serde_json_path_core.proofs.Rests.{rest-ends, stack-dropped, work-ends}
+use Rattle.serde_json_path_core.proofs.LastFrameDone.{rest-ends, stack-dropped, work-ends}
 use Rattle.serde_json_path_core.proofs.StageLists.{drop-some, drop-none, get-within, missing, stages-from, stages-past}
 use Rattle.serde_json_path_core.proofs.+evaluation.Goals as goal
 

@@ -8,7 +8,7 @@ use Rattle.serde_json_path_core.specs.Meaning.{IsResult}
 use Rattle.serde_json_path_syntax.specs.Parts.{tree_of}
 use Rattle.serde_json_path_core.specs.Walks.{document_of, query_of, rest, set_of}
 use Rattle.serde_json_path_functions.specs.declared.error.QueryError.TheVariants.{Memory}
-use Rattle.serde_json_path_core.proofs.Found.{found-none, found-some}
+use Rattle.serde_json_path_core.proofs.KnownCases.{found-none, found-some}
 use Rattle.serde_json_path_core.proofs.WholeQueries.{clear-there}
 use Rattle.serde_json_path_core.proofs.evaluation.evaluate_located.Goals as goal
 

@@ -9,10 +9,10 @@ use Rattle.serde_json_path_core.specs.Rest.{IsStackIn, rest_of, work, stack_path
 use Rattle.serde_json_path_syntax.specs.Stages.{stages, stages_at}
 use Rattle.serde_json_path_core.specs.Frames.{frames_view}
 use Rattle.serde_json_path_core.proofs.SoundParts.{sound-segments}
-use Rattle.serde_json_path_core.proofs.Standing.{root_stands}
+use Rattle.serde_json_path_core.proofs.InDocument.{root_stands}
 use Rattle.serde_json_path_core.proofs.WholeQueries.{whole-sound}
-use Rattle.serde_json_path_core.proofs.Found.{found-none, found-some}
-use Rattle.serde_json_path_core.proofs.Rests.{has-last, rest-ends, stack-dropped, work-ends}
+use Rattle.serde_json_path_core.proofs.KnownCases.{found-none, found-some}
+use Rattle.serde_json_path_core.proofs.LastFrameDone.{has-last, rest-ends, stack-dropped, work-ends}
 use Rattle.serde_json_path_core.proofs.Stacks.{located}
 use Rattle.serde_json_path_core.proofs.evaluation.walks.Walk.next_value.Goals as goal
 

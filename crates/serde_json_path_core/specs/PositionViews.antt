@@ -1,4 +1,4 @@
--- A positions of positions as the definitions see it, and the items on it.
+-- Slice positions as the definitions see them, and the items at those that are left.
 use Rattle.std.specs.Prelude.{List}
 use Rattle.serde_json.specs.Data.{Data}
 use Rattle.serde_json.specs.View.{items_view}

@@ -10,7 +10,7 @@ use Rattle.serde_json_path_core.specs.Frames.{frame_view, frames_view}
 use Rattle.serde_json_path_core.specs.declared.evaluation.frame.Frame.{Frame}
 use Rattle.serde_json_path_core.proofs.Chains.{stack-front}
 use Rattle.serde_json_path_core.proofs.Stacks.{located}
-use Rattle.serde_json_path_core.proofs.Turns.{rest-given, work-given}
+use Rattle.serde_json_path_core.proofs.AfterSteps.{rest-given, work-given}
 
 -- what stands before the last of some elements
 front-seen : {A B : Type 0} (see : A → B) (xs : List A) (front : List B) (last : B) → map see xs ≡ front ++ last ∷ [] → (0 < length xs) × (map see (take (length xs - 1) xs) ≡ front)

@@ -32,7 +32,7 @@ abbrev pub levels : SegmentKind → Data → List Located
 levels child v = itself v ∷ []
 levels descendant v = descents v
 
--- the order of the triples at one frame, where the selectors count from that number
+-- the order of the triples at one node, where the selectors count from that number
 abbrev IsBeforeFrom : ℕ → Selectors → Triple × Data → Triple × Data → Type 0
 IsBeforeFrom number sels t u =
     (t.0.descent ≡ u.0.descent)
@@ -121,7 +121,7 @@ module _ (F : FunctionSet) (top : Data) where
       later t u (inl h) = inl h
       later t u (inr (m, e, f, h)) = inr (suc m, omega arith, omega arith, h)
 
-  -- a segment's triples are at the frame where it is applied
+  -- a segment's triples are at the node where it is applied
   pub picks_place : (seg : Segment) (down : List Step) (v : Data) (t : Triple × Data) → IsIn t (picks seg down v) → t.0.descent ≡ down
   picks_place (dot_name k) down v t h =
       let c = (in_map (triple_at down 0) t (option_to_list (child_by v (by_name k)))).0 h in ap (λ (u : Triple × Data). u.0.descent) c.2

@@ -1,4 +1,4 @@
--- What is left, and how much work, after one turn of a walk.
+-- What remains, and how much work, after one step of a walk.
 use Rattle.std.proofs.Common.{◌≡◌, ℕ, ◌+◌, ◌<◌, List, [], ◌∷◌, ◌++◌, drop, length, flat_map, Some, ap, ◌∙◌, arith, length-append}
 use Rattle.serde_json.specs.Data.{Data}
 use Rattle.serde_json_path_nodes.specs.Location.{Step, Located}
@@ -37,7 +37,7 @@ pub rest-moved : (F : FunctionSet) (top : Data) (all : List Stage) (ps : List Fr
 rest-moved F top all ps p m q stage more number c d t ms mk qs qk qz qv ql =
     moves (admitted F top) [] (λ n. n ∷ []) all ps p m q stage more [] number c d t ms mk qs qk qz qv ql
 
--- a frame less is less work
+-- with a frame less there is less work
 pub work-dropped : (all : List Stage) (ps : List Frame) (p : Frame) (stage : Stage) (more : List Stage) → drop p.segment all ≡ stage ∷ more → work all ps < work all (ps ++ p ∷ [])
 work-dropped all ps p stage more d =
     let of_task : ℕ × (Step × Data) → List ℕ = λ x. visit unfiltered (0 ∷ 0 ∷ []) (λ n. 0 ∷ []) (drop x.0 all) (record { location = here (stack_path [] ps) p ++ x.1.0 ∷ []; value = x.1.1 }) in

@@ -17,7 +17,7 @@ use Rattle.serde_json_path_core.specs.Rest.{rest_of, EndsAt}
 use Rattle.serde_json_path_core.specs.Frames.{frames_view}
 use Rattle.serde_json_path_core.specs.declared.evaluation.frame.Frame.{Frame}
 use Rattle.serde_json_path_syntax.specs.declared.node.Part.{Part}
-use Rattle.serde_json_path_core.proofs.Rests.{rest-ends}
+use Rattle.serde_json_path_core.proofs.LastFrameDone.{rest-ends}
 
 pub or-part : (ps : List Piece) (parts : List Part) (i : ℕ) (d : Part) → i < length parts
     → ors_in (pieces_named ps (drop i parts)) ≡ or (and_in (piece_in ps (get_or parts i d).number)) (ors_in (pieces_named ps (drop (i + 1) parts)))

@@ -9,7 +9,7 @@ use Rattle.serde_json_path_syntax.specs.Tree.{SegmentKind, child, descendant, Se
 use Rattle.serde_json_path_syntax.specs.Stages.{Stage}
 use Rattle.serde_json_path_core.specs.Rest.{Frame, candidates, admitted, unfiltered, opened, tasks, EndsIn}
 use Rattle.serde_json_path_core.specs.Advances.{Chooses, Passes, ComesTo, IsDone}
-use Rattle.serde_json_path_core.proofs.OfValue.{children-of_value, sliced-of_value, child_by-of_value, item_at-of_value}
+use Rattle.serde_json_path_core.proofs.CursorChildren.{children-of_value, sliced-of_value, child_by-of_value, item_at-of_value}
 use Rattle.serde_json_path_nodes.specs.Location.{by_name}
 use Rattle.serde_json_path_core.proofs.Tasks.{onward, gives_child, turns_over, goes_down, is_done}
 
@@ -102,7 +102,7 @@ module _ (Clear : Type 0) (F : FunctionSet) (top : Data) (stage : Stage) where
   pub done : (old mid : Frame) → Passes Clear F top stage old mid → drop mid.selector stage.selectors ≡ [] → (stage.kind ≡ descendant → mid.left ≡ []) → IsDone Clear F top stage old
   done old mid before here none = λ clear. before.1 clear ∙ is_done (admitted F top) mid.segment stage.kind mid.value (drop mid.selector stage.selectors) mid.left here none
 
-  -- what a selector_ref of no child says, and of one
+  -- what a choice of no child says, and of one
   pub chooses-none : {A : Type 0} (see : A → Step × Data) (sel : Selector) (old new : List (Step × Data)) (found : Option A) → found ≡ None → Chooses Clear F top sel old (option_map see found) new
       → Clear → admitted F top sel old ≡ []
   chooses-none see sel old new found e h = subst (λ o. Chooses Clear F top sel old (option_map see o) new) e h
