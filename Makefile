@@ -1,9 +1,19 @@
-# The program, proved and built, as bin/jsonpath.
+# The program, proved and built.
 bin/jsonpath: $(shell find crates -path '*/out' -prune -o -type f -print)
 	cd crates/jsonpath && printf null | rt run -- '$$' > /dev/null
 	mkdir -p bin
 	cp crates/jsonpath/out/jsonpath bin/jsonpath
 
-.PHONY: test
+.PHONY: check test clean
+
+# Proves each crate, lowest first, over what earlier checks kept.
+check:
+	rt all check
+
+# The whole gate: each proof from nothing, each test, and each edit that must be refused.
 test:
 	rt ci
+
+# Removes the program, and what checks kept.
+clean:
+	rm -rf bin crates/*/out

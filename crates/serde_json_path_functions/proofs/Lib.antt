@@ -1,2 +1,5 @@
-pub mod Found
+-- Lemmas; the folders have the proofs of functions.
+-- RegexAgrees: `regex` finds a pattern exactly where its specification does.
+-- SameSignatures: the test of two signatures decides whether they are equal.
+pub mod RegexAgrees
 pub mod SameSignatures

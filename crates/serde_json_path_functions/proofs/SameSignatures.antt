@@ -1,4 +1,4 @@
--- The test of two signatures tells whether they are one, and so does that of each signature that a query keeps.
+-- The test of two signatures decides whether they are equal.
 use Rattle.std.proofs.Common.{◌≡◌, List, [], ◌∷◌, map, Bool, ◌&&◌, true≢false, refl, sym, ap}
 use Rattle.std.specs.Bool.{Decides}
 use Rattle.std.specs.Cmp.Lexicographic.{pointwise}
@@ -31,7 +31,7 @@ all_decided [] (l ∷ ls) = (λ e. absurd (true≢false (sym e)), λ e. absurd c
 all_decided (k ∷ ks) [] = (λ e. absurd (true≢false (sym e)), λ e. absurd cc)
 all_decided (k ∷ ks) (l ∷ ls) = same_list (kind_view k) (kind_view l) (map kind_view ks) (map kind_view ls) (eq-value.it k l) (pointwise eq-value.it ks ls) (kinds_decided k l) (all_decided ks ls)
 
--- two signatures are one where their parameters and their results are
+-- two signatures are equal where their parameters and their results are
 pub signature_decided : (s t : Signature) (p q : Bool) → Decides p (s.params ≡ t.params) → Decides q (s.result ≡ t.result) → Decides (p && q) (s ≡ t)
 signature_decided s t p q d e =
     let both = Decides-and p q d e in

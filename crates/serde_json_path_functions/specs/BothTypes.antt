@@ -1,4 +1,4 @@
--- Two sets, one before the other, keep their types where both do.
+-- One set before another keeps its types where both do.
 use Rattle.std.specs.Prelude.{◌≡◌, ◌≤◌, List, length, map, Option, None, Some}
 use Rattle.serde_json_path_functions.specs.Functions.{Signature, Term, FunctionSet, kind_of_term, KeepsTypes, first_signature, of_first, both}
 

@@ -65,9 +65,9 @@ pattern_keeps true e plain = declared_keeps _ (pattern_meaning whole_text) (omeg
 pattern_keeps false true plain = declared_keeps _ (pattern_meaning any_part) (omega arith) (pattern_typed any_part)
 pattern_keeps false false plain = λ s e. absurd cc
 
--- a plain name goes without `regex`
-goes_without : (name : List ℕ) → IsSome (plain_signature name) → builtin_by_regex name ≡ None
-goes_without name plain =
+-- a plain name does not use `regex`
+plain_without_regex : (name : List ℕ) → IsSome (plain_signature name) → builtin_by_regex name ≡ None
+plain_without_regex name plain =
     elim (cases_Bool (bytes_eq name (codes "match"))) [
       | inl is_match ↦ absurd (true≢false (sym (subst (λ n. IsSome (plain_signature n)) ((bytes_eq-Decides name (codes "match")).0 is_match) plain)))
       | inr no_match ↦ elim (cases_Bool (bytes_eq name (codes "search"))) [
@@ -87,4 +87,4 @@ builtin_keeps_types name =
     either_keeps (plain_signature name) (pattern_signature name) (builtin_by_regex name) (plain_meaning name)
     (plain_keeps (bytes_eq name (codes "length")) (bytes_eq name (codes "count")) (bytes_eq name (codes "value")))
     (pattern_keeps (bytes_eq name (codes "match")) (bytes_eq name (codes "search")) (plain_meaning name))
-    (goes_without name)
+    (plain_without_regex name)

@@ -20,13 +20,13 @@ pub data Term : Type 0 where
   nodes : List Data → Term
   logical : Bool → Term
 
--- what a pattern has to match: the whole text, as for `match`, or some part of it, as for `search`
+-- what a pattern has to match: the whole text, for `match`, or some part of it, for `search`
 pub data Matching : Type 0 where
   whole_text : Matching
   any_part : Matching
 
 -- A function set: the signature of each name that it declares, the meaning of a name at its arguments, and which names
--- mean the built-in `match` or `search`. Names are the bytes of their characters.
+-- stand for the built-in `match` or `search`. Names are the bytes of their characters.
 pub record FunctionSet : Type 0 where
   pub signature : List ℕ → Option Signature
   pub meaning : List ℕ → List Term → Term
@@ -37,7 +37,7 @@ abbrev pub Fits : FunctionSet → List (List ℕ × Signature) → Type 0
 Fits F [] = Unit {0}
 Fits F (used ∷ more) = (F.signature used.0 ≡ Some used.1) × Fits F more
 
--- ---- what a set keeps
+-- ---- what a set promises
 
 abbrev pub kind_of_term : Term → Kind
 kind_of_term (value v) = of_value
@@ -66,7 +66,7 @@ abbrev pub first_signature : Option Signature → Option Signature → Option Si
 first_signature None other = other
 first_signature (Some s) other = Some s
 
--- what the set whose name counts has of it
+-- what the first set has where it declares the name, else what the second has
 abbrev pub of_first : {A : Type 0} → Option Signature → A → A → A
 of_first None first second = second
 of_first (Some s) first second = first
@@ -102,20 +102,20 @@ builtin_signature name = first_signature (plain_signature name) (pattern_signatu
 abbrev pub counted : ℕ → Option Data
 counted n = Some (number (unsigned n))
 
--- `length` of a value: the characters of a text, the items of an array, the members of an object, and else Nothing
--- (section 2.4.4)
+-- `length` of a value: how many characters a text has, items an array, or members an object; else Nothing (section
+-- 2.4.4)
 abbrev pub length_of : Option Data → Option Data
 length_of (Some (string text)) = counted (length (chars text))
 length_of (Some (array items)) = counted (items_len items)
 length_of (Some (object members)) = counted (members_len members)
 length_of _ = None
 
--- `value` of a node list: the value of its one node, and else Nothing (section 2.4.8)
+-- `value` of a node list: the value of its only node, else Nothing (section 2.4.8)
 abbrev pub value_of_one : List Data → Option Data
 value_of_one (d ∷ []) = Some d
 value_of_one _ = None
 
--- the built-in names that go by `regex` (sections 2.4.6 and 2.4.7)
+-- the built-in names that use `regex` (sections 2.4.6 and 2.4.7)
 abbrev pub builtin_by_regex : List ℕ → Option Matching
 builtin_by_regex name =
     if bytes_eq name (codes "match") then Some whole_text

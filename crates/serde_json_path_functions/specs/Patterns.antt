@@ -5,7 +5,7 @@ use Rattle.regex.specs.Patterns.{default_config, find_str}
 use Rattle.serde_json.specs.Data.{string}
 use Rattle.serde_json_path_functions.specs.Functions.{Term, value, logical, Matching, whole_text, any_part, FunctionSet, builtin_signature, builtin_by_regex, plain_meaning, both}
 
--- the text that is built of an argument
+-- the text that is built of a pattern
 abbrev pub built_text : Matching → List ℕ → List ℕ
 built_text whole_text pattern = codes "(?R)^(" ++ (pattern ++ codes ")$")
 built_text any_part pattern = codes "(?R)(" ++ (pattern ++ codes ")")
@@ -23,12 +23,12 @@ IsPromised _ _ = Unit {0}
 abbrev pub is_found : List ℕ → List ℕ → Bool
 is_found pattern text = is_some (option_and_then (λ (re, names). find_str re.value text 0) (read default_config (chars pattern)))
 
--- `match` and `search` of a text and a pattern, which are texts both, or else false (sections 2.4.6 and 2.4.7)
+-- `match` and `search` of a text and a pattern; false unless both are texts (sections 2.4.6 and 2.4.7)
 abbrev pub pattern_meaning : Matching → List Term → Term
 pattern_meaning matching (value (Some (string text)) ∷ value (Some (string pattern)) ∷ []) = logical (is_found (built_text matching pattern) text)
 pattern_meaning _ _ = logical false
 
--- what a name means that goes by `regex`, or goes without
+-- the meaning of a name that uses `regex`, or of a plain one
 abbrev pub meaning_by : Option Matching → Term → List Term → Term
 meaning_by None plain ts = plain
 meaning_by (Some matching) plain ts = pattern_meaning matching ts

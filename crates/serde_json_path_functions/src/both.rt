@@ -1,4 +1,4 @@
-//! Two sets of functions, one before the other.
+//! One function set before another.
 
 use crate::error::QueryError;
 use crate::set::Functions;
@@ -8,7 +8,7 @@ use std::alloc::Global;
 
 /// The functions of the first set, and then those of the second whose names the first does not declare.
 ///
-/// A `Both<&F, Builtin>` puts functions of one's own before the built-in ones, in place of those of the same name:
+/// A `Both<&F, Builtin>` puts your own functions before the built-in ones, and replaces those of the same name:
 ///
 /// ```text
 /// let functions = Both(&own, Builtin);

@@ -33,7 +33,7 @@ fn characters(text: &str) -> usize
     text.chars().count()
 }
 
-/// The characters of a text, the items of an array, the members of an object, and else Nothing.
+/// How many characters a text has, items an array, or members an object; Nothing for any other value.
 fn length<'b>(value: &ValueType<'b>) -> ValueType<'b>
     ensures { value_view result ≡ length_of (value_view value.now) }
 {
@@ -45,7 +45,7 @@ fn length<'b>(value: &ValueType<'b>) -> ValueType<'b>
     }
 }
 
-/// The value of the one node of a list, and else Nothing.
+/// The value of a list's only node, or Nothing.
 fn value_of_one<'b>(nodes: &NodesType<'b>) -> ValueType<'b>
     ensures { value_view result ≡ spec.value_of_one (nodes_view nodes.now) }
 {
@@ -55,7 +55,7 @@ fn value_of_one<'b>(nodes: &NodesType<'b>) -> ValueType<'b>
     }
 }
 
-/// What `length`, `count` or `value` gives.
+/// The answer of `length`, `count` or `value`.
 fn plain_answer<'b>(name: &str, mut args: Vec<FunctionValue<'b>>) -> ValueType<'b>
     requires { Takes (plain_signature name.now) (map term_view args.items) }
     ensures { value (value_view result) ≡ plain_meaning name.now (map term_view args.entry.items) }
@@ -86,7 +86,7 @@ fn texts_match(
     }
 }
 
-/// What `match` or `search` gives; false unless there are two arguments.
+/// The answer of `match` or `search`; false unless there are two arguments.
 fn pattern_answer<'b>(
     alloc: Global,
     matching: Matching,

@@ -7,12 +7,12 @@ ghost use Rattle.serde_json_path_functions.specs.declared.error.QueryError.TheVa
 use std::alloc::{AllocError, AllocFailed};
 use std::fmt;
 
-/// Why a query gives no list. Path and document are as they were.
+/// Why a query fails. Path and document are unchanged.
 #[derive(Clone, Copy, Debug, PartialEq, Eq)]
 pub enum QueryError {
     /// Memory was refused.
     Memory,
-    /// A pattern of `match` or `search` was refused, and not as an error of syntax.
+    /// `regex` refused a pattern of `match` or `search` for another reason than its syntax.
     Pattern,
 }
 

@@ -18,7 +18,7 @@ pub(crate) enum Matching {
     AnyPart,
 }
 
-/// The text that `regex` is given for a pattern, under the flag by which a dot matches neither end of a line.
+/// The pattern that `regex` is given. Under its flag `R` a dot matches neither a line feed nor a carriage return.
 fn built_text(alloc: Global, matching: Matching, pattern: &str) -> Result<String, AllocError>
     ensures { IfOk result (λ text. string_bytes text ≡ spec.built_text (matching_view matching) pattern.now) }
 {

@@ -1,4 +1,4 @@
-//! Sets of functions.
+//! The trait of function sets.
 
 ghost use Rattle.std.specs.Prelude.{◌≡◌, IfOk, IsSome, Err, map, option_map};
 ghost use Rattle.serde_json_path_functions.specs.Functions.{FunctionSet, Takes, Gives, KeepsTypes};
@@ -13,9 +13,10 @@ use std::alloc::Global;
 
 /// A set of functions, which filters call by name (RFC 9535, section 2.4).
 ///
-/// What the set declares and what its names mean is stated once, and does not change. A call's Ok is the stated meaning
-/// of the name at the arguments. For a name that stands for the built-in `match` or `search` this is promised only where
-/// the text that is built of the pattern is not nested deeper than `regex` takes.
+/// An implementation states once what it declares and what its names mean (`set`), and that does not change. When a call
+/// succeeds, its answer is the stated meaning of the name at the arguments. For a name that stands for the built-in
+/// `match` or `search` this is promised only where the text that is built of the pattern is not nested deeper than
+/// `regex` takes.
 pub trait Functions {
     /// The set that contracts see.
     ghost set: { Self → FunctionSet };
@@ -29,7 +30,7 @@ pub trait Functions {
 
     /// The answer of a declared name to arguments of the declared types.
     ///
-    /// `Pattern` may be answered by a name that stands for the built-in `match` or `search` alone, `Memory` by each.
+    /// Only a name that stands for the built-in `match` or `search` may answer `Pattern`; any name may answer `Memory`.
     fn call<'b>(
         &self,
         alloc: Global,

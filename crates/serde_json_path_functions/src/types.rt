@@ -104,7 +104,7 @@ impl<'b> NodesType<'b> {
         self.nodes
     }
 
-    /// The first node, or `None` in an empty list.
+    /// The first node, or `None` if the list is empty.
     pub fn first(&self) -> Option<&'b Value>
         ensures { option_map node_value result ≡ slice_get (nodes_view self.now) 0 }
     {

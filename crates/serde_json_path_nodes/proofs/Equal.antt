@@ -21,7 +21,7 @@ elements-same_steps [] (b ∷ bs) = refl
 elements-same_steps (a ∷ as_) [] = refl
 elements-same_steps (a ∷ as_) (b ∷ bs) = rw (eq-value-same_step a b, elements-same_steps as_ bs)
 
--- lists that are alike answer alike at each place
+-- lists that are alike are alike at each index
 alike-slice_get : (a b : List PathElement) (n : ℕ) → pointwise eq-value.it a b ≡ true → option_eq eq-value.it (slice_get a n) (slice_get b n) ≡ true
 alike-slice_get [] [] n alike = refl
 alike-slice_get [] (y ∷ ys) n alike = absurd (cc)

@@ -15,7 +15,7 @@ hexadecimal-digit_char : (d : ℕ) → d < 16 → hexadecimal (digit_char d) ≡
 unfolding hexadecimal
 hexadecimal-digit_char d small = grind (arith, nat_tests)
 
--- the character behind a backslash
+-- the character that a letter after a backslash stands for
 plain_escape : ℕ → ℕ
 plain_escape letter =
     if letter == 39 then 39

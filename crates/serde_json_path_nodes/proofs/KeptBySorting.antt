@@ -1,5 +1,5 @@
--- Elements that note their places, sorted by an order and then by place, without those that repeat their neighbour, and
--- sorted back by place: these are the elements that no earlier one ties with, in their order.
+-- Numbered elements are sorted by an order and then by number, those that tie with their neighbour are removed, and the
+-- others are sorted back by number: what is left are the elements that no earlier one ties with, in their order.
 use Rattle.std.proofs.Common.{◌≡◌, ℕ, zero, suc, ◌+◌, ◌<◌, ◌≤◌, Bool, true, false, cond, not, ◌&&◌, ◌||◌, ltb, nat_eq, true≢false, List, [], ◌∷◌, length, get_or, refl, ap, sym, ◌∙◌, arith, inl, inr}
 use Rattle.std.specs.Cmp.{IsTotalOrder, unsigned_ties}
 use Rattle.std.specs.List.{All, AllByRecursion, AllPairs, IsDistinct, dedup, dedup_from, filter, list_any, sum_by}
@@ -77,123 +77,123 @@ module _ {X : Type 0} where
       λ b. elim b as (λ c. sum_by f (cond c (x ∷ filter p xs) (filter p xs)) ≡ cond c (f x) 0 + sum_by f (filter p xs)) [ true ↦ sum_by-cons f x (filter p xs) | false ↦ omega arith ] in
       more (p x) ∙ ap (λ n. cond (p x) (f x) 0 + n) (sum_by-filter f p xs) ∙ sym (sum_by-cons (λ y. cond (p y) (f y) 0) x xs)
 
--- ---- a list that is sorted by place is known from its elements
+-- ---- a list that is sorted by number is determined by its elements
 
-module _ {X : Type 0} (place : X → ℕ) where
-  -- no element stands below the first
-  below_none : (bound : ℕ) (y : X) (ys : List X) → IsNonDecreasingBy place (y ∷ ys) → bound ≤ place y
-      → sum_by (λ z. cond (ltb (place z) bound) 1 0) (y ∷ ys) ≡ 0
+module _ {X : Type 0} (number : X → ℕ) where
+  -- no element is below the first
+  below_none : (bound : ℕ) (y : X) (ys : List X) → IsNonDecreasingBy number (y ∷ ys) → bound ≤ number y
+      → sum_by (λ z. cond (ltb (number z) bound) 1 0) (y ∷ ys) ≡ 0
   below_none bound y ys rise low =
-      let none : All (λ z. cond (ltb (place z) bound) 1 0 ≤ 0) (y ∷ ys) = λ k d within.
-      let above : bound ≤ place (get_or (y ∷ ys) k d) = omega (arith, rise 0 k d (omega arith) within) in
-      rw (le-ltb (place (get_or (y ∷ ys) k d)) bound above) (omega arith) in
-      omega (arith, sum_by-le (λ z. cond (ltb (place z) bound) 1 0) 0 (y ∷ ys) none)
+      let none : All (λ z. cond (ltb (number z) bound) 1 0 ≤ 0) (y ∷ ys) = λ k d within.
+      let above : bound ≤ number (get_or (y ∷ ys) k d) = omega (arith, rise 0 k d (omega arith) within) in
+      rw (le-ltb (number (get_or (y ∷ ys) k d)) bound above) (omega arith) in
+      omega (arith, sum_by-le (λ z. cond (ltb (number z) bound) 1 0) 0 (y ∷ ys) none)
 
   -- so of two such lists with the same sums neither begins below the other
-  head_le : (x y : X) (xs ys : List X) → IsNonDecreasingBy place (y ∷ ys) → ((f : X → ℕ) → sum_by f (x ∷ xs) ≡ sum_by f (y ∷ ys))
-      → place y ≤ place x
+  head_le : (x y : X) (xs ys : List X) → IsNonDecreasingBy number (y ∷ ys) → ((f : X → ℕ) → sum_by f (x ∷ xs) ≡ sum_by f (y ∷ ys))
+      → number y ≤ number x
   head_le x y xs ys rise sums =
-      elim (cases_lt (place x) (place y)) [
+      elim (cases_lt (number x) (number y)) [
         | inl below ↦
-            let f : X → ℕ = λ z. cond (ltb (place z) (place y)) 1 0 in
-            let one : f x ≡ 1 = ap (λ b. cond b 1 0) (lt-ltb (place x) (place y) below) in
+            let f : X → ℕ = λ z. cond (ltb (number z) (number y)) 1 0 in
+            let one : f x ≡ 1 = ap (λ b. cond b 1 0) (lt-ltb (number x) (number y) below) in
             let start : sum_by f (x ∷ xs) ≡ f x + sum_by f xs = sum_by-cons f x xs in
-            let end : sum_by f (y ∷ ys) ≡ 0 = below_none (place y) y ys rise (omega arith) in
+            let end : sum_by f (y ∷ ys) ≡ 0 = below_none (number y) y ys rise (omega arith) in
             let both : sum_by f (x ∷ xs) ≡ sum_by f (y ∷ ys) = sums f in
             absurd (omega arith)
         | inr above ↦ above
       ]
 
-  tail_rises : (x : X) (xs : List X) → IsNonDecreasingBy place (x ∷ xs) → IsNonDecreasingBy place xs
+  tail_rises : (x : X) (xs : List X) → IsNonDecreasingBy number (x ∷ xs) → IsNonDecreasingBy number xs
   tail_rises x xs rise i j d le within = rise (suc i) (suc j) d (omega arith) (omega arith)
 
-  -- lists with the same sums are the same, where the place tells the element
-  pub sorted_same : (P : X → Type 0) (tells : (x y : X) → P x → P y → place x ≡ place y → x ≡ y) (xs ys : List X)
-      → IsNonDecreasingBy place xs → IsNonDecreasingBy place ys → All P xs → All P ys
+  -- lists with the same sums are the same, where the number tells the element
+  pub sorted_same : (P : X → Type 0) (tells : (x y : X) → P x → P y → number x ≡ number y → x ≡ y) (xs ys : List X)
+      → IsNonDecreasingBy number xs → IsNonDecreasingBy number ys → All P xs → All P ys
       → ((f : X → ℕ) → sum_by f xs ≡ sum_by f ys) → xs ≡ ys
   sorted_same P tells [] [] rise rise_again all all_again sums = refl
   sorted_same P tells [] (y ∷ ys) rise rise_again all all_again sums = absurd (omega (arith, sums (λ _. 1), sum_by-cons (λ _. 1) y ys))
   sorted_same P tells (x ∷ xs) [] rise rise_again all all_again sums = absurd (omega (arith, sums (λ _. 1), sum_by-cons (λ _. 1) x xs))
   sorted_same P tells (x ∷ xs) (y ∷ ys) rise rise_again all all_again sums =
-      let level : place x ≡ place y = omega (arith, head_le x y xs ys rise_again sums, head_le y x ys xs rise (λ f. sym (sums f))) in
+      let level : number x ≡ number y = omega (arith, head_le x y xs ys rise_again sums, head_le y x ys xs rise (λ f. sym (sums f))) in
       let head : x ≡ y = tells x y (all 0 x (omega arith)) (all_again 0 y (omega arith)) level in
       let tails : (f : X → ℕ) → sum_by f xs ≡ sum_by f ys = λ f. omega (arith, sums f, sum_by-cons f x xs, sum_by-cons f y ys, ap f head) in
       let tail = sorted_same P tells xs ys (tail_rises x xs rise) (tail_rises y ys rise_again) (All-tail P x xs all) (All-tail P y ys all_again) tails in
       cc
 
--- ---- an order and a place
+-- ---- an order and a number
 
-module _ {X : Type 0} (order : X → X → Ordering) (place : X → ℕ) where
-  -- y ties with x and notes an earlier place
+module _ {X : Type 0} (order : X → X → Ordering) (number : X → ℕ) where
+  -- y ties with x and has a lower number
   abbrev pub repeats : X → X → Bool
-  repeats x y = is_eq (order x y) && ltb (place y) (place x)
+  repeats x y = is_eq (order x y) && ltb (number y) (number x)
 
-  -- no element ties with x and notes an earlier place
+  -- no element ties with x and has a lower number
   abbrev pub is_first_among : List X → X → Bool
   is_first_among all x = not (list_any (repeats x) all)
 
-  abbrev pub order_then_place : X → X → Ordering
-  order_then_place = then_cmp order (on place nat_cmp)
+  abbrev pub order_then_number : X → X → Ordering
+  order_then_number = then_cmp order (on number nat_cmp)
 
-  later : (x y : X) → order_then_place x y ≡ Less → is_eq (order x y) ≡ true → place x < place y
-  later x y less tie = ranked (place x) (place y) Less (sym (next_less (order x y) (nat_cmp (place x) (place y)) less tie))
+  later : (x y : X) → order_then_number x y ≡ Less → is_eq (order x y) ≡ true → number x < number y
+  later x y less tie = ranked (number x) (number y) Less (sym (next_less (order x y) (nat_cmp (number x) (number y)) less tie))
 
-  repeats_none : (x y : X) → order_then_place x y ≡ Less → repeats x y ≡ false
+  repeats_none : (x y : X) → order_then_number x y ≡ Less → repeats x y ≡ false
   repeats_none x y less =
-      let known : (b : Bool) → is_eq (order x y) ≡ b → (b && ltb (place y) (place x)) ≡ false =
-      λ b. elim b as (λ c. is_eq (order x y) ≡ c → (c && ltb (place y) (place x)) ≡ false) [
-        | true ↦ λ tie. let below : place x < place y = later x y less tie in le-ltb (place y) (place x) (omega arith)
+      let known : (b : Bool) → is_eq (order x y) ≡ b → (b && ltb (number y) (number x)) ≡ false =
+      λ b. elim b as (λ c. is_eq (order x y) ≡ c → (c && ltb (number y) (number x)) ≡ false) [
+        | true ↦ λ tie. let below : number x < number y = later x y less tie in le-ltb (number y) (number x) (omega arith)
         | false ↦ λ no_tie. refl
       ] in
       known (is_eq (order x y)) refl
 
-  -- nothing repeats an element that stands later
-  repeats_no_later : (x : X) (xs : List X) → AllByRecursion (λ y. order_then_place x y ≡ Less) xs → list_any (repeats x) xs ≡ false
+  -- nothing repeats an element that comes later
+  repeats_no_later : (x : X) (xs : List X) → AllByRecursion (λ y. order_then_number x y ≡ Less) xs → list_any (repeats x) xs ≡ false
   repeats_no_later x [] above = refl
   repeats_no_later x (y ∷ ys) above = or_from (repeats x y) (list_any (repeats x) ys) (repeats_none x y above.0) (repeats_no_later x ys above.1)
 
-  first_is_first : (x : X) (xs : List X) → AllByRecursion (λ y. order_then_place x y ≡ Less) xs → is_first_among (x ∷ xs) x ≡ true
+  first_is_first : (x : X) (xs : List X) → AllByRecursion (λ y. order_then_number x y ≡ Less) xs → is_first_among (x ∷ xs) x ≡ true
   first_is_first x xs above =
       ap not (or_from (repeats x x) (list_any (repeats x) xs)
-      (and_right (is_eq (order x x)) (ltb (place x) (place x)) (le-ltb (place x) (place x) (omega arith)))
+      (and_right (is_eq (order x x)) (ltb (number x) (number x)) (le-ltb (number x) (number x) (omega arith)))
       (repeats_no_later x xs above))
 
-  strict_from_pairs : (xs : List X) → AllPairs (λ x y. order_then_place x y ≡ Less) xs → IsStrictlySortedBy order_then_place xs
+  strict_from_pairs : (xs : List X) → AllPairs (λ x y. order_then_number x y ≡ Less) xs → IsStrictlySortedBy order_then_number xs
   unfolding IsStrictlySortedBy
   strict_from_pairs [] pairs = tt
   strict_from_pairs (x ∷ xs) pairs = (
-    recursion_from_All (λ y. order_then_place x y ≡ Less) xs (λ k d within. pairs zero (suc k) d (omega arith) (omega arith)),
+    recursion_from_All (λ y. order_then_number x y ≡ Less) xs (λ k d within. pairs zero (suc k) d (omega arith) (omega arith)),
     strict_from_pairs xs (λ i j d below within. pairs (suc i) (suc j) d (omega arith) (omega arith)),
   )
 
   module _ (total : IsTotalOrder order) where
     -- what repeats an element that repeats an earlier one repeats the earlier one
-    repeats_through : (x y z : X) → order_then_place x y ≡ Less → is_eq (order y x) ≡ true → repeats z y ≡ true → repeats z x ≡ true
+    repeats_through : (x y z : X) → order_then_number x y ≡ Less → is_eq (order y x) ≡ true → repeats z y ≡ true → repeats z x ≡ true
     repeats_through x y z less tie repeat =
-        let parts = and_parts (is_eq (order z y)) (ltb (place y) (place z)) repeat in
+        let parts = and_parts (is_eq (order z y)) (ltb (number y) (number z)) repeat in
         let level : order y x ≡ Equal = equal_from (order y x) tie in
-        let below : place x < place y = later x y less (ap is_eq (tied_back total y x level)) in
-        let above : place y < place z = ltb-true (place y) (place z) parts.1 in
-        and_from (is_eq (order z x)) (ltb (place x) (place z)) (ap is_eq (sym (alike_right total y x z level)) ∙ parts.0) (lt-ltb (place x) (place z) (omega arith))
+        let below : number x < number y = later x y less (ap is_eq (tied_back total y x level)) in
+        let above : number y < number z = ltb-true (number y) (number z) parts.1 in
+        and_from (is_eq (order z x)) (ltb (number x) (number z)) (ap is_eq (sym (alike_right total y x z level)) ∙ parts.0) (lt-ltb (number x) (number z) (omega arith))
 
-    -- elements between which another one stands that does not tie with the first
-    apart : (x y z : X) → order_then_place x y ≡ Less → is_eq (order y x) ≡ false → order_then_place y z ≡ Less → is_eq (order z x) ≡ false
+    -- two elements with another between them that does not tie with the first
+    apart : (x y z : X) → order_then_number x y ≡ Less → is_eq (order y x) ≡ false → order_then_number y z ≡ Less → is_eq (order z x) ≡ false
     apart x y z less no_tie less_again = false_from_ne_true (is_eq (order z x)) (λ tie.
         let same : order y z ≡ order y x = alike_right total z x y (equal_from (order z x) tie) in
-        no_cycle (order x y) (order y x) (total.antisymm x y) (not_greater (order x y) (nat_cmp (place x) (place y)) less)
-        (ap is_gt (sym same) ∙ not_greater (order y z) (nat_cmp (place y) (place z)) less_again) no_tie)
+        no_cycle (order x y) (order y x) (total.antisymm x y) (not_greater (order x y) (nat_cmp (number x) (number y)) less)
+        (ap is_gt (sym same) ∙ not_greater (order y z) (nat_cmp (number y) (number z)) less_again) no_tie)
 
-    -- so no element behind one that does not tie with the first repeats the first
-    repeats_none_before : (x y : X) (all zs : List X) → order_then_place x y ≡ Less → is_eq (order y x) ≡ false
-        → AllByRecursion (λ z. order_then_place y z ≡ Less) zs → AllByRecursion (λ z. is_first_among (x ∷ all) z ≡ is_first_among all z) zs
+    -- so no element after one that does not tie with the first repeats the first
+    repeats_none_before : (x y : X) (all zs : List X) → order_then_number x y ≡ Less → is_eq (order y x) ≡ false
+        → AllByRecursion (λ z. order_then_number y z ≡ Less) zs → AllByRecursion (λ z. is_first_among (x ∷ all) z ≡ is_first_among all z) zs
     repeats_none_before x y all [] less no_tie above = tt
     repeats_none_before x y all (z ∷ zs) less no_tie above = (
-      ap (λ b. not ((b && ltb (place x) (place z)) || list_any (repeats z) all)) (apart x y z less no_tie above.0),
+      ap (λ b. not ((b && ltb (number x) (number z)) || list_any (repeats z) all)) (apart x y z less no_tie above.0),
       repeats_none_before x y all zs less no_tie above.1,
     )
 
     -- in a list that rises strictly, those that differ from their neighbour are those that repeat nothing
-    dedup_from_is : (x : X) (xs : List X) → IsStrictlySortedBy order_then_place (x ∷ xs)
+    dedup_from_is : (x : X) (xs : List X) → IsStrictlySortedBy order_then_number (x ∷ xs)
         → dedup_from (eq_by_cmp order) x xs ≡ filter (is_first_among (x ∷ xs)) (x ∷ xs)
     unfolding IsStrictlySortedBy
     dedup_from_is x [] rise = sym (ap (λ b. cond b (x ∷ []) []) (first_is_first x [] tt))
@@ -204,75 +204,75 @@ module _ {X : Type 0} (order : X → X → Ordering) (place : X → ℕ) where
         λ b. elim b as (λ c. is_eq (order y x) ≡ c
         → cond c (dedup_from (eq_by_cmp order) x ys) (x ∷ dedup_from (eq_by_cmp order) y ys) ≡ filter (is_first_among all) all) [
           | true ↦ λ tie.
-              let below : place x < place y = later x y rise.0.0 (ap is_eq (tied_back total y x (equal_from (order y x) tie))) in
-              let repeat : repeats y x ≡ true = and_from (is_eq (order y x)) (ltb (place x) (place y)) tie (lt-ltb (place x) (place y) below) in
+              let below : number x < number y = later x y rise.0.0 (ap is_eq (tied_back total y x (equal_from (order y x) tie))) in
+              let repeat : repeats y x ≡ true = and_from (is_eq (order y x)) (ltb (number x) (number y)) tie (lt-ltb (number x) (number y) below) in
               dedup_from_is x ys (rise.0.1, rise.1.1)
               ∙ filter_agree (is_first_among (x ∷ ys)) (is_first_among all)
               (λ z. ap not (sym (absorbed (repeats z x) (repeats z y) (list_any (repeats z) ys) (repeats_through x y z rise.0.0 tie)))) (x ∷ ys)
               ∙ sym (filter-second (is_first_among all) x y ys (ap not (or_left (repeats y x) (list_any (repeats y) (y ∷ ys)) repeat)))
           | false ↦ λ no_tie.
               let agree : AllByRecursion (λ z. is_first_among all z ≡ is_first_among (y ∷ ys) z) (y ∷ ys) =
-              (ap (λ c. not ((c && ltb (place x) (place y)) || list_any (repeats y) (y ∷ ys))) no_tie, repeats_none_before x y (y ∷ ys) ys rise.0.0 no_tie rise.1.0) in
+              (ap (λ c. not ((c && ltb (number x) (number y)) || list_any (repeats y) (y ∷ ys))) no_tie, repeats_none_before x y (y ∷ ys) ys rise.0.0 no_tie rise.1.0) in
               ap (λ (l : List X). x ∷ l) (dedup_from_is y ys rise.1 ∙ sym (filter_agree_all (is_first_among all) (is_first_among (y ∷ ys)) (y ∷ ys) agree))
               ∙ sym (ap (λ c. cond c (x ∷ filter (is_first_among all) (y ∷ ys)) (filter (is_first_among all) (y ∷ ys))) (first_is_first x (y ∷ ys) rise.0))
         ] in
         known (is_eq (order y x)) refl
 
-    dedup-strict : (xs : List X) → IsStrictlySortedBy order_then_place xs → dedup (eq_by_cmp order) xs ≡ filter (is_first_among xs) xs
+    dedup-strict : (xs : List X) → IsStrictlySortedBy order_then_number xs → dedup (eq_by_cmp order) xs ≡ filter (is_first_among xs) xs
     dedup-strict [] rise = refl
     dedup-strict (x ∷ xs) rise = dedup_from_is x xs rise
 
-    pub order_then_place-total : IsTotalOrder order_then_place
-    order_then_place-total = then_total total (on_total place nat_cmp_total)
+    pub order_then_number-total : IsTotalOrder order_then_number
+    order_then_number-total = then_total total (on_total number nat_cmp_total)
 
-    -- where places differ, a sorted list rises strictly
-    strict_from_sorted : (xs : List X) → IsSortedBy (λ x y. is_lt (order_then_place x y)) xs → IsDistinct (on place nat_eq) xs
-        → IsStrictlySortedBy order_then_place xs
+    -- where numbers differ, a sorted list rises strictly
+    strict_from_sorted : (xs : List X) → IsSortedBy (λ x y. is_lt (order_then_number x y)) xs → IsDistinct (on number nat_eq) xs
+        → IsStrictlySortedBy order_then_number xs
     strict_from_sorted xs up distinct = strict_from_pairs xs (λ i j d below within.
         let x = get_or xs i d in
         let y = get_or xs j d in
-        less_from (order_then_place x y) (order_then_place y x) (order_then_place-total.antisymm x y)
-        (sorted_far (λ a b. is_lt (order_then_place a b)) (ranks_by order_then_place-total (λ a. a)) xs up i j d (omega arith) within)
-        (no_tie_by_next (order y x) (place y) (place x) (nat_eq_equiv.symm (place y) (place x) ∙ apart_from_distinct (on place nat_eq) xs i j d distinct below within)))
+        less_from (order_then_number x y) (order_then_number y x) (order_then_number-total.antisymm x y)
+        (sorted_far (λ a b. is_lt (order_then_number a b)) (ranks_by order_then_number-total (λ a. a)) xs up i j d (omega arith) within)
+        (no_tie_by_next (order y x) (number y) (number x) (nat_eq_equiv.symm (number y) (number x) ∙ apart_from_distinct (on number nat_eq) xs i j d distinct below within)))
 
-    -- what notes its places is sorted, freed of repeats and sorted back
-    module _ (noted sorted back : List X) (places : (k : ℕ) (d : X) → k < length noted → place (get_or noted k d) ≡ k)
-        (moved : IsPermutation noted sorted) (up : IsSortedBy (λ x y. is_lt (order_then_place x y)) sorted)
-        (moved_back : IsPermutation (dedup (eq_by_cmp order) sorted) back) (rises : IsNonDecreasingBy place back) where
-      -- the place of an element tells it
-      abbrev StandsAtPlace : X → Type 0
-      StandsAtPlace x = (d : X) → get_or noted (place x) d ≡ x
+    -- numbered elements are sorted, freed of repeats and sorted back
+    module _ (numbered sorted back : List X) (numbers : (k : ℕ) (d : X) → k < length numbered → number (get_or numbered k d) ≡ k)
+        (moved : IsPermutation numbered sorted) (up : IsSortedBy (λ x y. is_lt (order_then_number x y)) sorted)
+        (moved_back : IsPermutation (dedup (eq_by_cmp order) sorted) back) (rises : IsNonDecreasingBy number back) where
+      -- the number of an element tells it
+      abbrev IsAtItsNumber : X → Type 0
+      IsAtItsNumber x = (d : X) → get_or numbered (number x) d ≡ x
 
-      told_by_place : (x y : X) → StandsAtPlace x → StandsAtPlace y → place x ≡ place y → x ≡ y
-      told_by_place x y first second level = sym (first x) ∙ ap (λ n. get_or noted n x) level ∙ second x
+      told_by_number : (x y : X) → IsAtItsNumber x → IsAtItsNumber y → number x ≡ number y → x ≡ y
+      told_by_number x y first second level = sym (first x) ∙ ap (λ n. get_or numbered n x) level ∙ second x
 
-      noted_stand : All StandsAtPlace noted
-      noted_stand k d within e = ap (λ n. get_or noted n e) (places k d within) ∙ get_or_default noted k e d within
+      numbered_at : All IsAtItsNumber numbered
+      numbered_at k d within e = ap (λ n. get_or numbered n e) (numbers k d within) ∙ get_or_default numbered k e d within
 
-      noted_differ : IsDistinct (on place nat_eq) noted
-      noted_differ = IsDistinct-from_apart (on place nat_eq) noted (λ i j d below within.
-          ne_eqb (place (get_or noted i d)) (place (get_or noted j d)) (λ same. omega (arith, places i d (omega arith), places j d within)))
+      numbered_differ : IsDistinct (on number nat_eq) numbered
+      numbered_differ = IsDistinct-from_apart (on number nat_eq) numbered (λ i j d below within.
+          ne_eqb (number (get_or numbered i d)) (number (get_or numbered j d)) (λ same. omega (arith, numbers i d (omega arith), numbers j d within)))
 
       -- what is kept of the sorted elements
-      kept_is : dedup (eq_by_cmp order) sorted ≡ filter (is_first_among noted) sorted
+      kept_is : dedup (eq_by_cmp order) sorted ≡ filter (is_first_among numbered) sorted
       kept_is =
-          dedup-strict sorted (strict_from_sorted sorted up (IsDistinct-IsPermutation (on place nat_eq) (λ x y. nat_eq_equiv.symm (place x) (place y)) noted sorted moved noted_differ))
-          ∙ filter_agree (is_first_among sorted) (is_first_among noted) (λ x. ap not (sym (list_any-IsPermutation (repeats x) noted sorted moved))) sorted
+          dedup-strict sorted (strict_from_sorted sorted up (IsDistinct-IsPermutation (on number nat_eq) (λ x y. nat_eq_equiv.symm (number x) (number y)) numbered sorted moved numbered_differ))
+          ∙ filter_agree (is_first_among sorted) (is_first_among numbered) (λ x. ap not (sym (list_any-IsPermutation (repeats x) numbered sorted moved))) sorted
 
-      same_sums : (f : X → ℕ) → sum_by f back ≡ sum_by f (filter (is_first_among noted) noted)
+      same_sums : (f : X → ℕ) → sum_by f back ≡ sum_by f (filter (is_first_among numbered) numbered)
       same_sums f =
           sum_by-IsPermutation f (dedup (eq_by_cmp order) sorted) back moved_back
           ∙ ap (sum_by f) kept_is
-          ∙ sum_by-filter f (is_first_among noted) sorted
-          ∙ sum_by-IsPermutation (λ x. cond (is_first_among noted x) (f x) 0) noted sorted moved
-          ∙ sym (sum_by-filter f (is_first_among noted) noted)
+          ∙ sum_by-filter f (is_first_among numbered) sorted
+          ∙ sum_by-IsPermutation (λ x. cond (is_first_among numbered x) (f x) 0) numbered sorted moved
+          ∙ sym (sum_by-filter f (is_first_among numbered) numbered)
 
-      pub kept_by_sorting : back ≡ filter (is_first_among noted) noted
+      pub kept_by_sorting : back ≡ filter (is_first_among numbered) numbered
       kept_by_sorting =
-          let all_kept : All StandsAtPlace (dedup (eq_by_cmp order) sorted) =
-          All-same StandsAtPlace _ _ kept_is (All-filter (is_first_among noted) StandsAtPlace sorted (All-permutation StandsAtPlace noted sorted moved noted_stand)) in
-          sorted_same place StandsAtPlace told_by_place back (filter (is_first_among noted) noted) rises
-          (IsNonDecreasingBy-filter place (is_first_among noted) noted (λ i j d le within. omega (arith, places i d (omega arith), places j d within)))
-          (All-permutation StandsAtPlace (dedup (eq_by_cmp order) sorted) back moved_back all_kept)
-          (All-filter (is_first_among noted) StandsAtPlace noted noted_stand)
+          let all_kept : All IsAtItsNumber (dedup (eq_by_cmp order) sorted) =
+          All-same IsAtItsNumber _ _ kept_is (All-filter (is_first_among numbered) IsAtItsNumber sorted (All-permutation IsAtItsNumber numbered sorted moved numbered_at)) in
+          sorted_same number IsAtItsNumber told_by_number back (filter (is_first_among numbered) numbered) rises
+          (IsNonDecreasingBy-filter number (is_first_among numbered) numbered (λ i j d le within. omega (arith, numbers i d (omega arith), numbers j d within)))
+          (All-permutation IsAtItsNumber (dedup (eq_by_cmp order) sorted) back moved_back all_kept)
+          (All-filter (is_first_among numbered) IsAtItsNumber numbered numbered_at)
           same_sums

@@ -1,3 +1,13 @@
+-- Lemmas; the folders have the proofs of functions.
+-- Decimals: a number is read back from its digits.
+-- Equal: the derived `==` of elements is the test of their steps.
+-- Escapes: a character is read back from its escape.
+-- Quotes: a text in quotes, written character by character.
+-- Pointers: a name in a pointer, written character by character.
+-- TextsApart: locations are read back from their normalised paths.
+-- Orders: the orders of steps and of locations are total.
+-- KeptBySorting: what sorting by an order, removing repeats and sorting back leaves.
+-- FirstPlaces: for numbered nodes, that is `first_places`.
 mod Decimals
 mod Equal
 mod Escapes

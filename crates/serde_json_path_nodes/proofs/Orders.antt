@@ -37,7 +37,7 @@ step_cmp-congr (by_position i) (by_position j) (by_position k) tie = nat_cmp_tot
 pub location_cmp-total : IsTotalOrder location_cmp
 location_cmp-total = lists_total (record { antisymm = step_cmp-antisymm; trans = step_cmp-trans; congr = step_cmp-congr })
 
--- steps that are one tie
+-- equal steps tie
 step_cmp-ties : (s t : Step) → same_step s t ≡ eq_by_cmp step_cmp s t
 step_cmp-ties (by_name a) (by_name b) = lists_ties nat_cmp unsigned_ties a b
 step_cmp-ties (by_name a) (by_position j) = refl
@@ -62,7 +62,7 @@ then_decided Greater second differ = refl
 -- of two lists with their first elements, seen by `f`
 module _ {A B : Type 0} (R : A → A → Ordering) (f : B → A) {a b : B} {xs ys rest_x rest_y : List B}
     (first_x : xs ≡ a ∷ rest_x) (first_y : ys ≡ b ∷ rest_y) where
-  -- behind elements that tie, the others decide
+  -- after elements that tie, the others decide
   pub slice_cmp-tie : Equal ≡ R (f a) (f b) → slice_cmp R (map f rest_x) (map f rest_y) ≡ slice_cmp R (map f xs) (map f ys)
   slice_cmp-tie tie = rw (first_x, first_y, ← tie) refl
 

@@ -24,7 +24,7 @@ quotes_apart (c ∷ cs) (d ∷ ds) r t same =
     let rest = quotes_apart cs ds r t first.1 in
     (λ i. first.0 i ∷ rest.0 i, rest.1)
 
--- ---- positions
+-- ---- indexes
 
 -- a text without a closing bracket
 abbrev IsInside : List ℕ → Type 0
@@ -40,7 +40,7 @@ unfolding in_decimal
 IsInside-in_decimal zero = (λ e. omega arith, tt)
 IsInside-in_decimal (suc n) = IsInside-digits (digits_of 10 (suc n)) (all_below_base_digits_of 10 (suc n) (omega arith))
 
--- two texts that go on behind their first closing bracket
+-- two texts that go on after their first closing bracket
 brackets_apart : (xs ys r t : List ℕ) → IsInside xs → IsInside ys → xs ++ 93 ∷ r ≡ ys ++ 93 ∷ t → (xs ≡ ys) × (r ≡ t)
 brackets_apart [] [] r t x y same = (refl, cc)
 brackets_apart [] (b ∷ ys) r t x y same = absurd (y.0 (ap (λ (l : List ℕ). get_or l 0 0) (sym same)))
@@ -51,7 +51,7 @@ brackets_apart (a ∷ xs) (b ∷ ys) r t x y same =
     let rest = brackets_apart xs ys r t x.1 y.1 behind in
     (λ i. first i ∷ rest.0 i, rest.1)
 
--- a position does not begin with a quote
+-- an index does not begin with a quote
 digits-quote : (digits r t : List ℕ) → 0 < get_or digits 0 0 → map (λ digit. 48 + digit) digits ++ r ≡ 39 ∷ t → ⊥
 digits-quote [] r t some same = omega arith
 digits-quote (d ∷ ds) r t some same = omega (arith, ap (λ (l : List ℕ). get_or l 0 0) same)

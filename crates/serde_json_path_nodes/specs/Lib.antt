@@ -1,3 +1,11 @@
+-- What contracts cite:
+-- Location: steps into a value, locations, the order of a document.
+-- Text: escapes, normalised paths, JSON pointers.
+-- Lists: what the calls of a list answer; `first_places`, which `dedup` leaves.
+-- Laws: texts tell locations apart.
+-- Views: what contracts see of the types.
+-- Same: the computed test whether steps and locations are equal.
+-- StepOrder, NodeOrder: the orders by which `dedup` sorts.
 pub mod Laws
 pub mod Lists
 pub mod Location

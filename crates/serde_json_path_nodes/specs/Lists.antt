@@ -1,4 +1,4 @@
--- Answers of lists of nodes (RFC 9535, section 1.1).
+-- What the calls of a list of nodes answer (RFC 9535, section 1.1).
 use Rattle.std.specs.Prelude.{Bool, List, [], ◌∷◌, ◌++◌, length, Option, Some, None, Result, Ok, Err, if◌then◌else◌}
 use Rattle.std.specs.List.{list_any}
 use Rattle.serde_json_path_nodes.specs.Location.{Step, Located}
@@ -11,23 +11,23 @@ use Rattle.serde_json_path_nodes.specs.declared.error.ExactlyOneError.TheVariant
 abbrev pub is_among : List Step → List (List Step) → Bool
 is_among location locations = list_any (same_steps location) locations
 
--- of nodes that follow those at the locations `earlier`, the ones whose location stands neither there nor before them
+-- of nodes that follow those at the locations `earlier`, the ones whose location does not occur before them
 abbrev pub first_places_after : List (List Step) → List Located → List Located
 first_places_after earlier [] = []
 first_places_after earlier (node ∷ nodes) =
     (if is_among node.location earlier then [] else node ∷ []) ++ first_places_after (earlier ++ node.location ∷ []) nodes
 
--- the nodes whose location does not stand earlier in the list, in their order
+-- the nodes whose location does not occur earlier in the list, in their order
 abbrev pub first_places : List Located → List Located
 first_places nodes = first_places_after [] nodes
 
--- the one node of a list or that there is none, and an error with their number where there are more
+-- the only node of a list, or none; where there are more, an error with their number
 abbrev pub at_most_one_of : {A : Type 0} → List A → Result (Option A) AtMostOneError
 at_most_one_of [] = Ok None
 at_most_one_of (node ∷ []) = Ok (Some node)
 at_most_one_of (node ∷ next ∷ nodes) = Err (record { 0 = length (node ∷ next ∷ nodes) })
 
--- the one node of a list, and an error where there is none or more
+-- the only node of a list; an error where there is none, or more than one
 abbrev pub exactly_one_of : {A : Type 0} → List A → Result A ExactlyOneError
 exactly_one_of [] = Err Empty
 exactly_one_of (node ∷ []) = Ok node

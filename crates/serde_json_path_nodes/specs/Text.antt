@@ -13,7 +13,7 @@ use Rattle.serde_json_path_nodes.specs.declared.error.ExactlyOneError.TheVariant
 abbrev pub hexadecimal_escape : ℕ → List ℕ
 hexadecimal_escape c = codes "\\u00" ++ digit_char (c / 16) ∷ digit_char (c % 16) ∷ []
 
--- what stands for a character that does not print itself between single quotes
+-- the escape of a character that is not printed as it is between single quotes
 abbrev pub escape_of : ℕ → Option (List ℕ)
 escape_of c =
     if c == 39 then Some (codes "\\'")

@@ -16,7 +16,7 @@ use Rattle.serde_json_path_nodes.specs.declared.iterators.Nodes.{Nodes}
 use Rattle.serde_json_path_nodes.specs.declared.iterators.Store.{Store}
 use Rattle.serde_json_path_nodes.specs.declared.iterators.Store.TheVariants as store
 
--- the step that an element of a path is
+-- an element of a path, as a step
 abbrev pub step_view : PathElement → Step
 step_view (Name name) = by_name name.now
 step_view (Index position) = by_position position
@@ -44,7 +44,7 @@ located n = record { location = n.location; value = view n.node.now }
 abbrev pub located_nodes : LocatedNodeList → List Located
 located_nodes list = map located list.nodes.items
 
--- the located nodes that an iterator has still to give, in order
+-- the remaining located nodes of an iterator, in order
 abbrev pub located_nodes_left : LocatedNodes → List Located
 located_nodes_left it = map located (iter_rest it.left)
 
@@ -53,6 +53,6 @@ abbrev pub values_in : Store → List Data
 values_in (store.Plain nodes) = map node_value (iter_rest nodes)
 values_in (store.Located nodes) = map value_of (located_nodes_left nodes)
 
--- the values that an iterator over nodes has still to give, in order
+-- the remaining values of an iterator over nodes, in order
 abbrev pub node_values_left : Nodes → List Data
 node_values_left it = values_in it.store

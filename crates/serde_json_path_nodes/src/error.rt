@@ -1,4 +1,4 @@
-//! Errors of lists that hold too many nodes, or none.
+//! The errors of a list that has too many nodes, or none.
 
 ghost use Rattle.std.specs.Prelude.{Some, ◌++◌, codes};
 ghost use Rattle.std.specs.Fmt.{decimal};

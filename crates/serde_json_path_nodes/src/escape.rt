@@ -4,8 +4,8 @@ ghost use Rattle.std.specs.Prelude.{◌≡◌};
 ghost use Rattle.std.specs.Option.{option_copied};
 ghost use Rattle.serde_json_path_nodes.specs.Text.{escape_of};
 
-/// What stands for a character that does not print itself between single quotes, as in a normalised path
-/// (RFC 9535, section 2.7); `None` for a character that does.
+/// The escape of a character between single quotes, as in a normalised path (RFC 9535, section 2.7); `None` for a
+/// character that is printed as it is.
 ///
 /// ```text
 /// escaped('\n') == Some("\\n")

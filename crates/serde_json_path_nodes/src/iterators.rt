@@ -1,4 +1,4 @@
-//! The iterators of locations and lists. Each ends after as many items as are left.
+//! Iterators over locations and lists. Each knows exactly how many items remain.
 
 ghost use Rattle.std.specs.Prelude.{◌≡◌, ◌≤◌, length, map, IfSome};
 ghost use Rattle.std.specs.Iterator.{YieldsFirstRef, UpTo, at_most, item_count};
@@ -12,7 +12,7 @@ use std::slice;
 
 /// The elements of a location, by value, from the root on. Made by `NormalizedPath::iter`.
 ///
-/// Contracts see it as the list of the steps that are left.
+/// Contracts see it as the list of the remaining steps.
 #[derive(Drop)]
 pub struct PathElements<'a, 'b> {
     left: slice::Iter<'a, PathElement<'b>>,
@@ -33,7 +33,7 @@ impl<'a, 'b> Model for PathElements<'a, 'b> {
 impl<'a, 'b> PathElements<'a, 'b> {
     ghost use Rattle.serde_json_path_nodes.specs.Views.{step_view};
 
-    /// The iterator over these.
+    /// Iterates over the elements, in order.
     pub(crate) fn new(elements: &'a [PathElement<'b>]) -> PathElements<'a, 'b>
         ensures { result ≡ map step_view elements.now }
     {
@@ -82,7 +82,7 @@ pub struct LocatedNodes<'a, 'b> {
 impl<'a, 'b> LocatedNodes<'a, 'b> {
     ghost use Rattle.serde_json_path_nodes.specs.Views.{located, located_nodes_left};
 
-    /// The iterator over these.
+    /// Iterates over the nodes, in order.
     pub(crate) fn new(nodes: &'a [LocatedNode<'b>]) -> LocatedNodes<'a, 'b>
         ensures { located_nodes_left result ≡ map located nodes.now }
     {
@@ -126,7 +126,7 @@ pub struct Nodes<'a, 'b> {
     store: Store<'a, 'b>,
 }
 
-/// The nodes that are left, where they stand.
+/// The remaining nodes, of either kind of list.
 #[derive(Drop)]
 enum Store<'a, 'b> {
     Plain(slice::Iter<'a, &'b Value>),
@@ -136,7 +136,7 @@ enum Store<'a, 'b> {
 impl<'a, 'b> Nodes<'a, 'b> {
     ghost use Rattle.serde_json_path_nodes.specs.Views.{node_value, node_values_left, value_of, located_nodes_left};
 
-    /// The iterator over these.
+    /// Iterates over the nodes, in order.
     pub(crate) fn of_nodes(nodes: &'a [&'b Value]) -> Nodes<'a, 'b>
         ensures { node_values_left result ≡ map node_value nodes.now }
     {
@@ -145,7 +145,7 @@ impl<'a, 'b> Nodes<'a, 'b> {
         }
     }
 
-    /// The iterator over the nodes of these.
+    /// Iterates over the nodes without their locations, in order.
     pub(crate) fn of_located(located: LocatedNodes<'a, 'b>) -> Nodes<'a, 'b>
         ensures { node_values_left result ≡ map value_of (located_nodes_left located.entry) }
     {
@@ -193,7 +193,7 @@ impl<'a, 'b> ExactSizeIterator for Nodes<'a, 'b> {
 
 /// The locations of a located list, in order. Made by `LocatedNodeList::locations`.
 ///
-/// Contracts see it as the list of the locations that are left.
+/// Contracts see it as the list of the remaining locations.
 #[derive(Drop)]
 pub struct Locations<'a, 'b> {
     left: slice::Iter<'a, LocatedNode<'b>>,
@@ -214,7 +214,7 @@ impl<'a, 'b> Model for Locations<'a, 'b> {
 impl<'a, 'b> Locations<'a, 'b> {
     ghost use Rattle.serde_json_path_nodes.specs.Views.{located, location_of};
 
-    /// The iterator over the locations of these.
+    /// Iterates over the locations of the nodes, in order.
     pub(crate) fn new(nodes: &'a [LocatedNode<'b>]) -> Locations<'a, 'b>
         ensures { result ≡ map location_of (map located nodes.now) }
     {

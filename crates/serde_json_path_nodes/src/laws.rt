@@ -1,11 +1,10 @@
-//! Laws that the definitions keep, for the crates above.
+//! A law of the definitions, for the crates above.
 
 ghost use Rattle.serde_json_path_nodes.specs.Laws.{TextsTellLocations};
 
 /// Locations are equal exactly where their normalised paths are (RFC 9535, section 2.7).
 ///
-/// This holds where names are Unicode text, as every borrowed name is. The law is the contract; the function does
-/// nothing.
+/// It holds where names are Unicode text, as every borrowed name is. The law is the contract; the function does nothing.
 pub fn law_texts_tell_locations()
     ensures { TextsTellLocations }
 {}

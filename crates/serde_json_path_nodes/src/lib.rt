@@ -1,4 +1,19 @@
 //! Node lists, locations and their texts, for JSONPath (RFC 9535) over `serde_json` values.
+//!
+//! A query selects nodes. Without their locations they are a [`NodeList`]; with them a [`LocatedNodeList`], in which each
+//! [`LocatedNode`] has its [`NormalizedPath`]: the steps that lead to it from the document's root. All of them borrow the
+//! document.
+//!
+//! ```text
+//! let steps = Vec::from_array(alloc, [PathElement::Name("book"), PathElement::Index(0)])?;
+//! let location = NormalizedPath::from_steps(steps);
+//! location.to_text(alloc)? == "$['book'][0]"
+//! location.to_json_pointer(alloc)? == "/book/0"
+//! ```
+//!
+//! Contracts see a location as the list of its steps, and a list of nodes as the list of their values, or of locations
+//! with values. Definitions are in `specs/`: `Location` has steps and the order of a document, `Text` the printed texts,
+//! `Lists` what the calls of a list answer, `Laws` the law that texts tell locations apart.
 #![tactic(auto)]
 
 mod error;

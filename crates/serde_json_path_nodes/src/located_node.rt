@@ -14,8 +14,8 @@ use std::cmp::Ordering;
 pub struct LocatedNode<'b> {
     location: NormalizedPath<'b>,
     node: &'b Value,
-    /// Where the node stood in its list, while `LocatedNodeList::dedup` works; else it says nothing.
-    place: usize,
+    /// The node's index in its list while `LocatedNodeList::dedup` works; without meaning otherwise.
+    number: usize,
 }
 
 impl<'b> LocatedNode<'b> {
@@ -29,7 +29,7 @@ impl<'b> LocatedNode<'b> {
         LocatedNode {
             location,
             node,
-            place: 0,
+            number: 0,
         }
     }
 
@@ -47,27 +47,27 @@ impl<'b> LocatedNode<'b> {
         self.node
     }
 
-    /// The place that was noted last.
-    pub(crate) fn place(&self) -> usize
-        ensures { result ≡ self.now.place }
+    /// The number that was set last.
+    pub(crate) fn number(&self) -> usize
+        ensures { result ≡ self.now.number }
     {
-        self.place
+        self.number
     }
 
-    /// Notes where the node stands in its list.
-    pub(crate) fn note_place(&mut self, place: usize)
-        ensures noted { self.new.place ≡ place }
+    /// Sets the node's number, its index in a list.
+    pub(crate) fn set_number(&mut self, number: usize)
+        ensures numbered { self.new.number ≡ number }
         ensures same { located self.new ≡ located self.old }
     {
-        self.place = place;
+        self.number = number;
     }
 
-    /// By location, and by the noted place where the location is the same.
+    /// By location, then by number.
     pub(crate) fn compare(&self, other: &LocatedNode<'b>) -> Ordering
         ensures { result ≡ node_cmp self.now other.now }
     {
         self.location
             .compare(&other.location)
-            .then(self.place.cmp(&other.place))
+            .then(self.number.cmp(&other.number))
     }
 }

@@ -3,15 +3,15 @@
 ghost use Rattle.std.specs.Prelude.{◌≡◌, ◌==◌, length, map, option_map, IfOk, IfErr};
 ghost use Rattle.serde_json_path_nodes.specs.Views.{located, location_of};
 ghost use Rattle.serde_json_path_nodes.specs.Lists.{first_places};
-ghost use Rattle.serde_json_path_nodes.specs.NodeOrder.{HasPlaces};
+ghost use Rattle.serde_json_path_nodes.specs.NodeOrder.{AreNumbered};
 
 use crate::error::{AtMostOneError, ExactlyOneError};
 use crate::iterators::{LocatedNodes, Locations, Nodes};
 use crate::located_node::LocatedNode;
 use crate::normalized_path::NormalizedPath;
 
-/// The nodes that a query selects with their locations, in order; a node may stand in it more than once
-/// (RFC 9535, section 1.1).
+/// The nodes that a query selects with their locations, in order; a node may be in it more than once (RFC 9535,
+/// section 1.1).
 #[derive(Drop)]
 pub struct LocatedNodeList<'b> {
     nodes: Vec<LocatedNode<'b>>,
@@ -75,25 +75,25 @@ impl<'b> LocatedNodeList<'b> {
         Locations::new(self.nodes.as_slice())
     }
 
-    /// The list without the entries whose location stands earlier in it, in the order that it had.
+    /// Removes each entry whose location occurs earlier in the list; the others keep their order.
     ///
-    /// Works in place and takes no memory. It sorts the entries by location and then back, so that the time grows with
-    /// the number of entries times its logarithm.
+    /// Works in place and takes no memory. It sorts the entries by location and then back, so the time grows
+    /// with the number of entries times its logarithm.
     pub fn dedup(mut self) -> LocatedNodeList<'b>
         ensures { located_nodes result ≡ first_places (located_nodes self.entry) }
     {
-        note_places(self.nodes.as_mut_slice());
-        // Entries of one location then stand together, the first of them in front.
+        number_nodes(self.nodes.as_mut_slice());
+        // Entries of one location are now together, the first of them in front.
         self.nodes.sort_unstable_by(|a, b| a.compare(b));
         self.nodes
             .dedup_by(|next, kept| next.location() == kept.location());
-        self.nodes.sort_unstable_by_key(|node| node.place());
+        self.nodes.sort_unstable_by_key(|node| node.number());
         self
     }
 
-    /// The one node with its location, or `None` in an empty list.
+    /// The only node with its location, or `None` if the list is empty.
     ///
-    /// A list of more nodes is the error, with their number.
+    /// For more than one node the error says how many there are.
     pub fn at_most_one(mut self) -> Result<Option<LocatedNode<'b>>, AtMostOneError>
         ensures ok { IfOk result (λ node. at_most_one_of (located_nodes self.entry) ≡ Ok (option_map located node)) }
         ensures err { IfErr result (λ error. at_most_one_of (located_nodes self.entry) ≡ Err error) }
@@ -105,9 +105,9 @@ impl<'b> LocatedNodeList<'b> {
         Ok(self.nodes.pop())
     }
 
-    /// The one node with its location.
+    /// The only node with its location.
     ///
-    /// An empty list is the error `Empty`, and one of more nodes `MoreThanOne` with their number.
+    /// The error is `Empty` for an empty list; for more than one node it is `MoreThanOne`, and says how many there are.
     pub fn exactly_one(mut self) -> Result<LocatedNode<'b>, ExactlyOneError>
         ensures ok { IfOk result (λ node. exactly_one_of (located_nodes self.entry) ≡ Ok (located node)) }
         ensures err { IfErr result (λ error. exactly_one_of (located_nodes self.entry) ≡ Err error) }
@@ -120,12 +120,12 @@ impl<'b> LocatedNodeList<'b> {
     }
 }
 
-/// Notes in each node its place.
-fn note_places<'b>(nodes: &mut [LocatedNode<'b>])
-    ensures noted { HasPlaces nodes.new }
+/// Gives each node its index in the list as its number.
+fn number_nodes<'b>(nodes: &mut [LocatedNode<'b>])
+    ensures numbered { AreNumbered nodes.new }
     ensures same { map located nodes.new ≡ map located nodes.old }
 {
-    for (place, node) in nodes.iter_mut().enumerate() {
-        node.note_place(place);
+    for (number, node) in nodes.iter_mut().enumerate() {
+        node.set_number(number);
     }
 }

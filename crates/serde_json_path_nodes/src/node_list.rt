@@ -6,7 +6,7 @@ use crate::error::{AtMostOneError, ExactlyOneError};
 use crate::iterators::Nodes;
 use serde_json::Value;
 
-/// The nodes that a query selects, in order; a node may stand in it more than once (RFC 9535, section 1.1).
+/// The nodes that a query selects, in order; a node may be in it more than once (RFC 9535, section 1.1).
 #[derive(Drop)]
 pub struct NodeList<'b> {
     nodes: Vec<&'b Value>,
@@ -35,7 +35,7 @@ impl<'b> NodeList<'b> {
         self.nodes
     }
 
-    /// The first node, or `None` in an empty list.
+    /// The first node, or `None` if the list is empty.
     pub fn first(&self) -> Option<&'b Value>
         ensures { option_map node_value result ≡ slice_get (node_values self.now) 0 }
     {
@@ -63,9 +63,9 @@ impl<'b> NodeList<'b> {
         Nodes::of_nodes(self.nodes.as_slice())
     }
 
-    /// The one node, or `None` in an empty list.
+    /// The only node, or `None` if the list is empty.
     ///
-    /// A list of more nodes is the error, with their number.
+    /// For more than one node the error says how many there are.
     pub fn at_most_one(&self) -> Result<Option<&'b Value>, AtMostOneError>
         ensures ok { IfOk result (λ node. at_most_one_of (node_values self.now) ≡ Ok (option_map node_value node)) }
         ensures err { IfErr result (λ error. at_most_one_of (node_values self.now) ≡ Err error) }
@@ -77,9 +77,9 @@ impl<'b> NodeList<'b> {
         }
     }
 
-    /// The one node.
+    /// The only node.
     ///
-    /// An empty list is the error `Empty`, and one of more nodes `MoreThanOne` with their number.
+    /// The error is `Empty` for an empty list; for more than one node it is `MoreThanOne`, and says how many there are.
     pub fn exactly_one(&self) -> Result<&'b Value, ExactlyOneError>
         ensures ok { IfOk result (λ node. exactly_one_of (node_values self.now) ≡ Ok (node_value node)) }
         ensures err { IfErr result (λ error. exactly_one_of (node_values self.now) ≡ Err error) }

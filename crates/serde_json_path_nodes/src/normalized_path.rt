@@ -36,7 +36,7 @@ impl<'b> NormalizedPath<'b> {
     ghost use Rattle.serde_json_path_nodes.specs.Views.{step_view};
     ghost use Rattle.serde_json_path_nodes.specs.StepOrder.{location_cmp};
 
-    /// The location that these steps make up. Takes no memory.
+    /// The location that the steps lead to. Takes no memory.
     pub fn from_steps(steps: Vec<PathElement<'b>>) -> NormalizedPath<'b>
         ensures { result ≡ map step_view steps.entry.items }
     {
@@ -57,7 +57,7 @@ impl<'b> NormalizedPath<'b> {
         self.steps.is_empty()
     }
 
-    /// The step of that number, from 0, or `None` past the last.
+    /// The step at `index`, from 0, or `None` past the last.
     pub fn get(&self, index: usize) -> Option<PathElement<'b>>
         ensures { option_map step_view result ≡ slice_get self.now index }
     {
@@ -80,7 +80,7 @@ impl<'b> NormalizedPath<'b> {
         self.to_string(alloc)
     }
 
-    /// The JSON pointer to the same place (RFC 6901, section 3), as `/store/book/0`; the empty text for the root.
+    /// The JSON pointer to the same node (RFC 6901, section 3), as `/store/book/0`; the empty text for the root.
     ///
     /// An error comes only where memory is refused.
     pub fn to_json_pointer(&self, alloc: Global) -> Result<String, AllocError>
@@ -154,7 +154,7 @@ impl<'b> fmt::Display for NormalizedPath<'b> {
     }
 }
 
-/// Appends a name as it stands in a pointer.
+/// Appends a name as a JSON pointer writes it: `~` as `~0`, `/` as `~1`.
 fn push_in_pointer(text: &mut String, name: &str) -> Result<(), AllocError>
     ensures { OnOk result (string_bytes text.new ≡ string_bytes text.old ++ flat_map in_pointer name.now) }
 {

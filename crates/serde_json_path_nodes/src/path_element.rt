@@ -9,7 +9,7 @@ use std::cmp::Ordering;
 pub enum PathElement<'b> {
     /// The name of an object's member, borrowed from the document.
     Name(&'b str),
-    /// The position of an array's item, from 0.
+    /// The index of an array's item, from 0.
     Index(usize),
 }
 
@@ -17,7 +17,7 @@ impl<'b> PathElement<'b> {
     ghost use Rattle.serde_json_path_nodes.specs.StepOrder.{step_cmp};
     ghost use Rattle.serde_json_path_nodes.specs.Views.{step_view};
 
-    /// Names stand before positions, names in the order of their bytes.
+    /// A total order: names before indexes, names by their bytes.
     pub(crate) fn compare(&self, other: &PathElement<'b>) -> Ordering
         ensures { result ≡ step_cmp (step_view self.now) (step_view other.now) }
     {

@@ -1,4 +1,4 @@
-//! Names as they stand in a normalised path.
+//! Names as a normalised path writes them.
 
 ghost use Rattle.std.specs.Prelude.{Some};
 ghost use Rattle.serde_json_path_nodes.specs.Text.{quoted};

@@ -1,4 +1,4 @@
-//! A set of one's own before the built-in one.
+//! A function set before the built-in one.
 
 ghost use Rattle.std.specs.Prelude.{◌≡◌, [], ◌∷◌, map, IfOk};
 ghost use Rattle.serde_json_path_functions.specs.Functions.{nodes};
@@ -13,7 +13,7 @@ use serde_json::Value;
 use std::alloc::Global;
 use std::test::Fail;
 
-/// `match` and `own`, which give true to a list of nodes.
+/// `match` and `own`, which answer true to any list of nodes.
 struct Own;
 
 impl Functions for Own {

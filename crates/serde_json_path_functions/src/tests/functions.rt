@@ -20,7 +20,7 @@ fn printed(alloc: Global, value: &ValueType) -> Result<String, Fail> {
     }
 }
 
-/// What an answer of type Value is.
+/// An answer of type Value, printed.
 fn printed_answer(alloc: Global, answer: &FunctionValue) -> Result<String, Fail> {
     match answer {
         FunctionValue::Value(value) => printed(alloc, value),
@@ -28,7 +28,7 @@ fn printed_answer(alloc: Global, answer: &FunctionValue) -> Result<String, Fail>
     }
 }
 
-/// The answer of a function to so many nodes, each of them the document.
+/// The answer of a function to `number` nodes, each of them the document.
 fn answer_to<'b>(
     alloc: Global,
     name: &str,

@@ -17,7 +17,7 @@ fn value_of(alloc: Global, json: &str) -> Result<ValueType<'static>, Fail> {
     Ok(ValueType::Value(Value::from_str(alloc, json)?))
 }
 
-/// What a name answers to two values, each a JSON text.
+/// The answer of a function to two values, each a JSON text.
 fn answer_to(alloc: Global, name: &str, text: &str, pattern: &str) -> Result<bool, Fail>
     requires { (builtin_signature name.now ≡ Some (record { params = of_value ∷ of_value ∷ []; result = of_logical })) }
 {

@@ -3,7 +3,7 @@ use Rattle.regex.specs.Failures.{IsRightKind}
 use Rattle.regex.specs.Patterns.{Refuses, default_config, find_str}
 use Rattle.serde_json_path_functions.specs.Patterns as spec
 use Rattle.serde_json_path_functions.specs.Terms.{matching_view}
-use Rattle.serde_json_path_functions.proofs.Found.{found_as_read, refused_is_not_found}
+use Rattle.serde_json_path_functions.proofs.RegexAgrees.{found_as_read, refused_is_not_found}
 use Rattle.serde_json_path_functions.proofs.patterns.is_found.Goals as goal
 
 pub returns-in-Ok : goal.returns-in-Ok

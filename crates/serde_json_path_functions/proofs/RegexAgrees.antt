@@ -1,4 +1,4 @@
--- What `regex` finds is what the specification's reading of a pattern finds.
+-- `regex` finds a pattern in a text exactly where its specification, reading the pattern, does.
 use Rattle.std.proofs.Common.{◌≡◌, ℕ, ◌<◌, ◌≤◌, ◌⊎◌, List, length, get_or, true, false, Option, None, Some, IfSome, IsSomeAnd, is_some, option_and_then, inl, inr, refl, arith}
 use Rattle.std.specs.Str.{chars}
 use Rattle.regex_syntax.specs.Brackets.{Nested}
