@@ -15,7 +15,8 @@ int_eq-billionths a b =
     same_from_decides _ _ (Decides-int_eq a b)
     (Decides-like (int_eq (a *ℤ pos 1000000000) (b *ℤ pos 1000000000)) (λ e. omega (arith, ints)) (λ e. ap (λ z. z *ℤ pos 1000000000) e) (Decides-int_eq (a *ℤ pos 1000000000) (b *ℤ pos 1000000000)))
 
-same_amount-billionths : (a b : Option ℤ) → same_amount a b ≡ same_amount (option_map (λ z. z *ℤ pos 1000000000) a) (option_map (λ z. z *ℤ pos 1000000000) b)
+-- so are the amounts of two numbers
+pub same_amount-billionths : (a b : Option ℤ) → same_amount a b ≡ same_amount (option_map (λ z. z *ℤ pos 1000000000) a) (option_map (λ z. z *ℤ pos 1000000000) b)
 same_amount-billionths (Some a) (Some b) = int_eq-billionths a b
 same_amount-billionths (Some a) None = refl
 same_amount-billionths None b = refl

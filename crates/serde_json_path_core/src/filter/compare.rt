@@ -10,7 +10,7 @@ ghost use Rattle.serde_json_path_core.specs.ComparedValues.{compared_view};
 ghost use Rattle.serde_json_path_core.specs.Sides.{side_view, same_seen, less_seen};
 
 use crate::filter::compared_value::ComparedValue;
-use crate::filter::equality::{same_items, same_members};
+use crate::filter::equality::{same_amounts, same_items, same_members};
 use crate::filter::side::{Side, side_of};
 use serde_json_path_syntax::ComparisonOperator;
 
@@ -42,7 +42,7 @@ fn is_equal(left: Side, right: Side) -> bool
     match (left, right) {
         (Side::Nothing, Side::Nothing) | (Side::Null, Side::Null) => true,
         (Side::Bool(left), Side::Bool(right)) => left == right,
-        (Side::Amount(Some(left)), Side::Amount(Some(right))) => left == right,
+        (Side::Amount(left), Side::Amount(right)) => same_amounts(left, right),
         (Side::Text(left), Side::Text(right)) => left == right,
         (Side::Array(left), Side::Array(right)) => same_items(left, right),
         (Side::Object(left), Side::Object(right)) => same_members(left, right),

@@ -5,6 +5,7 @@ ghost use Rattle.serde_json.specs.Find.{as_integer};
 ghost use Rattle.serde_json.specs.View.{view, items_view, members_view, number_view};
 ghost use Rattle.serde_json_path_core.specs.Computed.{same_amount, same_data, same_items as same_items_of, same_members as same_members_of};
 
+use crate::filter::side::amount;
 use serde_json::{Map, Number, Value};
 
 /// Whether two values are equal.
@@ -28,7 +29,14 @@ fn same_numbers(left: &Number, right: &Number) -> bool
     ensures { result
         ≡ same_amount (as_integer (number_view left.now)) (as_integer (number_view right.now)) }
 {
-    match (left.as_i128(), right.as_i128()) {
+    same_amounts(amount(left), amount(right))
+}
+
+/// Whether two amounts are there, and equal.
+pub(crate) fn same_amounts(left: Option<i128>, right: Option<i128>) -> bool
+    ensures { result ≡ same_amount left right }
+{
+    match (left, right) {
         (Some(left), Some(right)) => left == right,
         _ => false,
     }

@@ -35,7 +35,7 @@ pub(crate) enum Side<'s> {
 }
 
 /// A number in billionths, if it is held as an integer.
-fn amount(number: &Number) -> Option<i128>
+pub(crate) fn amount(number: &Number) -> Option<i128>
     ensures { result ≡ amount_of (a_value (number_data (number_view number.now))) }
 {
     match (number.as_i64(), number.as_u64()) {
