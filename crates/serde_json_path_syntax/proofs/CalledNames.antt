@@ -1,14 +1,10 @@
--- The names that a query calls: what is so of each call is so of each name, and the other way round.
+-- What holds of the name of each call of a query holds of each name that it calls, and the other way round.
 use Rattle.std.proofs.Common.{◌≡◌, ◌≢◌, ◌↔◌, ℕ, List, [], ◌∷◌, ◌++◌, inl, inr, Bool, true, false, bytes_eq, refl, sym, subst, ◌∙◌, true≢false}
-use Rattle.std.proofs.lemmas.Slice.Eq.{bytes_eq-Decides}
 use Rattle.serde_json_path_syntax.specs.Tree.{Query, query, Segments, no_segments, segment, Segment, dot_name, dot_wildcard, long_hand, Selectors, no_selectors, selector, Selector, name, wildcard, index, slice, filter, LogicalOr, no_or, or, LogicalAnd, no_and, and, Basic, paren, not_paren, relation, exist, not_exist, test, not_test, Comparable, literal, singular, called, Call, call, Arguments, no_arguments, argument, Argument, literal_argument, query_argument, call_argument, logical_argument}
 use Rattle.serde_json_path_syntax.specs.Calls.{EachCall, EachInSegments, EachInSegment, EachInSelectors, EachInSelector, EachInOr, EachInAnd, EachInBasic, EachInComparable, EachFrom, EachInArguments, EachInArgument, name_of}
 use Rattle.serde_json_path_syntax.specs.CalledNames.{called_names, called_in_segments, called_in_segment, called_in_selectors, called_in_selector, called_in_or, called_in_and, called_in_basic, called_in_comparable, called_from, called_in_arguments, called_in_argument}
 use Rattle.serde_json_path_syntax.specs.Lists.{IsIn}
-use Rattle.serde_json_path_syntax.specs.Used.{Calls}
 use Rattle.serde_json_path_syntax.proofs.InLists.{in_append}
-
--- ---- what is so of each name that is called
 
 module _ (Fact : List ℕ → Type 0) where
   -- the fact holds of each of the names
@@ -95,26 +91,3 @@ module _ (Fact : List ℕ → Type 0) where
     each_in_argument (query_argument q) = each_named q
     each_in_argument (call_argument c) = each_from c
     each_in_argument (logical_argument e) = each_in_or e
-
--- a name of the list, or none of it
-is_in : (f : List ℕ) (names : List (List ℕ)) → ((IsIn f names → ⊥) → ⊥) → IsIn f names
-is_in f [] h = h (λ i. i)
-is_in f (g ∷ more) h = by (bytes_eq f g) refl (is_in f more)
-  where
-    by : (b : Bool) → bytes_eq f g ≡ b → (((IsIn f more → ⊥) → ⊥) → IsIn f more) → IsIn f (g ∷ more)
-    by true same later = inl ((bytes_eq-Decides f g).0 same)
-    by false other later =
-        inr (later (λ k. h (λ i. elim i [ inl e ↦ true≢false (sym ((bytes_eq-Decides f g).1 e) ∙ other) | inr j ↦ k j ])))
-
--- a query calls a name where it is among those that are called
-pub calls_named : (q : Query) (f : List ℕ) → Calls q f ↔ IsIn f (called_names q)
-calls_named q f =
-    let each = each_named (λ g. g ≢ f) q in (
-      λ calls. is_in f (called_names q) (λ k. calls (each.1 (λ g i e. k (subst (λ h. IsIn h (called_names q)) e i)))),
-      λ i h. each.0 h f i refl,
-    )
-
--- names of which none is there
-pub no_names : (names : List (List ℕ)) → ((f : List ℕ) → OfEach (λ g. g ≢ f) names) → names ≡ []
-no_names [] h = refl
-no_names (f ∷ more) h = absurd (h f f (inl refl) refl)

@@ -18,7 +18,6 @@ use Rattle.serde_json_path_syntax.specs.declared.node.Node.{Node}
 use Rattle.serde_json_path_syntax.specs.declared.node.Part.{Part}
 use Rattle.serde_json_path_syntax.specs.declared.builder.SyntaxBuilder.{SyntaxBuilder}
 use Rattle.serde_json_path_syntax.specs.declared.signatures.Form.TheVariants as form
-use Rattle.serde_json_path_syntax.proofs.CalledNames.{calls_named}
 use Rattle.serde_json_path_syntax.proofs.DeclaredNames.{declared_names}
 use Rattle.serde_json_path_syntax.proofs.InLists.{in_append, in_order-append}
 use Rattle.serde_json_path_syntax.proofs.TypedByNames.{typed_by_names}
@@ -119,9 +118,8 @@ module _ (F : FunctionSet) where
     noted_called = (
       noted_apart [] (called_names q) tt,
       λ f. (
-        λ i. elim (noted_names [] (called_names q) f i) [ inl none ↦ absurd none | inr k ↦ (calls_named q f).1 k ],
-        λ calls.
-            let i = (calls_named q f).0 calls in
+        λ i. elim (noted_names [] (called_names q) f i) [ inl none ↦ absurd none | inr k ↦ k ],
+        λ i.
             let known = declared_names F.signature q typed f i in
             found_in (noted F.signature [] (called_names q)) f known.0 (noted_known [] (called_names q) f known.0 tt known.1 i),
       ),

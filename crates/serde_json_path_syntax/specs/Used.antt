@@ -7,7 +7,7 @@ use Rattle.serde_json_path_functions.specs.Terms.{signature_view}
 use Rattle.serde_json_path_syntax.specs.Lists.{IsIn, IsInOrder}
 use Rattle.serde_json_path_syntax.specs.Typing.{IsTyped}
 use Rattle.serde_json_path_syntax.specs.Depth.{depth}
-use Rattle.serde_json_path_syntax.specs.Calls.{EachCall, name_of}
+use Rattle.serde_json_path_syntax.specs.CalledNames.{called_names}
 use Rattle.serde_json_path_functions.specs.declared.signature.Signature as declared
 
 -- the names and signatures of a list of both
@@ -21,7 +21,7 @@ signature_in (used ∷ more) f = if bytes_eq used.0 f then Some used.1 else sign
 
 -- the query calls the name
 abbrev pub Calls : Query → List ℕ → Type 0
-Calls q f = EachCall (λ c. name_of c ≢ f) q → ⊥
+Calls q f = IsIn f (called_names q)
 
 -- the list has each name that the query calls, once, and no other
 abbrev pub AreCalled : List (List ℕ × Signature) → Query → Type 0
