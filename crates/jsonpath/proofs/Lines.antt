@@ -1,4 +1,4 @@
--- Lines, one more at a time.
+-- The lines of some nodes, with the line of another node after them.
 use Rattle.std.proofs.Common.{ℕ, List, [], ◌∷◌, ◌++◌, refl, sym, ap, ◌∙◌, append_assoc}
 use Rattle.std.proofs.lemmas.List.{append-nil}
 use Rattle.serde_json_path_nodes.specs.Location.{Located}

@@ -1,4 +1,4 @@
--- The lines that are made of a path and a document.
+-- The lines of a report on a path and a document.
 use Rattle.std.specs.Prelude.{◌≡◌, ℕ, false, List, [], ◌∷◌, ◌++◌, Some, codes}
 use Rattle.std.specs.Str.{chars, IsUtf8}
 use Rattle.serde_json.specs.Data.{Data}
@@ -15,18 +15,18 @@ use Rattle.serde_json_path_parser.specs.Accepted.{IsAccepted}
 abbrev pub ReadsAs : List ℕ → Data → Type 0
 ReadsAs bytes d = IsUtf8 bytes × (read bytes ≡ Some d)
 
--- the line of a node: its normalised path, a tab, its compact JSON and a line feed. The JSON is exact where the node holds
--- no number that is not held as an integer.
+-- the line of a node: its normalised path, a tab, its compact JSON and a line feed; what the JSON is, is said where every
+-- number in the node is held as an integer
 abbrev pub IsLineOf : Located → List ℕ → Type 0
 IsLineOf n line =
     (json : List ℕ) × (line ≡ normal n.location ++ (codes "\t" ++ (json ++ codes "\n"))) × (has_float n.value ≡ false → json ≡ compact_text n.value)
 
--- the text is the joining of a line for each node, in order
+-- the text is a line for each node, in order, joined
 abbrev pub AreLinesOf : List Located → List ℕ → Type 0
 AreLinesOf [] text = text ≡ []
 AreLinesOf (n ∷ ns) text = (line rest : List ℕ) × IsLineOf n line × AreLinesOf ns rest × (text ≡ line ++ rest)
 
--- The text has the lines of the path's result on the document, under the built-in functions; so where no call of `match` or
+-- The text is the lines of the path's result on the document, under the built-in functions, where no call of `match` or
 -- `search` gets a pattern that is nested deeper than `regex` takes.
 pub record IsReportOf (path document text : List ℕ) : Type 0 where
   pub query : Query

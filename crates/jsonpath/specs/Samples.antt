@@ -1,4 +1,4 @@
--- A function set of one's own, as an example: what its names mean, and that it keeps types.
+-- A function set as an example: what its names mean, and that it keeps types.
 use Rattle.std.proofs.Common.{◌≡◌, ◌≤◌, ◌&&◌, ℕ, List, [], ◌∷◌, length, Bool, true, false, Option, Some, None, bytes_eq, codes, if◌then◌else◌, refl, ap, ◌∙◌, subst, arith, slice_get}
 use Rattle.std.proofs.lemmas.Option.{same_Some}
 use Rattle.serde_json.specs.Data.{Data}

@@ -1,4 +1,13 @@
-//! `jsonpath PATH` prints the nodes of the JSON document on standard input that a path selects.
+//! `jsonpath PATH` prints the nodes of the JSON document on standard input that a path selects, with their locations:
+//!
+//! ```text
+//! $ printf '{"foo":{"bar":["baz",42]}}' | jsonpath '$.foo.bar[0]'
+//! $['foo']['bar'][0]<tab>"baz"
+//! ```
+//!
+//! `report` makes the lines, `run` reads and writes over any streams, and `main` hands in the standard ones. `samples` is
+//! a function set as an example for other programs. Definitions are in `specs/`: `Report` says what the lines are, `Run`
+//! what the statuses mean, `Samples` what the sample functions mean.
 #![tactic(auto)]
 
 mod report;
@@ -9,7 +18,7 @@ use std::alloc::Global;
 use std::env;
 use std::process::ExitCode;
 
-/// The words behind the program's name, or none where they cannot be read.
+/// The arguments after the program's name, or none if they cannot be read.
 fn words(rt: &HostRuntime) -> Vec<String> {
     let mut words = Vec::new(rt.alloc());
     if let Ok(args) = env::args(rt) {

@@ -1,4 +1,4 @@
-//! The lines that are made of a path and a document.
+//! The lines of a report on a path and a document.
 
 ghost use Rattle.std.specs.Prelude.{◌≡◌, ◌++◌, ℕ, List, IfOk, OnOk, string_bytes};
 ghost use Rattle.serde_json.specs.Data.{Data};
@@ -17,7 +17,7 @@ use thiserror::Error;
 /// Why a document is refused.
 #[derive(Debug, Drop, Error)]
 pub enum DocumentError {
-    /// The bytes are no JSON text that `serde_json` reads: it takes 127 levels, and no number beyond those of floats.
+    /// `serde_json` does not read the bytes. It takes 127 levels, and no number beyond those of floats.
     #[error("not JSON")]
     NotJson,
     /// Memory was refused.
@@ -39,24 +39,32 @@ pub enum ReportError {
     Query(QueryError),
 }
 
-/// Reads a document.
+impl From<AllocError> for ReportError {
+    ghost use Rattle.serde_json_path_functions.specs.declared.error.QueryError.TheVariants.{Memory};
+    ghost use Rattle.jsonpath.specs.declared.report.ReportError.TheVariants.{Query};
+
+    ghost from_gives = { λ _ e. e ≡ Query Memory };
+
+    fn from(_e: AllocError) -> ReportError {
+        ReportError::Query(QueryError::Memory)
+    }
+}
+
+/// Reads a document from its bytes.
 fn document(alloc: Global, bytes: &[u8]) -> Result<Value, DocumentError>
     ensures ok { IfOk result (λ value. ReadsAs bytes.now (view value)) }
     ensures not_json { result ≡ Err DocumentError.NotJson → (d : Data) → ReadsAs bytes.now d → ⊥ }
 {
-    match Value::from_slice(alloc, bytes) {
-        Ok(value) => Ok(value),
-        Err(e) => {
-            if e.is_memory() {
-                Err(DocumentError::Memory)
-            } else {
-                Err(DocumentError::NotJson)
-            }
+    Value::from_slice(alloc, bytes).map_err(|e| {
+        if e.is_memory() {
+            DocumentError::Memory
+        } else {
+            DocumentError::NotJson
         }
-    }
+    })
 }
 
-/// Puts a node's line behind the text: its normalised path, a tab, its compact JSON and a line feed.
+/// Appends a node's line: its normalised path, a tab, its compact JSON and a line feed.
 fn push_line(alloc: Global, text: &mut String, node: &LocatedNode<'_>) -> Result<(), AllocError>
     ensures { OnOk result ((line : List ℕ) × IsLineOf (located node.now) line × (string_bytes text.new ≡ string_bytes text.old ++ line)) }
 {
@@ -92,20 +100,10 @@ pub fn report(alloc: Global, path: &str, document: &[u8]) -> Result<String, Repo
     ensures path_refused { (e : path_error.ParseError) → result ≡ Err (ReportError.Path e) → IsParseOf builtin_functions.signature path.now (Err e) }
     ensures not_json { result ≡ Err (ReportError.Document DocumentError.NotJson) → (d : Data) → ReadsAs document.now d → ⊥ }
 {
-    let path = match JsonPath::parse(alloc, path) {
-        Ok(path) => path,
-        Err(e) => return Err(ReportError::Path(e)),
-    };
-    let value = match self::document(alloc, document) {
-        Ok(value) => value,
-        Err(e) => return Err(ReportError::Document(e)),
-    };
-    let nodes = match path.query_located(alloc, &value) {
-        Ok(nodes) => nodes,
-        Err(e) => return Err(ReportError::Query(e)),
-    };
-    match lines(alloc, &nodes) {
-        Ok(text) => Ok(text),
-        Err(_) => Err(ReportError::Query(QueryError::Memory)),
-    }
+    let path = JsonPath::parse(alloc, path).map_err(ReportError::Path)?;
+    let value = self::document(alloc, document).map_err(ReportError::Document)?;
+    let nodes = path
+        .query_located(alloc, &value)
+        .map_err(ReportError::Query)?;
+    Ok(lines(alloc, &nodes)?)
 }

@@ -13,18 +13,20 @@ use std::alloc::Global;
 use std::io;
 use std::io::{Read, Write};
 
-/// The status of a run that wrote its lines.
+/// All lines were written.
 const DONE: u8 = 0;
-/// The status where the path is refused.
+/// The path is refused.
 const PATH_REFUSED: u8 = 1;
-/// The status where the document is refused.
+/// The document is refused, or the input cannot be read.
 const DOCUMENT_REFUSED: u8 = 2;
-/// The status where the query is refused or the lines could not be written.
+/// The query is refused.
 const QUERY_REFUSED: u8 = 3;
-/// The status where there is not exactly one word.
+/// The lines could not be written, or only a part of them. The same status as that of a refused query.
+const OUTPUT_FAILED: u8 = 3;
+/// There is not exactly one word.
 const USAGE: u8 = 64;
 
-/// Tells a refusal in one line, and answers its status. Where the line cannot be written the status stays.
+/// Reports a refusal in one line, and returns its status, even if the line cannot be written.
 pub(crate) fn refuse<E: Write>(err: &mut E, e: &ReportError) -> u8
     ensures { result ≡ status_of e.now }
 {
@@ -44,7 +46,7 @@ pub(crate) fn refuse<E: Write>(err: &mut E, e: &ReportError) -> u8
     }
 }
 
-/// Writes the lines through to where they go.
+/// Writes the lines and flushes them.
 fn write_lines<W: Write>(lines: &str, out: &mut W) -> io::Result<()>
     ensures { OnOk result (Appends (W.contents out.old) (W.contents out.new) lines.now) }
 {
@@ -52,7 +54,7 @@ fn write_lines<W: Write>(lines: &str, out: &mut W) -> io::Result<()>
     out.flush()
 }
 
-/// Writes the lines, and answers the status.
+/// Writes the lines, and returns the status.
 fn print<W: Write, E: Write>(lines: &str, out: &mut W, err: &mut E) -> u8
     ensures either { (result ≡ 0) ⊎ (result ≡ 3) }
     ensures written { result ≡ 0 → Appends (W.contents out.old) (W.contents out.new) lines.now }
@@ -62,13 +64,14 @@ fn print<W: Write, E: Write>(lines: &str, out: &mut W, err: &mut E) -> u8
         return DONE;
     }
     let _ = writeln!(err, "jsonpath: output failed");
-    QUERY_REFUSED
+    OUTPUT_FAILED
 }
 
-/// The program: `jsonpath PATH` with a document as its input. Answers the status.
+/// The program: `jsonpath PATH` with a document as its input. Returns the exit status.
 ///
-/// With exactly one word the input is read to its end, the path and the document are read, all lines are made, and then
-/// they are written. Any fault goes to `err` in one line, and, but for a failed write, nothing to `out`:
+/// With exactly one word the input is read to its end, then the path and the document are read, then all lines are made,
+/// and only then written. Any fault is reported to `err` in one line, and then nothing goes to `out`, unless it is the
+/// write that failed:
 ///
 /// | Status | When |
 /// |---|---|
@@ -90,8 +93,8 @@ pub fn run<R: Read, W: Write, E: Write>(
     ensures path_refused { result ≡ 1 → (path : List ℕ) × IsOneWord words.now path × ((e : ParseError) × IsParseOf builtin_functions.signature path (Err e)) }
     // Nothing goes out but the lines of a run that is done, or a part of them where writing failed.
     ensures nothing_out { result ≢ 0 → result ≢ 3 → out.new ≡ out.old }
-    // Of a run that is done, over a reader and a writer that tell their bytes: the input was read to its end, its report
-    // went out, and nothing else.
+    // When a run is done, over a reader and a writer that tell their bytes: the input was read to its end, its report went
+    // out, and nothing else.
     ensures read_whole { result ≡ 0 → IsAtEnd (R.remaining input.new) }
     ensures report_out { result ≡ 0 → (document text path : List ℕ) × IsOneWord words.now path × IfSome (R.remaining input.old) (λ bytes. document ≡ bytes)
         × IsReportOf path document text × Appends (W.contents out.old) (W.contents out.new) text }

@@ -1,4 +1,4 @@
-//! A function set of one's own, as an example.
+//! A function set as an example.
 
 use serde_json_path::QueryError;
 use serde_json_path::functions::FunctionArgType::{Logical, Nodelist};
@@ -7,8 +7,8 @@ use serde_json_path::functions::{
 };
 use std::alloc::Global;
 
-/// The functions `first(Nodes) -> Value`, which gives the value of the first node or Nothing,
-/// `both(Logical, Logical) -> Logical`, whether both are true, and `none() -> Value`, which gives Nothing.
+/// A set of three functions: `first(Nodes) -> Value` gives the value of the first node, or Nothing;
+/// `both(Logical, Logical) -> Logical` tells whether both are true; `none() -> Value` gives Nothing.
 ///
 /// ```text
 /// let path = JsonPath::parse_with(alloc, "$[?first(@.*) == 4]", &Samples)?;

@@ -63,7 +63,7 @@ choice : (test : Bool) (c : ℕ) (x y : Option (List ℕ)) → (test ≡ true �
 choice true c x y here further = here refl
 choice false c x y here further = further refl
 
--- a backslash and a character for another one
+-- a backslash and a letter stand for a character
 letter_printed : (c d letter : ℕ) → (c == d) ≡ true → letter < 128 → IsPiece 39 (92 ∷ letter ∷ []) d → IsPrinted c (Some (92 ∷ letter ∷ []))
 letter_printed c d letter same low piece = (subst (IsPiece 39 (92 ∷ letter ∷ [])) (sym (eqb-true c d same)) piece, (omega arith, (low, tt)))
 
@@ -173,7 +173,7 @@ abbrev step_text : Step → List ℕ
 step_text (by_name bytes) = codes "[" ++ ((codes "'" ++ (flat_map printed (chars bytes) ++ codes "'")) ++ codes "]")
 step_text (by_position p) = codes "[" ++ (in_decimal p ++ codes "]")
 
--- a text between two signs
+-- a text between two characters
 spell_between : (first last : ℕ) (bytes text : List ℕ) → first < 128 → last < 128 → Spells bytes text → Spells (first ∷ (bytes ++ last ∷ [])) (first ∷ (text ++ last ∷ []))
 spell_between first last bytes text low high h =
     spell_both (first ∷ []) (bytes ++ last ∷ []) (first ∷ []) (text ++ last ∷ []) (spell_ascii (first ∷ []) (low, tt))

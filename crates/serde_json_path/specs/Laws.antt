@@ -1,4 +1,4 @@
--- A law of the typed grammar and of its meaning.
+-- The law that joins the typed grammar and its meaning.
 use Rattle.std.specs.Prelude.{◌≡◌, ℕ, ◌≤◌, List, [], ◌∷◌, Some}
 use Rattle.std.specs.Str.{chars}
 use Rattle.serde_json.specs.Data.{Data}
@@ -9,7 +9,7 @@ use Rattle.serde_json_path_core.specs.Meaning.{IsResult}
 use Rattle.serde_json_path_functions.specs.Functions.{FunctionSet}
 use Rattle.serde_json_path_parser.specs.Accepted.{IsAccepted}
 
--- each position is one that an index can write
+-- each index can be written
 abbrev pub ArePositionsWritten : List Step → Type 0
 ArePositionsWritten [] = Unit {0}
 ArePositionsWritten (by_name name ∷ steps) = ArePositionsWritten steps

@@ -11,11 +11,11 @@ use Rattle.serde_json_path.specs.declared.path.JsonPath.{JsonPath}
 abbrev pub path_tree : JsonPath → Query
 path_tree path = tree_of path.checked
 
--- the names that a path calls, each with the signature that it was read with
+-- the names that a path calls, each with the signature that it was parsed with
 abbrev pub path_signatures : JsonPath → List (List ℕ × Signature)
 path_signatures path = signatures_of path.checked
 
--- what the parser answered, of which a path was made
+-- the answer of the parser that a path was made of
 abbrev pub parser_answer : Result JsonPath ParseError → Result Checked ParseError
 parser_answer (Ok path) = Ok path.checked
 parser_answer (Err e) = Err e

@@ -4,8 +4,8 @@ ghost use Rattle.serde_json_path.specs.Laws.{PrintedPathSelectsItsNode};
 
 /// The normalised path that a location prints is accepted and selects the location's node alone (RFC 9535, section 2.7).
 ///
-/// Names are Unicode text, as every borrowed name is, and positions are such as an index can write, up to 2 ^ 53 - 1.
-/// Function set and document may be any.
+/// It holds where names are Unicode text, as every borrowed name is, and where indexes can be written, up to 2 ^ 53 - 1;
+/// for every function set and document.
 pub fn law_printed_path_selects_its_node()
     ensures { PrintedPathSelectsItsNode }
 {}

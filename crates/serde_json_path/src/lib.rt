@@ -1,4 +1,51 @@
-//! JSONPath (RFC 9535) over `serde_json` values: which nodes of a document are meant, in which order and where.
+//! JSONPath (RFC 9535) over `serde_json` values: which nodes of a document a path selects, in which order, and where they
+//! are.
+//!
+//! [`JsonPath`] is a path. Parse one, query a document, and go over the nodes:
+//!
+//! ```text
+//! let path = JsonPath::parse(alloc, "$..book[-1:].title")?;
+//! for node in path.query_located(alloc, &document)?.iter() {
+//!     println!(rt; "{}\t{}", node.location(), node.node())?;
+//! }
+//! ```
+//!
+//! # Syntax
+//!
+//! | Form | Selects |
+//! |---|---|
+//! | `$` | the document; `@` in a filter is the node under test |
+//! | `.name`, `['name']` | a member of an object |
+//! | `.*`, `[*]` | all children |
+//! | `[0]`, `[-1]` | an item of an array, from the start or from the end |
+//! | `[1:9:2]` | a slice: start, end and step, each of which may be missing |
+//! | `[?@.a == 1 && !@.b]` | children for which a logical expression holds |
+//! | `[0, 'name', ?@.a]` | what each selector selects, one after the other |
+//! | `..name`, `..[0]` | the same at a node and at all nodes below it |
+//!
+//! Filters test queries and calls, and compare literals, singular queries and calls by `==`, `!=`, `<`, `<=`, `>` and `>=`.
+//! The built-in functions are `length`, `count`, `value`, `match` and `search`; a [`functions::Functions`] of your own adds
+//! others ([`JsonPath::parse_with`]).
+//!
+//! # Limits
+//!
+//! Filters, parentheses and calls may be nested 128 deep. Indexes go up to 2^53 - 1. Number literals have at most nine digits
+//! of a fraction and no exponent. Everything is computed in whole numbers: a number of a document that is not held as an
+//! integer equals nothing and is not ordered.
+//!
+//! # Untrusted input
+//!
+//! Any text may be parsed: a path of n bytes is looked at no more than 32(n + 1) times, and no call ends in a panic, an
+//! overflow or an endless loop. A path may select many nodes, and a node many times, so a list may be much larger than the
+//! document; [`JsonPath::walk`] gives one node at a time and keeps few places. Patterns are handed to `regex`. Nested values
+//! are compared by recursion, and `serde_json` reads, prints and drops them so: bound the depth of a document that you do not
+//! read from bytes.
+//!
+//! # Definitions
+//!
+//! Contracts cite relations in the terms of the RFC: the grammar is in `specs/` of `serde_json_path_parser`, trees and their
+//! typing in those of `serde_json_path_syntax`, what a query selects in those of `serde_json_path_core`. `Paths` here is
+//! what contracts see of a path, `Laws` the law that joins grammar and meaning.
 #![tactic(auto)]
 
 mod laws;

@@ -45,9 +45,9 @@ impl JsonPath {
         }
     }
 
-    /// Reads a path (RFC 9535, section 2.1) whose filters call the built-in functions, as `parse_source` does.
+    /// Parses a path (RFC 9535, section 2.1) whose filters call the built-in functions.
     ///
-    /// An error tells why and where ([`ParseError`]): unless it is `NoMemory`, the text is no path.
+    /// An error says why and where ([`ParseError`]). Unless it is `NoMemory`, the text is no path.
     ///
     /// ```text
     /// let path = JsonPath::parse(alloc, "$.store.book[?@.isbn].title")?;
@@ -61,7 +61,7 @@ impl JsonPath {
         Ok(JsonPath { checked })
     }
 
-    /// Reads a path, as `parse` does. `std::str::FromStr` hands in no allocator.
+    /// Parses a path, as `parse` does. It is no `std::str::FromStr`, since it takes an allocator.
     pub fn from_str(alloc: Global, path_str: &str) -> Result<JsonPath, ParseError>
         ensures parse { IsParseOf builtin_functions.signature path_str.now (parser_answer result) }
         ensures fits { IfOk result (λ path. Fits builtin_functions (path_signatures path)) }
@@ -69,8 +69,8 @@ impl JsonPath {
         JsonPath::parse(alloc, path_str)
     }
 
-    /// Reads a path whose filters call functions of this set, and the built-in ones behind them: of two functions with one
-    /// name that of the set counts.
+    /// Parses a path whose filters call functions of a set and the built-in ones. Of two functions with one name, that of
+    /// the set counts.
     ///
     /// ```text
     /// let path = JsonPath::parse_with(alloc, "$[?first(@.*) == 4]", &functions)?;
@@ -89,8 +89,8 @@ impl JsonPath {
         parse_source(alloc, &mut source, functions)
     }
 
-    /// Whether the set, with the built-in functions behind it, declares each function that the path calls, with the
-    /// signature that the path was read with (RFC 9535, section 2.4.3). Takes no memory.
+    /// Whether the set, before the built-in functions, declares each function that the path calls, with the signature that
+    /// the path was parsed with (RFC 9535, section 2.4.3). Takes no memory.
     pub fn fits<F: Functions>(&self, functions: &F) -> bool
         ensures { IsTrue result
             ↔ Fits (before_builtin (F.set functions.now)) (path_signatures self.now) }
@@ -98,11 +98,11 @@ impl JsonPath {
         self.checked.fits(&Both(functions, Builtin))
     }
 
-    /// What the path selects from a document, with locations, in order (RFC 9535, section 2.1.2), under the built-in
-    /// functions, which the path fits.
+    /// The nodes that the path selects from a document, with their locations, in order (RFC 9535, section 2.1.2). The path
+    /// fits the built-in functions.
     ///
-    /// The nodes and the names of their locations borrow the document. Where an error comes there is no list: `Pattern`
-    /// comes only where the path calls `match` or `search`; every other error is of memory.
+    /// The nodes and the names of their locations borrow the document. The error is `Pattern` only where the path calls
+    /// `match` or `search`; otherwise it is `Memory`.
     pub fn query_located<'b>(
         &self,
         alloc: Global,
@@ -116,9 +116,9 @@ impl JsonPath {
         evaluate_located(alloc, &self.checked, value, Builtin)
     }
 
-    /// What the path selects from a document, with locations, in order, as `query_located` gives it, under this set with
-    /// the built-in functions behind it, which the path fits. Where an error comes there is no list: `Pattern` comes only
-    /// where the path calls a name that stands for `match` or `search`; every other error is of memory.
+    /// The nodes that the path selects from a document, with their locations, in order, as `query_located` gives them. The
+    /// path fits the set, before the built-in functions. The error is `Pattern` only where the path calls a name that
+    /// stands for `match` or `search`; otherwise it is `Memory`.
     pub fn query_located_with<'b, F: Functions>(
         &self,
         alloc: Global,
@@ -133,8 +133,8 @@ impl JsonPath {
         evaluate_located(alloc, &self.checked, value, Both(functions, Builtin))
     }
 
-    /// The values of what the path selects from a document, in order, as `query_located` gives them. No location is made.
-    /// Errors come as there.
+    /// The nodes that the path selects from a document, in order, without their locations. Errors are those of
+    /// `query_located`.
     ///
     /// ```text
     /// let path = JsonPath::parse(alloc, "$..book[-1:].title")?;
@@ -149,8 +149,8 @@ impl JsonPath {
         evaluate(alloc, &self.checked, value, Builtin)
     }
 
-    /// The values of what the path selects from a document, in order, as `query` gives them, under this set with the
-    /// built-in functions behind it, which the path fits. Errors come as in `query_located_with`.
+    /// The nodes that the path selects from a document, in order, without their locations. The path fits the set, before
+    /// the built-in functions. Errors are those of `query_located_with`.
     pub fn query_with<'b, F: Functions>(
         &self,
         alloc: Global,
@@ -165,8 +165,8 @@ impl JsonPath {
         evaluate(alloc, &self.checked, value, Both(functions, Builtin))
     }
 
-    /// A walk over what the path selects in a document, node by node, under this set with the built-in functions behind
-    /// it, which the path fits. An error comes only where memory is refused; no function is called yet.
+    /// A walk over the nodes that the path selects from a document, one at a time. The path fits the set, before the
+    /// built-in functions. It fails only if memory is refused; no function is called yet.
     ///
     /// ```text
     /// let mut walk = path.walk(alloc, &document, &functions)?;

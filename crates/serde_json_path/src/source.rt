@@ -1,4 +1,4 @@
-//! Paths from the sources of their texts.
+//! Paths from sources of their texts.
 
 ghost use Rattle.std.specs.Prelude.{◌≡◌, ◌+◌, ◌-◌, ◌*◌, ◌^◌, ◌≤◌, max, true, length, IfOk, IfErr};
 ghost use Rattle.serde_json_path_functions.specs.Functions.{Fits};
@@ -12,13 +12,13 @@ use serde_json_path_core::functions::{Both, Builtin, Functions};
 use serde_json_path_parser::{ParseError, PathSource, parse};
 use std::alloc::Global;
 
-/// Reads the path that a source tells, from left to right by its `byte` alone; the first refusal that is met is told.
+/// Parses the path of a source's text, from left to right by its `byte` alone, and reports the first refusal.
 ///
-/// Filters call functions of the set, and the built-in ones behind them; the path fits these. A text of n bytes is looked at
-/// 32(n + 1) times at most, and where a root, a name, a selector or a closing bracket is missing, nothing beyond the byte
-/// behind the one that does not fit was looked at.
+/// Filters call functions of the set, before the built-in ones; the path fits these. A text of n bytes is looked at no more
+/// than 32(n + 1) times. Where a root, a name, a selector or a closing bracket is missing, nothing was looked at beyond the
+/// byte after the one that does not fit.
 ///
-/// An error tells why and where ([`ParseError`]): unless it is `NoMemory`, the text is no path. A text of `usize::MAX` bytes,
+/// An error says why and where ([`ParseError`]). Unless it is `NoMemory`, the text is no path. A text of `usize::MAX` bytes,
 /// whose end would have no position, is refused as `NoMemory` before any look.
 ///
 /// ```text
@@ -31,20 +31,21 @@ pub fn parse_source<S: PathSource, F: Functions>(
     source: &mut S,
     functions: &F,
 ) -> Result<JsonPath, ParseError>
-    ensures parse { IsParseOf (before_builtin (F.set functions.now)).signature (S.told source.old).text (parser_answer result) }
-    // The signatures that the path keeps are those of the set, with the built-in ones behind them.
+    ensures parse { IsParseOf (before_builtin (F.set functions.now)).signature
+        (S.told source.old).text (parser_answer result) }
+    // The signatures that the path keeps are those of the set, before the built-in ones.
     ensures fits { IfOk result (λ path.
         Fits (before_builtin (F.set functions.now)) (path_signatures path)) }
-    // The source still tells its text.
+    // The source still has its text.
     ensures same_text { (S.told source.new).text ≡ (S.told source.old).text }
-    // However the parse ends, there are at most 32(n + 1) looks more at n bytes.
+    // However the parse ends, it took at most 32(n + 1) looks at n bytes.
     ensures looks { (S.told source.new).looks
         ≤ (S.told source.old).looks + 32 * (length (S.told source.old).text + 1) }
-    // Of four kinds nothing beyond the byte behind the position was looked at.
+    // For four kinds of refusal, nothing was looked at beyond the byte after the position.
     ensures farthest { IfErr result (λ e. is_told_at_next (kind_of e) ≡ true
         → (S.told source.new).farthest ≤ max (S.told source.old).farthest (position_of e + 1)) }
-    ensures unseen { length (S.told source.old).text ≡ 2 ^ 64 - 1 → S.told source.new
-        ≡ S.told source.old }
+    ensures unseen { length (S.told source.old).text ≡ 2 ^ 64 - 1
+        → S.told source.new ≡ S.told source.old }
 {
     let checked = parse(alloc, source, &Both(functions, Builtin))?;
     Ok(JsonPath { checked })

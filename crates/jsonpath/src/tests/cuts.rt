@@ -1,4 +1,4 @@
-//! Documents that are cut at each byte.
+//! Documents cut at each byte.
 
 use crate::report::{DocumentError, ReportError, report};
 use crate::tests::reports::{BOOKSTORE, READINGS};
@@ -40,7 +40,7 @@ fn is_line(text: &str) -> bool {
     }
 }
 
-/// Of a document there is one line, or it is no JSON text.
+/// Asserts that the report of a document under `$` is one line, or that it is no JSON text.
 fn is_line_or_no_json(rt: &impl Abort, alloc: Global, document: &[u8]) {
     match report(alloc, "$", document) {
         Ok(lines) => assert!(rt; is_line(lines.as_str()), "{lines:?}"),
@@ -49,7 +49,7 @@ fn is_line_or_no_json(rt: &impl Abort, alloc: Global, document: &[u8]) {
     }
 }
 
-/// Cuts a document at each byte.
+/// Reports on each beginning of a document.
 fn cut(rt: &impl Abort, alloc: Global, document: &[u8]) {
     for end in 0..document.len() + 1 {
         if let Some(start) = document.get(..end) {
@@ -58,7 +58,7 @@ fn cut(rt: &impl Abort, alloc: Global, document: &[u8]) {
     }
 }
 
-/// Cuts each document at each byte.
+/// Reports on each beginning of each document.
 fn cut_each(rt: &impl Abort, alloc: Global, documents: &[&str]) {
     for &document in documents {
         cut(rt, alloc, document.as_bytes());

@@ -59,7 +59,7 @@ fn words(alloc: Global, of: &[&str]) -> Result<Vec<String>, std::alloc::AllocErr
     Ok(words)
 }
 
-/// The words, the input, and the status with what goes out and what is told.
+/// The words, the input, the status, and the texts on the output and on the output of errors.
 const RUNS: [(&[&str], &str, u8, &str, &str); 10] = [
     (&["$.a"], r#"{"a":[1]}"#, 0, "$['a']\t[1]\n", ""),
     (
@@ -93,7 +93,7 @@ const RUNS: [(&[&str], &str, u8, &str, &str); 10] = [
 
 #[test]
 fn statuses_and_texts(rt: HostRuntime) -> Result<(), Fail> {
-    for (given, document, status, printed, told) in RUNS {
+    for (given, document, status, printed, reported) in RUNS {
         let mut input = Input::of(document.as_bytes());
         let mut out = Vec::new(rt.alloc());
         let mut err = Vec::new(rt.alloc());
@@ -101,7 +101,7 @@ fn statuses_and_texts(rt: HostRuntime) -> Result<(), Fail> {
         let answer = run(rt.alloc(), &words, &mut input, &mut out, &mut err);
         assert_eq!(rt; answer, status, "{document}");
         assert_eq!(rt; out.as_slice(), printed.as_bytes());
-        assert_eq!(rt; err.as_slice(), told.as_bytes());
+        assert_eq!(rt; err.as_slice(), reported.as_bytes());
         assert_eq!(rt; input.reads == 0, status == 64, "{document}");
     }
     Ok(())
@@ -123,16 +123,16 @@ fn failing_reads_and_writes(rt: HostRuntime) -> Result<(), Fail> {
     );
 
     let root = words(rt.alloc(), &["$"])?;
-    let mut told = Vec::new(rt.alloc());
+    let mut err = Vec::new(rt.alloc());
     let status = run(
         rt.alloc(),
         &root,
         &mut Input::of(b"1"),
         &mut Broken,
-        &mut told,
+        &mut err,
     );
     assert_eq!(rt; status, 3);
-    assert_eq!(rt; told.as_slice(), b"jsonpath: output failed\n".as_slice());
+    assert_eq!(rt; err.as_slice(), b"jsonpath: output failed\n".as_slice());
     let status = run(
         rt.alloc(),
         &root,
@@ -145,7 +145,7 @@ fn failing_reads_and_writes(rt: HostRuntime) -> Result<(), Fail> {
 }
 
 #[test]
-fn tells_refused_queries(rt: HostRuntime) -> Result<(), Fail> {
+fn reports_refused_queries(rt: HostRuntime) -> Result<(), Fail> {
     for (error, line) in [
         (QueryError::Memory, "jsonpath: query: no memory\n"),
         (QueryError::Pattern, "jsonpath: query: pattern refused\n"),

@@ -1,4 +1,4 @@
-//! The lines that are made of paths and documents, and why there are none.
+//! The lines of reports, and refusals of paths and documents.
 
 use crate::report::report;
 use std::alloc::{AllocError, Global};
@@ -22,7 +22,7 @@ pub(crate) const READINGS: &str = concat!(
     r#"{"val":42,"msg":"biz"},{"val":48,"msg":"bop"}]}"#
 );
 
-/// A path, a document, and the lines that are made of them.
+/// A path, a document, and the lines of their report.
 const LINES: &[(&str, &str, &str)] = &[
     ("$", "null", "$\tnull\n"),
     ("$", r#"{"b":1,"a":[true]}"#, "$\t{\"a\":[true],\"b\":1}\n"),
@@ -72,7 +72,7 @@ const LINES: &[(&str, &str, &str)] = &[
     ),
 ];
 
-/// Each row has a path, a document, and the lines that are made of them.
+/// Compares the report of each row's path and document with its lines.
 fn reports_each(rt: &impl Abort, alloc: Global, rows: &[(&str, &str, &str)]) -> Result<(), Fail> {
     for &(path, document, lines) in rows {
         let text = report(alloc, path, document.as_bytes())?;
@@ -86,8 +86,8 @@ fn lines_of_paths(rt: HostRuntime) -> Result<(), Fail> {
     reports_each(&rt, rt.alloc(), LINES)
 }
 
-/// A path, the bytes of a document, and what is told of them.
-const TOLD: &[(&str, &[u8], &str)] = &[
+/// A path, the bytes of a document, and the text of the refusal.
+const REFUSED: &[(&str, &[u8], &str)] = &[
     ("x", b"{", "at position 1, expected '$'"),
     ("$.a ", b"null", "at position 4, text after the path"),
     ("$", b"1 2", "not JSON"),
@@ -105,35 +105,35 @@ const TOLD: &[(&str, &[u8], &str)] = &[
     ),
 ];
 
-/// Holds a path and a document to what is told of their refusal.
+/// Compares the refusal of a path and a document with its text.
 fn refuses(
     rt: &impl Abort,
     alloc: Global,
     path: &str,
     document: &[u8],
-    told: &str,
+    text: &str,
 ) -> Result<(), Fail> {
     match report(alloc, path, document) {
         Ok(_) => assert!(rt; false, "{path} is not refused"),
-        Err(e) => assert_eq!(rt; e.to_string(alloc)?.as_str(), told, "of {path}"),
+        Err(e) => assert_eq!(rt; e.to_string(alloc)?.as_str(), text, "of {path}"),
     }
     Ok(())
 }
 
-/// Each row has a path, the bytes of a document, and what is told of them.
+/// Compares the refusal of each row's path and document with its text.
 fn refuses_each(rt: &impl Abort, alloc: Global, rows: &[(&str, &[u8], &str)]) -> Result<(), Fail> {
-    for &(path, document, told) in rows {
-        refuses(rt, alloc, path, document, told)?;
+    for &(path, document, text) in rows {
+        refuses(rt, alloc, path, document, text)?;
     }
     Ok(())
 }
 
 #[test]
 fn refusals_of_paths_and_documents(rt: HostRuntime) -> Result<(), Fail> {
-    refuses_each(&rt, rt.alloc(), TOLD)
+    refuses_each(&rt, rt.alloc(), REFUSED)
 }
 
-/// Puts a character so many times behind a text.
+/// Appends a character `times` times.
 fn push_times(text: &mut String, c: char, times: usize) -> Result<(), AllocError> {
     for _ in 0..times {
         text.push(c)?;
@@ -141,7 +141,7 @@ fn push_times(text: &mut String, c: char, times: usize) -> Result<(), AllocError
     Ok(())
 }
 
-/// So many arrays, each within the one before.
+/// `depth` empty arrays within each other.
 fn nested(alloc: Global, depth: usize) -> Result<String, AllocError> {
     let mut text = String::new(alloc);
     push_times(&mut text, '[', depth)?;

@@ -69,7 +69,7 @@ fn filters_call_the_samples(rt: HostRuntime) -> Result<(), Fail> {
     Ok(())
 }
 
-/// Holds what a parse gives to the kind and the position of its refusal.
+/// Asserts that a parse was refused with this kind and at this position.
 fn refuses(
     rt: &impl Abort,
     text: &str,
