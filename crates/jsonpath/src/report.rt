@@ -97,8 +97,10 @@ fn lines(alloc: Global, nodes: &LocatedNodeList<'_>) -> Result<String, AllocErro
 /// ```
 pub fn report(alloc: Global, path: &str, document: &[u8]) -> Result<String, ReportError>
     ensures lines { IfOk result (λ text. IsReportOf path.now document.now (string_bytes text)) }
-    ensures path_refused { (e : path_error.ParseError) → result ≡ Err (ReportError.Path e) → IsParseOf builtin_functions.signature path.now (Err e) }
-    ensures not_json { result ≡ Err (ReportError.Document DocumentError.NotJson) → (d : Data) → ReadsAs document.now d → ⊥ }
+    ensures path_refused { (e : path_error.ParseError) → result ≡ Err (ReportError.Path e)
+        → IsParseOf builtin_functions.signature path.now (Err e) }
+    ensures not_json { result ≡ Err (ReportError.Document DocumentError.NotJson) → (d : Data)
+        → ReadsAs document.now d → ⊥ }
 {
     let path = JsonPath::parse(alloc, path).map_err(ReportError::Path)?;
     let value = self::document(alloc, document).map_err(ReportError::Document)?;

@@ -90,13 +90,15 @@ pub fn run<R: Read, W: Write, E: Write>(
     ensures usage { (result ≡ 64) ↔ (length words.now ≢ 1) }
     ensures unread { length words.now ≢ 1 → input.new ≡ input.old }
     // A path is refused only as the parse refuses it.
-    ensures path_refused { result ≡ 1 → (path : List ℕ) × IsOneWord words.now path × ((e : ParseError) × IsParseOf builtin_functions.signature path (Err e)) }
+    ensures path_refused { result ≡ 1
+        → (path : List ℕ) × IsOneWord words.now path × ((e : ParseError) × IsParseOf builtin_functions.signature path (Err e)) }
     // Nothing goes out but the lines of a run that is done, or a part of them where writing failed.
     ensures nothing_out { result ≢ 0 → result ≢ 3 → out.new ≡ out.old }
     // When a run is done, over a reader and a writer that tell their bytes: the input was read to its end, its report went
     // out, and nothing else.
     ensures read_whole { result ≡ 0 → IsAtEnd (R.remaining input.new) }
-    ensures report_out { result ≡ 0 → (document text path : List ℕ) × IsOneWord words.now path × IfSome (R.remaining input.old) (λ bytes. document ≡ bytes)
+    ensures report_out { result ≡ 0
+        → (document text path : List ℕ) × IsOneWord words.now path × IfSome (R.remaining input.old) (λ bytes. document ≡ bytes)
         × IsReportOf path document text × Appends (W.contents out.old) (W.contents out.new) text }
     ensures nothing_told { result ≡ 0 → err.new ≡ err.old }
 {

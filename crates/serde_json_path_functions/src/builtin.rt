@@ -75,7 +75,8 @@ fn texts_match(
     text: &ValueType,
     pattern: &ValueType,
 ) -> Result<bool, QueryError>
-    ensures { IfOk result (λ found. let terms = value (value_view text.now) ∷ value (value_view pattern.now) ∷ [] in
+    ensures { IfOk result (λ found.
+        let terms = value (value_view text.now) ∷ value (value_view pattern.now) ∷ [] in
         IsPromised (Some (matching_view matching)) terms → logical found ≡ pattern_meaning (matching_view matching) terms) }
 {
     match (text.as_value(), pattern.as_value()) {
@@ -92,7 +93,8 @@ fn pattern_answer<'b>(
     matching: Matching,
     args: &[FunctionValue<'b>],
 ) -> Result<FunctionValue<'b>, QueryError>
-    ensures means { IfOk result (λ answer. IsPromised (Some (matching_view matching)) (map term_view args.now)
+    ensures means { IfOk result (λ answer.
+        IsPromised (Some (matching_view matching)) (map term_view args.now)
         → term_view answer ≡ pattern_meaning (matching_view matching) (map term_view args.now)) }
     ensures typed_answer { IfOk result (λ answer. kind_of_term (term_view answer) ≡ of_logical) }
 {

@@ -20,7 +20,8 @@ pub(crate) enum Matching {
 
 /// The pattern that `regex` is given. Under its flag `R` a dot matches neither a line feed nor a carriage return.
 fn built_text(alloc: Global, matching: Matching, pattern: &str) -> Result<String, AllocError>
-    ensures { IfOk result (λ text. string_bytes text ≡ spec.built_text (matching_view matching) pattern.now) }
+    ensures { IfOk result (λ text.
+        string_bytes text ≡ spec.built_text (matching_view matching) pattern.now) }
 {
     let (before, after) = match matching {
         Matching::WholeText => ("(?R)^(", ")$"),
@@ -40,7 +41,8 @@ pub(crate) fn is_found(
     pattern: &str,
     text: &str,
 ) -> Result<bool, QueryError>
-    ensures { IfOk result (λ found. IsWithinNesting (spec.built_text (matching_view matching) pattern.now)
+    ensures { IfOk result (λ found.
+        IsWithinNesting (spec.built_text (matching_view matching) pattern.now)
         → found ≡ spec.is_found (spec.built_text (matching_view matching) pattern.now) text.now) }
 {
     let built = built_text(alloc, matching, pattern)?;

@@ -38,9 +38,11 @@ pub trait Functions {
         args: Vec<FunctionValue<'b>>,
     ) -> Result<FunctionValue<'b>, QueryError>
         requires { Takes ((set self.now).signature name.now) (map term_view args.items) }
-        ensures means { IfOk result (λ answer. IsPromised ((set self.now).by_regex name.now) (map term_view args.entry.items)
+        ensures means { IfOk result (λ answer.
+            IsPromised ((set self.now).by_regex name.now) (map term_view args.entry.items)
             → term_view answer ≡ (set self.now).meaning name.now (map term_view args.entry.items)) }
-        ensures typed_answer { IfOk result (λ answer. Gives ((set self.now).signature name.now) (term_view answer)) }
+        ensures typed_answer { IfOk result (λ answer.
+            Gives ((set self.now).signature name.now) (term_view answer)) }
         ensures pattern { result ≡ Err Pattern → IsSome ((set self.now).by_regex name.now) };
 }
 

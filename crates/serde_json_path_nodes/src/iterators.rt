@@ -107,7 +107,8 @@ impl<'a, 'b> Iterator for LocatedNodes<'a, 'b> {
     fn size_hint(&self) -> (usize, Option<usize>)
         ensures lower { result.0 ≤ length (located_nodes_left self.now) }
         ensures upper { IfSome result.1 (UpTo (at_most (length (located_nodes_left self.now)))) }
-        ensures exact { result ≡ (length (located_nodes_left self.now), Some (length (located_nodes_left self.now))) }
+        ensures exact { result
+            ≡ (length (located_nodes_left self.now), Some (length (located_nodes_left self.now))) }
     {
         let len = self.left.len();
         (len, Some(len))
@@ -175,7 +176,8 @@ impl<'a, 'b> Iterator for Nodes<'a, 'b> {
     fn size_hint(&self) -> (usize, Option<usize>)
         ensures lower { result.0 ≤ length (node_values_left self.now) }
         ensures upper { IfSome result.1 (UpTo (at_most (length (node_values_left self.now)))) }
-        ensures exact { result ≡ (length (node_values_left self.now), Some (length (node_values_left self.now))) }
+        ensures exact { result
+            ≡ (length (node_values_left self.now), Some (length (node_values_left self.now))) }
     {
         let len = self.len();
         (len, Some(len))

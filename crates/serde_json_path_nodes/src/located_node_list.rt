@@ -95,8 +95,10 @@ impl<'b> LocatedNodeList<'b> {
     ///
     /// For more than one node the error says how many there are.
     pub fn at_most_one(mut self) -> Result<Option<LocatedNode<'b>>, AtMostOneError>
-        ensures ok { IfOk result (λ node. at_most_one_of (located_nodes self.entry) ≡ Ok (option_map located node)) }
-        ensures err { IfErr result (λ error. at_most_one_of (located_nodes self.entry) ≡ Err error) }
+        ensures ok { IfOk result (λ node.
+            at_most_one_of (located_nodes self.entry) ≡ Ok (option_map located node)) }
+        ensures err { IfErr result (λ error.
+            at_most_one_of (located_nodes self.entry) ≡ Err error) }
     {
         let found = self.len();
         if found > 1 {
@@ -109,8 +111,10 @@ impl<'b> LocatedNodeList<'b> {
     ///
     /// The error is `Empty` for an empty list; for more than one node it is `MoreThanOne`, and says how many there are.
     pub fn exactly_one(mut self) -> Result<LocatedNode<'b>, ExactlyOneError>
-        ensures ok { IfOk result (λ node. exactly_one_of (located_nodes self.entry) ≡ Ok (located node)) }
-        ensures err { IfErr result (λ error. exactly_one_of (located_nodes self.entry) ≡ Err error) }
+        ensures ok { IfOk result (λ node.
+            exactly_one_of (located_nodes self.entry) ≡ Ok (located node)) }
+        ensures err { IfErr result (λ error.
+            exactly_one_of (located_nodes self.entry) ≡ Err error) }
     {
         let found = self.len();
         if found > 1 {

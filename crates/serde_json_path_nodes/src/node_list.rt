@@ -67,7 +67,8 @@ impl<'b> NodeList<'b> {
     ///
     /// For more than one node the error says how many there are.
     pub fn at_most_one(&self) -> Result<Option<&'b Value>, AtMostOneError>
-        ensures ok { IfOk result (λ node. at_most_one_of (node_values self.now) ≡ Ok (option_map node_value node)) }
+        ensures ok { IfOk result (λ node.
+            at_most_one_of (node_values self.now) ≡ Ok (option_map node_value node)) }
         ensures err { IfErr result (λ error. at_most_one_of (node_values self.now) ≡ Err error) }
     {
         match self.nodes.as_slice() {
@@ -81,7 +82,8 @@ impl<'b> NodeList<'b> {
     ///
     /// The error is `Empty` for an empty list; for more than one node it is `MoreThanOne`, and says how many there are.
     pub fn exactly_one(&self) -> Result<&'b Value, ExactlyOneError>
-        ensures ok { IfOk result (λ node. exactly_one_of (node_values self.now) ≡ Ok (node_value node)) }
+        ensures ok { IfOk result (λ node.
+            exactly_one_of (node_values self.now) ≡ Ok (node_value node)) }
         ensures err { IfErr result (λ error. exactly_one_of (node_values self.now) ≡ Err error) }
     {
         match self.nodes.as_slice() {
