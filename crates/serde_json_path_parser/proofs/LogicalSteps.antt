@@ -31,16 +31,12 @@ use Rattle.serde_json_path_parser.proofs.Levels.{level_laws}
 use Rattle.serde_json_path_parser.proofs.LogicalTexts.{IsBasicText, IsAndText, next_basic_sound, next_and_sound}
 use Rattle.serde_json_path_parser.proofs.Many as m
 use Rattle.serde_json_path_parser.proofs.Many.{with_front}
+use Rattle.serde_json_path_parser.proofs.Refusals.{first_fails}
 use Rattle.serde_json_path_parser.proofs.Rows as r
 use Rattle.serde_json_path_parser.proofs.Runs.{some_begun}
 use Rattle.serde_json_path_parser.proofs.Steps.{chosen, done, ok_is, bind_ok}
 
 -- ---- one step
-
--- where a step stops, all that goes on with it stops
-pub fails_on : {A B : Type 0} (s : Stop) (read : Result A Refusal) (f : A → Result B Refusal) → Fails s read → Fails s (read >>= f)
-fails_on stops.Memory read f h = tt
-fails_on (stops.Refused r) read f h = rw h refl
 
 -- a step that only makes something of what is read stops where that stops
 made_err : {A B : Type 0} (read : Result A Refusal) (make : A → B) (r : Refusal) → (read >>= λ a. Ok (make a)) ≡ Err r → read ≡ Err r
@@ -95,7 +91,7 @@ module _ {A B : Type 0} {sign : ℕ} {item next : List ℕ → Parsed A} {join :
   row_fails s first before start cs ds t e fails h =
       let all : Parsed (List A) = with_front (first ∷ []) (read_more start) in
       let refused = m.fails (begins_both sign sign) next row.takes s before cs all t (subst (Fails s) (sym (next_reads cs ds e)) fails) h in
-      subst (Fails s) (sym (row.whole_is first start ∙ with_first first (read_more start))) (fails_on s all joined refused)
+      subst (Fails s) (sym (row.whole_is first start ∙ with_first first (read_more start))) (first_fails s all joined refused)
 
   pub row_done : (first : A) (before : List A) (start cs : List ℕ) → begins_both sign sign cs ≡ false → with_front before (read_more cs) ≡ with_front (first ∷ []) (read_more start)
       → behind_first first start ≡ Ok (join before, cs)
@@ -167,20 +163,20 @@ module _ (signature : List ℕ → Option Signature) (deeper : Deeper) (start : 
 
     operand_stops : (s : Stop) (es : List ℕ) → Fails s (operand_at signature deeper es) → Fails s (right_side_at signature deeper es)
     unfolding right_side_at
-    operand_stops s es h = fails_on s (operand_at signature deeper es) _ h
+    operand_stops s es h = first_fails s (operand_at signature deeper es) _ h
 
     -- where one of the three stops, and where none does
     pub left_fails : (s : Stop) → Fails s (comparable_at signature deeper start o ds) → Fails s (basic_from signature deeper start o cs)
-    left_fails s h = subst (Fails s) (sym operator_read) (fails_on s (comparable_at signature deeper start o ds) _ h)
+    left_fails s h = subst (Fails s) (sym operator_read) (first_fails s (comparable_at signature deeper start o ds) _ h)
 
     pub operand_fails : (s : Stop) (a : Comparable) (es : List ℕ) → comparable_at signature deeper start o ds ≡ Ok (a, es) → Fails s (operand_at signature deeper es)
         → Fails s (basic_from signature deeper start o cs)
-    operand_fails s a es e h = subst (Fails s) (sym (left_read a es e)) (fails_on s (right_side_at signature deeper es) _ (operand_stops s es h))
+    operand_fails s a es e h = subst (Fails s) (sym (left_read a es e)) (first_fails s (right_side_at signature deeper es) _ (operand_stops s es h))
 
     pub right_fails : (s : Stop) (a : Comparable) (es fs : List ℕ) (p : Operand) → comparable_at signature deeper start o ds ≡ Ok (a, es) → operand_at signature deeper es ≡ Ok (p, fs)
         → Fails s (comparable_at signature deeper es p fs)
         → Fails s (basic_from signature deeper start o cs)
-    right_fails s a es fs p e read h = subst (Fails s) (sym (left_read a es e)) (fails_on s (right_side_at signature deeper es) _ (subst (Fails s) (sym (right_is es fs p read)) h))
+    right_fails s a es fs p e read h = subst (Fails s) (sym (left_read a es e)) (first_fails s (right_side_at signature deeper es) _ (subst (Fails s) (sym (right_is es fs p read)) h))
 
     pub relation_read : (a b : Comparable) (es fs gs : List ℕ) (p : Operand) → comparable_at signature deeper start o ds ≡ Ok (a, es) → operand_at signature deeper es ≡ Ok (p, fs)
         → comparable_at signature deeper es p fs ≡ Ok (b, gs)

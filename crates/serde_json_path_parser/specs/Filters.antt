@@ -4,6 +4,7 @@
 use Rattle.std.specs.Prelude.{ℕ, zero, suc, ◌==◌, ◌||◌, ◌&&◌, Bool, true, false, List, [], ◌∷◌, length, drop, codes, bytes_eq, Option, Some, None, Result, Ok, Err, if◌then◌else◌}
 use Rattle.serde_json_path_syntax.specs.Tree.{QueryKind, root, current, Query, query, Segments, Selector, filter, LogicalOr, no_or, or, LogicalAnd, no_and, and, Basic, paren, not_paren, relation, exist, not_exist, test, not_test, Comparable, literal, singular, called, Call, call, Arguments, no_arguments, argument, Argument, literal_argument, query_argument, call_argument, logical_argument, text, number, truth, null, Operator, equal, not_equal, less, less_or_equal, greater, greater_or_equal}
 use Rattle.serde_json_path_syntax.specs.Typing.{result_kind}
+use Rattle.serde_json_path_syntax.specs.Used.{deepest}
 use Rattle.serde_json_path_functions.specs.Functions.{Kind, of_value, Signature}
 use Rattle.serde_json_path_parser.specs.declared.error.ParseErrorKind.TheVariants.{ExpectedRoot, ExpectedExpression, ExpectedClosingParenthesis, ExpectedComparisonOperator, NonSingularQuery, UndefinedFunction, WrongNumberOfArguments, WrongArgumentType, WrongReturnType, NestedTooDeep, TextAfterPath}
 use Rattle.serde_json_path_parser.specs.declared.error.Place.TheVariants as place
@@ -246,6 +247,6 @@ module _ (signature : List ℕ → Option Signature) where
   unfoldable pub path_at : List ℕ → Result Segments Refusal
   path_at cs =
       if begins (λ c. c == 36) cs then
-      (segments_at (filter_at signature (level 128)) place.Path (drop 1 cs) >>= λ ss.
+      (segments_at (filter_at signature (level deepest)) place.Path (drop 1 cs) >>= λ ss.
       if length ss.1 == 0 then Ok (segment_list ss.0) else Err (refusal TextAfterPath place.Path ss.1))
       else Err (refusal ExpectedRoot place.Path cs)
