@@ -1,6 +1,6 @@
 -- The ASCII characters of a member name that are taken many at a time.
 use Rattle.std.proofs.Common.{◌≡◌, ℕ, zero, suc, ◌+◌, ◌-◌, ◌<◌, ◌≤◌, Bool, true, false, List, [], ◌∷◌, ◌++◌, length, take, drop, set, Some, Result, Ok, Err, is_ok, IfOk, if◌then◌else◌, refl, sym, ap, ◌∙◌, append_assoc, arith}
-use Rattle.std.specs.Prelude.{slice_get, ◌&&◌, nat_le, nat_lt, ◌^◌, max}
+use Rattle.std.specs.Prelude.{slice_get, nat_le, nat_lt, ◌^◌, max}
 use Rattle.std.specs.Str.{is_utf8, chars, IsAscii, encode_utf8_all}
 use Rattle.std.proofs.lemmas.Bool.{and_parts}
 use Rattle.std.proofs.lemmas.List.{take_more_set}

@@ -1,7 +1,6 @@
 //! Calls of functions (RFC 9535, section 2.4).
 
 ghost use Rattle.std.specs.Prelude.{◌≡◌, ◌==◌, ◌<◌, ℕ, List, drop, length, map, true, string_bytes, ◌≤◌, Option, IfOk};
-ghost use Rattle.std.specs.Str.{encode_utf8_all};
 ghost use Rattle.serde_json_path_syntax.specs.Parts.{KeepsParts, IsPart};
 ghost use Rattle.serde_json_path_syntax.specs.Piece.{an_argument};
 ghost use Rattle.serde_json_path_functions.specs.Functions.{Signature};
@@ -97,7 +96,7 @@ fn end<S: PathSource>(
     requires { 0 < length (left reader.old) }
     ensures moves { Moves reader.old reader.new }
     ensures near { IsNear result reader.new }
-    ensures gives { (place : List ℕ) → start ≡ length (encode_utf8_all place) → GivesEnd result reader.new (ended place (map kind_view kinds.now) (drop 1 (left reader.old))) }
+    ensures gives { GivesEnd result reader.new (ended start (map kind_view kinds.now) (drop 1 (left reader.old))) }
 {
     if !kinds.is_empty() {
         return Err(Stop::in_long_hand(ParseErrorKind::WrongNumberOfArguments, start));
@@ -122,8 +121,7 @@ impl<F: Functions> Level<'_, F> {
         ensures moves { Moves reader.old reader.new }
         ensures near { IsNear result reader.new }
         ensures keeps { KeepsParts builder.old builder.new }
-        ensures gives { (place : List ℕ) → start ≡ length (encode_utf8_all place)
-            → MakesCall (signatures F.set self.now) builder.new result reader.new ((deeper F.set self.now).call_of place (string_bytes name) (drop 1 (left reader.old))) }
+        ensures gives { MakesCall (signatures F.set self.now) builder.new result reader.new ((deeper F.set self.now).call_of start (string_bytes name) (drop 1 (left reader.old))) }
     {
         if self.depth == 0 {
             return Err(Stop::in_long_hand(ParseErrorKind::NestedTooDeep, start));
@@ -154,8 +152,7 @@ impl<F: Functions> Level<'_, F> {
         ensures moves { Moves reader.old reader.new }
         ensures near { IsNear result reader.new }
         ensures keeps { KeepsParts builder.old builder.new }
-        ensures gives { (place : List ℕ) → start ≡ length (encode_utf8_all place)
-            → MakesArguments builder.new parts.old.items parts.new.items result reader.new (filters.parameters_at (signatures F.set self.now) (deeper F.set self.now) place (map kind_view kinds.now) (left reader.old)) }
+        ensures gives { MakesArguments builder.new parts.old.items parts.new.items result reader.new (filters.parameters_at (signatures F.set self.now) (deeper F.set self.now) start (map kind_view kinds.now) (left reader.old)) }
     {
         if reader.sees(b')') {
             return end(reader, start, kinds);
@@ -177,8 +174,8 @@ impl<F: Functions> Level<'_, F> {
         ensures moves { Moves reader.old reader.new }
         ensures near { IsNear result reader.new }
         ensures keeps { KeepsParts builder.old builder.new }
-        ensures gives { (place : List ℕ) → start ≡ length (encode_utf8_all place) → (fuel : ℕ) → length (left reader.old) ≤ fuel
-            → MakesArguments builder.new parts.old.items parts.new.items result reader.new (filters.arguments_at (signatures F.set self.now) (deeper F.set self.now) fuel place (map kind_view kinds.now) (left reader.old)) }
+        ensures gives { (fuel : ℕ) → length (left reader.old) ≤ fuel
+            → MakesArguments builder.new parts.old.items parts.new.items result reader.new (filters.arguments_at (signatures F.set self.now) (deeper F.set self.now) fuel start (map kind_view kinds.now) (left reader.old)) }
     {
         let begin = reader.bytes_left();
         let argument = self.argument(builder, reader)?;

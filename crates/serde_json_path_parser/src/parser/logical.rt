@@ -1,7 +1,6 @@
 //! Logical expressions (RFC 9535, section 2.3.5.1).
 
 ghost use Rattle.std.specs.Prelude.{◌≡◌, ◌==◌, ◌<◌, ℕ, List, drop, length, true, IfOk};
-ghost use Rattle.std.specs.Str.{encode_utf8_all};
 ghost use Rattle.serde_json_path_syntax.specs.Parts.{KeepsParts, IsPart};
 ghost use Rattle.serde_json_path_syntax.specs.Piece.{an_or, an_and, a_basic};
 ghost use Rattle.serde_json_path_syntax.specs.Tree as tree;
@@ -11,7 +10,7 @@ ghost use Rattle.serde_json_path_parser.specs.Giving.{Makes, IsOperandOf, IsNear
 ghost use Rattle.serde_json_path_parser.specs.Levels.{signatures, deeper};
 ghost use Rattle.serde_json_path_parser.specs.Lexical.{begins, is_small_letter};
 ghost use Rattle.serde_json_path_parser.specs.Operands as operands;
-ghost use Rattle.serde_json_path_parser.specs.Parsed.{past_blanks};
+ghost use Rattle.serde_json_path_parser.specs.Parsed.{byte_count, past_blanks};
 ghost use Rattle.serde_json_path_parser.specs.Reading.{left, Moves};
 
 use crate::error::{ParseErrorKind, Place, Stop};
@@ -35,7 +34,7 @@ impl<F: Functions> Level<'_, F> {
         ensures moves { Moves reader.old reader.new }
         ensures near { IsNear result reader.new }
         ensures keeps { KeepsParts builder.old builder.new }
-        ensures gives { Makes an_or builder.new result reader.new ((deeper F.set self.now).expression (left reader.old) (past_blanks (drop 1 (left reader.old)))) }
+        ensures gives { Makes an_or builder.new result reader.new ((deeper F.set self.now).expression (byte_count (left reader.old)) (past_blanks (drop 1 (left reader.old)))) }
     {
         if self.depth == 0 {
             return Err(reader.refuse(ParseErrorKind::NestedTooDeep, Place::LongHand));
@@ -174,8 +173,7 @@ impl<F: Functions> Level<'_, F> {
         ensures near { IsNear result reader.new }
         ensures keeps { KeepsParts builder.old builder.new }
         ensures made { IfOk result (λ part. (b : tree.Basic) × IsPart builder.new part (a_basic b)) }
-        ensures gives { (x : operands.Operand) → IsOperandOf (signatures F.set self.now) builder.old operand x → (place : List ℕ) → start ≡ length (encode_utf8_all place)
-            → Makes a_basic builder.new result reader.new (filters.basic_from (signatures F.set self.now) (deeper F.set self.now) place x (left reader.old)) }
+        ensures gives { (x : operands.Operand) → IsOperandOf (signatures F.set self.now) builder.old operand x → Makes a_basic builder.new result reader.new (filters.basic_from (signatures F.set self.now) (deeper F.set self.now) start x (left reader.old)) }
     {
         let Some(operator) = operator(reader) else {
             return self.test(builder, reader, start, operand);

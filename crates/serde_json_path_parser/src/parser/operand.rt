@@ -1,7 +1,6 @@
 //! Operands: what a filter compares or tests, read before its use is known (RFC 9535, section 2.3.5.1).
 
 ghost use Rattle.std.specs.Prelude.{◌≡◌, ◌==◌, ◌<◌, ℕ, List, length, true, Option};
-ghost use Rattle.std.specs.Str.{encode_utf8_all};
 ghost use Rattle.serde_json_path_syntax.specs.Flat.{kind_view};
 ghost use Rattle.serde_json_path_syntax.specs.Parts.{KeepsParts};
 ghost use Rattle.serde_json_path_syntax.specs.Piece.{a_query, a_comparable, a_basic};
@@ -151,8 +150,7 @@ impl<F: Functions> Level<'_, F> {
         requires { (x : operands.Operand) × IsOperandOf (signatures F.set self.now) builder.old operand x }
         ensures near { IsNear result reader.now }
         ensures keeps { KeepsParts builder.old builder.new }
-        ensures gives { (x : operands.Operand) → IsOperandOf (signatures F.set self.now) builder.old operand x → (place : List ℕ) → start ≡ length (encode_utf8_all place)
-            → Makes a_comparable builder.new result reader.now (comparable_at (signatures F.set self.now) (deeper F.set self.now) place x (left reader.now)) }
+        ensures gives { (x : operands.Operand) → IsOperandOf (signatures F.set self.now) builder.old operand x → Makes a_comparable builder.new result reader.now (comparable_at (signatures F.set self.now) (deeper F.set self.now) start x (left reader.now)) }
     {
         match operand {
             Operand::Literal(literal) => {
@@ -188,8 +186,7 @@ impl<F: Functions> Level<'_, F> {
         requires { (x : operands.Operand) × IsOperandOf (signatures F.set self.now) builder.old operand x }
         ensures near { IsNear result reader.now }
         ensures keeps { KeepsParts builder.old builder.new }
-        ensures gives { (x : operands.Operand) → IsOperandOf (signatures F.set self.now) builder.old operand x → (place : List ℕ) → start ≡ length (encode_utf8_all place)
-            → Makes a_basic builder.new result reader.now (test_at (signatures F.set self.now) (deeper F.set self.now) place x (left reader.now)) }
+        ensures gives { (x : operands.Operand) → IsOperandOf (signatures F.set self.now) builder.old operand x → Makes a_basic builder.new result reader.now (test_at (signatures F.set self.now) (deeper F.set self.now) start x (left reader.now)) }
     {
         match operand {
             Operand::Literal(_literal) => Err(reader.refuse(

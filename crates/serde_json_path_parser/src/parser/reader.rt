@@ -36,7 +36,7 @@ pub(crate) struct Reader<'s, S: PathSource> {
 
 impl<'s, S: PathSource> Reader<'s, S> {
     ghost use Rattle.std.specs.Str.{encode_utf8_all};
-    ghost use Rattle.serde_json_path_parser.specs.Parsed.{refusal, past_blanks};
+    ghost use Rattle.serde_json_path_parser.specs.Parsed.{byte_count, refusal, past_blanks};
     ghost use Rattle.serde_json_path_parser.specs.Parsing.{is_first_digit, begins_int, opens};
     ghost use Rattle.serde_json_path_parser.specs.Reading.{told, left, seen, Moves};
     ghost use Rattle.serde_json_path_parser.specs.Filters.{ends_argument};
@@ -143,7 +143,7 @@ impl<'s, S: PathSource> Reader<'s, S> {
 
     /// How many bytes are left.
     pub(crate) fn bytes_left(&self) -> usize
-        ensures value { result ≡ length (encode_utf8_all (left self.now)) }
+        ensures value { result ≡ byte_count (left self.now) }
         ensures sum { result + self.now.index ≡ length (told self.now).text }
     {
         self.source.len() - self.index

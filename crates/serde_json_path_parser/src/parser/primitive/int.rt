@@ -1,7 +1,6 @@
 //! Integers.
 
 ghost use Rattle.std.specs.Prelude.{◌≡◌, ◌≤◌, List, ℕ, length, IfOk};
-ghost use Rattle.std.specs.Str.{encode_utf8_all};
 ghost use Rattle.serde_json_path_syntax.specs.Tree.{largest, IsInteger};
 ghost use Rattle.serde_json_path_parser.specs.Giving.{Gives, IsNear};
 ghost use Rattle.serde_json_path_parser.specs.Parsing.{digits_at, int_at};
@@ -20,7 +19,7 @@ const LARGEST: u128 = 9_007_199_254_740_991;
 fn digits<S: PathSource>(reader: &mut Reader<'_, S>, start: usize) -> Result<u64, Stop>
     ensures moves { Moves reader.old reader.new }
     ensures near { IsNear result reader.new }
-    ensures gives { (cs : List ℕ) → start ≡ length (encode_utf8_all cs) → Gives (λ n. n) result reader.new (digits_at cs (left reader.old)) }
+    ensures gives { Gives (λ n. n) result reader.new (digits_at start (left reader.old)) }
     ensures range { IfOk result (λ n. n ≤ largest) }
 {
     let n = decimal(reader);

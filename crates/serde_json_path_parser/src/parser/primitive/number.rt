@@ -1,7 +1,6 @@
 //! Number literals.
 
 ghost use Rattle.std.specs.Prelude.{◌≡◌, ◌≤◌, ◌<◌, ℕ, List, length, IfOk};
-ghost use Rattle.std.specs.Str.{encode_utf8_all};
 ghost use Rattle.serde_json_path_syntax.specs.Literals.{number_amount};
 ghost use Rattle.serde_json_path_parser.specs.Giving.{Gives, IsNear};
 ghost use Rattle.serde_json_path_parser.specs.Numbers.{whole_at, digits_behind_point_at, fraction_at, amount_at, number_at, capped};
@@ -27,7 +26,7 @@ const TOO_MANY: u128 = (1 << 127) - 1;
 fn whole<S: PathSource>(reader: &mut Reader<'_, S>, start: usize) -> Result<u128, Stop>
     ensures moves { Moves reader.old reader.new }
     ensures near { IsNear result reader.new }
-    ensures gives { (literal : List ℕ) → start ≡ length (encode_utf8_all literal) → Gives (λ n. n) result reader.new (capped (whole_at literal (left reader.old))) }
+    ensures gives { Gives (λ n. n) result reader.new (capped (whole_at start (left reader.old))) }
 {
     if reader.sees(b'0') {
         reader.take_char();
@@ -47,7 +46,7 @@ fn digits_behind_point<S: PathSource>(
 ) -> Result<u128, Stop>
     ensures moves { Moves reader.old reader.new }
     ensures near { IsNear result reader.new }
-    ensures gives { (literal : List ℕ) → start ≡ length (encode_utf8_all literal) → Gives (λ n. n) result reader.new (digits_behind_point_at literal (left reader.old)) }
+    ensures gives { Gives (λ n. n) result reader.new (digits_behind_point_at start (left reader.old)) }
 {
     if !reader.sees_digit() {
         return Err(Stop::in_long_hand(ParseErrorKind::ExponentOrEmptyFraction, start));
@@ -69,7 +68,7 @@ fn digits_behind_point<S: PathSource>(
 fn fraction<S: PathSource>(reader: &mut Reader<'_, S>, start: usize) -> Result<u128, Stop>
     ensures moves { Moves reader.old reader.new }
     ensures near { IsNear result reader.new }
-    ensures gives { (literal : List ℕ) → start ≡ length (encode_utf8_all literal) → Gives (λ n. n) result reader.new (fraction_at literal (left reader.old)) }
+    ensures gives { Gives (λ n. n) result reader.new (fraction_at start (left reader.old)) }
 {
     if reader.sees(b'.') {
         reader.take_char();
@@ -86,7 +85,7 @@ fn fraction<S: PathSource>(reader: &mut Reader<'_, S>, start: usize) -> Result<u
 fn amount<S: PathSource>(reader: &mut Reader<'_, S>, start: usize) -> Result<u128, Stop>
     ensures moves { Moves reader.old reader.new }
     ensures near { IsNear result reader.new }
-    ensures gives { (literal : List ℕ) → start ≡ length (encode_utf8_all literal) → Gives (λ n. n) result reader.new (capped (amount_at literal (left reader.old))) }
+    ensures gives { Gives (λ n. n) result reader.new (capped (amount_at start (left reader.old))) }
 {
     let whole = whole(reader, start)?;
     let fraction = fraction(reader, start)?;

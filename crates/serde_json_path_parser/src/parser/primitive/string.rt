@@ -2,7 +2,6 @@
 
 ghost use Rattle.std.specs.Prelude.{◌≡◌, ◌==◌, ◌<◌, ◌≤◌, ◌+◌, ◌^◌, ℕ, List, length, true, IfOk, string_bytes};
 ghost use Rattle.std.specs.Char.{IsScalar};
-ghost use Rattle.std.specs.Str.{encode_utf8_all};
 ghost use Rattle.serde_json_path_parser.specs.Giving.{Gives, IsNear};
 ghost use Rattle.serde_json_path_parser.specs.Lexical.{begins, IsQuote};
 ghost use Rattle.serde_json_path_parser.specs.Reading.{left, Moves};
@@ -19,7 +18,7 @@ fn hexadecimal<S: PathSource>(reader: &mut Reader<'_, S>, start: usize) -> Resul
     ensures moves { Moves reader.old reader.new }
     ensures near { IsNear result reader.new }
     ensures small { IfOk result (λ n. n < 16) }
-    ensures gives { (escape : List ℕ) → start ≡ length (encode_utf8_all escape) → Gives (λ n. n) result reader.new (hexadecimal_at escape (left reader.old)) }
+    ensures gives { Gives (λ n. n) result reader.new (hexadecimal_at start (left reader.old)) }
 {
     if !reader.sees_hexadecimal() {
         return Err(Stop::in_long_hand(ParseErrorKind::BadEscape, start));
@@ -40,7 +39,7 @@ fn hex4<S: PathSource>(reader: &mut Reader<'_, S>, start: usize) -> Result<u32, 
     ensures moves { Moves reader.old reader.new }
     ensures near { IsNear result reader.new }
     ensures small { IfOk result (λ n. n < 65536) }
-    ensures gives { (escape : List ℕ) → start ≡ length (encode_utf8_all escape) → Gives (λ n. n) result reader.new (hex4_at escape (left reader.old)) }
+    ensures gives { Gives (λ n. n) result reader.new (hex4_at start (left reader.old)) }
 {
     let a = hexadecimal(reader, start)?;
     let b = hexadecimal(reader, start)?;
@@ -55,7 +54,7 @@ fn low<S: PathSource>(reader: &mut Reader<'_, S>, start: usize, high: u32) -> Re
     requires { is_high high ≡ true }
     ensures moves { Moves reader.old reader.new }
     ensures near { IsNear result reader.new }
-    ensures gives { (escape : List ℕ) → start ≡ length (encode_utf8_all escape) → Gives (λ c. c) result reader.new (low_at escape high (left reader.old)) }
+    ensures gives { Gives (λ c. c) result reader.new (low_at start high (left reader.old)) }
 {
     if !reader.sees(b'\\') {
         return Err(Stop::in_long_hand(ParseErrorKind::BadEscape, start));
@@ -77,7 +76,7 @@ fn low<S: PathSource>(reader: &mut Reader<'_, S>, start: usize, high: u32) -> Re
 fn unicode<S: PathSource>(reader: &mut Reader<'_, S>, start: usize) -> Result<char, Stop>
     ensures moves { Moves reader.old reader.new }
     ensures near { IsNear result reader.new }
-    ensures gives { (escape : List ℕ) → start ≡ length (encode_utf8_all escape) → Gives (λ c. c) result reader.new (unicode_at escape (left reader.old)) }
+    ensures gives { Gives (λ c. c) result reader.new (unicode_at start (left reader.old)) }
 {
     let code = hex4(reader, start)?;
     if code >= 0xd800 && code <= 0xdbff {
