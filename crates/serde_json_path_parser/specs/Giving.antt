@@ -24,7 +24,7 @@ use Rattle.serde_json_path_parser.specs.declared.error.Place.TheVariants as plac
 use Rattle.serde_json_path_parser.specs.declared.error.ParseError.{ParseError}
 use Rattle.serde_json_path_parser.specs.declared.source.PathSource.{Ghosts}
 use Rattle.serde_json_path_parser.specs.declared.parser.reader.Reader.{Reader}
-use Rattle.serde_json_path_parser.specs.Reading.{left, seen, told}
+use Rattle.serde_json_path_parser.specs.Reading.{left, seen, told, Moves}
 use Rattle.serde_json_path_parser.specs.Parsed.{Parsed, past_blanks, byte_count}
 use Rattle.serde_json_path_parser.specs.Parsing.{selector_list, segment_list, of_kind}
 use Rattle.serde_json_path_parser.specs.Operands.{Operand, a_literal, a_query, a_call}
@@ -129,6 +129,11 @@ StopsNear (stops.Refused r) reader = is_told_at_next r.kind ≡ true → seen re
 abbrev pub IsNear : {X S : Type 0} {g : Ghosts S} → Result X Stop → Reader S g → Type 0
 IsNear (Ok x) reader = Unit {0}
 IsNear (Err e) reader = StopsNear e reader
+
+-- The reader moved on, and where it stopped with a refusal no byte was seen beyond the one after its place.
+pub record MovesTo {X S : Type 0} {g : Ghosts S} (result : Result X Stop) (old new : Reader S g) : Type 0 where
+  pub moves : Moves old new
+  pub near : IsNear result new
 
 -- a refusal stands within a text of so many bytes
 abbrev pub IsWithin : Stop → ℕ → Type 0

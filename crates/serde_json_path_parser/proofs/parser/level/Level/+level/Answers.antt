@@ -473,8 +473,7 @@ pub negated_call-returns-in_default : goal.negated_call-returns-in_default
 negated_call-returns-in_default g t c =
     let o = c.in_ok-call.ensures.gives in
     record {
-      moves = c.named.ensures.moves;
-      near = rw c.in_long_hand.ensures (λ e. absurd cc);
+      moves = record { moves = c.named.ensures.moves.moves; near = rw c.in_long_hand.ensures (λ e. absurd cc) };
       keeps = c.named.ensures.keeps;
       gives = rw (c.in_long_hand.ensures, c.bytes_left-start.ensures.value) (no_call_read _ _ _ c.named.new.builder _ o.0 _ c.in_default.not-Call o.1 o.2);
     }
