@@ -1,7 +1,6 @@
 -- The steps of the code at arguments.
 use Rattle.std.proofs.Common.{◌≡◌, ℕ, zero, suc, ◌+◌, ◌≤◌, true, false, cond, List, [], ◌∷◌, ◌++◌, length, drop, Option, Result, Ok, Err, refl, sym, ap, ◌∙◌, append_assoc, arith}
 use Rattle.std.specs.Prelude.{◌==◌, ◌||◌, IfOk}
-use Rattle.std.specs.Str.{encode_utf8_all}
 use Rattle.std.proofs.lemmas.List.{length-append, nil_from_length, append-nil}
 use Rattle.serde_json_path_syntax.specs.Tree.{LogicalOr, LogicalAnd, Basic, Arguments, no_arguments, argument, Argument, logical_argument}
 use Rattle.serde_json_path_functions.specs.Functions.{Kind, Signature}
@@ -19,7 +18,7 @@ use Rattle.serde_json_path_parser.specs.declared.parser.reader.Reader.{Reader}
 use Rattle.serde_json_path_parser.specs.Giving.{Fails, Makes, GivesEnd, MakesArguments}
 use Rattle.serde_json_path_parser.specs.Reading.{left}
 use Rattle.serde_json_path_parser.specs.Lexical.{begins}
-use Rattle.serde_json_path_parser.specs.Parsed.{Parsed, ◌>>=◌, refusal, past_blanks}
+use Rattle.serde_json_path_parser.specs.Parsed.{Parsed, ◌>>=◌, refusal, past_blanks, byte_count, refusal_at}
 use Rattle.serde_json_path_parser.specs.Numbers.{whole_at, amount_at, number_at}
 use Rattle.serde_json_path_parser.specs.Operands.{Operand, fits}
 use Rattle.serde_json_path_parser.specs.Filters.{Deeper, alone, ends_argument, ended, operand_at, basic_from, and_from, or_from, or_at, logical_from, argument_at, judged, arguments_at}
@@ -54,7 +53,7 @@ module _ (signature : List ℕ → Option Signature) (deeper : Deeper) where
 
   -- at an operand
   module _ (cs : List ℕ) (no_parenthesis : begins (λ c. c == 40) cs ≡ false) (no_negation : begins (λ c. c == 33) cs ≡ false) where
-    at_operand : argument_at signature deeper cs ≡ (operand_at signature deeper cs >>= λ o. cond (begins ends_argument o.1) (Ok (alone o.0, o.1)) (logical_from signature deeper cs o.0 o.1))
+    at_operand : argument_at signature deeper cs ≡ (operand_at signature deeper cs >>= λ o. cond (begins ends_argument o.1) (Ok (alone o.0, o.1)) (logical_from signature deeper (byte_count cs) o.0 o.1))
     unfolding argument_at
     at_operand = rw (first_of cs, no_parenthesis, no_negation) refl
 
@@ -66,14 +65,14 @@ module _ (signature : List ℕ → Option Signature) (deeper : Deeper) where
       alone_argument e = at_operand ∙ rw (read, e) refl
 
       module _ (open_yet : begins ends_argument rest ≡ false) where
-        joined : argument_at signature deeper cs ≡ logical_from signature deeper cs x rest
+        joined : argument_at signature deeper cs ≡ logical_from signature deeper (byte_count cs) x rest
         joined = at_operand ∙ rw (read, open_yet) refl
 
-        pub basic_fails : (s : Stop) → Fails s (basic_from signature deeper cs x rest) → Fails s (argument_at signature deeper cs)
+        pub basic_fails : (s : Stop) → Fails s (basic_from signature deeper (byte_count cs) x rest) → Fails s (argument_at signature deeper cs)
         unfolding logical_from
-        basic_fails s h = same_fails s _ _ joined (first_fails s (basic_from signature deeper cs x rest) _ h)
+        basic_fails s h = same_fails s _ _ joined (first_fails s (basic_from signature deeper (byte_count cs) x rest) _ h)
 
-        module _ (b : Basic) (behind : List ℕ) (basic : basic_from signature deeper cs x rest ≡ Ok (b, behind)) where
+        module _ (b : Basic) (behind : List ℕ) (basic : basic_from signature deeper (byte_count cs) x rest ≡ Ok (b, behind)) where
           from_basic : argument_at signature deeper cs ≡ (and_from signature deeper b behind >>= λ a. or_from signature deeper a.0 a.1 >>= λ e. Ok (logical_argument e.0, e.1))
           unfolding logical_from
           from_basic = joined ∙ rw basic refl
@@ -98,7 +97,7 @@ module _ (signature : List ℕ → Option Signature) (deeper : Deeper) where
   unfolding argument_at operand_at number_at amount_at whole_at
   nothing = refl
 
-  module _ (start : List ℕ) (kinds : List Kind) (fuel : ℕ) (cs : List ℕ) (enough : length cs ≤ fuel) where
+  module _ (start : ℕ) (kinds : List Kind) (fuel : ℕ) (cs : List ℕ) (enough : length cs ≤ fuel) where
     pub argument_fails : (s : Stop) → Fails s (argument_at signature deeper cs) → Fails s (arguments_at signature deeper fuel start kinds cs)
     unfolding arguments_at
     argument_fails stops.Memory h = tt
@@ -113,7 +112,7 @@ module _ (signature : List ℕ → Option Signature) (deeper : Deeper) where
 
     module _ (a : Argument) (rest : List ℕ) (read : argument_at signature deeper cs ≡ Ok (a, rest)) where
       abbrev pub rests : ℕ → Parsed Arguments
-      rests n = judged signature deeper start cs kinds a >>= λ left.
+      rests n = judged signature deeper start (byte_count cs) kinds a >>= λ left.
           cond (begins (λ c. c == 44) rest) (arguments_at signature deeper n start left (past_blanks (drop 1 rest))) (ended start left (drop 1 rest)) >>= λ more. Ok (argument a more.0, more.1)
 
       -- the fuel is there
@@ -132,7 +131,7 @@ module _ (signature : List ℕ → Option Signature) (deeper : Deeper) where
         pub in_rests : (n : ℕ) × (fuel ≡ suc n) × (arguments_at signature deeper fuel start kinds cs ≡ rests n)
         in_rests = (fueled.0, fueled.1, fueled.2 ∙ rw ends refl)
 
-        pub too_many : kinds ≡ [] → arguments_at signature deeper fuel start kinds cs ≡ Err (refusal WrongNumberOfArguments place.LongHand start)
+        pub too_many : kinds ≡ [] → arguments_at signature deeper fuel start kinds cs ≡ Err (refusal_at WrongNumberOfArguments place.LongHand start)
         unfolding judged
         too_many e = in_rests.2 ∙ rw e refl
 
@@ -207,9 +206,3 @@ module _ {S : Type 0} {g : Ghosts S} (builder : SyntaxBuilder) (before : List Pa
 pub was_made : {A S : Type 0} {g : Ghosts S} (piece : A → Piece) (builder : SyntaxBuilder) (result : Result Part Stop) (reader : Reader S g) (read : Parsed A) → Makes piece builder result reader read → IfOk result (λ part. (x : A) × IsPart builder part (piece x))
 was_made piece builder (Ok part) reader read h = (h.0, h.1)
 was_made piece builder (Err e) reader read h = tt
-
--- some text is of so many bytes
-pub some_place : (n : ℕ) → (cs : List ℕ) × (n ≡ length (encode_utf8_all cs))
-unfolding lib.Utf8.encode
-some_place zero = ([], refl)
-some_place (suc n) = let p = some_place n in (97 ∷ p.0, ap suc p.1)

@@ -13,7 +13,7 @@ use Rattle.serde_json_path_parser.specs.declared.error.ParseErrorKind.TheVariant
 use Rattle.serde_json_path_parser.specs.declared.error.Place.TheVariants as place
 use Rattle.serde_json_path_parser.specs.Lexical.{begins, begins_both, IsBlank}
 use Rattle.serde_json_path_parser.specs.Grammar.{StandsAlone, ReadsArgument, ReadArguments, ReadMoreArguments}
-use Rattle.serde_json_path_parser.specs.Parsed.{◌>>=◌, refusal, past_blanks, many}
+use Rattle.serde_json_path_parser.specs.Parsed.{◌>>=◌, refusal, past_blanks, many, byte_count}
 use Rattle.serde_json_path_parser.specs.Operands.{Operand, a_literal, a_query, a_call, is_result, is_test, takes_result, is_whole, fits}
 use Rattle.serde_json_path_parser.specs.Filters.{alone, ends_argument, Deeper, operand_at, test_at, relation_at, basic_from, basic_at, next_basic_at, and_from, and_at, next_and_at, or_from, or_at, logical_from, argument_at, judged, ended, arguments_at, parameters_at, call_at}
 use Rattle.serde_json_path_parser.proofs.Blanks.{past_some, past_all}
@@ -120,16 +120,16 @@ module _ (signature : List ℕ → Option Signature) (n : ℕ) (deeper : Deeper)
       of_test (test c) is = tt
       of_test _ is = absurd is
 
-  operand_alone : (start : List ℕ) (o : Operand) (cs : List ℕ) (b : Basic × List ℕ) (x : LogicalOr × List ℕ) → begins ends_argument cs ≡ true → basic_from signature deeper start o cs ≡ Ok b
+  operand_alone : (start : List ℕ) (o : Operand) (cs : List ℕ) (b : Basic × List ℕ) (x : LogicalOr × List ℕ) → begins ends_argument cs ≡ true → basic_from signature deeper (byte_count start) o cs ≡ Ok b
       → (and_from signature deeper b.0 b.1 >>= λ a. or_from signature deeper a.0 a.1) ≡ Ok x → StandsAlone x.0
   unfolding basic_from relation_at test_at
   operand_alone start o cs b x ends e more =
-      by_operand o (ap (λ (op : Option (Operator × List ℕ)). relation_at signature deeper start o op cs) (sym (no_operator cs (begins_where ends_argument ends_basic true cs ending_basic ends))) ∙ e)
+      by_operand o (ap (λ (op : Option (Operator × List ℕ)). relation_at signature deeper (byte_count start) o op cs) (sym (no_operator cs (begins_where ends_argument ends_basic true cs ending_basic ends))) ∙ e)
     where
       is_read : (first : Basic) → IsTest first → (first, cs) ≡ b → StandsAlone x.0
       is_read first is same = test_alone first cs x is ends (subst (λ (y : Basic × List ℕ). (and_from signature deeper y.0 y.1 >>= λ a. or_from signature deeper a.0 a.1) ≡ Ok x) (sym same) more)
 
-      by_operand : (o : Operand) → test_at signature deeper start o cs ≡ Ok b → StandsAlone x.0
+      by_operand : (o : Operand) → test_at signature deeper (byte_count start) o cs ≡ Ok b → StandsAlone x.0
       by_operand (a_literal l) e = absurd cc
       by_operand (a_query q) e = is_read (exist q) tt (ok_is (exist q, cs) b e)
       by_operand (a_call c) e = elim (chosen (is_result of_value (result_kind signature c)) (Err (refusal WrongReturnType place.LongHand start)) (done (test c, cs)) (Ok b) e) [
@@ -139,7 +139,7 @@ module _ (signature : List ℕ → Option Signature) (n : ℕ) (deeper : Deeper)
 
   -- an operand and what is joined to it
   joined_again : (cs : List ℕ) (x : LogicalOr × List ℕ) (o : Operand × List ℕ) (b : Basic × List ℕ) (a : LogicalAnd × List ℕ) → begins (λ c. c == 40 || c == 33) cs ≡ false → (StandsAlone x.0 → ⊥)
-      → operand_at signature deeper cs ≡ Ok o → basic_from signature deeper cs o.0 o.1 ≡ Ok b → and_from signature deeper b.0 b.1 ≡ Ok a → or_from signature deeper a.0 a.1 ≡ Ok x → argument_at signature deeper cs ≡ Ok (logical_argument x.0, x.1)
+      → operand_at signature deeper cs ≡ Ok o → basic_from signature deeper (byte_count cs) o.0 o.1 ≡ Ok b → and_from signature deeper b.0 b.1 ≡ Ok a → or_from signature deeper a.0 a.1 ≡ Ok x → argument_at signature deeper cs ≡ Ok (logical_argument x.0, x.1)
   unfolding argument_at logical_from
   joined_again cs x o b a plain free first second third fourth = by_end (begins ends_argument o.1) refl
     where
@@ -157,8 +157,8 @@ module _ (signature : List ℕ → Option Signature) (n : ℕ) (deeper : Deeper)
           let others = neither cs opened in
           let a = bind_ok (and_at signature deeper cs) (λ a. or_from signature deeper a.0 a.1) x e in
           let b = bind_ok (basic_at signature deeper cs) (λ b. and_from signature deeper b.0 b.1) a.0 a.1 in
-          let read : (operand_at signature deeper cs >>= λ o. basic_from signature deeper cs o.0 o.1) ≡ Ok b.0 = sym (rw (others.0, others.1) refl) ∙ b.1 in
-          let o = bind_ok (operand_at signature deeper cs) (λ o. basic_from signature deeper cs o.0 o.1) b.0 read in
+          let read : (operand_at signature deeper cs >>= λ o. basic_from signature deeper (byte_count cs) o.0 o.1) ≡ Ok b.0 = sym (rw (others.0, others.1) refl) ∙ b.1 in
+          let o = bind_ok (operand_at signature deeper cs) (λ o. basic_from signature deeper (byte_count cs) o.0 o.1) b.0 read in
           joined_again cs x o.0 b.0 a.0 opened free o.1 o.2 b.2 a.2
 
   -- ---- each argument
@@ -204,7 +204,7 @@ module _ (signature : List ℕ → Option Signature) (n : ℕ) (deeper : Deeper)
 
     arguments_again : (fuel : ℕ) (start : List ℕ) (kinds : List Kind) (a : Argument) (more : Arguments) (t others : List ℕ) → AreTypedArguments signature (argument a more) kinds → arguments_depth (argument a more) ≤ n
         → ReadsArgument a t → ReadMoreArguments more others → length (t ++ (others ++ closing)) ≤ fuel
-        → arguments_at signature deeper fuel start kinds (t ++ (others ++ closing)) ≡ Ok (argument a more, past_blanks rest)
+        → arguments_at signature deeper fuel (byte_count start) kinds (t ++ (others ++ closing)) ≡ Ok (argument a more, past_blanks rest)
     unfolding arguments_at judged ended
     arguments_again zero start kinds a more t others typed shallow is are enough =
         absurd (omega (arith, enough, length-append t (others ++ closing), length-append others closing, length-append k (41 ∷ rest)))
@@ -228,7 +228,7 @@ module _ (signature : List ℕ → Option Signature) (n : ℕ) (deeper : Deeper)
 
     -- behind `(` and blanks
     parameters_again : (start : List ℕ) (kinds : List Kind) (args : Arguments) (t : List ℕ) → AreTypedArguments signature args kinds → arguments_depth args ≤ n → ReadArguments args t
-        → parameters_at signature deeper start kinds (past_blanks (t ++ closing)) ≡ Ok (args, past_blanks rest)
+        → parameters_at signature deeper (byte_count start) kinds (past_blanks (t ++ closing)) ≡ Ok (args, past_blanks rest)
     unfolding parameters_at ended
     parameters_again start kinds no_arguments t typed shallow is =
         let here : past_blanks (t ++ closing) ≡ 41 ∷ rest = ap (λ (l : List ℕ). past_blanks (l ++ closing)) is ∙ at_closing in
@@ -244,7 +244,7 @@ module _ (signature : List ℕ → Option Signature) (n : ℕ) (deeper : Deeper)
 
   -- behind `(` of a call of this name
   pub call_again : (start f t : List ℕ) (c : Call) (rest : List ℕ) → (IsTypedCall signature c × (call_depth c ≤ n + 1)) → ReadsBehindName f c t
-      → call_at signature deeper start f (signature f) (t ++ rest) ≡ Ok (c, past_blanks rest)
+      → call_at signature deeper (byte_count start) f (signature f) (t ++ rest) ≡ Ok (c, past_blanks rest)
   unfolding call_at
   call_again start f t c rest good (args, same, j, a, k, before, is, blank, e) =
       let typed : IsTypedCall signature (call f args) × (call_depth (call f args) ≤ n + 1) = subst (λ (d : Call). IsTypedCall signature d × (call_depth d ≤ n + 1)) same good in

@@ -12,7 +12,7 @@ use Rattle.serde_json_path_parser.specs.declared.error.ParseErrorKind.TheVariant
 use Rattle.serde_json_path_parser.specs.declared.error.Place.TheVariants as place
 use Rattle.serde_json_path_parser.specs.Lexical.{begins, begins_both, IsBlank}
 use Rattle.serde_json_path_parser.specs.Grammar.{StandsAlone, ReadsArgument, ReadMoreArguments}
-use Rattle.serde_json_path_parser.specs.Parsed.{Parsed, ◌>>=◌, refusal, past_blanks, many_at, many}
+use Rattle.serde_json_path_parser.specs.Parsed.{Parsed, ◌>>=◌, refusal, past_blanks, many_at, many, byte_count}
 use Rattle.serde_json_path_parser.specs.Operands.{Operand, a_literal, a_query, a_call, is_result, is_test, takes_result, is_whole, fits}
 use Rattle.serde_json_path_parser.specs.Filters.{begins_call, query_at, operator_at, and_list, or_list, alone, ends_argument, Deeper, named_call_at, operand_at, comparable_at, test_at, right_side_at, relation_at, basic_from, paren_at, negated_call_at, negated_at, basic_at, next_basic_at, and_from, and_at, next_and_at, or_from, or_at, logical_from, argument_at, judged, ended, arguments_at, parameters_at, call_at}
 use Rattle.serde_json_path_parser.proofs.Blanks.{blanks_of, are_blank, split_blanks}
@@ -100,14 +100,14 @@ module _ (signature : List ℕ → Option Signature) (n : ℕ) (deeper : Deeper)
   IsArgument t a = IsGoodArgument a × ReadsArgument a t
 
   -- a test of an operand ends where the operand does
-  test_ends : (start : List ℕ) (o : Operand) (cs : List ℕ) (x : Basic × List ℕ) → basic_from signature deeper start o cs ≡ Ok x → IsTest x.0 → x.1 ≡ cs
+  test_ends : (start : List ℕ) (o : Operand) (cs : List ℕ) (x : Basic × List ℕ) → basic_from signature deeper (byte_count start) o cs ≡ Ok x → IsTest x.0 → x.1 ≡ cs
   unfolding basic_from relation_at test_at
   test_ends start o cs x e is = by_operator (operator_at cs) e
     where
-      by_operator : (op : Option (Operator × List ℕ)) → relation_at signature deeper start o op cs ≡ Ok x → x.1 ≡ cs
+      by_operator : (op : Option (Operator × List ℕ)) → relation_at signature deeper (byte_count start) o op cs ≡ Ok x → x.1 ≡ cs
       by_operator None e = by_operand o e
         where
-          by_operand : (o : Operand) → test_at signature deeper start o cs ≡ Ok x → x.1 ≡ cs
+          by_operand : (o : Operand) → test_at signature deeper (byte_count start) o cs ≡ Ok x → x.1 ≡ cs
           by_operand (a_literal l) e = absurd cc
           by_operand (a_query q) e = sym (ap (λ y. y.1) (ok_is (exist q, cs) x e))
           by_operand (a_call c) e = elim (chosen (is_result of_value (result_kind signature c)) (Err (refusal WrongReturnType place.LongHand start)) (done (test c, cs)) (Ok x) e) [
@@ -115,16 +115,16 @@ module _ (signature : List ℕ → Option Signature) (n : ℕ) (deeper : Deeper)
             | inr a ↦ sym (ap (λ y. y.1) (ok_is (test c, cs) x a.1))
           ]
       by_operator (Some op) e =
-          let a = bind_ok (comparable_at signature deeper start o (past_blanks op.1)) (λ a. right_side_at signature deeper a.1 >>= λ b. Ok (relation a.0 op.0 b.0, b.1)) x e in
+          let a = bind_ok (comparable_at signature deeper (byte_count start) o (past_blanks op.1)) (λ a. right_side_at signature deeper a.1 >>= λ b. Ok (relation a.0 op.0 b.0, b.1)) x e in
           let b = bind_ok (right_side_at signature deeper a.0.1) (λ b. Ok (relation a.0.0 op.0 b.0, b.1)) x a.2 in
           absurd (subst (λ (y : Basic × List ℕ). IsTest y.0) (sym (ok_is (relation a.0.0 op.0 b.0.0, b.0.1) x b.2)) is)
 
   -- an operand and what stands behind it, where it does not stand alone
-  not_alone : (start : List ℕ) (o : Operand) (cs : List ℕ) (x : Argument × List ℕ) → begins ends_argument cs ≡ false → begins ends_argument x.1 ≡ true → logical_from signature deeper start o cs ≡ Ok x
+  not_alone : (start : List ℕ) (o : Operand) (cs : List ℕ) (x : Argument × List ℕ) → begins ends_argument cs ≡ false → begins ends_argument x.1 ≡ true → logical_from signature deeper (byte_count start) o cs ≡ Ok x
       → (e : LogicalOr) × (x.0 ≡ logical_argument e) × (StandsAlone e → ⊥)
   unfolding logical_from and_from or_from many
   not_alone start o cs x open_yet ends e =
-      let b = bind_ok (basic_from signature deeper start o cs) (λ b. and_from signature deeper b.0 b.1 >>= λ a. or_from signature deeper a.0 a.1 >>= λ e. Ok (logical_argument e.0, e.1)) x e in
+      let b = bind_ok (basic_from signature deeper (byte_count start) o cs) (λ b. and_from signature deeper b.0 b.1 >>= λ a. or_from signature deeper a.0 a.1 >>= λ e. Ok (logical_argument e.0, e.1)) x e in
       let a = bind_ok (and_from signature deeper b.0.0 b.0.1) (λ a. or_from signature deeper a.0 a.1 >>= λ e. Ok (logical_argument e.0, e.1)) x b.2 in
       let bs = bind_ok (many (begins_both 38 38) (next_basic_at signature deeper) b.0.1) (λ bs. Ok (and_list (b.0.0 ∷ bs.0), bs.1)) a.0 a.1 in
       let f = bind_ok (or_from signature deeper a.0.0 a.0.1) (λ e. Ok (logical_argument e.0, e.1)) x a.2 in
@@ -209,10 +209,10 @@ module _ (signature : List ℕ → Option Signature) (n : ℕ) (deeper : Deeper)
   alone_sound (a_call c) t h = h
 
   logical_from_sound : (start : List ℕ) (o : Operand) (cs t k : List ℕ) (x : Argument × List ℕ) → IsOperandText signature n deeper laws t o → IsBlank k → begins ends_argument cs ≡ false → begins ends_argument x.1 ≡ true
-      → logical_from signature deeper start o cs ≡ Ok x → Read (Spaced IsArgument) ((t ++ k) ++ cs) x
+      → logical_from signature deeper (byte_count start) o cs ≡ Ok x → Read (Spaced IsArgument) ((t ++ k) ++ cs) x
   unfolding logical_from
   logical_from_sound start o cs t k x h blank open_yet ends e =
-      let b = bind_ok (basic_from signature deeper start o cs) (λ b. and_from signature deeper b.0 b.1 >>= λ a. or_from signature deeper a.0 a.1 >>= λ e. Ok (logical_argument e.0, e.1)) x e in
+      let b = bind_ok (basic_from signature deeper (byte_count start) o cs) (λ b. and_from signature deeper b.0 b.1 >>= λ a. or_from signature deeper a.0 a.1 >>= λ e. Ok (logical_argument e.0, e.1)) x e in
       let a = bind_ok (and_from signature deeper b.0.0 b.0.1) (λ a. or_from signature deeper a.0 a.1 >>= λ e. Ok (logical_argument e.0, e.1)) x b.2 in
       let f = bind_ok (or_from signature deeper a.0.0 a.0.1) (λ e. Ok (logical_argument e.0, e.1)) x a.2 in
       let basic = basic_from_sound signature n deeper laws start o cs t k b.0 h blank b.1 in
@@ -246,9 +246,9 @@ module _ (signature : List ℕ → Option Signature) (n : ℕ) (deeper : Deeper)
               split = r.split;
             })
         | inr a ↦
-            let o = bind_ok (operand_at signature deeper cs) (λ o. cond (begins ends_argument o.1) (Ok (alone o.0, o.1)) (logical_from signature deeper cs o.0 o.1)) x a.1 in
+            let o = bind_ok (operand_at signature deeper cs) (λ o. cond (begins ends_argument o.1) (Ok (alone o.0, o.1)) (logical_from signature deeper (byte_count cs) o.0 o.1)) x a.1 in
             let r = operand_sound signature n deeper laws cs o.0 o.1 in
-            elim (chosen (begins ends_argument o.0.1) (done (alone o.0.0, o.0.1)) (logical_from signature deeper cs o.0.0 o.0.1) (Ok x) o.2) [
+            elim (chosen (begins ends_argument o.0.1) (done (alone o.0.0, o.0.1)) (logical_from signature deeper (byte_count cs) o.0.0 o.0.1) (Ok x) o.2) [
               | inl b ↦ subst (Read (Spaced IsArgument) cs) (ok_is (alone o.0.0, o.0.1) x b.1) (made_of _ IsArgument alone cs o.0 (λ t h. alone_sound o.0.0 t h) r)
               | inr b ↦ subst (λ (l : List ℕ). Read (Spaced IsArgument) l x) (sym (r.split ∙ ap (λ (l : List ℕ). l ++ o.0.1) r.is_so.4))
                   (logical_from_sound cs o.0.0 o.0.1 r.is_so.0 r.is_so.1 x r.is_so.2 r.is_so.3 b.0 ends b.1)
@@ -299,14 +299,14 @@ module _ (signature : List ℕ → Option Signature) (n : ℕ) (deeper : Deeper)
     split : cs ≡ (here ++ (rest ++ (blanks ++ 41 ∷ behind))) ++ x.1
 
   -- a judged argument
-  judged_sound : (start cs : List ℕ) (kinds left : List Kind) (a : Argument) → IsGoodArgument a → judged signature deeper start cs kinds a ≡ Ok left → (kind : Kind) × (kinds ≡ kind ∷ left) × IsTypedArgument signature a kind
+  judged_sound : (start cs : List ℕ) (kinds left : List Kind) (a : Argument) → IsGoodArgument a → judged signature deeper (byte_count start) (byte_count cs) kinds a ≡ Ok left → (kind : Kind) × (kinds ≡ kind ∷ left) × IsTypedArgument signature a kind
   unfolding judged
   judged_sound start cs [] left a h e = absurd cc
   judged_sound start cs (kind ∷ kinds) left a h e =
       let g = guard (fits signature a kind) (refusal WrongArgumentType place.LongHand cs) (done kinds) left e in
       (kind, ap (λ (ks : List Kind). kind ∷ ks) (ok_is kinds left g.1), fits_typed a kind h g.0)
 
-  ended_sound : (start : List ℕ) (kinds : List Kind) (cs : List ℕ) (x : Arguments × List ℕ) → ended start kinds cs ≡ Ok x → (kinds ≡ []) × (x.0 ≡ no_arguments) × (x.1 ≡ past_blanks cs)
+  ended_sound : (start : List ℕ) (kinds : List Kind) (cs : List ℕ) (x : Arguments × List ℕ) → ended (byte_count start) kinds cs ≡ Ok x → (kinds ≡ []) × (x.0 ≡ no_arguments) × (x.1 ≡ past_blanks cs)
   unfolding ended
   ended_sound start [] cs x e = let same = ok_is (no_arguments, past_blanks cs) x e in (refl, sym (ap (λ y. y.0) same), sym (ap (λ y. y.1) same))
   ended_sound start (kind ∷ kinds) cs x e = absurd cc
@@ -317,9 +317,9 @@ module _ (signature : List ℕ → Option Signature) (n : ℕ) (deeper : Deeper)
   behind_comma first more j here rest blank is are k before = (k ++ (44 ∷ j), here, rest, (k, j, before, blank, refl), is, are, refl)
 
   last_argument : (start cs : List ℕ) (kinds left : List Kind) (a : Argument) (t k rest : List ℕ) (x : Arguments × List ℕ) → IsArgument t a → IsBlank k
-      → cs ≡ (t ++ k) ++ (41 ∷ rest) → (kind : Kind) → kinds ≡ kind ∷ left → IsTypedArgument signature a kind → (ended start left rest >>= λ more. Ok (argument a more.0, more.1)) ≡ Ok x → AreArguments kinds cs x
+      → cs ≡ (t ++ k) ++ (41 ∷ rest) → (kind : Kind) → kinds ≡ kind ∷ left → IsTypedArgument signature a kind → (ended (byte_count start) left rest >>= λ more. Ok (argument a more.0, more.1)) ≡ Ok x → AreArguments kinds cs x
   last_argument start cs kinds left a t k rest x is blank split kind same typed e =
-      let more = bind_ok (ended start left rest) (λ more. Ok (argument a more.0, more.1)) x e in
+      let more = bind_ok (ended (byte_count start) left rest) (λ more. Ok (argument a more.0, more.1)) x e in
       let end = ended_sound start left rest more.0 more.1 in
       let whole = ok_is (argument a more.0.0, more.0.1) x more.2 in
       record {
@@ -368,20 +368,20 @@ module _ (signature : List ℕ → Option Signature) (n : ℕ) (deeper : Deeper)
       in_front : (s t k j a b c d : List ℕ) → (t ++ k) ++ (s ++ (j ++ ((a ++ (b ++ c)) ++ d))) ≡ (t ++ (((k ++ (s ++ j)) ++ (a ++ b)) ++ c)) ++ d
       in_front s t k j a b c d = simp append_assoc refl
 
-  arguments_sound : (fuel : ℕ) (start : List ℕ) (kinds : List Kind) (cs : List ℕ) (x : Arguments × List ℕ) → arguments_at signature deeper fuel start kinds cs ≡ Ok x → AreArguments kinds cs x
+  arguments_sound : (fuel : ℕ) (start : List ℕ) (kinds : List Kind) (cs : List ℕ) (x : Arguments × List ℕ) → arguments_at signature deeper fuel (byte_count start) kinds cs ≡ Ok x → AreArguments kinds cs x
   unfolding arguments_at
   arguments_sound zero start kinds cs x e = absurd cc
   arguments_sound (suc fuel) start kinds cs x e =
       let a = bind_ok (argument_at signature deeper cs) _ x e in
       let g = guard (begins ends_argument a.0.1) (refusal ExpectedClosingParenthesis place.LongHand a.0.1) _ x a.2 in
-      let left = bind_ok (judged signature deeper start cs kinds a.0.0) _ x g.1 in
+      let left = bind_ok (judged signature deeper (byte_count start) (byte_count cs) kinds a.0.0) _ x g.1 in
       let r = argument_sound cs a.0 g.0 a.1 in
       let j = judged_sound start cs kinds left.0 a.0.0 r.is_so.2.0 left.1 in
-      let next : Parsed Arguments = arguments_at signature deeper fuel start left.0 (past_blanks (drop 1 a.0.1)) in
-      let more = bind_ok (cond (begins (λ c. c == 44) a.0.1) next (ended start left.0 (drop 1 a.0.1))) (λ more. Ok (argument a.0.0 more.0, more.1)) x left.2 in
+      let next : Parsed Arguments = arguments_at signature deeper fuel (byte_count start) left.0 (past_blanks (drop 1 a.0.1)) in
+      let more = bind_ok (cond (begins (λ c. c == 44) a.0.1) next (ended (byte_count start) left.0 (drop 1 a.0.1))) (λ more. Ok (argument a.0.0 more.0, more.1)) x left.2 in
       let split : cs ≡ (r.is_so.0 ++ r.is_so.1) ++ a.0.1 = r.split ∙ ap (λ (l : List ℕ). l ++ a.0.1) r.is_so.4 in
       let at : (k : ℕ) → begins (λ c. c == k) a.0.1 ≡ true → cs ≡ (r.is_so.0 ++ r.is_so.1) ++ (k ∷ drop 1 a.0.1) = λ k here. split ∙ ap (λ (l : List ℕ). (r.is_so.0 ++ r.is_so.1) ++ l) (after_one k a.0.1 here) in
-      elim (chosen (begins (λ c. c == 44) a.0.1) next (ended start left.0 (drop 1 a.0.1)) (Ok more.0) more.1) [
+      elim (chosen (begins (λ c. c == 44) a.0.1) next (ended (byte_count start) left.0 (drop 1 a.0.1)) (Ok more.0) more.1) [
         | inl b ↦ one_more_argument cs kinds left.0 a.0.0 r.is_so.0 r.is_so.1 (drop 1 a.0.1) x more.0 r.is_so.2 r.is_so.3 (at 44 b.0) j.0 j.1 j.2
             (arguments_sound fuel start left.0 (past_blanks (drop 1 a.0.1)) more.0 b.1) (ok_is (argument a.0.0 more.0.0, more.0.1) x more.2)
         | inr b ↦ last_argument start cs kinds left.0 a.0.0 r.is_so.0 r.is_so.1 (drop 1 a.0.1) x r.is_so.2 r.is_so.3 (at 41 (closes a.0.1 g.0 b.0)) j.0 j.1 j.2
@@ -395,7 +395,7 @@ module _ (signature : List ℕ → Option Signature) (n : ℕ) (deeper : Deeper)
   -- ---- calls
 
   -- behind `(` of a call of this name, with its `)` and the blanks behind it
-  pub call_sound : (start f cs : List ℕ) (sig : Option Signature) (x : Call × List ℕ) → signature f ≡ sig → call_at signature deeper start f sig cs ≡ Ok x
+  pub call_sound : (start f cs : List ℕ) (sig : Option Signature) (x : Call × List ℕ) → signature f ≡ sig → call_at signature deeper (byte_count start) f sig cs ≡ Ok x
       → Read (Spaced (λ t c. (IsTypedCall signature c × (call_depth c ≤ n + 1)) × ReadsBehindName f c t)) cs x
   unfolding call_at parameters_at
   call_sound start f cs None x same e = absurd cc
@@ -403,8 +403,8 @@ module _ (signature : List ℕ → Option Signature) (n : ℕ) (deeper : Deeper)
       let Is : List ℕ → Call → Type 0 = λ t c. (IsTypedCall signature c × (call_depth c ≤ n + 1)) × ReadsBehindName f c t in
       let r = past_blanks cs in
       let j = blanks_of cs in
-      let args = bind_ok (cond (begins (λ c. c == 41) r) (ended start s.params (drop 1 r)) (arguments_at signature deeper (length r) start s.params r)) (λ args. Ok (call f args.0, args.1)) x e in
-      elim (chosen (begins (λ c. c == 41) r) (ended start s.params (drop 1 r)) (arguments_at signature deeper (length r) start s.params r) (Ok args.0) args.1) [
+      let args = bind_ok (cond (begins (λ c. c == 41) r) (ended (byte_count start) s.params (drop 1 r)) (arguments_at signature deeper (length r) (byte_count start) s.params r)) (λ args. Ok (call f args.0, args.1)) x e in
+      elim (chosen (begins (λ c. c == 41) r) (ended (byte_count start) s.params (drop 1 r)) (arguments_at signature deeper (length r) (byte_count start) s.params r) (Ok args.0) args.1) [
         | inl a ↦
             let end = ended_sound start s.params (drop 1 r) args.0 a.1 in
             subst (Read (Spaced Is) cs) (ok_is (call f args.0.0, args.0.1) x args.2) (record {

@@ -9,7 +9,7 @@ use Rattle.serde_json_path_parser.specs.declared.error.ParseErrorKind.TheVariant
 use Rattle.serde_json_path_parser.specs.declared.error.Place.TheVariants as place
 use Rattle.serde_json_path_parser.specs.Giving.{Fails}
 use Rattle.serde_json_path_parser.specs.Lexical.{begins, is_small_letter}
-use Rattle.serde_json_path_parser.specs.Parsed.{refusal, past_blanks}
+use Rattle.serde_json_path_parser.specs.Parsed.{refusal, past_blanks, byte_count, refusal_at}
 use Rattle.serde_json_path_parser.specs.Operands.{a_literal, a_query, a_call}
 use Rattle.serde_json_path_parser.specs.Numbers.{number_at}
 use Rattle.serde_json_path_parser.specs.Words.{literal_word}
@@ -19,19 +19,19 @@ use Rattle.serde_json_path_parser.proofs.WordTexts.{literal_word_reads}
 
 -- ---- levels
 
-pub level_none : (signature : List ℕ → Option Signature) (n : ℕ) (start f cs : List ℕ) → n ≡ 0 → (level signature n).call_of start f cs ≡ Err (refusal NestedTooDeep place.LongHand start)
+pub level_none : (signature : List ℕ → Option Signature) (n : ℕ) (start : ℕ) (f cs : List ℕ) → n ≡ 0 → (level signature n).call_of start f cs ≡ Err (refusal_at NestedTooDeep place.LongHand start)
 unfolding level
 level_none signature n start f cs e = ap (λ (m : ℕ). (level signature m).call_of start f cs) e
 
-pub level_call : (signature : List ℕ → Option Signature) (n m : ℕ) (start f cs : List ℕ) → 0 < n → m ≡ n - 1 → (level signature n).call_of start f cs ≡ call_at signature (level signature m) start f (signature f) cs
+pub level_call : (signature : List ℕ → Option Signature) (n m : ℕ) (start : ℕ) (f cs : List ℕ) → 0 < n → m ≡ n - 1 → (level signature n).call_of start f cs ≡ call_at signature (level signature m) start f (signature f) cs
 unfolding level
 level_call signature zero m start f cs l e = absurd (omega (arith, l))
 level_call signature (suc n) m start f cs l e = ap (λ (k : ℕ). call_at signature (level signature k) start f (signature f) cs) (omega (arith, e))
 
 -- ---- calls
 
-module _ (signature : List ℕ → Option Signature) (deeper : Deeper) (start f cs : List ℕ) where
-  pub undefined : signature f ≡ None → call_at signature deeper start f (signature f) cs ≡ Err (refusal UndefinedFunction place.LongHand start)
+module _ (signature : List ℕ → Option Signature) (deeper : Deeper) (start : ℕ) (f cs : List ℕ) where
+  pub undefined : signature f ≡ None → call_at signature deeper start f (signature f) cs ≡ Err (refusal_at UndefinedFunction place.LongHand start)
   unfolding call_at
   undefined e = rw e refl
 
@@ -48,7 +48,7 @@ module _ (signature : List ℕ → Option Signature) (deeper : Deeper) (start f 
     pub result_is : (args : Arguments) → result_kind signature (call f args) ≡ Some s.result
     result_is args = rw declared refl
 
-pub level_undefined : (signature : List ℕ → Option Signature) (n : ℕ) (start f cs : List ℕ) → 0 < n → signature f ≡ None → (level signature n).call_of start f cs ≡ Err (refusal UndefinedFunction place.LongHand start)
+pub level_undefined : (signature : List ℕ → Option Signature) (n : ℕ) (start : ℕ) (f cs : List ℕ) → 0 < n → signature f ≡ None → (level signature n).call_of start f cs ≡ Err (refusal_at UndefinedFunction place.LongHand start)
 level_undefined signature n start f cs l e = level_call signature n (n - 1) start f cs l refl ∙ undefined signature (level signature (n - 1)) start f cs e
 
 -- ---- names
@@ -60,14 +60,14 @@ module _ (signature : List ℕ → Option Signature) (deeper : Deeper) (cs : Lis
   no_call_begins : begins (λ c. c == 40) (behind_word cs) ≡ false → begins_call cs ≡ false
   no_call_begins e = rw (letter, e) refl
 
-  pub named_call : (c : Call) (rest : List ℕ) → begins (λ c. c == 40) (behind_word cs) ≡ true → deeper.call_of cs (word cs) (drop 1 (behind_word cs)) ≡ Ok (c, rest) → named_at signature deeper cs ≡ Ok (a_call c, rest)
+  pub named_call : (c : Call) (rest : List ℕ) → begins (λ c. c == 40) (behind_word cs) ≡ true → deeper.call_of (byte_count cs) (word cs) (drop 1 (behind_word cs)) ≡ Ok (c, rest) → named_at signature deeper cs ≡ Ok (a_call c, rest)
   unfolding named_at named_call_at
   named_call c rest open_parenthesis h = rw (call_begins open_parenthesis, h) refl
 
-  pub named_call_fails : (s : Stop) → begins (λ c. c == 40) (behind_word cs) ≡ true → Fails s (deeper.call_of cs (word cs) (drop 1 (behind_word cs))) → Fails s (named_at signature deeper cs)
+  pub named_call_fails : (s : Stop) → begins (λ c. c == 40) (behind_word cs) ≡ true → Fails s (deeper.call_of (byte_count cs) (word cs) (drop 1 (behind_word cs))) → Fails s (named_at signature deeper cs)
   unfolding named_at named_call_at
   named_call_fails s open_parenthesis h =
-      same_fails s _ (named_at signature deeper cs) (rw (call_begins open_parenthesis) refl) (first_fails s (deeper.call_of cs (word cs) (drop 1 (behind_word cs))) (λ c. Ok (a_call c.0, c.1)) h)
+      same_fails s _ (named_at signature deeper cs) (rw (call_begins open_parenthesis) refl) (first_fails s (deeper.call_of (byte_count cs) (word cs) (drop 1 (behind_word cs))) (λ c. Ok (a_call c.0, c.1)) h)
 
   pub named_literal : (l : Literal) → begins (λ c. c == 40) (behind_word cs) ≡ false → literal_word (word cs) ≡ Some l → named_at signature deeper cs ≡ Ok (a_literal l, past_blanks (behind_word cs))
   unfolding named_at
@@ -100,7 +100,7 @@ module _ (signature : List ℕ → Option Signature) (deeper : Deeper) (cs : Lis
 
 -- ---- arguments of a call
 
-module _ (signature : List ℕ → Option Signature) (deeper : Deeper) (start : List ℕ) (kinds : List Kind) (cs : List ℕ) where
+module _ (signature : List ℕ → Option Signature) (deeper : Deeper) (start : ℕ) (kinds : List Kind) (cs : List ℕ) where
   pub no_argument : begins (λ c. c == 41) cs ≡ true → parameters_at signature deeper start kinds cs ≡ ended start kinds (drop 1 cs)
   unfolding parameters_at
   no_argument e = rw e refl

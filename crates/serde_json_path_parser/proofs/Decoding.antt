@@ -1,11 +1,11 @@
 -- The character at a place of a text, by its first byte.
-use Rattle.std.proofs.Common.{◌≡◌, ℕ, zero, suc, ◌+◌, ◌*◌, ◌/◌, ◌%◌, ◌<◌, ◌≤◌, inl, inr, Bool, true, false, List, [], ◌∷◌, ◌++◌, length, get_or, drop, Some, refl, sym, ap, subst, ◌∙◌, arith}
-use Rattle.std.specs.Prelude.{slice_get, encode_utf8, ◌&&◌}
+use Rattle.std.proofs.Common.{◌≡◌, ℕ, zero, suc, ◌+◌, ◌*◌, ◌/◌, ◌%◌, ◌<◌, ◌≤◌, inl, inr, true, List, [], ◌∷◌, ◌++◌, length, get_or, drop, Some, refl, sym, ap, subst, ◌∙◌, arith}
+use Rattle.std.specs.Prelude.{slice_get, encode_utf8}
 use Rattle.std.specs.Str.{IsUtf8, encode_utf8_all, all_scalars}
 use Rattle.std.specs.Str.Pattern.{StartsWithChar}
 use Rattle.std.specs.Char.{IsScalar, encode_utf8 as encode}
 use Rattle.std.proofs.lemmas.List.{get_or-drop, length-drop, drop_at, length-append}
-use Rattle.std.proofs.lemmas.Bool.{cases_lt, lt-ltb, le-ltb}
+use Rattle.std.proofs.lemmas.Bool.{and_parts, cases_lt, lt-ltb, le-ltb}
 
 some_within : (xs : List ℕ) (i b : ℕ) → slice_get xs i ≡ Some b → (i < length xs) × (get_or xs i 0 ≡ b)
 some_within [] i b e = absurd cc
@@ -20,13 +20,9 @@ pub record Head (bs : List ℕ) : Type 0 where
   pub split : bs ≡ encode_utf8 c ++ rest
   pub tail : IsUtf8 rest
 
-both : (a b : Bool) → (a && b) ≡ true → (a ≡ true) × (b ≡ true)
-both true b e = (refl, e)
-both false b e = absurd cc
-
 head_from : (bs cs : List ℕ) → all_scalars cs ≡ true → encode_utf8_all cs ≡ bs → 0 < length bs → Head bs
 head_from bs [] s e l = absurd (omega (arith, ap length e))
-head_from bs (c ∷ cs) s e l = let h = both _ _ s in record { c = c; rest = encode_utf8_all cs; is = h.0; split = sym e; tail = (cs, (h.1, refl)) }
+head_from bs (c ∷ cs) s e l = let h = and_parts _ _ s in record { c = c; rest = encode_utf8_all cs; is = h.0; split = sym e; tail = (cs, (h.1, refl)) }
 
 pub head : (bs : List ℕ) → IsUtf8 bs → 0 < length bs → Head bs
 head bs u l = head_from bs u.0 u.1.0 u.1.1 l

@@ -4,7 +4,7 @@ use Rattle.std.specs.Prelude.{◌==◌, ◌||◌}
 use Rattle.serde_json_path_syntax.specs.Tree.{Selector, filter, LogicalOr}
 use Rattle.serde_json_path_functions.specs.Functions.{Signature}
 use Rattle.serde_json_path_parser.specs.Lexical.{begins}
-use Rattle.serde_json_path_parser.specs.Parsed.{past_blanks}
+use Rattle.serde_json_path_parser.specs.Parsed.{past_blanks, byte_count}
 use Rattle.serde_json_path_parser.specs.Filters.{Deeper, filter_at}
 use Rattle.serde_json_path_parser.proofs.Blanks.{past_all, blanks_of, are_blank, split_blanks}
 use Rattle.serde_json_path_parser.proofs.Filtered.{Closes, IsGoodText, FilterLaws, FiltersStand}
@@ -21,7 +21,7 @@ module _ (signature : List ℕ → Option Signature) (n : ℕ) (deeper : Deeper)
   sound : (cs : List ℕ) (x : Selector × List ℕ) → begins (λ c. c == 63) cs ≡ true → filter_at signature deeper cs ≡ Ok x → Read (Spaced (IsGoodText (IsGoodInside signature n))) cs x
   unfolding filter_at
   sound cs x mark e =
-      let inner = bind_ok (deeper.expression cs (past_blanks (drop 1 cs))) (λ e. Ok (filter e.0, e.1)) x e in
+      let inner = bind_ok (deeper.expression (byte_count cs) (past_blanks (drop 1 cs))) (λ e. Ok (filter e.0, e.1)) x e in
       let r = laws.inside_sound cs (past_blanks (drop 1 cs)) inner.0 inner.1 in
       let j = blanks_of (drop 1 cs) in
       subst (Read (Spaced (IsGoodText (IsGoodInside signature n))) cs) (ok_is (filter inner.0.0, inner.0.1) x inner.2) (record {
@@ -51,4 +51,4 @@ module _ (signature : List ℕ → Option Signature) (n : ℕ) (deeper : Deeper)
   filters_stand cs r mark e =
       let j = blanks_of (drop 1 cs) in
       let whole : cs ≡ (63 ∷ j) ++ past_blanks (drop 1 cs) = after_one 63 cs mark ∙ ap (λ (l : List ℕ). 63 ∷ l) (split_blanks (drop 1 cs)) in
-      bind_stands cs (deeper.expression cs (past_blanks (drop 1 cs))) _ r (λ d f. laws.inside_stands (63 ∷ j) cs (past_blanks (drop 1 cs)) d whole f) (λ x f h. no_refusal cs _ r h) e
+      bind_stands cs (deeper.expression (byte_count cs) (past_blanks (drop 1 cs))) _ r (λ d f. laws.inside_stands (63 ∷ j) cs (past_blanks (drop 1 cs)) d whole f) (λ x f h. no_refusal cs _ r h) e

@@ -8,7 +8,7 @@ use Rattle.serde_json_path_parser.specs.declared.error.ParseErrorKind.TheVariant
 use Rattle.serde_json_path_parser.specs.declared.error.Place.TheVariants as place
 use Rattle.serde_json_path_parser.specs.declared.error.Refusal.{Refusal}
 use Rattle.serde_json_path_parser.specs.Lexical.{begins, is_blank, is_digit, value_from, IsDecimal, IsInt}
-use Rattle.serde_json_path_parser.specs.Parsed.{Parsed, ◌>>=◌, refusal, front, behind}
+use Rattle.serde_json_path_parser.specs.Parsed.{Parsed, ◌>>=◌, refusal, front, behind, byte_count}
 use Rattle.serde_json_path_parser.specs.Parsing.{is_first_digit, digits_at, negative, int_at, begins_int}
 use Rattle.serde_json_path_parser.proofs.Runs.{begins_where, differs, begins_differs, no_blank, whole, front_each, front_begins, front_begins_not, front_all, behind_all, value_least}
 use Rattle.serde_json_path_parser.proofs.Steps.{Read, bind_ok, chosen, guard, done, ok_is, after_one}
@@ -52,7 +52,7 @@ decimal_read cs first = record {
   split = whole is_digit cs;
 }
 
-digits_sound : (start cs : List ℕ) (x : ℕ × List ℕ) → begins is_first_digit cs ≡ true → digits_at start cs ≡ Ok x → Read IsDecimal cs x × (1 ≤ x.0) × (x.0 ≤ largest)
+digits_sound : (start cs : List ℕ) (x : ℕ × List ℕ) → begins is_first_digit cs ≡ true → digits_at (byte_count start) cs ≡ Ok x → Read IsDecimal cs x × (1 ≤ x.0) × (x.0 ≤ largest)
 unfolding digits_at
 digits_sound start cs x first e =
     let n = value_from 0 (front is_digit cs) in
@@ -78,12 +78,12 @@ pub int_sound : (cs : List ℕ) (x : ℤ × List ℕ) → int_at cs ≡ Ok x →
 unfolding int_at
 int_sound cs x e =
     let wrong = refusal ExpectedSelector place.LongHand cs in
-    let below : Parsed ℤ = digits_at cs (drop 1 cs) >>= λ n. Ok (negative n.0, n.1) in
-    let above : Parsed ℤ = digits_at cs cs >>= λ n. Ok (pos n.0, n.1) in
+    let below : Parsed ℤ = digits_at (byte_count cs) (drop 1 cs) >>= λ n. Ok (negative n.0, n.1) in
+    let above : Parsed ℤ = digits_at (byte_count cs) cs >>= λ n. Ok (pos n.0, n.1) in
     elim (chosen (begins (λ c. c == 45) cs) (cond (begins is_first_digit (drop 1 cs)) below (Err wrong)) (cond (begins (λ c. c == 48) cs) (Ok (pos 0, drop 1 cs)) (cond (begins is_first_digit cs) above (Err wrong))) (Ok x) e) [
       | inl a ↦
           let g = guard (begins is_first_digit (drop 1 cs)) wrong below x a.1 in
-          let n = bind_ok (digits_at cs (drop 1 cs)) (λ n. Ok (negative n.0, n.1)) x g.1 in
+          let n = bind_ok (digits_at (byte_count cs) (drop 1 cs)) (λ n. Ok (negative n.0, n.1)) x g.1 in
           let r = digits_sound cs (drop 1 cs) n.0 g.0 n.1 in
           subst (Read IsInt cs) (ok_is (negative n.0.0, n.0.1) x n.2) (record {
             text = 45 ∷ r.0.text;
@@ -98,7 +98,7 @@ int_sound cs x e =
         })
         | inr b ↦
             let g = guard (begins is_first_digit cs) wrong above x b.1 in
-            let n = bind_ok (digits_at cs cs) (λ n. Ok (pos n.0, n.1)) x g.1 in
+            let n = bind_ok (digits_at (byte_count cs) cs) (λ n. Ok (pos n.0, n.1)) x g.1 in
             let r = digits_sound cs cs n.0 g.0 n.1 in
             subst (Read IsInt cs) (ok_is (pos n.0.0, n.0.1) x n.2) (record {
               text = r.0.text;
@@ -110,7 +110,7 @@ int_sound cs x e =
 
 -- ---- each integer is read
 
-digits_again : (start t : List ℕ) (n : ℕ) (rest : List ℕ) → IsDecimal t n → n ≤ largest → begins is_digit rest ≡ false → digits_at start (t ++ rest) ≡ Ok (n, rest)
+digits_again : (start t : List ℕ) (n : ℕ) (rest : List ℕ) → IsDecimal t n → n ≤ largest → begins is_digit rest ≡ false → digits_at (byte_count start) (t ++ rest) ≡ Ok (n, rest)
 unfolding digits_at
 digits_again start t n rest d most e =
     let in_range : nat_le (value_from 0 t) largest ≡ true = grind (arith, most, d.value_of) in
@@ -169,7 +169,7 @@ int_no_blank t i rest is = int_first is_blank false t i rest (λ c e. no_blank b
 
 -- ---- where a refusal stands
 
-digits_stands : (start cs : List ℕ) (r : Refusal) → digits_at start cs ≡ Err r → Stands Plain start r
+digits_stands : (start cs : List ℕ) (r : Refusal) → digits_at (byte_count start) cs ≡ Err r → Stands Plain start r
 unfolding digits_at
 digits_stands start cs r e =
     let n = value_from 0 (front is_digit cs) in
@@ -180,11 +180,11 @@ unfolding int_at
 int_stands cs r e = elim (chosen (begins (λ c. c == 45) cs) _ _ (Err r) e) [
   | inl a ↦
       guard_stands cs (begins is_first_digit (drop 1 cs)) _ ExpectedSelector place.LongHand r refl (λ f.
-      bind_stands cs (digits_at cs (drop 1 cs)) _ r (digits_stands cs (drop 1 cs)) (λ n s h. no_refusal cs _ r h) f) a.1
+      bind_stands cs (digits_at (byte_count cs) (drop 1 cs)) _ r (digits_stands cs (drop 1 cs)) (λ n s h. no_refusal cs _ r h) f) a.1
   | inr a ↦ elim (chosen (begins (λ c. c == 48) cs) (done (pos 0, drop 1 cs)) _ (Err r) a.1) [
     | inl b ↦ no_refusal cs _ r b.1
     | inr b ↦
         guard_stands cs (begins is_first_digit cs) _ ExpectedSelector place.LongHand r refl (λ f.
-        bind_stands cs (digits_at cs cs) _ r (digits_stands cs cs) (λ n s h. no_refusal cs _ r h) f) b.1
+        bind_stands cs (digits_at (byte_count cs) cs) _ r (digits_stands cs cs) (λ n s h. no_refusal cs _ r h) f) b.1
   ]
 ]

@@ -6,7 +6,7 @@ use Rattle.serde_json_path_parser.specs.declared.error.Refusal.{Refusal}
 use Rattle.serde_json_path_parser.specs.declared.error.ParseErrorKind.TheVariants.{NestedTooDeep}
 use Rattle.serde_json_path_parser.specs.declared.error.Place.TheVariants as place
 use Rattle.serde_json_path_parser.specs.Grammar.{ReadsOr}
-use Rattle.serde_json_path_parser.specs.Parsed.{Parsed, refusal}
+use Rattle.serde_json_path_parser.specs.Parsed.{Parsed, refusal, byte_count}
 use Rattle.serde_json_path_parser.specs.Filters.{level}
 use Rattle.serde_json_path_parser.proofs.CallPlaces.{call_stands}
 use Rattle.serde_json_path_parser.proofs.CallReads.{call_again}
@@ -32,20 +32,20 @@ module _ (signature : List ℕ → Option Signature) where
   zero_laws = record {
     inside_sound = λ start cs x e. absurd cc;
     inside_again = λ start t e rest good is ends. absurd (omega (arith, good.1));
-    inside_stands = λ before start cs r split e. too_deep start ((level signature 0).expression start cs) r refl e;
+    inside_stands = λ before start cs r split e. too_deep start ((level signature 0).expression (byte_count start) cs) r refl e;
     call_sound = λ start f cs x e. absurd cc;
     call_again = λ start f t c rest good is. absurd (no_call c good);
-    call_stands = λ start f cs r named split e. too_deep start ((level signature 0).call_of start f cs) r refl e;
+    call_stands = λ start f cs r named split e. too_deep start ((level signature 0).call_of (byte_count start) f cs) r refl e;
   }
 
   -- one level more, over the laws of the one within
   module _ (n : ℕ) (laws : DeeperLaws signature n (level signature n)) where
-    inside_sound : (start cs : List ℕ) (x : LogicalOr × List ℕ) → (level signature (suc n)).expression start cs ≡ Ok x → Read (Spaced (λ t e. IsGoodInside signature (suc n) e × ReadsOr e t)) cs x
+    inside_sound : (start cs : List ℕ) (x : LogicalOr × List ℕ) → (level signature (suc n)).expression (byte_count start) cs ≡ Ok x → Read (Spaced (λ t e. IsGoodInside signature (suc n) e × ReadsOr e t)) cs x
     unfolding level
     inside_sound start cs x e =
         made_of _ (λ t e. IsGoodInside signature (suc n) e × ReadsOr e t) (λ e. e) cs x (λ t h. ((h.0.0, omega (arith, h.0.1)), h.1)) (or_sound signature n (level signature n) laws cs x e)
 
-    behind_sound : (start f cs : List ℕ) (x : Call × List ℕ) → (level signature (suc n)).call_of start f cs ≡ Ok x → Read (Spaced (λ t c. IsGoodCall signature (suc n) c × ReadsBehindName f c t)) cs x
+    behind_sound : (start f cs : List ℕ) (x : Call × List ℕ) → (level signature (suc n)).call_of (byte_count start) f cs ≡ Ok x → Read (Spaced (λ t c. IsGoodCall signature (suc n) c × ReadsBehindName f c t)) cs x
     unfolding level
     behind_sound start f cs x e =
         made_of _ (λ t c. IsGoodCall signature (suc n) c × ReadsBehindName f c t) (λ c. c) cs x (λ t h. ((h.0.0, omega (arith, h.0.1)), h.1))

@@ -49,5 +49,3 @@ pub mod LevelSteps
 pub mod PathTexts
 pub mod Places
 pub mod Parses
-mod Worked
-mod WorkedParsing

@@ -10,7 +10,7 @@ use Rattle.serde_json_path_functions.specs.Functions.{Signature}
 use Rattle.serde_json_path_parser.specs.declared.error.Refusal.{Refusal}
 use Rattle.serde_json_path_parser.specs.Lexical.{begins, IsBlank, IsFunctionName}
 use Rattle.serde_json_path_parser.specs.Grammar.{IsLiteral, Reads, ReadsOr, ReadsCall, ReadArguments}
-use Rattle.serde_json_path_parser.specs.Parsed.{past_blanks}
+use Rattle.serde_json_path_parser.specs.Parsed.{past_blanks, byte_count}
 use Rattle.serde_json_path_parser.specs.Operands.{Operand, a_literal, a_query, a_call, is_singular_segment, are_singular, is_singular}
 use Rattle.serde_json_path_parser.specs.Filters.{Deeper}
 use Rattle.serde_json_path_parser.proofs.Filtered.{IsGoodSelector, AreGoodSelectors, IsGoodSegment, AreGoodSegments}
@@ -116,12 +116,12 @@ ReadsBehindName f c t =
 
 -- What is read is good and in the grammar, what is good is read, and a refusal stands from where they begin on.
 pub record DeeperLaws (signature : List ℕ → Option Signature) (n : ℕ) (deeper : Deeper) : Type 0 where
-  pub inside_sound : (start cs : List ℕ) (x : LogicalOr × List ℕ) → deeper.expression start cs ≡ Ok x → Read (Spaced (λ t e. IsGoodInside signature n e × ReadsOr e t)) cs x
-  pub inside_again : (start t : List ℕ) (e : LogicalOr) (rest : List ℕ) → IsGoodInside signature n e → ReadsOr e t → Follows ends_or rest → deeper.expression start (t ++ rest) ≡ Ok (e, past_blanks rest)
-  pub inside_stands : (before start cs : List ℕ) (r : Refusal) → start ≡ before ++ cs → deeper.expression start cs ≡ Err r → Stands (Inner signature) start r
-  pub call_sound : (start f cs : List ℕ) (x : Call × List ℕ) → deeper.call_of start f cs ≡ Ok x → Read (Spaced (λ t c. IsGoodCall signature n c × ReadsBehindName f c t)) cs x
-  pub call_again : (start f t : List ℕ) (c : Call) (rest : List ℕ) → IsGoodCall signature n c → ReadsBehindName f c t → deeper.call_of start f (t ++ rest) ≡ Ok (c, past_blanks rest)
-  pub call_stands : (start f cs : List ℕ) (r : Refusal) → IsFunctionName f f → start ≡ f ++ (40 ∷ cs) → deeper.call_of start f cs ≡ Err r → Stands (Inner signature) start r
+  pub inside_sound : (start cs : List ℕ) (x : LogicalOr × List ℕ) → deeper.expression (byte_count start) cs ≡ Ok x → Read (Spaced (λ t e. IsGoodInside signature n e × ReadsOr e t)) cs x
+  pub inside_again : (start t : List ℕ) (e : LogicalOr) (rest : List ℕ) → IsGoodInside signature n e → ReadsOr e t → Follows ends_or rest → deeper.expression (byte_count start) (t ++ rest) ≡ Ok (e, past_blanks rest)
+  pub inside_stands : (before start cs : List ℕ) (r : Refusal) → start ≡ before ++ cs → deeper.expression (byte_count start) cs ≡ Err r → Stands (Inner signature) start r
+  pub call_sound : (start f cs : List ℕ) (x : Call × List ℕ) → deeper.call_of (byte_count start) f cs ≡ Ok x → Read (Spaced (λ t c. IsGoodCall signature n c × ReadsBehindName f c t)) cs x
+  pub call_again : (start f t : List ℕ) (c : Call) (rest : List ℕ) → IsGoodCall signature n c → ReadsBehindName f c t → deeper.call_of (byte_count start) f (t ++ rest) ≡ Ok (c, past_blanks rest)
+  pub call_stands : (start f cs : List ℕ) (r : Refusal) → IsFunctionName f f → start ≡ f ++ (40 ∷ cs) → deeper.call_of (byte_count start) f cs ≡ Err r → Stands (Inner signature) start r
 
 -- ---- singular queries
 

@@ -10,7 +10,7 @@ use Rattle.serde_json_path_parser.specs.declared.error.Refusal.{Refusal}
 use Rattle.serde_json_path_parser.specs.declared.error.ParseErrorKind.TheVariants.{ExpectedExpression, ExpectedClosingParenthesis, ExpectedComparisonOperator, NonSingularQuery, WrongReturnType}
 use Rattle.serde_json_path_parser.specs.declared.error.Place.TheVariants as place
 use Rattle.serde_json_path_parser.specs.Lexical.{begins, begins_both, is_small_letter, is_function_char, IsQuote}
-use Rattle.serde_json_path_parser.specs.Parsed.{Parsed, ◌>>=◌, refusal, past_blanks, many}
+use Rattle.serde_json_path_parser.specs.Parsed.{Parsed, ◌>>=◌, refusal, past_blanks, many, byte_count}
 use Rattle.serde_json_path_parser.specs.Parsing.{segments_at}
 use Rattle.serde_json_path_parser.specs.Strings.{string_at}
 use Rattle.serde_json_path_parser.specs.Numbers.{number_at}
@@ -47,22 +47,22 @@ unfolding text_at
 text_stands quote cs r is e = bind_stands cs (string_at quote (drop 1 cs)) _ r (λ d f. drop_one cs d (string_stands quote is (drop 1 cs) d f)) (λ t f h. no_refusal cs _ r h) e
 
 module _ (signature : List ℕ → Option Signature) (n : ℕ) (deeper : Deeper) (laws : DeeperLaws signature n deeper) where
-  comparable_stands : (start : List ℕ) (o : Operand) (cs : List ℕ) (r : Refusal) → comparable_at signature deeper start o cs ≡ Err r → Stands (Inner signature) start r
+  comparable_stands : (start : List ℕ) (o : Operand) (cs : List ℕ) (r : Refusal) → comparable_at signature deeper (byte_count start) o cs ≡ Err r → Stands (Inner signature) start r
   unfolding comparable_at
   comparable_stands start (a_literal l) cs r e = no_refusal start _ r e
   comparable_stands start (a_query q) cs r e = guard_stands start (is_singular q) (done (singular q, cs)) NonSingularQuery place.LongHand r (inl refl) (no_refusal start _ r) e
   comparable_stands start (a_call c) cs r e = guard_stands start (is_result of_value (result_kind signature c)) (done (called c, cs)) WrongReturnType place.LongHand r (inl refl) (no_refusal start _ r) e
 
   -- a comparable takes nothing more
-  same_rest : (start : List ℕ) (o : Operand) (cs : List ℕ) (x : Comparable × List ℕ) → comparable_at signature deeper start o cs ≡ Ok x → cs ≡ x.1
+  same_rest : (start : List ℕ) (o : Operand) (cs : List ℕ) (x : Comparable × List ℕ) → comparable_at signature deeper (byte_count start) o cs ≡ Ok x → cs ≡ x.1
   unfolding comparable_at
   same_rest start (a_literal l) cs x e = ap (λ y. y.1) (ok_is (literal l, cs) x e)
   same_rest start (a_query q) cs x e = let g = guard (is_singular q) (refusal NonSingularQuery place.LongHand start) (done (singular q, cs)) x e in ap (λ y. y.1) (ok_is (singular q, cs) x g.1)
   same_rest start (a_call c) cs x e = let g = guard (is_result of_value (result_kind signature c)) (refusal WrongReturnType place.LongHand start) (done (called c, cs)) x e in ap (λ y. y.1) (ok_is (called c, cs) x g.1)
 
-  test_stands : (before start : List ℕ) (o : Operand) (cs : List ℕ) (r : Refusal) → start ≡ before ++ cs → test_at signature deeper start o cs ≡ Err r → Stands (Inner signature) start r
+  test_stands : (before start : List ℕ) (o : Operand) (cs : List ℕ) (r : Refusal) → start ≡ before ++ cs → test_at signature deeper (byte_count start) o cs ≡ Err r → Stands (Inner signature) start r
   unfolding test_at
-  test_stands before start (a_literal l) cs r split e = further start before cs r split (here ExpectedComparisonOperator place.LongHand cs (test_at signature deeper start (a_literal l) cs) r (inl refl) refl e)
+  test_stands before start (a_literal l) cs r split e = further start before cs r split (here ExpectedComparisonOperator place.LongHand cs (test_at signature deeper (byte_count start) (a_literal l) cs) r (inl refl) refl e)
   test_stands before start (a_query q) cs r split e = no_refusal start _ r e
   test_stands before start (a_call c) cs r split e =
       let wrong : Parsed Basic = Err (refusal WrongReturnType place.LongHand start) in
@@ -117,14 +117,14 @@ module _ (signature : List ℕ → Option Signature) (n : ℕ) (deeper : Deeper)
   right_side_stands cs r e = bind_stands cs (operand_at signature deeper cs) _ r (operand_stands cs) (λ o f h. comparable_stands cs o.0 o.1 r h) e
 
   -- behind an operand that begins at start
-  pub basic_from_stands : (before start : List ℕ) (o : Operand) (cs : List ℕ) (r : Refusal) → start ≡ before ++ cs → basic_from signature deeper start o cs ≡ Err r → Stands (Inner signature) start r
+  pub basic_from_stands : (before start : List ℕ) (o : Operand) (cs : List ℕ) (r : Refusal) → start ≡ before ++ cs → basic_from signature deeper (byte_count start) o cs ≡ Err r → Stands (Inner signature) start r
   unfolding basic_from relation_at
   basic_from_stands before start o cs r split e = by_operator (operator_at cs) refl e
     where
-      by_operator : (op : Option (Operator × List ℕ)) → operator_at cs ≡ op → relation_at signature deeper start o op cs ≡ Err r → Stands (Inner signature) start r
+      by_operator : (op : Option (Operator × List ℕ)) → operator_at cs ≡ op → relation_at signature deeper (byte_count start) o op cs ≡ Err r → Stands (Inner signature) start r
       by_operator None none e = test_stands before start o cs r split e
       by_operator (Some op) found e =
-          bind_stands start (comparable_at signature deeper start o (past_blanks op.1)) _ r (λ d f. comparable_stands start o (past_blanks op.1) d f) (λ a f h.
+          bind_stands start (comparable_at signature deeper (byte_count start) o (past_blanks op.1)) _ r (λ d f. comparable_stands start o (past_blanks op.1) d f) (λ a f h.
           let right : op.1 ≡ blanks_of op.1 ++ a.1 = split_blanks op.1 ∙ ap (λ (l : List ℕ). blanks_of op.1 ++ l) (same_rest start o (past_blanks op.1) a f) in
           let behind : start ≡ (before ++ (operator_text op.0 ++ blanks_of op.1)) ++ a.1 =
           split ∙ ap (λ (l : List ℕ). before ++ l) (operator_sound cs op found ∙ ap (λ (l : List ℕ). operator_text op.0 ++ l) right) ∙ gathered before (operator_text op.0) (blanks_of op.1) a.1 in
@@ -138,7 +138,7 @@ module _ (signature : List ℕ → Option Signature) (n : ℕ) (deeper : Deeper)
   paren_stands cs r opened e =
       let j = blanks_of (drop 1 cs) in
       let split : cs ≡ (40 ∷ j) ++ past_blanks (drop 1 cs) = after_one 40 cs opened ∙ ap (λ (l : List ℕ). 40 ∷ l) (split_blanks (drop 1 cs)) in
-      bind_stands cs (deeper.expression cs (past_blanks (drop 1 cs))) _ r (λ d f. laws.inside_stands (40 ∷ j) cs (past_blanks (drop 1 cs)) d split f) (λ x f h.
+      bind_stands cs (deeper.expression (byte_count cs) (past_blanks (drop 1 cs))) _ r (λ d f. laws.inside_stands (40 ∷ j) cs (past_blanks (drop 1 cs)) d split f) (λ x f h.
       let read = laws.inside_sound cs (past_blanks (drop 1 cs)) x f in
       further cs (40 ∷ j) (past_blanks (drop 1 cs)) r split
       (further (past_blanks (drop 1 cs)) read.text x.1 r read.split

@@ -9,7 +9,7 @@ use Rattle.serde_json_path_syntax.specs.Depth.{or_depth, and_depth}
 use Rattle.serde_json_path_functions.specs.Functions.{Kind, of_value, Signature}
 use Rattle.serde_json_path_parser.specs.Lexical.{begins, begins_both, is_blank, is_small_letter, IsBlank}
 use Rattle.serde_json_path_parser.specs.Grammar.{InParentheses, Reads, ReadsOr, ReadMoreOrs, ReadMoreAnds, ReadsCall}
-use Rattle.serde_json_path_parser.specs.Parsed.{Parsed, past_blanks, many}
+use Rattle.serde_json_path_parser.specs.Parsed.{Parsed, past_blanks, many, byte_count}
 use Rattle.serde_json_path_parser.specs.Operands.{Operand, a_literal, a_query, a_call, is_result}
 use Rattle.serde_json_path_parser.specs.Filters.{behind_word, operator_at, and_list, or_list, Deeper, query_at, operand_at, comparable_at, test_at, right_side_at, relation_at, basic_from, paren_at, negated_call_at, negated_at, basic_at, next_basic_at, and_from, and_at, next_and_at, or_from, or_at}
 use Rattle.serde_json_path_parser.proofs.Blanks.{past_all, begins_not}
@@ -135,7 +135,7 @@ module _ (signature : List ℕ → Option Signature) (n : ℕ) (deeper : Deeper)
   as_operand (singular q) t h = (h.0, h.1.1)
   as_operand (called c) t h = ((h.0.0.0, h.0.1), h.1)
 
-  comparable_again : (start : List ℕ) (a : Comparable) (t cs : List ℕ) → IsComparable t a → comparable_at signature deeper start (operand_of a) cs ≡ Ok (a, cs)
+  comparable_again : (start : List ℕ) (a : Comparable) (t cs : List ℕ) → IsComparable t a → comparable_at signature deeper (byte_count start) (operand_of a) cs ≡ Ok (a, cs)
   unfolding comparable_at
   comparable_again start (literal l) t cs h = refl
   comparable_again start (singular q) t cs h = rw (query_singular q h.1.0) refl
@@ -143,7 +143,7 @@ module _ (signature : List ℕ → Option Signature) (n : ℕ) (deeper : Deeper)
 
   -- behind an operand that is the left side, at the operator
   relation_again : (start : List ℕ) (left : Comparable) (op : Operator) (right : Comparable) (a k b rest : List ℕ) → IsComparable a left → IsBlank k → IsComparable b right → Follows ends_basic rest
-      → basic_from signature deeper start (operand_of left) (operator_text op ++ (k ++ (b ++ rest))) ≡ Ok (relation left op right, past_blanks rest)
+      → basic_from signature deeper (byte_count start) (operand_of left) (operator_text op ++ (k ++ (b ++ rest))) ≡ Ok (relation left op right, past_blanks rest)
   unfolding basic_from relation_at right_side_at
   relation_again start left op right a k b rest is_left blank is_right follows =
       let o = as_operand right b is_right in
@@ -151,23 +151,23 @@ module _ (signature : List ℕ → Option Signature) (n : ℕ) (deeper : Deeper)
       let found = operator_again op (k ++ (b ++ rest)) (no_equals k (b ++ rest) blank first) in
       let past = past_all k (b ++ rest) blank (operand_no_blank (b ++ rest) first) in
       let right_read = operand_again signature n deeper laws b (operand_of right) rest o (basic_ends_operand rest follows) in
-      ap (λ o. relation_at signature deeper start (operand_of left) o (operator_text op ++ (k ++ (b ++ rest)))) found
+      ap (λ o. relation_at signature deeper (byte_count start) (operand_of left) o (operator_text op ++ (k ++ (b ++ rest)))) found
       ∙ rw (past, comparable_again start left a (b ++ rest) is_left, right_read, comparable_again (b ++ rest) right b (past_blanks rest) is_right) refl
 
   -- an operand, and what it is made behind it
-  of_operand : (cs : List ℕ) (o : Operand) (rest : List ℕ) → begins begins_operand cs ≡ true → operand_at signature deeper cs ≡ Ok (o, rest) → read cs ≡ basic_from signature deeper cs o rest
+  of_operand : (cs : List ℕ) (o : Operand) (rest : List ℕ) → begins begins_operand cs ≡ true → operand_at signature deeper cs ≡ Ok (o, rest) → read cs ≡ basic_from signature deeper (byte_count cs) o rest
   unfolding basic_at
   of_operand cs o rest first e = rw (begins_differs begins_operand 40 cs refl first, begins_differs begins_operand 33 cs refl first, e) refl
 
-  tested : (start : List ℕ) (o : Operand) (cs : List ℕ) → begins ends_basic cs ≡ true → basic_from signature deeper start o cs ≡ test_at signature deeper start o cs
+  tested : (start : List ℕ) (o : Operand) (cs : List ℕ) → begins ends_basic cs ≡ true → basic_from signature deeper (byte_count start) o cs ≡ test_at signature deeper (byte_count start) o cs
   unfolding basic_from relation_at
-  tested start o cs follows = ap (λ op. relation_at signature deeper start o op cs) (no_operator cs follows)
+  tested start o cs follows = ap (λ op. relation_at signature deeper (byte_count start) o op cs) (no_operator cs follows)
 
-  exist_again : (start : List ℕ) (q : Query) (cs : List ℕ) → test_at signature deeper start (a_query q) cs ≡ Ok (exist q, cs)
+  exist_again : (start : List ℕ) (q : Query) (cs : List ℕ) → test_at signature deeper (byte_count start) (a_query q) cs ≡ Ok (exist q, cs)
   unfolding test_at
   exist_again start q cs = refl
 
-  test_again : (start : List ℕ) (c : Call) (cs : List ℕ) → IsTestKind (result_kind signature c) → test_at signature deeper start (a_call c) cs ≡ Ok (test c, cs)
+  test_again : (start : List ℕ) (c : Call) (cs : List ℕ) → IsTestKind (result_kind signature c) → test_at signature deeper (byte_count start) (a_call c) cs ≡ Ok (test c, cs)
   unfolding test_at
   test_again start c cs kind = rw (test_no_value (result_kind signature c) kind) refl
 

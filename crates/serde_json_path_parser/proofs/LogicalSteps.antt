@@ -2,7 +2,6 @@
 use Rattle.std.proofs.Common.{◌≡◌, ℕ, zero, suc, ◌-◌, ◌<◌, ◌⊎◌, inl, inr, Bool, true, false, List, [], ◌∷◌, ◌++◌, length, drop, Option, Some, None, Result, Ok, Err, refl, sym, ap, subst, ◌∙◌, arith}
 use denote.Enum.Bare.{sameb}
 use Rattle.std.specs.Prelude.{◌==◌, codes, bytes_eq}
-use Rattle.std.specs.Str.{encode_utf8_all}
 use Rattle.std.proofs.lemmas.Bool.{and_parts}
 use Rattle.serde_json_path_syntax.specs.Tree.{root, current, Query, LogicalOr, paren, not_paren, relation, not_exist, not_test, Comparable, Call, Literal, truth, null, Operator}
 use Rattle.serde_json_path_syntax.specs.Typing.{result_kind}
@@ -26,21 +25,17 @@ use Rattle.serde_json_path_parser.specs.Filters.{word, behind_word, begins_call,
 use Rattle.serde_json_path_parser.specs.Giving.{Fails, IsOperandOf}
 use Rattle.serde_json_path_parser.specs.Lexical.{begins, begins_both}
 use Rattle.serde_json_path_parser.specs.Operands.{Operand, a_literal, a_query, a_call, is_result}
-use Rattle.serde_json_path_parser.specs.Parsed.{Parsed, ◌>>=◌, refusal, past_blanks, many}
+use Rattle.serde_json_path_parser.specs.Parsed.{Parsed, ◌>>=◌, refusal, past_blanks, many, byte_count, refusal_at}
 use Rattle.serde_json_path_parser.proofs.Levels.{level_laws}
 use Rattle.serde_json_path_parser.proofs.LogicalTexts.{IsBasicText, IsAndText, next_basic_sound, next_and_sound}
 use Rattle.serde_json_path_parser.proofs.Many as m
 use Rattle.serde_json_path_parser.proofs.Many.{with_front}
+use Rattle.serde_json_path_parser.proofs.Refusals.{first_fails}
 use Rattle.serde_json_path_parser.proofs.Rows as r
 use Rattle.serde_json_path_parser.proofs.Runs.{some_begun}
 use Rattle.serde_json_path_parser.proofs.Steps.{chosen, done, ok_is, bind_ok}
 
 -- ---- one step
-
--- where a step stops, all that goes on with it stops
-pub fails_on : {A B : Type 0} (s : Stop) (read : Result A Refusal) (f : A → Result B Refusal) → Fails s read → Fails s (read >>= f)
-fails_on stops.Memory read f h = tt
-fails_on (stops.Refused r) read f h = rw h refl
 
 -- a step that only makes something of what is read stops where that stops
 made_err : {A B : Type 0} (read : Result A Refusal) (make : A → B) (r : Refusal) → (read >>= λ a. Ok (make a)) ≡ Err r → read ≡ Err r
@@ -53,12 +48,6 @@ behind_one c cs ds es taken skipped = skipped ∙ ap (λ (l : List ℕ). past_bl
 
 pub behind_two : (cs ds es fs : List ℕ) → ds ≡ cs → es ≡ drop 2 ds → fs ≡ past_blanks es → fs ≡ past_blanks (drop 2 cs)
 behind_two cs ds es fs stays taken skipped = skipped ∙ ap past_blanks (taken ∙ ap (λ (l : List ℕ). drop 2 l) stays)
-
--- each count of bytes is that of a text
-pub some_text : (n : ℕ) → (cs : List ℕ) × (n ≡ length (encode_utf8_all cs))
-unfolding lib.Utf8.encode
-some_text zero = ([], refl)
-some_text (suc n) = let rest = some_text n in (0 ∷ rest.0, ap suc rest.1)
 
 -- ---- what is joined by a sign of two equal characters
 
@@ -95,7 +84,7 @@ module _ {A B : Type 0} {sign : ℕ} {item next : List ℕ → Parsed A} {join :
   row_fails s first before start cs ds t e fails h =
       let all : Parsed (List A) = with_front (first ∷ []) (read_more start) in
       let refused = m.fails (begins_both sign sign) next row.takes s before cs all t (subst (Fails s) (sym (next_reads cs ds e)) fails) h in
-      subst (Fails s) (sym (row.whole_is first start ∙ with_first first (read_more start))) (fails_on s all joined refused)
+      subst (Fails s) (sym (row.whole_is first start ∙ with_first first (read_more start))) (first_fails s all joined refused)
 
   pub row_done : (first : A) (before : List A) (start cs : List ℕ) → begins_both sign sign cs ≡ false → with_front before (read_more cs) ≡ with_front (first ∷ []) (read_more start)
       → behind_first first start ≡ Ok (join before, cs)
@@ -134,12 +123,12 @@ module _ (signature : List ℕ → Option Signature) (n : ℕ) where
 
 -- ---- one level deeper
 
-pub too_deep : (signature : List ℕ → Option Signature) (depth : ℕ) (start cs : List ℕ) → depth ≡ 0 → (level signature depth).expression start cs ≡ Err (refusal NestedTooDeep place.LongHand start)
+pub too_deep : (signature : List ℕ → Option Signature) (depth : ℕ) (start : ℕ) (cs : List ℕ) → depth ≡ 0 → (level signature depth).expression start cs ≡ Err (refusal_at NestedTooDeep place.LongHand start)
 unfolding level
 too_deep signature zero start cs none = refl
 too_deep signature (suc n) start cs none = absurd (omega (arith, none))
 
-pub inside_is : (signature within : List ℕ → Option Signature) (depth inner : ℕ) (start cs ds : List ℕ) → 0 < depth → within ≡ signature → inner ≡ depth - 1 → ds ≡ cs
+pub inside_is : (signature within : List ℕ → Option Signature) (depth inner : ℕ) (start : ℕ) (cs ds : List ℕ) → 0 < depth → within ≡ signature → inner ≡ depth - 1 → ds ≡ cs
     → (level signature depth).expression start cs ≡ or_at within (level within inner) ds
 unfolding level
 inside_is signature within zero inner start cs ds some same less e = absurd (omega (arith, some))
@@ -147,7 +136,7 @@ inside_is signature within (suc n) inner start cs ds some same less e = let is :
 
 -- ---- operators
 
-module _ (signature : List ℕ → Option Signature) (deeper : Deeper) (start : List ℕ) (o : Operand) (cs : List ℕ) where
+module _ (signature : List ℕ → Option Signature) (deeper : Deeper) (start : ℕ) (o : Operand) (cs : List ℕ) where
   pub no_operator_read : (rest : List ℕ) → operator_at cs ≡ None → rest ≡ cs → basic_from signature deeper start o cs ≡ test_at signature deeper start o rest
   unfolding basic_from relation_at
   no_operator_read rest none stays = rw none (ap (test_at signature deeper start o) (sym stays))
@@ -161,29 +150,29 @@ module _ (signature : List ℕ → Option Signature) (deeper : Deeper) (start : 
         → basic_from signature deeper start o cs ≡ (right_side_at signature deeper es >>= λ b. Ok (relation a op b.0, b.1))
     left_read a es e = operator_read ∙ rw e refl
 
-    right_is : (es fs : List ℕ) (p : Operand) → operand_at signature deeper es ≡ Ok (p, fs) → right_side_at signature deeper es ≡ comparable_at signature deeper es p fs
+    right_is : (es fs : List ℕ) (p : Operand) → operand_at signature deeper es ≡ Ok (p, fs) → right_side_at signature deeper es ≡ comparable_at signature deeper (byte_count es) p fs
     unfolding right_side_at
     right_is es fs p e = rw e refl
 
     operand_stops : (s : Stop) (es : List ℕ) → Fails s (operand_at signature deeper es) → Fails s (right_side_at signature deeper es)
     unfolding right_side_at
-    operand_stops s es h = fails_on s (operand_at signature deeper es) _ h
+    operand_stops s es h = first_fails s (operand_at signature deeper es) _ h
 
     -- where one of the three stops, and where none does
     pub left_fails : (s : Stop) → Fails s (comparable_at signature deeper start o ds) → Fails s (basic_from signature deeper start o cs)
-    left_fails s h = subst (Fails s) (sym operator_read) (fails_on s (comparable_at signature deeper start o ds) _ h)
+    left_fails s h = subst (Fails s) (sym operator_read) (first_fails s (comparable_at signature deeper start o ds) _ h)
 
     pub operand_fails : (s : Stop) (a : Comparable) (es : List ℕ) → comparable_at signature deeper start o ds ≡ Ok (a, es) → Fails s (operand_at signature deeper es)
         → Fails s (basic_from signature deeper start o cs)
-    operand_fails s a es e h = subst (Fails s) (sym (left_read a es e)) (fails_on s (right_side_at signature deeper es) _ (operand_stops s es h))
+    operand_fails s a es e h = subst (Fails s) (sym (left_read a es e)) (first_fails s (right_side_at signature deeper es) _ (operand_stops s es h))
 
     pub right_fails : (s : Stop) (a : Comparable) (es fs : List ℕ) (p : Operand) → comparable_at signature deeper start o ds ≡ Ok (a, es) → operand_at signature deeper es ≡ Ok (p, fs)
-        → Fails s (comparable_at signature deeper es p fs)
+        → Fails s (comparable_at signature deeper (byte_count es) p fs)
         → Fails s (basic_from signature deeper start o cs)
-    right_fails s a es fs p e read h = subst (Fails s) (sym (left_read a es e)) (fails_on s (right_side_at signature deeper es) _ (subst (Fails s) (sym (right_is es fs p read)) h))
+    right_fails s a es fs p e read h = subst (Fails s) (sym (left_read a es e)) (first_fails s (right_side_at signature deeper es) _ (subst (Fails s) (sym (right_is es fs p read)) h))
 
     pub relation_read : (a b : Comparable) (es fs gs : List ℕ) (p : Operand) → comparable_at signature deeper start o ds ≡ Ok (a, es) → operand_at signature deeper es ≡ Ok (p, fs)
-        → comparable_at signature deeper es p fs ≡ Ok (b, gs)
+        → comparable_at signature deeper (byte_count es) p fs ≡ Ok (b, gs)
         → basic_from signature deeper start o cs ≡ Ok (relation a op b, gs)
     relation_read a b es fs gs p e read h = left_read a es e ∙ rw (right_is es fs p read, h) refl
 

@@ -12,7 +12,7 @@ use Rattle.serde_json_path_parser.specs.declared.error.ParseErrorKind.TheVariant
 use Rattle.serde_json_path_parser.specs.declared.error.Place.TheVariants as place
 use Rattle.serde_json_path_parser.specs.Lexical.{begins, begins_both, IsBlank}
 use Rattle.serde_json_path_parser.specs.Grammar.{InParentheses, ReadsOr, ReadMoreOrs, ReadsAnd, ReadMoreAnds, ReadsBasic, ReadsComparable}
-use Rattle.serde_json_path_parser.specs.Parsed.{Parsed, ◌>>=◌, refusal, past_blanks, many}
+use Rattle.serde_json_path_parser.specs.Parsed.{Parsed, ◌>>=◌, refusal, past_blanks, many, byte_count}
 use Rattle.serde_json_path_parser.specs.Operands.{Operand, a_literal, a_query, a_call, is_singular, is_result}
 use Rattle.serde_json_path_parser.specs.Filters.{begins_call, operator_at, and_list, or_list, Deeper, query_at, named_call_at, operand_at, comparable_at, test_at, right_side_at, relation_at, basic_from, paren_at, negated_call_at, negated_at, basic_at, next_basic_at, and_from, and_at, next_and_at, or_from, or_at}
 use Rattle.serde_json_path_parser.proofs.Blanks.{blanks_of, are_blank, split_blanks}
@@ -99,7 +99,7 @@ module _ (signature : List ℕ → Option Signature) (n : ℕ) (deeper : Deeper)
       let result : result_kind signature (call f args) ≡ Some typed.0.result = rw typed.1 refl in
       subst IsTestKind (sym result) (test_result typed.0 (ap (is_result of_value) (sym result) ∙ e))
 
-  comparable_sound : (start : List ℕ) (o : Operand) (cs t : List ℕ) (x : Comparable × List ℕ) → IsOperand t o → comparable_at signature deeper start o cs ≡ Ok x → IsComparableText t x.0 × (cs ≡ x.1)
+  comparable_sound : (start : List ℕ) (o : Operand) (cs t : List ℕ) (x : Comparable × List ℕ) → IsOperand t o → comparable_at signature deeper (byte_count start) o cs ≡ Ok x → IsComparableText t x.0 × (cs ≡ x.1)
   unfolding comparable_at
   comparable_sound start (a_literal l) cs t x h e = subst (λ (y : Comparable × List ℕ). IsComparableText t y.0 × (cs ≡ y.1)) (ok_is (literal l, cs) x e) (((tt, omega arith), h.1), refl)
   comparable_sound start (a_query q) cs t x h e =
@@ -109,7 +109,7 @@ module _ (signature : List ℕ → Option Signature) (n : ℕ) (deeper : Deeper)
       let g = guard (is_result of_value (result_kind signature c)) (refusal WrongReturnType place.LongHand start) (done (called c, cs)) x e in
       subst (λ (y : Comparable × List ℕ). IsComparableText t y.0 × (cs ≡ y.1)) (ok_is (called c, cs) x g.1) ((((h.0.0, value_result (result_kind signature c) g.0), h.0.1), h.1), refl)
 
-  test_sound : (start : List ℕ) (o : Operand) (cs t : List ℕ) (x : Basic × List ℕ) → IsOperand t o → test_at signature deeper start o cs ≡ Ok x → IsBasicText t x.0 × (cs ≡ x.1)
+  test_sound : (start : List ℕ) (o : Operand) (cs t : List ℕ) (x : Basic × List ℕ) → IsOperand t o → test_at signature deeper (byte_count start) o cs ≡ Ok x → IsBasicText t x.0 × (cs ≡ x.1)
   unfolding test_at
   test_sound start (a_literal l) cs t x h e = absurd cc
   test_sound start (a_query q) cs t x h e = subst (λ (y : Basic × List ℕ). IsBasicText t y.0 × (cs ≡ y.1)) (ok_is (exist q, cs) x e) (h, refl)
@@ -121,22 +121,22 @@ module _ (signature : List ℕ → Option Signature) (n : ℕ) (deeper : Deeper)
   right_side_sound : (cs : List ℕ) (x : Comparable × List ℕ) → right_side_at signature deeper cs ≡ Ok x → Read (Spaced IsComparableText) cs x
   unfolding right_side_at
   right_side_sound cs x e =
-      let o = bind_ok (operand_at signature deeper cs) (λ o. comparable_at signature deeper cs o.0 o.1) x e in
+      let o = bind_ok (operand_at signature deeper cs) (λ o. comparable_at signature deeper (byte_count cs) o.0 o.1) x e in
       let r = operand_sound signature n deeper laws cs o.0 o.1 in
       let c = comparable_sound cs o.0.0 o.0.1 r.is_so.0 x r.is_so.2 o.2 in
       record { text = r.text; is_so = (r.is_so.0, r.is_so.1, c.0, r.is_so.3, r.is_so.4); split = r.split ∙ ap (λ (l : List ℕ). r.text ++ l) c.1 }
 
   -- behind an operand and blanks
-  pub basic_from_sound : (start : List ℕ) (o : Operand) (cs t k : List ℕ) (x : Basic × List ℕ) → IsOperand t o → IsBlank k → basic_from signature deeper start o cs ≡ Ok x → Read (Spaced IsBasicText) ((t ++ k) ++ cs) x
+  pub basic_from_sound : (start : List ℕ) (o : Operand) (cs t k : List ℕ) (x : Basic × List ℕ) → IsOperand t o → IsBlank k → basic_from signature deeper (byte_count start) o cs ≡ Ok x → Read (Spaced IsBasicText) ((t ++ k) ++ cs) x
   unfolding basic_from relation_at
   basic_from_sound start o cs t k x h blank e = by_operator (operator_at cs) refl e
     where
-      by_operator : (op : Option (Operator × List ℕ)) → operator_at cs ≡ op → relation_at signature deeper start o op cs ≡ Ok x → Read (Spaced IsBasicText) ((t ++ k) ++ cs) x
+      by_operator : (op : Option (Operator × List ℕ)) → operator_at cs ≡ op → relation_at signature deeper (byte_count start) o op cs ≡ Ok x → Read (Spaced IsBasicText) ((t ++ k) ++ cs) x
       by_operator None none e =
           let b = test_sound start o cs t x h e in
           record { text = t ++ k; is_so = (t, k, b.0, blank, refl); split = ap (λ (l : List ℕ). (t ++ k) ++ l) b.1 }
       by_operator (Some op) found e =
-          let a = bind_ok (comparable_at signature deeper start o (past_blanks op.1)) (λ a. right_side_at signature deeper a.1 >>= λ b. Ok (relation a.0 op.0 b.0, b.1)) x e in
+          let a = bind_ok (comparable_at signature deeper (byte_count start) o (past_blanks op.1)) (λ a. right_side_at signature deeper a.1 >>= λ b. Ok (relation a.0 op.0 b.0, b.1)) x e in
           let left_side = comparable_sound start o (past_blanks op.1) t a.0 h a.1 in
           let b = bind_ok (right_side_at signature deeper a.0.1) (λ b. Ok (relation a.0.0 op.0 b.0, b.1)) x a.2 in
           let r = right_side_sound a.0.1 b.0 b.1 in
@@ -167,7 +167,7 @@ module _ (signature : List ℕ → Option Signature) (n : ℕ) (deeper : Deeper)
   unfolding paren_at
   paren_sound cs x opened e =
       let Is : List ℕ → LogicalOr → Type 0 = λ t e. IsGoodInside signature n e × InParentheses (ReadsOr e) t in
-      let inner = bind_ok (deeper.expression cs (past_blanks (drop 1 cs))) (λ e. cond (begins (λ c. c == 41) e.1) (Ok (e.0, past_blanks (drop 1 e.1))) (Err (refusal ExpectedClosingParenthesis place.LongHand e.1))) x e in
+      let inner = bind_ok (deeper.expression (byte_count cs) (past_blanks (drop 1 cs))) (λ e. cond (begins (λ c. c == 41) e.1) (Ok (e.0, past_blanks (drop 1 e.1))) (Err (refusal ExpectedClosingParenthesis place.LongHand e.1))) x e in
       let g = guard (begins (λ c. c == 41) inner.0.1) (refusal ExpectedClosingParenthesis place.LongHand inner.0.1) (done (inner.0.0, past_blanks (drop 1 inner.0.1))) x inner.2 in
       let r = laws.inside_sound cs (past_blanks (drop 1 cs)) inner.0 inner.1 in
       let j = blanks_of (drop 1 cs) in
@@ -228,7 +228,7 @@ module _ (signature : List ℕ → Option Signature) (n : ℕ) (deeper : Deeper)
   unfolding basic_at
   basic_sound cs x e =
       let in_parens : Parsed Basic = paren_at signature deeper cs >>= λ e. Ok (paren e.0, e.1) in
-      let of_operand : Parsed Basic = operand_at signature deeper cs >>= λ o. basic_from signature deeper cs o.0 o.1 in
+      let of_operand : Parsed Basic = operand_at signature deeper cs >>= λ o. basic_from signature deeper (byte_count cs) o.0 o.1 in
       elim (chosen (begins (λ c. c == 40) cs) in_parens _ (Ok x) e) [
         | inl a ↦ made_sound _ IsBasicText (λ e. paren e) cs (paren_at signature deeper cs) x (λ t e is. is) (λ y. paren_sound cs y a.0) a.1
         | inr a ↦ elim (chosen (begins (λ c. c == 33) cs) (negated_at signature deeper (past_blanks (drop 1 cs))) of_operand (Ok x) a.1) [
@@ -241,7 +241,7 @@ module _ (signature : List ℕ → Option Signature) (n : ℕ) (deeper : Deeper)
                 split = after_one 33 cs b.0 ∙ ap (λ (l : List ℕ). 33 ∷ l) (split_blanks (drop 1 cs) ∙ ap (λ (l : List ℕ). k ++ l) r.split ∙ sym (append_assoc k r.text x.1));
               }
           | inr b ↦
-              let o = bind_ok (operand_at signature deeper cs) (λ o. basic_from signature deeper cs o.0 o.1) x b.1 in
+              let o = bind_ok (operand_at signature deeper cs) (λ o. basic_from signature deeper (byte_count cs) o.0 o.1) x b.1 in
               let r = operand_sound signature n deeper laws cs o.0 o.1 in
               subst (λ (l : List ℕ). Read (Spaced IsBasicText) l x) (sym (r.split ∙ ap (λ (l : List ℕ). l ++ o.0.1) r.is_so.4)) (basic_from_sound cs o.0.0 o.0.1 r.is_so.0 r.is_so.1 x r.is_so.2 r.is_so.3 o.2)
         ]

@@ -1,7 +1,8 @@
 -- The ASCII characters of a member name that are taken many at a time.
 use Rattle.std.proofs.Common.{◌≡◌, ℕ, zero, suc, ◌+◌, ◌-◌, ◌<◌, ◌≤◌, Bool, true, false, List, [], ◌∷◌, ◌++◌, length, take, drop, set, Some, Result, Ok, Err, is_ok, IfOk, if◌then◌else◌, refl, sym, ap, ◌∙◌, append_assoc, arith}
-use Rattle.std.specs.Prelude.{slice_get, ◌&&◌, nat_le, nat_lt, ◌^◌, max}
+use Rattle.std.specs.Prelude.{slice_get, nat_le, nat_lt, ◌^◌, max}
 use Rattle.std.specs.Str.{is_utf8, chars, IsAscii, encode_utf8_all}
+use Rattle.std.proofs.lemmas.Bool.{and_parts}
 use Rattle.std.proofs.lemmas.List.{take_more_set}
 use Rattle.std.proofs.lemmas.Str.{encodes-append, encodes-IsAscii}
 use Rattle.serde_json_path_parser.specs.Lexical.{AllPass, is_name_char}
@@ -14,15 +15,11 @@ use Rattle.serde_json_path_parser.proofs.Runs.{behind_past}
 
 -- ---- an ASCII character of a name
 
-both : (a b : Bool) → (a && b) ≡ true → (a ≡ true) × (b ≡ true)
-both true b e = (refl, e)
-both false b e = absurd cc
-
 pub below_128 : (c : ℕ) → is_ascii_name_char c ≡ true → c < 128
-below_128 c e = let h = (both (nat_le c 127) (is_name_char c) e).0 in grind arith
+below_128 c e = let h = (and_parts (nat_le c 127) (is_name_char c) e).0 in grind arith
 
 in_name : (c : ℕ) → is_ascii_name_char c ≡ true → is_name_char c ≡ true
-in_name c e = (both (nat_le c 127) (is_name_char c) e).1
+in_name c e = (and_parts (nat_le c 127) (is_name_char c) e).1
 
 pub fits_below_128 : (c : ℕ) → c < 128 → is_name_char c ≡ true → is_ascii_name_char c ≡ true
 fits_below_128 c l e = let t : nat_le c 127 ≡ true = grind arith in rw (t, e) refl

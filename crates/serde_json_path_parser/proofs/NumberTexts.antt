@@ -7,7 +7,7 @@ use Rattle.serde_json_path_parser.specs.declared.error.ParseErrorKind.TheVariant
 use Rattle.serde_json_path_parser.specs.declared.error.Place.TheVariants as place
 use Rattle.serde_json_path_parser.specs.declared.error.Refusal.{Refusal}
 use Rattle.serde_json_path_parser.specs.Lexical.{AllPass, begins, is_digit, value_from, fraction_of, IsDecimal, IsFraction, IsAmount, IsNumber}
-use Rattle.serde_json_path_parser.specs.Parsed.{Parsed, ◌>>=◌, refusal, front, behind}
+use Rattle.serde_json_path_parser.specs.Parsed.{Parsed, ◌>>=◌, refusal, front, behind, byte_count}
 use Rattle.serde_json_path_parser.specs.Parsing.{is_first_digit, begins_int}
 use Rattle.serde_json_path_parser.specs.Numbers.{is_exponent, whole_at, digits_behind_point_at, fraction_at, amount_at, number_at}
 use Rattle.serde_json_path_parser.proofs.IntTexts.{decimal_read, digit_begins, zero_is, first_digit}
@@ -17,7 +17,7 @@ use Rattle.serde_json_path_parser.proofs.Stands.{Plain, Stands, here, bind_stand
 
 -- ---- what is read is a number
 
-whole_sound : (start cs : List ℕ) (x : ℕ × List ℕ) → whole_at start cs ≡ Ok x → Read IsDecimal cs x
+whole_sound : (start cs : List ℕ) (x : ℕ × List ℕ) → whole_at (byte_count start) cs ≡ Ok x → Read IsDecimal cs x
 unfolding whole_at
 whole_sound start cs x e =
     let wrong = refusal ExpectedExpression place.LongHand start in
@@ -30,7 +30,7 @@ whole_sound start cs x e =
     ]
 
 -- behind a point
-digits_sound : (start cs ds : List ℕ) (x : ℕ × List ℕ) → cs ≡ 46 ∷ ds → digits_behind_point_at start ds ≡ Ok x → Read IsFraction cs x
+digits_sound : (start cs ds : List ℕ) (x : ℕ × List ℕ) → cs ≡ 46 ∷ ds → digits_behind_point_at (byte_count start) ds ≡ Ok x → Read IsFraction cs x
 unfolding digits_behind_point_at
 digits_sound start cs ds x point e =
     let digits = front is_digit ds in
@@ -52,11 +52,11 @@ digits_sound start cs ds x point e =
           })
     ]
 
-fraction_sound : (start cs : List ℕ) (x : ℕ × List ℕ) → fraction_at start cs ≡ Ok x → Read IsFraction cs x
+fraction_sound : (start cs : List ℕ) (x : ℕ × List ℕ) → fraction_at (byte_count start) cs ≡ Ok x → Read IsFraction cs x
 unfolding fraction_at
 fraction_sound start cs x e =
     let wrong = refusal ExponentOrEmptyFraction place.LongHand start in
-    elim (chosen (begins (λ c. c == 46) cs) (digits_behind_point_at start (drop 1 cs)) (cond (begins is_exponent cs) (Err wrong) (done (0, cs))) (Ok x) e) [
+    elim (chosen (begins (λ c. c == 46) cs) (digits_behind_point_at (byte_count start) (drop 1 cs)) (cond (begins is_exponent cs) (Err wrong) (done (0, cs))) (Ok x) e) [
       | inl a ↦ digits_sound start cs (drop 1 cs) x (after_one 46 cs a.0) a.1
       | inr a ↦ elim (chosen (begins is_exponent cs) (Err wrong) (done (0, cs)) (Ok x) a.1) [
         | inl b ↦ absurd (let no = b.1 in cc)
@@ -64,11 +64,11 @@ fraction_sound start cs x e =
       ]
     ]
 
-amount_sound : (start cs : List ℕ) (x : ℕ × List ℕ) → amount_at start cs ≡ Ok x → Read IsAmount cs x
+amount_sound : (start cs : List ℕ) (x : ℕ × List ℕ) → amount_at (byte_count start) cs ≡ Ok x → Read IsAmount cs x
 unfolding amount_at
 amount_sound start cs x e =
-    let w = bind_ok (whole_at start cs) (λ whole. fraction_at start whole.1 >>= λ fraction. Ok ((whole.0 * 1000000000) + fraction.0, fraction.1)) x e in
-    let f = bind_ok (fraction_at start w.0.1) (λ fraction. Ok ((w.0.0 * 1000000000) + fraction.0, fraction.1)) x w.2 in
+    let w = bind_ok (whole_at (byte_count start) cs) (λ whole. fraction_at (byte_count start) whole.1 >>= λ fraction. Ok ((whole.0 * 1000000000) + fraction.0, fraction.1)) x e in
+    let f = bind_ok (fraction_at (byte_count start) w.0.1) (λ fraction. Ok ((w.0.0 * 1000000000) + fraction.0, fraction.1)) x w.2 in
     let a = whole_sound start cs w.0 w.1 in
     let b = fraction_sound start w.0.1 f.0 f.1 in
     subst (Read IsAmount cs) (ok_is ((w.0.0 * 1000000000) + f.0.0, f.0.1) x f.2) (record {
@@ -89,9 +89,9 @@ number_sound cs x e =
     let wrong = refusal NumberOutOfRange place.LongHand cs in
     let below : ℕ × List ℕ → Parsed ℤ = λ n. cond (nat_le n.0 (2 ^ 63 * 1000000000)) (Ok (pos 0 -ℤ pos n.0, n.1)) (Err wrong) in
     let above : ℕ × List ℕ → Parsed ℤ = λ n. cond (nat_le n.0 ((2 ^ 64 - 1) * 1000000000)) (Ok (pos n.0, n.1)) (Err wrong) in
-    elim (chosen (begins (λ c. c == 45) cs) (amount_at cs (drop 1 cs) >>= below) (amount_at cs cs >>= above) (Ok x) e) [
+    elim (chosen (begins (λ c. c == 45) cs) (amount_at (byte_count cs) (drop 1 cs) >>= below) (amount_at (byte_count cs) cs >>= above) (Ok x) e) [
       | inl a ↦
-          let n = bind_ok (amount_at cs (drop 1 cs)) below x a.1 in
+          let n = bind_ok (amount_at (byte_count cs) (drop 1 cs)) below x a.1 in
           let r = amount_sound cs (drop 1 cs) n.0 n.1 in
           let g = guard (nat_le n.0.0 (2 ^ 63 * 1000000000)) wrong (done (pos 0 -ℤ pos n.0.0, n.0.1)) x n.2 in
           let most : n.0.0 ≤ 2 ^ 63 * 1000000000 = grind (arith, g.0) in
@@ -101,7 +101,7 @@ number_sound cs x e =
             split = after_one 45 cs a.0 ∙ ap (λ (l : List ℕ). 45 ∷ l) r.split;
           })
       | inr a ↦
-          let n = bind_ok (amount_at cs cs) above x a.1 in
+          let n = bind_ok (amount_at (byte_count cs) cs) above x a.1 in
           let r = amount_sound cs cs n.0 n.1 in
           let g = guard (nat_le n.0.0 ((2 ^ 64 - 1) * 1000000000)) wrong (done (pos n.0.0, n.0.1)) x n.2 in
           let most : n.0.0 ≤ (2 ^ 64 - 1) * 1000000000 = grind (arith, g.0) in
@@ -123,12 +123,12 @@ begins_less : (p q : ℕ → Bool) (cs : List ℕ) → ((c : ℕ) → p c ≡ fa
 begins_less p q [] h e = refl
 begins_less p q (c ∷ cs) h e = h c e
 
-whole_again : (start t : List ℕ) (n : ℕ) (rest : List ℕ) → IsDecimal t n → begins is_digit rest ≡ false → whole_at start (t ++ rest) ≡ Ok (n, rest)
+whole_again : (start t : List ℕ) (n : ℕ) (rest : List ℕ) → IsDecimal t n → begins is_digit rest ≡ false → whole_at (byte_count start) (t ++ rest) ≡ Ok (n, rest)
 unfolding whole_at
 whole_again start t n rest d e = elim d.plain [
   | inl z ↦
       let none : n ≡ 0 = d.value_of ∙ ap (value_from 0) z in
-      ap (λ (l : List ℕ). whole_at start (l ++ rest)) z ∙ ap (λ (k : ℕ). Ok (k, rest)) (sym none)
+      ap (λ (l : List ℕ). whole_at (byte_count start) (l ++ rest)) z ∙ ap (λ (k : ℕ). Ok (k, rest)) (sym none)
   | inr z ↦
       let first = first_digit t rest d.first z in
       rw (begins_differs is_first_digit 48 (t ++ rest) refl first, first, front_all is_digit t rest d.each e, behind_all is_digit t rest d.each e) (ap (λ (k : ℕ). Ok (k, rest)) (sym d.value_of))
@@ -147,13 +147,13 @@ digits_begin : (digits rest : List ℕ) → 1 ≤ length digits → AllPass is_d
 digits_begin [] rest some each = absurd (omega (arith, some))
 digits_begin (c ∷ digits) rest some each = each.0
 
-fraction_again : (start t : List ℕ) (n : ℕ) (rest : List ℕ) → IsFraction t n → begins goes_on rest ≡ false → fraction_at start (t ++ rest) ≡ Ok (n, rest)
+fraction_again : (start t : List ℕ) (n : ℕ) (rest : List ℕ) → IsFraction t n → begins goes_on rest ≡ false → fraction_at (byte_count start) (t ++ rest) ≡ Ok (n, rest)
 unfolding fraction_at digits_behind_point_at
 fraction_again start t n rest is e = elim is [
-  | inl none ↦ ap (λ (l : List ℕ). fraction_at start (l ++ rest)) none.0 ∙ rw (no_point rest e, no_exponent rest e) (ap (λ (k : ℕ). Ok (k, rest)) (sym none.1))
+  | inl none ↦ ap (λ (l : List ℕ). fraction_at (byte_count start) (l ++ rest)) none.0 ∙ rw (no_point rest e, no_exponent rest e) (ap (λ (k : ℕ). Ok (k, rest)) (sym none.1))
   | inr some ↦
       let few : nat_le (length some.0) 9 ≡ true = let most = some.4 in grind (arith, most) in
-      ap (λ (l : List ℕ). fraction_at start (l ++ rest)) some.1
+      ap (λ (l : List ℕ). fraction_at (byte_count start) (l ++ rest)) some.1
       ∙ rw (digits_begin some.0 rest some.3 some.2, front_all is_digit some.0 rest some.2 (no_digit rest e), behind_all is_digit some.0 rest some.2 (no_digit rest e), no_exponent rest e, few)
       (ap (λ (k : ℕ). Ok (k, rest)) (sym some.5))
 ]
@@ -165,12 +165,12 @@ stops t n rest is e = elim is [
   | inr some ↦ ap (λ (l : List ℕ). begins is_digit (l ++ rest)) some.1
 ]
 
-amount_again : (start t : List ℕ) (n : ℕ) (rest : List ℕ) → IsAmount t n → begins goes_on rest ≡ false → amount_at start (t ++ rest) ≡ Ok (n, rest)
+amount_again : (start t : List ℕ) (n : ℕ) (rest : List ℕ) → IsAmount t n → begins goes_on rest ≡ false → amount_at (byte_count start) (t ++ rest) ≡ Ok (n, rest)
 unfolding amount_at
 amount_again start t n rest is e =
     let regrouped : t ++ rest ≡ is.0 ++ (is.1 ++ rest) = ap (λ (l : List ℕ). l ++ rest) is.6 ∙ append_assoc is.0 is.1 rest in
     let read = whole_again start is.0 is.2 (is.1 ++ rest) is.4 (stops is.1 is.3 rest is.5 (no_digit rest e)) in
-    ap (amount_at start) regrouped ∙ rw (read, fraction_again start is.1 is.3 rest is.5 e) (ap (λ (k : ℕ). Ok (k, rest)) (sym is.7))
+    ap (amount_at (byte_count start)) regrouped ∙ rw (read, fraction_again start is.1 is.3 rest is.5 e) (ap (λ (k : ℕ). Ok (k, rest)) (sym is.7))
 
 amount_first : (p : ℕ → Bool) (b : Bool) (t : List ℕ) (n : ℕ) (rest : List ℕ) → ((c : ℕ) → is_digit c ≡ true → p c ≡ b) → IsAmount t n → begins p (t ++ rest) ≡ b
 amount_first p b t n rest h is =
@@ -214,14 +214,14 @@ number_first p b t amount rest h is = elim is.0.1 [
 
 -- ---- where a refusal stands
 
-whole_stands : (start cs : List ℕ) (r : Refusal) → whole_at start cs ≡ Err r → Stands Plain start r
+whole_stands : (start cs : List ℕ) (r : Refusal) → whole_at (byte_count start) cs ≡ Err r → Stands Plain start r
 unfolding whole_at
 whole_stands start cs r e = elim (chosen (begins (λ c. c == 48) cs) (done (0, drop 1 cs)) _ (Err r) e) [
   | inl a ↦ no_refusal start _ r a.1
   | inr a ↦ guard_stands start (begins is_first_digit cs) _ ExpectedExpression place.LongHand r refl (no_refusal start _ r) a.1
 ]
 
-digits_stand : (start cs : List ℕ) (r : Refusal) → digits_behind_point_at start cs ≡ Err r → Stands Plain start r
+digits_stand : (start cs : List ℕ) (r : Refusal) → digits_behind_point_at (byte_count start) cs ≡ Err r → Stands Plain start r
 unfolding digits_behind_point_at
 digits_stand start cs r e =
     let refused : Parsed ℕ = Err (refusal ExponentOrEmptyFraction place.LongHand start) in
@@ -234,11 +234,11 @@ digits_stand start cs r e =
       | inr a ↦ guard_stands start (nat_le (length digits) 9) _ FractionTooLong place.LongHand r refl (no_refusal start _ r) a.1
     ]) e
 
-fraction_stands : (start cs : List ℕ) (r : Refusal) → fraction_at start cs ≡ Err r → Stands Plain start r
+fraction_stands : (start cs : List ℕ) (r : Refusal) → fraction_at (byte_count start) cs ≡ Err r → Stands Plain start r
 unfolding fraction_at
 fraction_stands start cs r e =
     let refused : Parsed ℕ = Err (refusal ExponentOrEmptyFraction place.LongHand start) in
-    elim (chosen (begins (λ c. c == 46) cs) (digits_behind_point_at start (drop 1 cs)) (cond (begins is_exponent cs) refused (done (0, cs))) (Err r) e) [
+    elim (chosen (begins (λ c. c == 46) cs) (digits_behind_point_at (byte_count start) (drop 1 cs)) (cond (begins is_exponent cs) refused (done (0, cs))) (Err r) e) [
       | inl a ↦ digits_stand start (drop 1 cs) r a.1
       | inr a ↦ elim (chosen (begins is_exponent cs) refused (done (0, cs)) (Err r) a.1) [
         | inl b ↦ here ExponentOrEmptyFraction place.LongHand start refused r refl refl b.1
@@ -246,19 +246,19 @@ fraction_stands start cs r e =
       ]
     ]
 
-amount_stands : (start cs : List ℕ) (r : Refusal) → amount_at start cs ≡ Err r → Stands Plain start r
+amount_stands : (start cs : List ℕ) (r : Refusal) → amount_at (byte_count start) cs ≡ Err r → Stands Plain start r
 unfolding amount_at
 amount_stands start cs r e =
-    bind_stands start (whole_at start cs) _ r (whole_stands start cs) (λ whole s f.
-    bind_stands start (fraction_at start whole.1) _ r (fraction_stands start whole.1) (λ fraction t h. no_refusal start _ r h) f) e
+    bind_stands start (whole_at (byte_count start) cs) _ r (whole_stands start cs) (λ whole s f.
+    bind_stands start (fraction_at (byte_count start) whole.1) _ r (fraction_stands start whole.1) (λ fraction t h. no_refusal start _ r h) f) e
 
 pub number_stands : (cs : List ℕ) (r : Refusal) → number_at cs ≡ Err r → Stands Plain cs r
 unfolding number_at
 number_stands cs r e = elim (chosen (begins (λ c. c == 45) cs) _ _ (Err r) e) [
   | inl a ↦
-      bind_stands cs (amount_at cs (drop 1 cs)) _ r (amount_stands cs (drop 1 cs)) (λ n s f.
+      bind_stands cs (amount_at (byte_count cs) (drop 1 cs)) _ r (amount_stands cs (drop 1 cs)) (λ n s f.
       guard_stands cs (nat_le n.0 (2 ^ 63 * 1000000000)) _ NumberOutOfRange place.LongHand r refl (no_refusal cs _ r) f) a.1
   | inr a ↦
-      bind_stands cs (amount_at cs cs) _ r (amount_stands cs cs) (λ n s f.
+      bind_stands cs (amount_at (byte_count cs) cs) _ r (amount_stands cs cs) (λ n s f.
       guard_stands cs (nat_le n.0 ((2 ^ 64 - 1) * 1000000000)) _ NumberOutOfRange place.LongHand r refl (no_refusal cs _ r) f) a.1
 ]

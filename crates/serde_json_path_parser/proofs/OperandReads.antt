@@ -9,7 +9,7 @@ use Rattle.serde_json_path_functions.specs.Functions.{Signature}
 use Rattle.serde_json_path_parser.specs.declared.error.Place.TheVariants as place
 use Rattle.serde_json_path_parser.specs.Lexical.{AllPass, begins, is_blank, is_small_letter, is_function_char, is_name_char, IsNumber, IsQuote}
 use Rattle.serde_json_path_parser.specs.Grammar.{Reads, ReadsCall}
-use Rattle.serde_json_path_parser.specs.Parsed.{Parsed, past_blanks}
+use Rattle.serde_json_path_parser.specs.Parsed.{Parsed, past_blanks, byte_count}
 use Rattle.serde_json_path_parser.specs.Strings.{string_at}
 use Rattle.serde_json_path_parser.specs.Parsing.{begins_int, opens, opens_next}
 use Rattle.serde_json_path_parser.specs.Operands.{Operand, a_literal, a_query, a_call}
@@ -99,7 +99,7 @@ module _ (signature : List ℕ → Option Signature) (n : ℕ) (deeper : Deeper)
       let first : begins is_small_letter (t ++ rest) ≡ true = ap (begins is_small_letter) regrouped ∙ begins_front is_small_letter true m (40 ∷ (inside ++ rest)) (some_begun is_small_letter m name.first) name.first in
       let read = laws.call_again (t ++ rest) f inside (call f args) rest good (args, refl, j, a, k, before, are, closing, refl) in (
         rw (first, behind_it) refl,
-        ap (λ (w : List ℕ). deeper.call_of (t ++ rest) w (drop 1 (behind_word (t ++ rest)))) (its_word ∙ sym name.bytes_of) ∙ ap (λ (l : List ℕ). deeper.call_of (t ++ rest) f (drop 1 l)) behind_it ∙ read,
+        ap (λ (w : List ℕ). deeper.call_of (byte_count (t ++ rest)) w (drop 1 (behind_word (t ++ rest)))) (its_word ∙ sym name.bytes_of) ∙ ap (λ (l : List ℕ). deeper.call_of (byte_count (t ++ rest)) f (drop 1 l)) behind_it ∙ read,
       )
 
   -- ---- literals

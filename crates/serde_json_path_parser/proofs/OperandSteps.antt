@@ -14,7 +14,7 @@ use Rattle.serde_json_path_parser.specs.declared.parser.operand.Operand.TheVaria
 use Rattle.serde_json_path_parser.specs.Filters.{Deeper, comparable_at, text_at}
 use Rattle.serde_json_path_parser.specs.Giving.{IsOperandOf}
 use Rattle.serde_json_path_parser.specs.Operands.{Operand, a_literal, a_query as query_operand, a_call, is_singular}
-use Rattle.serde_json_path_parser.specs.Parsed.{refusal, past_blanks}
+use Rattle.serde_json_path_parser.specs.Parsed.{past_blanks, refusal_at}
 use Rattle.serde_json_path_parser.specs.Strings.{string_at}
 use Rattle.serde_json_path_parser.proofs.LogicalForms.{singular_query, query_singular}
 
@@ -34,12 +34,12 @@ singular_by false q h = other (is_singular q) refl
     other true e = absurd (let wrong : false ≡ true = h.1 (singular_query q e) in cc)
     other false e = e
 
-module _ (signature : List ℕ → Option Signature) (deeper : Deeper) (start cs : List ℕ) (q : tree.Query) (b : Bool) (is : IsTrue b ↔ tree.IsSingular q) where
+module _ (signature : List ℕ → Option Signature) (deeper : Deeper) (start : ℕ) (cs : List ℕ) (q : tree.Query) (b : Bool) (is : IsTrue b ↔ tree.IsSingular q) where
   pub compared : b ≡ true → comparable_at signature deeper start (query_operand q) cs ≡ Ok (tree.singular q, cs)
   unfolding comparable_at
   compared e = rw (singular_by b q is, e) refl
 
-  pub not_compared : b ≡ false → comparable_at signature deeper start (query_operand q) cs ≡ Err (refusal NonSingularQuery place.LongHand start)
+  pub not_compared : b ≡ false → comparable_at signature deeper start (query_operand q) cs ≡ Err (refusal_at NonSingularQuery place.LongHand start)
   unfolding comparable_at
   not_compared e = rw (singular_by b q is, e) refl
 

@@ -7,6 +7,7 @@ use Rattle.std.proofs.lemmas.Bool.{eqb-true}
 use Rattle.serde_json_path_syntax.specs.Tree.{SegmentKind, Segments, Segment}
 use Rattle.serde_json_path_syntax.specs.Typing.{AreTypedSegments}
 use Rattle.serde_json_path_syntax.specs.Depth.{segments_depth}
+use Rattle.serde_json_path_syntax.specs.Used.{deepest}
 use Rattle.serde_json_path_functions.specs.Functions.{Signature}
 use Rattle.serde_json_path_parser.specs.declared.error.ParseErrorKind.TheVariants.{ExpectedRoot, TextAfterPath}
 use Rattle.serde_json_path_parser.specs.declared.error.Place.TheVariants as place
@@ -39,15 +40,15 @@ all_read (c ∷ rest) bytes is none = absurd (omega (arith, is, none, length-app
 module _ (signature : List ℕ → Option Signature) where
   -- the segments of a path
   abbrev pub path_segments_at : List ℕ → Parsed (List (SegmentKind × Segment))
-  path_segments_at cs = segments_at (filter_at signature (level signature 128)) place.Path cs
+  path_segments_at cs = segments_at (filter_at signature (level signature deepest)) place.Path cs
 
   -- how the filters of a path are read
-  pub path_filters : FilterLaws (IsGoodInside signature 128) (filter_at signature (level signature 128))
-  path_filters = filter_laws signature 128 (level signature 128) (level_laws signature 128)
+  pub path_filters : FilterLaws (IsGoodInside signature deepest) (filter_at signature (level signature deepest))
+  path_filters = filter_laws signature deepest (level signature deepest) (level_laws signature deepest)
 
   -- segments in a row, well-typed and at most 128 deep
   abbrev pub ArePathSegments : List ℕ → Segments → Type 0
-  ArePathSegments t segs = (AreTypedSegments signature segs × (segments_depth segs ≤ 128)) × ReadSegments segs t
+  ArePathSegments t segs = (AreTypedSegments signature segs × (segments_depth segs ≤ deepest)) × ReadSegments segs t
 
   -- ---- the steps of the code
 
@@ -63,15 +64,15 @@ module _ (signature : List ℕ → Option Signature) where
   pub none_read : (cs ds rest : List ℕ) (c : ℕ) (ss : List (SegmentKind × Segment)) → begins (λ d. d == 36) cs ≡ true → cs ≡ c ∷ ds → path_segments_at ds ≡ Ok (ss, rest) → opens_behind_root cs ≡ false → ss ≡ []
   none_read cs ds rest c ss root split read none =
       let closed : opens_next ds ≡ false = sym (rw (root, split) refl) ∙ none in
-      let empty = no_segments_read (filter_at signature (level signature 128)) place.Path ds closed in
+      let empty = no_segments_read (filter_at signature (level signature deepest)) place.Path ds closed in
       ap (λ (x : List (SegmentKind × Segment) × List ℕ). x.0) (ok_is (ss, rest) ([], ds) (sym read ∙ empty))
 
   -- ---- the whole text
 
   pub path_segments_sound : (cs : List ℕ) (x : List (SegmentKind × Segment) × List ℕ) → path_segments_at cs ≡ Ok x → (t : List ℕ) × ArePathSegments t (segment_list x.0) × (cs ≡ t ++ x.1)
   path_segments_sound cs x e =
-      let r = segments_sound (filter_at signature (level signature 128)) (IsGoodInside signature 128) path_filters place.Path cs x e in
-      (r.text, (good_segments signature 128 (segment_list x.0) r.is_so.0, r.is_so.1), r.split)
+      let r = segments_sound (filter_at signature (level signature deepest)) (IsGoodInside signature deepest) path_filters place.Path cs x e in
+      (r.text, (good_segments signature deepest (segment_list x.0) r.is_so.0, r.is_so.1), r.split)
 
   pub path_sound : (cs : List ℕ) (segs : Segments) → path_at signature cs ≡ Ok segs → (a : List ℕ) × ArePathSegments a segs × (cs ≡ 36 ∷ a)
   unfolding path_at
@@ -86,7 +87,7 @@ module _ (signature : List ℕ → Option Signature) where
   pub path_again : (t a : List ℕ) (segs : Segments) → ArePathSegments a segs → t ≡ 36 ∷ a → path_at signature t ≡ Ok segs
   unfolding path_at
   path_again t a segs h e =
-      let good = segments_good signature 128 segs h.0.0 h.0.1 in
-      let again = segments_again (filter_at signature (level signature 128)) (IsGoodInside signature 128) path_filters place.Path a segs [] (good, h.1) refl refl in
+      let good = segments_good signature deepest segs h.0.0 h.0.1 in
+      let again = segments_again (filter_at signature (level signature deepest)) (IsGoodInside signature deepest) path_filters place.Path a segs [] (good, h.1) refl refl in
       let all = ap path_segments_at (sym (append-nil a)) ∙ again in
       ap (path_at signature) e ∙ rw all (ap (λ (ss : Segments). Ok ss) (same_segments segs))

@@ -6,6 +6,7 @@ use Rattle.std.proofs.lemmas.Bool.{and_parts}
 use Rattle.std.proofs.lemmas.List.{length-append}
 use Rattle.std.proofs.lemmas.Str.{encodes-chars, encodes-append, scalars-chars, IsCharBoundary-at_seam}
 use Rattle.serde_json_path_syntax.specs.Tree.{SegmentKind, Segments, Segment}
+use Rattle.serde_json_path_syntax.specs.Used.{deepest}
 use Rattle.serde_json_path_functions.specs.Functions.{Signature}
 use Rattle.serde_json_path_parser.specs.declared.error.Refusal.{Refusal}
 use Rattle.serde_json_path_parser.specs.declared.error.ParseErrorKind.TheVariants.{ExpectedRoot, TextAfterPath}
@@ -49,7 +50,7 @@ module _ (signature : List ℕ → Option Signature) where
   no_segment_refused : (cs : List ℕ) (r : Refusal) → path_segments_at signature cs ≡ Err r → (b : Bool) → opens_next cs ≡ b → opens_next cs ≡ true
   no_segment_refused cs r e true t = t
   no_segment_refused cs r e false t =
-      let none = no_segments_read (filter_at signature (level signature 128)) place.Path cs t in
+      let none = no_segments_read (filter_at signature (level signature deepest)) place.Path cs t in
       let f : done {A = List (SegmentKind × Segment) × List ℕ} ([], cs) ≡ Err r = sym none ∙ e in
       absurd cc
 
@@ -65,8 +66,8 @@ module _ (signature : List ℕ → Option Signature) where
       behind_root root (Err d) is h =
           let same : d ≡ r = cc in
           let refused = is ∙ ap (λ (x : Refusal). Err x) same in
-          let refusals = filters_stand signature 128 (level signature 128) (level_laws signature 128) in
-          let stands = segments_stand signature (filter_at signature (level signature 128)) (IsGoodInside signature 128) (path_filters signature) refusals place.Path (drop 1 cs) r refused in
+          let refusals = filters_stand signature deepest (level signature deepest) (level_laws signature deepest) in
+          let stands = segments_stand signature (filter_at signature (level signature deepest)) (IsGoodInside signature deepest) (path_filters signature) refusals place.Path (drop 1 cs) r refused in
           inr (record { rooted = root; stands = drop_one cs r stands; some = no_segment_refused (drop 1 cs) r refused (opens_next (drop 1 cs)) refl })
       behind_root root (Ok ss) is h = elim (chosen (length ss.1 == 0) _ _ (Err r) h) [
         | inl b ↦ absurd (let k = b.1 in cc)

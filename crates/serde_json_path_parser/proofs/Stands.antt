@@ -1,6 +1,5 @@
 -- Where a refusal stands, step by step, and what its kind tells of the text there.
-use Rattle.std.proofs.Common.{◌≡◌, ℕ, zero, suc, ◌⊎◌, inl, inr, Bool, true, false, cond, List, [], ◌∷◌, ◌++◌, length, drop, Option, Result, Ok, Err, refl, sym, ap, subst, ◌∙◌, append_assoc}
-use Rattle.std.specs.Str.{encode_utf8_all}
+use Rattle.std.proofs.Common.{◌≡◌, ℕ, zero, suc, ◌⊎◌, inl, inr, Bool, true, false, cond, List, [], ◌∷◌, ◌++◌, drop, Option, Result, Ok, Err, refl, sym, ap, subst, ◌∙◌, append_assoc}
 use Rattle.serde_json_path_functions.specs.Functions.{Signature}
 use Rattle.serde_json_path_parser.specs.declared.error.Refusal.{Refusal}
 use Rattle.serde_json_path_parser.specs.declared.error.ParseErrorKind.{ParseErrorKind}
@@ -8,7 +7,7 @@ use Rattle.serde_json_path_parser.specs.declared.error.ParseErrorKind.TheVariant
 use Rattle.serde_json_path_parser.specs.declared.error.Place as declared
 use Rattle.serde_json_path_parser.specs.Lexical.{is_blank}
 use Rattle.serde_json_path_parser.specs.Operands.{IsUndeclared}
-use Rattle.serde_json_path_parser.specs.Parsed.{Parsed, ◌>>=◌, refusal, front, past_blanks, many_at}
+use Rattle.serde_json_path_parser.specs.Parsed.{Parsed, ◌>>=◌, refusal, front, past_blanks, many_at, byte_count}
 use Rattle.serde_json_path_parser.proofs.Runs.{whole}
 use Rattle.serde_json_path_parser.proofs.Steps.{Read, chosen, done}
 
@@ -37,7 +36,7 @@ pub record Stands (Tells : ParseErrorKind → List ℕ → Type 0) (cs : List �
   pub before : List ℕ
   pub rest : List ℕ
   pub split : cs ≡ before ++ rest
-  pub left : r.left ≡ length (encode_utf8_all rest)
+  pub left : r.left ≡ byte_count rest
   pub tells : Tells r.kind rest
 
 -- as in a piece that may hold filters

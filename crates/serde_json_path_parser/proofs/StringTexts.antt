@@ -11,7 +11,7 @@ use Rattle.std.proofs.lemmas.Option.{same_Some, none-some}
 use Rattle.serde_json_path_parser.specs.declared.error.ParseErrorKind.TheVariants.{ExpectedEndingQuote, BadEscape, ControlCharacter}
 use Rattle.serde_json_path_parser.specs.declared.error.Place.TheVariants as place
 use Rattle.serde_json_path_parser.specs.Lexical.{begins, is_digit, hexadecimal_of, IsHex4, IsHighSurrogate, IsLowSurrogate, pair_of, escaped_by, is_plain, IsPiece, plain, quote_escape, letter_escape, hex_escape, pair_escape, IsQuote, IsString}
-use Rattle.serde_json_path_parser.specs.Parsed.{Parsed, ◌>>=◌, refusal, many}
+use Rattle.serde_json_path_parser.specs.Parsed.{Parsed, ◌>>=◌, refusal, many, byte_count}
 use Rattle.serde_json_path_parser.specs.Strings.{is_hexadecimal, hexadecimal_value, head, hexadecimal_at, hex4_at, is_high, is_low, low_at, unicode_at, is_letter_escape, letter_value, escape_at, is_control, piece_at, is_inside, string_at}
 use Rattle.serde_json_path_parser.proofs.Many as m
 use Rattle.serde_json_path_parser.proofs.Runs.{some_begun}
@@ -41,7 +41,7 @@ hexadecimal_is c e = by_digit (is_digit c) refl
     by_digit true d = rw (d, (and_parts (nat_le 48 c) (nat_le c 57) d).1) refl
     by_digit false d = by_large (nat_le 65 c && nat_le c 70) refl d
 
-hexadecimal_sound : (escape cs : List ℕ) (x : ℕ × List ℕ) → hexadecimal_at escape cs ≡ Ok x → (c : ℕ) × (cs ≡ c ∷ x.1) × (hexadecimal_of c ≡ Some x.0)
+hexadecimal_sound : (escape cs : List ℕ) (x : ℕ × List ℕ) → hexadecimal_at (byte_count escape) cs ≡ Ok x → (c : ℕ) × (cs ≡ c ∷ x.1) × (hexadecimal_of c ≡ Some x.0)
 unfolding hexadecimal_at
 hexadecimal_sound escape [] x e = absurd cc
 hexadecimal_sound escape (c ∷ cs) x e =
@@ -49,13 +49,13 @@ hexadecimal_sound escape (c ∷ cs) x e =
     let same = ok_is (hexadecimal_value c, cs) x g.1 in
     (c, ap (λ (y : ℕ × List ℕ). c ∷ y.1) same, hexadecimal_is c g.0 ∙ ap (λ (y : ℕ × List ℕ). Some y.0) same)
 
-hex4_sound : (escape cs : List ℕ) (x : ℕ × List ℕ) → hex4_at escape cs ≡ Ok x → Read IsHex4 cs x
+hex4_sound : (escape cs : List ℕ) (x : ℕ × List ℕ) → hex4_at (byte_count escape) cs ≡ Ok x → Read IsHex4 cs x
 unfolding hex4_at
 hex4_sound escape cs x e =
-    let a = bind_ok (hexadecimal_at escape cs) _ x e in
-    let b = bind_ok (hexadecimal_at escape a.0.1) _ x a.2 in
-    let c = bind_ok (hexadecimal_at escape b.0.1) _ x b.2 in
-    let d = bind_ok (hexadecimal_at escape c.0.1) _ x c.2 in
+    let a = bind_ok (hexadecimal_at (byte_count escape) cs) _ x e in
+    let b = bind_ok (hexadecimal_at (byte_count escape) a.0.1) _ x a.2 in
+    let c = bind_ok (hexadecimal_at (byte_count escape) b.0.1) _ x b.2 in
+    let d = bind_ok (hexadecimal_at (byte_count escape) c.0.1) _ x c.2 in
     let p = hexadecimal_sound escape cs a.0 a.1 in
     let q = hexadecimal_sound escape a.0.1 b.0 b.1 in
     let r = hexadecimal_sound escape b.0.1 c.0 c.1 in
@@ -99,15 +99,15 @@ pub record ReadsUnicode (quote : ℕ) (cs : List ℕ) (x : ℕ × List ℕ) : Ty
   pub is_so : IsPiece quote (92 ∷ 117 ∷ text) x.0
   pub split : cs ≡ text ++ x.1
 
-pair_sound : (quote : ℕ) (escape cs : List ℕ) (high : ℕ × List ℕ) (x : ℕ × List ℕ) → Read IsHex4 cs high → is_high high.0 ≡ true → low_at escape high.0 high.1 ≡ Ok x
+pair_sound : (quote : ℕ) (escape cs : List ℕ) (high : ℕ × List ℕ) (x : ℕ × List ℕ) → Read IsHex4 cs high → is_high high.0 ≡ true → low_at (byte_count escape) high.0 high.1 ≡ Ok x
     → ReadsUnicode quote cs x
 unfolding low_at
 pair_sound quote escape cs high x first h e =
     let bad : Parsed ℕ = Err (refusal BadEscape place.LongHand escape) in
     let tail : ℕ × List ℕ → Parsed ℕ = λ l. cond (is_low l.0) (Ok (pair_of high.0 l.0, l.1)) bad in
-    let slash = guard (begins (λ c. c == 92) high.1) (refusal BadEscape place.LongHand escape) (cond (begins (λ c. c == 117) (drop 1 high.1)) (hex4_at escape (drop 1 (drop 1 high.1)) >>= tail) bad) x e in
-    let letter = guard (begins (λ c. c == 117) (drop 1 high.1)) (refusal BadEscape place.LongHand escape) (hex4_at escape (drop 1 (drop 1 high.1)) >>= tail) x slash.1 in
-    let four = bind_ok (hex4_at escape (drop 1 (drop 1 high.1))) tail x letter.1 in
+    let slash = guard (begins (λ c. c == 92) high.1) (refusal BadEscape place.LongHand escape) (cond (begins (λ c. c == 117) (drop 1 high.1)) (hex4_at (byte_count escape) (drop 1 (drop 1 high.1)) >>= tail) bad) x e in
+    let letter = guard (begins (λ c. c == 117) (drop 1 high.1)) (refusal BadEscape place.LongHand escape) (hex4_at (byte_count escape) (drop 1 (drop 1 high.1)) >>= tail) x slash.1 in
+    let four = bind_ok (hex4_at (byte_count escape) (drop 1 (drop 1 high.1))) tail x letter.1 in
     let low = guard (is_low four.0.0) (refusal BadEscape place.LongHand escape) (done (pair_of high.0 four.0.0, four.0.1)) x four.2 in
     let second = hex4_sound escape (drop 1 (drop 1 high.1)) four.0 four.1 in
     let here : high.1 ≡ 92 ∷ 117 ∷ (second.text ++ four.0.1) =
@@ -118,13 +118,13 @@ pair_sound quote escape cs high x first h e =
       split = first.split ∙ ap (λ (l : List ℕ). first.text ++ l) here ∙ sym (append_assoc first.text (92 ∷ 117 ∷ second.text) four.0.1);
     })
 
-unicode_sound : (quote : ℕ) (escape cs : List ℕ) (x : ℕ × List ℕ) → unicode_at escape cs ≡ Ok x → ReadsUnicode quote cs x
+unicode_sound : (quote : ℕ) (escape cs : List ℕ) (x : ℕ × List ℕ) → unicode_at (byte_count escape) cs ≡ Ok x → ReadsUnicode quote cs x
 unfolding unicode_at
 unicode_sound quote escape cs x e =
     let bad : Parsed ℕ = Err (refusal BadEscape place.LongHand escape) in
-    let four = bind_ok (hex4_at escape cs) (λ h. cond (is_high h.0) (low_at escape h.0 h.1) (cond (is_low h.0) bad (Ok (h.0, h.1)))) x e in
+    let four = bind_ok (hex4_at (byte_count escape) cs) (λ h. cond (is_high h.0) (low_at (byte_count escape) h.0 h.1) (cond (is_low h.0) bad (Ok (h.0, h.1)))) x e in
     let first = hex4_sound escape cs four.0 four.1 in
-    elim (chosen (is_high four.0.0) (low_at escape four.0.0 four.0.1) (cond (is_low four.0.0) bad (Ok (four.0.0, four.0.1))) (Ok x) four.2) [
+    elim (chosen (is_high four.0.0) (low_at (byte_count escape) four.0.0 four.0.1) (cond (is_low four.0.0) bad (Ok (four.0.0, four.0.1))) (Ok x) four.2) [
       | inl a ↦ pair_sound quote escape cs four.0 x first a.0 a.1
       | inr a ↦ elim (chosen (is_low four.0.0) bad (done (four.0.0, four.0.1)) (Ok x) a.1) [
         | inl b ↦ absurd (let no : bad ≡ Ok x = b.1 in cc)
@@ -184,7 +184,7 @@ escape_sound quote cs x is slash e =
     let bad : Parsed ℕ = Err (refusal BadEscape place.LongHand cs) in
     let letter : Parsed ℕ = Ok (letter_value (head (drop 1 cs)), drop 1 (drop 1 cs)) in
     let here = after_one 92 cs slash in
-    elim (chosen (begins (λ c. c == 117) (drop 1 cs)) (unicode_at cs (drop 1 (drop 1 cs))) (cond (begins (is_letter_escape quote) (drop 1 cs)) letter bad) (Ok x) e) [
+    elim (chosen (begins (λ c. c == 117) (drop 1 cs)) (unicode_at (byte_count cs) (drop 1 (drop 1 cs))) (cond (begins (is_letter_escape quote) (drop 1 cs)) letter bad) (Ok x) e) [
       | inl a ↦
           let read = unicode_sound quote cs (drop 1 (drop 1 cs)) x a.1 in
           record {
@@ -252,14 +252,14 @@ value_known c n e = by_digit (is_digit c) refl
     by_digit true d = known (rw d refl)
     by_digit false d = by_large (nat_le 65 c && nat_le c 70) refl d
 
-hexadecimal_again : (escape rest : List ℕ) (c n : ℕ) → hexadecimal_of c ≡ Some n → hexadecimal_at escape (c ∷ rest) ≡ Ok (n, rest)
+hexadecimal_again : (escape rest : List ℕ) (c n : ℕ) → hexadecimal_of c ≡ Some n → hexadecimal_at (byte_count escape) (c ∷ rest) ≡ Ok (n, rest)
 unfolding hexadecimal_at
 hexadecimal_again escape rest c n e = let k = value_known c n e in rw (k.0, k.1) refl
 
-hex4_again : (escape t : List ℕ) (n : ℕ) (rest : List ℕ) → IsHex4 t n → hex4_at escape (t ++ rest) ≡ Ok (n, rest)
+hex4_again : (escape t : List ℕ) (n : ℕ) (rest : List ℕ) → IsHex4 t n → hex4_at (byte_count escape) (t ++ rest) ≡ Ok (n, rest)
 unfolding hex4_at
 hex4_again escape t n rest (a, b, c, d, p, q, r, s, text, first, second, third, fourth, value) =
-    ap (λ (l : List ℕ). hex4_at escape (l ++ rest)) text
+    ap (λ (l : List ℕ). hex4_at (byte_count escape) (l ++ rest)) text
     ∙ rw (
       hexadecimal_again escape (b ∷ c ∷ d ∷ rest) a p first,
       hexadecimal_again escape (c ∷ d ∷ rest) b q second,

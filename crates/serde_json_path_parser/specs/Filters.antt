@@ -4,12 +4,13 @@
 use Rattle.std.specs.Prelude.{ℕ, zero, suc, ◌==◌, ◌||◌, ◌&&◌, Bool, true, false, List, [], ◌∷◌, length, drop, codes, bytes_eq, Option, Some, None, Result, Ok, Err, if◌then◌else◌}
 use Rattle.serde_json_path_syntax.specs.Tree.{QueryKind, root, current, Query, query, Segments, Selector, filter, LogicalOr, no_or, or, LogicalAnd, no_and, and, Basic, paren, not_paren, relation, exist, not_exist, test, not_test, Comparable, literal, singular, called, Call, call, Arguments, no_arguments, argument, Argument, literal_argument, query_argument, call_argument, logical_argument, text, number, truth, null, Operator, equal, not_equal, less, less_or_equal, greater, greater_or_equal}
 use Rattle.serde_json_path_syntax.specs.Typing.{result_kind}
+use Rattle.serde_json_path_syntax.specs.Used.{deepest}
 use Rattle.serde_json_path_functions.specs.Functions.{Kind, of_value, Signature}
 use Rattle.serde_json_path_parser.specs.declared.error.ParseErrorKind.TheVariants.{ExpectedRoot, ExpectedExpression, ExpectedClosingParenthesis, ExpectedComparisonOperator, NonSingularQuery, UndefinedFunction, WrongNumberOfArguments, WrongArgumentType, WrongReturnType, NestedTooDeep, TextAfterPath}
 use Rattle.serde_json_path_parser.specs.declared.error.Place.TheVariants as place
 use Rattle.serde_json_path_parser.specs.declared.error.Refusal.{Refusal}
 use Rattle.serde_json_path_parser.specs.Lexical.{begins, begins_both, is_small_letter, is_function_char}
-use Rattle.serde_json_path_parser.specs.Parsed.{Parsed, ◌>>=◌, refusal, front, behind, past_blanks, many}
+use Rattle.serde_json_path_parser.specs.Parsed.{Parsed, ◌>>=◌, refusal, front, behind, past_blanks, many, refusal_at, byte_count}
 use Rattle.serde_json_path_parser.specs.Strings.{string_at}
 use Rattle.serde_json_path_parser.specs.Numbers.{number_at}
 use Rattle.serde_json_path_parser.specs.Operands.{Operand, a_literal, a_query, a_call, is_singular, is_result, fits}
@@ -75,22 +76,22 @@ abbrev pub ends_argument : ℕ → Bool
 ends_argument c = c == 44 || c == 41
 
 -- behind the last argument
-unfoldable pub ended : List ℕ → List Kind → List ℕ → Parsed Arguments
+unfoldable pub ended : ℕ → List Kind → List ℕ → Parsed Arguments
 ended start [] cs = Ok (no_arguments, past_blanks cs)
-ended start (kind ∷ kinds) cs = Err (refusal WrongNumberOfArguments place.LongHand start)
+ended start (kind ∷ kinds) cs = Err (refusal_at WrongNumberOfArguments place.LongHand start)
 
 -- ---- one level deeper
 
--- How filters, parentheses and calls are read: the expression inside one that opens at the first text, and a call of that
--- name behind its `(`, which begins at the first text.
+-- How filters, parentheses and calls are read: the expression inside one, and a call of that name after its `(`. So many
+-- bytes are left where it opens, or where the call begins.
 pub record Deeper : Type 0 where
-  pub expression : List ℕ → List ℕ → Parsed LogicalOr
-  pub call_of : List ℕ → List ℕ → List ℕ → Parsed Call
+  pub expression : ℕ → List ℕ → Parsed LogicalOr
+  pub call_of : ℕ → List ℕ → List ℕ → Parsed Call
 
 module _ (signature : List ℕ → Option Signature) (deeper : Deeper) where
   -- at `?`
   unfoldable pub filter_at : List ℕ → Parsed Selector
-  filter_at cs = deeper.expression cs (past_blanks (drop 1 cs)) >>= λ e. Ok (filter e.0, e.1)
+  filter_at cs = deeper.expression (byte_count cs) (past_blanks (drop 1 cs)) >>= λ e. Ok (filter e.0, e.1)
 
   -- ---- operands
 
@@ -100,7 +101,7 @@ module _ (signature : List ℕ → Option Signature) (deeper : Deeper) where
 
   -- at a name with `(` behind it
   unfoldable pub named_call_at : List ℕ → Parsed Call
-  named_call_at cs = deeper.call_of cs (word cs) (drop 1 (behind_word cs))
+  named_call_at cs = deeper.call_of (byte_count cs) (word cs) (drop 1 (behind_word cs))
 
   -- at a small letter
   unfoldable pub named_at : List ℕ → Parsed Operand
@@ -116,35 +117,35 @@ module _ (signature : List ℕ → Option Signature) (deeper : Deeper) where
       else if begins is_small_letter cs then literal_word_at cs
       else (number_at cs >>= λ n. Ok (a_literal (number n.0), past_blanks n.1))
 
-  -- ---- comparisons and tests; start is where the operand begins
+  -- ---- comparisons and tests; start bytes are left where the operand begins
 
-  unfoldable pub comparable_at : List ℕ → Operand → List ℕ → Parsed Comparable
+  unfoldable pub comparable_at : ℕ → Operand → List ℕ → Parsed Comparable
   comparable_at start (a_literal l) cs = Ok (literal l, cs)
-  comparable_at start (a_query q) cs = if is_singular q then Ok (singular q, cs) else Err (refusal NonSingularQuery place.LongHand start)
-  comparable_at start (a_call c) cs = if is_result of_value (result_kind signature c) then Ok (called c, cs) else Err (refusal WrongReturnType place.LongHand start)
+  comparable_at start (a_query q) cs = if is_singular q then Ok (singular q, cs) else Err (refusal_at NonSingularQuery place.LongHand start)
+  comparable_at start (a_call c) cs = if is_result of_value (result_kind signature c) then Ok (called c, cs) else Err (refusal_at WrongReturnType place.LongHand start)
 
   -- no operator stands behind the operand
-  unfoldable pub test_at : List ℕ → Operand → List ℕ → Parsed Basic
+  unfoldable pub test_at : ℕ → Operand → List ℕ → Parsed Basic
   test_at start (a_literal l) cs = Err (refusal ExpectedComparisonOperator place.LongHand cs)
   test_at start (a_query q) cs = Ok (exist q, cs)
-  test_at start (a_call c) cs = if is_result of_value (result_kind signature c) then Err (refusal WrongReturnType place.LongHand start) else Ok (test c, cs)
+  test_at start (a_call c) cs = if is_result of_value (result_kind signature c) then Err (refusal_at WrongReturnType place.LongHand start) else Ok (test c, cs)
 
   unfoldable pub right_side_at : List ℕ → Parsed Comparable
-  right_side_at cs = operand_at cs >>= λ o. comparable_at cs o.0 o.1
+  right_side_at cs = operand_at cs >>= λ o. comparable_at (byte_count cs) o.0 o.1
 
-  unfoldable pub relation_at : List ℕ → Operand → Option (Operator × List ℕ) → List ℕ → Parsed Basic
+  unfoldable pub relation_at : ℕ → Operand → Option (Operator × List ℕ) → List ℕ → Parsed Basic
   relation_at start o None cs = test_at start o cs
   relation_at start o (Some op) cs = comparable_at start o (past_blanks op.1) >>= λ a. right_side_at a.1 >>= λ b. Ok (relation a.0 op.0 b.0, b.1)
 
-  -- behind an operand that begins at start
-  unfoldable pub basic_from : List ℕ → Operand → List ℕ → Parsed Basic
+  -- after an operand that begins at start
+  unfoldable pub basic_from : ℕ → Operand → List ℕ → Parsed Basic
   basic_from start o cs = relation_at start o (operator_at cs) cs
 
   -- ---- parentheses and `!`
 
   -- at `(`
   unfoldable pub paren_at : List ℕ → Parsed LogicalOr
-  paren_at cs = deeper.expression cs (past_blanks (drop 1 cs)) >>= λ e.
+  paren_at cs = deeper.expression (byte_count cs) (past_blanks (drop 1 cs)) >>= λ e.
       if begins (λ c. c == 41) e.1 then Ok (e.0, past_blanks (drop 1 e.1)) else Err (refusal ExpectedClosingParenthesis place.LongHand e.1)
 
   unfoldable pub negated_call_at : List ℕ → Parsed Basic
@@ -170,7 +171,7 @@ module _ (signature : List ℕ → Option Signature) (deeper : Deeper) where
   basic_at cs =
       if begins (λ c. c == 40) cs then (paren_at cs >>= λ e. Ok (paren e.0, e.1))
       else if begins (λ c. c == 33) cs then negated_at (past_blanks (drop 1 cs))
-      else (operand_at cs >>= λ o. basic_from cs o.0 o.1)
+      else (operand_at cs >>= λ o. basic_from (byte_count cs) o.0 o.1)
 
   -- at `&&`
   unfoldable pub next_basic_at : List ℕ → Parsed Basic
@@ -196,45 +197,45 @@ module _ (signature : List ℕ → Option Signature) (deeper : Deeper) where
   -- ---- calls
 
   -- what begins with an operand that does not stand alone
-  unfoldable pub logical_from : List ℕ → Operand → List ℕ → Parsed Argument
+  unfoldable pub logical_from : ℕ → Operand → List ℕ → Parsed Argument
   logical_from start o cs =
       basic_from start o cs >>= λ b. and_from b.0 b.1 >>= λ a. or_from a.0 a.1 >>= λ e. Ok (logical_argument e.0, e.1)
 
   unfoldable pub argument_at : List ℕ → Parsed Argument
   argument_at cs =
       if begins (λ c. c == 40 || c == 33) cs then (or_at cs >>= λ e. Ok (logical_argument e.0, e.1))
-      else (operand_at cs >>= λ o. if begins ends_argument o.1 then Ok (alone o.0, o.1) else logical_from cs o.0 o.1)
+      else (operand_at cs >>= λ o. if begins ends_argument o.1 then Ok (alone o.0, o.1) else logical_from (byte_count cs) o.0 o.1)
 
-  -- the argument that was read at cs is judged, and gives the types of the parameters behind it
-  unfoldable pub judged : List ℕ → List ℕ → List Kind → Argument → Result (List Kind) Refusal
-  judged start cs [] a = Err (refusal WrongNumberOfArguments place.LongHand start)
-  judged start cs (kind ∷ kinds) a = if fits signature a kind then Ok kinds else Err (refusal WrongArgumentType place.LongHand cs)
+  -- an argument that begins at begin is judged, and gives the types of the parameters after it
+  unfoldable pub judged : ℕ → ℕ → List Kind → Argument → Result (List Kind) Refusal
+  judged start begin [] a = Err (refusal_at WrongNumberOfArguments place.LongHand start)
+  judged start begin (kind ∷ kinds) a = if fits signature a kind then Ok kinds else Err (refusal_at WrongArgumentType place.LongHand begin)
 
   -- one argument or more, of a call that begins at start, for parameters of these types; at most fuel of them
-  unfoldable pub arguments_at : ℕ → List ℕ → List Kind → List ℕ → Parsed Arguments
+  unfoldable pub arguments_at : ℕ → ℕ → List Kind → List ℕ → Parsed Arguments
   arguments_at zero start kinds cs = Err (refusal ExpectedExpression place.LongHand cs)
   arguments_at (suc fuel) start kinds cs = argument_at cs >>= λ a.
       if begins ends_argument a.1 then
-      (judged start cs kinds a.0 >>= λ left.
+      (judged start (byte_count cs) kinds a.0 >>= λ left.
       (if begins (λ c. c == 44) a.1 then arguments_at fuel start left (past_blanks (drop 1 a.1)) else ended start left (drop 1 a.1)) >>= λ more.
       Ok (argument a.0 more.0, more.1))
       else Err (refusal ExpectedClosingParenthesis place.LongHand a.1)
 
   -- behind `(` and blanks
-  unfoldable pub parameters_at : List ℕ → List Kind → List ℕ → Parsed Arguments
+  unfoldable pub parameters_at : ℕ → List Kind → List ℕ → Parsed Arguments
   parameters_at start kinds cs = if begins (λ c. c == 41) cs then ended start kinds (drop 1 cs) else arguments_at (length cs) start kinds cs
 
   -- a call of a name that has this signature
-  unfoldable pub call_at : List ℕ → List ℕ → Option Signature → List ℕ → Parsed Call
-  call_at start name None cs = Err (refusal UndefinedFunction place.LongHand start)
+  unfoldable pub call_at : ℕ → List ℕ → Option Signature → List ℕ → Parsed Call
+  call_at start name None cs = Err (refusal_at UndefinedFunction place.LongHand start)
   call_at start name (Some s) cs = parameters_at start s.params (past_blanks cs) >>= λ args. Ok (call name args.0, args.1)
 
 module _ (signature : List ℕ → Option Signature) where
   -- so many filters, parentheses and calls may stand within each other
   unfoldable pub level : ℕ → Deeper
   level zero = record {
-    expression = λ start cs. Err (refusal NestedTooDeep place.LongHand start);
-    call_of = λ start name cs. Err (refusal NestedTooDeep place.LongHand start);
+    expression = λ start cs. Err (refusal_at NestedTooDeep place.LongHand start);
+    call_of = λ start name cs. Err (refusal_at NestedTooDeep place.LongHand start);
   }
   level (suc n) = record {
     expression = λ start cs. or_at signature (level n) cs;
@@ -246,6 +247,6 @@ module _ (signature : List ℕ → Option Signature) where
   unfoldable pub path_at : List ℕ → Result Segments Refusal
   path_at cs =
       if begins (λ c. c == 36) cs then
-      (segments_at (filter_at signature (level 128)) place.Path (drop 1 cs) >>= λ ss.
+      (segments_at (filter_at signature (level deepest)) place.Path (drop 1 cs) >>= λ ss.
       if length ss.1 == 0 then Ok (segment_list ss.0) else Err (refusal TextAfterPath place.Path ss.1))
       else Err (refusal ExpectedRoot place.Path cs)

@@ -1,6 +1,5 @@
 -- What a function of the parser returned is what reading gives.
 use Rattle.std.specs.Prelude.{◌≡◌, ℕ, true, length, ◌≤◌, ◌+◌, ◌-◌, List, ◌++◌, Option, Some, Result, Ok, Err}
-use Rattle.std.specs.Str.{encode_utf8_all}
 use Rattle.serde_json_path_syntax.specs.Tree.{query, root, SegmentKind, Segments, Segment, Selector, Call, Arguments, no_arguments, Argument, literal_argument, query_argument, call_argument, logical_argument}
 use Rattle.serde_json_path_syntax.specs.Flat.{parts_in, segment_kind_view}
 use Rattle.serde_json_path_syntax.specs.Literals.{literal_view}
@@ -25,8 +24,8 @@ use Rattle.serde_json_path_parser.specs.declared.error.Place.TheVariants as plac
 use Rattle.serde_json_path_parser.specs.declared.error.ParseError.{ParseError}
 use Rattle.serde_json_path_parser.specs.declared.source.PathSource.{Ghosts}
 use Rattle.serde_json_path_parser.specs.declared.parser.reader.Reader.{Reader}
-use Rattle.serde_json_path_parser.specs.Reading.{left, seen, told}
-use Rattle.serde_json_path_parser.specs.Parsed.{Parsed, past_blanks}
+use Rattle.serde_json_path_parser.specs.Reading.{left, seen, told, Moves}
+use Rattle.serde_json_path_parser.specs.Parsed.{Parsed, past_blanks, byte_count}
 use Rattle.serde_json_path_parser.specs.Parsing.{selector_list, segment_list, of_kind}
 use Rattle.serde_json_path_parser.specs.Operands.{Operand, a_literal, a_query, a_call}
 use Rattle.serde_json_path_parser.specs.declared.parser.segment.SegmentStart as declared
@@ -71,7 +70,7 @@ StartsSegment builder (Err e) reader bracket_at read = Fails e read
 abbrev pub MakesSegments : {S : Type 0} {g : Ghosts S} → SyntaxBuilder → Result (Parts × ℕ) Stop → Reader S g → Parsed (List (SegmentKind × Segment)) → Type 0
 MakesSegments builder (Ok parts) reader read =
     (ss : List (SegmentKind × Segment)) × (rest : List ℕ) × ArePartsOf builder (parts_in parts.0) (segment_list ss)
-    × (parts.1 ≡ length (encode_utf8_all rest)) × (left reader ≡ past_blanks rest) × (read ≡ Ok (ss, rest))
+    × (parts.1 ≡ byte_count rest) × (left reader ≡ past_blanks rest) × (read ≡ Ok (ss, rest))
 MakesSegments builder (Err e) reader read = Fails e read
 
 -- The tree is that of the segments that reading gives, and the signatures are those of the names that it calls.
@@ -130,6 +129,11 @@ StopsNear (stops.Refused r) reader = is_told_at_next r.kind ≡ true → seen re
 abbrev pub IsNear : {X S : Type 0} {g : Ghosts S} → Result X Stop → Reader S g → Type 0
 IsNear (Ok x) reader = Unit {0}
 IsNear (Err e) reader = StopsNear e reader
+
+-- The reader moved on, and where it stopped with a refusal no byte was seen beyond the one after its place.
+pub record MovesTo {X S : Type 0} {g : Ghosts S} (result : Result X Stop) (old new : Reader S g) : Type 0 where
+  pub moves : Moves old new
+  pub near : IsNear result new
 
 -- a refusal stands within a text of so many bytes
 abbrev pub IsWithin : Stop → ℕ → Type 0

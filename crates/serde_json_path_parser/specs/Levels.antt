@@ -16,6 +16,10 @@ module _ {F : Type 0} (set : F → FunctionSet) where
   abbrev pub deeper : Level F → Deeper
   deeper l = filters.level (signatures l) l.depth
 
+  -- a piece as it is read at a level
+  abbrev pub at_level : {A : Type 0} → Level F → ((List ℕ → Option Signature) → Deeper → A) → A
+  at_level l read = read (signatures l) (deeper l)
+
   -- how a filter is read
   abbrev pub filter_at : Level F → List ℕ → Parsed Selector
-  filter_at l = filters.filter_at (signatures l) (deeper l)
+  filter_at l = at_level l filters.filter_at

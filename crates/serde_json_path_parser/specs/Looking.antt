@@ -1,6 +1,10 @@
 -- How a source is looked at as a text is read.
-use Rattle.std.specs.Prelude.{◌≡◌, ℕ, ◌+◌, ◌≤◌, max, Option, Some, None}
+use Rattle.std.specs.Prelude.{◌≡◌, ℕ, ◌+◌, ◌-◌, ◌^◌, ◌≤◌, max, Option, Some, None}
 use Rattle.serde_json_path_parser.specs.Source.{Told}
+
+-- the greatest number of a place: a text of so many bytes has no number for its end
+abbrev pub greatest_usize : ℕ
+greatest_usize = 2 ^ 64 - 1
 
 -- how many bytes were seen: those before the index, and the one there if there is one
 abbrev pub up_to : ℕ → Option ℕ → ℕ

@@ -15,9 +15,17 @@ abbrev pub ◌>>=◌ : {A B : Type 0} → Result A Refusal → (A → Result B R
 (Ok x) >>= f = f x
 (Err e) >>= f = Err e
 
+-- how many bytes the characters have
+abbrev pub byte_count : List ℕ → ℕ
+byte_count cs = length (encode_utf8_all cs)
+
+-- a refusal where so many bytes are left
+abbrev pub refusal_at : ParseErrorKind → declared.Place → ℕ → Refusal
+refusal_at kind here left = record { kind = kind; place = here; left = left }
+
 -- a refusal at the first of these characters
 abbrev pub refusal : ParseErrorKind → declared.Place → List ℕ → Refusal
-refusal kind here cs = record { kind = kind; place = here; left = length (encode_utf8_all cs) }
+refusal kind here cs = refusal_at kind here (byte_count cs)
 
 -- the longest front whose characters pass the test, and what is behind it
 abbrev pub front : (ℕ → Bool) → List ℕ → List ℕ

@@ -6,7 +6,7 @@ use Rattle.serde_json_path_parser.specs.declared.error.ParseErrorKind.TheVariant
 use Rattle.serde_json_path_parser.specs.declared.error.Place as declared
 use Rattle.serde_json_path_parser.specs.declared.error.Place.TheVariants as place
 use Rattle.serde_json_path_parser.specs.Lexical.{begins, is_digit, is_name_first, is_name_char, value_from}
-use Rattle.serde_json_path_parser.specs.Parsed.{Parsed, ◌>>=◌, refusal, front, behind, past_blanks, many}
+use Rattle.serde_json_path_parser.specs.Parsed.{Parsed, ◌>>=◌, refusal, front, behind, past_blanks, many, refusal_at, byte_count}
 use Rattle.serde_json_path_parser.specs.Strings.{string_at}
 
 -- ---- names and integers
@@ -20,11 +20,11 @@ name_at here cs =
 abbrev pub is_first_digit : ℕ → Bool
 is_first_digit c = nat_le 49 c && nat_le c 57
 
--- the digits of an integer that begins at start; they are read whole before their range is judged
-unfoldable pub digits_at : List ℕ → List ℕ → Parsed ℕ
+-- the digits of an integer, at whose first character start bytes are left; they are read whole before their range is judged
+unfoldable pub digits_at : ℕ → List ℕ → Parsed ℕ
 digits_at start cs =
     if nat_le (value_from 0 (front is_digit cs)) largest then Ok (value_from 0 (front is_digit cs), behind is_digit cs)
-    else Err (refusal IntegerOutOfRange place.LongHand start)
+    else Err (refusal_at IntegerOutOfRange place.LongHand start)
 
 -- -n
 abbrev pub negative : ℕ → ℤ
@@ -34,9 +34,9 @@ negative (suc n) = negsuc n
 unfoldable pub int_at : List ℕ → Parsed ℤ
 int_at cs =
     if begins (λ c. c == 45) cs then
-    (if begins is_first_digit (drop 1 cs) then (digits_at cs (drop 1 cs) >>= λ n. Ok (negative n.0, n.1)) else Err (refusal ExpectedSelector place.LongHand cs))
+    (if begins is_first_digit (drop 1 cs) then (digits_at (byte_count cs) (drop 1 cs) >>= λ n. Ok (negative n.0, n.1)) else Err (refusal ExpectedSelector place.LongHand cs))
     else if begins (λ c. c == 48) cs then Ok (pos 0, drop 1 cs)
-    else if begins is_first_digit cs then (digits_at cs cs >>= λ n. Ok (pos n.0, n.1))
+    else if begins is_first_digit cs then (digits_at (byte_count cs) cs >>= λ n. Ok (pos n.0, n.1))
     else Err (refusal ExpectedSelector place.LongHand cs)
 
 -- ---- slices and selectors, each with the blanks behind it

@@ -1,11 +1,11 @@
 -- String literals, as they are read from left to right (RFC 9535, section 2.3.1.1), on lists of characters. A bad escape
--- is told at its backslash: `escape` is the text from there on.
+-- is reported at its backslash: `start` bytes are left there.
 use Rattle.std.specs.Prelude.{ℕ, ◌+◌, ◌-◌, ◌*◌, ◌==◌, ◌||◌, ◌&&◌, nat_le, not, Bool, List, [], ◌∷◌, drop, Ok, Err, if◌then◌else◌}
 use Rattle.std.specs.Str.{encode_utf8_all}
 use Rattle.serde_json_path_parser.specs.declared.error.ParseErrorKind.TheVariants.{ExpectedEndingQuote, BadEscape, ControlCharacter}
 use Rattle.serde_json_path_parser.specs.declared.error.Place.TheVariants as place
 use Rattle.serde_json_path_parser.specs.Lexical.{begins, is_digit, pair_of}
-use Rattle.serde_json_path_parser.specs.Parsed.{Parsed, ◌>>=◌, refusal, many}
+use Rattle.serde_json_path_parser.specs.Parsed.{Parsed, ◌>>=◌, refusal, many, refusal_at, byte_count}
 
 -- ---- hexadecimal digits
 
@@ -19,16 +19,16 @@ abbrev pub head : List ℕ → ℕ
 head [] = 0
 head (c ∷ cs) = c
 
-unfoldable pub hexadecimal_at : List ℕ → List ℕ → Parsed ℕ
-hexadecimal_at escape cs =
-    if begins is_hexadecimal cs then Ok (hexadecimal_value (head cs), drop 1 cs) else Err (refusal BadEscape place.LongHand escape)
+unfoldable pub hexadecimal_at : ℕ → List ℕ → Parsed ℕ
+hexadecimal_at start cs =
+    if begins is_hexadecimal cs then Ok (hexadecimal_value (head cs), drop 1 cs) else Err (refusal_at BadEscape place.LongHand start)
 
-unfoldable pub hex4_at : List ℕ → List ℕ → Parsed ℕ
-hex4_at escape cs = do
-  a ← hexadecimal_at escape cs
-  b ← hexadecimal_at escape a.1
-  c ← hexadecimal_at escape b.1
-  d ← hexadecimal_at escape c.1
+unfoldable pub hex4_at : ℕ → List ℕ → Parsed ℕ
+hex4_at start cs = do
+  a ← hexadecimal_at start cs
+  b ← hexadecimal_at start a.1
+  c ← hexadecimal_at start b.1
+  d ← hexadecimal_at start c.1
   Ok ((((4096 * a.0) + (256 * b.0)) + (16 * c.0)) + d.0, d.1)
 
 -- ---- surrogates
@@ -40,18 +40,18 @@ abbrev pub is_low : ℕ → Bool
 is_low n = nat_le 0xdc00 n && nat_le n 0xdfff
 
 -- behind a high surrogate: `\u` and a low one
-unfoldable pub low_at : List ℕ → ℕ → List ℕ → Parsed ℕ
-low_at escape high cs =
+unfoldable pub low_at : ℕ → ℕ → List ℕ → Parsed ℕ
+low_at start high cs =
     if begins (λ c. c == 92) cs then
     (if begins (λ c. c == 117) (drop 1 cs) then
-    (hex4_at escape (drop 1 (drop 1 cs)) >>= λ l. if is_low l.0 then Ok (pair_of high l.0, l.1) else Err (refusal BadEscape place.LongHand escape))
-    else Err (refusal BadEscape place.LongHand escape))
-    else Err (refusal BadEscape place.LongHand escape)
+    (hex4_at start (drop 1 (drop 1 cs)) >>= λ l. if is_low l.0 then Ok (pair_of high l.0, l.1) else Err (refusal_at BadEscape place.LongHand start))
+    else Err (refusal_at BadEscape place.LongHand start))
+    else Err (refusal_at BadEscape place.LongHand start)
 
 -- behind `\u`
-unfoldable pub unicode_at : List ℕ → List ℕ → Parsed ℕ
-unicode_at escape cs = hex4_at escape cs >>= λ h.
-    if is_high h.0 then low_at escape h.0 h.1 else (if is_low h.0 then Err (refusal BadEscape place.LongHand escape) else Ok (h.0, h.1))
+unfoldable pub unicode_at : ℕ → List ℕ → Parsed ℕ
+unicode_at start cs = hex4_at start cs >>= λ h.
+    if is_high h.0 then low_at start h.0 h.1 else (if is_low h.0 then Err (refusal_at BadEscape place.LongHand start) else Ok (h.0, h.1))
 
 -- ---- pieces
 
@@ -65,7 +65,7 @@ letter_value c = if c == 98 then 8 else (if c == 102 then 12 else (if c == 110 t
 -- at a backslash
 unfoldable pub escape_at : ℕ → List ℕ → Parsed ℕ
 escape_at quote cs =
-    if begins (λ c. c == 117) (drop 1 cs) then unicode_at cs (drop 1 (drop 1 cs))
+    if begins (λ c. c == 117) (drop 1 cs) then unicode_at (byte_count cs) (drop 1 (drop 1 cs))
     else (if begins (is_letter_escape quote) (drop 1 cs) then Ok (letter_value (head (drop 1 cs)), drop 1 (drop 1 cs)) else Err (refusal BadEscape place.LongHand cs))
 
 abbrev pub is_control : ℕ → Bool

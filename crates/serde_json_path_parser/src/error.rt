@@ -197,9 +197,10 @@ impl fmt::Display for ParseError {
 }
 
 impl Stop {
-    ghost use Rattle.std.specs.Prelude.{◌<◌, ◌-◌, ◌^◌};
+    ghost use Rattle.std.specs.Prelude.{◌<◌};
     ghost use Rattle.serde_json_path_parser.specs.declared.error.Place.TheVariants.{LongHand};
     ghost use Rattle.serde_json_path_parser.specs.Giving.{IsWithin, error_of};
+    ghost use Rattle.serde_json_path_parser.specs.Looking.{greatest_usize};
 
     /// A refusal inside a bracket, at a place from which so many bytes of the text are left.
     pub(crate) fn in_long_hand(kind: ParseErrorKind, left: usize) -> Stop
@@ -214,7 +215,7 @@ impl Stop {
 
     /// What is told of the stop in a text of so many bytes.
     pub(crate) fn in_text(self, total: usize) -> ParseError
-        requires short { total < 2 ^ 64 - 1 }
+        requires short { total < greatest_usize }
         requires within { IsWithin self total }
         ensures { result ≡ error_of self total }
     {

@@ -1,8 +1,9 @@
 //! Texts that are looked at byte by byte.
 
-ghost use Rattle.std.specs.Prelude.{◌≡◌, ◌<◌, ◌-◌, ◌^◌, length, slice_index};
+ghost use Rattle.std.specs.Prelude.{◌≡◌, ◌<◌, length, slice_index};
 ghost use Rattle.std.specs.Str.{IsUtf8};
 ghost use Rattle.serde_json_path_parser.specs.Source.{Told, looked};
+ghost use Rattle.serde_json_path_parser.specs.Looking.{greatest_usize};
 
 /// One text that does not change, as the bytes of its UTF-8. Each call of `byte` is one look.
 pub trait PathSource {
@@ -58,7 +59,7 @@ impl<'t> TextSource<'t> {
     #[cold]
     #[inline(never)]
     fn look_elsewhere(&mut self, index: usize)
-        requires { index < 2 ^ 64 - 1 }
+        requires { index < greatest_usize }
         ensures { told_by self.new ≡ looked (told_by self.old) index }
     {
         self.other_looks = self.other_looks.saturating_add(1);

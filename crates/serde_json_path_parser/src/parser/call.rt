@@ -1,18 +1,17 @@
 //! Calls of functions (RFC 9535, section 2.4).
 
 ghost use Rattle.std.specs.Prelude.{◌≡◌, ◌==◌, ◌<◌, ℕ, List, drop, length, map, true, string_bytes, ◌≤◌, Option, IfOk};
-ghost use Rattle.std.specs.Str.{encode_utf8_all};
 ghost use Rattle.serde_json_path_syntax.specs.Parts.{KeepsParts, IsPart};
 ghost use Rattle.serde_json_path_syntax.specs.Piece.{an_argument};
 ghost use Rattle.serde_json_path_functions.specs.Functions.{Signature};
 ghost use Rattle.serde_json_path_functions.specs.Terms.{kind_view};
 ghost use Rattle.serde_json_path_parser.specs.Filters.{argument_at, logical_from, ended};
 ghost use Rattle.serde_json_path_parser.specs.Filters as filters;
-ghost use Rattle.serde_json_path_parser.specs.Giving.{Makes, MakesArgument, MakesArguments, MakesCall, IsArgumentOf, IsOperandOf, GivesEnd, IsNear};
-ghost use Rattle.serde_json_path_parser.specs.Levels.{signatures, deeper};
+ghost use Rattle.serde_json_path_parser.specs.Giving.{Makes, MakesArgument, MakesArguments, MakesCall, IsArgumentOf, IsOperandOf, GivesEnd, MovesTo};
+ghost use Rattle.serde_json_path_parser.specs.Levels.{at_level, signatures, deeper};
 ghost use Rattle.serde_json_path_parser.specs.Lexical.{begins};
 ghost use Rattle.serde_json_path_parser.specs.Operands as operands;
-ghost use Rattle.serde_json_path_parser.specs.Reading.{left, Moves};
+ghost use Rattle.serde_json_path_parser.specs.Reading.{left};
 ghost use Rattle.serde_json_path_syntax.specs.Tree as tree;
 
 use crate::error::{ParseErrorKind, Place, Stop};
@@ -95,9 +94,8 @@ fn end<S: PathSource>(
     kinds: &[FunctionArgType],
 ) -> Result<(), Stop>
     requires { 0 < length (left reader.old) }
-    ensures moves { Moves reader.old reader.new }
-    ensures near { IsNear result reader.new }
-    ensures gives { (place : List ℕ) → start ≡ length (encode_utf8_all place) → GivesEnd result reader.new (ended place (map kind_view kinds.now) (drop 1 (left reader.old))) }
+    ensures moves { MovesTo result reader.old reader.new }
+    ensures gives { GivesEnd result reader.new (ended start (map kind_view kinds.now) (drop 1 (left reader.old))) }
 {
     if !kinds.is_empty() {
         return Err(Stop::in_long_hand(ParseErrorKind::WrongNumberOfArguments, start));
@@ -119,11 +117,9 @@ impl<F: Functions> Level<'_, F> {
         name: String,
     ) -> Result<(Part, FunctionArgType), Stop>
         requires { 0 < length (left reader.old) }
-        ensures moves { Moves reader.old reader.new }
-        ensures near { IsNear result reader.new }
+        ensures moves { MovesTo result reader.old reader.new }
         ensures keeps { KeepsParts builder.old builder.new }
-        ensures gives { (place : List ℕ) → start ≡ length (encode_utf8_all place)
-            → MakesCall (signatures F.set self.now) builder.new result reader.new ((deeper F.set self.now).call_of place (string_bytes name) (drop 1 (left reader.old))) }
+        ensures gives { MakesCall (signatures F.set self.now) builder.new result reader.new ((deeper F.set self.now).call_of start (string_bytes name) (drop 1 (left reader.old))) }
     {
         if self.depth == 0 {
             return Err(Stop::in_long_hand(ParseErrorKind::NestedTooDeep, start));
@@ -151,11 +147,9 @@ impl<F: Functions> Level<'_, F> {
         kinds: &[FunctionArgType],
         parts: &mut Vec<Part>,
     ) -> Result<(), Stop>
-        ensures moves { Moves reader.old reader.new }
-        ensures near { IsNear result reader.new }
+        ensures moves { MovesTo result reader.old reader.new }
         ensures keeps { KeepsParts builder.old builder.new }
-        ensures gives { (place : List ℕ) → start ≡ length (encode_utf8_all place)
-            → MakesArguments builder.new parts.old.items parts.new.items result reader.new (filters.parameters_at (signatures F.set self.now) (deeper F.set self.now) place (map kind_view kinds.now) (left reader.old)) }
+        ensures gives { MakesArguments builder.new parts.old.items parts.new.items result reader.new (at_level F.set self.now filters.parameters_at start (map kind_view kinds.now) (left reader.old)) }
     {
         if reader.sees(b')') {
             return end(reader, start, kinds);
@@ -174,11 +168,10 @@ impl<F: Functions> Level<'_, F> {
         kinds: &[FunctionArgType],
         parts: &mut Vec<Part>,
     ) -> Result<(), Stop>
-        ensures moves { Moves reader.old reader.new }
-        ensures near { IsNear result reader.new }
+        ensures moves { MovesTo result reader.old reader.new }
         ensures keeps { KeepsParts builder.old builder.new }
-        ensures gives { (place : List ℕ) → start ≡ length (encode_utf8_all place) → (fuel : ℕ) → length (left reader.old) ≤ fuel
-            → MakesArguments builder.new parts.old.items parts.new.items result reader.new (filters.arguments_at (signatures F.set self.now) (deeper F.set self.now) fuel place (map kind_view kinds.now) (left reader.old)) }
+        ensures gives { (fuel : ℕ) → length (left reader.old) ≤ fuel
+            → MakesArguments builder.new parts.old.items parts.new.items result reader.new (at_level F.set self.now filters.arguments_at fuel start (map kind_view kinds.now) (left reader.old)) }
     {
         let begin = reader.bytes_left();
         let argument = self.argument(builder, reader)?;
@@ -208,10 +201,9 @@ impl<F: Functions> Level<'_, F> {
         builder: &mut SyntaxBuilder,
         reader: &mut Reader<'_, S>,
     ) -> Result<Argument, Stop>
-        ensures moves { Moves reader.old reader.new }
-        ensures near { IsNear result reader.new }
+        ensures moves { MovesTo result reader.old reader.new }
         ensures keeps { KeepsParts builder.old builder.new }
-        ensures gives { MakesArgument (signatures F.set self.now) builder.new result reader.new (argument_at (signatures F.set self.now) (deeper F.set self.now) (left reader.old)) }
+        ensures gives { MakesArgument (signatures F.set self.now) builder.new result reader.new (at_level F.set self.now argument_at (left reader.old)) }
     {
         if reader.sees(b'(') || reader.sees(b'!') {
             let expression = self.logical_or(builder, reader)?;

@@ -1,6 +1,7 @@
 //! How deep a filter stands.
 
 ghost use Rattle.std.specs.Prelude.{◌≡◌, ◌<◌, ◌-◌};
+ghost use Rattle.serde_json_path_syntax.specs.Used.{deepest};
 
 use serde_json_path_functions::Functions;
 use std::alloc::Global;
@@ -20,7 +21,7 @@ impl<'f, F: Functions> Level<'f, F> {
     /// Outside of every filter.
     pub(crate) fn outermost(alloc: Global, functions: &'f F) -> Level<'f, F>
         ensures functions { result.functions.now ≡ functions.now }
-        ensures depth { result.depth ≡ 128 }
+        ensures depth { result.depth ≡ deepest }
     {
         Level {
             alloc,

@@ -1,18 +1,17 @@
 //! Logical expressions (RFC 9535, section 2.3.5.1).
 
 ghost use Rattle.std.specs.Prelude.{◌≡◌, ◌==◌, ◌<◌, ℕ, List, drop, length, true, IfOk};
-ghost use Rattle.std.specs.Str.{encode_utf8_all};
 ghost use Rattle.serde_json_path_syntax.specs.Parts.{KeepsParts, IsPart};
 ghost use Rattle.serde_json_path_syntax.specs.Piece.{an_or, an_and, a_basic};
 ghost use Rattle.serde_json_path_syntax.specs.Tree as tree;
 ghost use Rattle.serde_json_path_parser.specs.Filters.{paren_at, negated_at, basic_at, and_from, and_at, or_from, or_at};
 ghost use Rattle.serde_json_path_parser.specs.Filters as filters;
-ghost use Rattle.serde_json_path_parser.specs.Giving.{Makes, IsOperandOf, IsNear};
-ghost use Rattle.serde_json_path_parser.specs.Levels.{signatures, deeper};
+ghost use Rattle.serde_json_path_parser.specs.Giving.{Makes, IsOperandOf, MovesTo};
+ghost use Rattle.serde_json_path_parser.specs.Levels.{at_level, signatures, deeper};
 ghost use Rattle.serde_json_path_parser.specs.Lexical.{begins, is_small_letter};
 ghost use Rattle.serde_json_path_parser.specs.Operands as operands;
-ghost use Rattle.serde_json_path_parser.specs.Parsed.{past_blanks};
-ghost use Rattle.serde_json_path_parser.specs.Reading.{left, Moves};
+ghost use Rattle.serde_json_path_parser.specs.Parsed.{byte_count, past_blanks};
+ghost use Rattle.serde_json_path_parser.specs.Reading.{left};
 
 use crate::error::{ParseErrorKind, Place, Stop};
 use crate::parser::level::Level;
@@ -32,10 +31,9 @@ impl<F: Functions> Level<'_, F> {
         reader: &mut Reader<'_, S>,
     ) -> Result<Part, Stop>
         requires { 0 < length (left reader.old) }
-        ensures moves { Moves reader.old reader.new }
-        ensures near { IsNear result reader.new }
+        ensures moves { MovesTo result reader.old reader.new }
         ensures keeps { KeepsParts builder.old builder.new }
-        ensures gives { Makes an_or builder.new result reader.new ((deeper F.set self.now).expression (left reader.old) (past_blanks (drop 1 (left reader.old)))) }
+        ensures gives { Makes an_or builder.new result reader.new ((deeper F.set self.now).expression (byte_count (left reader.old)) (past_blanks (drop 1 (left reader.old)))) }
     {
         if self.depth == 0 {
             return Err(reader.refuse(ParseErrorKind::NestedTooDeep, Place::LongHand));
@@ -53,10 +51,9 @@ impl<F: Functions> Level<'_, F> {
         builder: &mut SyntaxBuilder,
         reader: &mut Reader<'_, S>,
     ) -> Result<Part, Stop>
-        ensures moves { Moves reader.old reader.new }
-        ensures near { IsNear result reader.new }
+        ensures moves { MovesTo result reader.old reader.new }
         ensures keeps { KeepsParts builder.old builder.new }
-        ensures gives { Makes an_or builder.new result reader.new (or_at (signatures F.set self.now) (deeper F.set self.now) (left reader.old)) }
+        ensures gives { Makes an_or builder.new result reader.new (at_level F.set self.now or_at (left reader.old)) }
     {
         let first = self.logical_and(builder, reader)?;
         self.or_from(builder, reader, first)
@@ -71,10 +68,9 @@ impl<F: Functions> Level<'_, F> {
         first: Part,
     ) -> Result<Part, Stop>
         requires { (a : tree.LogicalAnd) × IsPart builder.old first (an_and a) }
-        ensures moves { Moves reader.old reader.new }
-        ensures near { IsNear result reader.new }
+        ensures moves { MovesTo result reader.old reader.new }
         ensures keeps { KeepsParts builder.old builder.new }
-        ensures gives { (a : tree.LogicalAnd) → IsPart builder.old first (an_and a) → Makes an_or builder.new result reader.new (or_from (signatures F.set self.now) (deeper F.set self.now) a (left reader.old)) }
+        ensures gives { (a : tree.LogicalAnd) → IsPart builder.old first (an_and a) → Makes an_or builder.new result reader.new (at_level F.set self.now or_from a (left reader.old)) }
     {
         let mut parts = Parts::new(self.alloc);
         parts.push(first)?;
@@ -96,10 +92,9 @@ impl<F: Functions> Level<'_, F> {
         builder: &mut SyntaxBuilder,
         reader: &mut Reader<'_, S>,
     ) -> Result<Part, Stop>
-        ensures moves { Moves reader.old reader.new }
-        ensures near { IsNear result reader.new }
+        ensures moves { MovesTo result reader.old reader.new }
         ensures keeps { KeepsParts builder.old builder.new }
-        ensures gives { Makes an_and builder.new result reader.new (and_at (signatures F.set self.now) (deeper F.set self.now) (left reader.old)) }
+        ensures gives { Makes an_and builder.new result reader.new (at_level F.set self.now and_at (left reader.old)) }
     {
         let first = self.basic(builder, reader)?;
         self.and_from(builder, reader, first)
@@ -114,11 +109,10 @@ impl<F: Functions> Level<'_, F> {
         first: Part,
     ) -> Result<Part, Stop>
         requires { (b : tree.Basic) × IsPart builder.old first (a_basic b) }
-        ensures moves { Moves reader.old reader.new }
-        ensures near { IsNear result reader.new }
+        ensures moves { MovesTo result reader.old reader.new }
         ensures keeps { KeepsParts builder.old builder.new }
         ensures made { IfOk result (λ part. (a : tree.LogicalAnd) × IsPart builder.new part (an_and a)) }
-        ensures gives { (b : tree.Basic) → IsPart builder.old first (a_basic b) → Makes an_and builder.new result reader.new (and_from (signatures F.set self.now) (deeper F.set self.now) b (left reader.old)) }
+        ensures gives { (b : tree.Basic) → IsPart builder.old first (a_basic b) → Makes an_and builder.new result reader.new (at_level F.set self.now and_from b (left reader.old)) }
     {
         let mut parts = Parts::new(self.alloc);
         parts.push(first)?;
@@ -140,10 +134,9 @@ impl<F: Functions> Level<'_, F> {
         builder: &mut SyntaxBuilder,
         reader: &mut Reader<'_, S>,
     ) -> Result<Part, Stop>
-        ensures moves { Moves reader.old reader.new }
-        ensures near { IsNear result reader.new }
+        ensures moves { MovesTo result reader.old reader.new }
         ensures keeps { KeepsParts builder.old builder.new }
-        ensures gives { Makes a_basic builder.new result reader.new (basic_at (signatures F.set self.now) (deeper F.set self.now) (left reader.old)) }
+        ensures gives { Makes a_basic builder.new result reader.new (at_level F.set self.now basic_at (left reader.old)) }
     {
         if reader.sees(b'(') {
             let inner = self.paren(builder, reader)?;
@@ -170,12 +163,10 @@ impl<F: Functions> Level<'_, F> {
         operand: Operand,
     ) -> Result<Part, Stop>
         requires { (x : operands.Operand) × IsOperandOf (signatures F.set self.now) builder.old operand x }
-        ensures moves { Moves reader.old reader.new }
-        ensures near { IsNear result reader.new }
+        ensures moves { MovesTo result reader.old reader.new }
         ensures keeps { KeepsParts builder.old builder.new }
         ensures made { IfOk result (λ part. (b : tree.Basic) × IsPart builder.new part (a_basic b)) }
-        ensures gives { (x : operands.Operand) → IsOperandOf (signatures F.set self.now) builder.old operand x → (place : List ℕ) → start ≡ length (encode_utf8_all place)
-            → Makes a_basic builder.new result reader.new (filters.basic_from (signatures F.set self.now) (deeper F.set self.now) place x (left reader.old)) }
+        ensures gives { (x : operands.Operand) → IsOperandOf (signatures F.set self.now) builder.old operand x → Makes a_basic builder.new result reader.new (at_level F.set self.now filters.basic_from start x (left reader.old)) }
     {
         let Some(operator) = operator(reader) else {
             return self.test(builder, reader, start, operand);
@@ -198,10 +189,9 @@ impl<F: Functions> Level<'_, F> {
         reader: &mut Reader<'_, S>,
     ) -> Result<Part, Stop>
         requires { begins (λ c. c == 40) (left reader.old) ≡ true }
-        ensures moves { Moves reader.old reader.new }
-        ensures near { IsNear result reader.new }
+        ensures moves { MovesTo result reader.old reader.new }
         ensures keeps { KeepsParts builder.old builder.new }
-        ensures gives { Makes an_or builder.new result reader.new (paren_at (signatures F.set self.now) (deeper F.set self.now) (left reader.old)) }
+        ensures gives { Makes an_or builder.new result reader.new (at_level F.set self.now paren_at (left reader.old)) }
     {
         let inner = self.inside(builder, reader)?;
         if !reader.sees(b')') {
@@ -222,10 +212,9 @@ impl<F: Functions> Level<'_, F> {
         builder: &mut SyntaxBuilder,
         reader: &mut Reader<'_, S>,
     ) -> Result<Part, Stop>
-        ensures moves { Moves reader.old reader.new }
-        ensures near { IsNear result reader.new }
+        ensures moves { MovesTo result reader.old reader.new }
         ensures keeps { KeepsParts builder.old builder.new }
-        ensures gives { Makes a_basic builder.new result reader.new (negated_at (signatures F.set self.now) (deeper F.set self.now) (left reader.old)) }
+        ensures gives { Makes a_basic builder.new result reader.new (at_level F.set self.now negated_at (left reader.old)) }
     {
         if reader.sees(b'(') {
             let inner = self.paren(builder, reader)?;
@@ -256,10 +245,9 @@ impl<F: Functions> Level<'_, F> {
         reader: &mut Reader<'_, S>,
     ) -> Result<Part, Stop>
         requires { begins is_small_letter (left reader.old) ≡ true }
-        ensures moves { Moves reader.old reader.new }
-        ensures near { IsNear result reader.new }
+        ensures moves { MovesTo result reader.old reader.new }
         ensures keeps { KeepsParts builder.old builder.new }
-        ensures gives { Makes a_basic builder.new result reader.new (filters.negated_name_at (signatures F.set self.now) (deeper F.set self.now) (left reader.old)) }
+        ensures gives { Makes a_basic builder.new result reader.new (at_level F.set self.now filters.negated_name_at (left reader.old)) }
     {
         let start = reader.bytes_left();
         let Operand::Call(call, result) = self.named(builder, reader)? else {

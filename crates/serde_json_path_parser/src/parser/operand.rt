@@ -1,17 +1,16 @@
 //! Operands: what a filter compares or tests, read before its use is known (RFC 9535, section 2.3.5.1).
 
 ghost use Rattle.std.specs.Prelude.{◌≡◌, ◌==◌, ◌<◌, ℕ, List, length, true, Option};
-ghost use Rattle.std.specs.Str.{encode_utf8_all};
 ghost use Rattle.serde_json_path_syntax.specs.Flat.{kind_view};
 ghost use Rattle.serde_json_path_syntax.specs.Parts.{KeepsParts};
 ghost use Rattle.serde_json_path_syntax.specs.Piece.{a_query, a_comparable, a_basic};
 ghost use Rattle.serde_json_path_functions.specs.Functions.{Signature};
 ghost use Rattle.serde_json_path_parser.specs.Filters.{query_at, operand_at, comparable_at, named_at, test_at, text_at};
-ghost use Rattle.serde_json_path_parser.specs.Giving.{Makes, MakesOperand, IsOperandOf, IsNear};
-ghost use Rattle.serde_json_path_parser.specs.Levels.{signatures, deeper};
+ghost use Rattle.serde_json_path_parser.specs.Giving.{Makes, MakesOperand, IsOperandOf, IsNear, MovesTo};
+ghost use Rattle.serde_json_path_parser.specs.Levels.{at_level, signatures};
 ghost use Rattle.serde_json_path_parser.specs.Lexical.{begins, is_small_letter, IsQuote};
 ghost use Rattle.serde_json_path_parser.specs.Operands as operands;
-ghost use Rattle.serde_json_path_parser.specs.Reading.{left, Moves};
+ghost use Rattle.serde_json_path_parser.specs.Reading.{left};
 
 use crate::error::{ParseErrorKind, Place, Stop};
 use crate::parser::level::Level;
@@ -44,8 +43,7 @@ fn text<S: PathSource>(
 ) -> Result<Operand, Stop>
     requires quote { IsQuote quote }
     requires begins { begins (λ c. c == quote) (left reader.old) ≡ true }
-    ensures moves { Moves reader.old reader.new }
-    ensures near { IsNear result reader.new }
+    ensures moves { MovesTo result reader.old reader.new }
     ensures gives { (signature : List ℕ → Option Signature) (builder : SyntaxBuilder) → MakesOperand signature builder result reader.new (text_at quote (left reader.old)) }
 {
     reader.take_char();
@@ -64,10 +62,9 @@ impl<F: Functions> Level<'_, F> {
         kind: QueryKind,
     ) -> Result<Part, Stop>
         requires { 0 < length (left reader.old) }
-        ensures moves { Moves reader.old reader.new }
-        ensures near { IsNear result reader.new }
+        ensures moves { MovesTo result reader.old reader.new }
         ensures keeps { KeepsParts builder.old builder.new }
-        ensures gives { Makes a_query builder.new result reader.new (query_at (signatures F.set self.now) (deeper F.set self.now) (kind_view kind) (left reader.old)) }
+        ensures gives { Makes a_query builder.new result reader.new (at_level F.set self.now query_at (kind_view kind) (left reader.old)) }
     {
         reader.take_char();
         let (parts, _rest) = self.segments(builder, reader, Place::LongHand)?;
@@ -83,10 +80,9 @@ impl<F: Functions> Level<'_, F> {
         reader: &mut Reader<'_, S>,
     ) -> Result<Operand, Stop>
         requires { begins is_small_letter (left reader.old) ≡ true }
-        ensures moves { Moves reader.old reader.new }
-        ensures near { IsNear result reader.new }
+        ensures moves { MovesTo result reader.old reader.new }
         ensures keeps { KeepsParts builder.old builder.new }
-        ensures gives { MakesOperand (signatures F.set self.now) builder.new result reader.new (named_at (signatures F.set self.now) (deeper F.set self.now) (left reader.old)) }
+        ensures gives { MakesOperand (signatures F.set self.now) builder.new result reader.new (at_level F.set self.now named_at (left reader.old)) }
     {
         let start = reader.bytes_left();
         let word = read_word(self.alloc, reader)?;
@@ -112,10 +108,9 @@ impl<F: Functions> Level<'_, F> {
         builder: &mut SyntaxBuilder,
         reader: &mut Reader<'_, S>,
     ) -> Result<Operand, Stop>
-        ensures moves { Moves reader.old reader.new }
-        ensures near { IsNear result reader.new }
+        ensures moves { MovesTo result reader.old reader.new }
         ensures keeps { KeepsParts builder.old builder.new }
-        ensures gives { MakesOperand (signatures F.set self.now) builder.new result reader.new (operand_at (signatures F.set self.now) (deeper F.set self.now) (left reader.old)) }
+        ensures gives { MakesOperand (signatures F.set self.now) builder.new result reader.new (at_level F.set self.now operand_at (left reader.old)) }
     {
         if reader.sees(b'\'') {
             return text(self.alloc, reader, b'\'');
@@ -151,8 +146,7 @@ impl<F: Functions> Level<'_, F> {
         requires { (x : operands.Operand) × IsOperandOf (signatures F.set self.now) builder.old operand x }
         ensures near { IsNear result reader.now }
         ensures keeps { KeepsParts builder.old builder.new }
-        ensures gives { (x : operands.Operand) → IsOperandOf (signatures F.set self.now) builder.old operand x → (place : List ℕ) → start ≡ length (encode_utf8_all place)
-            → Makes a_comparable builder.new result reader.now (comparable_at (signatures F.set self.now) (deeper F.set self.now) place x (left reader.now)) }
+        ensures gives { (x : operands.Operand) → IsOperandOf (signatures F.set self.now) builder.old operand x → Makes a_comparable builder.new result reader.now (at_level F.set self.now comparable_at start x (left reader.now)) }
     {
         match operand {
             Operand::Literal(literal) => {
@@ -188,8 +182,7 @@ impl<F: Functions> Level<'_, F> {
         requires { (x : operands.Operand) × IsOperandOf (signatures F.set self.now) builder.old operand x }
         ensures near { IsNear result reader.now }
         ensures keeps { KeepsParts builder.old builder.new }
-        ensures gives { (x : operands.Operand) → IsOperandOf (signatures F.set self.now) builder.old operand x → (place : List ℕ) → start ≡ length (encode_utf8_all place)
-            → Makes a_basic builder.new result reader.now (test_at (signatures F.set self.now) (deeper F.set self.now) place x (left reader.now)) }
+        ensures gives { (x : operands.Operand) → IsOperandOf (signatures F.set self.now) builder.old operand x → Makes a_basic builder.new result reader.now (at_level F.set self.now test_at start x (left reader.now)) }
     {
         match operand {
             Operand::Literal(_literal) => Err(reader.refuse(

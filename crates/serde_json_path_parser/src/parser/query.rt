@@ -2,9 +2,9 @@
 
 ghost use Rattle.std.specs.Prelude.{◌≡◌, false, IfErr};
 ghost use Rattle.serde_json_path_parser.specs.Filters.{path_at};
-ghost use Rattle.serde_json_path_parser.specs.Giving.{GivesQuery, IsNear, IsRefused};
+ghost use Rattle.serde_json_path_parser.specs.Giving.{GivesQuery, MovesTo, IsRefused};
 ghost use Rattle.serde_json_path_parser.specs.Parsing.{opens_behind_root};
-ghost use Rattle.serde_json_path_parser.specs.Reading.{left, Moves};
+ghost use Rattle.serde_json_path_parser.specs.Reading.{left};
 
 use crate::error::{ParseErrorKind, Place, Refusal, Stop};
 use crate::parser::level::Level;
@@ -23,8 +23,7 @@ pub(crate) fn query<S: PathSource, F: Functions>(
     reader: &mut Reader<'_, S>,
     functions: &F,
 ) -> Result<Checked, Stop>
-    ensures moves { Moves reader.old reader.new }
-    ensures near { IsNear result reader.new }
+    ensures moves { MovesTo result reader.old reader.new }
     ensures gives { GivesQuery (F.set functions.now) result (path_at (F.set functions.now).signature (left reader.old)) }
     ensures spares { IfErr result (λ stop. opens_behind_root (left reader.old) ≡ false → IsRefused stop) }
 {

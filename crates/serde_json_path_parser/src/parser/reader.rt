@@ -5,7 +5,7 @@ ghost use Rattle.std.specs.Str.{is_utf8, chars, encode_utf8_all as encoded};
 ghost use Rattle.std.specs.Char.{IsScalar};
 ghost use Rattle.serde_json_path_parser.specs.Lexical.{begins, begins_both, is_blank, is_digit, is_name_first, is_name_char, is_small_letter, is_function_char};
 ghost use Rattle.serde_json_path_parser.specs.Ahead.{is_ascii, limit_of, IsAhead, IsSecond};
-ghost use Rattle.serde_json_path_parser.specs.Looking.{up_to};
+ghost use Rattle.serde_json_path_parser.specs.Looking.{greatest_usize, up_to};
 ghost use Rattle.serde_json_path_parser.specs.Parsed.{front, behind};
 ghost use Rattle.serde_json_path_parser.specs.Numbers.{is_exponent};
 ghost use Rattle.serde_json_path_parser.specs.Strings.{is_hexadecimal, is_letter_escape, is_control, is_inside};
@@ -26,7 +26,7 @@ pub(crate) struct Reader<'s, S: PathSource> {
     second: Option<Option<u8>>,
     /// Below this index a byte may be looked at: the text's length, or 0 while `second` is known.
     limit: usize,
-    ghost short: { length (S.told source.now).text < 2 ^ 64 - 1 },
+    ghost short: { length (S.told source.now).text < greatest_usize },
     ghost within: { index ≤ length (S.told source.now).text },
     ghost utf8: { is_utf8 (drop index (S.told source.now).text) ≡ true },
     ghost next_is: { next ≡ slice_get (S.told source.now).text index },
@@ -36,7 +36,7 @@ pub(crate) struct Reader<'s, S: PathSource> {
 
 impl<'s, S: PathSource> Reader<'s, S> {
     ghost use Rattle.std.specs.Str.{encode_utf8_all};
-    ghost use Rattle.serde_json_path_parser.specs.Parsed.{refusal, past_blanks};
+    ghost use Rattle.serde_json_path_parser.specs.Parsed.{byte_count, refusal, past_blanks};
     ghost use Rattle.serde_json_path_parser.specs.Parsing.{is_first_digit, begins_int, opens};
     ghost use Rattle.serde_json_path_parser.specs.Reading.{told, left, seen, Moves};
     ghost use Rattle.serde_json_path_parser.specs.Filters.{ends_argument};
@@ -44,7 +44,7 @@ impl<'s, S: PathSource> Reader<'s, S> {
 
     /// A reader at the start of a text.
     pub(crate) fn new(source: &'s mut S) -> Reader<'s, S>
-        requires { length (S.told source.old).text < 2 ^ 64 - 1 }
+        requires { length (S.told source.old).text < greatest_usize }
         ensures same_source { result.source.ghost_name ≡ source.entry.ghost_name }
         ensures same_text { (told result).text ≡ (S.told source.old).text }
         ensures left { left result ≡ chars (S.told source.old).text }
@@ -64,7 +64,7 @@ impl<'s, S: PathSource> Reader<'s, S> {
 
     /// A reader at an index of a text, where this byte is next.
     fn resume(source: &'s mut S, index: usize, next: Option<u8>) -> Reader<'s, S>
-        requires short { length (S.told source.old).text < 2 ^ 64 - 1 }
+        requires short { length (S.told source.old).text < greatest_usize }
         requires within { index ≤ length (S.told source.old).text }
         requires utf8 { is_utf8 (drop index (S.told source.old).text) ≡ true }
         requires next_is { next ≡ slice_get (S.told source.old).text index }
@@ -143,7 +143,7 @@ impl<'s, S: PathSource> Reader<'s, S> {
 
     /// How many bytes are left.
     pub(crate) fn bytes_left(&self) -> usize
-        ensures value { result ≡ length (encode_utf8_all (left self.now)) }
+        ensures value { result ≡ byte_count (left self.now) }
         ensures sum { result + self.now.index ≡ length (told self.now).text }
     {
         self.source.len() - self.index
@@ -430,7 +430,7 @@ fn name_chars<S: PathSource>(
     next: Option<u8>,
     text: &mut String,
 ) -> (usize, Option<u8>, Result<(), AllocError>)
-    requires short { length (S.told source.old).text < 2 ^ 64 - 1 }
+    requires short { length (S.told source.old).text < greatest_usize }
     requires within { index ≤ length (S.told source.old).text }
     requires utf8 { is_utf8 (drop index (S.told source.old).text) ≡ true }
     requires next_is { next ≡ slice_get (S.told source.old).text index }

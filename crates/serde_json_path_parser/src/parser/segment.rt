@@ -5,12 +5,12 @@ ghost use Rattle.serde_json_path_syntax.specs.Parts.{KeepsParts};
 ghost use Rattle.serde_json_path_syntax.specs.Flat.{segment_kind_view};
 ghost use Rattle.serde_json_path_syntax.specs.Tree.{Selector};
 ghost use Rattle.serde_json_path_syntax.specs.Tree as tree;
-ghost use Rattle.serde_json_path_parser.specs.Giving.{Makes, MakesSegments, StartsSegment, segment_piece, IsNear, IsRefused};
+ghost use Rattle.serde_json_path_parser.specs.Giving.{Makes, MakesSegments, StartsSegment, segment_piece, MovesTo, IsRefused};
 ghost use Rattle.serde_json_path_parser.specs.Levels.{filter_at};
 ghost use Rattle.serde_json_path_parser.specs.Lexical.{begins};
 ghost use Rattle.serde_json_path_parser.specs.Parsed.{Parsed};
 ghost use Rattle.serde_json_path_parser.specs.Parsing.{bracket_at, behind_dot, dotted_at, descendant_at, of_kind, dot_at, segment_at, segments_at, opens, opens_next};
-ghost use Rattle.serde_json_path_parser.specs.Reading.{left, Moves};
+ghost use Rattle.serde_json_path_parser.specs.Reading.{left};
 
 use crate::error::{ParseErrorKind, Place, Stop};
 use crate::parser::level::Level;
@@ -39,8 +39,7 @@ fn dotted<S: PathSource>(
     kind: SegmentKind,
     place: Place,
 ) -> Result<Part, Stop>
-    ensures moves { Moves reader.old reader.new }
-    ensures near { IsNear result reader.new }
+    ensures moves { MovesTo result reader.old reader.new }
     ensures keeps { KeepsParts builder.old builder.new }
     ensures gives { Makes segment_piece builder.new result reader.new (of_kind (segment_kind_view kind) (dotted_at place (left reader.old))) }
 {
@@ -62,8 +61,7 @@ fn descendant<S: PathSource>(
     reader: &mut Reader<'_, S>,
     place: Place,
 ) -> Result<SegmentStart, Stop>
-    ensures moves { Moves reader.old reader.new }
-    ensures near { IsNear result reader.new }
+    ensures moves { MovesTo result reader.old reader.new }
     ensures keeps { KeepsParts builder.old builder.new }
     ensures gives { (filter_at : List ℕ → Parsed Selector) → StartsSegment builder.new result reader.new (bracket_at filter_at) (of_kind tree.descendant (descendant_at filter_at place (left reader.old))) }
 {
@@ -93,8 +91,7 @@ fn dot<S: PathSource>(
     reader: &mut Reader<'_, S>,
     place: Place,
 ) -> Result<SegmentStart, Stop>
-    ensures moves { Moves reader.old reader.new }
-    ensures near { IsNear result reader.new }
+    ensures moves { MovesTo result reader.old reader.new }
     ensures keeps { KeepsParts builder.old builder.new }
     ensures gives { (filter_at : List ℕ → Parsed Selector) → StartsSegment builder.new result reader.new (bracket_at filter_at) (dot_at filter_at place (left reader.old)) }
 {
@@ -121,8 +118,7 @@ fn segment_start<S: PathSource>(
     place: Place,
 ) -> Result<SegmentStart, Stop>
     requires { begins opens (left reader.old) ≡ true }
-    ensures moves { Moves reader.old reader.new }
-    ensures near { IsNear result reader.new }
+    ensures moves { MovesTo result reader.old reader.new }
     ensures keeps { KeepsParts builder.old builder.new }
     ensures gives { (filter_at : List ℕ → Parsed Selector) → StartsSegment builder.new result reader.new (bracket_at filter_at) (segment_at filter_at place (left reader.old)) }
 {
@@ -144,8 +140,7 @@ impl<F: Functions> Level<'_, F> {
         reader: &mut Reader<'_, S>,
         kind: SegmentKind,
     ) -> Result<Part, Stop>
-        ensures moves { Moves reader.old reader.new }
-        ensures near { IsNear result reader.new }
+        ensures moves { MovesTo result reader.old reader.new }
         ensures keeps { KeepsParts builder.old builder.new }
         ensures gives { Makes segment_piece builder.new result reader.new (of_kind (segment_kind_view kind) (bracket_at (filter_at F.set self.now) (left reader.old))) }
     {
@@ -167,8 +162,7 @@ impl<F: Functions> Level<'_, F> {
         place: Place,
     ) -> Result<Part, Stop>
         requires { begins opens (left reader.old) ≡ true }
-        ensures moves { Moves reader.old reader.new }
-        ensures near { IsNear result reader.new }
+        ensures moves { MovesTo result reader.old reader.new }
         ensures keeps { KeepsParts builder.old builder.new }
         ensures gives { Makes segment_piece builder.new result reader.new (segment_at (filter_at F.set self.now) place (left reader.old)) }
     {
@@ -187,8 +181,7 @@ impl<F: Functions> Level<'_, F> {
         reader: &mut Reader<'_, S>,
         place: Place,
     ) -> Result<(Parts, usize), Stop>
-        ensures moves { Moves reader.old reader.new }
-        ensures near { IsNear result reader.new }
+        ensures moves { MovesTo result reader.old reader.new }
         ensures keeps { KeepsParts builder.old builder.new }
         ensures gives { MakesSegments builder.new result reader.new (segments_at (filter_at F.set self.now) place (left reader.old)) }
         ensures spares { IfErr result (λ stop. opens_next (left reader.old) ≡ false → IsRefused stop) }

@@ -4,12 +4,12 @@ ghost use Rattle.std.specs.Prelude.{◌≡◌, ◌==◌, ℕ, List, true, false}
 ghost use Rattle.serde_json_path_syntax.specs.Parts.{KeepsParts};
 ghost use Rattle.serde_json_path_syntax.specs.Piece.{a_selector};
 ghost use Rattle.serde_json_path_syntax.specs.Tree.{Selector};
-ghost use Rattle.serde_json_path_parser.specs.Giving.{Makes, MakesSelectors, IsNear};
+ghost use Rattle.serde_json_path_parser.specs.Giving.{Makes, MakesSelectors, MovesTo};
 ghost use Rattle.serde_json_path_parser.specs.Levels.{filter_at};
 ghost use Rattle.serde_json_path_parser.specs.Parsed.{Parsed, past_blanks};
 ghost use Rattle.serde_json_path_parser.specs.Lexical.{begins, IsQuote};
 ghost use Rattle.serde_json_path_parser.specs.Parsing.{position_at, quoted_at, selector_at, selectors_at};
-ghost use Rattle.serde_json_path_parser.specs.Reading.{left, Moves};
+ghost use Rattle.serde_json_path_parser.specs.Reading.{left};
 
 use crate::error::Stop;
 use crate::parser::level::Level;
@@ -28,8 +28,7 @@ fn position<S: PathSource>(
     builder: &mut SyntaxBuilder,
     reader: &mut Reader<'_, S>,
 ) -> Result<Part, Stop>
-    ensures moves { Moves reader.old reader.new }
-    ensures near { IsNear result reader.new }
+    ensures moves { MovesTo result reader.old reader.new }
     ensures keeps { KeepsParts builder.old builder.new }
     ensures gives { Makes a_selector builder.new result reader.new (position_at (left reader.old)) }
 {
@@ -54,8 +53,7 @@ fn quoted<S: PathSource>(
     quote: u8,
 ) -> Result<Part, Stop>
     requires { IsQuote quote }
-    ensures moves { Moves reader.old reader.new }
-    ensures near { IsNear result reader.new }
+    ensures moves { MovesTo result reader.old reader.new }
     ensures keeps { KeepsParts builder.old builder.new }
     ensures gives { Makes a_selector builder.new result reader.new (quoted_at quote (left reader.old)) }
 {
@@ -73,8 +71,7 @@ fn plain_selector<S: PathSource>(
     reader: &mut Reader<'_, S>,
 ) -> Result<Part, Stop>
     requires { begins (λ c. c == 63) (left reader.old) ≡ false }
-    ensures moves { Moves reader.old reader.new }
-    ensures near { IsNear result reader.new }
+    ensures moves { MovesTo result reader.old reader.new }
     ensures keeps { KeepsParts builder.old builder.new }
     ensures gives { (filter_at : List ℕ → Parsed Selector) → Makes a_selector builder.new result reader.new (selector_at filter_at (left reader.old)) }
 {
@@ -109,8 +106,7 @@ impl<F: Functions> Level<'_, F> {
         builder: &mut SyntaxBuilder,
         reader: &mut Reader<'_, S>,
     ) -> Result<Part, Stop>
-        ensures moves { Moves reader.old reader.new }
-        ensures near { IsNear result reader.new }
+        ensures moves { MovesTo result reader.old reader.new }
         ensures keeps { KeepsParts builder.old builder.new }
         ensures gives { Makes a_selector builder.new result reader.new (selector_at (filter_at F.set self.now) (left reader.old)) }
     {
@@ -129,8 +125,7 @@ impl<F: Functions> Level<'_, F> {
         builder: &mut SyntaxBuilder,
         reader: &mut Reader<'_, S>,
     ) -> Result<Parts, Stop>
-        ensures moves { Moves reader.old reader.new }
-        ensures near { IsNear result reader.new }
+        ensures moves { MovesTo result reader.old reader.new }
         ensures keeps { KeepsParts builder.old builder.new }
         ensures gives { MakesSelectors builder.new result reader.new (selectors_at (filter_at F.set self.now) (left reader.old)) }
     {

@@ -3,9 +3,9 @@
 ghost use Rattle.std.specs.Prelude.{IfOk};
 ghost use Rattle.serde_json_path_syntax.specs.SliceView.{slice_view};
 ghost use Rattle.serde_json_path_syntax.specs.WellFormed.{IsOptionalInteger};
-ghost use Rattle.serde_json_path_parser.specs.Giving.{Gives, IsNear};
+ghost use Rattle.serde_json_path_parser.specs.Giving.{Gives, MovesTo};
 ghost use Rattle.serde_json_path_parser.specs.Parsing.{bound_at, step_at, slice_at};
-ghost use Rattle.serde_json_path_parser.specs.Reading.{left, Moves};
+ghost use Rattle.serde_json_path_parser.specs.Reading.{left};
 
 use crate::error::Stop;
 use crate::parser::primitive::int::int;
@@ -16,8 +16,7 @@ use serde_json_path_syntax::Slice;
 /// A part of a slice and the blanks behind it, or nothing.
 #[tactic(auto, unfolding(crate::specs::Parsing::bound_at))]
 fn bound<S: PathSource>(reader: &mut Reader<'_, S>) -> Result<Option<i64>, Stop>
-    ensures moves { Moves reader.old reader.new }
-    ensures near { IsNear result reader.new }
+    ensures moves { MovesTo result reader.old reader.new }
     ensures gives { Gives (λ i. i) result reader.new (bound_at (left reader.old)) }
     ensures range { IfOk result (λ i. IsOptionalInteger i) }
 {
@@ -32,8 +31,7 @@ fn bound<S: PathSource>(reader: &mut Reader<'_, S>) -> Result<Option<i64>, Stop>
 /// A second colon and a step, or nothing.
 #[tactic(auto, unfolding(crate::specs::Parsing::step_at))]
 fn step<S: PathSource>(reader: &mut Reader<'_, S>) -> Result<Option<i64>, Stop>
-    ensures moves { Moves reader.old reader.new }
-    ensures near { IsNear result reader.new }
+    ensures moves { MovesTo result reader.old reader.new }
     ensures gives { Gives (λ i. i) result reader.new (step_at (left reader.old)) }
     ensures range { IfOk result (λ i. IsOptionalInteger i) }
 {
@@ -52,8 +50,7 @@ pub(crate) fn rest_of_slice<S: PathSource>(
     start: Option<i64>,
 ) -> Result<Slice, Stop>
     requires { IsOptionalInteger start }
-    ensures moves { Moves reader.old reader.new }
-    ensures near { IsNear result reader.new }
+    ensures moves { MovesTo result reader.old reader.new }
     ensures gives { Gives slice_view result reader.new (slice_at start (left reader.old)) }
     ensures start { IfOk result (λ slice. IsOptionalInteger slice.start) }
     ensures end { IfOk result (λ slice. IsOptionalInteger slice.end) }

@@ -1,11 +1,10 @@
 //! Integers.
 
 ghost use Rattle.std.specs.Prelude.{◌≡◌, ◌≤◌, List, ℕ, length, IfOk};
-ghost use Rattle.std.specs.Str.{encode_utf8_all};
 ghost use Rattle.serde_json_path_syntax.specs.Tree.{largest, IsInteger};
-ghost use Rattle.serde_json_path_parser.specs.Giving.{Gives, IsNear};
+ghost use Rattle.serde_json_path_parser.specs.Giving.{Gives, MovesTo};
 ghost use Rattle.serde_json_path_parser.specs.Parsing.{digits_at, int_at};
-ghost use Rattle.serde_json_path_parser.specs.Reading.{left, Moves};
+ghost use Rattle.serde_json_path_parser.specs.Reading.{left};
 
 use crate::error::{ParseErrorKind, Place, Stop};
 use crate::parser::primitive::decimal::decimal;
@@ -18,9 +17,8 @@ const LARGEST: u128 = 9_007_199_254_740_991;
 /// The digits of an integer that has so many bytes from its start on. They are read whole before their range is judged.
 #[tactic(auto, unfolding(crate::specs::Parsing::digits_at))]
 fn digits<S: PathSource>(reader: &mut Reader<'_, S>, start: usize) -> Result<u64, Stop>
-    ensures moves { Moves reader.old reader.new }
-    ensures near { IsNear result reader.new }
-    ensures gives { (cs : List ℕ) → start ≡ length (encode_utf8_all cs) → Gives (λ n. n) result reader.new (digits_at cs (left reader.old)) }
+    ensures moves { MovesTo result reader.old reader.new }
+    ensures gives { Gives (λ n. n) result reader.new (digits_at start (left reader.old)) }
     ensures range { IfOk result (λ n. n ≤ largest) }
 {
     let n = decimal(reader);
@@ -33,8 +31,7 @@ fn digits<S: PathSource>(reader: &mut Reader<'_, S>, start: usize) -> Result<u64
 /// An integer of -(2^53 - 1) to 2^53 - 1 (RFC 9535, section 2.3.3.1): an index, or a part of a slice.
 #[tactic(auto, unfolding(crate::specs::Parsing::int_at))]
 pub(crate) fn int<S: PathSource>(reader: &mut Reader<'_, S>) -> Result<i64, Stop>
-    ensures moves { Moves reader.old reader.new }
-    ensures near { IsNear result reader.new }
+    ensures moves { MovesTo result reader.old reader.new }
     ensures gives { Gives (λ i. i) result reader.new (int_at (left reader.old)) }
     ensures range { IfOk result (λ i. IsInteger i) }
 {

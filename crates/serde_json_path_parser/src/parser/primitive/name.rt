@@ -1,9 +1,9 @@
 //! Member names.
 
 ghost use Rattle.std.specs.Prelude.{◌≡◌, string_bytes};
-ghost use Rattle.serde_json_path_parser.specs.Giving.{Gives, IsNear};
+ghost use Rattle.serde_json_path_parser.specs.Giving.{Gives, MovesTo};
 ghost use Rattle.serde_json_path_parser.specs.Parsing.{name_at};
-ghost use Rattle.serde_json_path_parser.specs.Reading.{left, Moves};
+ghost use Rattle.serde_json_path_parser.specs.Reading.{left};
 
 use crate::error::{ParseErrorKind, Place, Stop};
 use crate::parser::reader::Reader;
@@ -17,8 +17,7 @@ pub(crate) fn name<S: PathSource>(
     reader: &mut Reader<'_, S>,
     place: Place,
 ) -> Result<String, Stop>
-    ensures moves { Moves reader.old reader.new }
-    ensures near { IsNear result reader.new }
+    ensures moves { MovesTo result reader.old reader.new }
     ensures gives { Gives (λ text. string_bytes text) result reader.new (name_at place (left reader.old)) }
 {
     if !reader.sees_name_first() {

@@ -1,11 +1,10 @@
 //! Number literals.
 
 ghost use Rattle.std.specs.Prelude.{◌≡◌, ◌≤◌, ◌<◌, ℕ, List, length, IfOk};
-ghost use Rattle.std.specs.Str.{encode_utf8_all};
 ghost use Rattle.serde_json_path_syntax.specs.Literals.{number_amount};
-ghost use Rattle.serde_json_path_parser.specs.Giving.{Gives, IsNear};
+ghost use Rattle.serde_json_path_parser.specs.Giving.{Gives, MovesTo};
 ghost use Rattle.serde_json_path_parser.specs.Numbers.{whole_at, digits_behind_point_at, fraction_at, amount_at, number_at, capped};
-ghost use Rattle.serde_json_path_parser.specs.Reading.{left, Moves};
+ghost use Rattle.serde_json_path_parser.specs.Reading.{left};
 
 use crate::error::{ParseErrorKind, Stop};
 use crate::parser::primitive::decimal::decimal;
@@ -25,9 +24,8 @@ const TOO_MANY: u128 = (1 << 127) - 1;
 /// The digits before a point.
 #[tactic(auto, unfolding(crate::specs::Numbers::whole_at))]
 fn whole<S: PathSource>(reader: &mut Reader<'_, S>, start: usize) -> Result<u128, Stop>
-    ensures moves { Moves reader.old reader.new }
-    ensures near { IsNear result reader.new }
-    ensures gives { (literal : List ℕ) → start ≡ length (encode_utf8_all literal) → Gives (λ n. n) result reader.new (capped (whole_at literal (left reader.old))) }
+    ensures moves { MovesTo result reader.old reader.new }
+    ensures gives { Gives (λ n. n) result reader.new (capped (whole_at start (left reader.old))) }
 {
     if reader.sees(b'0') {
         reader.take_char();
@@ -45,9 +43,8 @@ fn digits_behind_point<S: PathSource>(
     reader: &mut Reader<'_, S>,
     start: usize,
 ) -> Result<u128, Stop>
-    ensures moves { Moves reader.old reader.new }
-    ensures near { IsNear result reader.new }
-    ensures gives { (literal : List ℕ) → start ≡ length (encode_utf8_all literal) → Gives (λ n. n) result reader.new (digits_behind_point_at literal (left reader.old)) }
+    ensures moves { MovesTo result reader.old reader.new }
+    ensures gives { Gives (λ n. n) result reader.new (digits_behind_point_at start (left reader.old)) }
 {
     if !reader.sees_digit() {
         return Err(Stop::in_long_hand(ParseErrorKind::ExponentOrEmptyFraction, start));
@@ -67,9 +64,8 @@ fn digits_behind_point<S: PathSource>(
 /// The billionths of a fraction, or 0 where there is none.
 #[tactic(auto, unfolding(crate::specs::Numbers::fraction_at))]
 fn fraction<S: PathSource>(reader: &mut Reader<'_, S>, start: usize) -> Result<u128, Stop>
-    ensures moves { Moves reader.old reader.new }
-    ensures near { IsNear result reader.new }
-    ensures gives { (literal : List ℕ) → start ≡ length (encode_utf8_all literal) → Gives (λ n. n) result reader.new (fraction_at literal (left reader.old)) }
+    ensures moves { MovesTo result reader.old reader.new }
+    ensures gives { Gives (λ n. n) result reader.new (fraction_at start (left reader.old)) }
 {
     if reader.sees(b'.') {
         reader.take_char();
@@ -84,9 +80,8 @@ fn fraction<S: PathSource>(reader: &mut Reader<'_, S>, start: usize) -> Result<u
 /// The billionths of a number without its sign, or `u128::MAX` where there are more.
 #[tactic(auto, unfolding(crate::specs::Numbers::amount_at))]
 fn amount<S: PathSource>(reader: &mut Reader<'_, S>, start: usize) -> Result<u128, Stop>
-    ensures moves { Moves reader.old reader.new }
-    ensures near { IsNear result reader.new }
-    ensures gives { (literal : List ℕ) → start ≡ length (encode_utf8_all literal) → Gives (λ n. n) result reader.new (capped (amount_at literal (left reader.old))) }
+    ensures moves { MovesTo result reader.old reader.new }
+    ensures gives { Gives (λ n. n) result reader.new (capped (amount_at start (left reader.old))) }
 {
     let whole = whole(reader, start)?;
     let fraction = fraction(reader, start)?;
@@ -97,8 +92,7 @@ fn amount<S: PathSource>(reader: &mut Reader<'_, S>, start: usize) -> Result<u12
 /// and at most nine digits behind its point. Its digits are read whole before they are judged.
 #[tactic(auto, unfolding(crate::specs::Numbers::number_at))]
 pub(crate) fn number<S: PathSource>(reader: &mut Reader<'_, S>) -> Result<NumberLiteral, Stop>
-    ensures moves { Moves reader.old reader.new }
-    ensures near { IsNear result reader.new }
+    ensures moves { MovesTo result reader.old reader.new }
     ensures gives { Gives number_amount result reader.new (number_at (left reader.old)) }
 {
     let start = reader.bytes_left();

@@ -2,10 +2,9 @@
 
 ghost use Rattle.std.specs.Prelude.{◌≡◌, ◌==◌, ◌<◌, ◌≤◌, ◌+◌, ◌^◌, ℕ, List, length, true, IfOk, string_bytes};
 ghost use Rattle.std.specs.Char.{IsScalar};
-ghost use Rattle.std.specs.Str.{encode_utf8_all};
-ghost use Rattle.serde_json_path_parser.specs.Giving.{Gives, IsNear};
+ghost use Rattle.serde_json_path_parser.specs.Giving.{Gives, MovesTo};
 ghost use Rattle.serde_json_path_parser.specs.Lexical.{begins, IsQuote};
-ghost use Rattle.serde_json_path_parser.specs.Reading.{left, Moves};
+ghost use Rattle.serde_json_path_parser.specs.Reading.{left};
 ghost use Rattle.serde_json_path_parser.specs.Strings.{hexadecimal_at, hex4_at, is_high, low_at, unicode_at, escape_at, piece_at, is_inside, string_at};
 
 use crate::error::{ParseErrorKind, Place, Stop};
@@ -16,10 +15,9 @@ use std::alloc::Global;
 /// The value of a hexadecimal digit of either case.
 #[tactic(auto, unfolding(crate::specs::Strings::hexadecimal_at))]
 fn hexadecimal<S: PathSource>(reader: &mut Reader<'_, S>, start: usize) -> Result<u32, Stop>
-    ensures moves { Moves reader.old reader.new }
-    ensures near { IsNear result reader.new }
+    ensures moves { MovesTo result reader.old reader.new }
     ensures small { IfOk result (λ n. n < 16) }
-    ensures gives { (escape : List ℕ) → start ≡ length (encode_utf8_all escape) → Gives (λ n. n) result reader.new (hexadecimal_at escape (left reader.old)) }
+    ensures gives { Gives (λ n. n) result reader.new (hexadecimal_at start (left reader.old)) }
 {
     if !reader.sees_hexadecimal() {
         return Err(Stop::in_long_hand(ParseErrorKind::BadEscape, start));
@@ -37,10 +35,9 @@ fn hexadecimal<S: PathSource>(reader: &mut Reader<'_, S>, start: usize) -> Resul
 /// The value of four hexadecimal digits.
 #[tactic(auto, unfolding(crate::specs::Strings::hex4_at))]
 fn hex4<S: PathSource>(reader: &mut Reader<'_, S>, start: usize) -> Result<u32, Stop>
-    ensures moves { Moves reader.old reader.new }
-    ensures near { IsNear result reader.new }
+    ensures moves { MovesTo result reader.old reader.new }
     ensures small { IfOk result (λ n. n < 65536) }
-    ensures gives { (escape : List ℕ) → start ≡ length (encode_utf8_all escape) → Gives (λ n. n) result reader.new (hex4_at escape (left reader.old)) }
+    ensures gives { Gives (λ n. n) result reader.new (hex4_at start (left reader.old)) }
 {
     let a = hexadecimal(reader, start)?;
     let b = hexadecimal(reader, start)?;
@@ -53,9 +50,8 @@ fn hex4<S: PathSource>(reader: &mut Reader<'_, S>, start: usize) -> Result<u32, 
 #[tactic(auto, unfolding(crate::specs::Strings::low_at))]
 fn low<S: PathSource>(reader: &mut Reader<'_, S>, start: usize, high: u32) -> Result<char, Stop>
     requires { is_high high ≡ true }
-    ensures moves { Moves reader.old reader.new }
-    ensures near { IsNear result reader.new }
-    ensures gives { (escape : List ℕ) → start ≡ length (encode_utf8_all escape) → Gives (λ c. c) result reader.new (low_at escape high (left reader.old)) }
+    ensures moves { MovesTo result reader.old reader.new }
+    ensures gives { Gives (λ c. c) result reader.new (low_at start high (left reader.old)) }
 {
     if !reader.sees(b'\\') {
         return Err(Stop::in_long_hand(ParseErrorKind::BadEscape, start));
@@ -75,9 +71,8 @@ fn low<S: PathSource>(reader: &mut Reader<'_, S>, start: usize, high: u32) -> Re
 /// The character of an escape, behind its `u`.
 #[tactic(auto, unfolding(crate::specs::Strings::unicode_at))]
 fn unicode<S: PathSource>(reader: &mut Reader<'_, S>, start: usize) -> Result<char, Stop>
-    ensures moves { Moves reader.old reader.new }
-    ensures near { IsNear result reader.new }
-    ensures gives { (escape : List ℕ) → start ≡ length (encode_utf8_all escape) → Gives (λ c. c) result reader.new (unicode_at escape (left reader.old)) }
+    ensures moves { MovesTo result reader.old reader.new }
+    ensures gives { Gives (λ c. c) result reader.new (unicode_at start (left reader.old)) }
 {
     let code = hex4(reader, start)?;
     if code >= 0xd800 && code <= 0xdbff {
@@ -94,8 +89,7 @@ fn unicode<S: PathSource>(reader: &mut Reader<'_, S>, start: usize) -> Result<ch
 fn escape<S: PathSource>(reader: &mut Reader<'_, S>, quote: u8) -> Result<char, Stop>
     requires quote { quote < 128 }
     requires slash { begins (λ c. c == 92) (left reader.old) ≡ true }
-    ensures moves { Moves reader.old reader.new }
-    ensures near { IsNear result reader.new }
+    ensures moves { MovesTo result reader.old reader.new }
     ensures gives { Gives (λ c. c) result reader.new (escape_at quote (left reader.old)) }
 {
     let start = reader.bytes_left();
@@ -123,8 +117,7 @@ fn escape<S: PathSource>(reader: &mut Reader<'_, S>, quote: u8) -> Result<char, 
 fn piece<S: PathSource>(reader: &mut Reader<'_, S>, quote: u8) -> Result<char, Stop>
     requires quote { quote < 128 }
     requires inside { begins (is_inside quote) (left reader.old) ≡ true }
-    ensures moves { Moves reader.old reader.new }
-    ensures near { IsNear result reader.new }
+    ensures moves { MovesTo result reader.old reader.new }
     ensures gives { Gives (λ c. c) result reader.new (piece_at quote (left reader.old)) }
 {
     if reader.sees(b'\\') {
@@ -144,8 +137,7 @@ pub(crate) fn string<S: PathSource>(
     quote: u8,
 ) -> Result<String, Stop>
     requires { IsQuote quote }
-    ensures moves { Moves reader.old reader.new }
-    ensures near { IsNear result reader.new }
+    ensures moves { MovesTo result reader.old reader.new }
     ensures gives { Gives (λ text. string_bytes text) result reader.new (string_at quote (left reader.old)) }
 {
     let mut text = String::new(alloc);

@@ -13,7 +13,7 @@ use Rattle.serde_json_path_parser.specs.Giving.{Fails, MakesOperand, MakesArgume
 use Rattle.serde_json_path_parser.specs.Levels.{signatures, deeper, filter_at}
 use Rattle.serde_json_path_parser.specs.Lexical.{begins, begins_both}
 use Rattle.serde_json_path_parser.specs.Operands.{a_literal, a_query, a_call}
-use Rattle.serde_json_path_parser.specs.Parsed.{past_blanks}
+use Rattle.serde_json_path_parser.specs.Parsed.{byte_count, past_blanks}
 use Rattle.serde_json_path_parser.specs.Reading.{left}
 use Rattle.serde_json_path_parser.proofs.ArgumentSteps as of_arguments
 use Rattle.serde_json_path_parser.proofs.CalledSteps as of_calls
@@ -30,7 +30,7 @@ use Rattle.serde_json_path_parser.proofs.LevelSteps.{selector_takes, segment_tak
 use Rattle.serde_json_path_parser.proofs.PartLists.{segment_pushed, first_selector, selector_pushed, selectors_kept}
 use Rattle.serde_json_path_parser.proofs.SegmentSteps.{selectors_begin, selectors_fail, next_selector_reads, next_selector_fails, bracket_reads, next_reads, next_fails}
 use Rattle.serde_json_path_parser.proofs.JoinedParts.{first_or, or_pushed, first_and, and_pushed}
-use Rattle.serde_json_path_parser.proofs.LogicalSteps.{behind_one, behind_two, some_text, read_more, row_shorter, row_goes_on, row_fails, row_done, ands, ors, too_deep, inside_is, no_operator_read, left_fails, operand_fails, right_fails, relation_read, call_is, paren_read, not_paren_read, no_current_read, no_root_read, negated_is_name, name_fails, no_call_read, value_refused, not_test_read}
+use Rattle.serde_json_path_parser.proofs.LogicalSteps.{behind_one, behind_two, read_more, row_shorter, row_goes_on, row_fails, row_done, ands, ors, too_deep, inside_is, no_operator_read, left_fails, operand_fails, right_fails, relation_read, call_is, paren_read, not_paren_read, no_current_read, no_root_read, negated_is_name, name_fails, no_call_read, value_refused, not_test_read}
 use Rattle.serde_json_path_parser.proofs.Many.{with_front}
 use Rattle.serde_json_path_parser.proofs.parser.level.Level.+level.Goals as goal
 use Rattle.serde_json_path_syntax.specs.Tree as tree
@@ -145,7 +145,7 @@ argument-returns-in_err-basic-clause-gives g t c =
     let o = c.in_ok-operand.ensures.gives in
     let open_yet = sym c.sees_end_of_argument.ensures ∙ c.if-sees_end_of_argument.false in
     let p = err_from_is_err_and c.from_residual-in_err-basic.result c.from_residual-in_err-basic.ensures.1 in
-    rw (p.1, p.2) (of_arguments.basic_fails (signatures g.F.Functions.set c.args.self.now) (deeper g.F.Functions.set c.args.self.now) (left c.args.reader.now) (sym c.sees.ensures ∙ c.if-sees.false) (sym c.sees-else-sees.ensures ∙ c.if-sees-2.false) o.0 (left c.operand.new.reader) o.2 open_yet c.in_err-basic.field-0.0 (c.in_err-basic.ensures.gives o.0 o.1 (left c.args.reader.now) c.bytes_left-start.ensures.value))
+    rw (p.1, p.2) (of_arguments.basic_fails (signatures g.F.Functions.set c.args.self.now) (deeper g.F.Functions.set c.args.self.now) (left c.args.reader.now) (sym c.sees.ensures ∙ c.if-sees.false) (sym c.sees-else-sees.ensures ∙ c.if-sees-2.false) o.0 (left c.operand.new.reader) o.2 open_yet c.in_err-basic.field-0.0 (rw c.bytes_left-start.ensures.value at (c.in_err-basic.ensures.gives o.0 o.1)))
 
 pub argument-returns-in_err-and-clause-keeps : goal.argument-returns-in_err-and-clause-keeps
 argument-returns-in_err-and-clause-keeps g t c = λ part piece h. c.and_from.ensures.keeps part piece (c.basic_from.ensures.keeps part piece (c.operand.ensures.keeps part piece (h)))
@@ -154,7 +154,7 @@ pub argument-returns-in_err-and-clause-gives : goal.argument-returns-in_err-and-
 argument-returns-in_err-and-clause-gives g t c =
     let o = c.in_ok-operand.ensures.gives in
     let open_yet = sym c.sees_end_of_argument.ensures ∙ c.if-sees_end_of_argument.false in
-    let b = c.in_ok-basic.ensures.gives o.0 o.1 (left c.args.reader.now) c.bytes_left-start.ensures.value in
+    let b = rw c.bytes_left-start.ensures.value at (c.in_ok-basic.ensures.gives o.0 o.1) in
     let p = err_from_is_err_and c.from_residual-in_err-and.result c.from_residual-in_err-and.ensures.1 in
     rw (p.1, p.2) (of_arguments.and_fails (signatures g.F.Functions.set c.args.self.now) (deeper g.F.Functions.set c.args.self.now) (left c.args.reader.now) (sym c.sees.ensures ∙ c.if-sees.false) (sym c.sees-else-sees.ensures ∙ c.if-sees-2.false) o.0 (left c.operand.new.reader) o.2 open_yet b.0 (left c.basic_from.new.reader) b.2 c.in_err-and.field-0.0 (c.in_err-and.ensures.gives b.0 b.1))
 
@@ -165,7 +165,7 @@ pub argument-returns-in_err-expression-2-clause-gives : goal.argument-returns-in
 argument-returns-in_err-expression-2-clause-gives g t c =
     let o = c.in_ok-operand.ensures.gives in
     let open_yet = sym c.sees_end_of_argument.ensures ∙ c.if-sees_end_of_argument.false in
-    let b = c.in_ok-basic.ensures.gives o.0 o.1 (left c.args.reader.now) c.bytes_left-start.ensures.value in
+    let b = rw c.bytes_left-start.ensures.value at (c.in_ok-basic.ensures.gives o.0 o.1) in
     let a = c.in_ok-and.ensures.gives b.0 b.1 in
     let p = err_from_is_err_and c.from_residual-in_err-expression-2.result c.from_residual-in_err-expression-2.ensures.1 in
     rw (p.1, p.2) (of_arguments.or_fails (signatures g.F.Functions.set c.args.self.now) (deeper g.F.Functions.set c.args.self.now) (left c.args.reader.now) (sym c.sees.ensures ∙ c.if-sees.false) (sym c.sees-else-sees.ensures ∙ c.if-sees-2.false) o.0 (left c.operand.new.reader) o.2 open_yet b.0 (left c.basic_from.new.reader) b.2 a.0 (left c.and_from.new.reader) a.2 c.in_err-expression-2.field-0.0 (c.in_err-expression-2.ensures.gives a.0 a.1))
@@ -177,33 +177,33 @@ pub argument-returns-clause-gives : goal.argument-returns-clause-gives
 argument-returns-clause-gives g t c =
     let o = c.in_ok-operand.ensures.gives in
     let open_yet = sym c.sees_end_of_argument.ensures ∙ c.if-sees_end_of_argument.false in
-    let b = c.in_ok-basic.ensures.gives o.0 o.1 (left c.args.reader.now) c.bytes_left-start.ensures.value in
+    let b = rw c.bytes_left-start.ensures.value at (c.in_ok-basic.ensures.gives o.0 o.1) in
     let a = c.in_ok-and.ensures.gives b.0 b.1 in
     let e = c.in_ok-expression-2.ensures.gives a.0 a.1 in
     (logical_argument e.0, e.1, of_arguments.joined_argument (signatures g.F.Functions.set c.args.self.now) (deeper g.F.Functions.set c.args.self.now) (left c.args.reader.now) (sym c.sees.ensures ∙ c.if-sees.false) (sym c.sees-else-sees.ensures ∙ c.if-sees-2.false) o.0 (left c.operand.new.reader) o.2 open_yet b.0 (left c.basic_from.new.reader) b.2 a.0 (left c.and_from.new.reader) a.2 e.0 (left c.or_from.new.reader) e.2)
 
 pub arguments-returns-in_err-argument-clause-gives : goal.arguments-returns-in_err-argument-clause-gives
-arguments-returns-in_err-argument-clause-gives g t c = λ place e fuel enough.
+arguments-returns-in_err-argument-clause-gives g t c = λ fuel enough.
     let p = err_from_is_err_and c.from_residual.result c.from_residual.ensures.1 in
-    rw (p.1, p.2) (of_arguments.argument_fails (signatures g.F.Functions.set c.args.self.now) (deeper g.F.Functions.set c.args.self.now) place (map kind_view c.args.kinds.now) fuel (left c.args.reader.now) enough c.in_err-argument.field-0.0 c.in_err-argument.ensures.gives)
+    rw (p.1, p.2) (of_arguments.argument_fails (signatures g.F.Functions.set c.args.self.now) (deeper g.F.Functions.set c.args.self.now) c.args.start (map kind_view c.args.kinds.now) fuel (left c.args.reader.now) enough c.in_err-argument.field-0.0 c.in_err-argument.ensures.gives)
 
 pub arguments-returns-then-not-sees_end_of_argument-clause-gives : goal.arguments-returns-then-not-sees_end_of_argument-clause-gives
-arguments-returns-then-not-sees_end_of_argument-clause-gives g t c = λ place e fuel enough.
+arguments-returns-then-not-sees_end_of_argument-clause-gives g t c = λ fuel enough.
     let a = c.in_ok-argument.ensures.gives in
-    rw c.refuse.ensures.value (of_arguments.open_argument (signatures g.F.Functions.set c.args.self.now) (deeper g.F.Functions.set c.args.self.now) place (map kind_view c.args.kinds.now) fuel (left c.args.reader.now) enough a.0 (left c.argument.new.reader) a.2 (sym c.sees_end_of_argument.ensures ∙ c.if-not-sees_end_of_argument.true))
+    rw c.refuse.ensures.value (of_arguments.open_argument (signatures g.F.Functions.set c.args.self.now) (deeper g.F.Functions.set c.args.self.now) c.args.start (map kind_view c.args.kinds.now) fuel (left c.args.reader.now) enough a.0 (left c.argument.new.reader) a.2 (sym c.sees_end_of_argument.ensures ∙ c.if-not-sees_end_of_argument.true))
 
 pub arguments-returns-in_default-clause-gives : goal.arguments-returns-in_default-clause-gives
-arguments-returns-in_default-clause-gives g t c = λ place e fuel enough.
+arguments-returns-in_default-clause-gives g t c = λ fuel enough.
     let a = c.in_ok-argument.ensures.gives in
-    rw (c.in_long_hand.ensures, e) (of_arguments.too_many (signatures g.F.Functions.set c.args.self.now) (deeper g.F.Functions.set c.args.self.now) place (map kind_view c.args.kinds.now) fuel (left c.args.reader.now) enough a.0 (left c.argument.new.reader) a.2 (sym c.sees_end_of_argument.ensures ∙ c.if-not-sees_end_of_argument.false) (ap (map kind_view) (nil_from_length c.args.kinds.now c.in_default.ensures.cases)))
+    rw c.in_long_hand.ensures (of_arguments.too_many (signatures g.F.Functions.set c.args.self.now) (deeper g.F.Functions.set c.args.self.now) c.args.start (map kind_view c.args.kinds.now) fuel (left c.args.reader.now) enough a.0 (left c.argument.new.reader) a.2 (sym c.sees_end_of_argument.ensures ∙ c.if-not-sees_end_of_argument.false) (ap (map kind_view) (nil_from_length c.args.kinds.now c.in_default.ensures.cases)))
 
 pub arguments-returns-then-not-fits-clause-gives : goal.arguments-returns-then-not-fits-clause-gives
-arguments-returns-then-not-fits-clause-gives g t c = λ place e fuel enough.
+arguments-returns-then-not-fits-clause-gives g t c = λ fuel enough.
     let a = c.in_ok-argument.ensures.gives in
     let kind = kind_view c.in-Some.kind.now in
     let more = map kind_view c.in-Some.more.now in
     let first : map kind_view c.args.kinds.now ≡ kind ∷ more = ap (map kind_view) c.in-Some.ensures.cases.0 in
-    rw (c.in_long_hand-then-not-fits.ensures, c.bytes_left-begin.ensures.value) (of_arguments.wrong_type (signatures g.F.Functions.set c.args.self.now) (deeper g.F.Functions.set c.args.self.now) place (map kind_view c.args.kinds.now) fuel (left c.args.reader.now) enough a.0 (left c.argument.new.reader) a.2 (sym c.sees_end_of_argument.ensures ∙ c.if-not-sees_end_of_argument.false) kind more first (sym (c.fits.ensures (signatures g.F.Functions.set c.args.self.now) a.0 a.1) ∙ c.if-not-fits.true))
+    rw (c.in_long_hand-then-not-fits.ensures, c.bytes_left-begin.ensures.value) (of_arguments.wrong_type (signatures g.F.Functions.set c.args.self.now) (deeper g.F.Functions.set c.args.self.now) c.args.start (map kind_view c.args.kinds.now) fuel (left c.args.reader.now) enough a.0 (left c.argument.new.reader) a.2 (sym c.sees_end_of_argument.ensures ∙ c.if-not-sees_end_of_argument.false) kind more first (sym (c.fits.ensures (signatures g.F.Functions.set c.args.self.now) a.0 a.1) ∙ c.if-not-fits.true))
 
 pub arguments-returns-in_err-part-clause-keeps : goal.arguments-returns-in_err-part-clause-keeps
 arguments-returns-in_err-part-clause-keeps g t c = λ part piece h. c.part.ensures.keeps part piece (c.argument.ensures.keeps part piece (h))
@@ -215,7 +215,7 @@ pub arguments-returns-then-sees-clause-keeps : goal.arguments-returns-then-sees-
 arguments-returns-then-sees-clause-keeps g t c = λ part piece h. c.arguments.ensures.keeps part piece (c.part.ensures.keeps part piece (c.argument.ensures.keeps part piece (h)))
 
 pub arguments-returns-then-sees-clause-gives : goal.arguments-returns-then-sees-clause-gives
-arguments-returns-then-sees-clause-gives g t c = λ place e fuel enough.
+arguments-returns-then-sees-clause-gives g t c = λ fuel enough.
     let a = c.in_ok-argument.ensures.gives in
     let kind = kind_view c.in-Some.kind.now in
     let more = map kind_view c.in-Some.more.now in
@@ -223,26 +223,26 @@ arguments-returns-then-sees-clause-gives g t c = λ place e fuel enough.
     let fitting = sym (c.fits.ensures (signatures g.F.Functions.set c.args.self.now) a.0 a.1) ∙ c.if-not-fits.false in
     let comma = sym c.sees.ensures ∙ c.if-sees.true in
     let further : left c.skip_blanks.new.self ≡ past_blanks (drop 1 (left c.argument.new.reader)) = c.skip_blanks.ensures.left ∙ ap past_blanks (sym (ap (drop 1) c.take_char.ensures.value)) in
-    let less = of_arguments.fuel_behind (signatures g.F.Functions.set c.args.self.now) (deeper g.F.Functions.set c.args.self.now) place (map kind_view c.args.kinds.now) fuel (left c.args.reader.now) enough a.0 (left c.argument.new.reader) a.2 (sym c.sees_end_of_argument.ensures ∙ c.if-not-sees_end_of_argument.false) kind more first fitting in
-    let enough_there = of_arguments.enough_behind (signatures g.F.Functions.set c.args.self.now) (deeper g.F.Functions.set c.args.self.now) place (map kind_view c.args.kinds.now) fuel (left c.args.reader.now) enough a.0 (left c.argument.new.reader) a.2 (sym c.sees_end_of_argument.ensures ∙ c.if-not-sees_end_of_argument.false) kind more first fitting c.args.self.now.depth (level_laws (signatures g.F.Functions.set c.args.self.now) c.args.self.now.depth) comma in
-    let rests = subst (λ l. length l ≤ less → MakesArguments c.arguments.new.builder c.push.new.self.items c.arguments.new.parts.items c.arguments.result c.arguments.new.reader (arguments_at (signatures g.F.Functions.set c.args.self.now) (deeper g.F.Functions.set c.args.self.now) less place more l)) further (c.arguments.ensures.gives place e less) enough_there in
-    of_arguments.more_made c.arguments.new.builder c.args.parts.now.items c.arguments.result c.arguments.new.reader (arguments_at (signatures g.F.Functions.set c.args.self.now) (deeper g.F.Functions.set c.args.self.now) less place more (past_blanks (drop 1 (left c.argument.new.reader)))) (arguments_at (signatures g.F.Functions.set c.args.self.now) (deeper g.F.Functions.set c.args.self.now) fuel place (map kind_view c.args.kinds.now) (left c.args.reader.now)) c.push.new.self.items c.in_ok-part.part a.0 c.in_ok-push.ensures.items
+    let less = of_arguments.fuel_behind (signatures g.F.Functions.set c.args.self.now) (deeper g.F.Functions.set c.args.self.now) c.args.start (map kind_view c.args.kinds.now) fuel (left c.args.reader.now) enough a.0 (left c.argument.new.reader) a.2 (sym c.sees_end_of_argument.ensures ∙ c.if-not-sees_end_of_argument.false) kind more first fitting in
+    let enough_there = of_arguments.enough_behind (signatures g.F.Functions.set c.args.self.now) (deeper g.F.Functions.set c.args.self.now) c.args.start (map kind_view c.args.kinds.now) fuel (left c.args.reader.now) enough a.0 (left c.argument.new.reader) a.2 (sym c.sees_end_of_argument.ensures ∙ c.if-not-sees_end_of_argument.false) kind more first fitting c.args.self.now.depth (level_laws (signatures g.F.Functions.set c.args.self.now) c.args.self.now.depth) comma in
+    let rests = subst (λ l. length l ≤ less → MakesArguments c.arguments.new.builder c.push.new.self.items c.arguments.new.parts.items c.arguments.result c.arguments.new.reader (arguments_at (signatures g.F.Functions.set c.args.self.now) (deeper g.F.Functions.set c.args.self.now) less c.args.start more l)) further (c.arguments.ensures.gives less) enough_there in
+    of_arguments.more_made c.arguments.new.builder c.args.parts.now.items c.arguments.result c.arguments.new.reader (arguments_at (signatures g.F.Functions.set c.args.self.now) (deeper g.F.Functions.set c.args.self.now) less c.args.start more (past_blanks (drop 1 (left c.argument.new.reader)))) (arguments_at (signatures g.F.Functions.set c.args.self.now) (deeper g.F.Functions.set c.args.self.now) fuel c.args.start (map kind_view c.args.kinds.now) (left c.args.reader.now)) c.push.new.self.items c.in_ok-part.part a.0 c.in_ok-push.ensures.items
     (c.arguments.ensures.keeps c.in_ok-part.part (an_argument a.0) (c.in_ok-part.ensures.made (signatures g.F.Functions.set c.args.self.now) a.0 a.1))
-    (λ args behind h. of_arguments.more_read (signatures g.F.Functions.set c.args.self.now) (deeper g.F.Functions.set c.args.self.now) place (map kind_view c.args.kinds.now) fuel (left c.args.reader.now) enough a.0 (left c.argument.new.reader) a.2 (sym c.sees_end_of_argument.ensures ∙ c.if-not-sees_end_of_argument.false) kind more first fitting args behind comma h) (λ s h. of_arguments.more_fail (signatures g.F.Functions.set c.args.self.now) (deeper g.F.Functions.set c.args.self.now) place (map kind_view c.args.kinds.now) fuel (left c.args.reader.now) enough a.0 (left c.argument.new.reader) a.2 (sym c.sees_end_of_argument.ensures ∙ c.if-not-sees_end_of_argument.false) kind more first fitting s comma h) c.arguments.new.parts.items rests
+    (λ args behind h. of_arguments.more_read (signatures g.F.Functions.set c.args.self.now) (deeper g.F.Functions.set c.args.self.now) c.args.start (map kind_view c.args.kinds.now) fuel (left c.args.reader.now) enough a.0 (left c.argument.new.reader) a.2 (sym c.sees_end_of_argument.ensures ∙ c.if-not-sees_end_of_argument.false) kind more first fitting args behind comma h) (λ s h. of_arguments.more_fail (signatures g.F.Functions.set c.args.self.now) (deeper g.F.Functions.set c.args.self.now) c.args.start (map kind_view c.args.kinds.now) fuel (left c.args.reader.now) enough a.0 (left c.argument.new.reader) a.2 (sym c.sees_end_of_argument.ensures ∙ c.if-not-sees_end_of_argument.false) kind more first fitting s comma h) c.arguments.new.parts.items rests
 
 pub arguments-returns-clause-keeps : goal.arguments-returns-clause-keeps
 arguments-returns-clause-keeps g t c = λ part piece h. c.part.ensures.keeps part piece (c.argument.ensures.keeps part piece (h))
 
 pub arguments-returns-clause-gives : goal.arguments-returns-clause-gives
-arguments-returns-clause-gives g t c = λ place e fuel enough.
+arguments-returns-clause-gives g t c = λ fuel enough.
     let a = c.in_ok-argument.ensures.gives in
     let kind = kind_view c.in-Some.kind.now in
     let more = map kind_view c.in-Some.more.now in
     let first : map kind_view c.args.kinds.now ≡ kind ∷ more = ap (map kind_view) c.in-Some.ensures.cases.0 in
     let fitting = sym (c.fits.ensures (signatures g.F.Functions.set c.args.self.now) a.0 a.1) ∙ c.if-not-fits.false in
     let no_comma = sym c.sees.ensures ∙ c.if-sees.false in
-    of_arguments.last_made c.part.new.builder c.args.parts.now.items c.end.result c.end.new.reader (ended place more (drop 1 (left c.argument.new.reader))) (arguments_at (signatures g.F.Functions.set c.args.self.now) (deeper g.F.Functions.set c.args.self.now) fuel place (map kind_view c.args.kinds.now) (left c.args.reader.now)) c.push.new.self.items c.in_ok-part.part a.0 c.in_ok-push.ensures.items (c.in_ok-part.ensures.made (signatures g.F.Functions.set c.args.self.now) a.0 a.1)
-    (λ args behind h. of_arguments.last (signatures g.F.Functions.set c.args.self.now) (deeper g.F.Functions.set c.args.self.now) place (map kind_view c.args.kinds.now) fuel (left c.args.reader.now) enough a.0 (left c.argument.new.reader) a.2 (sym c.sees_end_of_argument.ensures ∙ c.if-not-sees_end_of_argument.false) kind more first fitting args behind no_comma h) (λ s h. of_arguments.last_fails (signatures g.F.Functions.set c.args.self.now) (deeper g.F.Functions.set c.args.self.now) place (map kind_view c.args.kinds.now) fuel (left c.args.reader.now) enough a.0 (left c.argument.new.reader) a.2 (sym c.sees_end_of_argument.ensures ∙ c.if-not-sees_end_of_argument.false) kind more first fitting s no_comma h) (c.end.ensures.gives place e)
+    of_arguments.last_made c.part.new.builder c.args.parts.now.items c.end.result c.end.new.reader (ended c.args.start more (drop 1 (left c.argument.new.reader))) (arguments_at (signatures g.F.Functions.set c.args.self.now) (deeper g.F.Functions.set c.args.self.now) fuel c.args.start (map kind_view c.args.kinds.now) (left c.args.reader.now)) c.push.new.self.items c.in_ok-part.part a.0 c.in_ok-push.ensures.items (c.in_ok-part.ensures.made (signatures g.F.Functions.set c.args.self.now) a.0 a.1)
+    (λ args behind h. of_arguments.last (signatures g.F.Functions.set c.args.self.now) (deeper g.F.Functions.set c.args.self.now) c.args.start (map kind_view c.args.kinds.now) fuel (left c.args.reader.now) enough a.0 (left c.argument.new.reader) a.2 (sym c.sees_end_of_argument.ensures ∙ c.if-not-sees_end_of_argument.false) kind more first fitting args behind no_comma h) (λ s h. of_arguments.last_fails (signatures g.F.Functions.set c.args.self.now) (deeper g.F.Functions.set c.args.self.now) c.args.start (map kind_view c.args.kinds.now) fuel (left c.args.reader.now) enough a.0 (left c.argument.new.reader) a.2 (sym c.sees_end_of_argument.ensures ∙ c.if-not-sees_end_of_argument.false) kind more first fitting s no_comma h) c.end.ensures.gives
 
 pub basic-returns-in_err-paren-clause-keeps : goal.basic-returns-in_err-paren-clause-keeps
 basic-returns-in_err-paren-clause-keeps g t c = λ part piece h. c.paren-then-sees.ensures.keeps part piece (c.paren.ensures.keeps part piece h)
@@ -262,40 +262,39 @@ pub basic-returns-clause-keeps : goal.basic-returns-clause-keeps
 basic-returns-clause-keeps g t c = λ part piece h. c.basic_from.ensures.keeps part piece (c.operand.ensures.keeps part piece h)
 
 pub basic_from-returns-in_default-clause-gives : goal.basic_from-returns-in_default-clause-gives
-basic_from-returns-in_default-clause-gives g t c = λ x is place e.
+basic_from-returns-in_default-clause-gives g t c = λ x is.
     subst (Makes a_basic c.test.new.builder c.test.result c.operator.new.reader)
-    (sym (no_operator_read _ _ place x _ _ c.in_default.ensures.value (c.in_default.ensures.stays refl)))
-    (c.test.ensures.gives x is place e)
+    (sym (no_operator_read _ _ c.args.start x _ _ c.in_default.ensures.value (c.in_default.ensures.stays refl)))
+    (c.test.ensures.gives x is)
 
 pub basic_from-returns-in_err-left-clause-gives : goal.basic_from-returns-in_err-left-clause-gives
-basic_from-returns-in_err-left-clause-gives g t c = λ x is place e.
+basic_from-returns-in_err-left-clause-gives g t c = λ x is.
     let p = err_from_is_err_and c.from_residual.result c.from_residual.ensures.1 in
-    rw (p.1, p.2) (left_fails _ _ place x _ _ _ _ c.in-Some.ensures.value c.skip_blanks.ensures.left c.in_err-left.field-0.0 (c.in_err-left.ensures.gives x is place e))
+    rw (p.1, p.2) (left_fails _ _ c.args.start x _ _ _ _ c.in-Some.ensures.value c.skip_blanks.ensures.left c.in_err-left.field-0.0 (c.in_err-left.ensures.gives x is))
 
 pub basic_from-returns-in_err-operand-clause-keeps : goal.basic_from-returns-in_err-operand-clause-keeps
 basic_from-returns-in_err-operand-clause-keeps g t c = λ part piece h. c.operand.ensures.keeps part piece (c.comparable.ensures.keeps part piece h)
 
 pub basic_from-returns-in_err-operand-clause-gives : goal.basic_from-returns-in_err-operand-clause-gives
-basic_from-returns-in_err-operand-clause-gives g t c = λ x is place e.
+basic_from-returns-in_err-operand-clause-gives g t c = λ x is.
     let p = err_from_is_err_and c.from_residual-in_err-operand.result c.from_residual-in_err-operand.ensures.1 in
-    let a = c.in_ok-left.ensures.gives x is place e in
-    rw (p.1, p.2) (operand_fails _ _ place x _ _ _ _ c.in-Some.ensures.value c.skip_blanks.ensures.left c.in_err-operand.field-0.0 a.0 _ a.2 c.in_err-operand.ensures.gives)
+    let a = c.in_ok-left.ensures.gives x is in
+    rw (p.1, p.2) (operand_fails _ _ c.args.start x _ _ _ _ c.in-Some.ensures.value c.skip_blanks.ensures.left c.in_err-operand.field-0.0 a.0 _ a.2 c.in_err-operand.ensures.gives)
 
 pub basic_from-returns-in_err-right-clause-keeps : goal.basic_from-returns-in_err-right-clause-keeps
 basic_from-returns-in_err-right-clause-keeps g t c = λ part piece h. c.comparable-2.ensures.keeps part piece (c.operand.ensures.keeps part piece (c.comparable.ensures.keeps part piece h))
 
 pub basic_from-returns-in_err-right-clause-gives : goal.basic_from-returns-in_err-right-clause-gives
-basic_from-returns-in_err-right-clause-gives g t c = λ x is place e.
+basic_from-returns-in_err-right-clause-gives g t c = λ x is.
     let p = err_from_is_err_and c.from_residual-in_err-right.result c.from_residual-in_err-right.ensures.1 in
-    let a = c.in_ok-left.ensures.gives x is place e in
+    let a = c.in_ok-left.ensures.gives x is in
     let o = c.in_ok-operand.ensures.gives in
-    let refused = c.in_err-right.ensures.gives o.0 o.1 (left c.skip_blanks.new.self) c.bytes_left-begin.ensures.value in
-    rw (p.1, p.2) (right_fails _ _ place x _ _ _ _ c.in-Some.ensures.value c.skip_blanks.ensures.left c.in_err-right.field-0.0 a.0 _ _ o.0 a.2 o.2 refused)
+    let refused = rw c.bytes_left-begin.ensures.value at (c.in_err-right.ensures.gives o.0 o.1) in
+    rw (p.1, p.2) (right_fails _ _ c.args.start x _ _ _ _ c.in-Some.ensures.value c.skip_blanks.ensures.left c.in_err-right.field-0.0 a.0 _ _ o.0 a.2 o.2 refused)
 
 pub basic_from-relation-requires-clause-left : goal.basic_from-relation-requires-clause-left
 basic_from-relation-requires-clause-left g t c =
-    let text = some_text c.args.start in
-    let a = c.in_ok-left.ensures.gives c.requires.0 c.requires.1 text.0 text.1 in
+    let a = c.in_ok-left.ensures.gives c.requires.0 c.requires.1 in
     (a.0, c.comparable-2.ensures.keeps c.in_ok-left.left (a_comparable a.0) (c.operand.ensures.keeps c.in_ok-left.left (a_comparable a.0) a.1))
 
 pub basic_from-returns-in_err-relation-clause-keeps : goal.basic_from-returns-in_err-relation-clause-keeps
@@ -305,14 +304,14 @@ pub basic_from-returns-clause-keeps : goal.basic_from-returns-clause-keeps
 basic_from-returns-clause-keeps g t c = λ part piece h. c.relation.ensures.keeps part piece (c.comparable-2.ensures.keeps part piece (c.operand.ensures.keeps part piece (c.comparable.ensures.keeps part piece h)))
 
 pub basic_from-returns-clause-gives : goal.basic_from-returns-clause-gives
-basic_from-returns-clause-gives g t c = λ x is place e.
-    let a = c.in_ok-left.ensures.gives x is place e in
+basic_from-returns-clause-gives g t c = λ x is.
+    let a = c.in_ok-left.ensures.gives x is in
     let o = c.in_ok-operand.ensures.gives in
-    let b = c.in_ok-right.ensures.gives o.0 o.1 (left c.skip_blanks.new.self) c.bytes_left-begin.ensures.value in
+    let b = rw c.bytes_left-begin.ensures.value at (c.in_ok-right.ensures.gives o.0 o.1) in
     let kept = c.comparable-2.ensures.keeps c.in_ok-left.left (a_comparable a.0) (c.operand.ensures.keeps c.in_ok-left.left (a_comparable a.0) a.1) in (
       tree.relation a.0 (operator_view c.in-Some.operator) b.0,
       c.in_ok-relation.ensures.made a.0 b.0 kept b.1,
-      relation_read _ _ place x _ _ _ _ c.in-Some.ensures.value c.skip_blanks.ensures.left a.0 b.0 _ _ _ o.0 a.2 o.2 b.2,
+      relation_read _ _ c.args.start x _ _ _ _ c.in-Some.ensures.value c.skip_blanks.ensures.left a.0 b.0 _ _ _ o.0 a.2 o.2 b.2,
     )
 
 pub bracket-returns-in_err-segment-clause-keeps : goal.bracket-returns-in_err-segment-clause-keeps
@@ -331,32 +330,31 @@ bracket-returns-clause-gives g t c =
     )
 
 pub call-returns-then-self-eq0-clause-gives : goal.call-returns-then-self-eq0-clause-gives
-call-returns-then-self-eq0-clause-gives g t c = λ place e.
-    rw (c.in_long_hand.ensures, e) (of_calls.level_none (signatures g.F.Functions.set c.args.self.now) c.args.self.now.depth place (string_bytes c.args.name) (drop 1 (left c.args.reader.now)) c.if-self-eq0.true)
+call-returns-then-self-eq0-clause-gives g t c =
+    rw c.in_long_hand.ensures (of_calls.level_none (signatures g.F.Functions.set c.args.self.now) c.args.self.now.depth c.args.start (string_bytes c.args.name) (drop 1 (left c.args.reader.now)) c.if-self-eq0.true)
 
 pub call-returns-in_default-clause-gives : goal.call-returns-in_default-clause-gives
-call-returns-in_default-clause-gives g t c = λ place e.
+call-returns-in_default-clause-gives g t c =
     let f = string_bytes c.args.name in
-    rw (c.in_long_hand-in_default.ensures, e) (of_calls.level_undefined (signatures g.F.Functions.set c.args.self.now) c.args.self.now.depth place f (drop 1 (left c.args.reader.now)) (omega (arith, c.if-self-eq0.false)) (ap (signatures g.F.Functions.set c.args.self.now) (sym c.as_str.ensures.value) ∙ sym c.signature.ensures ∙ ap (option_map signature_view) c.in_default.is))
+    rw c.in_long_hand-in_default.ensures (of_calls.level_undefined (signatures g.F.Functions.set c.args.self.now) c.args.self.now.depth c.args.start f (drop 1 (left c.args.reader.now)) (omega (arith, c.if-self-eq0.false)) (ap (signatures g.F.Functions.set c.args.self.now) (sym c.as_str.ensures.value) ∙ sym c.signature.ensures ∙ ap (option_map signature_view) c.in_default.is))
 
 pub call-returns-in_err-parameters-clause-gives : goal.call-returns-in_err-parameters-clause-gives
-call-returns-in_err-parameters-clause-gives g t c = λ place e.
+call-returns-in_err-parameters-clause-gives g t c =
     let there : drop 1 (left c.args.reader.now) ≡ left c.take_char.new.self = ap (drop 1) c.take_char.ensures.value in
     let s = signature_view c.in-Some.signature in
     let f = string_bytes c.args.name in
     let declared : signatures g.F.Functions.set c.args.self.now f ≡ Some s = ap (signatures g.F.Functions.set c.args.self.now) (sym c.as_str.ensures.value) ∙ sym c.signature.ensures ∙ ap (option_map signature_view) c.in-Some.is in
     let inner = level (signatures g.F.Functions.set c.args.self.now) c.deeper.result.depth in
-    let at_call = of_calls.level_call (signatures g.F.Functions.set c.args.self.now) c.args.self.now.depth c.deeper.result.depth place f (drop 1 (left c.args.reader.now)) (omega (arith, c.if-self-eq0.false)) c.deeper.ensures.depth in
-    let read = subst (λ ks. MakesArguments c.parameters.new.builder c.new-arguments.result.items c.parameters.new.parts.items (Err c.in_err-parameters.field-0.0) c.parameters.new.reader (parameters_at (signatures g.F.Functions.set c.args.self.now) inner place ks (past_blanks (drop 1 (left c.args.reader.now))))) c.params.ensures
-    (subst (λ l. MakesArguments c.parameters.new.builder c.new-arguments.result.items c.parameters.new.parts.items (Err c.in_err-parameters.field-0.0) c.parameters.new.reader (parameters_at (signatures g.F.Functions.set c.args.self.now) inner place (map kind_view c.params.result.now) l)) (c.skip_blanks.ensures.left ∙ ap past_blanks (sym there))
-    (subst (λ fs. MakesArguments c.parameters.new.builder c.new-arguments.result.items c.parameters.new.parts.items (Err c.in_err-parameters.field-0.0) c.parameters.new.reader (parameters_at (g.F.Functions.set fs).signature (level (g.F.Functions.set fs).signature c.deeper.result.depth) place (map kind_view c.params.result.now) (left c.skip_blanks.new.self))) c.deeper.ensures.functions (c.in_err-parameters.ensures.gives place e))) in
+    let at_call = of_calls.level_call (signatures g.F.Functions.set c.args.self.now) c.args.self.now.depth c.deeper.result.depth c.args.start f (drop 1 (left c.args.reader.now)) (omega (arith, c.if-self-eq0.false)) c.deeper.ensures.depth in
+    let read = subst (λ ks. MakesArguments c.parameters.new.builder c.new-arguments.result.items c.parameters.new.parts.items (Err c.in_err-parameters.field-0.0) c.parameters.new.reader (parameters_at (signatures g.F.Functions.set c.args.self.now) inner c.args.start ks (past_blanks (drop 1 (left c.args.reader.now))))) c.params.ensures
+    (subst (λ l. MakesArguments c.parameters.new.builder c.new-arguments.result.items c.parameters.new.parts.items (Err c.in_err-parameters.field-0.0) c.parameters.new.reader (parameters_at (signatures g.F.Functions.set c.args.self.now) inner c.args.start (map kind_view c.params.result.now) l)) (c.skip_blanks.ensures.left ∙ ap past_blanks (sym there))
+    (subst (λ fs. MakesArguments c.parameters.new.builder c.new-arguments.result.items c.parameters.new.parts.items (Err c.in_err-parameters.field-0.0) c.parameters.new.reader (parameters_at (g.F.Functions.set fs).signature (level (g.F.Functions.set fs).signature c.deeper.result.depth) c.args.start (map kind_view c.params.result.now) (left c.skip_blanks.new.self))) c.deeper.ensures.functions (c.in_err-parameters.ensures.gives))) in
     let p = err_from_is_err_and c.from_residual.result c.from_residual.ensures.1 in
-    rw (p.1, p.2) (same_fails c.in_err-parameters.field-0.0 _ _ at_call (of_calls.parameters_fail (signatures g.F.Functions.set c.args.self.now) inner place f (drop 1 (left c.args.reader.now)) s declared c.in_err-parameters.field-0.0 read))
+    rw (p.1, p.2) (same_fails c.in_err-parameters.field-0.0 _ _ at_call (of_calls.parameters_fail (signatures g.F.Functions.set c.args.self.now) inner c.args.start f (drop 1 (left c.args.reader.now)) s declared c.in_err-parameters.field-0.0 read))
 
 pub call-call-requires : goal.call-call-requires
 call-call-requires g t c =
-    let e = of_arguments.some_place c.args.start in
-    let read = c.in_ok-parameters.ensures.gives e.0 e.1 in
+    let read = c.in_ok-parameters.ensures.gives in
     (read.0, subst (λ ps. AreArgumentsOf c.parameters.new.builder ps read.0) (sym (read.2 ∙ ap (λ ps. ps ++ read.1) c.new-arguments.ensures.items)) read.3)
 
 pub call-returns-in_err-call-clause-keeps : goal.call-returns-in_err-call-clause-keeps
@@ -366,18 +364,18 @@ pub call-returns-clause-keeps : goal.call-returns-clause-keeps
 call-returns-clause-keeps g t c = λ part piece h. c.call.ensures.keeps part piece (c.parameters.ensures.keeps part piece (h))
 
 pub call-returns-clause-gives : goal.call-returns-clause-gives
-call-returns-clause-gives g t c = λ place e.
+call-returns-clause-gives g t c =
     let there : drop 1 (left c.args.reader.now) ≡ left c.take_char.new.self = ap (drop 1) c.take_char.ensures.value in
     let s = signature_view c.in-Some.signature in
     let f = string_bytes c.args.name in
     let declared : signatures g.F.Functions.set c.args.self.now f ≡ Some s = ap (signatures g.F.Functions.set c.args.self.now) (sym c.as_str.ensures.value) ∙ sym c.signature.ensures ∙ ap (option_map signature_view) c.in-Some.is in
     let inner = level (signatures g.F.Functions.set c.args.self.now) c.deeper.result.depth in
-    let at_call = of_calls.level_call (signatures g.F.Functions.set c.args.self.now) c.args.self.now.depth c.deeper.result.depth place f (drop 1 (left c.args.reader.now)) (omega (arith, c.if-self-eq0.false)) c.deeper.ensures.depth in
-    let read = subst (λ ks. MakesArguments c.parameters.new.builder c.new-arguments.result.items c.parameters.new.parts.items (Ok tt) c.parameters.new.reader (parameters_at (signatures g.F.Functions.set c.args.self.now) inner place ks (past_blanks (drop 1 (left c.args.reader.now))))) c.params.ensures
-    (subst (λ l. MakesArguments c.parameters.new.builder c.new-arguments.result.items c.parameters.new.parts.items (Ok tt) c.parameters.new.reader (parameters_at (signatures g.F.Functions.set c.args.self.now) inner place (map kind_view c.params.result.now) l)) (c.skip_blanks.ensures.left ∙ ap past_blanks (sym there))
-    (subst (λ fs. MakesArguments c.parameters.new.builder c.new-arguments.result.items c.parameters.new.parts.items (Ok tt) c.parameters.new.reader (parameters_at (g.F.Functions.set fs).signature (level (g.F.Functions.set fs).signature c.deeper.result.depth) place (map kind_view c.params.result.now) (left c.skip_blanks.new.self))) c.deeper.ensures.functions (c.in_ok-parameters.ensures.gives place e))) in
+    let at_call = of_calls.level_call (signatures g.F.Functions.set c.args.self.now) c.args.self.now.depth c.deeper.result.depth c.args.start f (drop 1 (left c.args.reader.now)) (omega (arith, c.if-self-eq0.false)) c.deeper.ensures.depth in
+    let read = subst (λ ks. MakesArguments c.parameters.new.builder c.new-arguments.result.items c.parameters.new.parts.items (Ok tt) c.parameters.new.reader (parameters_at (signatures g.F.Functions.set c.args.self.now) inner c.args.start ks (past_blanks (drop 1 (left c.args.reader.now))))) c.params.ensures
+    (subst (λ l. MakesArguments c.parameters.new.builder c.new-arguments.result.items c.parameters.new.parts.items (Ok tt) c.parameters.new.reader (parameters_at (signatures g.F.Functions.set c.args.self.now) inner c.args.start (map kind_view c.params.result.now) l)) (c.skip_blanks.ensures.left ∙ ap past_blanks (sym there))
+    (subst (λ fs. MakesArguments c.parameters.new.builder c.new-arguments.result.items c.parameters.new.parts.items (Ok tt) c.parameters.new.reader (parameters_at (g.F.Functions.set fs).signature (level (g.F.Functions.set fs).signature c.deeper.result.depth) c.args.start (map kind_view c.params.result.now) (left c.skip_blanks.new.self))) c.deeper.ensures.functions (c.in_ok-parameters.ensures.gives))) in
     let are = subst (λ ps. AreArgumentsOf c.parameters.new.builder ps read.0) (sym (read.2 ∙ ap (λ ps. ps ++ read.1) c.new-arguments.ensures.items)) read.3 in
-    (call f read.0, c.in_ok-call.ensures.made read.0 are, of_calls.result_is (signatures g.F.Functions.set c.args.self.now) inner place f (drop 1 (left c.args.reader.now)) s declared read.0 ∙ ap (λ k. Some k) (sym c.result.ensures), at_call ∙ of_calls.called (signatures g.F.Functions.set c.args.self.now) inner place f (drop 1 (left c.args.reader.now)) s declared read.0 (left c.parameters.new.reader) read.4)
+    (call f read.0, c.in_ok-call.ensures.made read.0 are, of_calls.result_is (signatures g.F.Functions.set c.args.self.now) inner c.args.start f (drop 1 (left c.args.reader.now)) s declared read.0 ∙ ap (λ k. Some k) (sym c.result.ensures), at_call ∙ of_calls.called (signatures g.F.Functions.set c.args.self.now) inner c.args.start f (drop 1 (left c.args.reader.now)) s declared read.0 (left c.parameters.new.reader) read.4)
 
 pub inside-returns-then-self-eq0-clause-gives : goal.inside-returns-then-self-eq0-clause-gives
 inside-returns-then-self-eq0-clause-gives g t c =
@@ -402,12 +400,12 @@ logical_or-returns-clause-keeps g t c = λ part piece h. c.or_from.ensures.keeps
 pub named-returns-in_err-call-clause-gives : goal.named-returns-in_err-call-clause-gives
 named-returns-in_err-call-clause-gives g t c =
     let p = err_from_is_err_and c.from_residual-in_err-call.result c.from_residual-in_err-call.ensures.1 in
-    rw (p.1, p.2) (of_calls.named_call_fails (signatures g.F.Functions.set c.args.self.now) (deeper g.F.Functions.set c.args.self.now) (left c.args.reader.now) c.requires c.in_err-call.field-0.0 (ap (begins (λ c. c == 40)) (sym c.in_ok-word.ensures.rest) ∙ sym c.sees.ensures ∙ c.if-sees.true) (subst (λ l. Fails c.in_err-call.field-0.0 ((deeper g.F.Functions.set c.args.self.now).call_of (left c.args.reader.now) (word (left c.args.reader.now)) (drop 1 l))) c.in_ok-word.ensures.rest (subst (λ f. Fails c.in_err-call.field-0.0 ((deeper g.F.Functions.set c.args.self.now).call_of (left c.args.reader.now) f (drop 1 (left c.read_word.new.reader)))) (c.in_ok-name.ensures (word (left c.args.reader.now)) c.in_ok-word.ensures.word) (c.in_err-call.ensures.gives (left c.args.reader.now) c.bytes_left-start.ensures.value))))
+    rw (p.1, p.2) (of_calls.named_call_fails (signatures g.F.Functions.set c.args.self.now) (deeper g.F.Functions.set c.args.self.now) (left c.args.reader.now) c.requires c.in_err-call.field-0.0 (ap (begins (λ c. c == 40)) (sym c.in_ok-word.ensures.rest) ∙ sym c.sees.ensures ∙ c.if-sees.true) (subst (λ l. Fails c.in_err-call.field-0.0 ((deeper g.F.Functions.set c.args.self.now).call_of (byte_count (left c.args.reader.now)) (word (left c.args.reader.now)) (drop 1 l))) c.in_ok-word.ensures.rest (subst (λ f. Fails c.in_err-call.field-0.0 ((deeper g.F.Functions.set c.args.self.now).call_of (byte_count (left c.args.reader.now)) f (drop 1 (left c.read_word.new.reader)))) (c.in_ok-name.ensures (word (left c.args.reader.now)) c.in_ok-word.ensures.word) (rw c.bytes_left-start.ensures.value at c.in_err-call.ensures.gives))))
 
 pub named-returns-then-sees-clause-gives : goal.named-returns-then-sees-clause-gives
 named-returns-then-sees-clause-gives g t c =
-    let k = c.in_ok-call.ensures.gives (left c.args.reader.now) c.bytes_left-start.ensures.value in
-    (a_call k.0, (k.1, k.2), of_calls.named_call (signatures g.F.Functions.set c.args.self.now) (deeper g.F.Functions.set c.args.self.now) (left c.args.reader.now) c.requires k.0 (left c.call.new.reader) (ap (begins (λ c. c == 40)) (sym c.in_ok-word.ensures.rest) ∙ sym c.sees.ensures ∙ c.if-sees.true) (subst (λ l. (deeper g.F.Functions.set c.args.self.now).call_of (left c.args.reader.now) (word (left c.args.reader.now)) (drop 1 l) ≡ Ok (k.0, left c.call.new.reader)) c.in_ok-word.ensures.rest (subst (λ f. (deeper g.F.Functions.set c.args.self.now).call_of (left c.args.reader.now) f (drop 1 (left c.read_word.new.reader)) ≡ Ok (k.0, left c.call.new.reader)) (c.in_ok-name.ensures (word (left c.args.reader.now)) c.in_ok-word.ensures.word) k.3)))
+    let k = rw c.bytes_left-start.ensures.value at c.in_ok-call.ensures.gives in
+    (a_call k.0, (k.1, k.2), of_calls.named_call (signatures g.F.Functions.set c.args.self.now) (deeper g.F.Functions.set c.args.self.now) (left c.args.reader.now) c.requires k.0 (left c.call.new.reader) (ap (begins (λ c. c == 40)) (sym c.in_ok-word.ensures.rest) ∙ sym c.sees.ensures ∙ c.if-sees.true) (subst (λ l. (deeper g.F.Functions.set c.args.self.now).call_of (byte_count (left c.args.reader.now)) (word (left c.args.reader.now)) (drop 1 l) ≡ Ok (k.0, left c.call.new.reader)) c.in_ok-word.ensures.rest (subst (λ f. (deeper g.F.Functions.set c.args.self.now).call_of (byte_count (left c.args.reader.now)) f (drop 1 (left c.read_word.new.reader)) ≡ Ok (k.0, left c.call.new.reader)) (c.in_ok-name.ensures (word (left c.args.reader.now)) c.in_ok-word.ensures.word) k.3)))
 
 pub named-returns-in-Some-clause-gives : goal.named-returns-in-Some-clause-gives
 named-returns-in-Some-clause-gives g t c =
@@ -475,8 +473,7 @@ pub negated_call-returns-in_default : goal.negated_call-returns-in_default
 negated_call-returns-in_default g t c =
     let o = c.in_ok-call.ensures.gives in
     record {
-      moves = c.named.ensures.moves;
-      near = rw c.in_long_hand.ensures (λ e. absurd cc);
+      moves = record { moves = c.named.ensures.moves.moves; near = rw c.in_long_hand.ensures (λ e. absurd cc) };
       keeps = c.named.ensures.keeps;
       gives = rw (c.in_long_hand.ensures, c.bytes_left-start.ensures.value) (no_call_read _ _ _ c.named.new.builder _ o.0 _ c.in_default.not-Call o.1 o.2);
     }
@@ -595,12 +592,12 @@ or_from-returns-clause-gives g t c = λ x is.
     )
 
 pub parameters-returns-then-sees-clause-gives : goal.parameters-returns-then-sees-clause-gives
-parameters-returns-then-sees-clause-gives g t c = λ place e.
-    of_arguments.none_made c.args.builder.now c.args.parts.now.items c.end.result c.end.new.reader (ended place (map kind_view c.args.kinds.now) (drop 1 (left c.args.reader.now))) (parameters_at (signatures g.F.Functions.set c.args.self.now) (deeper g.F.Functions.set c.args.self.now) place (map kind_view c.args.kinds.now) (left c.args.reader.now)) (of_calls.no_argument (signatures g.F.Functions.set c.args.self.now) (deeper g.F.Functions.set c.args.self.now) place (map kind_view c.args.kinds.now) (left c.args.reader.now) (sym c.sees.ensures ∙ c.if-sees.true)) (c.end.ensures.gives place e)
+parameters-returns-then-sees-clause-gives g t c =
+    of_arguments.none_made c.args.builder.now c.args.parts.now.items c.end.result c.end.new.reader (ended c.args.start (map kind_view c.args.kinds.now) (drop 1 (left c.args.reader.now))) (parameters_at (signatures g.F.Functions.set c.args.self.now) (deeper g.F.Functions.set c.args.self.now) c.args.start (map kind_view c.args.kinds.now) (left c.args.reader.now)) (of_calls.no_argument (signatures g.F.Functions.set c.args.self.now) (deeper g.F.Functions.set c.args.self.now) c.args.start (map kind_view c.args.kinds.now) (left c.args.reader.now) (sym c.sees.ensures ∙ c.if-sees.true)) c.end.ensures.gives
 
 pub parameters-returns-clause-gives : goal.parameters-returns-clause-gives
-parameters-returns-clause-gives g t c = λ place e.
-    subst (λ read. MakesArguments c.arguments.new.builder c.args.parts.now.items c.arguments.new.parts.items c.arguments.result c.arguments.new.reader read) (sym (of_calls.some_arguments (signatures g.F.Functions.set c.args.self.now) (deeper g.F.Functions.set c.args.self.now) place (map kind_view c.args.kinds.now) (left c.args.reader.now) (sym c.sees.ensures ∙ c.if-sees.false))) (c.arguments.ensures.gives place e (length (left c.args.reader.now)) (omega arith))
+parameters-returns-clause-gives g t c =
+    subst (λ read. MakesArguments c.arguments.new.builder c.args.parts.now.items c.arguments.new.parts.items c.arguments.result c.arguments.new.reader read) (sym (of_calls.some_arguments (signatures g.F.Functions.set c.args.self.now) (deeper g.F.Functions.set c.args.self.now) c.args.start (map kind_view c.args.kinds.now) (left c.args.reader.now) (sym c.sees.ensures ∙ c.if-sees.false))) (c.arguments.ensures.gives (length (left c.args.reader.now)) (omega arith))
 
 pub query-returns-in_err-parts-clause-gives : goal.query-returns-in_err-parts-clause-gives
 query-returns-in_err-parts-clause-gives g t c =
@@ -832,11 +829,9 @@ and_from-returns-clause-made g t c =
 
 pub basic_from-returns-in_default-clause-made : goal.basic_from-returns-in_default-clause-made
 basic_from-returns-in_default-clause-made g t c =
-    let place = of_arguments.some_place c.args.start in
-    of_arguments.was_made a_basic c.test.new.builder c.test.result c.operator.new.reader _ (c.test.ensures.gives c.requires.0 c.requires.1 place.0 place.1)
+    of_arguments.was_made a_basic c.test.new.builder c.test.result c.operator.new.reader _ (c.test.ensures.gives c.requires.0 c.requires.1)
 
 pub basic_from-returns-clause-made : goal.basic_from-returns-clause-made
 basic_from-returns-clause-made g t c =
-    let place = of_arguments.some_place c.args.start in
-    let made = basic_from-returns-clause-gives g t c c.requires.0 c.requires.1 place.0 place.1 in
+    let made = basic_from-returns-clause-gives g t c c.requires.0 c.requires.1 in
     (made.0, made.1)

@@ -1,5 +1,4 @@
 use Rattle.std.proofs.Common.{◌≡◌, ◌+◌, ◌*◌, ℕ, List, [], ◌∷◌, false, length}
-use Rattle.std.specs.Str.{encode_utf8_all}
 use Rattle.serde_json_path_syntax.specs.Flat.{parts_in}
 use Rattle.serde_json_path_syntax.specs.Tree.{SegmentKind, Segment, Selector, LogicalAnd, Basic}
 use Rattle.serde_json_path_syntax.specs.Parts.{IsPart, ArePartsOf, AreSelectorsOf, AreOrPartsOf, AreAndPartsOf, KeepsParts}
@@ -7,7 +6,7 @@ use Rattle.serde_json_path_syntax.specs.Piece.{an_and, a_basic}
 use Rattle.serde_json_path_parser.specs.Lexical.{begins, begins_both}
 use Rattle.serde_json_path_parser.specs.Filters.{and_list, or_list, next_basic_at, next_and_at}
 use Rattle.serde_json_path_parser.specs.Levels.{signatures, deeper, filter_at}
-use Rattle.serde_json_path_parser.specs.Parsed.{past_blanks, many}
+use Rattle.serde_json_path_parser.specs.Parsed.{past_blanks, many, byte_count}
 use Rattle.serde_json_path_parser.specs.Parsing.{opens, opens_next, next_selector_at, selectors_at, selector_list, segments_at, segment_list}
 use Rattle.serde_json_path_parser.specs.Reading.{left, Moves}
 use Rattle.serde_json_path_parser.proofs.BracketTexts.{is_comma}
@@ -90,7 +89,7 @@ invariant-segments-segments g l = record {
   keeps : KeepsParts l.fn.builder l.builder;
   none : opens_next (left l.fn.reader) ≡ false → begins opens (left l.reader) ≡ false;
   so_far : (before : List (SegmentKind × Segment)) × (rest : List ℕ) × ArePartsOf l.builder (parts_in l.parts) (segment_list before)
-      × (l.rest ≡ length (encode_utf8_all rest)) × (left l.reader ≡ past_blanks rest)
+      × (l.rest ≡ byte_count rest) × (left l.reader ≡ past_blanks rest)
       × (with_front before (segments_at (filter_at g.F.Functions.set l.self) l.place rest) ≡ segments_at (filter_at g.F.Functions.set l.self) l.place (left l.fn.reader));
 }
 

@@ -13,13 +13,13 @@ overflow_sub-count g c =
     omega (arith, read)
 
 pub returns-then-count-gt-FRACTION_DIGITS-clause-gives : goal.returns-then-count-gt-FRACTION_DIGITS-clause-gives
-returns-then-count-gt-FRACTION_DIGITS-clause-gives g c = λ literal e.
+returns-then-count-gt-FRACTION_DIGITS-clause-gives g c =
     let cs = left c.args.reader.now in
     let read = counted cs (left c.decimal-value.new.reader) c.bytes_left-before.result c.bytes_left.result c.decimal-value.ensures.rest c.bytes_left-before.ensures.value c.bytes_left.ensures.value in
     let some : begins is_digit cs ≡ true = sym c.sees_digit.ensures ∙ c.if-not-sees_digit.false in
     let plain : begins is_exponent (behind is_digit cs) ≡ false = ap (begins is_exponent) (sym c.decimal-value.ensures.rest) ∙ sym c.sees_exponent.ensures ∙ c.if-sees_exponent.false in
     let many : 9 < length (front is_digit cs) = omega (arith, read, c.if-count-gt-FRACTION_DIGITS.true) in
-    rw (c.in_long_hand-then-count-gt-FRACTION_DIGITS.ensures, e) (too_long literal cs some plain many)
+    rw c.in_long_hand-then-count-gt-FRACTION_DIGITS.ensures (too_long c.args.start cs some plain many)
 
 pub overflow_mul-result : goal.overflow_mul-result
 overflow_mul-result g c =
@@ -30,11 +30,11 @@ overflow_mul-result g c =
     rw is (omega (arith, fraction_below (front is_digit cs) (front_each is_digit cs) few))
 
 pub returns-clause-gives : goal.returns-clause-gives
-returns-clause-gives g c = λ literal e.
+returns-clause-gives g c =
     let cs = left c.args.reader.now in
     let read = counted cs (left c.decimal-value.new.reader) c.bytes_left-before.result c.bytes_left.result c.decimal-value.ensures.rest c.bytes_left-before.ensures.value c.bytes_left.ensures.value in
     let some : begins is_digit cs ≡ true = sym c.sees_digit.ensures ∙ c.if-not-sees_digit.false in
     let plain : begins is_exponent (behind is_digit cs) ≡ false = ap (begins is_exponent) (sym c.decimal-value.ensures.rest) ∙ sym c.sees_exponent.ensures ∙ c.if-sees_exponent.false in
     let few : length (front is_digit cs) ≤ 9 = omega (arith, read, c.if-count-gt-FRACTION_DIGITS.false) in
     let is = fraction_is (front is_digit cs) c.decimal-value.result c.pow.result (c.bytes_left-before.result - c.bytes_left.result) (front_each is_digit cs) (omega (arith, read)) c.if-count-gt-FRACTION_DIGITS.false c.decimal-value.ensures.value c.pow.ensures in
-    rw (is, c.decimal-value.ensures.rest) (reads literal cs some plain few)
+    rw (is, c.decimal-value.ensures.rest) (reads c.args.start cs some plain few)
