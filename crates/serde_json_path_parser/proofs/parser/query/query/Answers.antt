@@ -27,7 +27,7 @@ returns-then-is_empty-clause-gives g c =
       segment_list gives.0,
       c.new.ensures.tree ∙ ap (λ ss. query root (segment_list ss)) (sym empty),
       whole,
-      subst (λ used. AreCalled used (query root (segment_list gives.0))) (sym c.new.ensures.used) (subst (λ ss. AreCalled [] (query root (segment_list ss))) (sym empty) (tt, λ f. (λ i. absurd i, λ calls. absurd (calls tt)))),
+      subst (λ used. AreCalled used (query root (segment_list gives.0))) (sym c.new.ensures.used) (subst (λ ss. AreCalled [] (query root (segment_list ss))) (sym empty) (tt, λ f. (λ i. absurd i, λ i. absurd i))),
       subst (Fits F) (sym c.new.ensures.used) tt,
     )
 
