@@ -5,6 +5,7 @@ ghost use Rattle.serde_json.specs.Data.{Data};
 ghost use Rattle.serde_json.specs.View.{view};
 ghost use Rattle.serde_json_path_nodes.specs.Views.{located, located_nodes};
 ghost use Rattle.serde_json_path_functions.specs.Patterns.{builtin_functions};
+ghost use Rattle.serde_json_path.specs.Paths.{path_view};
 ghost use Rattle.serde_json_path_parser.specs.Parse.{IsParseOf};
 ghost use Rattle.serde_json_path_parser.specs.declared.error.ParseError as path_error;
 ghost use Rattle.jsonpath.specs.Report.{ReadsAs, IsLineOf, AreLinesOf, IsReportOf};
@@ -98,7 +99,7 @@ fn lines(alloc: Global, nodes: &LocatedNodeList<'_>) -> Result<String, AllocErro
 pub fn report(alloc: Global, path: &str, document: &[u8]) -> Result<String, ReportError>
     ensures lines { IfOk result (λ text. IsReportOf path.now document.now (string_bytes text)) }
     ensures path_refused { (e : path_error.ParseError) → result ≡ Err (ReportError.Path e)
-        → IsParseOf builtin_functions.signature path.now (Err e) }
+        → IsParseOf path_view builtin_functions.signature path.now (Err e) }
     ensures not_json { result ≡ Err (ReportError.Document DocumentError.NotJson) → (d : Data)
         → ReadsAs document.now d → ⊥ }
 {

@@ -3,6 +3,7 @@
 ghost use Rattle.std.specs.Prelude.{◌≡◌, ◌≢◌, ◌↔◌, ◌⊎◌, ℕ, List, length, IfSome, OnOk};
 ghost use Rattle.std.specs.Io.KnownBytes.{Appends, IsAtEnd};
 ghost use Rattle.serde_json_path_functions.specs.Patterns.{builtin_functions};
+ghost use Rattle.serde_json_path.specs.Paths.{path_view};
 ghost use Rattle.serde_json_path_parser.specs.Parse.{IsParseOf};
 ghost use Rattle.serde_json_path_parser.specs.declared.error.ParseError.{ParseError};
 ghost use Rattle.jsonpath.specs.Report.{IsReportOf};
@@ -91,7 +92,7 @@ pub fn run<R: Read, W: Write, E: Write>(
     ensures unread { length words.now ≢ 1 → input.new ≡ input.old }
     // A path is refused only as the parse refuses it.
     ensures path_refused { result ≡ 1
-        → (path : List ℕ) × IsOneWord words.now path × ((e : ParseError) × IsParseOf builtin_functions.signature path (Err e)) }
+        → (path : List ℕ) × IsOneWord words.now path × ((e : ParseError) × IsParseOf path_view builtin_functions.signature path (Err e)) }
     // Nothing goes out but the lines of a run that is done, or a part of them where writing failed.
     ensures nothing_out { result ≢ 0 → result ≢ 3 → out.new ≡ out.old }
     // When a run is done, over a reader and a writer that tell their bytes: the input was read to its end, its report went

@@ -1,10 +1,9 @@
 -- What contracts see of a path.
-use Rattle.std.specs.Prelude.{ℕ, List, Result, Ok, Err}
+use Rattle.std.specs.Prelude.{ℕ, List}
 use Rattle.serde_json_path_syntax.specs.Tree.{Query}
 use Rattle.serde_json_path_syntax.specs.Parts.{tree_of, signatures_of}
-use Rattle.serde_json_path_syntax.specs.declared.checked.Checked.{Checked}
 use Rattle.serde_json_path_functions.specs.Functions.{Signature}
-use Rattle.serde_json_path_parser.specs.declared.error.ParseError.{ParseError}
+use Rattle.serde_json_path_parser.specs.Parse.{Read}
 use Rattle.serde_json_path.specs.declared.path.JsonPath.{JsonPath}
 
 -- the syntax tree of a path
@@ -16,6 +15,7 @@ abbrev pub path_signatures : JsonPath → List (List ℕ × Signature)
 path_signatures path = signatures_of path.checked
 
 -- the answer of the parser that a path was made of
-abbrev pub parser_answer : Result JsonPath ParseError → Result Checked ParseError
-parser_answer (Ok path) = Ok path.checked
-parser_answer (Err e) = Err e
+
+-- a path as its tree and these signatures
+abbrev pub path_view : JsonPath → Read
+path_view path = record { tree = path_tree path; signatures = path_signatures path }

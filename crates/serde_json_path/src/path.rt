@@ -33,7 +33,7 @@ pub struct JsonPath {
 
 impl JsonPath {
     ghost use Rattle.serde_json_path_parser.specs.Parse.{IsParseOf};
-    ghost use Rattle.serde_json_path.specs.Paths.{path_tree, path_signatures, parser_answer};
+    ghost use Rattle.serde_json_path.specs.Paths.{path_tree, path_signatures, path_view};
 
     /// The path `$`, which selects the document itself. It takes no memory.
     pub fn new(alloc: Global) -> JsonPath
@@ -53,7 +53,7 @@ impl JsonPath {
     /// let path = JsonPath::parse(alloc, "$.store.book[?@.isbn].title")?;
     /// ```
     pub fn parse(alloc: Global, path_str: &str) -> Result<JsonPath, ParseError>
-        ensures parse { IsParseOf builtin_functions.signature path_str.now (parser_answer result) }
+        ensures parse { IsParseOf path_view builtin_functions.signature path_str.now result }
         ensures fits { IfOk result (λ path. Fits builtin_functions (path_signatures path)) }
     {
         let mut source = TextSource::new(path_str);
@@ -63,7 +63,7 @@ impl JsonPath {
 
     /// Parses a path, as `parse` does. It is no `std::str::FromStr`, since it takes an allocator.
     pub fn from_str(alloc: Global, path_str: &str) -> Result<JsonPath, ParseError>
-        ensures parse { IsParseOf builtin_functions.signature path_str.now (parser_answer result) }
+        ensures parse { IsParseOf path_view builtin_functions.signature path_str.now result }
         ensures fits { IfOk result (λ path. Fits builtin_functions (path_signatures path)) }
     {
         JsonPath::parse(alloc, path_str)
@@ -81,7 +81,7 @@ impl JsonPath {
         path_str: &str,
         functions: &F,
     ) -> Result<JsonPath, ParseError>
-        ensures parse { IsParseOf (before_builtin (F.set functions.now)).signature path_str.now (parser_answer result) }
+        ensures parse { IsParseOf path_view (before_builtin (F.set functions.now)).signature path_str.now result }
         ensures fits { IfOk result (λ path.
             Fits (before_builtin (F.set functions.now)) (path_signatures path)) }
     {

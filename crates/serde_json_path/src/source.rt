@@ -5,7 +5,7 @@ ghost use Rattle.serde_json_path_functions.specs.Functions.{Fits};
 ghost use Rattle.serde_json_path_functions.specs.Patterns.{before_builtin};
 ghost use Rattle.serde_json_path_parser.specs.Errors.{kind_of, position_of, is_told_at_next};
 ghost use Rattle.serde_json_path_parser.specs.Parse.{IsParseOf};
-ghost use Rattle.serde_json_path.specs.Paths.{path_signatures, parser_answer};
+ghost use Rattle.serde_json_path.specs.Paths.{path_signatures, path_view};
 
 use crate::path::JsonPath;
 use serde_json_path_core::functions::{Both, Builtin, Functions};
@@ -31,8 +31,8 @@ pub fn parse_source<S: PathSource, F: Functions>(
     source: &mut S,
     functions: &F,
 ) -> Result<JsonPath, ParseError>
-    ensures parse { IsParseOf (before_builtin (F.set functions.now)).signature
-        (S.told source.old).text (parser_answer result) }
+    ensures parse { IsParseOf path_view (before_builtin (F.set functions.now)).signature
+        (S.told source.old).text result }
     // The signatures that the path keeps are those of the set, before the built-in ones.
     ensures fits { IfOk result (λ path.
         Fits (before_builtin (F.set functions.now)) (path_signatures path)) }

@@ -22,7 +22,7 @@ use Rattle.serde_json_path_parser.specs.Parsing.{opens, opens_next, opens_behind
 use Rattle.serde_json_path_parser.specs.Operands.{IsUndeclared}
 use Rattle.serde_json_path_parser.specs.Filters.{path_at}
 use Rattle.serde_json_path_parser.specs.Giving.{Fails, IsRefused, IsWithin, error_of}
-use Rattle.serde_json_path_parser.specs.Parse.{is_dollar, NeedsNoMemory, IsParseOf}
+use Rattle.serde_json_path_parser.specs.Parse.{is_dollar, NeedsNoMemory, Answers, checked_view}
 use Rattle.serde_json_path_parser.proofs.Blanks.{past_all}
 use Rattle.serde_json_path_parser.proofs.PathTexts.{ArePathSegments, path_sound, path_again}
 use Rattle.serde_json_path_parser.proofs.Places.{NoRoot, TextBehind, SegmentRefused, path_refused, scalars_behind, boundary}
@@ -162,7 +162,7 @@ module _ (signature : List ℕ → Option Signature) (text : List ℕ) (u : IsUt
 
   -- ---- the three ends of a parse
 
-  pub too_long : length text ≡ 2 ^ 64 - 1 → IsParseOf signature text (Err (error_of stops.Memory 0))
+  pub too_long : length text ≡ 2 ^ 64 - 1 → Answers signature text (Err (error_of stops.Memory 0))
   too_long long = record {
     accepted = tt;
     kept = tt;
@@ -177,7 +177,7 @@ module _ (signature : List ℕ → Option Signature) (text : List ℕ) (u : IsUt
     too_long = λ e. refl;
   }
 
-  pub parsed : (short : length text < 2 ^ 64 - 1) (segs : Segments) (checked : Checked) → tree_of checked ≡ query root segs → AreCalled (signatures_of checked) (query root segs) → path_at signature (chars text) ≡ Ok segs → IsParseOf signature text (Ok checked)
+  pub parsed : (short : length text < 2 ^ 64 - 1) (segs : Segments) (checked : Checked) → tree_of checked ≡ query root segs → AreCalled (signatures_of checked) (query root segs) → path_at signature (chars text) ≡ Ok segs → Answers signature text (Ok (checked_view checked))
   parsed short segs checked tree kept e =
       let s = path_sound signature (chars text) segs e in
       record {
@@ -195,7 +195,7 @@ module _ (signature : List ℕ → Option Signature) (text : List ℕ) (u : IsUt
       }
 
   pub refused : (short : length text < 2 ^ 64 - 1) (s : Stop) (total : ℕ) → total ≡ length text → Fails s (path_at signature (chars text)) → (opens_behind_root (chars text) ≡ false → IsRefused s)
-      → IsParseOf signature text (Err (error_of s total))
+      → Answers signature text (Err (error_of s total))
   refused short stops.Memory total t h spares = record {
     accepted = tt;
     kept = tt;

@@ -17,7 +17,7 @@ ghost use Rattle.std.specs.Prelude.{◌≡◌, ◌+◌, ◌-◌, ◌*◌, ◌^�
 ghost use Rattle.serde_json_path_syntax.specs.Parts.{signatures_of};
 ghost use Rattle.serde_json_path_functions.specs.Functions.{Fits};
 ghost use Rattle.serde_json_path_parser.specs.Errors.{kind_of, position_of, is_told_at_next};
-ghost use Rattle.serde_json_path_parser.specs.Parse.{IsParseOf};
+ghost use Rattle.serde_json_path_parser.specs.Parse.{IsParseOf, checked_view};
 
 use crate::error::{ParseError, Stop};
 use crate::parser::query::query;
@@ -45,7 +45,7 @@ pub fn parse<S: PathSource, F: Functions>(
     source: &mut S,
     functions: &F,
 ) -> Result<Checked, ParseError>
-    ensures parse { IsParseOf (F.set functions.now).signature (S.told source.old).text result }
+    ensures parse { IsParseOf checked_view (F.set functions.now).signature (S.told source.old).text result }
     // The signatures that the query keeps are those of the set.
     ensures fits { IfOk result (λ checked. Fits (F.set functions.now) (signatures_of checked)) }
     // The source still tells its text.

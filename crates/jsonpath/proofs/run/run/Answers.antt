@@ -1,5 +1,6 @@
 use Rattle.std.proofs.Common.{Err, sym, ap, subst, ◌∙◌}
 use Rattle.serde_json_path_functions.specs.Patterns.{builtin_functions}
+use Rattle.serde_json_path.specs.Paths.{path_view}
 use Rattle.serde_json_path_parser.specs.Parse.{IsParseOf}
 use Rattle.jsonpath.specs.Report.{IsReportOf}
 use Rattle.jsonpath.proofs.Runs.{one_word, whole_read, refused_path}
@@ -22,6 +23,6 @@ pub returns-clause-path_refused : goal.returns-clause-path_refused
 returns-clause-path_refused g c = λ one. (
   c.as_str.result.now,
   one_word c.args.words.now c.path-item.result c.as_str.result.now c.in-len1.len_at_least c.in-len1.len_below c.path-item.is c.as_str.ensures.value,
-  refused_path c.in-Err.e (λ e. IsParseOf builtin_functions.signature c.as_str.result.now (Err e)) (sym c.refuse.ensures ∙ one)
+  refused_path c.in-Err.e (λ e. IsParseOf path_view builtin_functions.signature c.as_str.result.now (Err e)) (sym c.refuse.ensures ∙ one)
       (λ p is. c.report.ensures.path_refused p (c.in-Err.is ∙ ap Err is)),
 )

@@ -25,7 +25,7 @@ returns-in-Ok-clause-parse g c =
     let signature = (g.F.Functions.set c.args.functions.now).signature in
     let short : length text < 2 ^ 64 - 1 = omega arith in
     let read = c.in-Ok.ensures.gives in
-    parsed signature text c.len.ensures.utf8 short read.0 _ read.1 read.3 (ap (path_at signature) (sym c.new-reader.ensures.left) ∙ read.2)
+    parsed signature text c.len.ensures.utf8 short read.0 c.in-Ok.checked read.1 read.3 (ap (path_at signature) (sym c.new-reader.ensures.left) ∙ read.2)
 
 pub returns-in-Err-clause-parse : goal.returns-in-Err-clause-parse
 returns-in-Err-clause-parse g c =
