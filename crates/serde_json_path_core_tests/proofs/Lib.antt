@@ -1,3 +1,1 @@
-mod CalledTrees
-mod Finished
-mod Written
+mod Trees

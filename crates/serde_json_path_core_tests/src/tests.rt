@@ -1,15 +1,5 @@
-//! Queries that are built out of parts, their walks and results, and literals.
+//! What no path's text can say: trees out of parts, evaluation away from the root, and literals.
 
-mod building;
-mod called;
-mod calls;
-mod filters;
+mod built;
 mod literals;
 mod parts;
-mod patterns;
-mod queries;
-mod samples;
-mod signatures;
-mod singular;
-mod walks;
-mod written;

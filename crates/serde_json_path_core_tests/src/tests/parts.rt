@@ -1,22 +1,7 @@
 //! Parts in order.
 
-ghost use Rattle.std.specs.Prelude.{◌≡◌, IfOk};
-ghost use Rattle.serde_json_path_syntax.specs.Flat.{parts_in};
-
-use serde_json_path_core::{Part, Parts, SyntaxBuilder};
-use std::alloc::Global;
+use serde_json_path_core::{Parts, SyntaxBuilder};
 use std::test::Fail;
-
-/// These parts, in order.
-pub(crate) fn parts_of(alloc: Global, parts: &[Part]) -> Result<Parts, Fail>
-    ensures items { IfOk result (λ made. parts_in made ≡ parts.now) }
-{
-    let mut made = Parts::new(alloc);
-    for part in parts {
-        made.push(*part)?;
-    }
-    Ok(made)
-}
 
 #[test]
 fn are_empty_until_one_is_pushed(rt: HostRuntime) -> Result<(), Fail> {
@@ -24,10 +9,11 @@ fn are_empty_until_one_is_pushed(rt: HostRuntime) -> Result<(), Fail> {
     let part = SyntaxBuilder::new(alloc).wildcard()?;
     let mut parts = Parts::new(alloc);
     assert!(rt; parts.is_empty());
-    for _ in 0..3 {
+    for number in 1..4usize {
         parts.push(part)?;
-        assert!(rt; !parts.is_empty());
+        assert_eq!(rt; parts.as_slice().len(), number);
     }
+    assert!(rt; !parts.is_empty());
     Ok(())
 }
 
@@ -38,7 +24,10 @@ fn are_those_of_a_list(rt: HostRuntime) -> Result<(), Fail> {
     let mut parts = Parts::from(Vec::new(alloc));
     assert!(rt; parts.is_empty());
     parts.push(part)?;
-    assert!(rt; !parts.is_empty());
-    assert!(rt; !Parts::from(vec![in alloc; part, part]?).is_empty());
+    assert_eq!(rt; parts.as_slice().len(), 1);
+    assert_eq!(rt;
+        Parts::from(vec![in alloc; part, part]?).as_slice().len(),
+        2
+    );
     Ok(())
 }

@@ -46,6 +46,8 @@ fn hold_with_each(rt: &impl Abort, alloc: Global, rows: &[(&str, &str, &str)]) -
 fn compares_numbers_and_what_is_missing(rt: HostRuntime) -> Result<(), Fail> {
     let rows = &[
         ("[{}]", "== <= >= "),
+        ("[3]", "== <= >= "),
+        (r#"[{"a":null}]"#, "!= "),
         (r#"[{"b":null}]"#, "!= "),
         (r#"[{"a":1}]"#, "!= "),
         (r#"[{"a":1,"b":1}]"#, "== <= >= "),

@@ -1,7 +1,7 @@
 //! Filters (RFC 9535, section 2.3.5).
 
 use crate::tests::bookstore::BOOKSTORE;
-use crate::tests::rows::selects_each;
+use crate::tests::rows::{locates_each, selects_each};
 use std::test::Fail;
 
 /// The document of the examples of filters of RFC 9535, section 2.3.5.3.
@@ -71,6 +71,18 @@ pub(crate) const FILTERS: &[(&str, &str, &str, &str)] = &[
     ("$[0, ?@ > 1]", "[1,2]", " $[0] $[1]", " 1 2"),
     ("$[?$]", "[1,2]", " $[0] $[1]", " 1 2"),
     ("$[?@]", "1", "", ""),
+    (
+        "$[?@[?@ > 1]]",
+        "[[1],[2],[0,3]]",
+        " $[1] $[2]",
+        " [2] [0,3]",
+    ),
+    (
+        "$[?@[-1]]",
+        r#"[[1],[],"b",[null]]"#,
+        " $[0] $[3]",
+        " [1] [null]",
+    ),
     (
         "$.foo['bar'][1:10][?@.baz > 10 && @.foo.bar < 20]",
         r#"{"foo":{"bar":[0,[{"baz":11,"foo":{"bar":19}},{"baz":11},{"baz":10,"foo":{"bar":19}}]]}}"#,
@@ -210,6 +222,84 @@ pub(crate) const EXAMPLES: &[(&str, &str, &str, &str)] = &[
     ),
     ("$..[?@.price<10]", BOOKSTORE, "", ""),
 ];
+
+/// Items of each kind.
+const ITEMS: &str = r#"[{"a":null},{"b":1},[],{"a":{}},7,"a"]"#;
+
+/// A path, and the locations of what it selects from [`ITEMS`].
+const OF_ITEMS: &[(&str, &str)] = &[
+    ("$[?@.a]", " $[0] $[3]"),
+    ("$[?!@.a]", " $[1] $[2] $[4] $[5]"),
+    ("$[?@]", " $[0] $[1] $[2] $[3] $[4] $[5]"),
+    ("$[0][?@.a]", ""),
+    ("$[2][?@.a]", ""),
+    ("$[5][?@.a]", ""),
+];
+
+/// Three members.
+const MEMBERS: &str = r#"{"x":{"a":false},"y":{"b":0},"z":[{"a":1}]}"#;
+
+/// A path, and the locations of what it selects from [`MEMBERS`].
+const OF_MEMBERS: &[(&str, &str)] = &[
+    ("$[?@.a]", " $['x']"),
+    ("$[?!@.a]", " $['y'] $['z']"),
+    ("$[?@[0]]", " $['z']"),
+    ("$[?@[-1].a]", " $['z']"),
+    ("$[?$.x]", " $['x'] $['y'] $['z']"),
+    ("$[?$.a]", ""),
+];
+
+/// An item for each choice of the members `a`, `b` and `c`.
+const CHOICES: &str = concat!(
+    r#"[{},{"c":0},{"b":0},{"b":0,"c":0},{"a":0},{"a":0,"c":0},"#,
+    r#"{"a":0,"b":0},{"a":0,"b":0,"c":0}]"#
+);
+
+/// A path, and the locations of what it selects from [`CHOICES`].
+const OF_CHOICES: &[(&str, &str)] = &[
+    ("$[?@.a || @.b && @.c]", " $[3] $[4] $[5] $[6] $[7]"),
+    ("$[?@.a && @.b || @.c]", " $[1] $[3] $[5] $[6] $[7]"),
+    ("$[?(@.a || @.b)]", " $[2] $[3] $[4] $[5] $[6] $[7]"),
+    ("$[?!(@.a || @.b)]", " $[0] $[1]"),
+    (
+        "$[?!(@.a && @.b && @.c)]",
+        " $[0] $[1] $[2] $[3] $[4] $[5] $[6]",
+    ),
+    ("$[?!@.a && @.b]", " $[2] $[3]"),
+    (
+        "$[?@.a || @.b || @.c]",
+        " $[1] $[2] $[3] $[4] $[5] $[6] $[7]",
+    ),
+    ("$[?@.a && @.b && @.c]", " $[7]"),
+    ("$[?@.a == 0 && !@.b]", " $[4] $[5]"),
+    ("$[?(@.a || @.b) && @.c]", " $[3] $[5] $[7]"),
+    ("$[?@.a && (@.b || @.c)]", " $[5] $[6] $[7]"),
+    ("$[?@.a && !(@.b || @.c)]", " $[4]"),
+];
+
+/// Members below members and items.
+const NESTED: &str = r#"{"a":[{"x":1,"y":{"x":2}},{"x":2}],"b":{"x":[{"x":1}]}}"#;
+
+/// A path, and the locations of what it selects from [`NESTED`].
+const OF_NESTED: &[(&str, &str)] = &[
+    (
+        "$..[?@.x]",
+        " $['b'] $['a'][0] $['a'][1] $['a'][0]['y'] $['b']['x'][0]",
+    ),
+    ("$..[?@.x == 1]", " $['a'][0] $['b']['x'][0]"),
+    ("$..[?@ == 2]", " $['a'][0]['y']['x'] $['a'][1]['x']"),
+    ("$[?@[?@.x == 2]]", " $['a']"),
+    ("$[?@[?@[?@ == 2]]]", " $['a']"),
+];
+
+#[test]
+fn selects_by_tests_and_joined_tests(rt: HostRuntime) -> Result<(), Fail> {
+    let alloc = rt.alloc();
+    locates_each(&rt, alloc, ITEMS, OF_ITEMS)?;
+    locates_each(&rt, alloc, MEMBERS, OF_MEMBERS)?;
+    locates_each(&rt, alloc, CHOICES, OF_CHOICES)?;
+    locates_each(&rt, alloc, NESTED, OF_NESTED)
+}
 
 #[test]
 fn selects_by_filters(rt: HostRuntime) -> Result<(), Fail> {

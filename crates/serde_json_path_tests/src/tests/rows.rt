@@ -61,6 +61,21 @@ pub(crate) fn selects_each(
     Ok(())
 }
 
+/// Each row has a path, and the locations of what it selects from the document.
+pub(crate) fn locates_each(
+    rt: &impl Abort,
+    alloc: Global,
+    document: &str,
+    rows: &[(&str, &str)],
+) -> Result<(), Fail> {
+    let document = Value::from_str(alloc, document)?;
+    for &(text, wanted) in rows {
+        let nodes = JsonPath::parse(alloc, text)?.query_located(alloc, &document)?;
+        assert_eq!(rt; locations(alloc, &nodes)?.as_str(), wanted, "of {text:?}");
+    }
+    Ok(())
+}
+
 /// Holds a text to the kind and the position of its refusal.
 pub(crate) fn refuses(
     rt: &impl Abort,

@@ -4,7 +4,7 @@ use crate::tests::rows::selects_each;
 use std::test::Fail;
 
 /// Seven letters.
-const LETTERS: &str = r#"["a","b","c","d","e","f","g"]"#;
+pub(crate) const LETTERS: &str = r#"["a","b","c","d","e","f","g"]"#;
 
 /// Seven numbers, each at the index of its own.
 const NUMBERS: &str = "[0,1,2,3,4,5,6]";

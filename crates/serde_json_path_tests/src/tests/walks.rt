@@ -57,3 +57,28 @@ fn walks_give_one_node_after_the_other(rt: HostRuntime) -> Result<(), Fail> {
     let document = r#"{"foo":{"bar":{"baz":1},"baz":2},"baz":3}"#;
     walks(&rt, alloc, "$..baz", document, below)
 }
+
+/// An array of so many zeros.
+fn zeros(alloc: Global, number: usize) -> Result<Value, Fail> {
+    let mut items = Vec::new(alloc);
+    for _ in 0..number {
+        items.push(Value::from(0))?;
+    }
+    Ok(Value::Array(items))
+}
+
+#[test]
+fn walks_keep_few_places(rt: HostRuntime) -> Result<(), Fail> {
+    let alloc = rt.alloc();
+    let document = zeros(alloc, 1000)?;
+    let path = JsonPath::parse_with(alloc, "$..*", &Builtin)?;
+    let mut walk = path.walk(alloc, &document, &Builtin)?;
+    for number in 0..1000 {
+        let location = format!(in alloc; "$[{number}]")?;
+        gives_each(&rt, alloc, &mut walk, &[location.as_str()])?;
+        assert!(rt; walk.places() <= 2, "after {number}");
+    }
+    gives_each(&rt, alloc, &mut walk, &["", ""])?;
+    assert_eq!(rt; walk.places(), 0);
+    Ok(())
+}

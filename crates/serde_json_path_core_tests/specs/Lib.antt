@@ -1,2 +1,0 @@
-pub mod CallFree
-pub mod Samples

@@ -1,0 +1,139 @@
+//! Queries out of parts that are made one by one.
+
+ghost use Rattle.std.specs.Prelude.{◌≡◌, [], IfOk};
+ghost use Rattle.serde_json_path_syntax.specs.Parts.{signatures_of};
+
+use serde_json::Value;
+use serde_json_path_core::{
+    Checked, Parts, QueryKind, SegmentKind, Slice, SyntaxBuilder, evaluate, evaluate_located, walk,
+};
+use serde_json_path_functions::Builtin;
+use serde_json_path_nodes::LocatedNodeList;
+use std::alloc::Global;
+use std::process::Abort;
+use std::test::Fail;
+
+/// The query `$.a[0]`.
+fn first_of_member(alloc: Global) -> Result<Checked, Fail>
+    ensures { IfOk result (λ query. signatures_of query ≡ []) }
+{
+    let mut builder = SyntaxBuilder::new(alloc);
+    let member = builder.dot_name(SegmentKind::Child, String::from_str(alloc, "a")?)?;
+    let index = builder.index(0)?;
+    let selectors = Parts::from(vec![in alloc; index]?);
+    let bracket = builder.long_hand(SegmentKind::Child, selectors)?;
+    let segments = Parts::from(vec![in alloc; member, bracket]?);
+    let query = builder.query(QueryKind::Root, segments)?;
+    Ok(builder.finish(query, Vec::new(alloc)))
+}
+
+/// The query `$['a','b']`, for which the part of `'b'` is made first.
+fn made_from_the_end(alloc: Global) -> Result<Checked, Fail>
+    ensures { IfOk result (λ query. signatures_of query ≡ []) }
+{
+    let mut builder = SyntaxBuilder::new(alloc);
+    let second = builder.name(String::from_str(alloc, "b")?)?;
+    let first = builder.name(String::from_str(alloc, "a")?)?;
+    let selectors = Parts::from(vec![in alloc; first, second]?);
+    let bracket = builder.long_hand(SegmentKind::Child, selectors)?;
+    let segments = Parts::from(vec![in alloc; bracket]?);
+    let query = builder.query(QueryKind::Root, segments)?;
+    Ok(builder.finish(query, Vec::new(alloc)))
+}
+
+/// The query `$..*[*,1:]`.
+fn all_and_all_but_the_first(alloc: Global) -> Result<Checked, Fail>
+    ensures { IfOk result (λ query. signatures_of query ≡ []) }
+{
+    let mut builder = SyntaxBuilder::new(alloc);
+    let below = builder.dot_wildcard(SegmentKind::Descendant)?;
+    let all = builder.wildcard()?;
+    let rest = builder.slice(Slice {
+        start: Some(1),
+        end: None,
+        step: None,
+    })?;
+    let selectors = Parts::from(vec![in alloc; all, rest]?);
+    let bracket = builder.long_hand(SegmentKind::Child, selectors)?;
+    let segments = Parts::from(vec![in alloc; below, bracket]?);
+    let query = builder.query(QueryKind::Root, segments)?;
+    Ok(builder.finish(query, Vec::new(alloc)))
+}
+
+/// The nodes' locations and values, with a `;` after each.
+fn printed(alloc: Global, nodes: &LocatedNodeList) -> Result<String, Fail> {
+    let mut text = String::new(alloc);
+    for node in nodes.iter() {
+        write!(text, "{} {};", node.location(), node.node())?;
+    }
+    Ok(text)
+}
+
+/// Holds a query to what it selects in a document.
+fn selects(
+    rt: &impl Abort,
+    alloc: Global,
+    query: &Checked,
+    document: &str,
+    wanted: &str,
+) -> Result<(), Fail>
+    requires { signatures_of query.now ≡ [] }
+{
+    let root = Value::from_str(alloc, document)?;
+    let nodes = evaluate_located(alloc, query, &root, &root, Builtin)?;
+    assert_eq!(rt; printed(alloc, &nodes)?.as_str(), wanted);
+    Ok(())
+}
+
+#[test]
+fn selects_by_parts(rt: HostRuntime) -> Result<(), Fail> {
+    let alloc = rt.alloc();
+    let first = first_of_member(alloc)?;
+    selects(&rt, alloc, &first, r#"{"a":[1,2]}"#, "$['a'][0] 1;")?;
+    let both = made_from_the_end(alloc)?;
+    let in_order = "$['a'] 1;$['b'] 2;";
+    selects(&rt, alloc, &both, r#"{"b":2,"a":1}"#, in_order)?;
+    let all = all_and_all_but_the_first(alloc)?;
+    let twice = "$[0][0] 1;$[0][1] 2;$[0][1] 2;";
+    selects(&rt, alloc, &all, "[[1,2]]", twice)
+}
+
+/// Holds a query to the one node that it selects in `{"a":[1]}`, asked at the node `2`, which is no part of that.
+fn selects_elsewhere(
+    rt: &impl Abort,
+    alloc: Global,
+    query: &Checked,
+    wanted: &str,
+) -> Result<(), Fail>
+    requires { signatures_of query.now ≡ [] }
+{
+    let root = Value::from_str(alloc, r#"{"a":[1]}"#)?;
+    let node = Value::from_str(alloc, "2")?;
+    let nodes = evaluate_located(alloc, query, &node, &root, Builtin)?;
+    assert_eq!(rt; printed(alloc, &nodes)?.as_str(), wanted);
+    assert_eq!(rt; evaluate(alloc, query, &node, &root, Builtin)?.len(), 1);
+    let mut walk = walk(alloc, query, &node, &root, Builtin)?;
+    assert!(rt; walk.places() <= 1);
+    assert!(rt; walk.next()?.is_some());
+    assert!(rt; walk.next()?.is_none());
+    assert_eq!(rt; walk.places(), 0);
+    Ok(())
+}
+
+#[test]
+fn begins_at_the_root(rt: HostRuntime) -> Result<(), Fail> {
+    let alloc = rt.alloc();
+    let whole = Checked::new(alloc);
+    selects_elsewhere(&rt, alloc, &whole, r#"$ {"a":[1]};"#)?;
+    selects_elsewhere(&rt, alloc, &first_of_member(alloc)?, "$['a'][0] 1;")
+}
+
+#[test]
+fn a_query_without_calls_has_no_signatures(rt: HostRuntime) -> Result<(), Fail> {
+    let alloc = rt.alloc();
+    let mut builder = SyntaxBuilder::new(alloc);
+    let query = builder.query(QueryKind::Root, Parts::new(alloc))?;
+    assert!(rt; builder.is_singular(query));
+    assert!(rt; builder.signatures(alloc, query, &Builtin)?.is_empty());
+    Ok(())
+}
