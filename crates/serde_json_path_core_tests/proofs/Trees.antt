@@ -8,7 +8,8 @@ use Rattle.serde_json_path_syntax.specs.Piece.{a_segment, a_selector}
 use Rattle.serde_json_path_syntax.specs.Parts.{IsPart, ArePartsOf, AreSelectorsOf}
 use Rattle.serde_json_path_syntax.specs.Typing.{AreTypedSegments}
 use Rattle.serde_json_path_syntax.specs.Depth.{segments_depth}
-use Rattle.serde_json_path_syntax.specs.Calls.{EachInSegments, name_of}
+use Rattle.serde_json_path_syntax.specs.CalledNames.{called_in_segments}
+use Rattle.serde_json_path_syntax.specs.Lists.{IsIn}
 use Rattle.serde_json_path_syntax.specs.Used.{MayFinish, used_view, signature_in, deepest}
 use Rattle.serde_json_path_functions.specs.declared.signature.Signature as declared
 use Rattle.serde_json_path_syntax.specs.declared.node.Part.{Part}
@@ -42,10 +43,10 @@ two_segments builder xs first second kind a b e is_a is_b =
 -- a query that calls nothing may be finished without signatures
 pub finished_without_calls : (used : List (String Global × declared.Signature)) (segs : tree.Segments) → used ≡ []
     → ((signature : List ℕ → Option Signature) → AreTypedSegments signature segs)
-    → ((f : List ℕ) → EachInSegments (λ c. name_of c ≡ f → ⊥) segs)
+    → called_in_segments segs ≡ []
     → segments_depth segs ≤ deepest
     → MayFinish (used_view used) (tree.query tree.root segs)
 finished_without_calls used segs none typed silent shallow =
     let finished : MayFinish [] (tree.query tree.root segs) =
-    (refl, typed (signature_in []), shallow, (tt, λ f. (λ i. absurd i, λ calls. absurd (calls (silent f)))))
+    (refl, typed (signature_in []), shallow, (tt, λ f. (λ i. absurd i, λ i. absurd (subst (IsIn f) silent i))))
     in subst (λ (us : List (String Global × declared.Signature)). MayFinish (used_view us) (tree.query tree.root segs)) (sym none) finished

@@ -1,4 +1,4 @@
-//! What no path's text can say: trees out of parts, evaluation away from the root, and literals.
+//! What no path's text can say: trees out of parts, and literals.
 
 mod built;
 mod literals;

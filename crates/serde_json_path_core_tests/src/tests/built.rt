@@ -80,7 +80,7 @@ fn selects(
     requires { signatures_of query.now ≡ [] }
 {
     let root = Value::from_str(alloc, document)?;
-    let nodes = evaluate_located(alloc, query, &root, &root, Builtin)?;
+    let nodes = evaluate_located(alloc, query, &root, Builtin)?;
     assert_eq!(rt; printed(alloc, &nodes)?.as_str(), wanted);
     Ok(())
 }
@@ -98,21 +98,15 @@ fn selects_by_parts(rt: HostRuntime) -> Result<(), Fail> {
     selects(&rt, alloc, &all, "[[1,2]]", twice)
 }
 
-/// Holds a query to the one node that it selects in `{"a":[1]}`, asked at the node `2`, which is no part of that.
-fn selects_elsewhere(
-    rt: &impl Abort,
-    alloc: Global,
-    query: &Checked,
-    wanted: &str,
-) -> Result<(), Fail>
+/// Holds a query to the one node that it selects in `{"a":[1]}`, as a list, as values and in a walk.
+fn selects_one(rt: &impl Abort, alloc: Global, query: &Checked, wanted: &str) -> Result<(), Fail>
     requires { signatures_of query.now ≡ [] }
 {
     let root = Value::from_str(alloc, r#"{"a":[1]}"#)?;
-    let node = Value::from_str(alloc, "2")?;
-    let nodes = evaluate_located(alloc, query, &node, &root, Builtin)?;
+    let nodes = evaluate_located(alloc, query, &root, Builtin)?;
     assert_eq!(rt; printed(alloc, &nodes)?.as_str(), wanted);
-    assert_eq!(rt; evaluate(alloc, query, &node, &root, Builtin)?.len(), 1);
-    let mut walk = walk(alloc, query, &node, &root, Builtin)?;
+    assert_eq!(rt; evaluate(alloc, query, &root, Builtin)?.len(), 1);
+    let mut walk = walk(alloc, query, &root, Builtin)?;
     assert!(rt; walk.places() <= 1);
     assert!(rt; walk.next()?.is_some());
     assert!(rt; walk.next()?.is_none());
@@ -121,11 +115,11 @@ fn selects_elsewhere(
 }
 
 #[test]
-fn begins_at_the_root(rt: HostRuntime) -> Result<(), Fail> {
+fn gives_one_node_in_each_way(rt: HostRuntime) -> Result<(), Fail> {
     let alloc = rt.alloc();
     let whole = Checked::new(alloc);
-    selects_elsewhere(&rt, alloc, &whole, r#"$ {"a":[1]};"#)?;
-    selects_elsewhere(&rt, alloc, &first_of_member(alloc)?, "$['a'][0] 1;")
+    selects_one(&rt, alloc, &whole, r#"$ {"a":[1]};"#)?;
+    selects_one(&rt, alloc, &first_of_member(alloc)?, "$['a'][0] 1;")
 }
 
 #[test]

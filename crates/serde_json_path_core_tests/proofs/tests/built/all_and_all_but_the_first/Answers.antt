@@ -1,4 +1,4 @@
-use Rattle.std.proofs.Common.{◌∙◌, arith, pos, Some, None}
+use Rattle.std.proofs.Common.{refl, ◌∙◌, arith, pos, Some, None}
 use Rattle.serde_json_path_syntax.specs.Tree as tree
 use Rattle.serde_json_path_syntax.specs.Piece.{a_segment, a_selector}
 use Rattle.serde_json_path_core_tests.proofs.Trees.{two_selectors, two_segments, finished_without_calls}
@@ -37,5 +37,5 @@ finish-requires c =
     let below = c.long_hand.ensures.keeps c.in_ok-below.below piece (c.slice.ensures.keeps c.in_ok-below.below piece (c.wildcard.ensures.keeps c.in_ok-below.below piece c.in_ok-below.ensures.made)) in (
       tree.query tree.root segs,
       c.in_ok-query.ensures.made segs (two_segments c.long_hand.new.self _ c.in_ok-below.below c.in_ok-bracket.bracket tree.descendant tree.dot_wildcard (tree.long_hand both) (c.from-segments.ensures ∙ c.in_ok-vec-2.ensures.items) below (c.in_ok-bracket.ensures.made both selectors)),
-      finished_without_calls _ segs c.new.ensures.items (λ s. (tt, ((tt, (tt, tt)), tt))) (λ f. (tt, ((tt, (tt, tt)), tt))) (omega arith),
+      finished_without_calls _ segs c.new.ensures.items (λ s. (tt, ((tt, (tt, tt)), tt))) refl (omega arith),
     )

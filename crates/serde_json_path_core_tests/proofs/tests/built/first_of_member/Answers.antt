@@ -1,4 +1,4 @@
-use Rattle.std.proofs.Common.{◌∙◌, pos, arith, string_bytes}
+use Rattle.std.proofs.Common.{refl, ◌∙◌, pos, arith, string_bytes}
 use Rattle.serde_json_path_syntax.specs.Tree as tree
 use Rattle.serde_json_path_syntax.specs.Piece.{a_segment}
 use Rattle.serde_json_path_core_tests.proofs.Trees.{one_selector, two_segments, finished_without_calls}
@@ -29,5 +29,5 @@ finish-requires c =
     let segs = tree.segment tree.child member (tree.segment tree.child (tree.long_hand sels) tree.no_segments) in (
       tree.query tree.root segs,
       c.in_ok-query.ensures.made segs (two_segments c.long_hand.new.self _ c.in_ok-member.member c.in_ok-bracket.bracket tree.child member (tree.long_hand sels) (c.from-segments.ensures ∙ c.in_ok-vec-2.ensures.items) named bracket),
-      finished_without_calls _ segs c.new.ensures.items (λ s. (tt, ((tt, tt), tt))) (λ f. (tt, ((tt, tt), tt))) (omega arith),
+      finished_without_calls _ segs c.new.ensures.items (λ s. (tt, ((tt, tt), tt))) refl (omega arith),
     )

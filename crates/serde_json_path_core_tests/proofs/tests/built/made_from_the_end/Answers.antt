@@ -1,4 +1,4 @@
-use Rattle.std.proofs.Common.{◌∙◌, arith, string_bytes}
+use Rattle.std.proofs.Common.{refl, ◌∙◌, arith, string_bytes}
 use Rattle.serde_json_path_syntax.specs.Tree as tree
 use Rattle.serde_json_path_syntax.specs.Piece.{a_selector}
 use Rattle.serde_json_path_core_tests.proofs.Trees.{two_selectors, one_segment, finished_without_calls}
@@ -34,5 +34,5 @@ finish-requires c =
     let segs = tree.segment tree.child (tree.long_hand both) tree.no_segments in (
       tree.query tree.root segs,
       c.in_ok-query.ensures.made segs (one_segment c.long_hand.new.self _ c.in_ok-bracket.bracket tree.child (tree.long_hand both) (c.from-segments.ensures ∙ c.in_ok-vec-2.ensures.items) (c.in_ok-bracket.ensures.made both named)),
-      finished_without_calls _ segs c.new.ensures.items (λ s. ((tt, (tt, tt)), tt)) (λ f. ((tt, (tt, tt)), tt)) (omega arith),
+      finished_without_calls _ segs c.new.ensures.items (λ s. ((tt, (tt, tt)), tt)) refl (omega arith),
     )
