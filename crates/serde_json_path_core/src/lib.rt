@@ -1,4 +1,18 @@
 //! What syntax trees of JSONPath queries (RFC 9535) select from `serde_json` values.
+//!
+//! [`evaluate_located`] gives the nodes that a [`Checked`] query selects, with their locations, in order; [`evaluate`] gives
+//! them without locations; a [`Walk`] gives one node at a time. The lists are full runs of the walk.
+//!
+//! ```text
+//! let mut walk = walk(alloc, &query, &document, &document, Builtin)?;
+//! while let Some(node) = walk.next()? {
+//!     println!(rt; "{}", node.location())?;
+//! }
+//! ```
+//!
+//! Definitions are in `specs/`: `Slices` has the items that a slice takes, `Compared` what `==`, `!=` and `<` mean,
+//! `Derivation` the derivations of a query and their order, `Meaning` what a query selects, `Clear` where that is promised,
+//! `Laws` the laws of results.
 #![tactic(auto)]
 
 mod child;

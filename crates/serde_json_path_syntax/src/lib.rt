@@ -1,4 +1,17 @@
 //! Syntax trees of JSONPath queries (RFC 9535), kept as one vector of nodes.
+//!
+//! A [`SyntaxBuilder`] makes the parts of a tree from finished ones; a [`Part`] is the number of a node. A finished query is
+//! a [`Checked`]: it is well-typed, at most 128 deep, and keeps the signatures of the functions that it calls.
+//!
+//! ```text
+//! let mut builder = SyntaxBuilder::new(alloc);
+//! let mut segments = Parts::new(alloc);
+//! segments.push(builder.dot_name(SegmentKind::Child, name)?)?;
+//! let query = builder.query(QueryKind::Root, segments)?;
+//! ```
+//!
+//! Definitions are in `specs/`: `Tree` has the trees, `WellFormed` what the language asks of them, `Typing` which are
+//! well-typed, `Depth` how deep they nest, `Calls` what they call, `Text` how they print.
 #![tactic(auto)]
 
 mod builder;
