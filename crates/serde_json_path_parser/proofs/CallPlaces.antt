@@ -5,7 +5,7 @@ use Rattle.serde_json_path_syntax.specs.Tree.{LogicalOr, LogicalAnd, Basic, Argu
 use Rattle.serde_json_path_functions.specs.Functions.{Kind, Signature}
 use Rattle.serde_json_path_parser.specs.declared.error.Refusal.{Refusal}
 use Rattle.serde_json_path_parser.specs.declared.error.ParseErrorKind.TheVariants.{ExpectedExpression, ExpectedClosingParenthesis, UndefinedFunction, WrongNumberOfArguments, WrongArgumentType}
-use Rattle.serde_json_path_parser.specs.declared.error.Place.TheVariants as place
+use Rattle.serde_json_path_parser.specs.declared.error.Context.TheVariants as context
 use Rattle.serde_json_path_parser.specs.Lexical.{begins, IsFunctionName}
 use Rattle.serde_json_path_parser.specs.Parsed.{Parsed, ◌>>=◌, refusal, past_blanks, byte_count}
 use Rattle.serde_json_path_parser.specs.Operands.{Operand, fits}
@@ -21,7 +21,7 @@ use Rattle.serde_json_path_parser.proofs.Steps.{Read, Spaced, bind_ok, chosen, d
 ended_stands : (start : List ℕ) (kinds : List Kind) (cs : List ℕ) (r : Refusal) → ended (byte_count start) kinds cs ≡ Err r → Stands Plain start r
 unfolding ended
 ended_stands start [] cs r e = no_refusal start _ r e
-ended_stands start (kind ∷ kinds) cs r e = here WrongNumberOfArguments place.LongHand start (ended (byte_count start) (kind ∷ kinds) cs) r refl refl e
+ended_stands start (kind ∷ kinds) cs r e = here WrongNumberOfArguments context.LongHand start (ended (byte_count start) (kind ∷ kinds) cs) r refl refl e
 
 module _ (signature : List ℕ → Option Signature) (n : ℕ) (deeper : Deeper) (laws : DeeperLaws signature n deeper) where
   -- ---- an expression that begins with an operand
@@ -111,12 +111,12 @@ module _ (signature : List ℕ → Option Signature) (n : ℕ) (deeper : Deeper)
   -- a judgement is told at the argument, or where the call begins
   judged_stands : (before start cs : List ℕ) (kinds : List Kind) (a : Argument) (r : Refusal) → start ≡ before ++ cs → judged signature deeper (byte_count start) (byte_count cs) kinds a ≡ Err r → Stands Plain start r
   unfolding judged
-  judged_stands before start cs [] a r split e = here WrongNumberOfArguments place.LongHand start (judged signature deeper (byte_count start) (byte_count cs) [] a) r refl refl e
-  judged_stands before start cs (kind ∷ kinds) a r split e = further start before cs r split (guard_stands cs (fits signature a kind) (done kinds) WrongArgumentType place.LongHand r refl (no_refusal cs _ r) e)
+  judged_stands before start cs [] a r split e = here WrongNumberOfArguments context.LongHand start (judged signature deeper (byte_count start) (byte_count cs) [] a) r refl refl e
+  judged_stands before start cs (kind ∷ kinds) a r split e = further start before cs r split (guard_stands cs (fits signature a kind) (done kinds) WrongArgumentType context.LongHand r refl (no_refusal cs _ r) e)
 
   arguments_stand : (fuel : ℕ) (before start : List ℕ) (kinds : List Kind) (cs : List ℕ) (r : Refusal) → start ≡ before ++ cs → arguments_at signature deeper fuel (byte_count start) kinds cs ≡ Err r → Stands (Inner signature) start r
   unfolding arguments_at
-  arguments_stand zero before start kinds cs r split e = further start before cs r split (here ExpectedExpression place.LongHand cs (arguments_at signature deeper zero (byte_count start) kinds cs) r (inl refl) refl e)
+  arguments_stand zero before start kinds cs r split e = further start before cs r split (here ExpectedExpression context.LongHand cs (arguments_at signature deeper zero (byte_count start) kinds cs) r (inl refl) refl e)
   arguments_stand (suc fuel) before start kinds cs r split e = bind_stands start (argument_at signature deeper cs) _ r (λ d f. further start before cs d split (argument_stands cs d f)) (λ a f h.
       let reached = behind_argument cs a f in
       let whole : start ≡ (before ++ reached.0) ++ a.1 = split ∙ ap (λ (l : List ℕ). before ++ l) reached.1 ∙ sym (append_assoc before reached.0 a.1) in
@@ -136,11 +136,11 @@ module _ (signature : List ℕ → Option Signature) (n : ℕ) (deeper : Deeper)
     where
       -- behind an argument stands what ends it, or the refusal
       ends_or_refused : {A : Type 0} {read : Parsed A} (start before cs : List ℕ) (r : Refusal) → start ≡ before ++ cs
-          → cond (begins ends_argument cs) read (Err (refusal ExpectedClosingParenthesis place.LongHand cs)) ≡ Err r
+          → cond (begins ends_argument cs) read (Err (refusal ExpectedClosingParenthesis context.LongHand cs)) ≡ Err r
           → (read ≡ Err r → Stands (Inner signature) start r) → Stands (Inner signature) start r
-      ends_or_refused {read} start before cs r split e next = elim (chosen (begins ends_argument cs) read (Err (refusal ExpectedClosingParenthesis place.LongHand cs)) (Err r) e) [
+      ends_or_refused {read} start before cs r split e next = elim (chosen (begins ends_argument cs) read (Err (refusal ExpectedClosingParenthesis context.LongHand cs)) (Err r) e) [
         | inl a ↦ next a.1
-        | inr a ↦ further start before cs r split (here ExpectedClosingParenthesis place.LongHand cs _ r (inl refl) refl a.1)
+        | inr a ↦ further start before cs r split (here ExpectedClosingParenthesis context.LongHand cs _ r (inl refl) refl a.1)
       ]
 
   -- ---- calls
@@ -157,7 +157,7 @@ module _ (signature : List ℕ → Option Signature) (n : ℕ) (deeper : Deeper)
   pub call_stands : (start f cs : List ℕ) (sig : Option Signature) (r : Refusal) → IsFunctionName f f → start ≡ f ++ (40 ∷ cs) → signature f ≡ sig
       → call_at signature deeper (byte_count start) f sig cs ≡ Err r → Stands (Inner signature) start r
   unfolding call_at
-  call_stands start f cs None r named split undeclared e = here UndefinedFunction place.LongHand start (call_at signature deeper (byte_count start) f None cs) r (inr (refl, (f, cs, named, split, undeclared))) refl e
+  call_stands start f cs None r named split undeclared e = here UndefinedFunction context.LongHand start (call_at signature deeper (byte_count start) f None cs) r (inr (refl, (f, cs, named, split, undeclared))) refl e
   call_stands start f cs (Some s) r named split declared e =
       let before = f ++ (40 ∷ blanks_of cs) in
       let behind : start ≡ before ++ past_blanks cs = split ∙ ap (λ (l : List ℕ). f ++ (40 ∷ l)) (split_blanks cs) ∙ sym (append_assoc f (40 ∷ blanks_of cs) (past_blanks cs)) in

@@ -10,7 +10,7 @@ use Rattle.serde_json_path_syntax.specs.Typing.{result_kind, IsTestKind, TakesRe
 use Rattle.serde_json_path_syntax.specs.Depth.{argument_depth, arguments_depth, call_depth}
 use Rattle.serde_json_path_functions.specs.Functions.{Kind, of_value, of_nodes, of_logical, Signature}
 use Rattle.serde_json_path_parser.specs.declared.error.ParseErrorKind.TheVariants.{WrongReturnType}
-use Rattle.serde_json_path_parser.specs.declared.error.Place.TheVariants as place
+use Rattle.serde_json_path_parser.specs.declared.error.Context.TheVariants as context
 use Rattle.serde_json_path_parser.specs.Lexical.{begins, begins_both, IsBlank}
 use Rattle.serde_json_path_parser.specs.Grammar.{StandsAlone, ReadsArgument, ReadArguments, ReadMoreArguments}
 use Rattle.serde_json_path_parser.specs.Parsed.{◌>>=◌, refusal, past_blanks, many, byte_count}
@@ -132,7 +132,7 @@ module _ (signature : List ℕ → Option Signature) (n : ℕ) (deeper : Deeper)
       by_operand : (o : Operand) → test_at signature deeper (byte_count start) o cs ≡ Ok b → StandsAlone x.0
       by_operand (a_literal l) e = absurd cc
       by_operand (a_query q) e = is_read (exist q) tt (ok_is (exist q, cs) b e)
-      by_operand (a_call c) e = elim (chosen (is_result of_value (result_kind signature c)) (Err (refusal WrongReturnType place.LongHand start)) (done (test c, cs)) (Ok b) e) [
+      by_operand (a_call c) e = elim (chosen (is_result of_value (result_kind signature c)) (Err (refusal WrongReturnType context.LongHand start)) (done (test c, cs)) (Ok b) e) [
         | inl a ↦ absurd (let wrong = a.1 in cc)
         | inr a ↦ is_read (test c) tt (ok_is (test c, cs) b a.1)
       ]

@@ -9,7 +9,7 @@ use Rattle.serde_json_path_syntax.specs.Typing.{result_kind, IsTestKind, TakesRe
 use Rattle.serde_json_path_syntax.specs.Depth.{argument_depth, arguments_depth, call_depth}
 use Rattle.serde_json_path_functions.specs.Functions.{Kind, of_value, of_nodes, of_logical, Signature}
 use Rattle.serde_json_path_parser.specs.declared.error.ParseErrorKind.TheVariants.{ExpectedExpression, ExpectedClosingParenthesis, WrongArgumentType, WrongReturnType}
-use Rattle.serde_json_path_parser.specs.declared.error.Place.TheVariants as place
+use Rattle.serde_json_path_parser.specs.declared.error.Context.TheVariants as context
 use Rattle.serde_json_path_parser.specs.Lexical.{begins, begins_both, IsBlank}
 use Rattle.serde_json_path_parser.specs.Grammar.{StandsAlone, ReadsArgument, ReadMoreArguments}
 use Rattle.serde_json_path_parser.specs.Parsed.{Parsed, ◌>>=◌, refusal, past_blanks, many_at, many, byte_count}
@@ -110,7 +110,7 @@ module _ (signature : List ℕ → Option Signature) (n : ℕ) (deeper : Deeper)
           by_operand : (o : Operand) → test_at signature deeper (byte_count start) o cs ≡ Ok x → x.1 ≡ cs
           by_operand (a_literal l) e = absurd cc
           by_operand (a_query q) e = sym (ap (λ y. y.1) (ok_is (exist q, cs) x e))
-          by_operand (a_call c) e = elim (chosen (is_result of_value (result_kind signature c)) (Err (refusal WrongReturnType place.LongHand start)) (done (test c, cs)) (Ok x) e) [
+          by_operand (a_call c) e = elim (chosen (is_result of_value (result_kind signature c)) (Err (refusal WrongReturnType context.LongHand start)) (done (test c, cs)) (Ok x) e) [
             | inl a ↦ absurd (let wrong = a.1 in cc)
             | inr a ↦ sym (ap (λ y. y.1) (ok_is (test c, cs) x a.1))
           ]
@@ -163,11 +163,11 @@ module _ (signature : List ℕ → Option Signature) (n : ℕ) (deeper : Deeper)
           | inl b ↦ made_no_test (λ q. not_exist q) (query_at signature deeper current cs) x (λ q is. is) b.1
           | inr b ↦ elim (chosen (begins (λ c. c == 36) cs) root_query _ (Ok x) b.1) [
             | inl c ↦ made_no_test (λ q. not_exist q) (query_at signature deeper root cs) x (λ q is. is) c.1
-            | inr c ↦ elim (chosen (begins_call cs) (negated_call_at signature deeper cs) (Err (refusal ExpectedExpression place.LongHand cs)) (Ok x) c.1) [
+            | inr c ↦ elim (chosen (begins_call cs) (negated_call_at signature deeper cs) (Err (refusal ExpectedExpression context.LongHand cs)) (Ok x) c.1) [
               | inr d ↦ absurd (let wrong = d.1 in cc)
               | inl d ↦
-                  let call = bind_ok (named_call_at signature deeper cs) (λ c. cond (is_result of_value (result_kind signature c.0)) (Err (refusal WrongReturnType place.LongHand cs)) (Ok (not_test c.0, c.1))) x d.1 in
-                  elim (chosen (is_result of_value (result_kind signature call.0.0)) (Err (refusal WrongReturnType place.LongHand cs)) (done (not_test call.0.0, call.0.1)) (Ok x) call.2) [
+                  let call = bind_ok (named_call_at signature deeper cs) (λ c. cond (is_result of_value (result_kind signature c.0)) (Err (refusal WrongReturnType context.LongHand cs)) (Ok (not_test c.0, c.1))) x d.1 in
+                  elim (chosen (is_result of_value (result_kind signature call.0.0)) (Err (refusal WrongReturnType context.LongHand cs)) (done (not_test call.0.0, call.0.1)) (Ok x) call.2) [
                     | inl f ↦ absurd (let wrong = f.1 in cc)
                     | inr f ↦ subst (λ (y : Basic × List ℕ). IsTest y.0 → ⊥) (ok_is (not_test call.0.0, call.0.1) x f.1) (λ is. is)
                   ]
@@ -303,7 +303,7 @@ module _ (signature : List ℕ → Option Signature) (n : ℕ) (deeper : Deeper)
   unfolding judged
   judged_sound start cs [] left a h e = absurd cc
   judged_sound start cs (kind ∷ kinds) left a h e =
-      let g = guard (fits signature a kind) (refusal WrongArgumentType place.LongHand cs) (done kinds) left e in
+      let g = guard (fits signature a kind) (refusal WrongArgumentType context.LongHand cs) (done kinds) left e in
       (kind, ap (λ (ks : List Kind). kind ∷ ks) (ok_is kinds left g.1), fits_typed a kind h g.0)
 
   ended_sound : (start : List ℕ) (kinds : List Kind) (cs : List ℕ) (x : Arguments × List ℕ) → ended (byte_count start) kinds cs ≡ Ok x → (kinds ≡ []) × (x.0 ≡ no_arguments) × (x.1 ≡ past_blanks cs)
@@ -373,7 +373,7 @@ module _ (signature : List ℕ → Option Signature) (n : ℕ) (deeper : Deeper)
   arguments_sound zero start kinds cs x e = absurd cc
   arguments_sound (suc fuel) start kinds cs x e =
       let a = bind_ok (argument_at signature deeper cs) _ x e in
-      let g = guard (begins ends_argument a.0.1) (refusal ExpectedClosingParenthesis place.LongHand a.0.1) _ x a.2 in
+      let g = guard (begins ends_argument a.0.1) (refusal ExpectedClosingParenthesis context.LongHand a.0.1) _ x a.2 in
       let left = bind_ok (judged signature deeper (byte_count start) (byte_count cs) kinds a.0.0) _ x g.1 in
       let r = argument_sound cs a.0 g.0 a.1 in
       let j = judged_sound start cs kinds left.0 a.0.0 r.is_so.2.0 left.1 in

@@ -8,7 +8,7 @@ use Rattle.std.proofs.lemmas.Str.{encode_ascii}
 use Rattle.std.specs.Prelude.{nat_le, encode_utf8}
 use Rattle.std.specs.Str.{encode_utf8_all}
 use Rattle.serde_json_path_parser.specs.declared.error.ParseErrorKind.TheVariants.{FractionTooLong}
-use Rattle.serde_json_path_parser.specs.declared.error.Place.TheVariants as place
+use Rattle.serde_json_path_parser.specs.declared.error.Context.TheVariants as context
 use Rattle.serde_json_path_parser.specs.Lexical.{AllPass, begins, is_digit, value_from, fraction_of}
 use Rattle.serde_json_path_parser.specs.Parsed.{front, behind, refusal_at}
 use Rattle.serde_json_path_parser.specs.Numbers.{is_exponent, digits_behind_point_at}
@@ -78,7 +78,7 @@ fraction_is ds value power count each c few v p =
 -- ---- reading
 
 module _ (start : ℕ) (cs : List ℕ) (some : begins is_digit cs ≡ true) (plain : begins is_exponent (behind is_digit cs) ≡ false) where
-  pub too_long : 9 < length (front is_digit cs) → digits_behind_point_at start cs ≡ Err (refusal_at FractionTooLong place.LongHand start)
+  pub too_long : 9 < length (front is_digit cs) → digits_behind_point_at start cs ≡ Err (refusal_at FractionTooLong context.LongHand start)
   unfolding digits_behind_point_at
   too_long many = let judged : nat_le (length (front is_digit cs)) 9 ≡ false = grind (arith, many) in rw (some, plain, judged) refl
 

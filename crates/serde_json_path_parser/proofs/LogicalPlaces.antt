@@ -8,7 +8,7 @@ use Rattle.serde_json_path_syntax.specs.Typing.{result_kind}
 use Rattle.serde_json_path_functions.specs.Functions.{of_value, Signature}
 use Rattle.serde_json_path_parser.specs.declared.error.Refusal.{Refusal}
 use Rattle.serde_json_path_parser.specs.declared.error.ParseErrorKind.TheVariants.{ExpectedExpression, ExpectedClosingParenthesis, ExpectedComparisonOperator, NonSingularQuery, WrongReturnType}
-use Rattle.serde_json_path_parser.specs.declared.error.Place.TheVariants as place
+use Rattle.serde_json_path_parser.specs.declared.error.Context.TheVariants as context
 use Rattle.serde_json_path_parser.specs.Lexical.{begins, begins_both, is_small_letter, is_function_char, IsQuote}
 use Rattle.serde_json_path_parser.specs.Parsed.{Parsed, ◌>>=◌, refusal, past_blanks, many, byte_count}
 use Rattle.serde_json_path_parser.specs.Parsing.{segments_at}
@@ -38,7 +38,7 @@ literal_word_stands cs r e =
       | inl a ↦ no_refusal cs _ r a.1
       | inr a ↦ elim (chosen (bytes_eq (word cs) (codes "false")) (done (a_literal (truth false), rest)) _ (Err r) a.1) [
         | inl b ↦ no_refusal cs _ r b.1
-        | inr b ↦ guard_stands cs (bytes_eq (word cs) (codes "null")) (done (a_literal null, rest)) ExpectedExpression place.LongHand r refl (no_refusal cs _ r) b.1
+        | inr b ↦ guard_stands cs (bytes_eq (word cs) (codes "null")) (done (a_literal null, rest)) ExpectedExpression context.LongHand r refl (no_refusal cs _ r) b.1
       ]
     ]
 
@@ -50,24 +50,24 @@ module _ (signature : List ℕ → Option Signature) (n : ℕ) (deeper : Deeper)
   comparable_stands : (start : List ℕ) (o : Operand) (cs : List ℕ) (r : Refusal) → comparable_at signature deeper (byte_count start) o cs ≡ Err r → Stands (Inner signature) start r
   unfolding comparable_at
   comparable_stands start (a_literal l) cs r e = no_refusal start _ r e
-  comparable_stands start (a_query q) cs r e = guard_stands start (is_singular q) (done (singular q, cs)) NonSingularQuery place.LongHand r (inl refl) (no_refusal start _ r) e
-  comparable_stands start (a_call c) cs r e = guard_stands start (is_result of_value (result_kind signature c)) (done (called c, cs)) WrongReturnType place.LongHand r (inl refl) (no_refusal start _ r) e
+  comparable_stands start (a_query q) cs r e = guard_stands start (is_singular q) (done (singular q, cs)) NonSingularQuery context.LongHand r (inl refl) (no_refusal start _ r) e
+  comparable_stands start (a_call c) cs r e = guard_stands start (is_result of_value (result_kind signature c)) (done (called c, cs)) WrongReturnType context.LongHand r (inl refl) (no_refusal start _ r) e
 
   -- a comparable takes nothing more
   same_rest : (start : List ℕ) (o : Operand) (cs : List ℕ) (x : Comparable × List ℕ) → comparable_at signature deeper (byte_count start) o cs ≡ Ok x → cs ≡ x.1
   unfolding comparable_at
   same_rest start (a_literal l) cs x e = ap (λ y. y.1) (ok_is (literal l, cs) x e)
-  same_rest start (a_query q) cs x e = let g = guard (is_singular q) (refusal NonSingularQuery place.LongHand start) (done (singular q, cs)) x e in ap (λ y. y.1) (ok_is (singular q, cs) x g.1)
-  same_rest start (a_call c) cs x e = let g = guard (is_result of_value (result_kind signature c)) (refusal WrongReturnType place.LongHand start) (done (called c, cs)) x e in ap (λ y. y.1) (ok_is (called c, cs) x g.1)
+  same_rest start (a_query q) cs x e = let g = guard (is_singular q) (refusal NonSingularQuery context.LongHand start) (done (singular q, cs)) x e in ap (λ y. y.1) (ok_is (singular q, cs) x g.1)
+  same_rest start (a_call c) cs x e = let g = guard (is_result of_value (result_kind signature c)) (refusal WrongReturnType context.LongHand start) (done (called c, cs)) x e in ap (λ y. y.1) (ok_is (called c, cs) x g.1)
 
   test_stands : (before start : List ℕ) (o : Operand) (cs : List ℕ) (r : Refusal) → start ≡ before ++ cs → test_at signature deeper (byte_count start) o cs ≡ Err r → Stands (Inner signature) start r
   unfolding test_at
-  test_stands before start (a_literal l) cs r split e = further start before cs r split (here ExpectedComparisonOperator place.LongHand cs (test_at signature deeper (byte_count start) (a_literal l) cs) r (inl refl) refl e)
+  test_stands before start (a_literal l) cs r split e = further start before cs r split (here ExpectedComparisonOperator context.LongHand cs (test_at signature deeper (byte_count start) (a_literal l) cs) r (inl refl) refl e)
   test_stands before start (a_query q) cs r split e = no_refusal start _ r e
   test_stands before start (a_call c) cs r split e =
-      let wrong : Parsed Basic = Err (refusal WrongReturnType place.LongHand start) in
+      let wrong : Parsed Basic = Err (refusal WrongReturnType context.LongHand start) in
       elim (chosen (is_result of_value (result_kind signature c)) wrong (done (test c, cs)) (Err r) e) [
-        | inl a ↦ here WrongReturnType place.LongHand start wrong r (inl refl) refl a.1
+        | inl a ↦ here WrongReturnType context.LongHand start wrong r (inl refl) refl a.1
         | inr a ↦ no_refusal start _ r a.1
       ]
 
@@ -83,8 +83,8 @@ module _ (signature : List ℕ → Option Signature) (n : ℕ) (deeper : Deeper)
   query_stands kind cs r e =
       let filters = filter_laws signature n deeper laws in
       let refusals = filters_stand signature n deeper laws in
-      bind_stands cs (segments_at (filter_at signature deeper) place.LongHand (drop 1 cs)) _ r
-      (λ d f. drop_one cs d (segments_stand signature (filter_at signature deeper) (IsGoodInside signature n) filters refusals place.LongHand (drop 1 cs) d f)) (λ ss f h. no_refusal cs _ r h) e
+      bind_stands cs (segments_at (filter_at signature deeper) context.LongHand (drop 1 cs)) _ r
+      (λ d f. drop_one cs d (segments_stand signature (filter_at signature deeper) (IsGoodInside signature n) filters refusals context.LongHand (drop 1 cs) d f)) (λ ss f h. no_refusal cs _ r h) e
 
   pub operand_stands : (cs : List ℕ) (r : Refusal) → operand_at signature deeper cs ≡ Err r → Stands (Inner signature) cs r
   unfolding operand_at
@@ -142,15 +142,15 @@ module _ (signature : List ℕ → Option Signature) (n : ℕ) (deeper : Deeper)
       let read = laws.inside_sound cs (past_blanks (drop 1 cs)) x f in
       further cs (40 ∷ j) (past_blanks (drop 1 cs)) r split
       (further (past_blanks (drop 1 cs)) read.text x.1 r read.split
-      (guard_stands x.1 (begins (λ c. c == 41) x.1) (done (x.0, past_blanks (drop 1 x.1))) ExpectedClosingParenthesis place.LongHand r (inl refl) (no_refusal x.1 _ r) h))) e
+      (guard_stands x.1 (begins (λ c. c == 41) x.1) (done (x.0, past_blanks (drop 1 x.1))) ExpectedClosingParenthesis context.LongHand r (inl refl) (no_refusal x.1 _ r) h))) e
 
   negated_call_stands : (cs : List ℕ) (r : Refusal) → begins_call cs ≡ true → negated_call_at signature deeper cs ≡ Err r → Stands (Inner signature) cs r
   unfolding negated_call_at
   negated_call_stands cs r begun e =
-      let wrong : Parsed Basic = Err (refusal WrongReturnType place.LongHand cs) in
+      let wrong : Parsed Basic = Err (refusal WrongReturnType context.LongHand cs) in
       bind_stands cs (named_call_at signature deeper cs) _ r (λ d f. named_call_stands cs d begun f) (λ c f h.
       elim (chosen (is_result of_value (result_kind signature c.0)) wrong (done (not_test c.0, c.1)) (Err r) h) [
-        | inl a ↦ here WrongReturnType place.LongHand cs wrong r (inl refl) refl a.1
+        | inl a ↦ here WrongReturnType context.LongHand cs wrong r (inl refl) refl a.1
         | inr a ↦ no_refusal cs _ r a.1
       ]) e
 
@@ -166,16 +166,16 @@ module _ (signature : List ℕ → Option Signature) (n : ℕ) (deeper : Deeper)
           | inl b ↦ bind_stands cs (query_at signature deeper current cs) _ r (query_stands current cs) (λ q f h. no_refusal cs _ r h) b.1
           | inr b ↦ elim (chosen (begins (λ c. c == 36) cs) root_query _ (Err r) b.1) [
             | inl c ↦ bind_stands cs (query_at signature deeper root cs) _ r (query_stands root cs) (λ q f h. no_refusal cs _ r h) c.1
-            | inr c ↦ elim (chosen (begins_call cs) (negated_call_at signature deeper cs) (Err (refusal ExpectedExpression place.LongHand cs)) (Err r) c.1) [
+            | inr c ↦ elim (chosen (begins_call cs) (negated_call_at signature deeper cs) (Err (refusal ExpectedExpression context.LongHand cs)) (Err r) c.1) [
               | inl d ↦ negated_call_stands cs r d.0 d.1
-              | inr d ↦ here ExpectedExpression place.LongHand cs (negated_refused cs) r (inl refl) refl d.1
+              | inr d ↦ here ExpectedExpression context.LongHand cs (negated_refused cs) r (inl refl) refl d.1
             ]
           ]
         ]
       ]
     where
       negated_refused : List ℕ → Parsed Basic
-      negated_refused cs = Err (refusal ExpectedExpression place.LongHand cs)
+      negated_refused cs = Err (refusal ExpectedExpression context.LongHand cs)
 
   -- ---- logical expressions
 

@@ -9,7 +9,7 @@ use Rattle.serde_json_path_syntax.specs.Typing.{result_kind, IsTypedOr, IsTypedA
 use Rattle.serde_json_path_syntax.specs.Depth.{or_depth, and_depth, basic_depth, comparable_depth}
 use Rattle.serde_json_path_functions.specs.Functions.{Kind, of_value, of_nodes, of_logical, Signature}
 use Rattle.serde_json_path_parser.specs.declared.error.ParseErrorKind.TheVariants.{NonSingularQuery, WrongReturnType, ExpectedClosingParenthesis, ExpectedExpression}
-use Rattle.serde_json_path_parser.specs.declared.error.Place.TheVariants as place
+use Rattle.serde_json_path_parser.specs.declared.error.Context.TheVariants as context
 use Rattle.serde_json_path_parser.specs.Lexical.{begins, begins_both, IsBlank}
 use Rattle.serde_json_path_parser.specs.Grammar.{InParentheses, ReadsOr, ReadMoreOrs, ReadsAnd, ReadMoreAnds, ReadsBasic, ReadsComparable}
 use Rattle.serde_json_path_parser.specs.Parsed.{Parsed, ◌>>=◌, refusal, past_blanks, many, byte_count}
@@ -103,17 +103,17 @@ module _ (signature : List ℕ → Option Signature) (n : ℕ) (deeper : Deeper)
   unfolding comparable_at
   comparable_sound start (a_literal l) cs t x h e = subst (λ (y : Comparable × List ℕ). IsComparableText t y.0 × (cs ≡ y.1)) (ok_is (literal l, cs) x e) (((tt, omega arith), h.1), refl)
   comparable_sound start (a_query q) cs t x h e =
-      let g = guard (is_singular q) (refusal NonSingularQuery place.LongHand start) (done (singular q, cs)) x e in
+      let g = guard (is_singular q) (refusal NonSingularQuery context.LongHand start) (done (singular q, cs)) x e in
       subst (λ (y : Comparable × List ℕ). IsComparableText t y.0 × (cs ≡ y.1)) (ok_is (singular q, cs) x g.1) ((h.0, (singular_query q g.0, h.1)), refl)
   comparable_sound start (a_call c) cs t x h e =
-      let g = guard (is_result of_value (result_kind signature c)) (refusal WrongReturnType place.LongHand start) (done (called c, cs)) x e in
+      let g = guard (is_result of_value (result_kind signature c)) (refusal WrongReturnType context.LongHand start) (done (called c, cs)) x e in
       subst (λ (y : Comparable × List ℕ). IsComparableText t y.0 × (cs ≡ y.1)) (ok_is (called c, cs) x g.1) ((((h.0.0, value_result (result_kind signature c) g.0), h.0.1), h.1), refl)
 
   test_sound : (start : List ℕ) (o : Operand) (cs t : List ℕ) (x : Basic × List ℕ) → IsOperand t o → test_at signature deeper (byte_count start) o cs ≡ Ok x → IsBasicText t x.0 × (cs ≡ x.1)
   unfolding test_at
   test_sound start (a_literal l) cs t x h e = absurd cc
   test_sound start (a_query q) cs t x h e = subst (λ (y : Basic × List ℕ). IsBasicText t y.0 × (cs ≡ y.1)) (ok_is (exist q, cs) x e) (h, refl)
-  test_sound start (a_call c) cs t x h e = elim (chosen (is_result of_value (result_kind signature c)) (Err (refusal WrongReturnType place.LongHand start)) (done (test c, cs)) (Ok x) e) [
+  test_sound start (a_call c) cs t x h e = elim (chosen (is_result of_value (result_kind signature c)) (Err (refusal WrongReturnType context.LongHand start)) (done (test c, cs)) (Ok x) e) [
     | inl a ↦ absurd (let no = a.1 in cc)
     | inr a ↦ subst (λ (y : Basic × List ℕ). IsBasicText t y.0 × (cs ≡ y.1)) (ok_is (test c, cs) x a.1) ((((h.0.0, may_test c h.0 a.0), h.0.1), h.1), refl)
   ]
@@ -167,8 +167,8 @@ module _ (signature : List ℕ → Option Signature) (n : ℕ) (deeper : Deeper)
   unfolding paren_at
   paren_sound cs x opened e =
       let Is : List ℕ → LogicalOr → Type 0 = λ t e. IsGoodInside signature n e × InParentheses (ReadsOr e) t in
-      let inner = bind_ok (deeper.expression (byte_count cs) (past_blanks (drop 1 cs))) (λ e. cond (begins (λ c. c == 41) e.1) (Ok (e.0, past_blanks (drop 1 e.1))) (Err (refusal ExpectedClosingParenthesis place.LongHand e.1))) x e in
-      let g = guard (begins (λ c. c == 41) inner.0.1) (refusal ExpectedClosingParenthesis place.LongHand inner.0.1) (done (inner.0.0, past_blanks (drop 1 inner.0.1))) x inner.2 in
+      let inner = bind_ok (deeper.expression (byte_count cs) (past_blanks (drop 1 cs))) (λ e. cond (begins (λ c. c == 41) e.1) (Ok (e.0, past_blanks (drop 1 e.1))) (Err (refusal ExpectedClosingParenthesis context.LongHand e.1))) x e in
+      let g = guard (begins (λ c. c == 41) inner.0.1) (refusal ExpectedClosingParenthesis context.LongHand inner.0.1) (done (inner.0.0, past_blanks (drop 1 inner.0.1))) x inner.2 in
       let r = laws.inside_sound cs (past_blanks (drop 1 cs)) inner.0 inner.1 in
       let j = blanks_of (drop 1 cs) in
       let a = r.is_so.0 in
@@ -191,9 +191,9 @@ module _ (signature : List ℕ → Option Signature) (n : ℕ) (deeper : Deeper)
   negated_call_sound : (cs : List ℕ) (x : Basic × List ℕ) → begins_call cs ≡ true → negated_call_at signature deeper cs ≡ Ok x → Read (Spaced IsNegated) cs x
   unfolding negated_call_at
   negated_call_sound cs x begun e =
-      let c = bind_ok (named_call_at signature deeper cs) (λ c. cond (is_result of_value (result_kind signature c.0)) (Err (refusal WrongReturnType place.LongHand cs)) (Ok (not_test c.0, c.1))) x e in
+      let c = bind_ok (named_call_at signature deeper cs) (λ c. cond (is_result of_value (result_kind signature c.0)) (Err (refusal WrongReturnType context.LongHand cs)) (Ok (not_test c.0, c.1))) x e in
       let r = named_call_sound signature n deeper laws cs c.0 begun c.1 in
-      elim (chosen (is_result of_value (result_kind signature c.0.0)) (Err (refusal WrongReturnType place.LongHand cs)) (done (not_test c.0.0, c.0.1)) (Ok x) c.2) [
+      elim (chosen (is_result of_value (result_kind signature c.0.0)) (Err (refusal WrongReturnType context.LongHand cs)) (done (not_test c.0.0, c.0.1)) (Ok x) c.2) [
         | inl a ↦ absurd (let no = a.1 in cc)
         | inr a ↦ subst (Read (Spaced IsNegated) cs) (ok_is (not_test c.0.0, c.0.1) x a.1) (record {
           text = r.text;
@@ -214,7 +214,7 @@ module _ (signature : List ℕ → Option Signature) (n : ℕ) (deeper : Deeper)
           | inl b ↦ made_sound _ IsNegated (λ q. not_exist q) cs (query_at signature deeper current cs) x (λ t q is k blank. (is.0, (k, t, blank, is.1, refl))) (λ q. query_sound signature n deeper laws current 64 cs q refl b.0) b.1
           | inr b ↦ elim (chosen (begins (λ c. c == 36) cs) root_query _ (Ok x) b.1) [
             | inl c ↦ made_sound _ IsNegated (λ q. not_exist q) cs (query_at signature deeper root cs) x (λ t q is k blank. (is.0, (k, t, blank, is.1, refl))) (λ q. query_sound signature n deeper laws root 36 cs q refl c.0) c.1
-            | inr c ↦ elim (chosen (begins_call cs) (negated_call_at signature deeper cs) (Err (refusal ExpectedExpression place.LongHand cs)) (Ok x) c.1) [
+            | inr c ↦ elim (chosen (begins_call cs) (negated_call_at signature deeper cs) (Err (refusal ExpectedExpression context.LongHand cs)) (Ok x) c.1) [
               | inl d ↦ negated_call_sound cs x d.0 d.1
               | inr d ↦ absurd (let no = d.1 in cc)
             ]

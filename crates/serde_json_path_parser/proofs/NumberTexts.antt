@@ -4,7 +4,7 @@ use Rattle.std.specs.Prelude.{nat_le, ◌==◌, ◌||◌, ℤ, pos, ◌-ℤ◌}
 use Rattle.std.proofs.lemmas.Int.{ints}
 use Rattle.serde_json_path_syntax.specs.WellFormed.{IsLiteralAmount}
 use Rattle.serde_json_path_parser.specs.declared.error.ParseErrorKind.TheVariants.{ExpectedExpression, ExponentOrEmptyFraction, FractionTooLong, NumberOutOfRange}
-use Rattle.serde_json_path_parser.specs.declared.error.Place.TheVariants as place
+use Rattle.serde_json_path_parser.specs.declared.error.Context.TheVariants as context
 use Rattle.serde_json_path_parser.specs.declared.error.Refusal.{Refusal}
 use Rattle.serde_json_path_parser.specs.Lexical.{AllPass, begins, is_digit, value_from, fraction_of, IsDecimal, IsFraction, IsAmount, IsNumber}
 use Rattle.serde_json_path_parser.specs.Parsed.{Parsed, ◌>>=◌, refusal, front, behind, byte_count}
@@ -20,7 +20,7 @@ use Rattle.serde_json_path_parser.proofs.Stands.{Plain, Stands, here, bind_stand
 whole_sound : (start cs : List ℕ) (x : ℕ × List ℕ) → whole_at (byte_count start) cs ≡ Ok x → Read IsDecimal cs x
 unfolding whole_at
 whole_sound start cs x e =
-    let wrong = refusal ExpectedExpression place.LongHand start in
+    let wrong = refusal ExpectedExpression context.LongHand start in
     let digits : Parsed ℕ = Ok (value_from 0 (front is_digit cs), behind is_digit cs) in
     elim (chosen (begins (λ c. c == 48) cs) (done (0, drop 1 cs)) (cond (begins is_first_digit cs) digits (Err wrong)) (Ok x) e) [
       | inl a ↦ subst (Read IsDecimal cs) (ok_is (0, drop 1 cs) x a.1) (record { text = 48 ∷ []; is_so = zero_is; split = after_one 48 cs a.0 })
@@ -35,8 +35,8 @@ unfolding digits_behind_point_at
 digits_sound start cs ds x point e =
     let digits = front is_digit ds in
     let rest = behind is_digit ds in
-    let wrong = refusal ExponentOrEmptyFraction place.LongHand start in
-    let long = refusal FractionTooLong place.LongHand start in
+    let wrong = refusal ExponentOrEmptyFraction context.LongHand start in
+    let long = refusal FractionTooLong context.LongHand start in
     let judged : Parsed ℕ = cond (nat_le (length digits) 9) (Ok (fraction_of digits, rest)) (Err long) in
     let g = guard (begins is_digit ds) wrong (cond (begins is_exponent rest) (Err wrong) judged) x e in
     elim (chosen (begins is_exponent rest) (Err wrong) judged (Ok x) g.1) [
@@ -55,7 +55,7 @@ digits_sound start cs ds x point e =
 fraction_sound : (start cs : List ℕ) (x : ℕ × List ℕ) → fraction_at (byte_count start) cs ≡ Ok x → Read IsFraction cs x
 unfolding fraction_at
 fraction_sound start cs x e =
-    let wrong = refusal ExponentOrEmptyFraction place.LongHand start in
+    let wrong = refusal ExponentOrEmptyFraction context.LongHand start in
     elim (chosen (begins (λ c. c == 46) cs) (digits_behind_point_at (byte_count start) (drop 1 cs)) (cond (begins is_exponent cs) (Err wrong) (done (0, cs))) (Ok x) e) [
       | inl a ↦ digits_sound start cs (drop 1 cs) x (after_one 46 cs a.0) a.1
       | inr a ↦ elim (chosen (begins is_exponent cs) (Err wrong) (done (0, cs)) (Ok x) a.1) [
@@ -86,7 +86,7 @@ positive_in_range n most = (omega (arith, ints, most), omega (arith, ints, most)
 pub number_sound : (cs : List ℕ) (x : ℤ × List ℕ) → number_at cs ≡ Ok x → Read IsNumber cs x
 unfolding number_at
 number_sound cs x e =
-    let wrong = refusal NumberOutOfRange place.LongHand cs in
+    let wrong = refusal NumberOutOfRange context.LongHand cs in
     let below : ℕ × List ℕ → Parsed ℤ = λ n. cond (nat_le n.0 (2 ^ 63 * 1000000000)) (Ok (pos 0 -ℤ pos n.0, n.1)) (Err wrong) in
     let above : ℕ × List ℕ → Parsed ℤ = λ n. cond (nat_le n.0 ((2 ^ 64 - 1) * 1000000000)) (Ok (pos n.0, n.1)) (Err wrong) in
     elim (chosen (begins (λ c. c == 45) cs) (amount_at (byte_count cs) (drop 1 cs) >>= below) (amount_at (byte_count cs) cs >>= above) (Ok x) e) [
@@ -159,8 +159,8 @@ fraction_again start t n rest is e = elim is [
 ]
 
 -- no digit stands behind a whole number, with a fraction or without
-stops : (t : List ℕ) (n : ℕ) (rest : List ℕ) → IsFraction t n → begins is_digit rest ≡ false → begins is_digit (t ++ rest) ≡ false
-stops t n rest is e = elim is [
+failures : (t : List ℕ) (n : ℕ) (rest : List ℕ) → IsFraction t n → begins is_digit rest ≡ false → begins is_digit (t ++ rest) ≡ false
+failures t n rest is e = elim is [
   | inl none ↦ ap (λ (l : List ℕ). begins is_digit (l ++ rest)) none.0 ∙ e
   | inr some ↦ ap (λ (l : List ℕ). begins is_digit (l ++ rest)) some.1
 ]
@@ -169,7 +169,7 @@ amount_again : (start t : List ℕ) (n : ℕ) (rest : List ℕ) → IsAmount t n
 unfolding amount_at
 amount_again start t n rest is e =
     let regrouped : t ++ rest ≡ is.0 ++ (is.1 ++ rest) = ap (λ (l : List ℕ). l ++ rest) is.6 ∙ append_assoc is.0 is.1 rest in
-    let read = whole_again start is.0 is.2 (is.1 ++ rest) is.4 (stops is.1 is.3 rest is.5 (no_digit rest e)) in
+    let read = whole_again start is.0 is.2 (is.1 ++ rest) is.4 (failures is.1 is.3 rest is.5 (no_digit rest e)) in
     ap (amount_at (byte_count start)) regrouped ∙ rw (read, fraction_again start is.1 is.3 rest is.5 e) (ap (λ (k : ℕ). Ok (k, rest)) (sym is.7))
 
 amount_first : (p : ℕ → Bool) (b : Bool) (t : List ℕ) (n : ℕ) (rest : List ℕ) → ((c : ℕ) → is_digit c ≡ true → p c ≡ b) → IsAmount t n → begins p (t ++ rest) ≡ b
@@ -218,30 +218,30 @@ whole_stands : (start cs : List ℕ) (r : Refusal) → whole_at (byte_count star
 unfolding whole_at
 whole_stands start cs r e = elim (chosen (begins (λ c. c == 48) cs) (done (0, drop 1 cs)) _ (Err r) e) [
   | inl a ↦ no_refusal start _ r a.1
-  | inr a ↦ guard_stands start (begins is_first_digit cs) _ ExpectedExpression place.LongHand r refl (no_refusal start _ r) a.1
+  | inr a ↦ guard_stands start (begins is_first_digit cs) _ ExpectedExpression context.LongHand r refl (no_refusal start _ r) a.1
 ]
 
 digits_stand : (start cs : List ℕ) (r : Refusal) → digits_behind_point_at (byte_count start) cs ≡ Err r → Stands Plain start r
 unfolding digits_behind_point_at
 digits_stand start cs r e =
-    let refused : Parsed ℕ = Err (refusal ExponentOrEmptyFraction place.LongHand start) in
+    let refused : Parsed ℕ = Err (refusal ExponentOrEmptyFraction context.LongHand start) in
     let digits = front is_digit cs in
     let rest = behind is_digit cs in
-    let judged : Parsed ℕ = cond (nat_le (length digits) 9) (Ok (fraction_of digits, rest)) (Err (refusal FractionTooLong place.LongHand start)) in
-    guard_stands start (begins is_digit cs) (cond (begins is_exponent rest) refused judged) ExponentOrEmptyFraction place.LongHand r refl (λ f.
+    let judged : Parsed ℕ = cond (nat_le (length digits) 9) (Ok (fraction_of digits, rest)) (Err (refusal FractionTooLong context.LongHand start)) in
+    guard_stands start (begins is_digit cs) (cond (begins is_exponent rest) refused judged) ExponentOrEmptyFraction context.LongHand r refl (λ f.
     elim (chosen (begins is_exponent rest) refused judged (Err r) f) [
-      | inl a ↦ here ExponentOrEmptyFraction place.LongHand start refused r refl refl a.1
-      | inr a ↦ guard_stands start (nat_le (length digits) 9) _ FractionTooLong place.LongHand r refl (no_refusal start _ r) a.1
+      | inl a ↦ here ExponentOrEmptyFraction context.LongHand start refused r refl refl a.1
+      | inr a ↦ guard_stands start (nat_le (length digits) 9) _ FractionTooLong context.LongHand r refl (no_refusal start _ r) a.1
     ]) e
 
 fraction_stands : (start cs : List ℕ) (r : Refusal) → fraction_at (byte_count start) cs ≡ Err r → Stands Plain start r
 unfolding fraction_at
 fraction_stands start cs r e =
-    let refused : Parsed ℕ = Err (refusal ExponentOrEmptyFraction place.LongHand start) in
+    let refused : Parsed ℕ = Err (refusal ExponentOrEmptyFraction context.LongHand start) in
     elim (chosen (begins (λ c. c == 46) cs) (digits_behind_point_at (byte_count start) (drop 1 cs)) (cond (begins is_exponent cs) refused (done (0, cs))) (Err r) e) [
       | inl a ↦ digits_stand start (drop 1 cs) r a.1
       | inr a ↦ elim (chosen (begins is_exponent cs) refused (done (0, cs)) (Err r) a.1) [
-        | inl b ↦ here ExponentOrEmptyFraction place.LongHand start refused r refl refl b.1
+        | inl b ↦ here ExponentOrEmptyFraction context.LongHand start refused r refl refl b.1
         | inr b ↦ no_refusal start _ r b.1
       ]
     ]
@@ -257,8 +257,8 @@ unfolding number_at
 number_stands cs r e = elim (chosen (begins (λ c. c == 45) cs) _ _ (Err r) e) [
   | inl a ↦
       bind_stands cs (amount_at (byte_count cs) (drop 1 cs)) _ r (amount_stands cs (drop 1 cs)) (λ n s f.
-      guard_stands cs (nat_le n.0 (2 ^ 63 * 1000000000)) _ NumberOutOfRange place.LongHand r refl (no_refusal cs _ r) f) a.1
+      guard_stands cs (nat_le n.0 (2 ^ 63 * 1000000000)) _ NumberOutOfRange context.LongHand r refl (no_refusal cs _ r) f) a.1
   | inr a ↦
       bind_stands cs (amount_at (byte_count cs) cs) _ r (amount_stands cs cs) (λ n s f.
-      guard_stands cs (nat_le n.0 ((2 ^ 64 - 1) * 1000000000)) _ NumberOutOfRange place.LongHand r refl (no_refusal cs _ r) f) a.1
+      guard_stands cs (nat_le n.0 ((2 ^ 64 - 1) * 1000000000)) _ NumberOutOfRange context.LongHand r refl (no_refusal cs _ r) f) a.1
 ]

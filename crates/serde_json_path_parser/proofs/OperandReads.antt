@@ -6,7 +6,7 @@ use Rattle.std.proofs.lemmas.Bool.{and_parts, or_parts, or_left, or_right, false
 use Rattle.serde_json_path_syntax.specs.Tree.{QueryKind, root, current, query, Segments, Call, call, Literal, text, number, truth, null}
 use Rattle.serde_json_path_syntax.specs.Text.{query_kind_text}
 use Rattle.serde_json_path_functions.specs.Functions.{Signature}
-use Rattle.serde_json_path_parser.specs.declared.error.Place.TheVariants as place
+use Rattle.serde_json_path_parser.specs.declared.error.Context.TheVariants as context
 use Rattle.serde_json_path_parser.specs.Lexical.{AllPass, begins, is_blank, is_small_letter, is_function_char, is_name_char, IsNumber, IsQuote}
 use Rattle.serde_json_path_parser.specs.Grammar.{Reads, ReadsCall}
 use Rattle.serde_json_path_parser.specs.Parsed.{Parsed, past_blanks, byte_count}
@@ -81,7 +81,7 @@ module _ (signature : List ℕ → Option Signature) (n : ℕ) (deeper : Deeper)
   unfolding query_at
   query_again kind t segs rest good (a, reads, e) follows =
       let behind_sign : drop 1 (t ++ rest) ≡ a ++ rest = ap (λ (l : List ℕ). drop 1 (l ++ rest)) e ∙ by_kind kind in
-      let read = segments_again (filter_at signature deeper) (IsGoodInside signature n) (filter_laws signature n deeper laws) place.LongHand a segs rest
+      let read = segments_again (filter_at signature deeper) (IsGoodInside signature n) (filter_laws signature n deeper laws) context.LongHand a segs rest
       (segments_good signature n segs good.0 good.1, reads) (none_behind is_name_char rest refl follows) (no_segment rest follows) in
       rw (behind_sign, read) (ap (λ (s : Segments). Ok (query kind s, past_blanks rest)) (same_segments segs))
     where

@@ -7,7 +7,7 @@ use Rattle.serde_json_path_syntax.specs.Tree.{QueryKind, root, current, Query, q
 use Rattle.serde_json_path_syntax.specs.Text.{query_kind_text}
 use Rattle.serde_json_path_functions.specs.Functions.{Signature}
 use Rattle.serde_json_path_parser.specs.declared.error.ParseErrorKind.TheVariants.{ExpectedExpression}
-use Rattle.serde_json_path_parser.specs.declared.error.Place.TheVariants as place
+use Rattle.serde_json_path_parser.specs.declared.error.Context.TheVariants as context
 use Rattle.serde_json_path_parser.specs.Lexical.{begins, is_small_letter, is_function_char, IsFunctionName, IsQuote}
 use Rattle.serde_json_path_parser.specs.Grammar.{IsLiteral, Reads, ReadsCall}
 use Rattle.serde_json_path_parser.specs.Parsed.{Parsed, ◌>>=◌, refusal, past_blanks}
@@ -56,7 +56,7 @@ module _ (signature : List ℕ → Option Signature) (n : ℕ) (deeper : Deeper)
         | inl a ↦ kept (truth true) a.1 (word_sound cs (codes "true") (truth true) a.0 (λ t same. same))
         | inr a ↦ elim (chosen (bytes_eq (word cs) (codes "false")) (done (a_literal (truth false), rest)) _ (Ok x) a.1) [
           | inl b ↦ kept (truth false) b.1 (word_sound cs (codes "false") (truth false) b.0 (λ t same. same))
-          | inr b ↦ elim (chosen (bytes_eq (word cs) (codes "null")) (done (a_literal null, rest)) (Err (refusal ExpectedExpression place.LongHand cs)) (Ok x) b.1) [
+          | inr b ↦ elim (chosen (bytes_eq (word cs) (codes "null")) (done (a_literal null, rest)) (Err (refusal ExpectedExpression context.LongHand cs)) (Ok x) b.1) [
             | inl c ↦ kept null c.1 (word_sound cs (codes "null") null c.0 (λ t same. same))
             | inr c ↦ absurd (let no = c.1 in cc)
           ]
@@ -76,8 +76,8 @@ module _ (signature : List ℕ → Option Signature) (n : ℕ) (deeper : Deeper)
   unfolding query_at
   query_sound kind sign cs x is begun e =
       let Is : List ℕ → Query → Type 0 = λ t q. IsGoodQuery signature n q × Reads q t in
-      let ss = bind_ok (segments_at (filter_at signature deeper) place.LongHand (drop 1 cs)) (λ ss. Ok (query kind (segment_list ss.0), past_blanks ss.1)) x e in
-      let r = segments_sound (filter_at signature deeper) (IsGoodInside signature n) (filter_laws signature n deeper laws) place.LongHand (drop 1 cs) ss.0 ss.1 in
+      let ss = bind_ok (segments_at (filter_at signature deeper) context.LongHand (drop 1 cs)) (λ ss. Ok (query kind (segment_list ss.0), past_blanks ss.1)) x e in
+      let r = segments_sound (filter_at signature deeper) (IsGoodInside signature n) (filter_laws signature n deeper laws) context.LongHand (drop 1 cs) ss.0 ss.1 in
       subst (Read (Spaced Is) cs) (ok_is (query kind (segment_list ss.0.0), past_blanks ss.0.1) x ss.2)
       (with_blanks Is cs (query kind (segment_list ss.0.0), ss.0.1) (record {
         text = sign ∷ r.text;

@@ -8,8 +8,8 @@ use Rattle.std.proofs.lemmas.Str.{IsCharBoundary-start, chars-encodes, scalars-c
 use Rattle.serde_json_path_syntax.specs.Tree.{Query, query, root, current, Segments}
 use Rattle.serde_json_path_functions.specs.Functions.{Signature}
 use Rattle.serde_json_path_parser.specs.declared.error.Refusal.{Refusal}
-use Rattle.serde_json_path_parser.specs.declared.error.Stop.{Stop}
-use Rattle.serde_json_path_parser.specs.declared.error.Stop.TheVariants as stops
+use Rattle.serde_json_path_parser.specs.declared.error.Failure.{Failure}
+use Rattle.serde_json_path_parser.specs.declared.error.Failure.TheVariants as failures
 use Rattle.serde_json_path_parser.specs.declared.error.ParseErrorKind.{ParseErrorKind}
 use Rattle.serde_json_path_parser.specs.declared.error.ParseErrorKind.TheVariants.{ExpectedRoot, UndefinedFunction, TextAfterPath, NoMemory}
 use Rattle.serde_json_path_syntax.specs.declared.checked.Checked.{Checked}
@@ -156,13 +156,13 @@ module _ (signature : List ℕ → Option Signature) (text : List ℕ) (u : IsUt
   ]
 
   -- where the refusal stands
-  pub within : (s : Stop) (total : ℕ) → total ≡ length text → Fails s (path_at signature (chars text)) → IsWithin s total
-  within stops.Memory total t h = tt
-  within (stops.Refused r) total t h = let k = (told r h).placed.0 in omega (arith, t, k)
+  pub within : (s : Failure) (total : ℕ) → total ≡ length text → Fails s (path_at signature (chars text)) → IsWithin s total
+  within failures.Memory total t h = tt
+  within (failures.Refused r) total t h = let k = (told r h).placed.0 in omega (arith, t, k)
 
   -- ---- the three ends of a parse
 
-  pub too_long : length text ≡ 2 ^ 64 - 1 → IsParseOf signature text (Err (error_of stops.Memory 0))
+  pub too_long : length text ≡ 2 ^ 64 - 1 → IsParseOf signature text (Err (error_of failures.Memory 0))
   too_long long = record {
     accepted = tt;
     kept = tt;
@@ -194,9 +194,9 @@ module _ (signature : List ℕ → Option Signature) (text : List ℕ) (u : IsUt
         too_long = λ long. absurd (omega (arith, long));
       }
 
-  pub refused : (short : length text < 2 ^ 64 - 1) (s : Stop) (total : ℕ) → total ≡ length text → Fails s (path_at signature (chars text)) → (opens_behind_root (chars text) ≡ false → IsRefused s)
+  pub refused : (short : length text < 2 ^ 64 - 1) (s : Failure) (total : ℕ) → total ≡ length text → Fails s (path_at signature (chars text)) → (opens_behind_root (chars text) ≡ false → IsRefused s)
       → IsParseOf signature text (Err (error_of s total))
-  refused short stops.Memory total t h spares = record {
+  refused short failures.Memory total t h spares = record {
     accepted = tt;
     kept = tt;
     only = tt;
@@ -209,7 +209,7 @@ module _ (signature : List ℕ → Option Signature) (text : List ℕ) (u : IsUt
     spares_memory = λ less none. absurd (spares (needs_none (chars text) none));
     too_long = λ e. refl;
   }
-  refused short (stops.Refused r) total t h spares =
+  refused short (failures.Refused r) total t h spares =
       let k = told r h in
       let cut : (total - r.left + 1) - 1 ≡ length text - r.left = omega (arith, t) in
       record {

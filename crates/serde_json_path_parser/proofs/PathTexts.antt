@@ -10,7 +10,7 @@ use Rattle.serde_json_path_syntax.specs.Depth.{segments_depth}
 use Rattle.serde_json_path_syntax.specs.Used.{deepest}
 use Rattle.serde_json_path_functions.specs.Functions.{Signature}
 use Rattle.serde_json_path_parser.specs.declared.error.ParseErrorKind.TheVariants.{ExpectedRoot, TextAfterPath}
-use Rattle.serde_json_path_parser.specs.declared.error.Place.TheVariants as place
+use Rattle.serde_json_path_parser.specs.declared.error.Context.TheVariants as context
 use Rattle.serde_json_path_parser.specs.declared.error.Refusal.{Refusal}
 use Rattle.serde_json_path_parser.specs.Lexical.{begins}
 use Rattle.serde_json_path_parser.specs.Grammar.{ReadSegments}
@@ -27,7 +27,7 @@ use Rattle.serde_json_path_parser.proofs.Steps.{bind_ok, guard, done, ok_is, aft
 
 -- the end of a text whose segments were read
 abbrev at_end : Parsed (List (SegmentKind × Segment)) → Result Segments Refusal
-at_end read = read >>= λ ss. cond (length ss.1 == 0) (Ok (segment_list ss.0)) (Err (refusal TextAfterPath place.Path ss.1))
+at_end read = read >>= λ ss. cond (length ss.1 == 0) (Ok (segment_list ss.0)) (Err (refusal TextAfterPath context.Path ss.1))
 
 nothing : (cs : List ℕ) → (length cs == 0) ≡ true → cs ≡ []
 nothing cs e = nil_from_length cs (eqb-true (length cs) 0 e)
@@ -40,7 +40,7 @@ all_read (c ∷ rest) bytes is none = absurd (omega (arith, is, none, length-app
 module _ (signature : List ℕ → Option Signature) where
   -- the segments of a path
   abbrev pub path_segments_at : List ℕ → Parsed (List (SegmentKind × Segment))
-  path_segments_at cs = segments_at (filter_at signature (level signature deepest)) place.Path cs
+  path_segments_at cs = segments_at (filter_at signature (level signature deepest)) context.Path cs
 
   -- how the filters of a path are read
   pub path_filters : FilterLaws (IsGoodInside signature deepest) (filter_at signature (level signature deepest))
@@ -64,22 +64,22 @@ module _ (signature : List ℕ → Option Signature) where
   pub none_read : (cs ds rest : List ℕ) (c : ℕ) (ss : List (SegmentKind × Segment)) → begins (λ d. d == 36) cs ≡ true → cs ≡ c ∷ ds → path_segments_at ds ≡ Ok (ss, rest) → opens_behind_root cs ≡ false → ss ≡ []
   none_read cs ds rest c ss root split read none =
       let closed : opens_next ds ≡ false = sym (rw (root, split) refl) ∙ none in
-      let empty = no_segments_read (filter_at signature (level signature deepest)) place.Path ds closed in
+      let empty = no_segments_read (filter_at signature (level signature deepest)) context.Path ds closed in
       ap (λ (x : List (SegmentKind × Segment) × List ℕ). x.0) (ok_is (ss, rest) ([], ds) (sym read ∙ empty))
 
   -- ---- the whole text
 
   pub path_segments_sound : (cs : List ℕ) (x : List (SegmentKind × Segment) × List ℕ) → path_segments_at cs ≡ Ok x → (t : List ℕ) × ArePathSegments t (segment_list x.0) × (cs ≡ t ++ x.1)
   path_segments_sound cs x e =
-      let r = segments_sound (filter_at signature (level signature deepest)) (IsGoodInside signature deepest) path_filters place.Path cs x e in
+      let r = segments_sound (filter_at signature (level signature deepest)) (IsGoodInside signature deepest) path_filters context.Path cs x e in
       (r.text, (good_segments signature deepest (segment_list x.0) r.is_so.0, r.is_so.1), r.split)
 
   pub path_sound : (cs : List ℕ) (segs : Segments) → path_at signature cs ≡ Ok segs → (a : List ℕ) × ArePathSegments a segs × (cs ≡ 36 ∷ a)
   unfolding path_at
   path_sound cs segs e =
-      let g = guard (begins (λ c. c == 36) cs) (refusal ExpectedRoot place.Path cs) (at_end (path_segments_at (drop 1 cs))) segs e in
-      let b = bind_ok (path_segments_at (drop 1 cs)) (λ ss. cond (length ss.1 == 0) (Ok (segment_list ss.0)) (Err (refusal TextAfterPath place.Path ss.1))) segs g.1 in
-      let k = guard (length b.0.1 == 0) (refusal TextAfterPath place.Path b.0.1) (done (segment_list b.0.0)) segs b.2 in
+      let g = guard (begins (λ c. c == 36) cs) (refusal ExpectedRoot context.Path cs) (at_end (path_segments_at (drop 1 cs))) segs e in
+      let b = bind_ok (path_segments_at (drop 1 cs)) (λ ss. cond (length ss.1 == 0) (Ok (segment_list ss.0)) (Err (refusal TextAfterPath context.Path ss.1))) segs g.1 in
+      let k = guard (length b.0.1 == 0) (refusal TextAfterPath context.Path b.0.1) (done (segment_list b.0.0)) segs b.2 in
       let r = path_segments_sound (drop 1 cs) b.0 b.1 in
       subst (λ (ss : Segments). (a : List ℕ) × ArePathSegments a ss × (cs ≡ 36 ∷ a)) (ok_is (segment_list b.0.0) segs k.1)
       (r.0, r.1, after_one 36 cs g.0 ∙ ap (λ (l : List ℕ). 36 ∷ l) (r.2 ∙ ap (λ (l : List ℕ). r.0 ++ l) (nothing b.0.1 k.0) ∙ append-nil r.0))
@@ -88,6 +88,6 @@ module _ (signature : List ℕ → Option Signature) where
   unfolding path_at
   path_again t a segs h e =
       let good = segments_good signature deepest segs h.0.0 h.0.1 in
-      let again = segments_again (filter_at signature (level signature deepest)) (IsGoodInside signature deepest) path_filters place.Path a segs [] (good, h.1) refl refl in
+      let again = segments_again (filter_at signature (level signature deepest)) (IsGoodInside signature deepest) path_filters context.Path a segs [] (good, h.1) refl refl in
       let all = ap path_segments_at (sym (append-nil a)) ∙ again in
       ap (path_at signature) e ∙ rw all (ap (λ (ss : Segments). Ok ss) (same_segments segs))

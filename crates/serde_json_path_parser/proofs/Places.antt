@@ -10,7 +10,7 @@ use Rattle.serde_json_path_syntax.specs.Used.{deepest}
 use Rattle.serde_json_path_functions.specs.Functions.{Signature}
 use Rattle.serde_json_path_parser.specs.declared.error.Refusal.{Refusal}
 use Rattle.serde_json_path_parser.specs.declared.error.ParseErrorKind.TheVariants.{ExpectedRoot, TextAfterPath}
-use Rattle.serde_json_path_parser.specs.declared.error.Place.TheVariants as place
+use Rattle.serde_json_path_parser.specs.declared.error.Context.TheVariants as context
 use Rattle.serde_json_path_parser.specs.Lexical.{begins}
 use Rattle.serde_json_path_parser.specs.Parsed.{Parsed, ◌>>=◌, refusal}
 use Rattle.serde_json_path_parser.specs.Parsing.{opens_next, segment_list}
@@ -29,7 +29,7 @@ use Rattle.serde_json_path_parser.proofs.Steps.{chosen, done, after_one}
 -- there is no root
 pub record NoRoot (cs : List ℕ) (r : Refusal) : Type 0 where
   pub begins_not : begins (λ c. c == 36) cs ≡ false
-  pub is : refusal ExpectedRoot place.Path cs ≡ r
+  pub is : refusal ExpectedRoot context.Path cs ≡ r
 
 module _ (signature : List ℕ → Option Signature) where
   -- a path, and more behind it
@@ -39,7 +39,7 @@ module _ (signature : List ℕ → Option Signature) where
     pub segments : Segments
     pub split : cs ≡ 36 ∷ (path ++ rest)
     pub are : ArePathSegments signature path segments
-    pub is : refusal TextAfterPath place.Path rest ≡ r
+    pub is : refusal TextAfterPath context.Path rest ≡ r
 
   -- a refusal of a segment
   pub record SegmentRefused (cs : List ℕ) (r : Refusal) : Type 0 where
@@ -50,24 +50,24 @@ module _ (signature : List ℕ → Option Signature) where
   no_segment_refused : (cs : List ℕ) (r : Refusal) → path_segments_at signature cs ≡ Err r → (b : Bool) → opens_next cs ≡ b → opens_next cs ≡ true
   no_segment_refused cs r e true t = t
   no_segment_refused cs r e false t =
-      let none = no_segments_read (filter_at signature (level signature deepest)) place.Path cs t in
+      let none = no_segments_read (filter_at signature (level signature deepest)) context.Path cs t in
       let f : done {A = List (SegmentKind × Segment) × List ℕ} ([], cs) ≡ Err r = sym none ∙ e in
       absurd cc
 
   pub path_refused : (cs : List ℕ) (r : Refusal) → path_at signature cs ≡ Err r → NoRoot cs r ⊎ (TextBehind cs r ⊎ SegmentRefused cs r)
   unfolding path_at
   path_refused cs r e = elim (chosen (begins (λ c. c == 36) cs) _ _ (Err r) e) [
-    | inr a ↦ inl (record { begins_not = a.0; is = err_is {A = Segments} (refusal ExpectedRoot place.Path cs) r (Err (refusal ExpectedRoot place.Path cs)) refl a.1 })
+    | inr a ↦ inl (record { begins_not = a.0; is = err_is {A = Segments} (refusal ExpectedRoot context.Path cs) r (Err (refusal ExpectedRoot context.Path cs)) refl a.1 })
     | inl a ↦ inr (behind_root a.0 (path_segments_at signature (drop 1 cs)) refl a.1)
   ]
     where
       behind_root : begins (λ c. c == 36) cs ≡ true → (read : Parsed (List (SegmentKind × Segment))) → path_segments_at signature (drop 1 cs) ≡ read
-          → (read >>= λ ss. cond (length ss.1 == 0) (done (segment_list ss.0)) (Err (refusal TextAfterPath place.Path ss.1))) ≡ Err r → TextBehind cs r ⊎ SegmentRefused cs r
+          → (read >>= λ ss. cond (length ss.1 == 0) (done (segment_list ss.0)) (Err (refusal TextAfterPath context.Path ss.1))) ≡ Err r → TextBehind cs r ⊎ SegmentRefused cs r
       behind_root root (Err d) is h =
           let same : d ≡ r = cc in
           let refused = is ∙ ap (λ (x : Refusal). Err x) same in
           let refusals = filters_stand signature deepest (level signature deepest) (level_laws signature deepest) in
-          let stands = segments_stand signature (filter_at signature (level signature deepest)) (IsGoodInside signature deepest) (path_filters signature) refusals place.Path (drop 1 cs) r refused in
+          let stands = segments_stand signature (filter_at signature (level signature deepest)) (IsGoodInside signature deepest) (path_filters signature) refusals context.Path (drop 1 cs) r refused in
           inr (record { rooted = root; stands = drop_one cs r stands; some = no_segment_refused (drop 1 cs) r refused (opens_next (drop 1 cs)) refl })
       behind_root root (Ok ss) is h = elim (chosen (length ss.1 == 0) _ _ (Err r) h) [
         | inl b ↦ absurd (let k = b.1 in cc)
@@ -79,7 +79,7 @@ module _ (signature : List ℕ → Option Signature) where
               segments = segment_list ss.0;
               split = after_one 36 cs root ∙ ap (λ (l : List ℕ). 36 ∷ l) read.2;
               are = read.1;
-              is = err_is {A = Segments} (refusal TextAfterPath place.Path ss.1) r (Err (refusal TextAfterPath place.Path ss.1)) refl b.1;
+              is = err_is {A = Segments} (refusal TextAfterPath context.Path ss.1) r (Err (refusal TextAfterPath context.Path ss.1)) refl b.1;
             })
       ]
 

@@ -7,8 +7,8 @@ use Rattle.serde_json_path_functions.specs.Functions.{Signature}
 use Rattle.serde_json_path_parser.specs.declared.error.Refusal.{Refusal}
 use Rattle.serde_json_path_parser.specs.declared.error.ParseErrorKind.{ParseErrorKind}
 use Rattle.serde_json_path_parser.specs.declared.error.ParseErrorKind.TheVariants.{BadMemberName, ExpectedClosingBracket}
-use Rattle.serde_json_path_parser.specs.declared.error.Place as declared
-use Rattle.serde_json_path_parser.specs.declared.error.Place.TheVariants as place
+use Rattle.serde_json_path_parser.specs.declared.error.Context as declared
+use Rattle.serde_json_path_parser.specs.declared.error.Context.TheVariants as context
 use Rattle.serde_json_path_parser.specs.Lexical.{begins, is_name_first, is_name_char}
 use Rattle.serde_json_path_parser.specs.Parsed.{Parsed, ◌>>=◌, front, behind, past_blanks, many}
 use Rattle.serde_json_path_parser.specs.Parsing.{behind_dot, name_at, selector_at, next_selector_at, selectors_at, selector_list, bracket_at, dotted_at, descendant_at, of_kind, dot_at, segment_at, opens_next, next_segment_at, segments_at}
@@ -23,11 +23,11 @@ use Rattle.serde_json_path_parser.proofs.Steps.{chosen, done}
 
 -- ---- names
 
-name_stands : (at : declared.Place) (cs : List ℕ) (r : Refusal) → name_at at cs ≡ Err r → Stands Plain cs r
+name_stands : (at : declared.Context) (cs : List ℕ) (r : Refusal) → name_at at cs ≡ Err r → Stands Plain cs r
 unfolding name_at
 name_stands at cs r e = guard_stands cs (begins is_name_first cs) (done (encode_utf8_all (front is_name_char cs), behind is_name_char cs)) BadMemberName at r refl (no_refusal cs _ r) e
 
-dotted_stands : (at : declared.Place) (cs : List ℕ) (r : Refusal) → dotted_at at cs ≡ Err r → Stands Plain cs r
+dotted_stands : (at : declared.Context) (cs : List ℕ) (r : Refusal) → dotted_at at cs ≡ Err r → Stands Plain cs r
 unfolding dotted_at
 dotted_stands at cs r e = elim (chosen (begins (λ c. c == 42) cs) (done (dot_wildcard, drop 1 cs)) (name_at at cs >>= λ n. Ok (dot_name n.0, n.1)) (Err r) e) [
   | inl a ↦ no_refusal cs _ r a.1
@@ -40,7 +40,7 @@ kind_stands kind cs read r stands e = bind_stands cs read _ r stands (λ s f h. 
 
 -- filters are read so, in segments that stand here
 module _ (signature : List ℕ → Option Signature) (filter_at : List ℕ → Parsed Selector) (Good : LogicalOr → Type 0) (laws : FilterLaws Good filter_at) (filters_stand : FiltersStand signature filter_at)
-    (here_at : declared.Place) where
+    (here_at : declared.Context) where
   -- ---- brackets
 
   next_stands : (cs : List ℕ) (r : Refusal) → next_selector_at filter_at cs ≡ Err r → Stands (Inner signature) cs r
@@ -65,7 +65,7 @@ module _ (signature : List ℕ → Option Signature) (filter_at : List ℕ → P
       let read = selectors_sound filter_at Good laws cs ss f in
       drop_blanks cs r
       (further (past_blanks cs) read.text ss.1 r read.split
-      (guard_stands ss.1 (begins (λ c. c == 93) ss.1) (done (long_hand (selector_list ss.0), drop 1 ss.1)) ExpectedClosingBracket place.LongHand r (inl refl) (no_refusal ss.1 _ r) h))) e
+      (guard_stands ss.1 (begins (λ c. c == 93) ss.1) (done (long_hand (selector_list ss.0), drop 1 ss.1)) ExpectedClosingBracket context.LongHand r (inl refl) (no_refusal ss.1 _ r) h))) e
 
   -- ---- segments
 

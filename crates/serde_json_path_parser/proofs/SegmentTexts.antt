@@ -6,7 +6,7 @@ use Rattle.std.proofs.lemmas.List.{length-append}
 use Rattle.serde_json_path_syntax.specs.Tree.{SegmentKind, child, descendant, Segments, no_segments, segment, Segment, dot_name, dot_wildcard, long_hand, Selector, LogicalOr}
 use Rattle.serde_json_path_syntax.specs.Text.{dots_of}
 use Rattle.serde_json_path_parser.specs.declared.error.ParseErrorKind.TheVariants.{BadMemberName}
-use Rattle.serde_json_path_parser.specs.declared.error.Place as declared
+use Rattle.serde_json_path_parser.specs.declared.error.Context as declared
 use Rattle.serde_json_path_parser.specs.Lexical.{begins, is_blank, IsBlank, is_name_first, is_name_char, IsName, Joined}
 use Rattle.serde_json_path_parser.specs.Grammar.{ReadSegments}
 use Rattle.serde_json_path_parser.specs.Parsed.{Parsed, ◌>>=◌, refusal, front, behind, past_blanks, many}
@@ -23,7 +23,7 @@ use Rattle.serde_json_path_parser.proofs.Steps.{Read, bind_ok, chosen, guard, do
 start_is_char : (c : ℕ) → is_name_first c ≡ true → is_name_char c ≡ true
 start_is_char c e = rw e refl
 
-name_sound : (here : declared.Place) (cs : List ℕ) (x : List ℕ × List ℕ) → name_at here cs ≡ Ok x → Read IsName cs x
+name_sound : (here : declared.Context) (cs : List ℕ) (x : List ℕ × List ℕ) → name_at here cs ≡ Ok x → Read IsName cs x
 unfolding name_at
 name_sound here cs x e =
     let g = guard (begins is_name_first cs) (refusal BadMemberName here cs) (done (encode_utf8_all (front is_name_char cs), behind is_name_char cs)) x e in
@@ -33,7 +33,7 @@ name_sound here cs x e =
       split = whole is_name_char cs;
     })
 
-name_again : (here : declared.Place) (t n rest : List ℕ) → IsName t n → begins is_name_char rest ≡ false → name_at here (t ++ rest) ≡ Ok (n, rest)
+name_again : (here : declared.Context) (t n rest : List ℕ) → IsName t n → begins is_name_char rest ≡ false → name_at here (t ++ rest) ≡ Ok (n, rest)
 unfolding name_at
 name_again here t n rest h e = rw (begins_front is_name_first true t rest (some_begun is_name_first t h.first) h.first, front_all is_name_char t rest h.each e, behind_all is_name_char t rest h.each e, ← h.bytes_of) refl
 
@@ -57,7 +57,7 @@ small_no_name c e = grind (arith, e)
 blank_no_name : (c : ℕ) → is_blank c ≡ true → is_name_char c ≡ false
 blank_no_name c e = let small : c < 33 = grind (arith, e) in small_no_name c small
 
-dotted_again : (here : declared.Place) (t n rest : List ℕ) → IsName t n → begins is_name_char rest ≡ false → dotted_at here (t ++ rest) ≡ Ok (dot_name n, rest)
+dotted_again : (here : declared.Context) (t n rest : List ℕ) → IsName t n → begins is_name_char rest ≡ false → dotted_at here (t ++ rest) ≡ Ok (dot_name n, rest)
 unfolding dotted_at
 dotted_again here t n rest h e = rw (name_begins_not 42 t n rest refl h, name_again here t n rest h e) refl
 
@@ -70,18 +70,18 @@ same_segments no_segments = refl
 same_segments (segment kind seg more) = ap (segment kind seg) (same_segments more)
 
 -- where no segment begins there is none
-pub no_segments_read : (filter_at : List ℕ → Parsed Selector) (here : declared.Place) (cs : List ℕ) → opens_next cs ≡ false → segments_at filter_at here cs ≡ Ok ([], cs)
+pub no_segments_read : (filter_at : List ℕ → Parsed Selector) (here : declared.Context) (cs : List ℕ) → opens_next cs ≡ false → segments_at filter_at here cs ≡ Ok ([], cs)
 no_segments_read filter_at here cs e = m.many_end opens_next (next_segment_at filter_at here) cs e
 
 -- filters are read so, in segments that stand here
-module _ (filter_at : List ℕ → Parsed Selector) (Good : LogicalOr → Type 0) (laws : FilterLaws Good filter_at) (here : declared.Place) where
+module _ (filter_at : List ℕ → Parsed Selector) (Good : LogicalOr → Type 0) (laws : FilterLaws Good filter_at) (here : declared.Context) where
   -- a good segment of that kind
   abbrev IsSegment : SegmentKind → List ℕ → Segment → Type 0
   IsSegment kind t seg = IsSegmentText filter_at Good laws kind t seg
 
   -- ---- behind the dots
 
-  dotted_sound : (kind : SegmentKind) (at : declared.Place) (cs : List ℕ) (x : Segment × List ℕ) → dotted_at at cs ≡ Ok x → Read (IsSegment kind) (dots_of kind ++ cs) x
+  dotted_sound : (kind : SegmentKind) (at : declared.Context) (cs : List ℕ) (x : Segment × List ℕ) → dotted_at at cs ≡ Ok x → Read (IsSegment kind) (dots_of kind ++ cs) x
   unfolding dotted_at
   dotted_sound kind at cs x e = elim (chosen (begins (λ c. c == 42) cs) (done (dot_wildcard, drop 1 cs)) (name_at at cs >>= λ n. Ok (dot_name n.0, n.1)) (Ok x) e) [
     | inl a ↦ subst (Read (IsSegment kind) (dots_of kind ++ cs)) (ok_is (dot_wildcard, drop 1 cs) x a.1) (record {
@@ -204,7 +204,7 @@ module _ (filter_at : List ℕ → Parsed Selector) (Good : LogicalOr → Type 0
   }
 
   segments_law : Again IsNextItem opens_next (next_segment_at filter_at here) (λ rest. begins is_name_char rest ≡ false)
-  segments_law = record { takes = next_takes; again = next_again; starts = next_begins; stops = next_stops }
+  segments_law = record { takes = next_takes; again = next_again; starts = next_begins; failures = next_stops }
 
   -- good segments in a row
   abbrev pub AreSegmentsText : List ℕ → Segments → Type 0

@@ -82,12 +82,12 @@ pub record Again {A : Type 0} (is : List ℕ → A → Type 0) (more : List ℕ 
   pub takes : m.Takes more item
   pub again : (t : List ℕ) (x : A) (rest : List ℕ) → is t x → Stops rest → item (t ++ rest) ≡ Ok (x, rest)
   pub starts : (t : List ℕ) (x : A) (rest : List ℕ) → is t x → more (t ++ rest) ≡ true
-  pub stops : (t : List ℕ) (x : A) (rest : List ℕ) → is t x → Stops (t ++ rest)
+  pub failures : (t : List ℕ) (x : A) (rest : List ℕ) → is t x → Stops (t ++ rest)
 
 module _ {A : Type 0} (is : List ℕ → A → Type 0) (more : List ℕ → Bool) (item : List ℕ → Parsed A) (Stops : List ℕ → Type 0) (law : Again is more item Stops) where
   stops_at : (t : List ℕ) (xs : List A) (rest : List ℕ) → Joined is t xs → Stops rest → Stops (t ++ rest)
   stops_at t [] rest h s = subst (λ (l : List ℕ). Stops (l ++ rest)) (sym h) s
-  stops_at t (x ∷ xs) rest h s = subst Stops (sym (ap (λ (l : List ℕ). l ++ rest) h.4 ∙ append_assoc h.0 h.1 rest)) (law.stops h.0 x (h.1 ++ rest) h.2)
+  stops_at t (x ∷ xs) rest h s = subst Stops (sym (ap (λ (l : List ℕ). l ++ rest) h.4 ∙ append_assoc h.0 h.1 rest)) (law.failures h.0 x (h.1 ++ rest) h.2)
 
   pub many_again : (t : List ℕ) (xs : List A) (rest : List ℕ) → Joined is t xs → Stops rest → more rest ≡ false → many more item (t ++ rest) ≡ Ok (xs, rest)
   many_again t [] rest h s e = ap (λ (l : List ℕ). many more item (l ++ rest)) h ∙ m.many_end more item rest e

@@ -9,7 +9,7 @@ use Rattle.std.proofs.lemmas.Bool.Decides.{eqb_tells}
 use Rattle.std.proofs.lemmas.List.{length-append}
 use Rattle.std.proofs.lemmas.Option.{same_Some, none-some}
 use Rattle.serde_json_path_parser.specs.declared.error.ParseErrorKind.TheVariants.{ExpectedEndingQuote, BadEscape, ControlCharacter}
-use Rattle.serde_json_path_parser.specs.declared.error.Place.TheVariants as place
+use Rattle.serde_json_path_parser.specs.declared.error.Context.TheVariants as context
 use Rattle.serde_json_path_parser.specs.Lexical.{begins, is_digit, hexadecimal_of, IsHex4, IsHighSurrogate, IsLowSurrogate, pair_of, escaped_by, is_plain, IsPiece, plain, quote_escape, letter_escape, hex_escape, pair_escape, IsQuote, IsString}
 use Rattle.serde_json_path_parser.specs.Parsed.{Parsed, ◌>>=◌, refusal, many, byte_count}
 use Rattle.serde_json_path_parser.specs.Strings.{is_hexadecimal, hexadecimal_value, head, hexadecimal_at, hex4_at, is_high, is_low, low_at, unicode_at, is_letter_escape, letter_value, escape_at, is_control, piece_at, is_inside, string_at}
@@ -45,7 +45,7 @@ hexadecimal_sound : (escape cs : List ℕ) (x : ℕ × List ℕ) → hexadecimal
 unfolding hexadecimal_at
 hexadecimal_sound escape [] x e = absurd cc
 hexadecimal_sound escape (c ∷ cs) x e =
-    let g = guard (is_hexadecimal c) (refusal BadEscape place.LongHand escape) (done (hexadecimal_value c, cs)) x e in
+    let g = guard (is_hexadecimal c) (refusal BadEscape context.LongHand escape) (done (hexadecimal_value c, cs)) x e in
     let same = ok_is (hexadecimal_value c, cs) x g.1 in
     (c, ap (λ (y : ℕ × List ℕ). c ∷ y.1) same, hexadecimal_is c g.0 ∙ ap (λ (y : ℕ × List ℕ). Some y.0) same)
 
@@ -103,12 +103,12 @@ pair_sound : (quote : ℕ) (escape cs : List ℕ) (high : ℕ × List ℕ) (x : 
     → ReadsUnicode quote cs x
 unfolding low_at
 pair_sound quote escape cs high x first h e =
-    let bad : Parsed ℕ = Err (refusal BadEscape place.LongHand escape) in
+    let bad : Parsed ℕ = Err (refusal BadEscape context.LongHand escape) in
     let tail : ℕ × List ℕ → Parsed ℕ = λ l. cond (is_low l.0) (Ok (pair_of high.0 l.0, l.1)) bad in
-    let slash = guard (begins (λ c. c == 92) high.1) (refusal BadEscape place.LongHand escape) (cond (begins (λ c. c == 117) (drop 1 high.1)) (hex4_at (byte_count escape) (drop 1 (drop 1 high.1)) >>= tail) bad) x e in
-    let letter = guard (begins (λ c. c == 117) (drop 1 high.1)) (refusal BadEscape place.LongHand escape) (hex4_at (byte_count escape) (drop 1 (drop 1 high.1)) >>= tail) x slash.1 in
+    let slash = guard (begins (λ c. c == 92) high.1) (refusal BadEscape context.LongHand escape) (cond (begins (λ c. c == 117) (drop 1 high.1)) (hex4_at (byte_count escape) (drop 1 (drop 1 high.1)) >>= tail) bad) x e in
+    let letter = guard (begins (λ c. c == 117) (drop 1 high.1)) (refusal BadEscape context.LongHand escape) (hex4_at (byte_count escape) (drop 1 (drop 1 high.1)) >>= tail) x slash.1 in
     let four = bind_ok (hex4_at (byte_count escape) (drop 1 (drop 1 high.1))) tail x letter.1 in
-    let low = guard (is_low four.0.0) (refusal BadEscape place.LongHand escape) (done (pair_of high.0 four.0.0, four.0.1)) x four.2 in
+    let low = guard (is_low four.0.0) (refusal BadEscape context.LongHand escape) (done (pair_of high.0 four.0.0, four.0.1)) x four.2 in
     let second = hex4_sound escape (drop 1 (drop 1 high.1)) four.0 four.1 in
     let here : high.1 ≡ 92 ∷ 117 ∷ (second.text ++ four.0.1) =
     after_one 92 high.1 slash.0 ∙ ap (λ (l : List ℕ). 92 ∷ l) (after_one 117 (drop 1 high.1) letter.0 ∙ ap (λ (l : List ℕ). 117 ∷ l) second.split) in
@@ -121,7 +121,7 @@ pair_sound quote escape cs high x first h e =
 unicode_sound : (quote : ℕ) (escape cs : List ℕ) (x : ℕ × List ℕ) → unicode_at (byte_count escape) cs ≡ Ok x → ReadsUnicode quote cs x
 unfolding unicode_at
 unicode_sound quote escape cs x e =
-    let bad : Parsed ℕ = Err (refusal BadEscape place.LongHand escape) in
+    let bad : Parsed ℕ = Err (refusal BadEscape context.LongHand escape) in
     let four = bind_ok (hex4_at (byte_count escape) cs) (λ h. cond (is_high h.0) (low_at (byte_count escape) h.0 h.1) (cond (is_low h.0) bad (Ok (h.0, h.1)))) x e in
     let first = hex4_sound escape cs four.0 four.1 in
     elim (chosen (is_high four.0.0) (low_at (byte_count escape) four.0.0 four.0.1) (cond (is_low four.0.0) bad (Ok (four.0.0, four.0.1))) (Ok x) four.2) [
@@ -181,7 +181,7 @@ first_is p (c ∷ cs) e = (refl, e)
 escape_sound : (quote : ℕ) (cs : List ℕ) (x : ℕ × List ℕ) → IsQuote quote → begins (λ c. c == 92) cs ≡ true → escape_at quote cs ≡ Ok x → Read (IsPiece quote) cs x
 unfolding escape_at
 escape_sound quote cs x is slash e =
-    let bad : Parsed ℕ = Err (refusal BadEscape place.LongHand cs) in
+    let bad : Parsed ℕ = Err (refusal BadEscape context.LongHand cs) in
     let letter : Parsed ℕ = Ok (letter_value (head (drop 1 cs)), drop 1 (drop 1 cs)) in
     let here = after_one 92 cs slash in
     elim (chosen (begins (λ c. c == 117) (drop 1 cs)) (unicode_at (byte_count cs) (drop 1 (drop 1 cs))) (cond (begins (is_letter_escape quote) (drop 1 cs)) letter bad) (Ok x) e) [
@@ -193,7 +193,7 @@ escape_sound quote cs x is slash e =
             split = here ∙ ap (λ (l : List ℕ). 92 ∷ l) (after_one 117 (drop 1 cs) a.0 ∙ ap (λ (l : List ℕ). 117 ∷ l) read.split);
           }
       | inr a ↦
-          let g = guard (begins (is_letter_escape quote) (drop 1 cs)) (refusal BadEscape place.LongHand cs) letter x a.1 in
+          let g = guard (begins (is_letter_escape quote) (drop 1 cs)) (refusal BadEscape context.LongHand cs) letter x a.1 in
           let first = first_is (is_letter_escape quote) (drop 1 cs) g.0 in
           subst (Read (IsPiece quote) cs) (ok_is (letter_value (head (drop 1 cs)), drop 1 (drop 1 cs)) x g.1) (record {
             text = 92 ∷ head (drop 1 cs) ∷ [];
@@ -209,7 +209,7 @@ pub piece_sound : (quote : ℕ) → IsQuote quote → (cs : List ℕ) (x : ℕ �
 unfolding piece_at
 piece_sound quote is [] x i e = absurd cc
 piece_sound quote is (c ∷ cs) x i e =
-    let bad : Parsed ℕ = Err (refusal ControlCharacter place.LongHand (c ∷ cs)) in
+    let bad : Parsed ℕ = Err (refusal ControlCharacter context.LongHand (c ∷ cs)) in
     elim (chosen (c == 92) (escape_at quote (c ∷ cs)) (cond (is_control c) bad (Ok (c, cs))) (Ok x) e) [
       | inl a ↦ escape_sound quote (c ∷ cs) x is a.0 a.1
       | inr a ↦ elim (chosen (is_control c) bad (done (c, cs)) (Ok x) a.1) [
@@ -222,9 +222,9 @@ piece_sound quote is (c ∷ cs) x i e =
 pub string_sound : (quote : ℕ) (cs : List ℕ) (x : List ℕ × List ℕ) → IsQuote quote → string_at quote cs ≡ Ok x → Read IsString (quote ∷ cs) x
 unfolding string_at many
 string_sound quote cs x is e =
-    let unended : List ℕ × List ℕ → Parsed (List ℕ) = λ s. Err (refusal ExpectedEndingQuote place.LongHand s.1) in
+    let unended : List ℕ × List ℕ → Parsed (List ℕ) = λ s. Err (refusal ExpectedEndingQuote context.LongHand s.1) in
     let pieces = bind_ok (many (begins (is_inside quote)) (piece_at quote) cs) (λ s. cond (begins (λ c. c == quote) s.1) (Ok (encode_utf8_all s.0, drop 1 s.1)) (unended s)) x e in
-    let g = guard (begins (λ c. c == quote) pieces.0.1) (refusal ExpectedEndingQuote place.LongHand pieces.0.1) (done (encode_utf8_all pieces.0.0, drop 1 pieces.0.1)) x pieces.2 in
+    let g = guard (begins (λ c. c == quote) pieces.0.1) (refusal ExpectedEndingQuote context.LongHand pieces.0.1) (done (encode_utf8_all pieces.0.0, drop 1 pieces.0.1)) x pieces.2 in
     let r = many_sound (IsPiece quote) (begins (is_inside quote)) (piece_at quote) (piece_sound quote is) (length cs) cs pieces.0 pieces.1 in
     subst (Read IsString (quote ∷ cs)) (ok_is (encode_utf8_all pieces.0.0, drop 1 pieces.0.1) x g.1) (record {
       text = quote ∷ (r.text ++ (quote ∷ []));
@@ -362,9 +362,9 @@ piece_takes quote is = record {
 pieces_law : (quote : ℕ) → IsQuote quote → Again (IsPiece quote) (begins (is_inside quote)) (piece_at quote) (λ rest. Unit {0})
 pieces_law quote is = record {
   takes = piece_takes quote is;
-  again = λ t x rest h stops. piece_again quote is t x rest h;
+  again = λ t x rest h failures. piece_again quote is t x rest h;
   starts = piece_begins quote is;
-  stops = λ t x rest h. tt;
+  failures = λ t x rest h. tt;
 }
 
 quote_ends : (quote : ℕ) → (quote == quote) ≡ true

@@ -7,7 +7,7 @@ use Rattle.std.proofs.lemmas.List.{take_all}
 use Rattle.std.proofs.lemmas.Slice.Eq.{bytes_eq-Decides}
 use Rattle.serde_json_path_syntax.specs.Tree.{Literal}
 use Rattle.serde_json_path_parser.specs.declared.error.ParseErrorKind.TheVariants.{ExpectedExpression}
-use Rattle.serde_json_path_parser.specs.declared.error.Place.TheVariants as place
+use Rattle.serde_json_path_parser.specs.declared.error.Context.TheVariants as context
 use Rattle.serde_json_path_parser.specs.Lexical.{AllPass, begins, is_function_char}
 use Rattle.serde_json_path_parser.specs.Parsed.{Parsed, refusal, front, behind, past_blanks}
 use Rattle.serde_json_path_parser.specs.Operands.{Operand, a_literal}
@@ -110,7 +110,7 @@ ascii_at (b ∷ bs) (suc i) h l = ascii_at bs i h.1 (omega arith)
 -- what reading gives where the word is that literal's, or none's
 abbrev pub read_literal : Option Literal → List ℕ → Parsed Operand
 read_literal (Some l) cs = Ok (a_literal l, past_blanks (behind_word cs))
-read_literal None cs = Err (refusal ExpectedExpression place.LongHand cs)
+read_literal None cs = Err (refusal ExpectedExpression context.LongHand cs)
 
 -- the tests for each literal's word, one behind another, give what the word's literal does
 pub literal_word_reads : (cs : List ℕ) → literal_word_at cs ≡ read_literal (literal_word (word cs)) cs

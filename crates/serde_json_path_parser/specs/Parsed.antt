@@ -3,7 +3,7 @@
 use Rattle.std.specs.Prelude.{ℕ, zero, suc, Bool, List, [], ◌∷◌, length, Result, Ok, Err, if◌then◌else◌}
 use Rattle.std.specs.Str.{encode_utf8_all}
 use Rattle.serde_json_path_parser.specs.declared.error.ParseErrorKind.{ParseErrorKind}
-use Rattle.serde_json_path_parser.specs.declared.error.Place as declared
+use Rattle.serde_json_path_parser.specs.declared.error.Context as declared
 use Rattle.serde_json_path_parser.specs.declared.error.Refusal.{Refusal}
 use Rattle.serde_json_path_parser.specs.Lexical.{is_blank}
 
@@ -20,11 +20,11 @@ abbrev pub byte_count : List ℕ → ℕ
 byte_count cs = length (encode_utf8_all cs)
 
 -- a refusal where so many bytes are left
-abbrev pub refusal_at : ParseErrorKind → declared.Place → ℕ → Refusal
-refusal_at kind here left = record { kind = kind; place = here; left = left }
+abbrev pub refusal_at : ParseErrorKind → declared.Context → ℕ → Refusal
+refusal_at kind here left = record { kind = kind; context = here; left = left }
 
 -- a refusal at the first of these characters
-abbrev pub refusal : ParseErrorKind → declared.Place → List ℕ → Refusal
+abbrev pub refusal : ParseErrorKind → declared.Context → List ℕ → Refusal
 refusal kind here cs = refusal_at kind here (byte_count cs)
 
 -- the longest front whose characters pass the test, and what is behind it

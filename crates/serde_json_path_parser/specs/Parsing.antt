@@ -3,15 +3,15 @@ use Rattle.std.specs.Prelude.{ℕ, zero, suc, ℤ, pos, negsuc, ◌==◌, ◌||�
 use Rattle.std.specs.Str.{encode_utf8_all}
 use Rattle.serde_json_path_syntax.specs.Tree.{largest, SegmentKind, child, descendant, Segments, no_segments, segment, Segment, dot_name, dot_wildcard, long_hand, Selectors, selector, no_selectors, Selector, name, wildcard, index, slice, Slice}
 use Rattle.serde_json_path_parser.specs.declared.error.ParseErrorKind.TheVariants.{BadMemberName, ExpectedClosingBracket, ExpectedSelector, IntegerOutOfRange}
-use Rattle.serde_json_path_parser.specs.declared.error.Place as declared
-use Rattle.serde_json_path_parser.specs.declared.error.Place.TheVariants as place
+use Rattle.serde_json_path_parser.specs.declared.error.Context as declared
+use Rattle.serde_json_path_parser.specs.declared.error.Context.TheVariants as context
 use Rattle.serde_json_path_parser.specs.Lexical.{begins, is_digit, is_name_first, is_name_char, value_from}
 use Rattle.serde_json_path_parser.specs.Parsed.{Parsed, ◌>>=◌, refusal, front, behind, past_blanks, many, refusal_at, byte_count}
 use Rattle.serde_json_path_parser.specs.Strings.{string_at}
 
 -- ---- names and integers
 
-unfoldable pub name_at : declared.Place → List ℕ → Parsed (List ℕ)
+unfoldable pub name_at : declared.Context → List ℕ → Parsed (List ℕ)
 name_at here cs =
     if begins is_name_first cs then Ok (encode_utf8_all (front is_name_char cs), behind is_name_char cs)
     else Err (refusal BadMemberName here cs)
@@ -24,7 +24,7 @@ is_first_digit c = nat_le 49 c && nat_le c 57
 unfoldable pub digits_at : ℕ → List ℕ → Parsed ℕ
 digits_at start cs =
     if nat_le (value_from 0 (front is_digit cs)) largest then Ok (value_from 0 (front is_digit cs), behind is_digit cs)
-    else Err (refusal_at IntegerOutOfRange place.LongHand start)
+    else Err (refusal_at IntegerOutOfRange context.LongHand start)
 
 -- -n
 abbrev pub negative : ℕ → ℤ
@@ -34,10 +34,10 @@ negative (suc n) = negsuc n
 unfoldable pub int_at : List ℕ → Parsed ℤ
 int_at cs =
     if begins (λ c. c == 45) cs then
-    (if begins is_first_digit (drop 1 cs) then (digits_at (byte_count cs) (drop 1 cs) >>= λ n. Ok (negative n.0, n.1)) else Err (refusal ExpectedSelector place.LongHand cs))
+    (if begins is_first_digit (drop 1 cs) then (digits_at (byte_count cs) (drop 1 cs) >>= λ n. Ok (negative n.0, n.1)) else Err (refusal ExpectedSelector context.LongHand cs))
     else if begins (λ c. c == 48) cs then Ok (pos 0, drop 1 cs)
     else if begins is_first_digit cs then (digits_at (byte_count cs) cs >>= λ n. Ok (pos n.0, n.1))
-    else Err (refusal ExpectedSelector place.LongHand cs)
+    else Err (refusal ExpectedSelector context.LongHand cs)
 
 -- ---- slices and selectors, each with the blanks behind it
 
@@ -83,8 +83,8 @@ segment_list [] = no_segments
 segment_list (s ∷ ss) = segment s.0 s.1 (segment_list ss)
 
 -- where a refusal of a member name behind one dot stands
-abbrev pub behind_dot : declared.Place → declared.Place
-behind_dot place.Path = place.DotMemberName
+abbrev pub behind_dot : declared.Context → declared.Context
+behind_dot context.Path = context.DotMemberName
 behind_dot here = here
 
 -- a segment and its kind
@@ -92,7 +92,7 @@ abbrev pub of_kind : SegmentKind → Parsed Segment → Parsed (SegmentKind × S
 of_kind kind read = read >>= λ s. Ok ((kind, s.0), s.1)
 
 -- behind `.` or `..`
-unfoldable pub dotted_at : declared.Place → List ℕ → Parsed Segment
+unfoldable pub dotted_at : declared.Context → List ℕ → Parsed Segment
 dotted_at here cs =
     if begins (λ c. c == 42) cs then Ok (dot_wildcard, drop 1 cs) else (name_at here cs >>= λ n. Ok (dot_name n.0, n.1))
 
@@ -118,10 +118,10 @@ module _ (filter_at : List ℕ → Parsed Selector) where
   -- behind `[`
   unfoldable pub bracket_at : List ℕ → Parsed Segment
   bracket_at cs = selectors_at cs >>= λ ss.
-      if begins (λ c. c == 93) ss.1 then Ok (long_hand (selector_list ss.0), drop 1 ss.1) else Err (refusal ExpectedClosingBracket place.LongHand ss.1)
+      if begins (λ c. c == 93) ss.1 then Ok (long_hand (selector_list ss.0), drop 1 ss.1) else Err (refusal ExpectedClosingBracket context.LongHand ss.1)
 
 -- segments that stand here
-module _ (filter_at : List ℕ → Parsed Selector) (here : declared.Place) where
+module _ (filter_at : List ℕ → Parsed Selector) (here : declared.Context) where
   -- behind `..`
   unfoldable pub descendant_at : List ℕ → Parsed Segment
   descendant_at cs = if begins (λ c. c == 91) cs then bracket_at filter_at (drop 1 cs) else dotted_at here cs

@@ -1,7 +1,7 @@
 //! Why a text is no path.
 
 ghost use Rattle.std.specs.Prelude.{◌≡◌};
-ghost use Rattle.serde_json_path_parser.specs.declared.error.Stop.TheVariants.{Memory};
+ghost use Rattle.serde_json_path_parser.specs.declared.error.Failure.TheVariants.{Memory};
 
 use std::alloc::{AllocError, AllocFailed};
 use std::fmt;
@@ -59,7 +59,7 @@ pub enum ParseErrorKind {
 
 /// Where in a path a refusal stands, for the beginning of its message.
 #[derive(Clone, Copy, Debug, PartialEq, Eq)]
-pub(crate) enum Place {
+pub(crate) enum Context {
     /// Outside brackets, and not behind a single `.`.
     Path,
     /// Behind a single `.` outside brackets.
@@ -68,7 +68,7 @@ pub(crate) enum Place {
     LongHand,
 }
 
-impl Place {
+impl Context {
     ghost use Rattle.serde_json_path_parser.specs.Errors.{message};
     ghost use Rattle.serde_json_path_parser.specs.declared.error.ParseErrorKind.TheVariants.{BadMemberName};
 
@@ -77,11 +77,11 @@ impl Place {
         ensures { result.now ≡ message BadMemberName self }
     {
         match self {
-            Place::Path => "must start with a letter, '_' or a non-ASCII character",
-            Place::DotMemberName => {
+            Context::Path => "must start with a letter, '_' or a non-ASCII character",
+            Context::DotMemberName => {
                 "in dot member name, must start with a letter, '_' or a non-ASCII character"
             }
-            Place::LongHand => {
+            Context::LongHand => {
                 "in long-hand segment, must start with a letter, '_' or a non-ASCII character"
             }
         }
@@ -92,30 +92,30 @@ impl Place {
 #[derive(Clone, Copy)]
 pub(crate) struct Refusal {
     pub(crate) kind: ParseErrorKind,
-    pub(crate) place: Place,
+    pub(crate) context: Context,
     pub(crate) left: usize,
 }
 
 /// Why the parser stops.
 #[derive(Drop)]
-pub(crate) enum Stop {
+pub(crate) enum Failure {
     Memory,
     Refused(Refusal),
 }
 
-impl From<AllocError> for Stop {
+impl From<AllocError> for Failure {
     ghost from_gives = { λ _ e. e ≡ Memory };
 
-    fn from(_e: AllocError) -> Stop {
-        Stop::Memory
+    fn from(_e: AllocError) -> Failure {
+        Failure::Memory
     }
 }
 
-impl<T: Drop> From<AllocFailed<T>> for Stop {
+impl<T: Drop> From<AllocFailed<T>> for Failure {
     ghost from_gives = { λ _ e. e ≡ Memory };
 
-    fn from(_e: AllocFailed<T>) -> Stop {
-        Stop::Memory
+    fn from(_e: AllocFailed<T>) -> Failure {
+        Failure::Memory
     }
 }
 
@@ -123,7 +123,7 @@ impl<T: Drop> From<AllocFailed<T>> for Stop {
 #[derive(Clone, Copy, Debug, PartialEq, Eq)]
 pub struct ParseError {
     pub(crate) kind: ParseErrorKind,
-    pub(crate) place: Place,
+    pub(crate) context: Context,
     pub(crate) position: usize,
 }
 
@@ -152,7 +152,7 @@ impl ParseError {
         use ParseErrorKind as Kind;
         match self.kind {
             Kind::ExpectedRoot => "expected '$'",
-            Kind::BadMemberName => self.place.bad_member_name(),
+            Kind::BadMemberName => self.context.bad_member_name(),
             Kind::ExpectedClosingBracket => "in long-hand segment, expected closing ']'",
             Kind::ExpectedEndingQuote => "in long-hand segment, expected an ending quote",
             Kind::BadEscape => "in long-hand segment, bad escape",
@@ -196,19 +196,19 @@ impl fmt::Display for ParseError {
     }
 }
 
-impl Stop {
+impl Failure {
     ghost use Rattle.std.specs.Prelude.{◌<◌};
-    ghost use Rattle.serde_json_path_parser.specs.declared.error.Place.TheVariants.{LongHand};
+    ghost use Rattle.serde_json_path_parser.specs.declared.error.Context.TheVariants.{LongHand};
     ghost use Rattle.serde_json_path_parser.specs.Giving.{IsWithin, error_of};
     ghost use Rattle.serde_json_path_parser.specs.Looking.{greatest_usize};
 
     /// A refusal inside a bracket, at a place from which so many bytes of the text are left.
-    pub(crate) fn in_long_hand(kind: ParseErrorKind, left: usize) -> Stop
-        ensures { result ≡ Stop.Refused (record { kind = kind; place = LongHand; left = left }) }
+    pub(crate) fn in_long_hand(kind: ParseErrorKind, left: usize) -> Failure
+        ensures { result ≡ Failure.Refused (record { kind = kind; context = LongHand; left = left }) }
     {
-        Stop::Refused(Refusal {
+        Failure::Refused(Refusal {
             kind,
-            place: Place::LongHand,
+            context: Context::LongHand,
             left,
         })
     }
@@ -220,14 +220,14 @@ impl Stop {
         ensures { result ≡ error_of self total }
     {
         match self {
-            Stop::Memory => ParseError {
+            Failure::Memory => ParseError {
                 kind: ParseErrorKind::NoMemory,
-                place: Place::Path,
+                context: Context::Path,
                 position: 1,
             },
-            Stop::Refused(refusal) => ParseError {
+            Failure::Refused(refusal) => ParseError {
                 kind: refusal.kind,
-                place: refusal.place,
+                context: refusal.context,
                 position: total - refusal.left + 1,
             },
         }

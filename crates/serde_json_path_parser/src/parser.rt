@@ -2,7 +2,7 @@
 
 mod call;
 mod decode;
-mod level;
+mod filter_parser;
 mod logical;
 mod name_part;
 mod operand;
@@ -19,8 +19,8 @@ ghost use Rattle.serde_json_path_functions.specs.Functions.{Fits};
 ghost use Rattle.serde_json_path_parser.specs.Errors.{kind_of, position_of, is_told_at_next};
 ghost use Rattle.serde_json_path_parser.specs.Parse.{IsParseOf};
 
-use crate::error::{ParseError, Stop};
-use crate::parser::query::query;
+use crate::error::{Failure, ParseError};
+use crate::parser::query::parse_path;
 use crate::parser::reader::Reader;
 use crate::source::PathSource;
 use serde_json_path_functions::Functions;
@@ -58,10 +58,10 @@ pub fn parse<S: PathSource, F: Functions>(
     ensures unseen { length (S.told source.old).text ≡ 2 ^ 64 - 1 → S.told source.new ≡ S.told source.old }
 {
     if source.len() == usize::MAX {
-        return Err(Stop::Memory.in_text(0));
+        return Err(Failure::Memory.in_text(0));
     }
     let mut reader = Reader::new(source);
-    let read = query(alloc, &mut reader, functions);
+    let read = parse_path(alloc, &mut reader, functions);
     let total = reader.len();
     reader.close();
     match read {

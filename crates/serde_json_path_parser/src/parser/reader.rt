@@ -10,7 +10,7 @@ ghost use Rattle.serde_json_path_parser.specs.Parsed.{front, behind};
 ghost use Rattle.serde_json_path_parser.specs.Numbers.{is_exponent};
 ghost use Rattle.serde_json_path_parser.specs.Strings.{is_hexadecimal, is_letter_escape, is_control, is_inside};
 
-use crate::error::{ParseErrorKind, Place, Refusal, Stop};
+use crate::error::{Context, Failure, ParseErrorKind, Refusal};
 use crate::parser::decode::{byte_at, byte_below, wide_character_at};
 use crate::parser::name_part::push_name_part;
 use crate::source::PathSource;
@@ -150,26 +150,26 @@ impl<'s, S: PathSource> Reader<'s, S> {
     }
 
     /// A refusal at the next character.
-    pub(crate) fn refuse(&self, kind: ParseErrorKind, place: Place) -> Stop
-        ensures value { result ≡ Stop.Refused (refusal kind place (left self.now)) }
+    pub(crate) fn refuse(&self, kind: ParseErrorKind, context: Context) -> Failure
+        ensures value { result ≡ Failure.Refused (refusal kind context (left self.now)) }
         ensures near { StopsNear result self.now }
     {
-        Stop::Refused(Refusal {
+        Failure::Refused(Refusal {
             kind,
-            place,
+            context,
             left: self.bytes_left(),
         })
     }
 
     /// A refusal at the ASCII character that was just taken.
-    pub(crate) fn refuse_before(&self, kind: ParseErrorKind, place: Place) -> Stop
+    pub(crate) fn refuse_before(&self, kind: ParseErrorKind, context: Context) -> Failure
         requires { self.now.second ≡ None }
-        ensures value { (c : ℕ) → c < 128 → result ≡ Stop.Refused (refusal kind place (c ∷ left self.now)) }
+        ensures value { (c : ℕ) → c < 128 → result ≡ Failure.Refused (refusal kind context (c ∷ left self.now)) }
         ensures near { StopsNear result self.now }
     {
-        Stop::Refused(Refusal {
+        Failure::Refused(Refusal {
             kind,
-            place,
+            context,
             left: self.bytes_left() + 1,
         })
     }

@@ -4,7 +4,7 @@ use Rattle.serde_json_path_parser.specs.Reading.{left}
 use Rattle.serde_json_path_parser.specs.Lexical.{begins, is_digit, value_from}
 use Rattle.serde_json_path_parser.specs.Parsed.{front}
 use Rattle.serde_json_path_parser.proofs.Runs.{digit_taken, behind_more, front_end}
-use Rattle.serde_json_path_parser.proofs.parser.primitive.decimal.decimal.Goals as goal
+use Rattle.serde_json_path_parser.proofs.parser.primitive.decimal.parse_decimal.Goals as goal
 
 pub loop-reader-preserved : goal.loop-reader-preserved
 loop-reader-preserved g c =
@@ -21,6 +21,6 @@ loop-reader-preserved g c =
 pub returns-clause-value : goal.returns-clause-value
 returns-clause-value g c =
     let seen : begins is_digit (left c.loop-reader.reader) ≡ false = sym c.sees_digit.ensures ∙ c.loop-reader-test.false in
-    let stops : min c.loop-reader.n (2 ^ 128 - 1) ≡ min (value_from 0 (front is_digit (left c.args.reader.now))) (2 ^ 128 - 1) =
+    let failures : min c.loop-reader.n (2 ^ 128 - 1) ≡ min (value_from 0 (front is_digit (left c.args.reader.now))) (2 ^ 128 - 1) =
     ap (λ (l : List ℕ). min (value_from c.loop-reader.n l) (2 ^ 128 - 1)) (sym (front_end is_digit (left c.loop-reader.reader) seen)) ∙ c.loop-reader.invariant.value in
-    omega (arith, stops, c.loop-reader.invariant.bound)
+    omega (arith, failures, c.loop-reader.invariant.bound)

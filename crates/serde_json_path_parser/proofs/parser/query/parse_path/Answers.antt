@@ -4,26 +4,26 @@ use Rattle.serde_json_path_syntax.specs.Flat.{parts_in}
 use Rattle.serde_json_path_syntax.specs.Tree.{query, root}
 use Rattle.serde_json_path_syntax.specs.Used.{AreCalled}
 use Rattle.serde_json_path_functions.specs.Functions.{Fits}
-use Rattle.serde_json_path_parser.specs.declared.error.Place.TheVariants as place
+use Rattle.serde_json_path_parser.specs.declared.error.Context.TheVariants as context
 use Rattle.serde_json_path_parser.specs.Filters as filters
 use Rattle.serde_json_path_parser.specs.Parsing.{segments_at, segment_list}
 use Rattle.serde_json_path_parser.specs.Reading.{left}
 use Rattle.serde_json_path_parser.proofs.PartLists.{no_part, no_segment}
 use Rattle.serde_json_path_parser.proofs.PathTexts.{all_read, none_read, path_ends, path_sound}
-use Rattle.serde_json_path_parser.proofs.parser.query.query.Goals as goal
+use Rattle.serde_json_path_parser.proofs.parser.query.parse_path.Goals as goal
 
 pub returns-then-is_empty-clause-gives : goal.returns-then-is_empty-clause-gives
 returns-then-is_empty-clause-gives g c =
     let F = g.F.Functions.set c.args.functions.now in
     let behind = left c.take_char.new.self in
     let gives = c.in_ok-parts.ensures.gives in
-    let read = subst (λ d. segments_at (filters.filter_at F.signature (filters.level F.signature d)) place.Path behind ≡ Ok (gives.0, gives.1)) c.outermost.ensures.depth
-    (subst (λ fs. segments_at (filters.filter_at (g.F.Functions.set fs).signature (filters.level (g.F.Functions.set fs).signature c.outermost.result.depth)) place.Path behind ≡ Ok (gives.0, gives.1)) c.outermost.ensures.functions gives.5) in
+    let read = subst (λ d. segments_at (filters.filter_at F.signature (filters.level F.signature d)) context.Path behind ≡ Ok (gives.0, gives.1)) c.outermost.ensures.depth
+    (subst (λ fs. segments_at (filters.filter_at (g.F.Functions.set fs).signature (filters.level (g.F.Functions.set fs).signature c.outermost.result.depth)) context.Path behind ≡ Ok (gives.0, gives.1)) c.outermost.ensures.functions gives.5) in
     let rooted = sym c.sees.ensures ∙ c.if-not-sees.false in
     let none = c.is_empty.ensures.0 c.if-is_empty.true in
     let ended = all_read gives.1 c.in_ok-parts.rest gives.3 (omega (arith, c.if-rest-ne0.false)) in
     let whole = path_ends F.signature (left c.args.reader.now) behind gives.1 c.take_char.result gives.0 rooted c.take_char.ensures.value read ended in
-    let empty = no_part c.segments.new.builder (parts_in c.in_ok-parts.parts) gives.0 gives.2 none in (
+    let empty = no_part c.parse_segments.new.builder (parts_in c.in_ok-parts.parts) gives.0 gives.2 none in (
       segment_list gives.0,
       c.new.ensures.tree ∙ ap (λ ss. query root (segment_list ss)) (sym empty),
       whole,
@@ -37,12 +37,12 @@ returns-in_err-part-clause-spares g c =
     let behind = left c.take_char.new.self in
     let p = err_from_is_err_and c.from_residual-in_err-part.result c.from_residual-in_err-part.ensures.1 in
     let gives = c.in_ok-parts.ensures.gives in
-    let read = subst (λ d. segments_at (filters.filter_at F.signature (filters.level F.signature d)) place.Path behind ≡ Ok (gives.0, gives.1)) c.outermost.ensures.depth
-    (subst (λ fs. segments_at (filters.filter_at (g.F.Functions.set fs).signature (filters.level (g.F.Functions.set fs).signature c.outermost.result.depth)) place.Path behind ≡ Ok (gives.0, gives.1)) c.outermost.ensures.functions gives.5) in
+    let read = subst (λ d. segments_at (filters.filter_at F.signature (filters.level F.signature d)) context.Path behind ≡ Ok (gives.0, gives.1)) c.outermost.ensures.depth
+    (subst (λ fs. segments_at (filters.filter_at (g.F.Functions.set fs).signature (filters.level (g.F.Functions.set fs).signature c.outermost.result.depth)) context.Path behind ≡ Ok (gives.0, gives.1)) c.outermost.ensures.functions gives.5) in
     let rooted = sym c.sees.ensures ∙ c.if-not-sees.false in
     rw (p.1) (λ closed.
     let none = none_read F.signature (left c.args.reader.now) behind gives.1 c.take_char.result gives.0 rooted c.take_char.ensures.value read closed in
-    let empty = c.is_empty.ensures.1 (no_segment c.segments.new.builder (parts_in c.in_ok-parts.parts) gives.0 gives.2 none) in
+    let empty = c.is_empty.ensures.1 (no_segment c.parse_segments.new.builder (parts_in c.in_ok-parts.parts) gives.0 gives.2 none) in
     absurd (true≢false (sym empty ∙ c.if-is_empty.false)))
 
 pub signatures-requires : goal.signatures-requires
@@ -50,8 +50,8 @@ signatures-requires g c =
     let F = g.F.Functions.set c.args.functions.now in
     let behind = left c.take_char.new.self in
     let gives = c.in_ok-parts.ensures.gives in
-    let read = subst (λ d. segments_at (filters.filter_at F.signature (filters.level F.signature d)) place.Path behind ≡ Ok (gives.0, gives.1)) c.outermost.ensures.depth
-    (subst (λ fs. segments_at (filters.filter_at (g.F.Functions.set fs).signature (filters.level (g.F.Functions.set fs).signature c.outermost.result.depth)) place.Path behind ≡ Ok (gives.0, gives.1)) c.outermost.ensures.functions gives.5) in
+    let read = subst (λ d. segments_at (filters.filter_at F.signature (filters.level F.signature d)) context.Path behind ≡ Ok (gives.0, gives.1)) c.outermost.ensures.depth
+    (subst (λ fs. segments_at (filters.filter_at (g.F.Functions.set fs).signature (filters.level (g.F.Functions.set fs).signature c.outermost.result.depth)) context.Path behind ≡ Ok (gives.0, gives.1)) c.outermost.ensures.functions gives.5) in
     let rooted = sym c.sees.ensures ∙ c.if-not-sees.false in
     let ended = all_read gives.1 c.in_ok-parts.rest gives.3 (omega (arith, c.if-rest-ne0.false)) in
     let whole = path_ends F.signature (left c.args.reader.now) behind gives.1 c.take_char.result gives.0 rooted c.take_char.ensures.value read ended in
@@ -64,12 +64,12 @@ returns-in_err-used-clause-spares g c =
     let behind = left c.take_char.new.self in
     let p = err_from_is_err_and c.from_residual-in_err-used.result c.from_residual-in_err-used.ensures.1 in
     let gives = c.in_ok-parts.ensures.gives in
-    let read = subst (λ d. segments_at (filters.filter_at F.signature (filters.level F.signature d)) place.Path behind ≡ Ok (gives.0, gives.1)) c.outermost.ensures.depth
-    (subst (λ fs. segments_at (filters.filter_at (g.F.Functions.set fs).signature (filters.level (g.F.Functions.set fs).signature c.outermost.result.depth)) place.Path behind ≡ Ok (gives.0, gives.1)) c.outermost.ensures.functions gives.5) in
+    let read = subst (λ d. segments_at (filters.filter_at F.signature (filters.level F.signature d)) context.Path behind ≡ Ok (gives.0, gives.1)) c.outermost.ensures.depth
+    (subst (λ fs. segments_at (filters.filter_at (g.F.Functions.set fs).signature (filters.level (g.F.Functions.set fs).signature c.outermost.result.depth)) context.Path behind ≡ Ok (gives.0, gives.1)) c.outermost.ensures.functions gives.5) in
     let rooted = sym c.sees.ensures ∙ c.if-not-sees.false in
     rw (p.1) (λ closed.
     let none = none_read F.signature (left c.args.reader.now) behind gives.1 c.take_char.result gives.0 rooted c.take_char.ensures.value read closed in
-    let empty = c.is_empty.ensures.1 (no_segment c.segments.new.builder (parts_in c.in_ok-parts.parts) gives.0 gives.2 none) in
+    let empty = c.is_empty.ensures.1 (no_segment c.parse_segments.new.builder (parts_in c.in_ok-parts.parts) gives.0 gives.2 none) in
     absurd (true≢false (sym empty ∙ c.if-is_empty.false)))
 
 pub finish-requires : goal.finish-requires
@@ -77,8 +77,8 @@ finish-requires g c =
     let F = g.F.Functions.set c.args.functions.now in
     let behind = left c.take_char.new.self in
     let gives = c.in_ok-parts.ensures.gives in
-    let read = subst (λ d. segments_at (filters.filter_at F.signature (filters.level F.signature d)) place.Path behind ≡ Ok (gives.0, gives.1)) c.outermost.ensures.depth
-    (subst (λ fs. segments_at (filters.filter_at (g.F.Functions.set fs).signature (filters.level (g.F.Functions.set fs).signature c.outermost.result.depth)) place.Path behind ≡ Ok (gives.0, gives.1)) c.outermost.ensures.functions gives.5) in
+    let read = subst (λ d. segments_at (filters.filter_at F.signature (filters.level F.signature d)) context.Path behind ≡ Ok (gives.0, gives.1)) c.outermost.ensures.depth
+    (subst (λ fs. segments_at (filters.filter_at (g.F.Functions.set fs).signature (filters.level (g.F.Functions.set fs).signature c.outermost.result.depth)) context.Path behind ≡ Ok (gives.0, gives.1)) c.outermost.ensures.functions gives.5) in
     let rooted = sym c.sees.ensures ∙ c.if-not-sees.false in
     let ended = all_read gives.1 c.in_ok-parts.rest gives.3 (omega (arith, c.if-rest-ne0.false)) in
     let whole = path_ends F.signature (left c.args.reader.now) behind gives.1 c.take_char.result gives.0 rooted c.take_char.ensures.value read ended in
@@ -92,8 +92,8 @@ returns-clause-gives g c =
     let F = g.F.Functions.set c.args.functions.now in
     let behind = left c.take_char.new.self in
     let gives = c.in_ok-parts.ensures.gives in
-    let read = subst (λ d. segments_at (filters.filter_at F.signature (filters.level F.signature d)) place.Path behind ≡ Ok (gives.0, gives.1)) c.outermost.ensures.depth
-    (subst (λ fs. segments_at (filters.filter_at (g.F.Functions.set fs).signature (filters.level (g.F.Functions.set fs).signature c.outermost.result.depth)) place.Path behind ≡ Ok (gives.0, gives.1)) c.outermost.ensures.functions gives.5) in
+    let read = subst (λ d. segments_at (filters.filter_at F.signature (filters.level F.signature d)) context.Path behind ≡ Ok (gives.0, gives.1)) c.outermost.ensures.depth
+    (subst (λ fs. segments_at (filters.filter_at (g.F.Functions.set fs).signature (filters.level (g.F.Functions.set fs).signature c.outermost.result.depth)) context.Path behind ≡ Ok (gives.0, gives.1)) c.outermost.ensures.functions gives.5) in
     let rooted = sym c.sees.ensures ∙ c.if-not-sees.false in
     let ended = all_read gives.1 c.in_ok-parts.rest gives.3 (omega (arith, c.if-rest-ne0.false)) in
     let whole = path_ends F.signature (left c.args.reader.now) behind gives.1 c.take_char.result gives.0 rooted c.take_char.ensures.value read ended in

@@ -11,19 +11,19 @@ const DEEPEST: u8 = 128;
 
 /// The functions that filters call, and how many filters, parentheses and calls may still stand within each other.
 #[derive(Drop)]
-pub(crate) struct Level<'f, F: Functions> {
+pub(crate) struct FilterParser<'f, F: Functions> {
     pub(crate) alloc: Global,
     pub(crate) functions: &'f F,
     pub(crate) depth: u8,
 }
 
-impl<'f, F: Functions> Level<'f, F> {
+impl<'f, F: Functions> FilterParser<'f, F> {
     /// Outside of every filter.
-    pub(crate) fn outermost(alloc: Global, functions: &'f F) -> Level<'f, F>
+    pub(crate) fn outermost(alloc: Global, functions: &'f F) -> FilterParser<'f, F>
         ensures functions { result.functions.now ≡ functions.now }
         ensures depth { result.depth ≡ deepest }
     {
-        Level {
+        FilterParser {
             alloc,
             functions,
             depth: DEEPEST,
@@ -31,12 +31,12 @@ impl<'f, F: Functions> Level<'f, F> {
     }
 
     /// Inside one filter, parenthesis or call more.
-    pub(crate) fn deeper(&self) -> Level<'f, F>
+    pub(crate) fn deeper(&self) -> FilterParser<'f, F>
         requires { 0 < self.now.depth }
         ensures functions { result.functions.now ≡ self.now.functions.now }
         ensures depth { result.depth ≡ self.now.depth - 1 }
     {
-        Level {
+        FilterParser {
             alloc: self.alloc,
             functions: self.functions,
             depth: self.depth - 1,

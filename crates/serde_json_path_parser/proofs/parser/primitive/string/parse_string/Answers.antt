@@ -7,7 +7,7 @@ use Rattle.serde_json_path_parser.specs.Reading.{left}
 use Rattle.serde_json_path_parser.specs.Strings.{is_inside, string_at}
 use Rattle.serde_json_path_parser.proofs.StringTexts.{piece_takes}
 use Rattle.serde_json_path_parser.proofs.StringLoops as t
-use Rattle.serde_json_path_parser.proofs.parser.primitive.string.string.Goals as goal
+use Rattle.serde_json_path_parser.proofs.parser.primitive.string.parse_string.Goals as goal
 
 pub returns-in_err-c-clause-gives : goal.returns-in_err-c-clause-gives
 returns-in_err-c-clause-gives g c =
@@ -25,7 +25,7 @@ pieces-preserved g c =
     let s : begins (is_inside c.args.quote) (left c.pieces.reader) ≡ true = sym c.sees_inside.ensures ∙ c.pieces-test.true in
     record {
       moves = grind (arith, common_steps);
-      so_far = rw c.in_ok-push.ensures.bytes (t.goes_on c.args.quote c.requires (string_bytes c.pieces.text) c.in_ok-c.c (left c.pieces.reader) (left c.piece.new.reader) (string_at c.args.quote (left c.args.reader.now)) s c.in_ok-c.ensures.gives c.pieces.invariant.so_far);
+      so_far = rw c.in_ok-push.ensures.bytes (t.goes_on c.args.quote c.requires (string_bytes c.pieces.text) c.in_ok-c.c (left c.pieces.reader) (left c.parse_piece.new.reader) (string_at c.args.quote (left c.args.reader.now)) s c.in_ok-c.ensures.gives c.pieces.invariant.so_far);
     }
 
 pub returns-then-not-sees-clause-gives : goal.returns-then-not-sees-clause-gives

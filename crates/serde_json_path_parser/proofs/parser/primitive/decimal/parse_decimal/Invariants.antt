@@ -2,7 +2,7 @@ use Rattle.std.proofs.Common.{◌≡◌, ◌≤◌, ◌^◌, ◌-◌, min, lengt
 use Rattle.serde_json_path_parser.specs.Lexical.{is_digit, value_from}
 use Rattle.serde_json_path_parser.specs.Parsed.{front, behind}
 use Rattle.serde_json_path_parser.specs.Reading.{left, Moves}
-use Rattle.serde_json_path_parser.proofs.parser.primitive.decimal.decimal.Given as goal
+use Rattle.serde_json_path_parser.proofs.parser.primitive.decimal.parse_decimal.Given as goal
 
 abbrev pub invariant-loop-reader : goal.invariant-loop-reader
 invariant-loop-reader g l = record {
