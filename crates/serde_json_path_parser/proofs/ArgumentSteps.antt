@@ -22,10 +22,10 @@ use Rattle.serde_json_path_parser.specs.Parsed.{Parsed, ◌>>=◌, refusal, past
 use Rattle.serde_json_path_parser.specs.Numbers.{whole_at, amount_at, number_at}
 use Rattle.serde_json_path_parser.specs.Operands.{Operand, fits}
 use Rattle.serde_json_path_parser.specs.Filters.{Deeper, alone, ends_argument, ended, operand_at, basic_from, and_from, or_from, or_at, logical_from, argument_at, judged, arguments_at}
-use Rattle.serde_json_path_parser.proofs.Blanks.{no_longer}
-use Rattle.serde_json_path_parser.proofs.CallPlaces.{behind_argument}
+use Rattle.serde_json_path_parser.proofs.Texts.{no_longer}
+use Rattle.serde_json_path_parser.proofs.Calls.{behind_argument}
 use Rattle.serde_json_path_parser.proofs.LogicalForms.{DeeperLaws}
-use Rattle.serde_json_path_parser.proofs.Refusals.{same_fails, first_fails}
+use Rattle.serde_json_path_parser.proofs.Steps.{same_fails, first_fails}
 use Rattle.serde_json_path_parser.proofs.Stands.{err_is}
 
 first_of : (cs : List ℕ) → begins (λ c. c == 40 || c == 33) cs ≡ (begins (λ c. c == 40) cs || begins (λ c. c == 33) cs)

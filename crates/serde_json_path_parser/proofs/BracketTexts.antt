@@ -9,12 +9,11 @@ use Rattle.serde_json_path_parser.specs.Lexical.{begins, IsBlank}
 use Rattle.serde_json_path_parser.specs.Grammar.{ReadsSegment, ReadSelectors, ReadMoreSelectors}
 use Rattle.serde_json_path_parser.specs.Parsed.{Parsed, ◌>>=◌, refusal, past_blanks, many}
 use Rattle.serde_json_path_parser.specs.Parsing.{selector_at, next_selector_at, selectors_at, selector_list, bracket_at}
-use Rattle.serde_json_path_parser.proofs.Blanks.{past_all, blanks_of, are_blank, split_blanks}
+use Rattle.serde_json_path_parser.proofs.Texts.{past_all, blanks_of, are_blank, split_blanks, gathered_behind, enclosed, spread}
 use Rattle.serde_json_path_parser.proofs.Many as m
-use Rattle.serde_json_path_parser.proofs.Regrouped.{gathered_behind, enclosed, spread}
 use Rattle.serde_json_path_parser.proofs.Rows as r
 use Rattle.serde_json_path_parser.proofs.Runs.{some_begun}
-use Rattle.serde_json_path_parser.proofs.SelectorTexts.{selector_sound, selector_again, begins_no_blank}
+use Rattle.serde_json_path_parser.proofs.Selectors.{selector_sound, selector_again, begins_no_blank}
 use Rattle.serde_json_path_parser.proofs.Filtered.{Closes, AreGoodSelectors, IsGoodSegment, IsGoodText, FilterLaws}
 use Rattle.serde_json_path_parser.proofs.Steps.{Read, Spaced, bind_ok, guard, done, ok_is, after_one, many_sound}
 

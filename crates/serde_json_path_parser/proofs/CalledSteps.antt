@@ -14,7 +14,7 @@ use Rattle.serde_json_path_parser.specs.Operands.{a_literal, a_query, a_call}
 use Rattle.serde_json_path_parser.specs.Numbers.{number_at}
 use Rattle.serde_json_path_parser.specs.Words.{literal_word}
 use Rattle.serde_json_path_parser.specs.Filters.{Deeper, word, behind_word, begins_call, named_call_at, named_at, query_at, operand_at, ended, arguments_at, parameters_at, call_at, level}
-use Rattle.serde_json_path_parser.proofs.Refusals.{same_fails, first_fails}
+use Rattle.serde_json_path_parser.proofs.Steps.{same_fails, first_fails}
 use Rattle.serde_json_path_parser.proofs.WordTexts.{literal_word_reads}
 
 -- ---- levels

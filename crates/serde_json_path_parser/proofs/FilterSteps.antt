@@ -10,7 +10,7 @@ use Rattle.serde_json_path_parser.specs.Giving.{Fails}
 use Rattle.serde_json_path_parser.specs.Lexical.{begins}
 use Rattle.serde_json_path_parser.specs.Parsed.{Parsed, ◌>>=◌, past_blanks, byte_count}
 use Rattle.serde_json_path_parser.specs.Parsing.{selector_at, segments_at, segment_list}
-use Rattle.serde_json_path_parser.proofs.Refusals.{same_fails, first_fails}
+use Rattle.serde_json_path_parser.proofs.Steps.{same_fails, first_fails}
 use Rattle.serde_json_path_parser.proofs.Runs.{begins_differs}
 
 module _ (signature : List ℕ → Option Signature) (deeper : Deeper) where

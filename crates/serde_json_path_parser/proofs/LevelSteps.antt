@@ -14,7 +14,7 @@ use Rattle.serde_json_path_parser.proofs.FilterTexts.{filter_laws}
 use Rattle.serde_json_path_parser.proofs.Levels.{level_laws}
 use Rattle.serde_json_path_parser.proofs.LogicalForms.{IsGoodInside}
 use Rattle.serde_json_path_parser.proofs.Many as m
-use Rattle.serde_json_path_parser.proofs.SegmentTexts as segments
+use Rattle.serde_json_path_parser.proofs.Segments as segments
 
 module _ {F : Type 0} (set : F → FunctionSet) (l : FilterParser F) where
   laws : FilterLaws (IsGoodInside (signatures set l) l.depth) (filter_at set l)

@@ -8,13 +8,9 @@ use Rattle.serde_json_path_parser.specs.declared.error.Context.TheVariants as co
 use Rattle.serde_json_path_parser.specs.Grammar.{ReadsOr}
 use Rattle.serde_json_path_parser.specs.Parsed.{Parsed, refusal, byte_count}
 use Rattle.serde_json_path_parser.specs.Filters.{level}
-use Rattle.serde_json_path_parser.proofs.CallPlaces.{call_stands}
-use Rattle.serde_json_path_parser.proofs.CallReads.{call_again}
-use Rattle.serde_json_path_parser.proofs.CallTexts.{call_sound}
+use Rattle.serde_json_path_parser.proofs.Calls.{call_stands, call_again, call_sound}
 use Rattle.serde_json_path_parser.proofs.LogicalForms.{IsGoodInside, IsGoodCall, DeeperLaws, ReadsBehindName}
-use Rattle.serde_json_path_parser.proofs.LogicalPlaces.{or_stands}
-use Rattle.serde_json_path_parser.proofs.LogicalReads.{or_again}
-use Rattle.serde_json_path_parser.proofs.LogicalTexts.{or_sound}
+use Rattle.serde_json_path_parser.proofs.Logical.{or_stands, or_again, or_sound}
 use Rattle.serde_json_path_parser.proofs.Stands.{Inner, Stands, here, further}
 use Rattle.serde_json_path_parser.proofs.Steps.{Read, Spaced, made_of}
 

@@ -27,13 +27,12 @@ use Rattle.serde_json_path_parser.specs.Lexical.{begins, begins_both}
 use Rattle.serde_json_path_parser.specs.Operands.{Operand, a_literal, a_query, a_call, is_result}
 use Rattle.serde_json_path_parser.specs.Parsed.{Parsed, ◌>>=◌, refusal, past_blanks, many, byte_count, refusal_at}
 use Rattle.serde_json_path_parser.proofs.Levels.{level_laws}
-use Rattle.serde_json_path_parser.proofs.LogicalTexts.{IsBasicText, IsAndText, next_basic_sound, next_and_sound}
+use Rattle.serde_json_path_parser.proofs.Logical.{IsBasicText, IsAndText, next_basic_sound, next_and_sound}
 use Rattle.serde_json_path_parser.proofs.Many as m
 use Rattle.serde_json_path_parser.proofs.Many.{with_front}
-use Rattle.serde_json_path_parser.proofs.Refusals.{first_fails}
+use Rattle.serde_json_path_parser.proofs.Steps.{first_fails, chosen, done, ok_is, bind_ok}
 use Rattle.serde_json_path_parser.proofs.Rows as r
 use Rattle.serde_json_path_parser.proofs.Runs.{some_begun}
-use Rattle.serde_json_path_parser.proofs.Steps.{chosen, done, ok_is, bind_ok}
 
 -- ---- one step
 

@@ -23,9 +23,8 @@ use Rattle.serde_json_path_parser.specs.Operands.{IsUndeclared}
 use Rattle.serde_json_path_parser.specs.Filters.{path_at}
 use Rattle.serde_json_path_parser.specs.Giving.{Fails, IsRefused, IsWithin, error_of}
 use Rattle.serde_json_path_parser.specs.Parse.{is_dollar, NeedsNoMemory, IsParseOf}
-use Rattle.serde_json_path_parser.proofs.Blanks.{past_all}
-use Rattle.serde_json_path_parser.proofs.PathTexts.{ArePathSegments, path_sound, path_again}
-use Rattle.serde_json_path_parser.proofs.Places.{NoRoot, TextBehind, SegmentRefused, path_refused, scalars_behind, boundary}
+use Rattle.serde_json_path_parser.proofs.Texts.{past_all}
+use Rattle.serde_json_path_parser.proofs.Paths.{ArePathSegments, path_sound, path_again, NoRoot, TextBehind, SegmentRefused, path_refused, scalars_behind, boundary}
 use Rattle.serde_json_path_parser.proofs.Stands.{is_plain, Inner}
 use Rattle.serde_json_path_parser.proofs.Steps.{ok_is}
 

@@ -5,8 +5,7 @@ use Rattle.std.proofs.lemmas.List.{append-nil, length-append}
 use Rattle.serde_json_path_parser.specs.Lexical.{begins, is_blank, IsBlank, Joined}
 use Rattle.serde_json_path_parser.specs.Grammar.{IsSign}
 use Rattle.serde_json_path_parser.specs.Parsed.{past_blanks}
-use Rattle.serde_json_path_parser.proofs.Blanks.{past_all, blanks_of, are_blank, split_blanks}
-use Rattle.serde_json_path_parser.proofs.Regrouped.{gathered, spread}
+use Rattle.serde_json_path_parser.proofs.Texts.{past_all, blanks_of, are_blank, split_blanks, gathered, spread}
 use Rattle.serde_json_path_parser.proofs.Steps.{Read, Spaced}
 
 -- a sign and what follows, behind the blanks

@@ -10,7 +10,7 @@ use Rattle.serde_json_path_parser.specs.Parsed.{Parsed, ◌>>=◌, past_blanks, 
 use Rattle.serde_json_path_parser.specs.Parsing.{name_at, selector_at, next_selector_at, selectors_at, selector_list, bracket_at, dotted_at, of_kind, segment_at, next_segment_at}
 use Rattle.serde_json_path_parser.proofs.BracketTexts.{is_comma}
 use Rattle.serde_json_path_parser.proofs.Many.{with_front}
-use Rattle.serde_json_path_parser.proofs.Refusals.{same_fails, first_fails}
+use Rattle.serde_json_path_parser.proofs.Steps.{same_fails, first_fails}
 
 -- how a filter is read
 module _ (filter_at : List ℕ → Parsed Selector) where

@@ -1,4 +1,4 @@
--- Steps of reading: what an answer says of each, and items one after the other.
+-- Steps of reading: what an answer says of each, items one after another, and what stops where a step stops.
 use Rattle.std.proofs.Common.{◌≡◌, ℕ, zero, suc, ◌⊎◌, inl, inr, Bool, true, false, cond, List, [], ◌∷◌, ◌++◌, drop, Result, Ok, Err, refl, sym, ap, subst, ◌∙◌, append_assoc}
 use Rattle.std.specs.Prelude.{◌==◌}
 use Rattle.std.proofs.lemmas.Bool.{eqb-true}
@@ -6,6 +6,9 @@ use Rattle.serde_json_path_parser.specs.declared.error.Refusal.{Refusal}
 use Rattle.serde_json_path_parser.specs.Lexical.{begins, IsBlank, Joined}
 use Rattle.serde_json_path_parser.specs.Parsed.{Parsed, ◌>>=◌, many_at, many}
 use Rattle.serde_json_path_parser.proofs.Many as m
+use Rattle.serde_json_path_parser.specs.declared.error.Failure.{Failure}
+use Rattle.serde_json_path_parser.specs.declared.error.Failure.TheVariants as failures
+use Rattle.serde_json_path_parser.specs.Giving.{Fails}
 
 -- ---- one step
 
@@ -96,3 +99,14 @@ module _ {A : Type 0} (is : List ℕ → A → Type 0) (more : List ℕ → Bool
       ap (many more item) regrouped
       ∙ m.many_more more item law.takes (h.0 ++ (h.1 ++ rest)) (h.1 ++ rest) x (law.starts h.0 x (h.1 ++ rest) h.2) (law.again h.0 x (h.1 ++ rest) h.2 (stops_at h.1 xs rest h.3 s))
       ∙ ap (m.with_front (x ∷ [])) (many_again h.1 xs rest h.3 s e)
+
+-- ---- what stops where a step stops
+
+-- reading that is the same step fails as it does
+pub same_fails : {A : Type 0} (s : Failure) (read whole : Result A Refusal) → whole ≡ read → Fails s read → Fails s whole
+same_fails s read whole e h = subst (Fails s) (sym e) h
+
+-- what goes on behind a first step fails where that does
+pub first_fails : {A B : Type 0} (s : Failure) (read : Result A Refusal) (f : A → Result B Refusal) → Fails s read → Fails s (read >>= f)
+first_fails failures.Memory read f h = tt
+first_fails (failures.Refused r) read f h = ap (λ (x : Result _ Refusal). x >>= f) h

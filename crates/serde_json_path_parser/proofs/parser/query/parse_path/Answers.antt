@@ -9,7 +9,7 @@ use Rattle.serde_json_path_parser.specs.Filters as filters
 use Rattle.serde_json_path_parser.specs.Parsing.{segments_at, segment_list}
 use Rattle.serde_json_path_parser.specs.Reading.{left}
 use Rattle.serde_json_path_parser.proofs.PartLists.{no_part, no_segment}
-use Rattle.serde_json_path_parser.proofs.PathTexts.{all_read, none_read, path_ends, path_sound}
+use Rattle.serde_json_path_parser.proofs.Paths.{all_read, none_read, path_ends, path_sound}
 use Rattle.serde_json_path_parser.proofs.parser.query.parse_path.Goals as goal
 
 pub returns-then-is_empty-clause-gives : goal.returns-then-is_empty-clause-gives

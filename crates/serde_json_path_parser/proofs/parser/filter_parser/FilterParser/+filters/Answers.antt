@@ -1,4 +1,4 @@
-use Rattle.serde_json_path_parser.proofs.Refusals.{same_fails}
+use Rattle.serde_json_path_parser.proofs.Steps.{same_fails}
 use Rattle.std.proofs.Common.{◌≡◌, ◌∙◌, ◌∷◌, [], true, false, Some, Ok, Err, ◌++◌, ◌≤◌, ◌<◌, length, refl, sym, ap, subst, map, drop, option_map, arith, true≢false}
 use Rattle.std.specs.Prelude.{◌==◌, ◌||◌, string_bytes}
 use Rattle.std.proofs.lemmas.List.{nil_from_length}
@@ -23,13 +23,12 @@ use Rattle.std.proofs.lemmas.Grind.{common_steps}
 use Rattle.serde_json_path_syntax.specs.Flat.{parts_in, segment_kind_view, kind_view as query_kind_view}
 use Rattle.serde_json_path_syntax.proofs.NamedParts.{parts_kept}
 use Rattle.serde_json_path_parser.specs.Parsing.{opens, opens_next, bracket_at, next_selector_at, selectors_at, selector_list, segment_at, next_segment_at, segments_at, segment_list}
-use Rattle.serde_json_path_parser.proofs.Blanks.{no_longer}
+use Rattle.serde_json_path_parser.proofs.Texts.{no_longer}
 use Rattle.serde_json_path_parser.proofs.BracketTexts.{is_comma}
 use Rattle.serde_json_path_parser.proofs.FilterSteps.{filter_reads, filter_fails, query_reads, query_fails}
 use Rattle.serde_json_path_parser.proofs.LevelSteps.{selector_takes, segment_takes, segment_shorter}
-use Rattle.serde_json_path_parser.proofs.PartLists.{segment_pushed, first_selector, selector_pushed, selectors_kept}
+use Rattle.serde_json_path_parser.proofs.PartLists.{segment_pushed, first_selector, selector_pushed, selectors_kept, first_or, or_pushed, first_and, and_pushed}
 use Rattle.serde_json_path_parser.proofs.SegmentSteps.{selectors_begin, selectors_fail, next_selector_reads, next_selector_fails, bracket_reads, next_reads, next_fails}
-use Rattle.serde_json_path_parser.proofs.JoinedParts.{first_or, or_pushed, first_and, and_pushed}
 use Rattle.serde_json_path_parser.proofs.LogicalSteps.{behind_one, behind_two, read_more, row_shorter, row_goes_on, row_fails, row_done, ands, ors, too_deep, inside_is, no_operator_read, left_fails, operand_fails, right_fails, relation_read, call_is, paren_read, not_paren_read, no_current_read, no_root_read, negated_is_name, name_fails, no_call_read, value_refused, not_test_read}
 use Rattle.serde_json_path_parser.proofs.Many.{with_front}
 use Rattle.serde_json_path_parser.proofs.parser.filter_parser.FilterParser.+filters.Goals as goal

@@ -1,5 +1,5 @@
--- What is read as an index or a slice is one, with the blanks behind it, and each index and each slice is read.
-use Rattle.std.proofs.Common.{◌≡◌, ℕ, inl, inr, Bool, true, false, true≢false, List, [], ◌∷◌, ◌++◌, drop, Option, Some, None, Ok, refl, sym, ap, subst, ◌∙◌, append_assoc}
+-- Indexes and slices: what is read is one, each is read, and where a refusal of one stands.
+use Rattle.std.proofs.Common.{◌≡◌, ℕ, inl, inr, Bool, true, false, true≢false, List, [], ◌∷◌, ◌++◌, drop, Option, Some, None, Ok, refl, sym, ap, subst, ◌∙◌, append_assoc, Err}
 use Rattle.std.specs.Prelude.{ℤ, ◌==◌, ◌||◌}
 use Rattle.std.proofs.lemmas.List.{append-nil}
 use Rattle.serde_json_path_syntax.specs.Tree.{Slice, Selector, slice, index, LogicalOr}
@@ -7,11 +7,15 @@ use Rattle.serde_json_path_parser.specs.Grammar.{IsBound, IsSliceStep, IsSlice}
 use Rattle.serde_json_path_parser.specs.Lexical.{begins, is_blank, is_digit, IsBlank, IsInt}
 use Rattle.serde_json_path_parser.specs.Parsed.{Parsed, ◌>>=◌, front, past_blanks}
 use Rattle.serde_json_path_parser.specs.Parsing.{int_at, begins_int, bound_at, step_at, slice_at, position_at, selector_at}
-use Rattle.serde_json_path_parser.proofs.Blanks.{past_some}
+use Rattle.serde_json_path_parser.proofs.Texts.{past_some}
 use Rattle.serde_json_path_parser.proofs.Filtered.{Closes, IsGoodText}
-use Rattle.serde_json_path_parser.proofs.IntTexts.{int_sound, int_again, int_begins, int_not, int_no_blank}
+use Rattle.serde_json_path_parser.proofs.IntTexts.{int_sound, int_again, int_begins, int_not, int_no_blank, int_stands}
 use Rattle.serde_json_path_parser.proofs.Runs.{differs, no_blank, whole, front_each, behind_end}
 use Rattle.serde_json_path_parser.proofs.Steps.{Read, Spaced, bind_ok, chosen, done, ok_is, after_one}
+use Rattle.serde_json_path_parser.specs.declared.error.Refusal.{Refusal}
+use Rattle.serde_json_path_parser.proofs.Stands.{Plain, Stands, further, bind_stands, no_refusal, drop_one, drop_blanks}
+
+-- ---- what is read is in the grammar, and what is in the grammar is read
 
 -- ---- what is read is in the grammar
 
@@ -228,3 +232,38 @@ module _ (filter_at : List ℕ → Parsed Selector) where
           let tail = 58 ∷ (k ++ (b ++ (c ++ rest))) in
           let begun : t ++ rest ≡ n ++ (j ++ tail) = here ∙ ap (λ (l : List ℕ). l ++ tail) text ∙ append_assoc n j tail in
           ap (selector_at filter_at) begun ∙ at_position n i (j ++ tail) is ∙ begun_again n j i (k ++ (b ++ (c ++ rest))) s (past_blanks rest) is gap (parts (Some i) same)
+
+-- ---- where a refusal stands
+
+bound_stands : (cs : List ℕ) (r : Refusal) → bound_at cs ≡ Err r → Stands Plain cs r
+unfolding bound_at
+bound_stands cs r e = elim (chosen (begins begins_int cs) _ (done (None, cs)) (Err r) e) [
+  | inl a ↦ bind_stands cs (int_at cs) _ r (int_stands cs) (λ i s f. no_refusal cs _ r f) a.1
+  | inr a ↦ no_refusal cs _ r a.1
+]
+
+step_stands : (cs : List ℕ) (r : Refusal) → step_at cs ≡ Err r → Stands Plain cs r
+unfolding step_at
+step_stands cs r e = elim (chosen (begins (λ c. c == 58) cs) (bound_at (past_blanks (drop 1 cs))) (done (None, cs)) (Err r) e) [
+  | inl a ↦ drop_one cs r (drop_blanks (drop 1 cs) r (bound_stands (past_blanks (drop 1 cs)) r a.1))
+  | inr a ↦ no_refusal cs _ r a.1
+]
+
+pub slice_stands : (start : Option ℤ) (cs : List ℕ) (r : Refusal) → slice_at start cs ≡ Err r → Stands Plain cs r
+unfolding slice_at
+slice_stands start cs r e =
+    let here = past_blanks cs in
+    drop_blanks cs r (bind_stands here (bound_at here) _ r (bound_stands here) (λ end s f.
+    let read = bound_sound here end s in
+    further here read.text end.1 r read.split (bind_stands end.1 (step_at end.1) _ r (step_stands end.1) (λ step t g. no_refusal end.1 _ r g) f)) e)
+
+pub position_stands : (cs : List ℕ) (r : Refusal) → position_at cs ≡ Err r → Stands Plain cs r
+unfolding position_at
+position_stands cs r e = bind_stands cs (int_at cs) _ r (int_stands cs) (λ i s f.
+    let read = int_sound cs i s in
+    let rest = past_blanks i.1 in
+    let whole : Parsed Selector = slice_at (Some i.0) (drop 1 rest) >>= λ x. Ok (slice x.0, x.1) in
+    further cs read.text i.1 r read.split (drop_blanks i.1 r (elim (chosen (begins (λ c. c == 58) rest) whole (done (index i.0, rest)) (Err r) f) [
+      | inl a ↦ drop_one rest r (bind_stands (drop 1 rest) (slice_at (Some i.0) (drop 1 rest)) _ r (slice_stands (Some i.0) (drop 1 rest)) (λ x t g. no_refusal (drop 1 rest) _ r g) a.1)
+      | inr a ↦ no_refusal rest _ r a.1
+    ]))) e

@@ -1,12 +1,12 @@
--- What is read as a string is one, and each string is read.
+-- String literals: what is read is one, each is read, and where a refusal of one stands.
 use Rattle.std.proofs.Common.{◌≡◌, ℕ, ◌+◌, ◌*◌, ◌<◌, ◌⊎◌, inl, inr, Bool, true, false, cond, ◌&&◌, true≢false, List, [], ◌∷◌, ◌++◌, length, drop, Some, None, Ok, Err, refl, sym, ap, subst, ◌∙◌, append_assoc, arith}
-use Rattle.std.specs.Prelude.{nat_le, ◌==◌, not}
+use Rattle.std.specs.Prelude.{nat_le, ◌==◌, not, encode_utf8}
 use Rattle.std.specs.Str.{encode_utf8_all}
 use Rattle.std.specs.List.{AllByRecursion}
 use Rattle.std.proofs.Math.Bool.{and-false}
 use Rattle.std.proofs.lemmas.Bool.{eqb-true, eq-eqb, and_parts}
 use Rattle.std.proofs.lemmas.Bool.Decides.{eqb_tells}
-use Rattle.std.proofs.lemmas.List.{length-append}
+use Rattle.std.proofs.lemmas.List.{length-append, append-nil}
 use Rattle.std.proofs.lemmas.Option.{same_Some, none-some}
 use Rattle.serde_json_path_parser.specs.declared.error.ParseErrorKind.TheVariants.{ExpectedEndingQuote, BadEscape, ControlCharacter}
 use Rattle.serde_json_path_parser.specs.declared.error.Context.TheVariants as context
@@ -16,6 +16,13 @@ use Rattle.serde_json_path_parser.specs.Strings.{is_hexadecimal, hexadecimal_val
 use Rattle.serde_json_path_parser.proofs.Many as m
 use Rattle.serde_json_path_parser.proofs.Runs.{some_begun}
 use Rattle.serde_json_path_parser.proofs.Steps.{Read, bind_ok, chosen, guard, done, ok_is, after_one, many_sound, Again, many_again}
+use Rattle.serde_json_path_parser.specs.declared.error.Refusal.{Refusal}
+use Rattle.serde_json_path_parser.proofs.Stands.{Plain, Stands, here, further, bind_stands, guard_stands, no_refusal, many_stands}
+use Rattle.serde_json_path_parser.specs.declared.error.Failure.{Failure}
+use Rattle.serde_json_path_parser.specs.declared.error.Failure.TheVariants as failures
+use Rattle.serde_json_path_parser.specs.Giving.{Fails}
+
+-- ---- what is read is in the grammar, and what is in the grammar is read
 
 -- ---- hexadecimal digits
 
@@ -378,3 +385,105 @@ string_again t bytes rest (quote, inside, characters, is, pieces, text, value) =
     let ends : is_inside quote quote ≡ false = rw (quote_ends quote) refl in
     let read = many_again (IsPiece quote) (begins (is_inside quote)) (piece_at quote) (λ rest. Unit {0}) (pieces_law quote is) inside characters (quote ∷ rest) pieces tt ends in
     (quote, inner, is, text, ap (string_at quote) (append_assoc inside (quote ∷ []) rest) ∙ rw (read, quote_ends quote) (ap (λ (b : List ℕ). Ok (b, rest)) (sym value)))
+
+-- ---- where a refusal stands
+
+hexadecimal_stands : (escape cs : List ℕ) (r : Refusal) → hexadecimal_at (byte_count escape) cs ≡ Err r → Stands Plain escape r
+unfolding hexadecimal_at
+hexadecimal_stands escape cs r e =
+    guard_stands escape (begins is_hexadecimal cs) (done (hexadecimal_value (head cs), drop 1 cs)) BadEscape context.LongHand r refl (no_refusal escape _ r) e
+
+hex4_stands : (escape cs : List ℕ) (r : Refusal) → hex4_at (byte_count escape) cs ≡ Err r → Stands Plain escape r
+unfolding hex4_at
+hex4_stands escape cs r e =
+    bind_stands escape (hexadecimal_at (byte_count escape) cs) _ r (hexadecimal_stands escape cs) (λ a p f.
+    bind_stands escape (hexadecimal_at (byte_count escape) a.1) _ r (hexadecimal_stands escape a.1) (λ b q g.
+    bind_stands escape (hexadecimal_at (byte_count escape) b.1) _ r (hexadecimal_stands escape b.1) (λ c s h.
+    bind_stands escape (hexadecimal_at (byte_count escape) c.1) _ r (hexadecimal_stands escape c.1) (λ d t k. no_refusal escape _ r k) h) g) f) e
+
+low_stands : (escape : List ℕ) (high : ℕ) (cs : List ℕ) (r : Refusal) → low_at (byte_count escape) high cs ≡ Err r → Stands Plain escape r
+unfolding low_at
+low_stands escape high cs r e =
+    guard_stands escape (begins (λ c. c == 92) cs) _ BadEscape context.LongHand r refl (λ f.
+    guard_stands escape (begins (λ c. c == 117) (drop 1 cs)) _ BadEscape context.LongHand r refl (λ g.
+    bind_stands escape (hex4_at (byte_count escape) (drop 1 (drop 1 cs))) _ r (hex4_stands escape (drop 1 (drop 1 cs))) (λ l s h.
+    guard_stands escape (is_low l.0) (done (pair_of high l.0, l.1)) BadEscape context.LongHand r refl (no_refusal escape _ r) h) g) f) e
+
+unicode_stands : (escape cs : List ℕ) (r : Refusal) → unicode_at (byte_count escape) cs ≡ Err r → Stands Plain escape r
+unfolding unicode_at
+unicode_stands escape cs r e =
+    let bad : Parsed ℕ = Err (refusal BadEscape context.LongHand escape) in
+    bind_stands escape (hex4_at (byte_count escape) cs) _ r (hex4_stands escape cs) (λ h s f.
+    elim (chosen (is_high h.0) (low_at (byte_count escape) h.0 h.1) (cond (is_low h.0) bad (Ok (h.0, h.1))) (Err r) f) [
+      | inl a ↦ low_stands escape h.0 h.1 r a.1
+      | inr a ↦ elim (chosen (is_low h.0) bad (done (h.0, h.1)) (Err r) a.1) [
+        | inl b ↦ here BadEscape context.LongHand escape bad r refl refl b.1
+        | inr b ↦ no_refusal escape _ r b.1
+      ]
+    ]) e
+
+escape_stands : (quote : ℕ) (cs : List ℕ) (r : Refusal) → escape_at quote cs ≡ Err r → Stands Plain cs r
+unfolding escape_at
+escape_stands quote cs r e =
+    let letter : Parsed ℕ = Ok (letter_value (head (drop 1 cs)), drop 1 (drop 1 cs)) in
+    elim (chosen (begins (λ c. c == 117) (drop 1 cs)) (unicode_at (byte_count cs) (drop 1 (drop 1 cs))) _ (Err r) e) [
+      | inl a ↦ unicode_stands cs (drop 1 (drop 1 cs)) r a.1
+      | inr a ↦ guard_stands cs (begins (is_letter_escape quote) (drop 1 cs)) letter BadEscape context.LongHand r refl (no_refusal cs _ r) a.1
+    ]
+
+piece_stands : (quote : ℕ) (cs : List ℕ) (r : Refusal) → piece_at quote cs ≡ Err r → Stands Plain cs r
+unfolding piece_at
+piece_stands quote cs r e =
+    let bad : Parsed ℕ = Err (refusal ControlCharacter context.LongHand cs) in
+    elim (chosen (begins (λ c. c == 92) cs) (escape_at quote cs) (cond (begins is_control cs) bad (Ok (head cs, drop 1 cs))) (Err r) e) [
+      | inl a ↦ escape_stands quote cs r a.1
+      | inr a ↦ elim (chosen (begins is_control cs) bad (done (head cs, drop 1 cs)) (Err r) a.1) [
+        | inl b ↦ here ControlCharacter context.LongHand cs bad r refl refl b.1
+        | inr b ↦ no_refusal cs _ r b.1
+      ]
+    ]
+
+-- behind the opening quote
+pub string_stands : (quote : ℕ) → IsQuote quote → (cs : List ℕ) (r : Refusal) → string_at quote cs ≡ Err r → Stands Plain cs r
+unfolding string_at many
+string_stands quote is cs r e =
+    bind_stands cs (many (begins (is_inside quote)) (piece_at quote) cs) _ r
+    (λ d f. many_stands (IsPiece quote) (begins (is_inside quote)) (piece_at quote) (piece_sound quote is) (piece_stands quote) (length cs) cs d f)
+    (λ s f h.
+    let read = many_sound (IsPiece quote) (begins (is_inside quote)) (piece_at quote) (piece_sound quote is) (length cs) cs s f in
+    further cs read.text s.1 r read.split
+    (guard_stands s.1 (begins (λ c. c == quote) s.1) (done (encode_utf8_all s.0, drop 1 s.1)) ExpectedEndingQuote context.LongHand r refl (no_refusal s.1 _ r) h)) e
+
+-- ---- piece by piece, as the loop of the code meets them
+
+-- the text so far, and what is read of the pieces to come up to the ending quote
+abbrev pub with_text : ℕ → List ℕ → Parsed (List ℕ) → Parsed (List ℕ)
+with_text quote before read = read >>= λ s.
+    cond (begins (λ c. c == quote) s.1) (Ok (before ++ encode_utf8_all s.0, drop 1 s.1)) (Err (refusal ExpectedEndingQuote context.LongHand s.1))
+
+joined : (quote : ℕ) (before : List ℕ) (x : ℕ) (read : Parsed (List ℕ)) → with_text quote before (m.with_front (x ∷ []) read) ≡ with_text quote (before ++ encode_utf8 x) read
+joined quote before x (Ok r) =
+    ap (λ (l : List ℕ). cond (begins (λ c. c == quote) r.1) (Ok (l, drop 1 r.1)) (Err (refusal ExpectedEndingQuote context.LongHand r.1)))
+    (sym (append_assoc before (encode_utf8 x) (encode_utf8_all r.0)))
+joined quote before x (Err f) = refl
+
+module _ (quote : ℕ) (is : IsQuote quote) where
+  abbrev pieces : List ℕ → Parsed (List ℕ)
+  pieces cs = many (begins (is_inside quote)) (piece_at quote) cs
+
+  pub goes_on : (before : List ℕ) (x : ℕ) (cs rest : List ℕ) (total : Parsed (List ℕ)) → begins (is_inside quote) cs ≡ true → piece_at quote cs ≡ Ok (x, rest)
+      → with_text quote before (pieces cs) ≡ total → with_text quote (before ++ encode_utf8 x) (pieces rest) ≡ total
+  goes_on before x cs rest total t e h =
+      sym (ap (with_text quote before) (m.many_more (begins (is_inside quote)) (piece_at quote) (piece_takes quote is) cs rest x t e) ∙ joined quote before x (pieces rest)) ∙ h
+
+  pub is_done : (before cs : List ℕ) (total : Parsed (List ℕ)) → begins (is_inside quote) cs ≡ false → with_text quote before (pieces cs) ≡ total
+      → total ≡ cond (begins (λ c. c == quote) cs) (Ok (before, drop 1 cs)) (Err (refusal ExpectedEndingQuote context.LongHand cs))
+  is_done before cs total t h =
+      sym h ∙ ap (with_text quote before) (m.many_end (begins (is_inside quote)) (piece_at quote) cs t)
+      ∙ ap (λ (l : List ℕ). cond (begins (λ c. c == quote) cs) (Ok (l, drop 1 cs)) (Err (refusal ExpectedEndingQuote context.LongHand cs))) (append-nil before)
+
+  pub fails : (s : Failure) (before cs : List ℕ) (total : Parsed (List ℕ)) → begins (is_inside quote) cs ≡ true → Fails s (piece_at quote cs)
+      → with_text quote before (pieces cs) ≡ total → Fails s total
+  fails failures.Memory before cs total t e h = tt
+  fails (failures.Refused f) before cs total t e h =
+      sym h ∙ ap (with_text quote before) (m.many_err (begins (is_inside quote)) (piece_at quote) (piece_takes quote is) cs f t e)

@@ -1,9 +1,24 @@
--- Blanks at the start of a text.
-use Rattle.std.proofs.Common.{◌≡◌, ℕ, ◌≤◌, Bool, true, false, List, [], ◌∷◌, ◌++◌, length, ap, ◌∙◌, arith}
+-- Texts: regrouped; blanks at the start; items in a row, with a sign and blanks between them.
+use Rattle.std.proofs.Common.{◌≡◌, ℕ, List, ◌++◌, refl, append_assoc, ◌≤◌, Bool, true, false, [], ◌∷◌, length, ap, ◌∙◌, arith}
 use Rattle.std.proofs.lemmas.List.{length-append}
 use Rattle.serde_json_path_parser.specs.Lexical.{begins, is_blank, IsBlank}
 use Rattle.serde_json_path_parser.specs.Parsed.{front, past_blanks}
 use Rattle.serde_json_path_parser.proofs.Runs.{whole, front_each, behind_end, behind_past}
+
+pub gathered : (a b c d : List ℕ) → a ++ (b ++ (c ++ d)) ≡ (a ++ (b ++ c)) ++ d
+gathered a b c d = simp append_assoc refl
+
+pub gathered_behind : (a b c d : List ℕ) → (a ++ b) ++ (c ++ d) ≡ (a ++ (b ++ c)) ++ d
+gathered_behind a b c d = simp append_assoc refl
+
+-- an end, as a sign that closes, too
+pub enclosed : (a b c s d : List ℕ) → a ++ ((b ++ c) ++ (s ++ d)) ≡ (a ++ (b ++ (c ++ s))) ++ d
+enclosed a b c s d = simp append_assoc refl
+
+pub spread : (a b c s d : List ℕ) → (a ++ (b ++ (c ++ s))) ++ d ≡ a ++ (b ++ (c ++ (s ++ d)))
+spread a b c s d = simp append_assoc refl
+
+-- ---- blanks at the start of a text
 
 pub past_some : (k rest : List ℕ) → IsBlank k → past_blanks (k ++ rest) ≡ past_blanks rest
 past_some k rest h = behind_past is_blank k rest h
