@@ -141,7 +141,7 @@ module _ (signature : List ℕ → Option Signature) (deeper : Deeper) where
           wrong_type e = in_rests.2 ∙ rw (first, e) refl
 
           module _ (fitting : fits signature a kind ≡ true) where
-            -- behind the last one, and at a comma
+            -- after the last one, and at a comma
             rests_end : (n : ℕ) → begins (λ c. c == 44) rest ≡ false → rests n ≡ (ended start more (drop 1 rest) >>= λ more. Ok (argument a more.0, more.1))
             unfolding judged
             rests_end n comma = rw (first, fitting, comma) refl
@@ -156,7 +156,7 @@ module _ (signature : List ℕ → Option Signature) (deeper : Deeper) where
             pub last : (args : Arguments) (behind : List ℕ) → begins (λ c. c == 44) rest ≡ false → ended start more (drop 1 rest) ≡ Ok (args, behind) → arguments_at signature deeper fuel start kinds cs ≡ Ok (argument a args, behind)
             last args behind comma h = in_rests.2 ∙ rests_end in_rests.0 comma ∙ rw h refl
 
-            -- the fuel for those behind a comma
+            -- the fuel for those after a comma
             abbrev pub fuel_behind : ℕ
             fuel_behind = in_rests.0
 
@@ -176,7 +176,7 @@ module _ (signature : List ℕ → Option Signature) (deeper : Deeper) where
 -- ---- parts of arguments
 
 module _ {S : Type 0} {g : Ghosts S} (builder : SyntaxBuilder) (before : List Part) (result : Result Unit Failure) (reader : Reader S g) (read whole : Parsed Arguments) where
-  -- no argument is put behind others
+  -- no argument is put after others
   pub none_made : whole ≡ read → GivesEnd result reader read → MakesArguments builder before before result reader whole
   none_made = by_result result
     where
@@ -186,7 +186,7 @@ module _ {S : Type 0} {g : Ghosts S} (builder : SyntaxBuilder) (before : List Pa
 
   module _ (mid : List Part) (part : Part) (a : Argument) (pushed : mid ≡ before ++ part ∷ []) (is : IsPart builder part (an_argument a))
       (reads : (args : Arguments) (behind : List ℕ) → read ≡ Ok (args, behind) → whole ≡ Ok (argument a args, behind)) (fail : (s : Failure) → Fails s read → Fails s whole) where
-    -- one is put behind others, and it is the last one
+    -- one is put after others, and it is the last one
     pub last_made : GivesEnd result reader read → MakesArguments builder before mid result reader whole
     last_made = by_result result
       where
@@ -194,7 +194,7 @@ module _ {S : Type 0} {g : Ghosts S} (builder : SyntaxBuilder) (before : List Pa
         by_result (Ok u) h = (argument a no_arguments, part ∷ [], pushed, (is, tt), reads no_arguments (left reader) h)
         by_result (Err s) h = fail s h
 
-    -- and more are put behind it
+    -- and more are put after it
     pub more_made : (after : List Part) → MakesArguments builder mid after result reader read → MakesArguments builder before after result reader whole
     more_made after = by_result result
       where

@@ -36,7 +36,7 @@ module _ (filter_at : List ℕ → Parsed Selector) (Good : LogicalOr → Type 0
   abbrev AreGood : Selectors → Type 0
   AreGood sels = AreGoodSelectors Good sels
 
-  -- ---- selectors behind the first one
+  -- ---- selectors after the first one
 
   pub next_sound : (cs : List ℕ) (x : Selector × List ℕ) → begins is_comma cs ≡ true → next_selector_at filter_at cs ≡ Ok x → Read (r.IsNext (codes ",") IsText) cs x
   unfolding next_selector_at
@@ -149,7 +149,7 @@ module _ (filter_at : List ℕ → Parsed Selector) (Good : LogicalOr → Type 0
         ap (selector_at filter_at) here ∙ selector_again filter_at Good laws a sel (b ++ closing) (o.0, is) (closes more b rests) in
         rw (one, more_again more b rests o.1) refl
 
-  -- behind `[`
+  -- after `[`
   pub bracket_again : (sels : Selectors) (j a k rest : List ℕ) → IsBlank j → ReadSelectors sels a → IsBlank k → AreGood sels → bracket_at filter_at ((j ++ (a ++ (k ++ 93 ∷ []))) ++ rest) ≡ Ok (long_hand sels, rest)
   unfolding bracket_at
   bracket_again sels j a k rest before is behind o =

@@ -128,7 +128,7 @@ module _ (signature : List ℕ → Option Signature) (n : ℕ) (deeper : Deeper)
           let b = bind_ok (right_side_at signature deeper a.0.1) (λ b. Ok (relation a.0.0 op.0 b.0, b.1)) x a.2 in
           absurd (subst (λ (y : Basic × List ℕ). IsTest y.0) (sym (ok_is (relation a.0.0 op.0 b.0.0, b.0.1) x b.2)) is)
 
-  -- an operand and what stands behind it, where it does not stand alone
+  -- an operand and what stands after it, where it does not stand alone
   not_alone : (start : List ℕ) (o : Operand) (cs : List ℕ) (x : Argument × List ℕ) → begins ends_argument cs ≡ false → begins ends_argument x.1 ≡ true → logical_from signature deeper (byte_count start) o cs ≡ Ok x
       → (e : LogicalOr) × (x.0 ≡ logical_argument e) × (StandsAlone e → ⊥)
   unfolding logical_from and_from or_from many
@@ -290,7 +290,7 @@ module _ (signature : List ℕ → Option Signature) (n : ℕ) (deeper : Deeper)
 
   -- ---- arguments in a row
 
-  -- arguments, blanks and `)`, and the blanks behind it
+  -- arguments, blanks and `)`, and the blanks after it
   record AreArguments (kinds : List Kind) (cs : List ℕ) (x : Arguments × List ℕ) : Type 0 where
     first : Argument
     more : Arguments
@@ -403,7 +403,7 @@ module _ (signature : List ℕ → Option Signature) (n : ℕ) (deeper : Deeper)
 
   -- ---- calls
 
-  -- behind `(` of a call of this name, with its `)` and the blanks behind it
+  -- after `(` of a call of this name, with its `)` and the blanks after it
   pub call_sound : (start f cs : List ℕ) (sig : Option Signature) (x : Call × List ℕ) → signature f ≡ sig → call_at signature deeper (byte_count start) f sig cs ≡ Ok x
       → Read (Spaced (λ t c. (IsTypedCall signature c × (call_depth c ≤ n + 1)) × ReadsBehindName f c t)) cs x
   unfolding call_at parameters_at
@@ -532,7 +532,7 @@ module _ (signature : List ℕ → Option Signature) (n : ℕ) (deeper : Deeper)
 
   -- ---- a logical expression, which does not stand alone
 
-  -- a test with an argument's end behind it is the whole expression
+  -- a test with an argument's end after it is the whole expression
   test_alone : (b : Basic) (cs : List ℕ) (x : LogicalOr × List ℕ) → IsTest b → begins ends_argument cs ≡ true → (and_from signature deeper b cs >>= λ a. or_from signature deeper a.0 a.1) ≡ Ok x → StandsAlone x.0
   unfolding and_from or_from
   test_alone b cs x is ends e =
@@ -652,7 +652,7 @@ module _ (signature : List ℕ → Option Signature) (n : ℕ) (deeper : Deeper)
         let shorter : length (c ++ (d ++ closing)) ≤ fuel = omega (arith, enough, ahead) in
         rw (read, typed_fits signature a kind typed.0, onward, arguments_again fuel start kinds b more c d typed.1 (omega (arith, shallow)) next are shorter) refl
 
-    -- behind `(` and blanks
+    -- after `(` and blanks
     parameters_again : (start : List ℕ) (kinds : List Kind) (args : Arguments) (t : List ℕ) → AreTypedArguments signature args kinds → arguments_depth args ≤ n → ReadArguments args t
         → parameters_at signature deeper (byte_count start) kinds (past_blanks (t ++ closing)) ≡ Ok (args, past_blanks rest)
     unfolding parameters_at ended
@@ -668,7 +668,7 @@ module _ (signature : List ℕ → Option Signature) (n : ℕ) (deeper : Deeper)
 
   -- ---- calls
 
-  -- behind `(` of a call of this name
+  -- after `(` of a call of this name
   pub call_again : (start f t : List ℕ) (c : Call) (rest : List ℕ) → (IsTypedCall signature c × (call_depth c ≤ n + 1)) → ReadsBehindName f c t
       → call_at signature deeper (byte_count start) f (signature f) (t ++ rest) ≡ Ok (c, past_blanks rest)
   unfolding call_at
@@ -739,7 +739,7 @@ module _ (signature : List ℕ → Option Signature) (n : ℕ) (deeper : Deeper)
             ]) a.1
       ]
 
-  -- what stands behind an argument is the end of the text
+  -- what stands after an argument is the end of the text
   abbrev Behind : List ℕ → Argument × List ℕ → Type 0
   Behind cs x = (t : List ℕ) × (cs ≡ t ++ x.1)
 
@@ -770,7 +770,7 @@ module _ (signature : List ℕ → Option Signature) (n : ℕ) (deeper : Deeper)
             ]
       ]
 
-  -- a judgement is told at the argument, or where the call begins
+  -- a judgement is reported at the argument, or where the call begins
   judged_stands : (before start cs : List ℕ) (kinds : List Kind) (a : Argument) (r : Refusal) → start ≡ before ++ cs → judged signature deeper (byte_count start) (byte_count cs) kinds a ≡ Err r → Stands Plain start r
   unfolding judged
   judged_stands before start cs [] a r split e = here WrongNumberOfArguments context.LongHand start (judged signature deeper (byte_count start) (byte_count cs) [] a) r refl refl e
@@ -796,7 +796,7 @@ module _ (signature : List ℕ → Option Signature) (n : ℕ) (deeper : Deeper)
             arguments_stand fuel ((before ++ reached.0) ++ (44 ∷ blanks)) start left rest d next p.1
       ]) (λ more m p. no_refusal start _ r p) l) k)) e
     where
-      -- behind an argument stands what ends it, or the refusal
+      -- after an argument stands what ends it, or the refusal
       ends_or_refused : {A : Type 0} {read : Parsed A} (start before cs : List ℕ) (r : Refusal) → start ≡ before ++ cs
           → cond (begins ends_argument cs) read (Err (refusal ExpectedClosingParenthesis context.LongHand cs)) ≡ Err r
           → (read ≡ Err r → Stands (Inner signature) start r) → Stands (Inner signature) start r
@@ -807,7 +807,7 @@ module _ (signature : List ℕ → Option Signature) (n : ℕ) (deeper : Deeper)
 
   -- ---- calls
 
-  -- behind `(` and blanks
+  -- after `(` and blanks
   parameters_stand : (before start : List ℕ) (kinds : List Kind) (cs : List ℕ) (r : Refusal) → start ≡ before ++ cs → parameters_at signature deeper (byte_count start) kinds cs ≡ Err r → Stands (Inner signature) start r
   unfolding parameters_at
   parameters_stand before start kinds cs r split e = elim (chosen (begins (λ c. c == 41) cs) (ended (byte_count start) kinds (drop 1 cs)) (arguments_at signature deeper (length cs) (byte_count start) kinds cs) (Err r) e) [

@@ -29,7 +29,7 @@ module _ (signature : List ℕ → Option Signature) (deeper : Deeper) where
       same_fails s (deeper.expression (byte_count cs) (past_blanks (drop 1 cs)) >>= λ e. Ok (filter e.0, e.1)) (selector_at (filter_at signature deeper) cs) (at_mark cs mark)
       (first_fails s (deeper.expression (byte_count cs) (past_blanks (drop 1 cs))) (λ e. Ok (filter e.0, e.1)) h)
 
-  -- behind the `@` or `$` of a query, its segments are read
+  -- after the `@` or `$` of a query, its segments are read
   module _ (kind : QueryKind) (c : ℕ) (cs ds : List ℕ) (e : cs ≡ c ∷ ds) where
     pub query_reads : (rest behind : List ℕ) (ss : List (SegmentKind × Segment)) → segments_at (filter_at signature deeper) context.LongHand ds ≡ Ok (ss, rest) → behind ≡ past_blanks rest
         → query_at signature deeper kind cs ≡ Ok (query kind (segment_list ss), behind)

@@ -140,7 +140,7 @@ module _ (signature : List ℕ → Option Signature) (n : ℕ) (deeper : Deeper)
       let c = comparable_sound cs o.0.0 o.0.1 r.is_so.0 x r.is_so.2 o.2 in
       record { text = r.text; is_so = (r.is_so.0, r.is_so.1, c.0, r.is_so.3, r.is_so.4); split = r.split ∙ ap (λ (l : List ℕ). r.text ++ l) c.1 }
 
-  -- behind an operand and blanks
+  -- after an operand and blanks
   pub basic_from_sound : (start : List ℕ) (o : Operand) (cs t k : List ℕ) (x : Basic × List ℕ) → IsOperand t o → IsBlank k → basic_from signature deeper (byte_count start) o cs ≡ Ok x → Read (Spaced IsBasicText) ((t ++ k) ++ cs) x
   unfolding basic_from relation_at
   basic_from_sound start o cs t k x h blank e = by_operator (operator_at cs) refl e
@@ -198,7 +198,7 @@ module _ (signature : List ℕ → Option Signature) (n : ℕ) (deeper : Deeper)
             ∙ ap (λ (l : List ℕ). 40 ∷ l) (split_blanks (drop 1 cs) ∙ ap (λ (l : List ℕ). j ++ l) (r.split ∙ ap (λ (l : List ℕ). l ++ inner.0.1) r.is_so.4 ∙ closed) ∙ enclosed j a k (codes ")") rest);
       }))
 
-  -- what is read behind `!` and blanks
+  -- what is read after `!` and blanks
   abbrev IsNegated : List ℕ → Basic → Type 0
   IsNegated t b = (k : List ℕ) → IsBlank k → IsBasicText (33 ∷ (k ++ t)) b
 
@@ -276,7 +276,7 @@ module _ (signature : List ℕ → Option Signature) (n : ℕ) (deeper : Deeper)
       let more = more_ands bs c rest in
       (((is.0.0, more.0.0), omega (arith, is.0.1, more.0.1)), (s, a, c, sign, is.1, more.1, e))
 
-  -- behind a first part and blanks
+  -- after a first part and blanks
   pub and_from_sound : (b : Basic) (cs t k : List ℕ) (x : LogicalAnd × List ℕ) → IsBasicText t b → IsBlank k → and_from signature deeper b cs ≡ Ok x → Read (Spaced IsAndText) ((t ++ k) ++ cs) x
   unfolding and_from many
   and_from_sound b cs t k x h blank e =
@@ -336,8 +336,8 @@ module _ (signature : List ℕ → Option Signature) (n : ℕ) (deeper : Deeper)
 
 -- ---- items in a row
 
--- What makes items be read again that stand behind a sign of two equal characters: each is, before what ends it, with the
--- blanks behind it; and what ends the row ends an item, and is no sign.
+-- What makes items be read again that stand after a sign of two equal characters: each is, before what ends it, with the
+-- blanks after it; and what ends the row ends an item, and is no sign.
 record RowLaw {A : Type 0} (sign : ℕ) (is : List ℕ → A → Type 0) (item next : List ℕ → Parsed A) (ends ends_item : ℕ → Bool) : Type 0 where
   next_is : (cs : List ℕ) → next cs ≡ item (past_blanks (drop 2 cs))
   sound : (cs : List ℕ) (x : A × List ℕ) → begins_both sign sign cs ≡ true → next cs ≡ Ok x → Read (r.IsNext (sign ∷ sign ∷ []) is) cs x
@@ -451,7 +451,7 @@ module _ (signature : List ℕ → Option Signature) (n : ℕ) (deeper : Deeper)
   comparable_again start (singular q) t cs h = rw (query_singular q h.1.0) refl
   comparable_again start (called c) t cs h = rw h.0.0.1 refl
 
-  -- behind an operand that is the left side, at the operator
+  -- after an operand that is the left side, at the operator
   relation_again : (start : List ℕ) (left : Comparable) (op : Operator) (right : Comparable) (a k b rest : List ℕ) → IsComparable a left → IsBlank k → IsComparable b right → Follows ends_basic rest
       → basic_from signature deeper (byte_count start) (operand_of left) (operator_text op ++ (k ++ (b ++ rest))) ≡ Ok (relation left op right, past_blanks rest)
   unfolding basic_from relation_at right_side_at
@@ -464,7 +464,7 @@ module _ (signature : List ℕ → Option Signature) (n : ℕ) (deeper : Deeper)
       ap (λ o. relation_at signature deeper (byte_count start) (operand_of left) o (operator_text op ++ (k ++ (b ++ rest)))) found
       ∙ rw (past, comparable_again start left a (b ++ rest) is_left, right_read, comparable_again (b ++ rest) right b (past_blanks rest) is_right) refl
 
-  -- an operand, and what it is made behind it
+  -- an operand, and what it is made after it
   of_operand : (cs : List ℕ) (o : Operand) (rest : List ℕ) → begins begins_operand cs ≡ true → operand_at signature deeper cs ≡ Ok (o, rest) → read cs ≡ basic_from signature deeper (byte_count cs) o rest
   unfolding basic_at
   of_operand cs o rest first e = rw (begins_differs begins_operand 40 cs refl first, begins_differs begins_operand 33 cs refl first, e) refl
@@ -720,7 +720,7 @@ module _ (signature : List ℕ → Option Signature) (n : ℕ) (deeper : Deeper)
   unfolding right_side_at
   right_side_stands cs r e = bind_stands cs (operand_at signature deeper cs) _ r (operand_stands cs) (λ o f h. comparable_stands cs o.0 o.1 r h) e
 
-  -- behind an operand that begins at start
+  -- after an operand that begins at start
   pub basic_from_stands : (before start : List ℕ) (o : Operand) (cs : List ℕ) (r : Refusal) → start ≡ before ++ cs → basic_from signature deeper (byte_count start) o cs ≡ Err r → Stands (Inner signature) start r
   unfolding basic_from relation_at
   basic_from_stands before start o cs r split e = by_operator (operator_at cs) refl e

@@ -41,7 +41,7 @@ made_err : {A B : Type 0} (read : Result A Refusal) (make : A → B) (r : Refusa
 made_err (Ok x) make r e = absurd cc
 made_err (Err d) make r e = let same : d ≡ r = cc in rw same refl
 
--- behind one character and blanks, and behind a sign of two and blanks
+-- after one character and blanks, and after a sign of two and blanks
 pub behind_one : (c : ℕ) (cs ds es : List ℕ) → cs ≡ c ∷ ds → es ≡ past_blanks ds → es ≡ past_blanks (drop 1 cs)
 behind_one c cs ds es taken skipped = skipped ∙ ap (λ (l : List ℕ). past_blanks (drop 1 l)) (sym taken)
 
@@ -50,7 +50,7 @@ behind_two cs ds es fs stays taken skipped = skipped ∙ ap past_blanks (taken �
 
 -- ---- what is joined by a sign of two equal characters
 
--- Such items are read behind the sign and blanks, and a first one and they are joined.
+-- Such items are read after the sign and blanks, and a first one and they are joined.
 pub record IsRow {A B : Type 0} (sign : ℕ) (item next : List ℕ → Parsed A) (join : List A → B) (behind_first : A → List ℕ → Parsed B) : Type 0 where
   pub next_is : (cs : List ℕ) → next cs ≡ item (past_blanks (drop 2 cs))
   pub whole_is : (x : A) (cs : List ℕ) → behind_first x cs ≡ (many (begins_both sign sign) next cs >>= λ xs. Ok (join (x ∷ xs.0), xs.1))
@@ -70,7 +70,7 @@ module _ {A B : Type 0} {sign : ℕ} {item next : List ℕ → Parsed A} {join :
   with_first x (Ok xs) = refl
   with_first x (Err d) = refl
 
-  -- one item more, as a loop meets it
+  -- another item, as a loop meets it
   pub row_shorter : (cs ds rest : List ℕ) (x : A) → begins_both sign sign cs ≡ true → ds ≡ past_blanks (drop 2 cs) → item ds ≡ Ok (x, rest) → length rest < length cs
   row_shorter cs ds rest x t e read = row.takes.shorter cs rest x t (next_reads cs ds e ∙ read)
 
@@ -232,7 +232,7 @@ module _ (signature : List ℕ → Option Signature) (deeper : Deeper) (cs : Lis
   unfolding negated_at negated_name_at
   negated_is_name a b c = rw (a, b, c) refl
 
-  -- ---- a name behind `!`
+  -- ---- a name after `!`
 
   abbrev of_call : Parsed Operand
   of_call = named_call_at signature deeper cs >>= λ c. Ok (a_call c.0, c.1)

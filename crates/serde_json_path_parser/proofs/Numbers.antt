@@ -35,7 +35,7 @@ whole_sound start cs x e =
           subst (Read IsDecimal cs) (ok_is (value_from 0 (front is_digit cs), behind is_digit cs) x g.1) (decimal_read cs g.0)
     ]
 
--- behind a point
+-- after a point
 digits_sound : (start cs ds : List ℕ) (x : ℕ × List ℕ) → cs ≡ 46 ∷ ds → digits_behind_point_at (byte_count start) ds ≡ Ok x → Read IsFraction cs x
 unfolding digits_behind_point_at
 digits_sound start cs ds x point e =
@@ -120,7 +120,7 @@ number_sound cs x e =
 
 -- ---- each number is read
 
--- a character that is read as a part of the number before it, or refused there, behind some number
+-- a character that is read as a part of the number before it, or refused there, after some number
 abbrev pub goes_on : ℕ → Bool
 goes_on c = is_digit c || c == 46 || is_exponent c
 
@@ -164,7 +164,7 @@ fraction_again start t n rest is e = elim is [
       (ap (λ (k : ℕ). Ok (k, rest)) (sym some.5))
 ]
 
--- no digit stands behind a whole number, with a fraction or without
+-- no digit stands after a whole number, with a fraction or without
 failures : (t : List ℕ) (n : ℕ) (rest : List ℕ) → IsFraction t n → begins is_digit rest ≡ false → begins is_digit (t ++ rest) ≡ false
 failures t n rest is e = elim is [
   | inl none ↦ ap (λ (l : List ℕ). begins is_digit (l ++ rest)) none.0 ∙ e
@@ -289,7 +289,7 @@ front_bytes (c ∷ cs) = by_test (is_digit c) refl (front_bytes cs)
     by_test true e h = rw e (omega (arith, length-append (encode_utf8 c) (encode_utf8_all cs), digit_byte c e, h))
     by_test false e h = rw e (omega arith)
 
--- the bytes of the digits, as the bytes that were left before them and behind
+-- the bytes of the digits, as the bytes that were left before them and after
 pub counted : (cs rest : List ℕ) (before after : ℕ) → rest ≡ behind is_digit cs → before ≡ length (encode_utf8_all cs) → after ≡ length (encode_utf8_all rest) → before ≡ after + length (front is_digit cs)
 counted cs rest before after e b a =
     let same : after ≡ length (encode_utf8_all (behind is_digit cs)) = a ∙ ap (λ (l : List ℕ). length (encode_utf8_all l)) e in

@@ -45,7 +45,7 @@ module _ (signature : List ℕ → Option Signature) (n : ℕ) (deeper : Deeper)
 
   -- ---- what is read is an operand
 
-  -- a literal word and the blanks behind it
+  -- a literal word and the blanks after it
   word_sound : (cs bytes : List ℕ) (l : Literal) → bytes_eq (word cs) bytes ≡ true → ((t : List ℕ) → t ≡ bytes → IsLiteral l t) → Read (Spaced IsOperandText) cs (a_literal l, past_blanks (behind_word cs))
   word_sound cs bytes l e is =
       with_blanks IsOperandText cs (a_literal l, behind_word cs) (record { text = word cs; is_so = (tt, is (word cs) ((bytes_eq-Decides (word cs) bytes).0 e)); split = whole is_function_char cs })
@@ -144,7 +144,7 @@ module _ (signature : List ℕ → Option Signature) (n : ℕ) (deeper : Deeper)
 
 -- ---- what is in the grammar is read
 
--- ---- what stands behind an operand
+-- ---- what stands after an operand
 
 -- one of these characters passes
 abbrev any_passes : (ℕ → Bool) → List ℕ → Bool

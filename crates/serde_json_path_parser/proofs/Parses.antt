@@ -47,12 +47,12 @@ one_tree_at_most signature text p q h g =
 
 -- ---- what needs no memory
 
--- where nothing is to be kept no segment begins behind `$`
+-- where nothing is to be kept no segment begins after `$`
 needs_none : (cs : List ℕ) → NeedsNoMemory cs → opens_behind_root cs ≡ false
 needs_none cs (inl h) = ap (λ b. b && opens_next (drop 1 cs)) h
 needs_none cs (inr h) = ap opens_behind_root h.2 ∙ ap (begins opens) (past_all h.0 h.1 h.3 h.4) ∙ h.5
 
--- ---- the text before text that stands behind a path
+-- ---- the text before text that stands after a path
 
 path_before : (text path rest : List ℕ) (left : ℕ) → IsUtf8 text → chars text ≡ 36 ∷ (path ++ rest) → left ≡ length (encode_utf8_all rest)
     → chars (take (length text - left) text) ≡ 36 ∷ path
@@ -87,7 +87,7 @@ text_from text before rest left u split is =
 
 -- ---- what a refusal tells
 
--- what is told of a segment is neither that the root is missing, nor text behind the path, nor want of memory
+-- what is reported of a segment is neither that the root is missing, nor text after the path, nor want of memory
 inner_differs : (signature : List ℕ → Option Signature) (kind other : ParseErrorKind) (rest : List ℕ) → is_plain other ≡ false → UndefinedFunction ≢ other → Inner signature kind rest → kind ≡ other → ⊥
 inner_differs signature kind other rest outer differs (inl plain) e = true≢false (sym plain ∙ ap is_plain e ∙ outer)
 inner_differs signature kind other rest outer differs (inr undefined) e = differs (sym undefined.0 ∙ e)

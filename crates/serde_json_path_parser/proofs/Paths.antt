@@ -64,7 +64,7 @@ module _ (signature : List ℕ → Option Signature) where
     pub path_ends : (length rest == 0) ≡ true → path_at signature cs ≡ Ok (segment_list ss)
     path_ends e = rooted cs ds c root split ∙ ap at_end read ∙ rw e refl
 
-  -- where no segment begins behind `$`, none is read
+  -- where no segment begins after `$`, none is read
   pub none_read : (cs ds rest : List ℕ) (c : ℕ) (ss : List (SegmentKind × Segment)) → begins (λ d. d == 36) cs ≡ true → cs ≡ c ∷ ds → path_segments_at ds ≡ Ok (ss, rest) → opens_behind_root cs ≡ false → ss ≡ []
   none_read cs ds rest c ss root split read none =
       let closed : opens_next ds ≡ false = sym (rw (root, split) refl) ∙ none in
@@ -106,7 +106,7 @@ pub record NoRoot (cs : List ℕ) (r : Refusal) : Type 0 where
   pub is : refusal ExpectedRoot context.Path cs ≡ r
 
 module _ (signature : List ℕ → Option Signature) where
-  -- a path, and more behind it
+  -- a path, and more after it
   pub record TextBehind (cs : List ℕ) (r : Refusal) : Type 0 where
     pub path : List ℕ
     pub rest : List ℕ

@@ -14,7 +14,7 @@ use Rattle.serde_json_path_parser.proofs.Steps.{same_fails, first_fails}
 
 -- how a filter is read
 module _ (filter_at : List ℕ → Parsed Selector) where
-  -- behind the first selector
+  -- after the first selector
   pub selectors_begin : (cs ds rest : List ℕ) (s : Selector) → ds ≡ past_blanks cs → selector_at filter_at ds ≡ Ok (s, rest) → with_front (s ∷ []) (many (begins is_comma) (next_selector_at filter_at) rest) ≡ selectors_at filter_at cs
   unfolding selectors_at
   selectors_begin cs ds rest s e read = rw (← e, read) refl
@@ -24,7 +24,7 @@ module _ (filter_at : List ℕ → Parsed Selector) where
   selectors_fail s cs ds e h =
       first_fails s (selector_at filter_at (past_blanks cs)) (λ x. many (begins is_comma) (next_selector_at filter_at) x.1 >>= λ xs. Ok (x.0 ∷ xs.0, xs.1)) (subst (λ (l : List ℕ). Fails s (selector_at filter_at l)) e h)
 
-  -- behind a comma and blanks
+  -- after a comma and blanks
   pub next_selector_reads : (cs behind ds : List ℕ) (c : ℕ) → cs ≡ c ∷ behind → ds ≡ past_blanks behind → (read : Parsed Selector) → selector_at filter_at ds ≡ read → next_selector_at filter_at cs ≡ read
   unfolding next_selector_at
   next_selector_reads cs behind ds c comma e read h = ap (λ (l : List ℕ). selector_at filter_at (past_blanks (drop 1 l))) comma ∙ ap (selector_at filter_at) (sym e) ∙ h
@@ -37,7 +37,7 @@ module _ (filter_at : List ℕ → Parsed Selector) where
   unfolding bracket_at
   bracket_reads kind cs rest ds ss c read closes e = rw (read, closes) (ap (λ (l : List ℕ). Ok ((kind, long_hand (selector_list ss)), drop 1 l)) e)
 
-  -- behind the blanks
+  -- after the blanks
   pub next_reads : (here : declared.Context) (rest ds : List ℕ) (read : Parsed (SegmentKind × Segment)) → ds ≡ past_blanks rest → segment_at filter_at here ds ≡ read → next_segment_at filter_at here rest ≡ read
   unfolding next_segment_at
   next_reads here rest ds read e h = ap (segment_at filter_at here) (sym e) ∙ h

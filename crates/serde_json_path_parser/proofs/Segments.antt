@@ -88,7 +88,7 @@ module _ (filter_at : List ℕ → Parsed Selector) (Good : LogicalOr → Type 0
   abbrev IsSegment : SegmentKind → List ℕ → Segment → Type 0
   IsSegment kind t seg = IsSegmentText filter_at Good laws kind t seg
 
-  -- ---- behind the dots
+  -- ---- after the dots
 
   dotted_sound : (kind : SegmentKind) (at : declared.Context) (cs : List ℕ) (x : Segment × List ℕ) → dotted_at at cs ≡ Ok x → Read (IsSegment kind) (dots_of kind ++ cs) x
   unfolding dotted_at

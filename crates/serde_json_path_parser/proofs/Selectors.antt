@@ -20,7 +20,7 @@ use Rattle.serde_json_path_parser.proofs.Stands.{Plain, Inner, Stands, inside, b
 
 -- ---- what is read is a selector
 
--- what was read, and the blanks behind it
+-- what was read, and the blanks after it
 pub with_blanks : {A : Type 0} (is : List ℕ → A → Type 0) (cs : List ℕ) (x : A × List ℕ) → Read is cs x → Read (Spaced is) cs (x.0, past_blanks x.1)
 with_blanks is cs x r = record {
   text = r.text ++ blanks_of x.1;

@@ -19,7 +19,7 @@ use Rattle.serde_json_path_parser.proofs.Stands.{Plain, Stands, further, bind_st
 
 -- ---- what is read is in the grammar
 
--- a text and what was read behind it
+-- a text and what was read after it
 longer : (a b c rest : List ℕ) → b ≡ c ++ rest → a ++ b ≡ (a ++ c) ++ rest
 longer a b c rest e = ap (λ (l : List ℕ). a ++ l) e ∙ sym (append_assoc a c rest)
 
@@ -38,7 +38,7 @@ bound_sound cs x e = elim (chosen (begins begins_int cs) (int_at cs >>= λ i. Ok
   | inr a ↦ subst (Read (λ t i. IsBound i t) cs) (ok_is (None, cs) x a.1) (record { text = []; is_so = refl; split = refl })
 ]
 
--- a bound behind a second colon
+-- a bound after a second colon
 step_is : (t k : List ℕ) (i : Option ℤ) → IsBlank k → IsBound i t → Spaced (λ t i. IsSliceStep i t) (58 ∷ (k ++ t)) i
 step_is t k None blank e = (58 ∷ [], k, inr refl, blank, ap (λ (l : List ℕ). 58 ∷ (k ++ l)) e ∙ ap (λ (l : List ℕ). 58 ∷ l) (append-nil k))
 step_is t k (Some i) blank b =
@@ -62,7 +62,7 @@ step_sound cs x e = elim (chosen (begins (λ c. c == 58) cs) (bound_at (past_bla
   })
 ]
 
--- the parts of a slice and the blanks behind them
+-- the parts of a slice and the blanks after them
 regrouped : (a k b c j rest : List ℕ) → a ++ (58 ∷ (k ++ (b ++ ((c ++ j) ++ rest)))) ≡ ((a ++ (58 ∷ (k ++ (b ++ c)))) ++ j) ++ rest
 regrouped a k b c j rest = simp append_assoc refl
 
@@ -89,7 +89,7 @@ slice_sound start a cs x first e =
       split = ap (λ (l : List ℕ). a ++ (58 ∷ l)) behind_colon ∙ regrouped a k b.text c.is_so.0 c.is_so.1 step.0.1;
     })
 
--- behind the colon that begins a slice
+-- after the colon that begins a slice
 pub colon_sound : (cs : List ℕ) (x : Slice × List ℕ) → slice_at None cs ≡ Ok x → Read (Spaced (λ t s. IsSlice s t)) (58 ∷ cs) x
 colon_sound cs x e = slice_sound None [] cs x refl e
 
@@ -119,11 +119,11 @@ position_sound Good cs x e =
 
 -- ---- each is read again
 
--- behind the blanks stands no integer
+-- after the blanks stands no integer
 abbrev Ends : List ℕ → Type 0
 Ends rest = begins begins_int (past_blanks rest) ≡ false
 
--- what is false of `,` and of `]` does not stand behind the blanks
+-- what is false of `,` and of `]` does not stand after the blanks
 closes_not : (p : ℕ → Bool) (cs : List ℕ) → p 44 ≡ false → p 93 ≡ false → begins (λ c. c == 44 || c == 93) cs ≡ true → begins p cs ≡ false
 closes_not p [] comma bracket e = absurd cc
 closes_not p (c ∷ cs) comma bracket e = by_test (p c) refl
@@ -135,7 +135,7 @@ closes_not p (c ∷ cs) comma bracket e = by_test (p c) refl
 closed_ends : (rest : List ℕ) → Closes rest → Ends rest
 closed_ends rest h = closes_not begins_int (past_blanks rest) refl refl h
 
--- no digit stands at once behind an integer
+-- no digit stands at once after an integer
 ends_digits : (rest : List ℕ) → Ends rest → begins is_digit rest ≡ false
 ends_digits [] h = refl
 ends_digits (c ∷ cs) h = by_digit (is_digit c) refl
@@ -169,7 +169,7 @@ step_ends None t rest (inl e) closes = subst (λ (l : List ℕ). Ends (l ++ rest
 step_ends None t rest (inr e) closes = subst (λ (l : List ℕ). Ends (l ++ rest)) (sym e) refl
 step_ends (Some i) t rest (k, a, blank, is, e) closes = subst (λ (l : List ℕ). Ends (l ++ rest)) (sym e) refl
 
--- behind the first colon
+-- after the first colon
 parts_again : (start end step : Option ℤ) (k b c rest : List ℕ) → IsBlank k → IsBound end b → IsSliceStep step c → Closes rest
     → slice_at start (k ++ (b ++ (c ++ rest))) ≡ Ok (record { start = start; end = end; step = step }, past_blanks rest)
 unfolding slice_at

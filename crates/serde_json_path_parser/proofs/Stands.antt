@@ -13,7 +13,7 @@ use Rattle.serde_json_path_parser.proofs.Steps.{Read, chosen, done}
 
 -- ---- what a kind tells of the text from the refusal on
 
--- a kind that is told of a piece, a selector or a segment, whatever text it is
+-- a kind that is reported of a piece, a selector or a segment, whatever text it is
 abbrev pub is_plain : ParseErrorKind → Bool
 is_plain ExpectedRoot = false
 is_plain UndefinedFunction = false
@@ -63,7 +63,7 @@ module _ {Tells : ParseErrorKind → List ℕ → Type 0} where
   bind_stands cs (Ok x) next r a b e = b x refl e
   bind_stands cs (Err d) next r a b e = let same : d ≡ r = cc in a r (ap (λ (x : Refusal). Err x) same)
 
-  -- a test with a refusal behind it
+  -- a test with a refusal after it
   pub guard_stands : {A : Type 0} (cs : List ℕ) (b : Bool) (x : Result A Refusal) (kind : ParseErrorKind) (at : declared.Context) (r : Refusal) → Tells kind cs → (x ≡ Err r → Stands Tells cs r)
       → cond b x (Err (refusal kind at cs)) ≡ Err r → Stands Tells cs r
   guard_stands cs true x kind at r tells h e = h e

@@ -39,13 +39,13 @@ after_one k (c ∷ cs) e = ap (λ (x : ℕ). x ∷ cs) (eqb-true c k e)
 
 -- ---- what was read
 
--- the text of what was read, and what is behind it
+-- the text of what was read, and what is after it
 pub record Read {A : Type 0} (is : List ℕ → A → Type 0) (cs : List ℕ) (x : A × List ℕ) : Type 0 where
   pub text : List ℕ
   pub is_so : is text x.0
   pub split : cs ≡ text ++ x.1
 
--- a text and the blanks behind it
+-- a text and the blanks after it
 abbrev pub Spaced : {A : Type 0} → (List ℕ → A → Type 0) → List ℕ → A → Type 0
 Spaced is t x = (a k : List ℕ) × is a x × IsBlank k × (t ≡ a ++ k)
 
@@ -106,7 +106,7 @@ module _ {A : Type 0} (is : List ℕ → A → Type 0) (more : List ℕ → Bool
 pub same_fails : {A : Type 0} (s : Failure) (read whole : Result A Refusal) → whole ≡ read → Fails s read → Fails s whole
 same_fails s read whole e h = subst (Fails s) (sym e) h
 
--- what goes on behind a first step fails where that does
+-- what goes on after a first step fails where that does
 pub first_fails : {A B : Type 0} (s : Failure) (read : Result A Refusal) (f : A → Result B Refusal) → Fails s read → Fails s (read >>= f)
 first_fails failures.Memory read f h = tt
 first_fails (failures.Refused r) read f h = ap (λ (x : Result _ Refusal). x >>= f) h

@@ -100,7 +100,7 @@ scalar_of n h l = by_least (nat_le 0xd800 n) refl
     by_least true least = by_greatest (nat_le n 0xdbff) refl least
     by_least false least = inl (grind (arith, least))
 
--- behind a backslash and `u`
+-- after a backslash and `u`
 pub record ReadsUnicode (quote : ℕ) (cs : List ℕ) (x : ℕ × List ℕ) : Type 0 where
   pub text : List ℕ
   pub is_so : IsPiece quote (92 ∷ 117 ∷ text) x.0
@@ -155,7 +155,7 @@ of_each Fact (k ∷ ks) known c other = elim (eqb_tells c k) [
   | inr e ↦ of_each Fact ks known.1 c (λ others. other (e.0, others))
 ]
 
--- a letter behind a backslash, but for the quote
+-- a letter after a backslash, but for the quote
 letter_is : (quote letter : ℕ) → is_letter_escape quote letter ≡ true → (letter == quote) ≡ false → escaped_by letter ≡ Some (letter_value letter)
 letter_is quote letter =
     of_each Escapes letters (λ e q. refl, (λ e q. refl, (λ e q. refl, (λ e q. refl, (λ e q. refl, (λ e q. refl, (λ e q. refl, tt))))))) letter other
@@ -225,7 +225,7 @@ piece_sound quote is (c ∷ cs) x i e =
       ]
     ]
 
--- behind the opening quote
+-- after the opening quote
 pub string_sound : (quote : ℕ) (cs : List ℕ) (x : List ℕ × List ℕ) → IsQuote quote → string_at quote cs ≡ Ok x → Read IsString (quote ∷ cs) x
 unfolding string_at many
 string_sound quote cs x is e =
@@ -296,7 +296,7 @@ plain_parts true false true e = absurd cc
 plain_parts true true d e = absurd cc
 plain_parts false b d e = absurd cc
 
--- a letter behind a backslash, whatever the quote
+-- a letter after a backslash, whatever the quote
 letter_again : (quote letter c : ℕ) (rest : List ℕ) → escaped_by letter ≡ Some c → piece_at quote (92 ∷ letter ∷ rest) ≡ Ok (c, rest)
 unfolding piece_at escape_at
 letter_again quote letter c rest =
@@ -377,7 +377,7 @@ pieces_law quote is = record {
 quote_ends : (quote : ℕ) → (quote == quote) ≡ true
 quote_ends quote = eq-eqb quote quote refl
 
--- a string is read behind its opening quote
+-- a string is read after its opening quote
 pub string_again : (t bytes rest : List ℕ) → IsString t bytes → (quote : ℕ) × (inner : List ℕ) × IsQuote quote × (t ≡ quote ∷ inner) × (string_at quote (inner ++ rest) ≡ Ok (bytes, rest))
 unfolding string_at
 string_again t bytes rest (quote, inside, characters, is, pieces, text, value) =
@@ -443,7 +443,7 @@ piece_stands quote cs r e =
       ]
     ]
 
--- behind the opening quote
+-- after the opening quote
 pub string_stands : (quote : ℕ) → IsQuote quote → (cs : List ℕ) (r : Refusal) → string_at quote cs ≡ Err r → Stands Plain cs r
 unfolding string_at many
 string_stands quote is cs r e =

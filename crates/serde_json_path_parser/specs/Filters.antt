@@ -1,6 +1,6 @@
 -- Logical expressions and whole paths, as they are read from left to right (RFC 9535, sections 2.3.5 and 2.4), on lists of
--- characters. An operand is read before its use is known, and what it is gets decided behind it. Each piece takes the
--- blanks behind it, but for segments.
+-- characters. An operand is read before its use is known; what follows it decides. Each piece takes the blanks after it, but
+-- for segments.
 use Rattle.std.specs.Prelude.{ℕ, zero, suc, ◌==◌, ◌||◌, ◌&&◌, Bool, true, false, List, [], ◌∷◌, length, drop, codes, bytes_eq, Option, Some, None, Result, Ok, Err, if◌then◌else◌}
 use Rattle.serde_json_path_syntax.specs.Tree.{QueryKind, root, current, Query, query, Segments, Selector, filter, LogicalOr, no_or, or, LogicalAnd, no_and, and, Basic, paren, not_paren, relation, exist, not_exist, test, not_test, Comparable, literal, singular, called, Call, call, Arguments, no_arguments, argument, Argument, literal_argument, query_argument, call_argument, logical_argument, text, number, truth, null, Operator, equal, not_equal, less, less_or_equal, greater, greater_or_equal}
 use Rattle.serde_json_path_syntax.specs.Typing.{result_kind}
@@ -25,7 +25,7 @@ word cs = front is_function_char cs
 abbrev pub behind_word : List ℕ → List ℕ
 behind_word cs = behind is_function_char cs
 
--- a name with `(` at once behind it
+-- a name with `(` at once after it
 abbrev pub begins_call : List ℕ → Bool
 begins_call cs = begins is_small_letter cs && begins (λ c. c == 40) (behind_word cs)
 
@@ -39,7 +39,7 @@ literal_word_at cs =
 
 -- ---- operators
 
--- the longest comparison operator that stands there, and what is behind it
+-- the longest comparison operator that stands there, and what is after it
 abbrev pub operator_at : List ℕ → Option (Operator × List ℕ)
 operator_at cs =
     if begins_both 61 61 cs then Some (equal, drop 2 cs)
@@ -75,7 +75,7 @@ alone (a_call c) = call_argument c
 abbrev pub ends_argument : ℕ → Bool
 ends_argument c = c == 44 || c == 41
 
--- behind the last argument
+-- after the last argument
 unfoldable pub ended : ℕ → List Kind → List ℕ → Parsed Arguments
 ended start [] cs = Ok (no_arguments, past_blanks cs)
 ended start (kind ∷ kinds) cs = Err (refusal_at WrongNumberOfArguments context.LongHand start)
@@ -99,7 +99,7 @@ module _ (signature : List ℕ → Option Signature) (deeper : Deeper) where
   unfoldable pub query_at : QueryKind → List ℕ → Parsed Query
   query_at kind cs = segments_at filter_at context.LongHand (drop 1 cs) >>= λ ss. Ok (query kind (segment_list ss.0), past_blanks ss.1)
 
-  -- at a name with `(` behind it
+  -- at a name with `(` after it
   unfoldable pub named_call_at : List ℕ → Parsed Call
   named_call_at cs = deeper.call_of (byte_count cs) (word cs) (drop 1 (behind_word cs))
 
@@ -124,7 +124,7 @@ module _ (signature : List ℕ → Option Signature) (deeper : Deeper) where
   comparable_at start (a_query q) cs = if is_singular q then Ok (singular q, cs) else Err (refusal_at NonSingularQuery context.LongHand start)
   comparable_at start (a_call c) cs = if is_result of_value (result_kind signature c) then Ok (called c, cs) else Err (refusal_at WrongReturnType context.LongHand start)
 
-  -- no operator stands behind the operand
+  -- no operator stands after the operand
   unfoldable pub test_at : ℕ → Operand → List ℕ → Parsed Basic
   test_at start (a_literal l) cs = Err (refusal ExpectedComparisonOperator context.LongHand cs)
   test_at start (a_query q) cs = Ok (exist q, cs)
@@ -152,11 +152,11 @@ module _ (signature : List ℕ → Option Signature) (deeper : Deeper) where
   negated_call_at cs = named_call_at cs >>= λ c.
       if is_result of_value (result_kind signature c.0) then Err (refusal WrongReturnType context.LongHand cs) else Ok (not_test c.0, c.1)
 
-  -- at a small letter behind `!` and blanks
+  -- at a small letter after `!` and blanks
   unfoldable pub negated_name_at : List ℕ → Parsed Basic
   negated_name_at cs = if begins_call cs then negated_call_at cs else Err (refusal ExpectedExpression context.LongHand cs)
 
-  -- behind `!` and blanks
+  -- after `!` and blanks
   unfoldable pub negated_at : List ℕ → Parsed Basic
   negated_at cs =
       if begins (λ c. c == 40) cs then (paren_at cs >>= λ e. Ok (not_paren e.0, e.1))
@@ -177,7 +177,7 @@ module _ (signature : List ℕ → Option Signature) (deeper : Deeper) where
   unfoldable pub next_basic_at : List ℕ → Parsed Basic
   next_basic_at cs = basic_at (past_blanks (drop 2 cs))
 
-  -- behind a first part
+  -- after a first part
   unfoldable pub and_from : Basic → List ℕ → Parsed LogicalAnd
   and_from b cs = many (begins_both 38 38) next_basic_at cs >>= λ bs. Ok (and_list (b ∷ bs.0), bs.1)
 
@@ -221,7 +221,7 @@ module _ (signature : List ℕ → Option Signature) (deeper : Deeper) where
       Ok (argument a.0 more.0, more.1))
       else Err (refusal ExpectedClosingParenthesis context.LongHand a.1)
 
-  -- behind `(` and blanks
+  -- after `(` and blanks
   unfoldable pub parameters_at : ℕ → List Kind → List ℕ → Parsed Arguments
   parameters_at start kinds cs = if begins (λ c. c == 41) cs then ended start kinds (drop 1 cs) else arguments_at (length cs) start kinds cs
 

@@ -40,7 +40,7 @@ abbrev pub Fails : {Y : Type 0} → Failure → Result Y Refusal → Type 0
 Fails failures.Memory read = Unit {0}
 Fails (failures.Refused r) read = read ≡ Err r
 
--- The result, seen by view, is what reading gives, and the reader stands behind it.
+-- The result, seen by view, is what reading gives, and the reader stands after it.
 abbrev pub Gives : {X Y S : Type 0} {g : Ghosts S} → (X → Y) → Result X Failure → Reader S g → Parsed Y → Type 0
 Gives view (Ok x) reader read = read ≡ Ok (view x, left reader)
 Gives view (Err e) reader read = Fails e read
@@ -59,14 +59,14 @@ abbrev pub MakesSelectors : {S : Type 0} {g : Ghosts S} → SyntaxBuilder → Re
 MakesSelectors builder (Ok parts) reader read = (ss : List Selector) × AreSelectorsOf builder (parts_in parts) (selector_list ss) × (read ≡ Ok (ss, left reader))
 MakesSelectors builder (Err e) reader read = Fails e read
 
--- A segment was made, or a bracket begins, behind which reading goes on.
+-- A segment was made, or a bracket begins, after which reading goes on.
 abbrev pub StartsSegment : {S : Type 0} {g : Ghosts S} → SyntaxBuilder → Result declared.SegmentStart Failure → Reader S g → (List ℕ → Parsed Segment) → Parsed (SegmentKind × Segment) → Type 0
 StartsSegment builder (Ok (starts.Dotted part)) reader bracket_at read = (s : SegmentKind × Segment) × IsPart builder part (segment_piece s) × (read ≡ Ok (s, left reader))
 StartsSegment builder (Ok (starts.Bracket kind)) reader bracket_at read = read ≡ of_kind (segment_kind_view kind) (bracket_at (left reader))
 StartsSegment builder (Err e) reader bracket_at read = Fails e read
 
--- The parts that were made stand for the segments that reading gives. So many bytes are left behind the last one, and
--- the reader stands behind the blanks there.
+-- The parts that were made stand for the segments that reading gives. So many bytes are left after the last one, and
+-- the reader stands after the blanks there.
 abbrev pub MakesSegments : {S : Type 0} {g : Ghosts S} → SyntaxBuilder → Result (Parts × ℕ) Failure → Reader S g → Parsed (List (SegmentKind × Segment)) → Type 0
 MakesSegments builder (Ok parts) reader read =
     (ss : List (SegmentKind × Segment)) × (rest : List ℕ) × ArePartsOf builder (parts_in parts.0) (segment_list ss)
@@ -106,7 +106,7 @@ abbrev pub MakesArgument : {S : Type 0} {g : Ghosts S} → (List ℕ → Option 
 MakesArgument signature builder (Ok a) reader read = (x : Argument) × IsArgumentOf signature builder a x × (read ≡ Ok (x, left reader))
 MakesArgument signature builder (Err e) reader read = Fails e read
 
--- The parts that were put behind others stand for the arguments that reading gives.
+-- The parts that were put after others stand for the arguments that reading gives.
 abbrev pub MakesArguments : {S : Type 0} {g : Ghosts S} → SyntaxBuilder → List Part → List Part → Result Unit Failure → Reader S g → Parsed Arguments → Type 0
 MakesArguments builder before after (Ok u) reader read = (args : Arguments) × (parts : List Part) × (after ≡ before ++ parts) × AreArgumentsOf builder parts args × (read ≡ Ok (args, left reader))
 MakesArguments builder before after (Err e) reader read = Fails e read
@@ -121,7 +121,7 @@ abbrev pub IsRefused : Failure → Type 0
 IsRefused failures.Memory = ⊥
 IsRefused (failures.Refused r) = Unit {0}
 
--- Where a refusal is told at the byte that is next, no byte was seen beyond the one behind its place.
+-- Where a refusal is reported at the byte that is next, no byte was seen beyond the one after its place.
 abbrev pub StopsNear : {S : Type 0} {g : Ghosts S} → Failure → Reader S g → Type 0
 StopsNear failures.Memory reader = Unit {0}
 StopsNear (failures.Refused r) reader = is_told_at_next r.kind ≡ true → seen reader + r.left ≤ length (told reader).text + 2
@@ -140,7 +140,7 @@ abbrev pub IsWithin : Failure → ℕ → Type 0
 IsWithin failures.Memory total = Unit {0}
 IsWithin (failures.Refused r) total = r.left ≤ total
 
--- what is told of a stop in a text of so many bytes
+-- the public error of a failure, in a text of so many bytes
 abbrev pub error_of : Failure → ℕ → ParseError
 error_of failures.Memory total = record { kind = NoMemory; context = context.Path; position = 1 }
 error_of (failures.Refused r) total = record { kind = r.kind; context = r.context; position = total - r.left + 1 }

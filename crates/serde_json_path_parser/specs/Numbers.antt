@@ -18,7 +18,7 @@ whole_at start cs =
     else if begins is_first_digit cs then Ok (value_from 0 (front is_digit cs), behind is_digit cs)
     else Err (refusal_at ExpectedExpression context.LongHand start)
 
--- behind a point: the billionths of the digits there, which are read whole
+-- after a point: the billionths of the digits there, which are read whole
 unfoldable pub digits_behind_point_at : ℕ → List ℕ → Parsed ℕ
 digits_behind_point_at start cs =
     if begins is_digit cs then
@@ -27,7 +27,7 @@ digits_behind_point_at start cs =
     else Err (refusal_at FractionTooLong context.LongHand start))
     else Err (refusal_at ExponentOrEmptyFraction context.LongHand start)
 
--- behind a whole number: a point and digits, or nothing
+-- after a whole number: a point and digits, or nothing
 unfoldable pub fraction_at : ℕ → List ℕ → Parsed ℕ
 fraction_at start cs =
     if begins (λ c. c == 46) cs then digits_behind_point_at start (drop 1 cs)

@@ -17,7 +17,7 @@ use Rattle.serde_json_path_parser.specs.Parsing.{opens}
 abbrev pub is_dollar : ℕ → Bool
 is_dollar c = c == 36
 
--- there is no `$` at the start, or behind it and blanks neither `.` nor `[`
+-- there is no `$` at the start, or after it and blanks neither `.` nor `[`
 abbrev pub NeedsNoMemory : List ℕ → Type 0
 NeedsNoMemory text =
     (begins is_dollar text ≡ false)
@@ -33,17 +33,17 @@ pub record IsParseOf (signature : List ℕ → Option Signature) (text : List �
   pub only : IfOk result (λ checked. (q : Query) → IsAccepted signature (chars text) q → q ≡ tree_of checked)
   -- a refusal, unless memory was refused, means that the text is accepted with no tree
   pub refused : IfErr result (λ e. kind_of e ≢ NoMemory → (q : Query) → IsAccepted signature (chars text) q → ⊥)
-  -- a missing root is told exactly where the text does not begin with `$`
+  -- a missing root is reported exactly where the text does not begin with `$`
   pub missing_root : IsErrAnd result (λ e. kind_of e ≡ ExpectedRoot) ↔ ((length text < 2 ^ 64 - 1) × (begins is_dollar (chars text) ≡ false))
-  -- text behind the path is told only where the bytes before the position are an accepted text
+  -- text after the path is reported only where the bytes before the position are an accepted text
   pub text_after : IfErr result (λ e. kind_of e ≡ TextAfterPath → (q : Query) × IsAccepted signature (chars (take (position_of e - 1) text)) q)
-  -- an undefined function is told only where a name that is not declared stands, with `(` at once behind it
+  -- an undefined function is reported only where a name that is not declared stands, with `(` at once after it
   pub undefined : IfErr result (λ e. kind_of e ≡ UndefinedFunction → IsUndeclared signature (chars (drop (position_of e - 1) text)))
   -- a refusal stands at the start of a character, or at the end of the text
   pub position : IfErr result (λ e. (1 ≤ position_of e) × IsCharBoundary text (position_of e - 1))
   -- want of memory stands at 1
   pub memory_position : IfErr result (λ e. kind_of e ≡ NoMemory → position_of e ≡ 1)
-  -- and is not told where nothing is to be kept
+  -- and is not reported where nothing is to be kept
   pub spares_memory : length text < 2 ^ 64 - 1 → NeedsNoMemory (chars text) → IfErr result (λ e. kind_of e ≢ NoMemory)
   -- but of a text whose end has no number
   pub too_long : length text ≡ 2 ^ 64 - 1 → IsErrAnd result (λ e. kind_of e ≡ NoMemory)

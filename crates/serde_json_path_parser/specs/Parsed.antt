@@ -1,4 +1,4 @@
--- What reading from left to right gives, on lists of characters: what was read and the characters behind it, or the first
+-- What reading from left to right gives, on lists of characters: what was read and the characters after it, or the first
 -- refusal that is met.
 use Rattle.std.specs.Prelude.{ℕ, zero, suc, Bool, List, [], ◌∷◌, length, Result, Ok, Err, if◌then◌else◌}
 use Rattle.std.specs.Str.{encode_utf8_all}
@@ -27,7 +27,7 @@ refusal_at kind here left = record { kind = kind; context = here; left = left }
 abbrev pub refusal : ParseErrorKind → declared.Context → List ℕ → Refusal
 refusal kind here cs = refusal_at kind here (byte_count cs)
 
--- the longest front whose characters pass the test, and what is behind it
+-- the longest front whose characters pass the test, and what is after it
 abbrev pub front : (ℕ → Bool) → List ℕ → List ℕ
 front p [] = []
 front p (c ∷ cs) = if p c then c ∷ front p cs else []
@@ -36,7 +36,7 @@ abbrev pub behind : (ℕ → Bool) → List ℕ → List ℕ
 behind p [] = []
 behind p (c ∷ cs) = if p c then behind p cs else c ∷ cs
 
--- what is behind the blanks
+-- what is after the blanks
 abbrev pub past_blanks : List ℕ → List ℕ
 past_blanks cs = behind is_blank cs
 

@@ -39,7 +39,7 @@ is_high n = nat_le 0xd800 n && nat_le n 0xdbff
 abbrev pub is_low : ℕ → Bool
 is_low n = nat_le 0xdc00 n && nat_le n 0xdfff
 
--- behind a high surrogate: `\u` and a low one
+-- after a high surrogate: `\u` and a low one
 unfoldable pub low_at : ℕ → ℕ → List ℕ → Parsed ℕ
 low_at start high cs =
     if begins (λ c. c == 92) cs then
@@ -48,14 +48,14 @@ low_at start high cs =
     else Err (refusal_at BadEscape context.LongHand start))
     else Err (refusal_at BadEscape context.LongHand start)
 
--- behind `\u`
+-- after `\u`
 unfoldable pub unicode_at : ℕ → List ℕ → Parsed ℕ
 unicode_at start cs = hex4_at start cs >>= λ h.
     if is_high h.0 then low_at start h.0 h.1 else (if is_low h.0 then Err (refusal_at BadEscape context.LongHand start) else Ok (h.0, h.1))
 
 -- ---- pieces
 
--- what stands behind a backslash for one character, but for `u`
+-- what stands after a backslash for one character, but for `u`
 abbrev pub is_letter_escape : ℕ → ℕ → Bool
 is_letter_escape quote c = c == 98 || c == 102 || c == 110 || c == 114 || c == 116 || c == 47 || c == 92 || c == quote
 
@@ -81,7 +81,7 @@ piece_at quote cs =
 abbrev pub is_inside : ℕ → ℕ → Bool
 is_inside quote c = not (c == quote)
 
--- behind the opening quote
+-- after the opening quote
 unfoldable pub string_at : ℕ → List ℕ → Parsed (List ℕ)
 string_at quote cs = many (begins (is_inside quote)) (piece_at quote) cs >>= λ s.
     if begins (λ c. c == quote) s.1 then Ok (encode_utf8_all s.0, drop 1 s.1) else Err (refusal ExpectedEndingQuote context.LongHand s.1)

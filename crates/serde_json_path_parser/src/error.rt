@@ -15,7 +15,7 @@ pub enum ParseErrorKind {
     ExpectedRoot,
     /// The first character of a member name does not fit.
     BadMemberName,
-    /// Neither `,` nor `]` stands behind a selector.
+    /// A selector is followed by neither `,` nor `]`.
     ExpectedClosingBracket,
     /// A string has no ending quote.
     ExpectedEndingQuote,
@@ -35,7 +35,7 @@ pub enum ParseErrorKind {
     ExpectedExpression,
     /// No `)` stands where one should.
     ExpectedClosingParenthesis,
-    /// No comparison operator stands behind a literal.
+    /// A literal has no comparison operator after it.
     ExpectedComparisonOperator,
     /// A query that may give several nodes is compared.
     NonSingularQuery,
@@ -49,7 +49,7 @@ pub enum ParseErrorKind {
     WrongReturnType,
     /// Filters, parentheses and calls are nested more than 128 deep.
     NestedTooDeep,
-    /// Text stands behind the path.
+    /// There is text after the path.
     TextAfterPath,
     /// Memory was refused.
     NoMemory,
@@ -57,12 +57,12 @@ pub enum ParseErrorKind {
     FractionTooLong,
 }
 
-/// Where in a path a refusal stands, for the beginning of its message.
+/// Where in a path a refusal stands. Its message begins with that.
 #[derive(Clone, Copy, Debug, PartialEq, Eq)]
 pub(crate) enum Context {
-    /// Outside brackets, and not behind a single `.`.
+    /// Outside brackets, and not after a single `.`.
     Path,
-    /// Behind a single `.` outside brackets.
+    /// After a single `.` outside brackets.
     DotMemberName,
     /// Inside an open bracket.
     LongHand,
@@ -72,7 +72,7 @@ impl Context {
     ghost use Rattle.serde_json_path_parser.specs.Errors.{message};
     ghost use Rattle.serde_json_path_parser.specs.declared.error.ParseErrorKind.TheVariants.{BadMemberName};
 
-    /// The message of a bad member name there.
+    /// The message of a bad member name in this context.
     fn bad_member_name(self) -> &'static str
         ensures { result.now ≡ message BadMemberName self }
     {
@@ -88,7 +88,7 @@ impl Context {
     }
 }
 
-/// A refusal, and how many bytes of the text stand from its place on.
+/// A refusal, and how many bytes of the text are left where it stands.
 #[derive(Clone, Copy)]
 pub(crate) struct Refusal {
     pub(crate) kind: ParseErrorKind,
@@ -96,7 +96,7 @@ pub(crate) struct Refusal {
     pub(crate) left: usize,
 }
 
-/// Why the parser stops.
+/// Why a parse fails.
 #[derive(Drop)]
 pub(crate) enum Failure {
     Memory,
@@ -137,8 +137,8 @@ impl ParseError {
         self.kind
     }
 
-    /// Where it is wrong: the number of a byte of the text, from 1, or one more than its length for its end. It stands
-    /// at the start of a character; it is 1 for `NoMemory`.
+    /// Where it is wrong: the number of a byte of the text, counted from 1, or one more than the text's length for
+    /// its end. It is at the start of a character; it is 1 for `NoMemory`.
     pub fn position(&self) -> usize
         ensures { result ≡ position_of self.now }
     {
@@ -202,7 +202,7 @@ impl Failure {
     ghost use Rattle.serde_json_path_parser.specs.Giving.{IsWithin, error_of};
     ghost use Rattle.serde_json_path_parser.specs.Looking.{greatest_usize};
 
-    /// A refusal inside a bracket, at a place from which so many bytes of the text are left.
+    /// A refusal inside a bracket, where `left` bytes of the text are left.
     pub(crate) fn in_long_hand(kind: ParseErrorKind, left: usize) -> Failure
         ensures { result ≡ Failure.Refused (record { kind = kind; context = LongHand; left = left }) }
     {
@@ -213,7 +213,7 @@ impl Failure {
         })
     }
 
-    /// What is told of the stop in a text of so many bytes.
+    /// Turns the failure into the public error, for a text of `total` bytes.
     pub(crate) fn in_text(self, total: usize) -> ParseError
         requires short { total < greatest_usize }
         requires within { IsWithin self total }

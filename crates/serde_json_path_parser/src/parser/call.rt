@@ -23,7 +23,7 @@ use serde_json_path_functions::{FunctionArgType, Functions};
 use serde_json_path_syntax::{Literal, Part, SyntaxBuilder};
 use std::alloc::AllocError;
 
-/// What stands between the parentheses of a call, before its type is judged.
+/// An argument of a call, before its type is checked.
 #[derive(Drop)]
 pub(crate) enum Argument {
     /// A text, a number, `true`, `false` or `null`.
@@ -85,8 +85,8 @@ impl Argument {
     }
 }
 
-/// The end of a call, at its `)`, where these types are left of its parameters; start is how many bytes are left where the
-/// call begins. The blanks behind it are taken too.
+/// Parses the end of a call, at its `)`, and the blanks after it. `kinds` are the types of the parameters that have
+/// no argument yet. `start` bytes are left where the call begins.
 #[tactic(auto, unfolding(crate::specs::Filters::ended))]
 fn parse_end<S: PathSource>(
     reader: &mut Reader<'_, S>,
@@ -106,8 +106,8 @@ fn parse_end<S: PathSource>(
 }
 
 impl<F: Functions> FilterParser<'_, F> {
-    /// A call of the function of that name, at its `(`, and the type of its result; start is how many bytes are left where
-    /// the call begins. The blanks behind it are taken too.
+    /// Parses a call of the function of that name, from its `(` on, and the blanks after it: the call, and the type
+    /// of its result. `start` bytes are left where the call begins.
     #[cycle(filters)]
     pub(crate) fn parse_call<S: PathSource>(
         &self,
@@ -136,8 +136,8 @@ impl<F: Functions> FilterParser<'_, F> {
         Ok((call, signature.result()))
     }
 
-    /// The arguments of a call for parameters of these types, behind `(` and blanks, and its end; they are put behind
-    /// others.
+    /// Parses the arguments of a call for parameters of these types, after `(` and blanks, and its end. The arguments
+    /// are appended to `parts`.
     #[cycle(filters)]
     fn parse_parameters<S: PathSource>(
         &self,
@@ -157,7 +157,7 @@ impl<F: Functions> FilterParser<'_, F> {
         self.parse_arguments(builder, reader, start, kinds, parts)
     }
 
-    /// One argument or more.
+    /// Parses one argument or more, and the end of the call.
     // A call has at most eight parameters, and a ninth argument is refused, so that the recursion stays flat.
     #[cycle(filters)]
     fn parse_arguments<S: PathSource>(
@@ -197,7 +197,7 @@ impl<F: Functions> FilterParser<'_, F> {
         parse_end(reader, start, more)
     }
 
-    /// An argument and the blanks behind it.
+    /// Parses an argument and the blanks after it.
     #[cycle(filters)]
     fn parse_argument<S: PathSource>(
         &self,

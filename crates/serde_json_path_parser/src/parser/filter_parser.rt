@@ -1,4 +1,4 @@
-//! How deep a filter stands.
+//! The parser of filters, and how deep it is.
 
 ghost use Rattle.std.specs.Prelude.{◌≡◌, ◌<◌, ◌-◌};
 ghost use Rattle.serde_json_path_syntax.specs.Used.{deepest};
@@ -6,10 +6,10 @@ ghost use Rattle.serde_json_path_syntax.specs.Used.{deepest};
 use serde_json_path_functions::Functions;
 use std::alloc::Global;
 
-/// How many filters, parentheses and calls may stand within each other.
+/// How many filters, parentheses and calls may be nested.
 const DEEPEST: u8 = 128;
 
-/// The functions that filters call, and how many filters, parentheses and calls may still stand within each other.
+/// The functions that filters may call, and how many more filters, parentheses and calls may be nested here.
 #[derive(Drop)]
 pub(crate) struct FilterParser<'f, F: Functions> {
     pub(crate) alloc: Global,
@@ -18,7 +18,7 @@ pub(crate) struct FilterParser<'f, F: Functions> {
 }
 
 impl<'f, F: Functions> FilterParser<'f, F> {
-    /// Outside of every filter.
+    /// The parser outside every filter.
     pub(crate) fn outermost(alloc: Global, functions: &'f F) -> FilterParser<'f, F>
         ensures functions { result.functions.now ≡ functions.now }
         ensures depth { result.depth ≡ deepest }
@@ -30,7 +30,7 @@ impl<'f, F: Functions> FilterParser<'f, F> {
         }
     }
 
-    /// Inside one filter, parenthesis or call more.
+    /// The parser inside another filter, parenthesis or call.
     pub(crate) fn deeper(&self) -> FilterParser<'f, F>
         requires { 0 < self.now.depth }
         ensures functions { result.functions.now ≡ self.now.functions.now }

@@ -23,7 +23,7 @@ use serde_json_path_functions::{FunctionArgType, Functions};
 use serde_json_path_syntax::{Part, Parts, QueryKind, SyntaxBuilder};
 
 impl<F: Functions> FilterParser<'_, F> {
-    /// The expression of a filter or a parenthesis, at its `?` or `(`.
+    /// Parses the expression of a filter or a parenthesis, from its `?` or `(` on.
     #[cycle(filters)]
     pub(crate) fn parse_inside<S: PathSource>(
         &self,
@@ -43,7 +43,7 @@ impl<F: Functions> FilterParser<'_, F> {
         self.deeper().parse_logical_or(builder, reader)
     }
 
-    /// Parts with `||` between them, and the blanks behind the last one.
+    /// Parses operands of `||`, and the blanks after the last one.
     #[cycle(filters)]
     #[tactic(auto, unfolding(crate::specs::Filters::or_at))]
     pub(crate) fn parse_logical_or<S: PathSource>(
@@ -59,7 +59,7 @@ impl<F: Functions> FilterParser<'_, F> {
         self.parse_or_from(builder, reader, first)
     }
 
-    /// What goes on with `||` behind a first part.
+    /// Parses the further operands of `||` after the first.
     #[cycle(filters)]
     pub(crate) fn parse_or_from<S: PathSource>(
         &self,
@@ -84,7 +84,7 @@ impl<F: Functions> FilterParser<'_, F> {
         Ok(expression)
     }
 
-    /// Parts with `&&` between them, and the blanks behind the last one.
+    /// Parses operands of `&&`, and the blanks after the last one.
     #[cycle(filters)]
     #[tactic(auto, unfolding(crate::specs::Filters::and_at))]
     fn parse_logical_and<S: PathSource>(
@@ -100,7 +100,7 @@ impl<F: Functions> FilterParser<'_, F> {
         self.parse_and_from(builder, reader, first)
     }
 
-    /// What goes on with `&&` behind a first part.
+    /// Parses the further operands of `&&` after the first.
     #[cycle(filters)]
     pub(crate) fn parse_and_from<S: PathSource>(
         &self,
@@ -126,7 +126,7 @@ impl<F: Functions> FilterParser<'_, F> {
         Ok(expression)
     }
 
-    /// A parenthesis, a negation, a comparison or a test, and the blanks behind it.
+    /// Parses an operand of `&&` (a parenthesis, a negation, a comparison or a test), and the blanks after it.
     #[cycle(filters)]
     #[tactic(auto, unfolding(crate::specs::Filters::basic_at))]
     fn parse_basic<S: PathSource>(
@@ -153,7 +153,7 @@ impl<F: Functions> FilterParser<'_, F> {
         self.parse_basic_from(builder, reader, start, operand)
     }
 
-    /// A comparison or a test behind its first operand; start is how many bytes are left where that begins.
+    /// Parses a comparison or a test after its first operand. `start` bytes are left where that operand begins.
     #[cycle(filters)]
     pub(crate) fn parse_basic_from<S: PathSource>(
         &self,
@@ -180,7 +180,7 @@ impl<F: Functions> FilterParser<'_, F> {
         Ok(relation)
     }
 
-    /// A parenthesis, at its `(`, and the blanks behind it.
+    /// Parses a parenthesis, from its `(` on, and the blanks after it.
     #[cycle(filters)]
     #[tactic(auto, unfolding(crate::specs::Filters::paren_at))]
     fn parse_paren<S: PathSource>(
@@ -205,8 +205,8 @@ impl<F: Functions> FilterParser<'_, F> {
         Ok(inner)
     }
 
-    /// What stands behind `!` and blanks, and the blanks behind it.
-    // Within `basic` its nodes would widen the frame of each parenthesis.
+    /// Parses what is negated, after `!` and blanks, and the blanks after it.
+    // Within `parse_basic` its nodes would widen the frame of each parenthesis.
     #[inline(never)]
     #[cycle(filters)]
     #[tactic(auto, unfolding(crate::specs::Filters::negated_at))]
@@ -240,7 +240,7 @@ impl<F: Functions> FilterParser<'_, F> {
         Err(reader.refuse(ParseErrorKind::ExpectedExpression, Context::LongHand))
     }
 
-    /// A call behind `!`, and the blanks behind it.
+    /// Parses a call that is negated, and the blanks after it.
     #[cycle(filters)]
     fn parse_negated_call<S: PathSource>(
         &self,

@@ -34,7 +34,7 @@ pub(crate) enum Operand {
     Call(Part, FunctionArgType),
 }
 
-/// A string as an operand, at its quote, and the blanks behind it.
+/// Parses a string as an operand, from its quote on, and the blanks after it.
 #[tactic(auto, unfolding(crate::specs::Filters::text_at))]
 fn parse_text<S: PathSource>(
     alloc: Global,
@@ -53,7 +53,7 @@ fn parse_text<S: PathSource>(
 }
 
 impl<F: Functions> FilterParser<'_, F> {
-    /// A query in a filter, at its `@` or `$`, and the blanks behind it.
+    /// Parses a query in a filter, from its `@` or `$` on, and the blanks after it.
     #[cycle(filters)]
     pub(crate) fn parse_query<S: PathSource>(
         &self,
@@ -72,7 +72,7 @@ impl<F: Functions> FilterParser<'_, F> {
         Ok(query)
     }
 
-    /// What begins with a small letter: a call, `true`, `false` or `null`, and the blanks behind it.
+    /// Parses what begins with a small letter (a call, `true`, `false` or `null`), and the blanks after it.
     #[cycle(filters)]
     pub(crate) fn parse_named<S: PathSource>(
         &self,
@@ -100,7 +100,7 @@ impl<F: Functions> FilterParser<'_, F> {
         }
     }
 
-    /// An operand and the blanks behind it.
+    /// Parses an operand and the blanks after it.
     #[cycle(filters)]
     #[tactic(auto, unfolding(crate::specs::Filters::operand_at))]
     pub(crate) fn parse_operand<S: PathSource>(
@@ -134,7 +134,7 @@ impl<F: Functions> FilterParser<'_, F> {
         Ok(Operand::Literal(Literal::Number(number)))
     }
 
-    /// An operand as a side of a comparison; start is how many bytes are left where it begins.
+    /// The operand as a side of a comparison. `start` bytes are left where it begins.
     #[tactic(auto, unfolding(crate::specs::Filters::comparable_at))]
     pub(crate) fn as_comparable<S: PathSource>(
         &self,
@@ -170,7 +170,7 @@ impl<F: Functions> FilterParser<'_, F> {
         }
     }
 
-    /// An operand as a test; start is how many bytes are left where it begins.
+    /// The operand as a test. `start` bytes are left where it begins.
     #[tactic(auto, unfolding(crate::specs::Filters::test_at))]
     pub(crate) fn as_test<S: PathSource>(
         &self,

@@ -14,7 +14,8 @@ use serde_json_path_functions::Functions;
 use serde_json_path_syntax::{Checked, QueryKind, SyntaxBuilder};
 use std::alloc::Global;
 
-/// `$` and segments up to the end of the text (RFC 9535, section 2.1.1), whose filters call functions of this set.
+/// Parses the whole path: `$` and segments up to the end of the text (RFC 9535, section 2.1.1). Filters may call the
+/// functions of this set.
 ///
 /// Memory is asked for only once a segment has begun.
 #[tactic(auto, unfolding(crate::specs::Filters::path_at))]

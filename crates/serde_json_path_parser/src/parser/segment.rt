@@ -24,13 +24,13 @@ use std::alloc::Global;
 /// How a segment begins.
 #[derive(Drop)]
 pub(crate) enum SegmentStart {
-    /// With a dot or two, and it ended behind a member name or `*`.
+    /// With one dot or two, and a member name or `*`: the whole segment.
     Dotted(Part),
-    /// With a bracket, behind which the selectors stand.
+    /// With a bracket, after which the selectors follow.
     Bracket(SegmentKind),
 }
 
-/// What stands behind the dots of a segment: a member name or `*`.
+/// Parses what follows the dots of a segment: a member name or `*`.
 #[tactic(auto, unfolding(crate::specs::Parsing::dotted_at))]
 fn parse_dotted<S: PathSource>(
     alloc: Global,
@@ -53,7 +53,7 @@ fn parse_dotted<S: PathSource>(
     Ok(segment)
 }
 
-/// What stands behind `..` (RFC 9535, section 2.5.2).
+/// Parses what follows `..` (RFC 9535, section 2.5.2).
 #[tactic(auto, unfolding(crate::specs::Parsing::descendant_at))]
 fn parse_descendant<S: PathSource>(
     alloc: Global,
@@ -73,7 +73,7 @@ fn parse_descendant<S: PathSource>(
     Ok(SegmentStart::Dotted(segment))
 }
 
-/// Where a refusal of a member name behind one dot stands.
+/// The context of a member name after one dot.
 fn after_one_dot(context: Context) -> Context
     ensures { result ≡ behind_dot context }
 {
@@ -83,7 +83,7 @@ fn after_one_dot(context: Context) -> Context
     }
 }
 
-/// What stands behind a first `.`.
+/// Parses what follows a first `.`.
 #[tactic(auto, unfolding(crate::specs::Parsing::dot_at))]
 fn parse_dot<S: PathSource>(
     alloc: Global,
@@ -109,7 +109,7 @@ fn parse_dot<S: PathSource>(
     Ok(SegmentStart::Dotted(segment))
 }
 
-/// A segment up to the selectors of its bracket, at its `.` or `[` (RFC 9535, section 2.5).
+/// Parses a segment up to the selectors of its bracket, from its `.` or `[` on (RFC 9535, section 2.5).
 #[tactic(auto, unfolding(crate::specs::Parsing::segment_at))]
 fn parse_segment_start<S: PathSource>(
     alloc: Global,
@@ -131,7 +131,7 @@ fn parse_segment_start<S: PathSource>(
 }
 
 impl<F: Functions> FilterParser<'_, F> {
-    /// What stands behind `[`: selectors and `]`.
+    /// Parses what follows `[`: selectors and `]`.
     #[cycle(filters)]
     #[tactic(auto, unfolding(crate::specs::Parsing::bracket_at))]
     fn parse_bracket<S: PathSource>(
@@ -153,7 +153,7 @@ impl<F: Functions> FilterParser<'_, F> {
         Ok(segment)
     }
 
-    /// A segment (RFC 9535, section 2.5), at its `.` or `[`.
+    /// Parses a segment (RFC 9535, section 2.5), from its `.` or `[` on.
     #[cycle(filters)]
     fn parse_segment<S: PathSource>(
         &self,
@@ -172,8 +172,8 @@ impl<F: Functions> FilterParser<'_, F> {
         }
     }
 
-    /// As many segments as there are, with blanks before each, and how many bytes are left behind the last one. The blanks
-    /// behind it are taken too.
+    /// Parses as many segments as there are, with blanks before each. Returns them, and how many bytes are left after
+    /// the last one. The blanks after it are taken too.
     #[cycle(filters)]
     pub(crate) fn parse_segments<S: PathSource>(
         &self,

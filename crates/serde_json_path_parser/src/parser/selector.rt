@@ -22,7 +22,8 @@ use serde_json_path_functions::Functions;
 use serde_json_path_syntax::{Part, Parts, SyntaxBuilder};
 use std::alloc::Global;
 
-/// An index, or a slice that begins with an integer, and the blanks behind it (RFC 9535, sections 2.3.3 and 2.3.4).
+/// Parses an index, or a slice that begins with an integer, and the blanks after it (RFC 9535, sections 2.3.3 and
+/// 2.3.4).
 #[tactic(auto, unfolding(crate::specs::Parsing::position_at))]
 fn parse_index_or_slice<S: PathSource>(
     builder: &mut SyntaxBuilder,
@@ -44,7 +45,7 @@ fn parse_index_or_slice<S: PathSource>(
     Ok(selector)
 }
 
-/// A name selector behind its opening quote, and the blanks behind it (RFC 9535, section 2.3.1).
+/// Parses a name selector after its opening quote, and the blanks after it (RFC 9535, section 2.3.1).
 #[tactic(auto, unfolding(crate::specs::Parsing::quoted_at))]
 fn parse_quoted<S: PathSource>(
     alloc: Global,
@@ -63,7 +64,7 @@ fn parse_quoted<S: PathSource>(
     Ok(selector)
 }
 
-/// A selector that is no filter, and the blanks behind it (RFC 9535, section 2.3).
+/// Parses a selector that is no filter, and the blanks after it (RFC 9535, section 2.3).
 #[tactic(auto, unfolding(crate::specs::Parsing::selector_at))]
 fn parse_plain_selector<S: PathSource>(
     alloc: Global,
@@ -99,7 +100,7 @@ fn parse_plain_selector<S: PathSource>(
 }
 
 impl<F: Functions> FilterParser<'_, F> {
-    /// A selector and the blanks behind it (RFC 9535, section 2.3).
+    /// Parses a selector and the blanks after it (RFC 9535, section 2.3).
     #[cycle(filters)]
     fn parse_selector<S: PathSource>(
         &self,
@@ -118,7 +119,8 @@ impl<F: Functions> FilterParser<'_, F> {
         parse_plain_selector(self.alloc, builder, reader)
     }
 
-    /// The selectors behind a bracket, with commas between them and blanks round them (RFC 9535, section 2.5.1).
+    /// Parses the selectors after a bracket, with commas between them and blanks round them (RFC 9535, section
+    /// 2.5.1).
     #[cycle(filters)]
     pub(crate) fn parse_selectors<S: PathSource>(
         &self,

@@ -13,7 +13,7 @@ use crate::parser::reader::Reader;
 use crate::source::PathSource;
 use serde_json_path_syntax::Slice;
 
-/// A part of a slice and the blanks behind it, or nothing.
+/// Parses a bound of a slice and the blanks after it, or nothing.
 #[tactic(auto, unfolding(crate::specs::Parsing::bound_at))]
 fn parse_bound<S: PathSource>(reader: &mut Reader<'_, S>) -> Result<Option<i64>, Failure>
     ensures moves { MovesTo result reader.old reader.new }
@@ -28,7 +28,7 @@ fn parse_bound<S: PathSource>(reader: &mut Reader<'_, S>) -> Result<Option<i64>,
     Ok(Some(i))
 }
 
-/// A second colon and a step, or nothing.
+/// Parses a second colon and a step, or nothing.
 #[tactic(auto, unfolding(crate::specs::Parsing::step_at))]
 fn parse_step<S: PathSource>(reader: &mut Reader<'_, S>) -> Result<Option<i64>, Failure>
     ensures moves { MovesTo result reader.old reader.new }
@@ -43,7 +43,7 @@ fn parse_step<S: PathSource>(reader: &mut Reader<'_, S>) -> Result<Option<i64>, 
     parse_bound(reader)
 }
 
-/// A slice (RFC 9535, section 2.3.4.1), behind its start and its first colon, and the blanks behind it.
+/// Parses a slice (RFC 9535, section 2.3.4.1) after its start and its first colon, and the blanks after it.
 #[tactic(auto, unfolding(crate::specs::Parsing::slice_at))]
 pub(crate) fn parse_rest_of_slice<S: PathSource>(
     reader: &mut Reader<'_, S>,

@@ -14,7 +14,8 @@ use crate::source::PathSource;
 /// The greatest integer: 2^53 - 1.
 const LARGEST: u128 = 9_007_199_254_740_991;
 
-/// The digits of an integer that has so many bytes from its start on. They are read whole before their range is judged.
+/// Parses the digits of an integer, at whose first character `start` bytes are left. They are read whole before their
+/// range is checked.
 #[tactic(auto, unfolding(crate::specs::Parsing::digits_at))]
 fn parse_digits<S: PathSource>(reader: &mut Reader<'_, S>, start: usize) -> Result<u64, Failure>
     ensures moves { MovesTo result reader.old reader.new }
@@ -28,7 +29,7 @@ fn parse_digits<S: PathSource>(reader: &mut Reader<'_, S>, start: usize) -> Resu
     Ok(n as u64)
 }
 
-/// An integer of -(2^53 - 1) to 2^53 - 1 (RFC 9535, section 2.3.3.1): an index, or a part of a slice.
+/// Parses an integer of -(2^53 - 1) to 2^53 - 1 (RFC 9535, section 2.3.3.1): an index, or a part of a slice.
 #[tactic(auto, unfolding(crate::specs::Parsing::int_at))]
 pub(crate) fn parse_int<S: PathSource>(reader: &mut Reader<'_, S>) -> Result<i64, Failure>
     ensures moves { MovesTo result reader.old reader.new }

@@ -10,7 +10,7 @@ use crate::parser::reader::Reader;
 use crate::source::PathSource;
 use std::alloc::Global;
 
-/// A member name (RFC 9535, section 2.5.1.1).
+/// Parses a member name (RFC 9535, section 2.5.1.1).
 #[tactic(auto, unfolding(crate::specs::Parsing::name_at))]
 pub(crate) fn parse_name<S: PathSource>(
     alloc: Global,

@@ -21,7 +21,7 @@ const FRACTION_DIGITS: usize = 9;
 /// More billionths than any literal has.
 const TOO_MANY: u128 = (1 << 127) - 1;
 
-/// The digits before a point.
+/// Parses the digits before a point.
 #[tactic(auto, unfolding(crate::specs::Numbers::whole_at))]
 fn parse_whole<S: PathSource>(reader: &mut Reader<'_, S>, start: usize) -> Result<u128, Failure>
     ensures moves { MovesTo result reader.old reader.new }
@@ -37,7 +37,7 @@ fn parse_whole<S: PathSource>(reader: &mut Reader<'_, S>, start: usize) -> Resul
     Ok(parse_decimal(reader))
 }
 
-/// The billionths of the digits behind a point, which are read whole.
+/// Parses the digits after a point, which are read whole: their billionths.
 #[tactic(auto, unfolding(crate::specs::Numbers::digits_behind_point_at))]
 fn parse_fraction_digits<S: PathSource>(
     reader: &mut Reader<'_, S>,
@@ -61,7 +61,7 @@ fn parse_fraction_digits<S: PathSource>(
     Ok(value * 10_u128.pow((FRACTION_DIGITS - count) as u32))
 }
 
-/// The billionths of a fraction, or 0 where there is none.
+/// Parses a fraction: its billionths, or 0 where there is none.
 #[tactic(auto, unfolding(crate::specs::Numbers::fraction_at))]
 fn parse_fraction<S: PathSource>(reader: &mut Reader<'_, S>, start: usize) -> Result<u128, Failure>
     ensures moves { MovesTo result reader.old reader.new }
@@ -77,7 +77,7 @@ fn parse_fraction<S: PathSource>(reader: &mut Reader<'_, S>, start: usize) -> Re
     Ok(0)
 }
 
-/// The billionths of a number without its sign, or `u128::MAX` where there are more.
+/// Parses a number without its sign: its billionths, or `u128::MAX` where there are more.
 #[tactic(auto, unfolding(crate::specs::Numbers::amount_at))]
 fn parse_amount<S: PathSource>(reader: &mut Reader<'_, S>, start: usize) -> Result<u128, Failure>
     ensures moves { MovesTo result reader.old reader.new }
@@ -88,8 +88,8 @@ fn parse_amount<S: PathSource>(reader: &mut Reader<'_, S>, start: usize) -> Resu
     Ok(whole.saturating_mul(ONE).saturating_add(fraction))
 }
 
-/// A number literal of -2^63 to 2^64 - 1 (RFC 9535, section 2.3.5.1), at its first digit or its `-`. It has no exponent,
-/// and at most nine digits behind its point. Its digits are read whole before they are judged.
+/// Parses a number literal of -2^63 to 2^64 - 1 (RFC 9535, section 2.3.5.1), from its first digit or its `-` on. It
+/// has no exponent, and at most nine digits after its point. Its digits are read whole before they are checked.
 #[tactic(auto, unfolding(crate::specs::Numbers::number_at))]
 pub(crate) fn parse_number<S: PathSource>(
     reader: &mut Reader<'_, S>,

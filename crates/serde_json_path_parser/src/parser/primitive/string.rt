@@ -12,7 +12,7 @@ use crate::parser::reader::Reader;
 use crate::source::PathSource;
 use std::alloc::Global;
 
-/// The value of a hexadecimal digit of either case.
+/// Parses a hexadecimal digit of either case.
 #[tactic(auto, unfolding(crate::specs::Strings::hexadecimal_at))]
 fn parse_hexadecimal<S: PathSource>(
     reader: &mut Reader<'_, S>,
@@ -35,7 +35,7 @@ fn parse_hexadecimal<S: PathSource>(
     }
 }
 
-/// The value of four hexadecimal digits.
+/// Parses four hexadecimal digits.
 #[tactic(auto, unfolding(crate::specs::Strings::hex4_at))]
 fn parse_hex4<S: PathSource>(reader: &mut Reader<'_, S>, start: usize) -> Result<u32, Failure>
     ensures moves { MovesTo result reader.old reader.new }
@@ -49,7 +49,7 @@ fn parse_hex4<S: PathSource>(reader: &mut Reader<'_, S>, start: usize) -> Result
     Ok(4096 * a + 256 * b + 16 * c + d)
 }
 
-/// The character of a pair of surrogates, behind the high one.
+/// Parses the low one of a pair of surrogates, after the high one: the character of the pair.
 #[tactic(auto, unfolding(crate::specs::Strings::low_at))]
 fn parse_low_surrogate<S: PathSource>(
     reader: &mut Reader<'_, S>,
@@ -75,7 +75,7 @@ fn parse_low_surrogate<S: PathSource>(
     Ok(char::from_u32(0x10000 + 0x400 * (high - 0xd800) + (low - 0xdc00)).unwrap())
 }
 
-/// The character of an escape, behind its `u`.
+/// Parses the digits of an escape after its `u`: its character.
 #[tactic(auto, unfolding(crate::specs::Strings::unicode_at))]
 fn parse_unicode<S: PathSource>(reader: &mut Reader<'_, S>, start: usize) -> Result<char, Failure>
     ensures moves { MovesTo result reader.old reader.new }
@@ -91,7 +91,7 @@ fn parse_unicode<S: PathSource>(reader: &mut Reader<'_, S>, start: usize) -> Res
     Ok(char::from_u32(code).unwrap())
 }
 
-/// The character of an escape, at its backslash.
+/// Parses an escape, from its backslash on.
 #[tactic(auto, unfolding(crate::specs::Strings::escape_at))]
 fn parse_escape<S: PathSource>(reader: &mut Reader<'_, S>, quote: u8) -> Result<char, Failure>
     requires quote { quote < 128 }
@@ -119,7 +119,7 @@ fn parse_escape<S: PathSource>(reader: &mut Reader<'_, S>, quote: u8) -> Result<
     })
 }
 
-/// One character of a string, or an escape that stands for one.
+/// Parses one character of a string, or an escape that stands for one.
 #[tactic(auto, unfolding(crate::specs::Strings::piece_at))]
 fn parse_piece<S: PathSource>(reader: &mut Reader<'_, S>, quote: u8) -> Result<char, Failure>
     requires quote { quote < 128 }
@@ -136,7 +136,7 @@ fn parse_piece<S: PathSource>(reader: &mut Reader<'_, S>, quote: u8) -> Result<c
     Ok(reader.take_char())
 }
 
-/// A string (RFC 9535, section 2.3.1.1), behind its opening quote, up to and with the ending one.
+/// Parses a string (RFC 9535, section 2.3.1.1) after its opening quote, up to and with the ending one.
 #[tactic(auto, unfolding(crate::specs::Strings::string_at))]
 pub(crate) fn parse_string<S: PathSource>(
     alloc: Global,
