@@ -80,8 +80,7 @@ impl<F: Functions> FilterParser<'_, F> {
             let part = self.parse_logical_and(builder, reader)?;
             parts.push(part)?;
         }
-        let expression = builder.logical_or(parts)?;
-        Ok(expression)
+        Ok(builder.logical_or(parts)?)
     }
 
     /// Parses operands of `&&`, and the blanks after the last one.
@@ -122,8 +121,7 @@ impl<F: Functions> FilterParser<'_, F> {
             let part = self.parse_basic(builder, reader)?;
             parts.push(part)?;
         }
-        let expression = builder.logical_and(parts)?;
-        Ok(expression)
+        Ok(builder.logical_and(parts)?)
     }
 
     /// Parses an operand of `&&` (a parenthesis, a negation, a comparison or a test), and the blanks after it.
@@ -140,8 +138,7 @@ impl<F: Functions> FilterParser<'_, F> {
     {
         if reader.sees(b'(') {
             let inner = self.parse_paren(builder, reader)?;
-            let paren = builder.paren(inner)?;
-            return Ok(paren);
+            return Ok(builder.paren(inner)?);
         }
         if reader.sees(b'!') {
             reader.take_char();
@@ -176,8 +173,7 @@ impl<F: Functions> FilterParser<'_, F> {
         let begin = reader.bytes_left();
         let operand = self.parse_operand(builder, reader)?;
         let right = self.as_comparable(builder, reader, begin, operand)?;
-        let relation = builder.relation(left, operator, right)?;
-        Ok(relation)
+        Ok(builder.relation(left, operator, right)?)
     }
 
     /// Parses a parenthesis, from its `(` on, and the blanks after it.
@@ -221,18 +217,15 @@ impl<F: Functions> FilterParser<'_, F> {
     {
         if reader.sees(b'(') {
             let inner = self.parse_paren(builder, reader)?;
-            let paren = builder.not_paren(inner)?;
-            return Ok(paren);
+            return Ok(builder.not_paren(inner)?);
         }
         if reader.sees(b'@') {
             let query = self.parse_query(builder, reader, QueryKind::Current)?;
-            let test = builder.not_exist(query)?;
-            return Ok(test);
+            return Ok(builder.not_exist(query)?);
         }
         if reader.sees(b'$') {
             let query = self.parse_query(builder, reader, QueryKind::Root)?;
-            let test = builder.not_exist(query)?;
-            return Ok(test);
+            return Ok(builder.not_exist(query)?);
         }
         if reader.sees_small_letter() {
             return self.parse_negated_call(builder, reader);
@@ -259,7 +252,6 @@ impl<F: Functions> FilterParser<'_, F> {
         if result == FunctionArgType::Value {
             return Err(Failure::in_long_hand(ParseErrorKind::WrongReturnType, start));
         }
-        let test = builder.not_test(call)?;
-        Ok(test)
+        Ok(builder.not_test(call)?)
     }
 }

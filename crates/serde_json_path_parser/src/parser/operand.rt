@@ -68,8 +68,7 @@ impl<F: Functions> FilterParser<'_, F> {
     {
         reader.take_char();
         let (parts, _rest) = self.parse_segments(builder, reader, Context::LongHand)?;
-        let query = builder.query(kind, parts)?;
-        Ok(query)
+        Ok(builder.query(kind, parts)?)
     }
 
     /// Parses what begins with a small letter (a call, `true`, `false` or `null`), and the blanks after it.
@@ -149,23 +148,18 @@ impl<F: Functions> FilterParser<'_, F> {
         ensures gives { (x : operands.Operand) → IsOperandOf (signatures F.set self.now) builder.old operand x → Makes a_comparable builder.new result reader.now (at_level F.set self.now comparable_at start x (left reader.now)) }
     {
         match operand {
-            Operand::Literal(literal) => {
-                let side = builder.literal(literal)?;
-                Ok(side)
-            }
+            Operand::Literal(literal) => { Ok(builder.literal(literal)?) }
             Operand::Query(query) => {
                 if !builder.is_singular(query) {
                     return Err(Failure::in_long_hand(ParseErrorKind::NonSingularQuery, start));
                 }
-                let side = builder.singular(query)?;
-                Ok(side)
+                Ok(builder.singular(query)?)
             }
             Operand::Call(call, result) => {
                 if result != FunctionArgType::Value {
                     return Err(Failure::in_long_hand(ParseErrorKind::WrongReturnType, start));
                 }
-                let side = builder.called(call)?;
-                Ok(side)
+                Ok(builder.called(call)?)
             }
         }
     }
@@ -189,16 +183,12 @@ impl<F: Functions> FilterParser<'_, F> {
                 ParseErrorKind::ExpectedComparisonOperator,
                 Context::LongHand,
             )),
-            Operand::Query(query) => {
-                let test = builder.exist(query)?;
-                Ok(test)
-            }
+            Operand::Query(query) => { Ok(builder.exist(query)?) }
             Operand::Call(call, result) => {
                 if result == FunctionArgType::Value {
                     return Err(Failure::in_long_hand(ParseErrorKind::WrongReturnType, start));
                 }
-                let test = builder.test(call)?;
-                Ok(test)
+                Ok(builder.test(call)?)
             }
         }
     }

@@ -45,12 +45,10 @@ fn parse_dotted<S: PathSource>(
 {
     if reader.sees(b'*') {
         reader.take_char();
-        let wildcard = builder.dot_wildcard(kind)?;
-        return Ok(wildcard);
+        return Ok(builder.dot_wildcard(kind)?);
     }
     let text = parse_name(alloc, reader, context)?;
-    let segment = builder.dot_name(kind, text)?;
-    Ok(segment)
+    Ok(builder.dot_name(kind, text)?)
 }
 
 /// Parses what follows `..` (RFC 9535, section 2.5.2).
@@ -149,8 +147,7 @@ impl<F: Functions> FilterParser<'_, F> {
             return Err(reader.refuse(ParseErrorKind::ExpectedClosingBracket, Context::LongHand));
         }
         reader.take_char();
-        let segment = builder.long_hand(kind, selectors)?;
-        Ok(segment)
+        Ok(builder.long_hand(kind, selectors)?)
     }
 
     /// Parses a segment (RFC 9535, section 2.5), from its `.` or `[` on.

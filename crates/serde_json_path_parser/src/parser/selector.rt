@@ -38,11 +38,9 @@ fn parse_index_or_slice<S: PathSource>(
     if reader.sees(b':') {
         reader.take_char();
         let slice = parse_rest_of_slice(reader, Some(start))?;
-        let selector = builder.slice(slice)?;
-        return Ok(selector);
+        return Ok(builder.slice(slice)?);
     }
-    let selector = builder.index(start)?;
-    Ok(selector)
+    Ok(builder.index(start)?)
 }
 
 /// Parses a name selector after its opening quote, and the blanks after it (RFC 9535, section 2.3.1).
@@ -60,8 +58,7 @@ fn parse_quoted<S: PathSource>(
 {
     let text = parse_string(alloc, reader, quote)?;
     reader.skip_blanks();
-    let selector = builder.name(text)?;
-    Ok(selector)
+    Ok(builder.name(text)?)
 }
 
 /// Parses a selector that is no filter, and the blanks after it (RFC 9535, section 2.3).
@@ -87,14 +84,12 @@ fn parse_plain_selector<S: PathSource>(
     if reader.sees(b'*') {
         reader.take_char();
         reader.skip_blanks();
-        let wildcard = builder.wildcard()?;
-        return Ok(wildcard);
+        return Ok(builder.wildcard()?);
     }
     if reader.sees(b':') {
         reader.take_char();
         let slice = parse_rest_of_slice(reader, None)?;
-        let selector = builder.slice(slice)?;
-        return Ok(selector);
+        return Ok(builder.slice(slice)?);
     }
     parse_index_or_slice(builder, reader)
 }
@@ -113,8 +108,7 @@ impl<F: Functions> FilterParser<'_, F> {
     {
         if reader.sees(b'?') {
             let test = self.parse_inside(builder, reader)?;
-            let filter = builder.filter(test)?;
-            return Ok(filter);
+            return Ok(builder.filter(test)?);
         }
         parse_plain_selector(self.alloc, builder, reader)
     }

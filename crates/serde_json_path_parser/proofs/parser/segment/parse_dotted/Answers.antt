@@ -10,7 +10,7 @@ pub returns-then-sees-clause-gives : goal.returns-then-sees-clause-gives
 returns-then-sees-clause-gives g c =
     let kind = segment_kind_view c.args.kind in (
       (kind, tree.dot_wildcard),
-      c.in_ok-wildcard.ensures.made,
+      c.in_ok-dot_wildcard.ensures.made,
       wildcard_reads kind c.args.context (left c.args.reader.now) (left c.take_char.new.self) c.take_char.result (sym c.sees.ensures ∙ c.if-sees.true) c.take_char.ensures.value,
     )
 
@@ -18,6 +18,6 @@ pub returns-clause-gives : goal.returns-clause-gives
 returns-clause-gives g c =
     let kind = segment_kind_view c.args.kind in (
       (kind, tree.dot_name (string_bytes c.in_ok-text.text)),
-      c.in_ok-segment.ensures.made,
+      c.in_ok-dot_name.ensures.made,
       name_reads kind c.args.context (left c.args.reader.now) (left c.parse_name.new.reader) (string_bytes c.in_ok-text.text) (sym c.sees.ensures ∙ c.if-sees.false) c.in_ok-text.ensures.gives,
     )

@@ -88,8 +88,8 @@ parse_and_from-returns-in_err-push-2-clause-keeps g t c = λ part piece h. c.par
 pub parse_and_from-logical_and-requires : goal.parse_and_from-logical_and-requires
 parse_and_from-logical_and-requires g t c = let so_far = c.parts.invariant.so_far c.requires.0 c.requires.1 in (and_list so_far.0, so_far.1)
 
-pub parse_and_from-returns-in_err-expression-clause-keeps : goal.parse_and_from-returns-in_err-expression-clause-keeps
-parse_and_from-returns-in_err-expression-clause-keeps g t c = λ part piece h. c.logical_and.ensures.keeps part piece (c.parts.invariant.keeps part piece h)
+pub parse_and_from-returns-in_err-logical_and-clause-keeps : goal.parse_and_from-returns-in_err-logical_and-clause-keeps
+parse_and_from-returns-in_err-logical_and-clause-keeps g t c = λ part piece h. c.logical_and.ensures.keeps part piece (c.parts.invariant.keeps part piece h)
 
 pub parse_and_from-returns-clause-moves : goal.parse_and_from-returns-clause-moves
 parse_and_from-returns-clause-moves g t c = grind (arith, common_steps)
@@ -102,7 +102,7 @@ parse_and_from-returns-clause-gives g t c = λ x is.
     let so_far = c.parts.invariant.so_far x is in
     let ends : begins_both 38 38 (left c.parts.reader) ≡ false = sym c.sees_both.ensures.value ∙ c.parts-test.false in (
       and_list so_far.0,
-      c.in_ok-expression.ensures.made (and_list so_far.0) so_far.1,
+      c.in_ok-logical_and.ensures.made (and_list so_far.0) so_far.1,
       row_done (ands (signatures g.F.Functions.set c.args.self.now) c.args.self.now.depth) x so_far.0 _ _ ends so_far.2 ∙ ap (λ l. Ok (and_list so_far.0, l)) (sym c.sees_both.ensures.stays),
     )
 
@@ -313,8 +313,8 @@ parse_basic_from-returns-clause-gives g t c = λ x is.
       relation_read _ _ c.args.start x _ _ _ _ c.in-Some.ensures.value c.skip_blanks.ensures.left a.0 b.0 _ _ _ o.0 a.2 o.2 b.2,
     )
 
-pub parse_bracket-returns-in_err-segment-clause-keeps : goal.parse_bracket-returns-in_err-segment-clause-keeps
-parse_bracket-returns-in_err-segment-clause-keeps g t c = λ part piece h. c.long_hand.ensures.keeps part piece (c.parse_selectors.ensures.keeps part piece h)
+pub parse_bracket-returns-in_err-long_hand-clause-keeps : goal.parse_bracket-returns-in_err-long_hand-clause-keeps
+parse_bracket-returns-in_err-long_hand-clause-keeps g t c = λ part piece h. c.long_hand.ensures.keeps part piece (c.parse_selectors.ensures.keeps part piece h)
 
 pub parse_bracket-returns-clause-keeps : goal.parse_bracket-returns-clause-keeps
 parse_bracket-returns-clause-keeps g t c = λ part piece h. c.long_hand.ensures.keeps part piece (c.parse_selectors.ensures.keeps part piece h)
@@ -324,7 +324,7 @@ parse_bracket-returns-clause-gives g t c =
     let kind = segment_kind_view c.args.kind in
     let read = c.in_ok-selectors.ensures.gives in (
       (kind, tree.long_hand (selector_list read.0)),
-      c.in_ok-segment.ensures.made (selector_list read.0) read.1,
+      c.in_ok-long_hand.ensures.made (selector_list read.0) read.1,
       bracket_reads (filter_at g.F.Functions.set c.args.self.now) kind (left c.args.reader.now) (left c.parse_selectors.new.reader) (left c.take_char.new.self) read.0 c.take_char.result read.2 (sym c.sees.ensures ∙ c.if-not-sees.false) c.take_char.ensures.value,
     )
 
@@ -415,8 +415,8 @@ pub parse_named-returns-clause-gives : goal.parse_named-returns-clause-gives
 parse_named-returns-clause-gives g t c =
     rw (c.in_long_hand.ensures, c.bytes_left-start.ensures.value) (of_calls.named_nothing (signatures g.F.Functions.set c.args.self.now) (deeper g.F.Functions.set c.args.self.now) (left c.args.reader.now) c.requires (ap (begins (λ c. c == 40)) (sym c.in_ok-word.ensures.rest) ∙ sym c.sees.ensures ∙ c.if-sees.false) (sym (c.literal.ensures (word (left c.args.reader.now)) c.in_ok-word.ensures.word) ∙ ap (option_map literal_view) c.in-None.is))
 
-pub parse_negated-returns-in_err-paren-clause-keeps : goal.parse_negated-returns-in_err-paren-clause-keeps
-parse_negated-returns-in_err-paren-clause-keeps g t c = λ part piece h. c.not_paren.ensures.keeps part piece (c.parse_paren.ensures.keeps part piece h)
+pub parse_negated-returns-in_err-not_paren-clause-keeps : goal.parse_negated-returns-in_err-not_paren-clause-keeps
+parse_negated-returns-in_err-not_paren-clause-keeps g t c = λ part piece h. c.not_paren.ensures.keeps part piece (c.parse_paren.ensures.keeps part piece h)
 
 pub parse_negated-returns-then-sees-clause-keeps : goal.parse_negated-returns-then-sees-clause-keeps
 parse_negated-returns-then-sees-clause-keeps g t c = λ part piece h. c.not_paren.ensures.keeps part piece (c.parse_paren.ensures.keeps part piece h)
@@ -425,12 +425,12 @@ pub parse_negated-returns-then-sees-clause-gives : goal.parse_negated-returns-th
 parse_negated-returns-then-sees-clause-gives g t c =
     let inner = c.in_ok-inner.ensures.gives in (
       tree.not_paren inner.0,
-      c.in_ok-paren.ensures.made inner.0 inner.1,
+      c.in_ok-not_paren.ensures.made inner.0 inner.1,
       not_paren_read _ _ _ inner.0 _ (sym c.sees.ensures ∙ c.if-sees.true) inner.2,
     )
 
-pub parse_negated-returns-in_err-test-clause-keeps : goal.parse_negated-returns-in_err-test-clause-keeps
-parse_negated-returns-in_err-test-clause-keeps g t c = λ part piece h. c.not_exist.ensures.keeps part piece (c.parse_query.ensures.keeps part piece h)
+pub parse_negated-returns-in_err-not_exist-clause-keeps : goal.parse_negated-returns-in_err-not_exist-clause-keeps
+parse_negated-returns-in_err-not_exist-clause-keeps g t c = λ part piece h. c.not_exist.ensures.keeps part piece (c.parse_query.ensures.keeps part piece h)
 
 pub parse_negated-returns-then-sees-2-clause-keeps : goal.parse_negated-returns-then-sees-2-clause-keeps
 parse_negated-returns-then-sees-2-clause-keeps g t c = λ part piece h. c.not_exist.ensures.keeps part piece (c.parse_query.ensures.keeps part piece h)
@@ -439,12 +439,12 @@ pub parse_negated-returns-then-sees-2-clause-gives : goal.parse_negated-returns-
 parse_negated-returns-then-sees-2-clause-gives g t c =
     let q = c.in_ok-query.ensures.gives in (
       tree.not_exist q.0,
-      c.in_ok-test.ensures.made q.0 q.1,
+      c.in_ok-not_exist.ensures.made q.0 q.1,
       no_current_read _ _ _ q.0 _ (sym c.sees.ensures ∙ c.if-sees.false) (sym c.sees-2.ensures ∙ c.if-sees-2.true) q.2,
     )
 
-pub parse_negated-returns-in_err-test-2-clause-keeps : goal.parse_negated-returns-in_err-test-2-clause-keeps
-parse_negated-returns-in_err-test-2-clause-keeps g t c = λ part piece h. c.not_exist-then-sees-3.ensures.keeps part piece (c.parse_query-then-sees-3.ensures.keeps part piece h)
+pub parse_negated-returns-in_err-not_exist-2-clause-keeps : goal.parse_negated-returns-in_err-not_exist-2-clause-keeps
+parse_negated-returns-in_err-not_exist-2-clause-keeps g t c = λ part piece h. c.not_exist-then-sees-3.ensures.keeps part piece (c.parse_query-then-sees-3.ensures.keeps part piece h)
 
 pub parse_negated-returns-then-sees-3-clause-keeps : goal.parse_negated-returns-then-sees-3-clause-keeps
 parse_negated-returns-then-sees-3-clause-keeps g t c = λ part piece h. c.not_exist-then-sees-3.ensures.keeps part piece (c.parse_query-then-sees-3.ensures.keeps part piece h)
@@ -453,7 +453,7 @@ pub parse_negated-returns-then-sees-3-clause-gives : goal.parse_negated-returns-
 parse_negated-returns-then-sees-3-clause-gives g t c =
     let q = c.in_ok-query-2.ensures.gives in (
       tree.not_exist q.0,
-      c.in_ok-test-2.ensures.made q.0 q.1,
+      c.in_ok-not_exist-2.ensures.made q.0 q.1,
       no_root_read _ _ _ q.0 _ (sym c.sees.ensures ∙ c.if-sees.false) (sym c.sees-2.ensures ∙ c.if-sees-2.false) (sym c.sees-3.ensures ∙ c.if-sees-3.true) q.2,
     )
 
@@ -484,8 +484,8 @@ parse_negated_call-returns-then-eq-clause-gives g t c =
     let read = subst (λ y. named_at (signatures g.F.Functions.set c.args.self.now) (deeper g.F.Functions.set c.args.self.now) (left c.args.reader.now) ≡ Ok (y, left c.parse_named.new.reader)) f.1 o.2 in
     rw (c.in_long_hand-then-eq.ensures, c.bytes_left-start.ensures.value) (value_refused _ _ _ f.0 _ _ _ f.3 c.eq.ensures read c.if-eq.true)
 
-pub parse_negated_call-returns-in_err-test-clause-keeps : goal.parse_negated_call-returns-in_err-test-clause-keeps
-parse_negated_call-returns-in_err-test-clause-keeps g t c = λ part piece h. c.not_test.ensures.keeps part piece (c.parse_named.ensures.keeps part piece h)
+pub parse_negated_call-returns-in_err-not_test-clause-keeps : goal.parse_negated_call-returns-in_err-not_test-clause-keeps
+parse_negated_call-returns-in_err-not_test-clause-keeps g t c = λ part piece h. c.not_test.ensures.keeps part piece (c.parse_named.ensures.keeps part piece h)
 
 pub parse_negated_call-returns-clause-keeps : goal.parse_negated_call-returns-clause-keeps
 parse_negated_call-returns-clause-keeps g t c = λ part piece h. c.not_test.ensures.keeps part piece (c.parse_named.ensures.keeps part piece h)
@@ -496,7 +496,7 @@ parse_negated_call-returns-clause-gives g t c =
     let f = call_is (signatures g.F.Functions.set c.args.self.now) c.parse_named.new.builder _ _ _ o.0 c.in-Call.is o.1 in
     let read = subst (λ y. named_at (signatures g.F.Functions.set c.args.self.now) (deeper g.F.Functions.set c.args.self.now) (left c.args.reader.now) ≡ Ok (y, left c.parse_named.new.reader)) f.1 o.2 in (
       tree.not_test f.0,
-      c.in_ok-test.ensures.made f.0 f.2,
+      c.in_ok-not_test.ensures.made f.0 f.2,
       not_test_read _ _ _ f.0 _ _ _ f.3 c.eq.ensures read c.if-eq.false,
     )
 
@@ -572,8 +572,8 @@ parse_or_from-returns-in_err-push-2-clause-keeps g t c = λ part piece h. c.pars
 pub parse_or_from-logical_or-requires : goal.parse_or_from-logical_or-requires
 parse_or_from-logical_or-requires g t c = let so_far = c.parts.invariant.so_far c.requires.0 c.requires.1 in (or_list so_far.0, so_far.1)
 
-pub parse_or_from-returns-in_err-expression-clause-keeps : goal.parse_or_from-returns-in_err-expression-clause-keeps
-parse_or_from-returns-in_err-expression-clause-keeps g t c = λ part piece h. c.logical_or.ensures.keeps part piece (c.parts.invariant.keeps part piece h)
+pub parse_or_from-returns-in_err-logical_or-clause-keeps : goal.parse_or_from-returns-in_err-logical_or-clause-keeps
+parse_or_from-returns-in_err-logical_or-clause-keeps g t c = λ part piece h. c.logical_or.ensures.keeps part piece (c.parts.invariant.keeps part piece h)
 
 pub parse_or_from-returns-clause-moves : goal.parse_or_from-returns-clause-moves
 parse_or_from-returns-clause-moves g t c = grind (arith, common_steps)
@@ -586,7 +586,7 @@ parse_or_from-returns-clause-gives g t c = λ x is.
     let so_far = c.parts.invariant.so_far x is in
     let ends : begins_both 124 124 (left c.parts.reader) ≡ false = sym c.sees_both.ensures.value ∙ c.parts-test.false in (
       or_list so_far.0,
-      c.in_ok-expression.ensures.made (or_list so_far.0) so_far.1,
+      c.in_ok-logical_or.ensures.made (or_list so_far.0) so_far.1,
       row_done (ors (signatures g.F.Functions.set c.args.self.now) c.args.self.now.depth) x so_far.0 _ _ ends so_far.2 ∙ ap (λ l. Ok (or_list so_far.0, l)) (sym c.sees_both.ensures.stays),
     )
 

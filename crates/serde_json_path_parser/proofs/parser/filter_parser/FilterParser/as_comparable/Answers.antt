@@ -11,7 +11,7 @@ returns-then-not-is_singular-clause-gives g c = λ x h.
     let q = query_is (signatures g.F.Functions.set c.args.self.now) c.args.builder.now c.args.operand c.in-Query.query x c.in-Query.is h in
     rw (q.1, c.in_long_hand.ensures) (not_compared (signatures g.F.Functions.set c.args.self.now) (deeper g.F.Functions.set c.args.self.now) c.args.start (left c.args.reader.now) q.0 c.is_singular.result (c.is_singular.ensures q.0 q.2) c.if-not-is_singular.true)
 
-pub returns-in_ok-side-in-Query-clause-gives : goal.returns-in_ok-side-in-Query-clause-gives
-returns-in_ok-side-in-Query-clause-gives g c = λ x h.
+pub returns-in_ok-singular-in-Query-clause-gives : goal.returns-in_ok-singular-in-Query-clause-gives
+returns-in_ok-singular-in-Query-clause-gives g c = λ x h.
     let q = query_is (signatures g.F.Functions.set c.args.self.now) c.args.builder.now c.args.operand c.in-Query.query x c.in-Query.is h in
-    (tree.singular q.0, c.in_ok-side-in-Query.ensures.made q.0 q.2, subst (λ y. comparable_at (signatures g.F.Functions.set c.args.self.now) (deeper g.F.Functions.set c.args.self.now) c.args.start y (left c.args.reader.now) ≡ Ok (tree.singular q.0, left c.args.reader.now)) (sym q.1) (compared (signatures g.F.Functions.set c.args.self.now) (deeper g.F.Functions.set c.args.self.now) c.args.start (left c.args.reader.now) q.0 c.is_singular.result (c.is_singular.ensures q.0 q.2) c.if-not-is_singular.false))
+    (tree.singular q.0, c.in_ok-singular-in-Query.ensures.made q.0 q.2, subst (λ y. comparable_at (signatures g.F.Functions.set c.args.self.now) (deeper g.F.Functions.set c.args.self.now) c.args.start y (left c.args.reader.now) ≡ Ok (tree.singular q.0, left c.args.reader.now)) (sym q.1) (compared (signatures g.F.Functions.set c.args.self.now) (deeper g.F.Functions.set c.args.self.now) c.args.start (left c.args.reader.now) q.0 c.is_singular.result (c.is_singular.ensures q.0 q.2) c.if-not-is_singular.false))
