@@ -3,7 +3,7 @@ use Rattle.std.specs.Prelude.{ℕ, List}
 use Rattle.serde_json_path_syntax.specs.Tree.{Query}
 use Rattle.serde_json_path_syntax.specs.Parts.{tree_of, signatures_of}
 use Rattle.serde_json_path_functions.specs.Functions.{Signature}
-use Rattle.serde_json_path_parser.specs.Parse.{Read}
+use Rattle.serde_json_path_parser.specs.Parse.{ParsedQuery}
 use Rattle.serde_json_path.specs.declared.path.JsonPath.{JsonPath}
 
 -- the syntax tree of a path
@@ -17,5 +17,5 @@ path_signatures path = signatures_of path.checked
 -- the answer of the parser that a path was made of
 
 -- a path as its tree and these signatures
-abbrev pub path_view : JsonPath → Read
+abbrev pub path_view : JsonPath → ParsedQuery
 path_view path = record { tree = path_tree path; signatures = path_signatures path }

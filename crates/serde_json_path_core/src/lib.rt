@@ -4,7 +4,7 @@
 //! them without locations; a [`Walk`] gives one node at a time. The lists are full runs of the walk.
 //!
 //! ```text
-//! let mut walk = walk(alloc, &query, &document, &document, Builtin)?;
+//! let mut walk = walk(alloc, &query, &document, Builtin)?;
 //! while let Some(node) = walk.next()? {
 //!     println!(rt; "{}", node.location())?;
 //! }

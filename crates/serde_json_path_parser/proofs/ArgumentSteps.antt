@@ -5,10 +5,10 @@ use Rattle.std.proofs.lemmas.List.{length-append, nil_from_length, append-nil}
 use Rattle.serde_json_path_syntax.specs.Tree.{LogicalOr, LogicalAnd, Basic, Arguments, no_arguments, argument, Argument, logical_argument}
 use Rattle.serde_json_path_functions.specs.Functions.{Kind, Signature}
 use Rattle.serde_json_path_parser.specs.declared.error.Refusal.{Refusal}
-use Rattle.serde_json_path_parser.specs.declared.error.Stop.{Stop}
-use Rattle.serde_json_path_parser.specs.declared.error.Stop.TheVariants as stops
+use Rattle.serde_json_path_parser.specs.declared.error.Failure.{Failure}
+use Rattle.serde_json_path_parser.specs.declared.error.Failure.TheVariants as failures
 use Rattle.serde_json_path_parser.specs.declared.error.ParseErrorKind.TheVariants.{ExpectedExpression, ExpectedClosingParenthesis, WrongNumberOfArguments, WrongArgumentType}
-use Rattle.serde_json_path_parser.specs.declared.error.Place.TheVariants as place
+use Rattle.serde_json_path_parser.specs.declared.error.Context.TheVariants as context
 use Rattle.serde_json_path_syntax.specs.Parts.{IsPart}
 use Rattle.serde_json_path_syntax.specs.Piece.{Piece, an_argument}
 use Rattle.serde_json_path_syntax.specs.declared.node.Part.{Part}
@@ -22,10 +22,10 @@ use Rattle.serde_json_path_parser.specs.Parsed.{Parsed, ◌>>=◌, refusal, past
 use Rattle.serde_json_path_parser.specs.Numbers.{whole_at, amount_at, number_at}
 use Rattle.serde_json_path_parser.specs.Operands.{Operand, fits}
 use Rattle.serde_json_path_parser.specs.Filters.{Deeper, alone, ends_argument, ended, operand_at, basic_from, and_from, or_from, or_at, logical_from, argument_at, judged, arguments_at}
-use Rattle.serde_json_path_parser.proofs.Blanks.{no_longer}
-use Rattle.serde_json_path_parser.proofs.CallPlaces.{behind_argument}
+use Rattle.serde_json_path_parser.proofs.Texts.{no_longer}
+use Rattle.serde_json_path_parser.proofs.Calls.{behind_argument}
 use Rattle.serde_json_path_parser.proofs.LogicalForms.{DeeperLaws}
-use Rattle.serde_json_path_parser.proofs.Refusals.{same_fails, first_fails}
+use Rattle.serde_json_path_parser.proofs.Steps.{same_fails, first_fails}
 use Rattle.serde_json_path_parser.proofs.Stands.{err_is}
 
 first_of : (cs : List ℕ) → begins (λ c. c == 40 || c == 33) cs ≡ (begins (λ c. c == 40) cs || begins (λ c. c == 33) cs)
@@ -48,7 +48,7 @@ module _ (signature : List ℕ → Option Signature) (deeper : Deeper) where
     pub expression_argument : (e : LogicalOr) (rest : List ℕ) → or_at signature deeper cs ≡ Ok (e, rest) → argument_at signature deeper cs ≡ Ok (logical_argument e, rest)
     expression_argument e rest read = opens ∙ rw read refl
 
-    pub expression_fails : (s : Stop) → Fails s (or_at signature deeper cs) → Fails s (argument_at signature deeper cs)
+    pub expression_fails : (s : Failure) → Fails s (or_at signature deeper cs) → Fails s (argument_at signature deeper cs)
     expression_fails s h = same_fails s _ _ opens (first_fails s (or_at signature deeper cs) _ h)
 
   -- at an operand
@@ -57,7 +57,7 @@ module _ (signature : List ℕ → Option Signature) (deeper : Deeper) where
     unfolding argument_at
     at_operand = rw (first_of cs, no_parenthesis, no_negation) refl
 
-    pub operand_fails : (s : Stop) → Fails s (operand_at signature deeper cs) → Fails s (argument_at signature deeper cs)
+    pub operand_fails : (s : Failure) → Fails s (operand_at signature deeper cs) → Fails s (argument_at signature deeper cs)
     operand_fails s h = same_fails s _ _ at_operand (first_fails s (operand_at signature deeper cs) _ h)
 
     module _ (x : Operand) (rest : List ℕ) (read : operand_at signature deeper cs ≡ Ok (x, rest)) where
@@ -68,7 +68,7 @@ module _ (signature : List ℕ → Option Signature) (deeper : Deeper) where
         joined : argument_at signature deeper cs ≡ logical_from signature deeper (byte_count cs) x rest
         joined = at_operand ∙ rw (read, open_yet) refl
 
-        pub basic_fails : (s : Stop) → Fails s (basic_from signature deeper (byte_count cs) x rest) → Fails s (argument_at signature deeper cs)
+        pub basic_fails : (s : Failure) → Fails s (basic_from signature deeper (byte_count cs) x rest) → Fails s (argument_at signature deeper cs)
         unfolding logical_from
         basic_fails s h = same_fails s _ _ joined (first_fails s (basic_from signature deeper (byte_count cs) x rest) _ h)
 
@@ -77,14 +77,14 @@ module _ (signature : List ℕ → Option Signature) (deeper : Deeper) where
           unfolding logical_from
           from_basic = joined ∙ rw basic refl
 
-          pub and_fails : (s : Stop) → Fails s (and_from signature deeper b behind) → Fails s (argument_at signature deeper cs)
+          pub and_fails : (s : Failure) → Fails s (and_from signature deeper b behind) → Fails s (argument_at signature deeper cs)
           and_fails s h = same_fails s _ _ from_basic (first_fails s (and_from signature deeper b behind) _ h)
 
           module _ (a : LogicalAnd) (further : List ℕ) (and : and_from signature deeper b behind ≡ Ok (a, further)) where
             from_and : argument_at signature deeper cs ≡ (or_from signature deeper a further >>= λ e. Ok (logical_argument e.0, e.1))
             from_and = from_basic ∙ rw and refl
 
-            pub or_fails : (s : Stop) → Fails s (or_from signature deeper a further) → Fails s (argument_at signature deeper cs)
+            pub or_fails : (s : Failure) → Fails s (or_from signature deeper a further) → Fails s (argument_at signature deeper cs)
             or_fails s h = same_fails s _ _ from_and (first_fails s (or_from signature deeper a further) _ h)
 
             pub joined_argument : (e : LogicalOr) (last : List ℕ) → or_from signature deeper a further ≡ Ok (e, last) → argument_at signature deeper cs ≡ Ok (logical_argument e, last)
@@ -93,21 +93,21 @@ module _ (signature : List ℕ → Option Signature) (deeper : Deeper) where
   -- ---- arguments in a row
 
   -- no argument stands at the end
-  nothing : argument_at signature deeper [] ≡ Err (refusal ExpectedExpression place.LongHand [])
+  nothing : argument_at signature deeper [] ≡ Err (refusal ExpectedExpression context.LongHand [])
   unfolding argument_at operand_at number_at amount_at whole_at
   nothing = refl
 
   module _ (start : ℕ) (kinds : List Kind) (fuel : ℕ) (cs : List ℕ) (enough : length cs ≤ fuel) where
-    pub argument_fails : (s : Stop) → Fails s (argument_at signature deeper cs) → Fails s (arguments_at signature deeper fuel start kinds cs)
+    pub argument_fails : (s : Failure) → Fails s (argument_at signature deeper cs) → Fails s (arguments_at signature deeper fuel start kinds cs)
     unfolding arguments_at
-    argument_fails stops.Memory h = tt
-    argument_fails (stops.Refused r) h = by_fuel fuel enough
+    argument_fails failures.Memory h = tt
+    argument_fails (failures.Refused r) h = by_fuel fuel enough
       where
         by_fuel : (n : ℕ) → length cs ≤ n → arguments_at signature deeper n start kinds cs ≡ Err r
         by_fuel zero l =
             let none : cs ≡ [] = nil_from_length cs (omega (arith, l)) in
-            let same : refusal ExpectedExpression place.LongHand [] ≡ r = err_is (refusal ExpectedExpression place.LongHand []) r (argument_at signature deeper []) nothing (ap (argument_at signature deeper) (sym none) ∙ h) in
-            ap (λ (l : List ℕ). Err (refusal ExpectedExpression place.LongHand l)) none ∙ ap (λ (x : Refusal). Err x) same
+            let same : refusal ExpectedExpression context.LongHand [] ≡ r = err_is (refusal ExpectedExpression context.LongHand []) r (argument_at signature deeper []) nothing (ap (argument_at signature deeper) (sym none) ∙ h) in
+            ap (λ (l : List ℕ). Err (refusal ExpectedExpression context.LongHand l)) none ∙ ap (λ (x : Refusal). Err x) same
         by_fuel (suc n) l = rw h refl
 
     module _ (a : Argument) (rest : List ℕ) (read : argument_at signature deeper cs ≡ Ok (a, rest)) where
@@ -116,32 +116,32 @@ module _ (signature : List ℕ → Option Signature) (deeper : Deeper) where
           cond (begins (λ c. c == 44) rest) (arguments_at signature deeper n start left (past_blanks (drop 1 rest))) (ended start left (drop 1 rest)) >>= λ more. Ok (argument a more.0, more.1)
 
       -- the fuel is there
-      fueled : (n : ℕ) × (fuel ≡ suc n) × (arguments_at signature deeper fuel start kinds cs ≡ cond (begins ends_argument rest) (rests n) (Err (refusal ExpectedClosingParenthesis place.LongHand rest)))
+      fueled : (n : ℕ) × (fuel ≡ suc n) × (arguments_at signature deeper fuel start kinds cs ≡ cond (begins ends_argument rest) (rests n) (Err (refusal ExpectedClosingParenthesis context.LongHand rest)))
       unfolding arguments_at
       fueled = by_fuel fuel enough
         where
-          by_fuel : (n : ℕ) → length cs ≤ n → (m : ℕ) × (n ≡ suc m) × (arguments_at signature deeper n start kinds cs ≡ cond (begins ends_argument rest) (rests m) (Err (refusal ExpectedClosingParenthesis place.LongHand rest)))
-          by_fuel zero l = absurd (let some : Ok (a, rest) ≡ Err (refusal ExpectedExpression place.LongHand []) = sym read ∙ ap (argument_at signature deeper) (nil_from_length cs (omega (arith, l))) ∙ nothing in cc)
+          by_fuel : (n : ℕ) → length cs ≤ n → (m : ℕ) × (n ≡ suc m) × (arguments_at signature deeper n start kinds cs ≡ cond (begins ends_argument rest) (rests m) (Err (refusal ExpectedClosingParenthesis context.LongHand rest)))
+          by_fuel zero l = absurd (let some : Ok (a, rest) ≡ Err (refusal ExpectedExpression context.LongHand []) = sym read ∙ ap (argument_at signature deeper) (nil_from_length cs (omega (arith, l))) ∙ nothing in cc)
           by_fuel (suc m) l = (m, refl, rw read refl)
 
-      pub open_argument : begins ends_argument rest ≡ false → arguments_at signature deeper fuel start kinds cs ≡ Err (refusal ExpectedClosingParenthesis place.LongHand rest)
+      pub open_argument : begins ends_argument rest ≡ false → arguments_at signature deeper fuel start kinds cs ≡ Err (refusal ExpectedClosingParenthesis context.LongHand rest)
       open_argument e = fueled.2 ∙ rw e refl
 
       module _ (ends : begins ends_argument rest ≡ true) where
         pub in_rests : (n : ℕ) × (fuel ≡ suc n) × (arguments_at signature deeper fuel start kinds cs ≡ rests n)
         in_rests = (fueled.0, fueled.1, fueled.2 ∙ rw ends refl)
 
-        pub too_many : kinds ≡ [] → arguments_at signature deeper fuel start kinds cs ≡ Err (refusal_at WrongNumberOfArguments place.LongHand start)
+        pub too_many : kinds ≡ [] → arguments_at signature deeper fuel start kinds cs ≡ Err (refusal_at WrongNumberOfArguments context.LongHand start)
         unfolding judged
         too_many e = in_rests.2 ∙ rw e refl
 
         module _ (kind : Kind) (more : List Kind) (first : kinds ≡ kind ∷ more) where
-          pub wrong_type : fits signature a kind ≡ false → arguments_at signature deeper fuel start kinds cs ≡ Err (refusal WrongArgumentType place.LongHand cs)
+          pub wrong_type : fits signature a kind ≡ false → arguments_at signature deeper fuel start kinds cs ≡ Err (refusal WrongArgumentType context.LongHand cs)
           unfolding judged
           wrong_type e = in_rests.2 ∙ rw (first, e) refl
 
           module _ (fitting : fits signature a kind ≡ true) where
-            -- behind the last one, and at a comma
+            -- after the last one, and at a comma
             rests_end : (n : ℕ) → begins (λ c. c == 44) rest ≡ false → rests n ≡ (ended start more (drop 1 rest) >>= λ more. Ok (argument a more.0, more.1))
             unfolding judged
             rests_end n comma = rw (first, fitting, comma) refl
@@ -150,13 +150,13 @@ module _ (signature : List ℕ → Option Signature) (deeper : Deeper) where
             unfolding judged
             rests_on n comma = rw (first, fitting, comma) refl
 
-            pub last_fails : (s : Stop) → begins (λ c. c == 44) rest ≡ false → Fails s (ended start more (drop 1 rest)) → Fails s (arguments_at signature deeper fuel start kinds cs)
+            pub last_fails : (s : Failure) → begins (λ c. c == 44) rest ≡ false → Fails s (ended start more (drop 1 rest)) → Fails s (arguments_at signature deeper fuel start kinds cs)
             last_fails s comma h = same_fails s _ (arguments_at signature deeper fuel start kinds cs) (in_rests.2 ∙ rests_end in_rests.0 comma) (first_fails s (ended start more (drop 1 rest)) (λ more. Ok (argument a more.0, more.1)) h)
 
             pub last : (args : Arguments) (behind : List ℕ) → begins (λ c. c == 44) rest ≡ false → ended start more (drop 1 rest) ≡ Ok (args, behind) → arguments_at signature deeper fuel start kinds cs ≡ Ok (argument a args, behind)
             last args behind comma h = in_rests.2 ∙ rests_end in_rests.0 comma ∙ rw h refl
 
-            -- the fuel for those behind a comma
+            -- the fuel for those after a comma
             abbrev pub fuel_behind : ℕ
             fuel_behind = in_rests.0
 
@@ -165,7 +165,7 @@ module _ (signature : List ℕ → Option Signature) (deeper : Deeper) where
                 let b = behind_argument signature n deeper laws cs (a, rest) read in
                 omega (arith, enough, in_rests.1, ap length b.1, length-append b.0 rest, no_longer (drop 1 rest), one_less rest comma)
 
-            pub more_fail : (s : Stop) → begins (λ c. c == 44) rest ≡ true → Fails s (arguments_at signature deeper fuel_behind start more (past_blanks (drop 1 rest))) → Fails s (arguments_at signature deeper fuel start kinds cs)
+            pub more_fail : (s : Failure) → begins (λ c. c == 44) rest ≡ true → Fails s (arguments_at signature deeper fuel_behind start more (past_blanks (drop 1 rest))) → Fails s (arguments_at signature deeper fuel start kinds cs)
             more_fail s comma h =
                 same_fails s _ (arguments_at signature deeper fuel start kinds cs) (in_rests.2 ∙ rests_on in_rests.0 comma) (first_fails s (arguments_at signature deeper fuel_behind start more (past_blanks (drop 1 rest))) (λ more. Ok (argument a more.0, more.1)) h)
 
@@ -175,34 +175,34 @@ module _ (signature : List ℕ → Option Signature) (deeper : Deeper) where
 
 -- ---- parts of arguments
 
-module _ {S : Type 0} {g : Ghosts S} (builder : SyntaxBuilder) (before : List Part) (result : Result Unit Stop) (reader : Reader S g) (read whole : Parsed Arguments) where
-  -- no argument is put behind others
+module _ {S : Type 0} {g : Ghosts S} (builder : SyntaxBuilder) (before : List Part) (result : Result Unit Failure) (reader : Reader S g) (read whole : Parsed Arguments) where
+  -- no argument is put after others
   pub none_made : whole ≡ read → GivesEnd result reader read → MakesArguments builder before before result reader whole
   none_made = by_result result
     where
-      by_result : (r : Result Unit Stop) → whole ≡ read → GivesEnd r reader read → MakesArguments builder before before r reader whole
+      by_result : (r : Result Unit Failure) → whole ≡ read → GivesEnd r reader read → MakesArguments builder before before r reader whole
       by_result (Ok u) e h = (no_arguments, [], sym (append-nil before), tt, e ∙ h)
       by_result (Err s) e h = same_fails s read whole e h
 
   module _ (mid : List Part) (part : Part) (a : Argument) (pushed : mid ≡ before ++ part ∷ []) (is : IsPart builder part (an_argument a))
-      (reads : (args : Arguments) (behind : List ℕ) → read ≡ Ok (args, behind) → whole ≡ Ok (argument a args, behind)) (fail : (s : Stop) → Fails s read → Fails s whole) where
-    -- one is put behind others, and it is the last one
+      (reads : (args : Arguments) (behind : List ℕ) → read ≡ Ok (args, behind) → whole ≡ Ok (argument a args, behind)) (fail : (s : Failure) → Fails s read → Fails s whole) where
+    -- one is put after others, and it is the last one
     pub last_made : GivesEnd result reader read → MakesArguments builder before mid result reader whole
     last_made = by_result result
       where
-        by_result : (r : Result Unit Stop) → GivesEnd r reader read → MakesArguments builder before mid r reader whole
+        by_result : (r : Result Unit Failure) → GivesEnd r reader read → MakesArguments builder before mid r reader whole
         by_result (Ok u) h = (argument a no_arguments, part ∷ [], pushed, (is, tt), reads no_arguments (left reader) h)
         by_result (Err s) h = fail s h
 
-    -- and more are put behind it
+    -- and more are put after it
     pub more_made : (after : List Part) → MakesArguments builder mid after result reader read → MakesArguments builder before after result reader whole
     more_made after = by_result result
       where
-        by_result : (r : Result Unit Stop) → MakesArguments builder mid after r reader read → MakesArguments builder before after r reader whole
+        by_result : (r : Result Unit Failure) → MakesArguments builder mid after r reader read → MakesArguments builder before after r reader whole
         by_result (Ok u) h = (argument a h.0, part ∷ h.1, h.2 ∙ ap (λ (ps : List Part). ps ++ h.1) pushed ∙ append_assoc before (part ∷ []) h.1, (is, h.3), reads h.0 (left reader) h.4)
         by_result (Err s) h = fail s h
 
 -- a part that was made stands for something
-pub was_made : {A S : Type 0} {g : Ghosts S} (piece : A → Piece) (builder : SyntaxBuilder) (result : Result Part Stop) (reader : Reader S g) (read : Parsed A) → Makes piece builder result reader read → IfOk result (λ part. (x : A) × IsPart builder part (piece x))
+pub was_made : {A S : Type 0} {g : Ghosts S} (piece : A → Piece) (builder : SyntaxBuilder) (result : Result Part Failure) (reader : Reader S g) (read : Parsed A) → Makes piece builder result reader read → IfOk result (λ part. (x : A) × IsPart builder part (piece x))
 was_made piece builder (Ok part) reader read h = (h.0, h.1)
 was_made piece builder (Err e) reader read h = tt

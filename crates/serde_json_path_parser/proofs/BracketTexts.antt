@@ -4,17 +4,16 @@ use Rattle.std.specs.Prelude.{◌==◌, ◌||◌, codes}
 use Rattle.serde_json_path_syntax.specs.Tree.{SegmentKind, Segment, long_hand, Selectors, no_selectors, selector, Selector, LogicalOr}
 use Rattle.serde_json_path_syntax.specs.Text.{bracket_dots_of}
 use Rattle.serde_json_path_parser.specs.declared.error.ParseErrorKind.TheVariants.{ExpectedClosingBracket}
-use Rattle.serde_json_path_parser.specs.declared.error.Place.TheVariants as place
+use Rattle.serde_json_path_parser.specs.declared.error.Context.TheVariants as context
 use Rattle.serde_json_path_parser.specs.Lexical.{begins, IsBlank}
 use Rattle.serde_json_path_parser.specs.Grammar.{ReadsSegment, ReadSelectors, ReadMoreSelectors}
 use Rattle.serde_json_path_parser.specs.Parsed.{Parsed, ◌>>=◌, refusal, past_blanks, many}
 use Rattle.serde_json_path_parser.specs.Parsing.{selector_at, next_selector_at, selectors_at, selector_list, bracket_at}
-use Rattle.serde_json_path_parser.proofs.Blanks.{past_all, blanks_of, are_blank, split_blanks}
+use Rattle.serde_json_path_parser.proofs.Texts.{past_all, blanks_of, are_blank, split_blanks, gathered_behind, enclosed, spread}
 use Rattle.serde_json_path_parser.proofs.Many as m
-use Rattle.serde_json_path_parser.proofs.Regrouped.{gathered_behind, enclosed, spread}
 use Rattle.serde_json_path_parser.proofs.Rows as r
 use Rattle.serde_json_path_parser.proofs.Runs.{some_begun}
-use Rattle.serde_json_path_parser.proofs.SelectorTexts.{selector_sound, selector_again, begins_no_blank}
+use Rattle.serde_json_path_parser.proofs.Selectors.{selector_sound, selector_again, begins_no_blank}
 use Rattle.serde_json_path_parser.proofs.Filtered.{Closes, AreGoodSelectors, IsGoodSegment, IsGoodText, FilterLaws}
 use Rattle.serde_json_path_parser.proofs.Steps.{Read, Spaced, bind_ok, guard, done, ok_is, after_one, many_sound}
 
@@ -37,7 +36,7 @@ module _ (filter_at : List ℕ → Parsed Selector) (Good : LogicalOr → Type 0
   abbrev AreGood : Selectors → Type 0
   AreGood sels = AreGoodSelectors Good sels
 
-  -- ---- selectors behind the first one
+  -- ---- selectors after the first one
 
   pub next_sound : (cs : List ℕ) (x : Selector × List ℕ) → begins is_comma cs ≡ true → next_selector_at filter_at cs ≡ Ok x → Read (r.IsNext (codes ",") IsText) cs x
   unfolding next_selector_at
@@ -92,8 +91,8 @@ module _ (filter_at : List ℕ → Parsed Selector) (Good : LogicalOr → Type 0
   pub bracket_sound : (kind : SegmentKind) (cs : List ℕ) (x : Segment × List ℕ) → bracket_at filter_at cs ≡ Ok x → Read (IsSegmentText kind) (bracket_dots_of kind ++ (91 ∷ cs)) x
   unfolding bracket_at
   bracket_sound kind cs x e =
-      let ss = bind_ok (selectors_at filter_at cs) (λ ss. cond (begins (λ c. c == 93) ss.1) (Ok (long_hand (selector_list ss.0), drop 1 ss.1)) (Err (refusal ExpectedClosingBracket place.LongHand ss.1))) x e in
-      let g = guard (begins (λ c. c == 93) ss.0.1) (refusal ExpectedClosingBracket place.LongHand ss.0.1) (done (long_hand (selector_list ss.0.0), drop 1 ss.0.1)) x ss.2 in
+      let ss = bind_ok (selectors_at filter_at cs) (λ ss. cond (begins (λ c. c == 93) ss.1) (Ok (long_hand (selector_list ss.0), drop 1 ss.1)) (Err (refusal ExpectedClosingBracket context.LongHand ss.1))) x e in
+      let g = guard (begins (λ c. c == 93) ss.0.1) (refusal ExpectedClosingBracket context.LongHand ss.0.1) (done (long_hand (selector_list ss.0.0), drop 1 ss.0.1)) x ss.2 in
       let r = selectors_sound cs ss.0 ss.1 in
       let dots = bracket_dots_of kind in
       let j = blanks_of cs in
@@ -150,7 +149,7 @@ module _ (filter_at : List ℕ → Parsed Selector) (Good : LogicalOr → Type 0
         ap (selector_at filter_at) here ∙ selector_again filter_at Good laws a sel (b ++ closing) (o.0, is) (closes more b rests) in
         rw (one, more_again more b rests o.1) refl
 
-  -- behind `[`
+  -- after `[`
   pub bracket_again : (sels : Selectors) (j a k rest : List ℕ) → IsBlank j → ReadSelectors sels a → IsBlank k → AreGood sels → bracket_at filter_at ((j ++ (a ++ (k ++ 93 ∷ []))) ++ rest) ≡ Ok (long_hand sels, rest)
   unfolding bracket_at
   bracket_again sels j a k rest before is behind o =

@@ -15,8 +15,7 @@ use Rattle.serde_json_path_parser.specs.declared.parser.call.Argument as declare
 use Rattle.serde_json_path_parser.specs.declared.parser.call.Argument.TheVariants as the_arguments
 use Rattle.serde_json_path_parser.specs.Giving.{IsArgumentOf}
 use Rattle.serde_json_path_parser.specs.Operands.{is_value_literal, is_whole, fits}
-use Rattle.serde_json_path_parser.proofs.CallReads.{amount_whole}
-use Rattle.serde_json_path_parser.proofs.CallTexts.{whole_amount}
+use Rattle.serde_json_path_parser.proofs.Calls.{amount_whole, whole_amount}
 use Rattle.serde_json_path_parser.proofs.OperandSteps.{singular_by}
 
 -- a test that says whether a literal is one for a parameter of values

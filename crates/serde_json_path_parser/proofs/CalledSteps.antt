@@ -4,9 +4,9 @@ use Rattle.std.specs.Prelude.{◌==◌, ℤ}
 use Rattle.serde_json_path_syntax.specs.Tree.{Query, root, current, Call, call, Arguments, Literal, number}
 use Rattle.serde_json_path_syntax.specs.Typing.{result_kind}
 use Rattle.serde_json_path_functions.specs.Functions.{Kind, Signature}
-use Rattle.serde_json_path_parser.specs.declared.error.Stop.{Stop}
+use Rattle.serde_json_path_parser.specs.declared.error.Failure.{Failure}
 use Rattle.serde_json_path_parser.specs.declared.error.ParseErrorKind.TheVariants.{ExpectedExpression, UndefinedFunction, NestedTooDeep}
-use Rattle.serde_json_path_parser.specs.declared.error.Place.TheVariants as place
+use Rattle.serde_json_path_parser.specs.declared.error.Context.TheVariants as context
 use Rattle.serde_json_path_parser.specs.Giving.{Fails}
 use Rattle.serde_json_path_parser.specs.Lexical.{begins, is_small_letter}
 use Rattle.serde_json_path_parser.specs.Parsed.{refusal, past_blanks, byte_count, refusal_at}
@@ -14,12 +14,12 @@ use Rattle.serde_json_path_parser.specs.Operands.{a_literal, a_query, a_call}
 use Rattle.serde_json_path_parser.specs.Numbers.{number_at}
 use Rattle.serde_json_path_parser.specs.Words.{literal_word}
 use Rattle.serde_json_path_parser.specs.Filters.{Deeper, word, behind_word, begins_call, named_call_at, named_at, query_at, operand_at, ended, arguments_at, parameters_at, call_at, level}
-use Rattle.serde_json_path_parser.proofs.Refusals.{same_fails, first_fails}
+use Rattle.serde_json_path_parser.proofs.Steps.{same_fails, first_fails}
 use Rattle.serde_json_path_parser.proofs.WordTexts.{literal_word_reads}
 
 -- ---- levels
 
-pub level_none : (signature : List ℕ → Option Signature) (n : ℕ) (start : ℕ) (f cs : List ℕ) → n ≡ 0 → (level signature n).call_of start f cs ≡ Err (refusal_at NestedTooDeep place.LongHand start)
+pub level_none : (signature : List ℕ → Option Signature) (n : ℕ) (start : ℕ) (f cs : List ℕ) → n ≡ 0 → (level signature n).call_of start f cs ≡ Err (refusal_at NestedTooDeep context.LongHand start)
 unfolding level
 level_none signature n start f cs e = ap (λ (m : ℕ). (level signature m).call_of start f cs) e
 
@@ -31,12 +31,12 @@ level_call signature (suc n) m start f cs l e = ap (λ (k : ℕ). call_at signat
 -- ---- calls
 
 module _ (signature : List ℕ → Option Signature) (deeper : Deeper) (start : ℕ) (f cs : List ℕ) where
-  pub undefined : signature f ≡ None → call_at signature deeper start f (signature f) cs ≡ Err (refusal_at UndefinedFunction place.LongHand start)
+  pub undefined : signature f ≡ None → call_at signature deeper start f (signature f) cs ≡ Err (refusal_at UndefinedFunction context.LongHand start)
   unfolding call_at
   undefined e = rw e refl
 
   module _ (s : Signature) (declared : signature f ≡ Some s) where
-    pub parameters_fail : (stop : Stop) → Fails stop (parameters_at signature deeper start s.params (past_blanks cs)) → Fails stop (call_at signature deeper start f (signature f) cs)
+    pub parameters_fail : (stop : Failure) → Fails stop (parameters_at signature deeper start s.params (past_blanks cs)) → Fails stop (call_at signature deeper start f (signature f) cs)
     unfolding call_at
     parameters_fail stop h =
         same_fails stop _ (call_at signature deeper start f (signature f) cs) (rw declared refl) (first_fails stop (parameters_at signature deeper start s.params (past_blanks cs)) (λ args. Ok (call f args.0, args.1)) h)
@@ -48,7 +48,7 @@ module _ (signature : List ℕ → Option Signature) (deeper : Deeper) (start : 
     pub result_is : (args : Arguments) → result_kind signature (call f args) ≡ Some s.result
     result_is args = rw declared refl
 
-pub level_undefined : (signature : List ℕ → Option Signature) (n : ℕ) (start : ℕ) (f cs : List ℕ) → 0 < n → signature f ≡ None → (level signature n).call_of start f cs ≡ Err (refusal_at UndefinedFunction place.LongHand start)
+pub level_undefined : (signature : List ℕ → Option Signature) (n : ℕ) (start : ℕ) (f cs : List ℕ) → 0 < n → signature f ≡ None → (level signature n).call_of start f cs ≡ Err (refusal_at UndefinedFunction context.LongHand start)
 level_undefined signature n start f cs l e = level_call signature n (n - 1) start f cs l refl ∙ undefined signature (level signature (n - 1)) start f cs e
 
 -- ---- names
@@ -64,7 +64,7 @@ module _ (signature : List ℕ → Option Signature) (deeper : Deeper) (cs : Lis
   unfolding named_at named_call_at
   named_call c rest open_parenthesis h = rw (call_begins open_parenthesis, h) refl
 
-  pub named_call_fails : (s : Stop) → begins (λ c. c == 40) (behind_word cs) ≡ true → Fails s (deeper.call_of (byte_count cs) (word cs) (drop 1 (behind_word cs))) → Fails s (named_at signature deeper cs)
+  pub named_call_fails : (s : Failure) → begins (λ c. c == 40) (behind_word cs) ≡ true → Fails s (deeper.call_of (byte_count cs) (word cs) (drop 1 (behind_word cs))) → Fails s (named_at signature deeper cs)
   unfolding named_at named_call_at
   named_call_fails s open_parenthesis h =
       same_fails s _ (named_at signature deeper cs) (rw (call_begins open_parenthesis) refl) (first_fails s (deeper.call_of (byte_count cs) (word cs) (drop 1 (behind_word cs))) (λ c. Ok (a_call c.0, c.1)) h)
@@ -73,7 +73,7 @@ module _ (signature : List ℕ → Option Signature) (deeper : Deeper) (cs : Lis
   unfolding named_at
   named_literal l no_parenthesis is = rw (no_call_begins no_parenthesis) (literal_word_reads cs ∙ rw is refl)
 
-  pub named_nothing : begins (λ c. c == 40) (behind_word cs) ≡ false → literal_word (word cs) ≡ None → named_at signature deeper cs ≡ Err (refusal ExpectedExpression place.LongHand cs)
+  pub named_nothing : begins (λ c. c == 40) (behind_word cs) ≡ false → literal_word (word cs) ≡ None → named_at signature deeper cs ≡ Err (refusal ExpectedExpression context.LongHand cs)
   unfolding named_at
   named_nothing no_parenthesis is = rw (no_call_begins no_parenthesis) (literal_word_reads cs ∙ rw is refl)
 

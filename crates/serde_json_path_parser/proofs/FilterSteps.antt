@@ -3,14 +3,14 @@ use Rattle.std.proofs.Common.{◌≡◌, ℕ, true, false, List, ◌∷◌, drop
 use Rattle.std.specs.Prelude.{◌==◌}
 use Rattle.serde_json_path_syntax.specs.Tree.{SegmentKind, Segment, filter, LogicalOr, QueryKind, query}
 use Rattle.serde_json_path_functions.specs.Functions.{Signature}
-use Rattle.serde_json_path_parser.specs.declared.error.Place.TheVariants as place
-use Rattle.serde_json_path_parser.specs.declared.error.Stop.{Stop}
+use Rattle.serde_json_path_parser.specs.declared.error.Context.TheVariants as context
+use Rattle.serde_json_path_parser.specs.declared.error.Failure.{Failure}
 use Rattle.serde_json_path_parser.specs.Filters.{Deeper, filter_at, query_at}
 use Rattle.serde_json_path_parser.specs.Giving.{Fails}
 use Rattle.serde_json_path_parser.specs.Lexical.{begins}
 use Rattle.serde_json_path_parser.specs.Parsed.{Parsed, ◌>>=◌, past_blanks, byte_count}
 use Rattle.serde_json_path_parser.specs.Parsing.{selector_at, segments_at, segment_list}
-use Rattle.serde_json_path_parser.proofs.Refusals.{same_fails, first_fails}
+use Rattle.serde_json_path_parser.proofs.Steps.{same_fails, first_fails}
 use Rattle.serde_json_path_parser.proofs.Runs.{begins_differs}
 
 module _ (signature : List ℕ → Option Signature) (deeper : Deeper) where
@@ -24,19 +24,19 @@ module _ (signature : List ℕ → Option Signature) (deeper : Deeper) where
   pub filter_reads : (cs rest : List ℕ) (e : LogicalOr) → begins (λ c. c == 63) cs ≡ true → deeper.expression (byte_count cs) (past_blanks (drop 1 cs)) ≡ Ok (e, rest) → selector_at (filter_at signature deeper) cs ≡ Ok (filter e, rest)
   filter_reads cs rest e mark read = at_mark cs mark ∙ ap (λ (r : Parsed LogicalOr). r >>= λ e. Ok (filter e.0, e.1)) read
 
-  pub filter_fails : (s : Stop) (cs : List ℕ) → begins (λ c. c == 63) cs ≡ true → Fails s (deeper.expression (byte_count cs) (past_blanks (drop 1 cs))) → Fails s (selector_at (filter_at signature deeper) cs)
+  pub filter_fails : (s : Failure) (cs : List ℕ) → begins (λ c. c == 63) cs ≡ true → Fails s (deeper.expression (byte_count cs) (past_blanks (drop 1 cs))) → Fails s (selector_at (filter_at signature deeper) cs)
   filter_fails s cs mark h =
       same_fails s (deeper.expression (byte_count cs) (past_blanks (drop 1 cs)) >>= λ e. Ok (filter e.0, e.1)) (selector_at (filter_at signature deeper) cs) (at_mark cs mark)
       (first_fails s (deeper.expression (byte_count cs) (past_blanks (drop 1 cs))) (λ e. Ok (filter e.0, e.1)) h)
 
-  -- behind the `@` or `$` of a query, its segments are read
+  -- after the `@` or `$` of a query, its segments are read
   module _ (kind : QueryKind) (c : ℕ) (cs ds : List ℕ) (e : cs ≡ c ∷ ds) where
-    pub query_reads : (rest behind : List ℕ) (ss : List (SegmentKind × Segment)) → segments_at (filter_at signature deeper) place.LongHand ds ≡ Ok (ss, rest) → behind ≡ past_blanks rest
+    pub query_reads : (rest behind : List ℕ) (ss : List (SegmentKind × Segment)) → segments_at (filter_at signature deeper) context.LongHand ds ≡ Ok (ss, rest) → behind ≡ past_blanks rest
         → query_at signature deeper kind cs ≡ Ok (query kind (segment_list ss), behind)
     unfolding query_at
     query_reads rest behind ss read end = rw (e, read, end) refl
 
-    pub query_fails : (s : Stop) → Fails s (segments_at (filter_at signature deeper) place.LongHand ds) → Fails s (query_at signature deeper kind cs)
+    pub query_fails : (s : Failure) → Fails s (segments_at (filter_at signature deeper) context.LongHand ds) → Fails s (query_at signature deeper kind cs)
     unfolding query_at
     query_fails s h =
-        rw e (first_fails s (segments_at (filter_at signature deeper) place.LongHand ds) (λ ss. Ok (query kind (segment_list ss.0), past_blanks ss.1)) h)
+        rw e (first_fails s (segments_at (filter_at signature deeper) context.LongHand ds) (λ ss. Ok (query kind (segment_list ss.0), past_blanks ss.1)) h)

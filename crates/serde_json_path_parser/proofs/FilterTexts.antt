@@ -6,7 +6,7 @@ use Rattle.serde_json_path_functions.specs.Functions.{Signature}
 use Rattle.serde_json_path_parser.specs.Lexical.{begins}
 use Rattle.serde_json_path_parser.specs.Parsed.{past_blanks, byte_count}
 use Rattle.serde_json_path_parser.specs.Filters.{Deeper, filter_at}
-use Rattle.serde_json_path_parser.proofs.Blanks.{past_all, blanks_of, are_blank, split_blanks}
+use Rattle.serde_json_path_parser.proofs.Texts.{past_all, blanks_of, are_blank, split_blanks}
 use Rattle.serde_json_path_parser.proofs.Filtered.{Closes, IsGoodText, FilterLaws, FiltersStand}
 use Rattle.serde_json_path_parser.proofs.FirstCharacters.{or_begins, no_blank_begins}
 use Rattle.serde_json_path_parser.proofs.LogicalForms.{ends_or, IsGoodInside, DeeperLaws}

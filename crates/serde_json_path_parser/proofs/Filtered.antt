@@ -10,7 +10,7 @@ use Rattle.serde_json_path_parser.specs.Parsed.{Parsed, past_blanks}
 use Rattle.serde_json_path_parser.proofs.Stands.{Inner, Stands}
 use Rattle.serde_json_path_parser.proofs.Steps.{Read, Spaced}
 
--- behind the blanks stands `,` or `]`
+-- after the blanks stands `,` or `]`
 abbrev pub Closes : List ℕ → Type 0
 Closes rest = begins (λ c. c == 44 || c == 93) (past_blanks rest) ≡ true
 

@@ -54,7 +54,7 @@ step text at c w l u s =
 pub step_one : (text : List ℕ) (at lead : ℕ) → at ≤ length text → is_utf8 (drop at text) ≡ true → slice_get text at ≡ Some lead → lead < 128 → Step text at lead 1
 step_one text at lead l u e ascii = step text at lead 1 l u (d.one text at lead (utf8_of _ u) e ascii).1
 
--- what the byte behind an ASCII one tells of the characters behind the first
+-- what the byte after an ASCII one tells of the characters after the first
 pub ahead_second : (text : List ℕ) (at : ℕ) (next second : Option ℕ) → at ≤ length text → is_utf8 (drop at text) ≡ true → next ≡ slice_get text at → is_ascii next ≡ true → second ≡ slice_get text (at + 1)
     → IsAhead second (drop 1 (chars (drop at text)))
 ahead_second text at None second l u e a f = absurd cc

@@ -6,9 +6,9 @@ use Rattle.serde_json_path_parser.specs.Lexical.{begins, is_blank, is_digit, is_
 use Rattle.serde_json_path_parser.specs.Grammar.{IsLiteral, Reads, ReadsOr, ReadsAnd, ReadsBasic, ReadsComparable, ReadsCall}
 use Rattle.serde_json_path_parser.specs.Operands.{Operand, a_literal, a_query, a_call}
 use Rattle.serde_json_path_parser.proofs.LogicalForms.{ReadsOperand}
-use Rattle.serde_json_path_parser.proofs.NumberTexts.{number_first}
+use Rattle.serde_json_path_parser.proofs.Numbers.{number_first}
 use Rattle.serde_json_path_parser.proofs.Runs.{some_begun, begins_front, begins_where, no_blank}
-use Rattle.serde_json_path_parser.proofs.StringTexts.{string_again, of_quote}
+use Rattle.serde_json_path_parser.proofs.Strings.{string_again, of_quote}
 
 -- a quote, `@`, `$`, a small letter, a digit or `-`
 abbrev pub begins_operand : ℕ → Bool

@@ -5,7 +5,7 @@ use Rattle.std.proofs.lemmas.Bool.{and_parts}
 use Rattle.std.proofs.lemmas.Int.{ints}
 use Rattle.serde_json_path_syntax.specs.Tree.{largest}
 use Rattle.serde_json_path_parser.specs.declared.error.ParseErrorKind.TheVariants.{ExpectedSelector, IntegerOutOfRange}
-use Rattle.serde_json_path_parser.specs.declared.error.Place.TheVariants as place
+use Rattle.serde_json_path_parser.specs.declared.error.Context.TheVariants as context
 use Rattle.serde_json_path_parser.specs.declared.error.Refusal.{Refusal}
 use Rattle.serde_json_path_parser.specs.Lexical.{begins, is_blank, is_digit, value_from, IsDecimal, IsInt}
 use Rattle.serde_json_path_parser.specs.Parsed.{Parsed, ◌>>=◌, refusal, front, behind, byte_count}
@@ -56,7 +56,7 @@ digits_sound : (start cs : List ℕ) (x : ℕ × List ℕ) → begins is_first_d
 unfolding digits_at
 digits_sound start cs x first e =
     let n = value_from 0 (front is_digit cs) in
-    let g = guard (nat_le n largest) (refusal IntegerOutOfRange place.LongHand start) (done (n, behind is_digit cs)) x e in
+    let g = guard (nat_le n largest) (refusal IntegerOutOfRange context.LongHand start) (done (n, behind is_digit cs)) x e in
     let most : n ≤ largest = grind (arith, g.0) in
     subst (λ (y : ℕ × List ℕ). Read IsDecimal cs y × (1 ≤ y.0) × (y.0 ≤ largest)) (ok_is (n, behind is_digit cs) x g.1) (
       decimal_read cs first,
@@ -77,7 +77,7 @@ zero_is = record { first = refl; each = (refl, tt); plain = inl refl; value_of =
 pub int_sound : (cs : List ℕ) (x : ℤ × List ℕ) → int_at cs ≡ Ok x → Read IsInt cs x
 unfolding int_at
 int_sound cs x e =
-    let wrong = refusal ExpectedSelector place.LongHand cs in
+    let wrong = refusal ExpectedSelector context.LongHand cs in
     let below : Parsed ℤ = digits_at (byte_count cs) (drop 1 cs) >>= λ n. Ok (negative n.0, n.1) in
     let above : Parsed ℤ = digits_at (byte_count cs) cs >>= λ n. Ok (pos n.0, n.1) in
     elim (chosen (begins (λ c. c == 45) cs) (cond (begins is_first_digit (drop 1 cs)) below (Err wrong)) (cond (begins (λ c. c == 48) cs) (Ok (pos 0, drop 1 cs)) (cond (begins is_first_digit cs) above (Err wrong))) (Ok x) e) [
@@ -173,18 +173,18 @@ digits_stands : (start cs : List ℕ) (r : Refusal) → digits_at (byte_count st
 unfolding digits_at
 digits_stands start cs r e =
     let n = value_from 0 (front is_digit cs) in
-    guard_stands start (nat_le n largest) (done (n, behind is_digit cs)) IntegerOutOfRange place.LongHand r refl (no_refusal start _ r) e
+    guard_stands start (nat_le n largest) (done (n, behind is_digit cs)) IntegerOutOfRange context.LongHand r refl (no_refusal start _ r) e
 
 pub int_stands : (cs : List ℕ) (r : Refusal) → int_at cs ≡ Err r → Stands Plain cs r
 unfolding int_at
 int_stands cs r e = elim (chosen (begins (λ c. c == 45) cs) _ _ (Err r) e) [
   | inl a ↦
-      guard_stands cs (begins is_first_digit (drop 1 cs)) _ ExpectedSelector place.LongHand r refl (λ f.
+      guard_stands cs (begins is_first_digit (drop 1 cs)) _ ExpectedSelector context.LongHand r refl (λ f.
       bind_stands cs (digits_at (byte_count cs) (drop 1 cs)) _ r (digits_stands cs (drop 1 cs)) (λ n s h. no_refusal cs _ r h) f) a.1
   | inr a ↦ elim (chosen (begins (λ c. c == 48) cs) (done (pos 0, drop 1 cs)) _ (Err r) a.1) [
     | inl b ↦ no_refusal cs _ r b.1
     | inr b ↦
-        guard_stands cs (begins is_first_digit cs) _ ExpectedSelector place.LongHand r refl (λ f.
+        guard_stands cs (begins is_first_digit cs) _ ExpectedSelector context.LongHand r refl (λ f.
         bind_stands cs (digits_at (byte_count cs) cs) _ r (digits_stands cs cs) (λ n s h. no_refusal cs _ r h) f) b.1
   ]
 ]

@@ -4,24 +4,20 @@ use Rattle.serde_json_path_syntax.specs.Tree.{LogicalOr, Call, call}
 use Rattle.serde_json_path_functions.specs.Functions.{Signature}
 use Rattle.serde_json_path_parser.specs.declared.error.Refusal.{Refusal}
 use Rattle.serde_json_path_parser.specs.declared.error.ParseErrorKind.TheVariants.{NestedTooDeep}
-use Rattle.serde_json_path_parser.specs.declared.error.Place.TheVariants as place
+use Rattle.serde_json_path_parser.specs.declared.error.Context.TheVariants as context
 use Rattle.serde_json_path_parser.specs.Grammar.{ReadsOr}
 use Rattle.serde_json_path_parser.specs.Parsed.{Parsed, refusal, byte_count}
 use Rattle.serde_json_path_parser.specs.Filters.{level}
-use Rattle.serde_json_path_parser.proofs.CallPlaces.{call_stands}
-use Rattle.serde_json_path_parser.proofs.CallReads.{call_again}
-use Rattle.serde_json_path_parser.proofs.CallTexts.{call_sound}
+use Rattle.serde_json_path_parser.proofs.Calls.{call_stands, call_again, call_sound}
 use Rattle.serde_json_path_parser.proofs.LogicalForms.{IsGoodInside, IsGoodCall, DeeperLaws, ReadsBehindName}
-use Rattle.serde_json_path_parser.proofs.LogicalPlaces.{or_stands}
-use Rattle.serde_json_path_parser.proofs.LogicalReads.{or_again}
-use Rattle.serde_json_path_parser.proofs.LogicalTexts.{or_sound}
+use Rattle.serde_json_path_parser.proofs.Logical.{or_stands, or_again, or_sound}
 use Rattle.serde_json_path_parser.proofs.Stands.{Inner, Stands, here, further}
 use Rattle.serde_json_path_parser.proofs.Steps.{Read, Spaced, made_of}
 
 module _ (signature : List ℕ → Option Signature) where
   -- at level zero all is refused where it begins
-  too_deep : {A : Type 0} (start : List ℕ) (read : Parsed A) (r : Refusal) → read ≡ Err (refusal NestedTooDeep place.LongHand start) → read ≡ Err r → Stands (Inner signature) start r
-  too_deep start read r is e = here NestedTooDeep place.LongHand start read r (inl refl) is e
+  too_deep : {A : Type 0} (start : List ℕ) (read : Parsed A) (r : Refusal) → read ≡ Err (refusal NestedTooDeep context.LongHand start) → read ≡ Err r → Stands (Inner signature) start r
+  too_deep start read r is e = here NestedTooDeep context.LongHand start read r (inl refl) is e
 
   -- a call counts, so that there is none at level zero
   no_call : (c : Call) → IsGoodCall signature 0 c → ⊥

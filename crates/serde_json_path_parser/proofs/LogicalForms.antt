@@ -1,4 +1,4 @@
--- What stands in logical expressions and behind them: texts of operands, what is good of them at a level, and the
+-- What stands in logical expressions and after them: texts of operands, what is good of them at a level, and the
 -- characters that may follow.
 use Rattle.std.proofs.Common.{◌≡◌, ℕ, ◌+◌, ◌≤◌, Bool, true, List, [], ◌∷◌, ◌++◌, Option, Ok, Err, refl, arith}
 use Rattle.std.specs.Prelude.{◌==◌, ◌||◌}
@@ -17,7 +17,7 @@ use Rattle.serde_json_path_parser.proofs.Filtered.{IsGoodSelector, AreGoodSelect
 use Rattle.serde_json_path_parser.proofs.Stands.{Inner, Stands}
 use Rattle.serde_json_path_parser.proofs.Steps.{Read, Spaced}
 
--- ---- what may follow, behind blanks
+-- ---- what may follow, after blanks
 
 abbrev pub Follows : (ℕ → Bool) → List ℕ → Type 0
 Follows p rest = begins p (past_blanks rest) ≡ true
@@ -107,7 +107,7 @@ ReadsOperand (a_literal l) t = IsLiteral l t
 ReadsOperand (a_query q) t = Reads q t
 ReadsOperand (a_call c) t = ReadsCall c t
 
--- what stands behind the `(` of a call of this name, with its `)`
+-- what stands after the `(` of a call of this name, with its `)`
 abbrev pub ReadsBehindName : List ℕ → Call → List ℕ → Type 0
 ReadsBehindName f c t =
     (args : Arguments) × (c ≡ call f args) × (j a k : List ℕ) × IsBlank j × ReadArguments args a × IsBlank k × (t ≡ j ++ (a ++ (k ++ 41 ∷ [])))

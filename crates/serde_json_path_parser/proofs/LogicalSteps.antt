@@ -15,10 +15,10 @@ use Rattle.serde_json_path_functions.specs.contracts.types.FunctionArgType.{the_
 use Rattle.serde_json_path_functions.specs.declared.types.FunctionArgType.{FunctionArgType}
 use Rattle.serde_json_path_functions.specs.declared.types.FunctionArgType.TheVariants as kinds
 use Rattle.serde_json_path_parser.specs.declared.error.ParseErrorKind.TheVariants.{ExpectedExpression, NestedTooDeep, WrongReturnType}
-use Rattle.serde_json_path_parser.specs.declared.error.Place.TheVariants as place
+use Rattle.serde_json_path_parser.specs.declared.error.Context.TheVariants as context
 use Rattle.serde_json_path_parser.specs.declared.error.Refusal.{Refusal}
-use Rattle.serde_json_path_parser.specs.declared.error.Stop.{Stop}
-use Rattle.serde_json_path_parser.specs.declared.error.Stop.TheVariants as stops
+use Rattle.serde_json_path_parser.specs.declared.error.Failure.{Failure}
+use Rattle.serde_json_path_parser.specs.declared.error.Failure.TheVariants as failures
 use Rattle.serde_json_path_parser.specs.declared.parser.operand.Operand as declared
 use Rattle.serde_json_path_parser.specs.declared.parser.operand.Operand.TheVariants as the_operands
 use Rattle.serde_json_path_parser.specs.Filters.{word, behind_word, begins_call, literal_word_at, operator_at, and_list, or_list, Deeper, level, query_at, named_call_at, named_at, operand_at, comparable_at, test_at, right_side_at, relation_at, basic_from, paren_at, negated_call_at, negated_name_at, negated_at, basic_at, next_basic_at, and_from, and_at, next_and_at, or_from, or_at}
@@ -27,13 +27,12 @@ use Rattle.serde_json_path_parser.specs.Lexical.{begins, begins_both}
 use Rattle.serde_json_path_parser.specs.Operands.{Operand, a_literal, a_query, a_call, is_result}
 use Rattle.serde_json_path_parser.specs.Parsed.{Parsed, ◌>>=◌, refusal, past_blanks, many, byte_count, refusal_at}
 use Rattle.serde_json_path_parser.proofs.Levels.{level_laws}
-use Rattle.serde_json_path_parser.proofs.LogicalTexts.{IsBasicText, IsAndText, next_basic_sound, next_and_sound}
+use Rattle.serde_json_path_parser.proofs.Logical.{IsBasicText, IsAndText, next_basic_sound, next_and_sound}
 use Rattle.serde_json_path_parser.proofs.Many as m
 use Rattle.serde_json_path_parser.proofs.Many.{with_front}
-use Rattle.serde_json_path_parser.proofs.Refusals.{first_fails}
+use Rattle.serde_json_path_parser.proofs.Steps.{first_fails, chosen, done, ok_is, bind_ok}
 use Rattle.serde_json_path_parser.proofs.Rows as r
 use Rattle.serde_json_path_parser.proofs.Runs.{some_begun}
-use Rattle.serde_json_path_parser.proofs.Steps.{chosen, done, ok_is, bind_ok}
 
 -- ---- one step
 
@@ -42,7 +41,7 @@ made_err : {A B : Type 0} (read : Result A Refusal) (make : A → B) (r : Refusa
 made_err (Ok x) make r e = absurd cc
 made_err (Err d) make r e = let same : d ≡ r = cc in rw same refl
 
--- behind one character and blanks, and behind a sign of two and blanks
+-- after one character and blanks, and after a sign of two and blanks
 pub behind_one : (c : ℕ) (cs ds es : List ℕ) → cs ≡ c ∷ ds → es ≡ past_blanks ds → es ≡ past_blanks (drop 1 cs)
 behind_one c cs ds es taken skipped = skipped ∙ ap (λ (l : List ℕ). past_blanks (drop 1 l)) (sym taken)
 
@@ -51,7 +50,7 @@ behind_two cs ds es fs stays taken skipped = skipped ∙ ap past_blanks (taken �
 
 -- ---- what is joined by a sign of two equal characters
 
--- Such items are read behind the sign and blanks, and a first one and they are joined.
+-- Such items are read after the sign and blanks, and a first one and they are joined.
 pub record IsRow {A B : Type 0} (sign : ℕ) (item next : List ℕ → Parsed A) (join : List A → B) (behind_first : A → List ℕ → Parsed B) : Type 0 where
   pub next_is : (cs : List ℕ) → next cs ≡ item (past_blanks (drop 2 cs))
   pub whole_is : (x : A) (cs : List ℕ) → behind_first x cs ≡ (many (begins_both sign sign) next cs >>= λ xs. Ok (join (x ∷ xs.0), xs.1))
@@ -71,7 +70,7 @@ module _ {A B : Type 0} {sign : ℕ} {item next : List ℕ → Parsed A} {join :
   with_first x (Ok xs) = refl
   with_first x (Err d) = refl
 
-  -- one item more, as a loop meets it
+  -- another item, as a loop meets it
   pub row_shorter : (cs ds rest : List ℕ) (x : A) → begins_both sign sign cs ≡ true → ds ≡ past_blanks (drop 2 cs) → item ds ≡ Ok (x, rest) → length rest < length cs
   row_shorter cs ds rest x t e read = row.takes.shorter cs rest x t (next_reads cs ds e ∙ read)
 
@@ -79,7 +78,7 @@ module _ {A B : Type 0} {sign : ℕ} {item next : List ℕ → Parsed A} {join :
       → with_front before (read_more cs) ≡ total → with_front (before ++ x ∷ []) (read_more rest) ≡ total
   row_goes_on before cs ds rest x total t e read h = m.goes_on (begins_both sign sign) next row.takes before cs rest x total t (next_reads cs ds e ∙ read) h
 
-  pub row_fails : (s : Stop) (first : A) (before : List A) (start cs ds : List ℕ) → begins_both sign sign cs ≡ true → ds ≡ past_blanks (drop 2 cs) → Fails s (item ds)
+  pub row_fails : (s : Failure) (first : A) (before : List A) (start cs ds : List ℕ) → begins_both sign sign cs ≡ true → ds ≡ past_blanks (drop 2 cs) → Fails s (item ds)
       → with_front before (read_more cs) ≡ with_front (first ∷ []) (read_more start) → Fails s (behind_first first start)
   row_fails s first before start cs ds t e fails h =
       let all : Parsed (List A) = with_front (first ∷ []) (read_more start) in
@@ -123,7 +122,7 @@ module _ (signature : List ℕ → Option Signature) (n : ℕ) where
 
 -- ---- one level deeper
 
-pub too_deep : (signature : List ℕ → Option Signature) (depth : ℕ) (start : ℕ) (cs : List ℕ) → depth ≡ 0 → (level signature depth).expression start cs ≡ Err (refusal_at NestedTooDeep place.LongHand start)
+pub too_deep : (signature : List ℕ → Option Signature) (depth : ℕ) (start : ℕ) (cs : List ℕ) → depth ≡ 0 → (level signature depth).expression start cs ≡ Err (refusal_at NestedTooDeep context.LongHand start)
 unfolding level
 too_deep signature zero start cs none = refl
 too_deep signature (suc n) start cs none = absurd (omega (arith, none))
@@ -154,19 +153,19 @@ module _ (signature : List ℕ → Option Signature) (deeper : Deeper) (start : 
     unfolding right_side_at
     right_is es fs p e = rw e refl
 
-    operand_stops : (s : Stop) (es : List ℕ) → Fails s (operand_at signature deeper es) → Fails s (right_side_at signature deeper es)
+    operand_stops : (s : Failure) (es : List ℕ) → Fails s (operand_at signature deeper es) → Fails s (right_side_at signature deeper es)
     unfolding right_side_at
     operand_stops s es h = first_fails s (operand_at signature deeper es) _ h
 
     -- where one of the three stops, and where none does
-    pub left_fails : (s : Stop) → Fails s (comparable_at signature deeper start o ds) → Fails s (basic_from signature deeper start o cs)
+    pub left_fails : (s : Failure) → Fails s (comparable_at signature deeper start o ds) → Fails s (basic_from signature deeper start o cs)
     left_fails s h = subst (Fails s) (sym operator_read) (first_fails s (comparable_at signature deeper start o ds) _ h)
 
-    pub operand_fails : (s : Stop) (a : Comparable) (es : List ℕ) → comparable_at signature deeper start o ds ≡ Ok (a, es) → Fails s (operand_at signature deeper es)
+    pub operand_fails : (s : Failure) (a : Comparable) (es : List ℕ) → comparable_at signature deeper start o ds ≡ Ok (a, es) → Fails s (operand_at signature deeper es)
         → Fails s (basic_from signature deeper start o cs)
     operand_fails s a es e h = subst (Fails s) (sym (left_read a es e)) (first_fails s (right_side_at signature deeper es) _ (operand_stops s es h))
 
-    pub right_fails : (s : Stop) (a : Comparable) (es fs : List ℕ) (p : Operand) → comparable_at signature deeper start o ds ≡ Ok (a, es) → operand_at signature deeper es ≡ Ok (p, fs)
+    pub right_fails : (s : Failure) (a : Comparable) (es fs : List ℕ) (p : Operand) → comparable_at signature deeper start o ds ≡ Ok (a, es) → operand_at signature deeper es ≡ Ok (p, fs)
         → Fails s (comparable_at signature deeper (byte_count es) p fs)
         → Fails s (basic_from signature deeper start o cs)
     right_fails s a es fs p e read h = subst (Fails s) (sym (left_read a es e)) (first_fails s (right_side_at signature deeper es) _ (subst (Fails s) (sym (right_is es fs p read)) h))
@@ -194,7 +193,7 @@ call_is signature builder o part kind (a_call c) e h = let is = subst (λ p. IsO
 
 -- a word is read as a literal, or refused
 word_gives : (cs : List ℕ) (read : Parsed Operand) → literal_word_at cs ≡ read
-    → ((l : Literal) × (done (a_literal l, past_blanks (behind_word cs)) ≡ read)) ⊎ (Err (refusal ExpectedExpression place.LongHand cs) ≡ read)
+    → ((l : Literal) × (done (a_literal l, past_blanks (behind_word cs)) ≡ read)) ⊎ (Err (refusal ExpectedExpression context.LongHand cs) ≡ read)
 unfolding literal_word_at
 word_gives cs read e =
     let rest = past_blanks (behind_word cs) in
@@ -202,7 +201,7 @@ word_gives cs read e =
       | inl a ↦ inl (truth true, a.1)
       | inr a ↦ elim (chosen (bytes_eq (word cs) (codes "false")) (done (a_literal (truth false), rest)) _ read a.1) [
         | inl b ↦ inl (truth false, b.1)
-        | inr b ↦ elim (chosen (bytes_eq (word cs) (codes "null")) (done (a_literal null, rest)) (Err (refusal ExpectedExpression place.LongHand cs)) read b.1) [
+        | inr b ↦ elim (chosen (bytes_eq (word cs) (codes "null")) (done (a_literal null, rest)) (Err (refusal ExpectedExpression context.LongHand cs)) read b.1) [
           | inl c ↦ inl (null, c.1)
           | inr c ↦ inr c.1
         ]
@@ -233,25 +232,25 @@ module _ (signature : List ℕ → Option Signature) (deeper : Deeper) (cs : Lis
   unfolding negated_at negated_name_at
   negated_is_name a b c = rw (a, b, c) refl
 
-  -- ---- a name behind `!`
+  -- ---- a name after `!`
 
   abbrev of_call : Parsed Operand
   of_call = named_call_at signature deeper cs >>= λ c. Ok (a_call c.0, c.1)
 
-  pub name_fails : (s : Stop) → Fails s (named_at signature deeper cs) → Fails s (negated_name_at signature deeper cs)
+  pub name_fails : (s : Failure) → Fails s (named_at signature deeper cs) → Fails s (negated_name_at signature deeper cs)
   unfolding named_at negated_name_at negated_call_at
-  name_fails stops.Memory h = tt
-  name_fails (stops.Refused d) h = elim (chosen (begins_call cs) of_call (literal_word_at cs) (Err d) h) [
+  name_fails failures.Memory h = tt
+  name_fails (failures.Refused d) h = elim (chosen (begins_call cs) of_call (literal_word_at cs) (Err d) h) [
     | inl a ↦ rw (a.0, made_err (named_call_at signature deeper cs) (λ c. (a_call c.0, c.1)) d a.1) refl
     | inr a ↦ elim (word_gives cs (Err d) a.1) [
       | inl b ↦ absurd (let no = b.1 in cc)
-      | inr b ↦ let same : refusal ExpectedExpression place.LongHand cs ≡ d = cc in rw a.0 (ap (λ (x : Refusal). Err x) same)
+      | inr b ↦ let same : refusal ExpectedExpression context.LongHand cs ≡ d = cc in rw a.0 (ap (λ (x : Refusal). Err x) same)
     ]
   ]
 
   -- what is no call may not stand there
   no_name : (x : Operand) (rest : List ℕ) → ((c : Call) → x ≡ a_call c → ⊥) → named_at signature deeper cs ≡ Ok (x, rest)
-      → negated_name_at signature deeper cs ≡ Err (refusal ExpectedExpression place.LongHand cs)
+      → negated_name_at signature deeper cs ≡ Err (refusal ExpectedExpression context.LongHand cs)
   unfolding named_at negated_name_at
   no_name x rest other read = elim (chosen (begins_call cs) of_call (literal_word_at cs) (Ok (x, rest)) read) [
     | inl a ↦
@@ -262,7 +261,7 @@ module _ (signature : List ℕ → Option Signature) (deeper : Deeper) (cs : Lis
 
   pub no_call_read : (builder : SyntaxBuilder) (o : declared.Operand) (x : Operand) (rest : List ℕ) → ((part : Part) (kind : FunctionArgType) → o ≡ the_operands.Call part kind → ⊥)
       → IsOperandOf signature builder o x
-      → named_at signature deeper cs ≡ Ok (x, rest) → negated_name_at signature deeper cs ≡ Err (refusal ExpectedExpression place.LongHand cs)
+      → named_at signature deeper cs ≡ Ok (x, rest) → negated_name_at signature deeper cs ≡ Err (refusal ExpectedExpression context.LongHand cs)
   no_call_read builder o x rest other is read = no_name x rest (λ c e. none c o other (subst (IsOperandOf signature builder o) e is)) read
     where
       none : (c : Call) (o : declared.Operand) → ((part : Part) (kind : FunctionArgType) → o ≡ the_operands.Call part kind → ⊥) → IsOperandOf signature builder o (a_call c) → ⊥
@@ -290,7 +289,7 @@ module _ (signature : List ℕ → Option Signature) (deeper : Deeper) (cs : Lis
     by_value : is_result of_value (result_kind signature c) ≡ b
     by_value = ap (is_result of_value) result ∙ value_kind kind ∙ sym is_value
 
-    pub value_refused : b ≡ true → negated_name_at signature deeper cs ≡ Err (refusal WrongReturnType place.LongHand cs)
+    pub value_refused : b ≡ true → negated_name_at signature deeper cs ≡ Err (refusal WrongReturnType context.LongHand cs)
     unfolding negated_name_at negated_call_at
     value_refused e = rw (call_read.0, call_read.1, by_value, e) refl
 

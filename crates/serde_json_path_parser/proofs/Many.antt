@@ -2,8 +2,8 @@
 use Rattle.std.proofs.Common.{◌≡◌, ℕ, zero, suc, ◌≤◌, ◌<◌, Bool, true, false, List, [], ◌∷◌, ◌++◌, length, Ok, Err, refl, sym, ap, ◌∙◌, append_assoc, arith}
 use Rattle.std.proofs.lemmas.List.{append-nil}
 use Rattle.serde_json_path_parser.specs.declared.error.Refusal.{Refusal}
-use Rattle.serde_json_path_parser.specs.declared.error.Stop.{Stop}
-use Rattle.serde_json_path_parser.specs.declared.error.Stop.TheVariants as stops
+use Rattle.serde_json_path_parser.specs.declared.error.Failure.{Failure}
+use Rattle.serde_json_path_parser.specs.declared.error.Failure.TheVariants as failures
 use Rattle.serde_json_path_parser.specs.Giving.{Fails}
 use Rattle.serde_json_path_parser.specs.Parsed.{Parsed, ◌>>=◌, many_at, many}
 
@@ -81,9 +81,9 @@ module _ {A : Type 0} (more : List ℕ → Bool) (item : List ℕ → Parsed A) 
   pub breaks : (before : List A) (cs : List ℕ) (f : Refusal) (total : Parsed (List A)) → more cs ≡ true → item cs ≡ Err f → with_front before (many more item cs) ≡ total → total ≡ Err f
   breaks before cs f total t e h = sym h ∙ ap (with_front before) (many_err cs f t e)
 
-  pub fails : (s : Stop) (before : List A) (cs : List ℕ) (total : Parsed (List A)) → more cs ≡ true → Fails s (item cs) → with_front before (many more item cs) ≡ total → Fails s total
-  fails stops.Memory before cs total t e h = tt
-  fails (stops.Refused f) before cs total t e h = breaks before cs f total t e h
+  pub fails : (s : Failure) (before : List A) (cs : List ℕ) (total : Parsed (List A)) → more cs ≡ true → Fails s (item cs) → with_front before (many more item cs) ≡ total → Fails s total
+  fails failures.Memory before cs total t e h = tt
+  fails (failures.Refused f) before cs total t e h = breaks before cs f total t e h
 
   pub is_done : (before : List A) (cs : List ℕ) (total : Parsed (List A)) → more cs ≡ false → with_front before (many more item cs) ≡ total → total ≡ Ok (before, cs)
   is_done before cs total t h = sym h ∙ ap (with_front before) (many_end more item cs t) ∙ ap (λ (xs : List A). Ok (xs, cs)) (append-nil before)

@@ -86,11 +86,11 @@ more_gathered text index at c part le l is fits h =
       each = rw (count, e) (all_more is_ascii_name_char (take (at - index) part) c h.each fits);
     }
 
--- what is behind a name stays as a part of it is taken
+-- what is after a name stays as a part of it is taken
 pub behind_part : (cs part rest : List ℕ) → AllPass is_ascii_name_char part → cs ≡ part ++ rest → behind is_name_char rest ≡ behind is_name_char cs
 behind_part cs part rest h e = sym (ap (behind is_name_char) e ∙ behind_past is_name_char part rest (all_in_name part h))
 
--- a text with a part behind it, and then the rest of the name
+-- a text with a part after it, and then the rest of the name
 pub front_part : (cs part rest text : List ℕ) → AllPass is_ascii_name_char part → cs ≡ part ++ rest
     → (text ++ part) ++ encode_utf8_all (front is_name_char rest) ≡ text ++ encode_utf8_all (front is_name_char cs)
 front_part cs part rest text h e =
@@ -101,7 +101,7 @@ front_part cs part rest text h e =
     ∙ ap (λ (l : List ℕ). l ++ encode_utf8_all (front is_name_char rest)) (encodes-IsAscii part (all_ascii part h)) in
     append_assoc text part _ ∙ ap (λ (l : List ℕ). text ++ l) (sym inside)
 
--- the same where the part is put behind the text, unless memory is out
+-- the same where the part is put after the text, unless memory is out
 pub pushed_part : {E : Type 0} (r : Result Unit E) (cs part rest old new : List ℕ) → AllPass is_ascii_name_char part → cs ≡ part ++ rest → new ≡ (if is_ok r then old ++ part else old)
     → IfOk r (λ u. new ++ encode_utf8_all (front is_name_char rest) ≡ old ++ encode_utf8_all (front is_name_char cs))
 pushed_part (Ok u) cs part rest old new h e is = ap (λ (l : List ℕ). l ++ encode_utf8_all (front is_name_char rest)) is ∙ front_part cs part rest old h e

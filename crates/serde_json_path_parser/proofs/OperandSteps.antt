@@ -8,7 +8,7 @@ use Rattle.serde_json_path_syntax.specs.declared.node.Part.{Part}
 use Rattle.serde_json_path_syntax.specs.declared.builder.SyntaxBuilder.{SyntaxBuilder}
 use Rattle.serde_json_path_functions.specs.Functions.{Signature}
 use Rattle.serde_json_path_parser.specs.declared.error.ParseErrorKind.TheVariants.{NonSingularQuery}
-use Rattle.serde_json_path_parser.specs.declared.error.Place.TheVariants as place
+use Rattle.serde_json_path_parser.specs.declared.error.Context.TheVariants as context
 use Rattle.serde_json_path_parser.specs.declared.parser.operand.Operand as declared
 use Rattle.serde_json_path_parser.specs.declared.parser.operand.Operand.TheVariants as the_operands
 use Rattle.serde_json_path_parser.specs.Filters.{Deeper, comparable_at, text_at}
@@ -39,7 +39,7 @@ module _ (signature : List ℕ → Option Signature) (deeper : Deeper) (start : 
   unfolding comparable_at
   compared e = rw (singular_by b q is, e) refl
 
-  pub not_compared : b ≡ false → comparable_at signature deeper start (query_operand q) cs ≡ Err (refusal_at NonSingularQuery place.LongHand start)
+  pub not_compared : b ≡ false → comparable_at signature deeper start (query_operand q) cs ≡ Err (refusal_at NonSingularQuery context.LongHand start)
   unfolding comparable_at
   not_compared e = rw (singular_by b q is, e) refl
 

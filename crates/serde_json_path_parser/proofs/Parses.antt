@@ -8,8 +8,8 @@ use Rattle.std.proofs.lemmas.Str.{IsCharBoundary-start, chars-encodes, scalars-c
 use Rattle.serde_json_path_syntax.specs.Tree.{Query, query, root, current, Segments}
 use Rattle.serde_json_path_functions.specs.Functions.{Signature}
 use Rattle.serde_json_path_parser.specs.declared.error.Refusal.{Refusal}
-use Rattle.serde_json_path_parser.specs.declared.error.Stop.{Stop}
-use Rattle.serde_json_path_parser.specs.declared.error.Stop.TheVariants as stops
+use Rattle.serde_json_path_parser.specs.declared.error.Failure.{Failure}
+use Rattle.serde_json_path_parser.specs.declared.error.Failure.TheVariants as failures
 use Rattle.serde_json_path_parser.specs.declared.error.ParseErrorKind.{ParseErrorKind}
 use Rattle.serde_json_path_parser.specs.declared.error.ParseErrorKind.TheVariants.{ExpectedRoot, UndefinedFunction, TextAfterPath, NoMemory}
 use Rattle.serde_json_path_syntax.specs.declared.checked.Checked.{Checked}
@@ -23,9 +23,8 @@ use Rattle.serde_json_path_parser.specs.Operands.{IsUndeclared}
 use Rattle.serde_json_path_parser.specs.Filters.{path_at}
 use Rattle.serde_json_path_parser.specs.Giving.{Fails, IsRefused, IsWithin, error_of}
 use Rattle.serde_json_path_parser.specs.Parse.{is_dollar, NeedsNoMemory, Answers, checked_view}
-use Rattle.serde_json_path_parser.proofs.Blanks.{past_all}
-use Rattle.serde_json_path_parser.proofs.PathTexts.{ArePathSegments, path_sound, path_again}
-use Rattle.serde_json_path_parser.proofs.Places.{NoRoot, TextBehind, SegmentRefused, path_refused, scalars_behind, boundary}
+use Rattle.serde_json_path_parser.proofs.Texts.{past_all}
+use Rattle.serde_json_path_parser.proofs.Paths.{ArePathSegments, path_sound, path_again, NoRoot, TextBehind, SegmentRefused, path_refused, scalars_behind, boundary}
 use Rattle.serde_json_path_parser.proofs.Stands.{is_plain, Inner}
 use Rattle.serde_json_path_parser.proofs.Steps.{ok_is}
 
@@ -48,12 +47,12 @@ one_tree_at_most signature text p q h g =
 
 -- ---- what needs no memory
 
--- where nothing is to be kept no segment begins behind `$`
+-- where nothing is to be kept no segment begins after `$`
 needs_none : (cs : List ℕ) → NeedsNoMemory cs → opens_behind_root cs ≡ false
 needs_none cs (inl h) = ap (λ b. b && opens_next (drop 1 cs)) h
 needs_none cs (inr h) = ap opens_behind_root h.2 ∙ ap (begins opens) (past_all h.0 h.1 h.3 h.4) ∙ h.5
 
--- ---- the text before text that stands behind a path
+-- ---- the text before text that stands after a path
 
 path_before : (text path rest : List ℕ) (left : ℕ) → IsUtf8 text → chars text ≡ 36 ∷ (path ++ rest) → left ≡ length (encode_utf8_all rest)
     → chars (take (length text - left) text) ≡ 36 ∷ path
@@ -88,7 +87,7 @@ text_from text before rest left u split is =
 
 -- ---- what a refusal tells
 
--- what is told of a segment is neither that the root is missing, nor text behind the path, nor want of memory
+-- what is reported of a segment is neither that the root is missing, nor text after the path, nor want of memory
 inner_differs : (signature : List ℕ → Option Signature) (kind other : ParseErrorKind) (rest : List ℕ) → is_plain other ≡ false → UndefinedFunction ≢ other → Inner signature kind rest → kind ≡ other → ⊥
 inner_differs signature kind other rest outer differs (inl plain) e = true≢false (sym plain ∙ ap is_plain e ∙ outer)
 inner_differs signature kind other rest outer differs (inr undefined) e = differs (sym undefined.0 ∙ e)
@@ -156,13 +155,13 @@ module _ (signature : List ℕ → Option Signature) (text : List ℕ) (u : IsUt
   ]
 
   -- where the refusal stands
-  pub within : (s : Stop) (total : ℕ) → total ≡ length text → Fails s (path_at signature (chars text)) → IsWithin s total
-  within stops.Memory total t h = tt
-  within (stops.Refused r) total t h = let k = (told r h).placed.0 in omega (arith, t, k)
+  pub within : (s : Failure) (total : ℕ) → total ≡ length text → Fails s (path_at signature (chars text)) → IsWithin s total
+  within failures.Memory total t h = tt
+  within (failures.Refused r) total t h = let k = (told r h).placed.0 in omega (arith, t, k)
 
   -- ---- the three ends of a parse
 
-  pub too_long : length text ≡ 2 ^ 64 - 1 → Answers signature text (Err (error_of stops.Memory 0))
+  pub too_long : length text ≡ 2 ^ 64 - 1 → Answers signature text (Err (error_of failures.Memory 0))
   too_long long = record {
     accepted = tt;
     kept = tt;
@@ -194,9 +193,9 @@ module _ (signature : List ℕ → Option Signature) (text : List ℕ) (u : IsUt
         too_long = λ long. absurd (omega (arith, long));
       }
 
-  pub refused : (short : length text < 2 ^ 64 - 1) (s : Stop) (total : ℕ) → total ≡ length text → Fails s (path_at signature (chars text)) → (opens_behind_root (chars text) ≡ false → IsRefused s)
+  pub refused : (short : length text < 2 ^ 64 - 1) (s : Failure) (total : ℕ) → total ≡ length text → Fails s (path_at signature (chars text)) → (opens_behind_root (chars text) ≡ false → IsRefused s)
       → Answers signature text (Err (error_of s total))
-  refused short stops.Memory total t h spares = record {
+  refused short failures.Memory total t h spares = record {
     accepted = tt;
     kept = tt;
     only = tt;
@@ -209,7 +208,7 @@ module _ (signature : List ℕ → Option Signature) (text : List ℕ) (u : IsUt
     spares_memory = λ less none. absurd (spares (needs_none (chars text) none));
     too_long = λ e. refl;
   }
-  refused short (stops.Refused r) total t h spares =
+  refused short (failures.Refused r) total t h spares =
       let k = told r h in
       let cut : (total - r.left + 1) - 1 ≡ length text - r.left = omega (arith, t) in
       record {

@@ -1,15 +1,14 @@
--- Items in a row, with a sign and blanks between them: as they are read, each with the blanks behind it, and as the grammar
+-- Items in a row, with a sign and blanks between them: as they are read, each with the blanks after it, and as the grammar
 -- has them, with blanks round each sign.
 use Rattle.std.proofs.Common.{◌≡◌, ℕ, ◌<◌, false, List, [], ◌∷◌, ◌++◌, length, ap, refl, ◌∙◌, append_assoc, arith}
 use Rattle.std.proofs.lemmas.List.{append-nil, length-append}
 use Rattle.serde_json_path_parser.specs.Lexical.{begins, is_blank, IsBlank, Joined}
 use Rattle.serde_json_path_parser.specs.Grammar.{IsSign}
 use Rattle.serde_json_path_parser.specs.Parsed.{past_blanks}
-use Rattle.serde_json_path_parser.proofs.Blanks.{past_all, blanks_of, are_blank, split_blanks}
-use Rattle.serde_json_path_parser.proofs.Regrouped.{gathered, spread}
+use Rattle.serde_json_path_parser.proofs.Texts.{past_all, blanks_of, are_blank, split_blanks, gathered, spread}
 use Rattle.serde_json_path_parser.proofs.Steps.{Read, Spaced}
 
--- a sign and what follows, behind the blanks
+-- a sign and what follows, after the blanks
 pub at_sign : (sign t s j k a b rest : List ℕ) → ((cs : List ℕ) → begins is_blank (sign ++ cs) ≡ false) → IsBlank j → s ≡ j ++ (sign ++ k) → t ≡ s ++ (a ++ b)
     → past_blanks (t ++ rest) ≡ sign ++ (k ++ (a ++ (b ++ rest)))
 at_sign sign t s j k a b rest none blank is_sign e =
@@ -30,7 +29,7 @@ module _ {A : Type 0} (sign : List ℕ) (is : List ℕ → A → Type 0) where
     pub blank_behind : IsBlank behind
     pub joined : t ≡ sign ++ (before ++ (text ++ behind))
 
-  -- an item that is read behind a sign and blanks
+  -- an item that is read after a sign and blanks
   pub next_of : (cs rest : List ℕ) (x : A × List ℕ) → cs ≡ sign ++ rest → Read (Spaced is) (past_blanks rest) x → Read IsNext cs x
   next_of cs rest x begun read =
       let k = blanks_of rest in
@@ -49,7 +48,7 @@ module _ {A : Type 0} (sign : List ℕ) (is : List ℕ → A → Type 0) where
   AreRows t [] = t ≡ []
   AreRows t (x ∷ xs) = (s a b : List ℕ) × IsSign sign s × is a x × AreRows b xs × (t ≡ s ++ (a ++ b))
 
-  -- a row and the blanks behind it
+  -- a row and the blanks after it
   pub record Row (xs : List A) (t : List ℕ) : Type 0 where
     pub text : List ℕ
     pub blanks : List ℕ
@@ -57,7 +56,7 @@ module _ {A : Type 0} (sign : List ℕ) (is : List ℕ → A → Type 0) where
     pub blank : IsBlank blanks
     pub split : t ≡ text ++ blanks
 
-  -- the blanks behind an item are those before the next sign
+  -- the blanks after an item are those before the next sign
   pub row_of : (xs : List A) (j t : List ℕ) → IsBlank j → Joined IsNext t xs → Row xs (j ++ t)
   row_of [] j t blank h = record { text = []; blanks = j; are = refl; blank = blank; split = ap (λ (l : List ℕ). j ++ l) h ∙ append-nil j }
   row_of (x ∷ xs) j t blank h =

@@ -1,4 +1,4 @@
--- What begins a list; its front whose elements pass a test, and what is behind it; and the value of digits, one by one.
+-- What begins a list; its front whose elements pass a test, and what is after it; and the value of digits, one by one.
 use Rattle.std.proofs.Common.{◌≡◌, ℕ, ◌+◌, ◌-◌, ◌*◌, ◌<◌, ◌≤◌, min, Bool, true, false, true≢false, List, [], ◌∷◌, ◌++◌, length, refl, sym, ap, ◌∙◌, append_assoc, inl, inr, arith}
 use Rattle.std.proofs.lemmas.Bool.{cases_lt, eqb-true}
 use Rattle.std.specs.Str.{encode_utf8_all}
@@ -41,9 +41,9 @@ no_blank p c space tab feed return passes = rw (differs p 32 c space passes, dif
 pub begins_differs : (p : ℕ → Bool) (k : ℕ) (cs : List ℕ) → p k ≡ false → begins p cs ≡ true → begins (λ c. c == k) cs ≡ false
 begins_differs p k cs fails begun = begins_where p (λ c. c == k) false cs (λ c e. differs p k c fails e) begun
 
--- ---- a front and what is behind it
+-- ---- a front and what is after it
 
--- the front and what is behind it are the whole
+-- the front and what is after it are the whole
 pub whole : (p : ℕ → Bool) (cs : List ℕ) → cs ≡ front p cs ++ behind p cs
 whole p [] = refl
 whole p (c ∷ cs) = by_test (p c) refl (whole p cs)
@@ -83,7 +83,7 @@ behind_all p [] [] h e = refl
 behind_all p [] (c ∷ rest) h e = rw e refl
 behind_all p (c ∷ t) rest h e = rw h.0 (behind_all p t rest h.1 e)
 
--- what is behind a text that passes, and more
+-- what is after a text that passes, and more
 pub behind_past : (p : ℕ → Bool) (t rest : List ℕ) → AllByRecursion (λ c. p c ≡ true) t → behind p (t ++ rest) ≡ behind p rest
 behind_past p [] rest h = refl
 behind_past p (c ∷ t) rest h = rw h.0 (behind_past p t rest h.1)

@@ -2,34 +2,34 @@
 use Rattle.std.proofs.Common.{◌≡◌, ℕ, true, false, List, [], ◌∷◌, drop, Ok, refl, sym, ap, subst, ◌∙◌}
 use Rattle.std.specs.Prelude.{◌==◌}
 use Rattle.serde_json_path_syntax.specs.Tree.{SegmentKind, Segment, dot_name, dot_wildcard, long_hand, Selector}
-use Rattle.serde_json_path_parser.specs.declared.error.Place as declared
-use Rattle.serde_json_path_parser.specs.declared.error.Stop.{Stop}
+use Rattle.serde_json_path_parser.specs.declared.error.Context as declared
+use Rattle.serde_json_path_parser.specs.declared.error.Failure.{Failure}
 use Rattle.serde_json_path_parser.specs.Giving.{Fails}
 use Rattle.serde_json_path_parser.specs.Lexical.{begins}
 use Rattle.serde_json_path_parser.specs.Parsed.{Parsed, ◌>>=◌, past_blanks, many}
 use Rattle.serde_json_path_parser.specs.Parsing.{name_at, selector_at, next_selector_at, selectors_at, selector_list, bracket_at, dotted_at, of_kind, segment_at, next_segment_at}
 use Rattle.serde_json_path_parser.proofs.BracketTexts.{is_comma}
 use Rattle.serde_json_path_parser.proofs.Many.{with_front}
-use Rattle.serde_json_path_parser.proofs.Refusals.{same_fails, first_fails}
+use Rattle.serde_json_path_parser.proofs.Steps.{same_fails, first_fails}
 
 -- how a filter is read
 module _ (filter_at : List ℕ → Parsed Selector) where
-  -- behind the first selector
+  -- after the first selector
   pub selectors_begin : (cs ds rest : List ℕ) (s : Selector) → ds ≡ past_blanks cs → selector_at filter_at ds ≡ Ok (s, rest) → with_front (s ∷ []) (many (begins is_comma) (next_selector_at filter_at) rest) ≡ selectors_at filter_at cs
   unfolding selectors_at
   selectors_begin cs ds rest s e read = rw (← e, read) refl
 
-  pub selectors_fail : (s : Stop) (cs ds : List ℕ) → ds ≡ past_blanks cs → Fails s (selector_at filter_at ds) → Fails s (selectors_at filter_at cs)
+  pub selectors_fail : (s : Failure) (cs ds : List ℕ) → ds ≡ past_blanks cs → Fails s (selector_at filter_at ds) → Fails s (selectors_at filter_at cs)
   unfolding selectors_at
   selectors_fail s cs ds e h =
       first_fails s (selector_at filter_at (past_blanks cs)) (λ x. many (begins is_comma) (next_selector_at filter_at) x.1 >>= λ xs. Ok (x.0 ∷ xs.0, xs.1)) (subst (λ (l : List ℕ). Fails s (selector_at filter_at l)) e h)
 
-  -- behind a comma and blanks
+  -- after a comma and blanks
   pub next_selector_reads : (cs behind ds : List ℕ) (c : ℕ) → cs ≡ c ∷ behind → ds ≡ past_blanks behind → (read : Parsed Selector) → selector_at filter_at ds ≡ read → next_selector_at filter_at cs ≡ read
   unfolding next_selector_at
   next_selector_reads cs behind ds c comma e read h = ap (λ (l : List ℕ). selector_at filter_at (past_blanks (drop 1 l))) comma ∙ ap (selector_at filter_at) (sym e) ∙ h
 
-  pub next_selector_fails : (s : Stop) (cs behind ds : List ℕ) (c : ℕ) → cs ≡ c ∷ behind → ds ≡ past_blanks behind → Fails s (selector_at filter_at ds) → Fails s (next_selector_at filter_at cs)
+  pub next_selector_fails : (s : Failure) (cs behind ds : List ℕ) (c : ℕ) → cs ≡ c ∷ behind → ds ≡ past_blanks behind → Fails s (selector_at filter_at ds) → Fails s (next_selector_at filter_at cs)
   next_selector_fails s cs behind ds c comma e h = same_fails s (selector_at filter_at ds) (next_selector_at filter_at cs) (next_selector_reads cs behind ds c comma e (selector_at filter_at ds) refl) h
 
   pub bracket_reads : (kind : SegmentKind) (cs rest ds : List ℕ) (ss : List Selector) (c : ℕ) → selectors_at filter_at cs ≡ Ok (ss, rest) → begins (λ d. d == 93) rest ≡ true → rest ≡ c ∷ ds
@@ -37,18 +37,18 @@ module _ (filter_at : List ℕ → Parsed Selector) where
   unfolding bracket_at
   bracket_reads kind cs rest ds ss c read closes e = rw (read, closes) (ap (λ (l : List ℕ). Ok ((kind, long_hand (selector_list ss)), drop 1 l)) e)
 
-  -- behind the blanks
-  pub next_reads : (here : declared.Place) (rest ds : List ℕ) (read : Parsed (SegmentKind × Segment)) → ds ≡ past_blanks rest → segment_at filter_at here ds ≡ read → next_segment_at filter_at here rest ≡ read
+  -- after the blanks
+  pub next_reads : (here : declared.Context) (rest ds : List ℕ) (read : Parsed (SegmentKind × Segment)) → ds ≡ past_blanks rest → segment_at filter_at here ds ≡ read → next_segment_at filter_at here rest ≡ read
   unfolding next_segment_at
   next_reads here rest ds read e h = ap (segment_at filter_at here) (sym e) ∙ h
 
-  pub next_fails : (here : declared.Place) (rest ds : List ℕ) (s : Stop) → ds ≡ past_blanks rest → Fails s (segment_at filter_at here ds) → Fails s (next_segment_at filter_at here rest)
+  pub next_fails : (here : declared.Context) (rest ds : List ℕ) (s : Failure) → ds ≡ past_blanks rest → Fails s (segment_at filter_at here ds) → Fails s (next_segment_at filter_at here rest)
   next_fails here rest ds s e h = same_fails s (segment_at filter_at here ds) (next_segment_at filter_at here rest) (next_reads here rest ds (segment_at filter_at here ds) e refl) h
 
-pub wildcard_reads : (kind : SegmentKind) (here : declared.Place) (cs ds : List ℕ) (c : ℕ) → begins (λ d. d == 42) cs ≡ true → cs ≡ c ∷ ds → of_kind kind (dotted_at here cs) ≡ Ok ((kind, dot_wildcard), ds)
+pub wildcard_reads : (kind : SegmentKind) (here : declared.Context) (cs ds : List ℕ) (c : ℕ) → begins (λ d. d == 42) cs ≡ true → cs ≡ c ∷ ds → of_kind kind (dotted_at here cs) ≡ Ok ((kind, dot_wildcard), ds)
 unfolding dotted_at
 wildcard_reads kind here cs ds c star e = rw star (ap (λ (l : List ℕ). Ok ((kind, dot_wildcard), drop 1 l)) e)
 
-pub name_reads : (kind : SegmentKind) (here : declared.Place) (cs rest n : List ℕ) → begins (λ d. d == 42) cs ≡ false → name_at here cs ≡ Ok (n, rest) → of_kind kind (dotted_at here cs) ≡ Ok ((kind, dot_name n), rest)
+pub name_reads : (kind : SegmentKind) (here : declared.Context) (cs rest n : List ℕ) → begins (λ d. d == 42) cs ≡ false → name_at here cs ≡ Ok (n, rest) → of_kind kind (dotted_at here cs) ≡ Ok ((kind, dot_name n), rest)
 unfolding dotted_at
 name_reads kind here cs rest n star read = rw (star, read) refl

@@ -4,7 +4,7 @@ use Rattle.serde_json_path_functions.specs.Functions.{Signature}
 use Rattle.serde_json_path_parser.specs.declared.error.Refusal.{Refusal}
 use Rattle.serde_json_path_parser.specs.declared.error.ParseErrorKind.{ParseErrorKind}
 use Rattle.serde_json_path_parser.specs.declared.error.ParseErrorKind.TheVariants.{ExpectedRoot, UndefinedFunction, TextAfterPath, NoMemory}
-use Rattle.serde_json_path_parser.specs.declared.error.Place as declared
+use Rattle.serde_json_path_parser.specs.declared.error.Context as declared
 use Rattle.serde_json_path_parser.specs.Lexical.{is_blank}
 use Rattle.serde_json_path_parser.specs.Operands.{IsUndeclared}
 use Rattle.serde_json_path_parser.specs.Parsed.{Parsed, ◌>>=◌, refusal, front, past_blanks, many_at, byte_count}
@@ -13,7 +13,7 @@ use Rattle.serde_json_path_parser.proofs.Steps.{Read, chosen, done}
 
 -- ---- what a kind tells of the text from the refusal on
 
--- a kind that is told of a piece, a selector or a segment, whatever text it is
+-- a kind that is reported of a piece, a selector or a segment, whatever text it is
 abbrev pub is_plain : ParseErrorKind → Bool
 is_plain ExpectedRoot = false
 is_plain UndefinedFunction = false
@@ -50,7 +50,7 @@ module _ {Tells : ParseErrorKind → List ℕ → Type 0} where
   pub no_refusal : {A : Type 0} (cs : List ℕ) (y : A) (r : Refusal) → done y ≡ Err r → Stands Tells cs r
   no_refusal cs y r e = absurd cc
 
-  pub here : {A : Type 0} (kind : ParseErrorKind) (at : declared.Place) (cs : List ℕ) (read : Result A Refusal) (r : Refusal) → Tells kind cs → read ≡ Err (refusal kind at cs) → read ≡ Err r → Stands Tells cs r
+  pub here : {A : Type 0} (kind : ParseErrorKind) (at : declared.Context) (cs : List ℕ) (read : Result A Refusal) (r : Refusal) → Tells kind cs → read ≡ Err (refusal kind at cs) → read ≡ Err r → Stands Tells cs r
   here kind at cs read r tells e h =
       let same : refusal kind at cs ≡ r = err_is (refusal kind at cs) r read e h in
       record { before = []; rest = cs; split = refl; left = sym (ap (λ (g : Refusal). g.left) same); tells = subst (λ (g : Refusal). Tells g.kind cs) same tells }
@@ -63,8 +63,8 @@ module _ {Tells : ParseErrorKind → List ℕ → Type 0} where
   bind_stands cs (Ok x) next r a b e = b x refl e
   bind_stands cs (Err d) next r a b e = let same : d ≡ r = cc in a r (ap (λ (x : Refusal). Err x) same)
 
-  -- a test with a refusal behind it
-  pub guard_stands : {A : Type 0} (cs : List ℕ) (b : Bool) (x : Result A Refusal) (kind : ParseErrorKind) (at : declared.Place) (r : Refusal) → Tells kind cs → (x ≡ Err r → Stands Tells cs r)
+  -- a test with a refusal after it
+  pub guard_stands : {A : Type 0} (cs : List ℕ) (b : Bool) (x : Result A Refusal) (kind : ParseErrorKind) (at : declared.Context) (r : Refusal) → Tells kind cs → (x ≡ Err r → Stands Tells cs r)
       → cond b x (Err (refusal kind at cs)) ≡ Err r → Stands Tells cs r
   guard_stands cs true x kind at r tells h e = h e
   guard_stands cs false x kind at r tells h e = here kind at cs (Err (refusal kind at cs)) r tells refl e

@@ -1,4 +1,4 @@
--- Steps of reading: what an answer says of each, and items one after the other.
+-- Steps of reading: what an answer says of each, items one after another, and what stops where a step stops.
 use Rattle.std.proofs.Common.{◌≡◌, ℕ, zero, suc, ◌⊎◌, inl, inr, Bool, true, false, cond, List, [], ◌∷◌, ◌++◌, drop, Result, Ok, Err, refl, sym, ap, subst, ◌∙◌, append_assoc}
 use Rattle.std.specs.Prelude.{◌==◌}
 use Rattle.std.proofs.lemmas.Bool.{eqb-true}
@@ -6,6 +6,9 @@ use Rattle.serde_json_path_parser.specs.declared.error.Refusal.{Refusal}
 use Rattle.serde_json_path_parser.specs.Lexical.{begins, IsBlank, Joined}
 use Rattle.serde_json_path_parser.specs.Parsed.{Parsed, ◌>>=◌, many_at, many}
 use Rattle.serde_json_path_parser.proofs.Many as m
+use Rattle.serde_json_path_parser.specs.declared.error.Failure.{Failure}
+use Rattle.serde_json_path_parser.specs.declared.error.Failure.TheVariants as failures
+use Rattle.serde_json_path_parser.specs.Giving.{Fails}
 
 -- ---- one step
 
@@ -36,13 +39,13 @@ after_one k (c ∷ cs) e = ap (λ (x : ℕ). x ∷ cs) (eqb-true c k e)
 
 -- ---- what was read
 
--- the text of what was read, and what is behind it
+-- the text of what was read, and what is after it
 pub record Read {A : Type 0} (is : List ℕ → A → Type 0) (cs : List ℕ) (x : A × List ℕ) : Type 0 where
   pub text : List ℕ
   pub is_so : is text x.0
   pub split : cs ≡ text ++ x.1
 
--- a text and the blanks behind it
+-- a text and the blanks after it
 abbrev pub Spaced : {A : Type 0} → (List ℕ → A → Type 0) → List ℕ → A → Type 0
 Spaced is t x = (a k : List ℕ) × is a x × IsBlank k × (t ≡ a ++ k)
 
@@ -82,12 +85,12 @@ pub record Again {A : Type 0} (is : List ℕ → A → Type 0) (more : List ℕ 
   pub takes : m.Takes more item
   pub again : (t : List ℕ) (x : A) (rest : List ℕ) → is t x → Stops rest → item (t ++ rest) ≡ Ok (x, rest)
   pub starts : (t : List ℕ) (x : A) (rest : List ℕ) → is t x → more (t ++ rest) ≡ true
-  pub stops : (t : List ℕ) (x : A) (rest : List ℕ) → is t x → Stops (t ++ rest)
+  pub failures : (t : List ℕ) (x : A) (rest : List ℕ) → is t x → Stops (t ++ rest)
 
 module _ {A : Type 0} (is : List ℕ → A → Type 0) (more : List ℕ → Bool) (item : List ℕ → Parsed A) (Stops : List ℕ → Type 0) (law : Again is more item Stops) where
   stops_at : (t : List ℕ) (xs : List A) (rest : List ℕ) → Joined is t xs → Stops rest → Stops (t ++ rest)
   stops_at t [] rest h s = subst (λ (l : List ℕ). Stops (l ++ rest)) (sym h) s
-  stops_at t (x ∷ xs) rest h s = subst Stops (sym (ap (λ (l : List ℕ). l ++ rest) h.4 ∙ append_assoc h.0 h.1 rest)) (law.stops h.0 x (h.1 ++ rest) h.2)
+  stops_at t (x ∷ xs) rest h s = subst Stops (sym (ap (λ (l : List ℕ). l ++ rest) h.4 ∙ append_assoc h.0 h.1 rest)) (law.failures h.0 x (h.1 ++ rest) h.2)
 
   pub many_again : (t : List ℕ) (xs : List A) (rest : List ℕ) → Joined is t xs → Stops rest → more rest ≡ false → many more item (t ++ rest) ≡ Ok (xs, rest)
   many_again t [] rest h s e = ap (λ (l : List ℕ). many more item (l ++ rest)) h ∙ m.many_end more item rest e
@@ -96,3 +99,14 @@ module _ {A : Type 0} (is : List ℕ → A → Type 0) (more : List ℕ → Bool
       ap (many more item) regrouped
       ∙ m.many_more more item law.takes (h.0 ++ (h.1 ++ rest)) (h.1 ++ rest) x (law.starts h.0 x (h.1 ++ rest) h.2) (law.again h.0 x (h.1 ++ rest) h.2 (stops_at h.1 xs rest h.3 s))
       ∙ ap (m.with_front (x ∷ [])) (many_again h.1 xs rest h.3 s e)
+
+-- ---- what stops where a step stops
+
+-- reading that is the same step fails as it does
+pub same_fails : {A : Type 0} (s : Failure) (read whole : Result A Refusal) → whole ≡ read → Fails s read → Fails s whole
+same_fails s read whole e h = subst (Fails s) (sym e) h
+
+-- what goes on after a first step fails where that does
+pub first_fails : {A B : Type 0} (s : Failure) (read : Result A Refusal) (f : A → Result B Refusal) → Fails s read → Fails s (read >>= f)
+first_fails failures.Memory read f h = tt
+first_fails (failures.Refused r) read f h = ap (λ (x : Result _ Refusal). x >>= f) h

@@ -7,7 +7,7 @@ use Rattle.std.proofs.lemmas.List.{take_all}
 use Rattle.std.proofs.lemmas.Slice.Eq.{bytes_eq-Decides}
 use Rattle.serde_json_path_syntax.specs.Tree.{Literal}
 use Rattle.serde_json_path_parser.specs.declared.error.ParseErrorKind.TheVariants.{ExpectedExpression}
-use Rattle.serde_json_path_parser.specs.declared.error.Place.TheVariants as place
+use Rattle.serde_json_path_parser.specs.declared.error.Context.TheVariants as context
 use Rattle.serde_json_path_parser.specs.Lexical.{AllPass, begins, is_function_char}
 use Rattle.serde_json_path_parser.specs.Parsed.{Parsed, refusal, front, behind, past_blanks}
 use Rattle.serde_json_path_parser.specs.Operands.{Operand, a_literal}
@@ -40,7 +40,7 @@ common_whole : (known rest : List ℕ) → common known (known ++ rest) ≡ leng
 common_whole [] rest = refl
 common_whole (b ∷ bs) rest = rw (eq-eqb b b refl) (ap (λ (n : ℕ). suc n) (common_whole bs rest))
 
--- the front of a text, and what is behind that, begin anew behind what the text has in common with one that passes
+-- the front of a text, and what is after that, begin anew after what the text has in common with one that passes
 front_common : (p : ℕ → Bool) (known cs : List ℕ) → AllPass p known → front p cs ≡ take (common known cs) known ++ front p (drop (common known cs) cs)
 front_common p [] cs h = refl
 front_common p (b ∷ bs) [] h = refl
@@ -60,7 +60,7 @@ behind_common p (b ∷ bs) (c ∷ cs) h = by_test (c == b) refl (behind_common p
     by_test true e more = let passes : p c ≡ true = ap p (eqb-true c b e) ∙ h.0 in rw (e, passes) more
     by_test false e more = rw e refl
 
--- what is behind the front does not begin with a character that passes
+-- what is after the front does not begin with a character that passes
 behind_begins : (p : ℕ → Bool) (cs : List ℕ) → begins p (behind p cs) ≡ false
 behind_begins p [] = refl
 behind_begins p (c ∷ cs) = by_test (p c) refl (behind_begins p cs)
@@ -69,7 +69,7 @@ behind_begins p (c ∷ cs) = by_test (p c) refl (behind_begins p cs)
     by_test true e h = rw e h
     by_test false e h = rw e e
 
--- where so many characters are in common, and these ones are behind them
+-- where so many characters are in common, and these ones are after them
 module _ (p : ℕ → Bool) (known cs ds : List ℕ) (n : ℕ) (each : AllPass p known) (count : n ≡ common known cs) (rest : ds ≡ drop n cs) where
   pub front_on : front p cs ≡ take n known ++ front p ds
   front_on = rw (rest, count) (front_common p known cs each)
@@ -77,7 +77,7 @@ module _ (p : ℕ → Bool) (known cs ds : List ℕ) (n : ℕ) (each : AllPass p
   pub behind_on : behind p cs ≡ behind p ds
   behind_on = rw (rest, count) (behind_common p known cs each)
 
-  -- the front is the known text, where that is common whole and the front ends behind it
+  -- the front is the known text, where that is common whole and the front ends after it
   pub front_known : n ≡ length known → begins p ds ≡ false → front p cs ≡ known
   front_known all ends = front_on ∙ rw (front_end p ds ends, take_all n known (omega (arith, all))) (append-nil known)
 
@@ -110,9 +110,9 @@ ascii_at (b ∷ bs) (suc i) h l = ascii_at bs i h.1 (omega arith)
 -- what reading gives where the word is that literal's, or none's
 abbrev pub read_literal : Option Literal → List ℕ → Parsed Operand
 read_literal (Some l) cs = Ok (a_literal l, past_blanks (behind_word cs))
-read_literal None cs = Err (refusal ExpectedExpression place.LongHand cs)
+read_literal None cs = Err (refusal ExpectedExpression context.LongHand cs)
 
--- the tests for each literal's word, one behind another, give what the word's literal does
+-- the tests for each literal's word, one after another, give what the word's literal does
 pub literal_word_reads : (cs : List ℕ) → literal_word_at cs ≡ read_literal (literal_word (word cs)) cs
 unfolding literal_word_at
 literal_word_reads cs = by_test (bytes_eq (word cs) (codes "true")) (bytes_eq (word cs) (codes "false")) (bytes_eq (word cs) (codes "null")) refl refl refl

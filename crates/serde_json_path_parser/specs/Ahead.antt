@@ -12,11 +12,11 @@ abbrev pub is_ascii : Option ℕ → Bool
 is_ascii None = false
 is_ascii (Some b) = nat_le b 127
 
--- Where the byte behind the next one was looked at, it is the one that stands there, and the next one is ASCII.
+-- Where the byte after the next one was looked at, it is the one that stands there, and the next one is ASCII.
 abbrev pub IsSecond : Option (Option ℕ) → Option ℕ → Option ℕ → Type 0
 IsSecond second next there = ForSome second (λ s. (s ≡ there) × (is_ascii next ≡ true))
 
--- Up to where a byte may be looked at: up to the text's end, or none where the byte behind the next one was.
+-- Up to where a byte may be looked at: up to the text's end, or none where the byte after the next one was.
 abbrev pub limit_of : Option (Option ℕ) → ℕ → ℕ
 limit_of None total = total
 limit_of (Some second) total = 0

@@ -2,21 +2,21 @@
 use Rattle.std.specs.Prelude.{ℕ, Bool, true, false, List, [], ◌++◌, codes}
 use Rattle.serde_json_path_parser.specs.declared.error.ParseErrorKind.{ParseErrorKind}
 use Rattle.serde_json_path_parser.specs.declared.error.ParseErrorKind.TheVariants.{ExpectedRoot, BadMemberName, ExpectedClosingBracket, ExpectedEndingQuote, BadEscape, ControlCharacter, ExpectedSelector, IntegerOutOfRange, ExponentOrEmptyFraction, NumberOutOfRange, ExpectedExpression, ExpectedClosingParenthesis, ExpectedComparisonOperator, NonSingularQuery, UndefinedFunction, WrongNumberOfArguments, WrongArgumentType, WrongReturnType, NestedTooDeep, TextAfterPath, NoMemory, FractionTooLong}
-use Rattle.serde_json_path_parser.specs.declared.error.Place as declared
-use Rattle.serde_json_path_parser.specs.declared.error.Place.TheVariants as place
+use Rattle.serde_json_path_parser.specs.declared.error.Context as declared
+use Rattle.serde_json_path_parser.specs.declared.error.Context.TheVariants as context
 use Rattle.serde_json_path_parser.specs.declared.error.ParseError.{ParseError}
 
 -- how a message begins
-abbrev pub beginning : declared.Place → List ℕ
-beginning place.Path = []
-beginning place.DotMemberName = codes "in dot member name, "
-beginning place.LongHand = codes "in long-hand segment, "
+abbrev pub beginning : declared.Context → List ℕ
+beginning context.Path = []
+beginning context.DotMemberName = codes "in dot member name, "
+beginning context.LongHand = codes "in long-hand segment, "
 
 abbrev pub in_long_hand : List ℕ → List ℕ
 in_long_hand text = codes "in long-hand segment, " ++ text
 
 -- the message of a kind; that of a member name tells where it stands
-abbrev pub message : ParseErrorKind → declared.Place → List ℕ
+abbrev pub message : ParseErrorKind → declared.Context → List ℕ
 message ExpectedRoot here = codes "expected '$'"
 message BadMemberName here = beginning here ++ codes "must start with a letter, '_' or a non-ASCII character"
 message ExpectedClosingBracket here = in_long_hand (codes "expected closing ']'")
@@ -48,7 +48,7 @@ abbrev pub position_of : ParseError → ℕ
 position_of e = e.position
 
 abbrev pub message_of : ParseError → List ℕ
-message_of e = message e.kind e.place
+message_of e = message e.kind e.context
 
 -- the kinds for which at most one byte beyond the position is looked at
 abbrev pub is_told_at_next : ParseErrorKind → Bool

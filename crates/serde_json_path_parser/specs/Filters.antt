@@ -1,13 +1,13 @@
 -- Logical expressions and whole paths, as they are read from left to right (RFC 9535, sections 2.3.5 and 2.4), on lists of
--- characters. An operand is read before its use is known, and what it is gets decided behind it. Each piece takes the
--- blanks behind it, but for segments.
+-- characters. An operand is read before its use is known; what follows it decides. Each piece takes the blanks after it, but
+-- for segments.
 use Rattle.std.specs.Prelude.{ℕ, zero, suc, ◌==◌, ◌||◌, ◌&&◌, Bool, true, false, List, [], ◌∷◌, length, drop, codes, bytes_eq, Option, Some, None, Result, Ok, Err, if◌then◌else◌}
 use Rattle.serde_json_path_syntax.specs.Tree.{QueryKind, root, current, Query, query, Segments, Selector, filter, LogicalOr, no_or, or, LogicalAnd, no_and, and, Basic, paren, not_paren, relation, exist, not_exist, test, not_test, Comparable, literal, singular, called, Call, call, Arguments, no_arguments, argument, Argument, literal_argument, query_argument, call_argument, logical_argument, text, number, truth, null, Operator, equal, not_equal, less, less_or_equal, greater, greater_or_equal}
 use Rattle.serde_json_path_syntax.specs.Typing.{result_kind}
 use Rattle.serde_json_path_syntax.specs.Used.{deepest}
 use Rattle.serde_json_path_functions.specs.Functions.{Kind, of_value, Signature}
 use Rattle.serde_json_path_parser.specs.declared.error.ParseErrorKind.TheVariants.{ExpectedRoot, ExpectedExpression, ExpectedClosingParenthesis, ExpectedComparisonOperator, NonSingularQuery, UndefinedFunction, WrongNumberOfArguments, WrongArgumentType, WrongReturnType, NestedTooDeep, TextAfterPath}
-use Rattle.serde_json_path_parser.specs.declared.error.Place.TheVariants as place
+use Rattle.serde_json_path_parser.specs.declared.error.Context.TheVariants as context
 use Rattle.serde_json_path_parser.specs.declared.error.Refusal.{Refusal}
 use Rattle.serde_json_path_parser.specs.Lexical.{begins, begins_both, is_small_letter, is_function_char}
 use Rattle.serde_json_path_parser.specs.Parsed.{Parsed, ◌>>=◌, refusal, front, behind, past_blanks, many, refusal_at, byte_count}
@@ -25,7 +25,7 @@ word cs = front is_function_char cs
 abbrev pub behind_word : List ℕ → List ℕ
 behind_word cs = behind is_function_char cs
 
--- a name with `(` at once behind it
+-- a name with `(` at once after it
 abbrev pub begins_call : List ℕ → Bool
 begins_call cs = begins is_small_letter cs && begins (λ c. c == 40) (behind_word cs)
 
@@ -35,11 +35,11 @@ literal_word_at cs =
     if bytes_eq (word cs) (codes "true") then Ok (a_literal (truth true), past_blanks (behind_word cs))
     else if bytes_eq (word cs) (codes "false") then Ok (a_literal (truth false), past_blanks (behind_word cs))
     else if bytes_eq (word cs) (codes "null") then Ok (a_literal null, past_blanks (behind_word cs))
-    else Err (refusal ExpectedExpression place.LongHand cs)
+    else Err (refusal ExpectedExpression context.LongHand cs)
 
 -- ---- operators
 
--- the longest comparison operator that stands there, and what is behind it
+-- the longest comparison operator that stands there, and what is after it
 abbrev pub operator_at : List ℕ → Option (Operator × List ℕ)
 operator_at cs =
     if begins_both 61 61 cs then Some (equal, drop 2 cs)
@@ -75,10 +75,10 @@ alone (a_call c) = call_argument c
 abbrev pub ends_argument : ℕ → Bool
 ends_argument c = c == 44 || c == 41
 
--- behind the last argument
+-- after the last argument
 unfoldable pub ended : ℕ → List Kind → List ℕ → Parsed Arguments
 ended start [] cs = Ok (no_arguments, past_blanks cs)
-ended start (kind ∷ kinds) cs = Err (refusal_at WrongNumberOfArguments place.LongHand start)
+ended start (kind ∷ kinds) cs = Err (refusal_at WrongNumberOfArguments context.LongHand start)
 
 -- ---- one level deeper
 
@@ -97,9 +97,9 @@ module _ (signature : List ℕ → Option Signature) (deeper : Deeper) where
 
   -- at `@` or `$`
   unfoldable pub query_at : QueryKind → List ℕ → Parsed Query
-  query_at kind cs = segments_at filter_at place.LongHand (drop 1 cs) >>= λ ss. Ok (query kind (segment_list ss.0), past_blanks ss.1)
+  query_at kind cs = segments_at filter_at context.LongHand (drop 1 cs) >>= λ ss. Ok (query kind (segment_list ss.0), past_blanks ss.1)
 
-  -- at a name with `(` behind it
+  -- at a name with `(` after it
   unfoldable pub named_call_at : List ℕ → Parsed Call
   named_call_at cs = deeper.call_of (byte_count cs) (word cs) (drop 1 (behind_word cs))
 
@@ -121,14 +121,14 @@ module _ (signature : List ℕ → Option Signature) (deeper : Deeper) where
 
   unfoldable pub comparable_at : ℕ → Operand → List ℕ → Parsed Comparable
   comparable_at start (a_literal l) cs = Ok (literal l, cs)
-  comparable_at start (a_query q) cs = if is_singular q then Ok (singular q, cs) else Err (refusal_at NonSingularQuery place.LongHand start)
-  comparable_at start (a_call c) cs = if is_result of_value (result_kind signature c) then Ok (called c, cs) else Err (refusal_at WrongReturnType place.LongHand start)
+  comparable_at start (a_query q) cs = if is_singular q then Ok (singular q, cs) else Err (refusal_at NonSingularQuery context.LongHand start)
+  comparable_at start (a_call c) cs = if is_result of_value (result_kind signature c) then Ok (called c, cs) else Err (refusal_at WrongReturnType context.LongHand start)
 
-  -- no operator stands behind the operand
+  -- no operator stands after the operand
   unfoldable pub test_at : ℕ → Operand → List ℕ → Parsed Basic
-  test_at start (a_literal l) cs = Err (refusal ExpectedComparisonOperator place.LongHand cs)
+  test_at start (a_literal l) cs = Err (refusal ExpectedComparisonOperator context.LongHand cs)
   test_at start (a_query q) cs = Ok (exist q, cs)
-  test_at start (a_call c) cs = if is_result of_value (result_kind signature c) then Err (refusal_at WrongReturnType place.LongHand start) else Ok (test c, cs)
+  test_at start (a_call c) cs = if is_result of_value (result_kind signature c) then Err (refusal_at WrongReturnType context.LongHand start) else Ok (test c, cs)
 
   unfoldable pub right_side_at : List ℕ → Parsed Comparable
   right_side_at cs = operand_at cs >>= λ o. comparable_at (byte_count cs) o.0 o.1
@@ -146,24 +146,24 @@ module _ (signature : List ℕ → Option Signature) (deeper : Deeper) where
   -- at `(`
   unfoldable pub paren_at : List ℕ → Parsed LogicalOr
   paren_at cs = deeper.expression (byte_count cs) (past_blanks (drop 1 cs)) >>= λ e.
-      if begins (λ c. c == 41) e.1 then Ok (e.0, past_blanks (drop 1 e.1)) else Err (refusal ExpectedClosingParenthesis place.LongHand e.1)
+      if begins (λ c. c == 41) e.1 then Ok (e.0, past_blanks (drop 1 e.1)) else Err (refusal ExpectedClosingParenthesis context.LongHand e.1)
 
   unfoldable pub negated_call_at : List ℕ → Parsed Basic
   negated_call_at cs = named_call_at cs >>= λ c.
-      if is_result of_value (result_kind signature c.0) then Err (refusal WrongReturnType place.LongHand cs) else Ok (not_test c.0, c.1)
+      if is_result of_value (result_kind signature c.0) then Err (refusal WrongReturnType context.LongHand cs) else Ok (not_test c.0, c.1)
 
-  -- at a small letter behind `!` and blanks
+  -- at a small letter after `!` and blanks
   unfoldable pub negated_name_at : List ℕ → Parsed Basic
-  negated_name_at cs = if begins_call cs then negated_call_at cs else Err (refusal ExpectedExpression place.LongHand cs)
+  negated_name_at cs = if begins_call cs then negated_call_at cs else Err (refusal ExpectedExpression context.LongHand cs)
 
-  -- behind `!` and blanks
+  -- after `!` and blanks
   unfoldable pub negated_at : List ℕ → Parsed Basic
   negated_at cs =
       if begins (λ c. c == 40) cs then (paren_at cs >>= λ e. Ok (not_paren e.0, e.1))
       else if begins (λ c. c == 64) cs then (query_at current cs >>= λ q. Ok (not_exist q.0, q.1))
       else if begins (λ c. c == 36) cs then (query_at root cs >>= λ q. Ok (not_exist q.0, q.1))
       else if begins_call cs then negated_call_at cs
-      else Err (refusal ExpectedExpression place.LongHand cs)
+      else Err (refusal ExpectedExpression context.LongHand cs)
 
   -- ---- logical expressions
 
@@ -177,7 +177,7 @@ module _ (signature : List ℕ → Option Signature) (deeper : Deeper) where
   unfoldable pub next_basic_at : List ℕ → Parsed Basic
   next_basic_at cs = basic_at (past_blanks (drop 2 cs))
 
-  -- behind a first part
+  -- after a first part
   unfoldable pub and_from : Basic → List ℕ → Parsed LogicalAnd
   and_from b cs = many (begins_both 38 38) next_basic_at cs >>= λ bs. Ok (and_list (b ∷ bs.0), bs.1)
 
@@ -208,34 +208,34 @@ module _ (signature : List ℕ → Option Signature) (deeper : Deeper) where
 
   -- an argument that begins at begin is judged, and gives the types of the parameters after it
   unfoldable pub judged : ℕ → ℕ → List Kind → Argument → Result (List Kind) Refusal
-  judged start begin [] a = Err (refusal_at WrongNumberOfArguments place.LongHand start)
-  judged start begin (kind ∷ kinds) a = if fits signature a kind then Ok kinds else Err (refusal_at WrongArgumentType place.LongHand begin)
+  judged start begin [] a = Err (refusal_at WrongNumberOfArguments context.LongHand start)
+  judged start begin (kind ∷ kinds) a = if fits signature a kind then Ok kinds else Err (refusal_at WrongArgumentType context.LongHand begin)
 
   -- one argument or more, of a call that begins at start, for parameters of these types; at most fuel of them
   unfoldable pub arguments_at : ℕ → ℕ → List Kind → List ℕ → Parsed Arguments
-  arguments_at zero start kinds cs = Err (refusal ExpectedExpression place.LongHand cs)
+  arguments_at zero start kinds cs = Err (refusal ExpectedExpression context.LongHand cs)
   arguments_at (suc fuel) start kinds cs = argument_at cs >>= λ a.
       if begins ends_argument a.1 then
       (judged start (byte_count cs) kinds a.0 >>= λ left.
       (if begins (λ c. c == 44) a.1 then arguments_at fuel start left (past_blanks (drop 1 a.1)) else ended start left (drop 1 a.1)) >>= λ more.
       Ok (argument a.0 more.0, more.1))
-      else Err (refusal ExpectedClosingParenthesis place.LongHand a.1)
+      else Err (refusal ExpectedClosingParenthesis context.LongHand a.1)
 
-  -- behind `(` and blanks
+  -- after `(` and blanks
   unfoldable pub parameters_at : ℕ → List Kind → List ℕ → Parsed Arguments
   parameters_at start kinds cs = if begins (λ c. c == 41) cs then ended start kinds (drop 1 cs) else arguments_at (length cs) start kinds cs
 
   -- a call of a name that has this signature
   unfoldable pub call_at : ℕ → List ℕ → Option Signature → List ℕ → Parsed Call
-  call_at start name None cs = Err (refusal_at UndefinedFunction place.LongHand start)
+  call_at start name None cs = Err (refusal_at UndefinedFunction context.LongHand start)
   call_at start name (Some s) cs = parameters_at start s.params (past_blanks cs) >>= λ args. Ok (call name args.0, args.1)
 
 module _ (signature : List ℕ → Option Signature) where
   -- so many filters, parentheses and calls may stand within each other
   unfoldable pub level : ℕ → Deeper
   level zero = record {
-    expression = λ start cs. Err (refusal_at NestedTooDeep place.LongHand start);
-    call_of = λ start name cs. Err (refusal_at NestedTooDeep place.LongHand start);
+    expression = λ start cs. Err (refusal_at NestedTooDeep context.LongHand start);
+    call_of = λ start name cs. Err (refusal_at NestedTooDeep context.LongHand start);
   }
   level (suc n) = record {
     expression = λ start cs. or_at signature (level n) cs;
@@ -247,6 +247,6 @@ module _ (signature : List ℕ → Option Signature) where
   unfoldable pub path_at : List ℕ → Result Segments Refusal
   path_at cs =
       if begins (λ c. c == 36) cs then
-      (segments_at (filter_at signature (level deepest)) place.Path (drop 1 cs) >>= λ ss.
-      if length ss.1 == 0 then Ok (segment_list ss.0) else Err (refusal TextAfterPath place.Path ss.1))
-      else Err (refusal ExpectedRoot place.Path cs)
+      (segments_at (filter_at signature (level deepest)) context.Path (drop 1 cs) >>= λ ss.
+      if length ss.1 == 0 then Ok (segment_list ss.0) else Err (refusal TextAfterPath context.Path ss.1))
+      else Err (refusal ExpectedRoot context.Path cs)

@@ -16,11 +16,11 @@ use Rattle.serde_json_path_syntax.specs.declared.parts.Parts.{Parts}
 use Rattle.serde_json_path_syntax.specs.declared.builder.SyntaxBuilder.{SyntaxBuilder}
 use Rattle.serde_json_path_syntax.specs.declared.checked.Checked.{Checked}
 use Rattle.serde_json_path_parser.specs.declared.error.Refusal.{Refusal}
-use Rattle.serde_json_path_parser.specs.declared.error.Stop.{Stop}
-use Rattle.serde_json_path_parser.specs.declared.error.Stop.TheVariants as stops
+use Rattle.serde_json_path_parser.specs.declared.error.Failure.{Failure}
+use Rattle.serde_json_path_parser.specs.declared.error.Failure.TheVariants as failures
 use Rattle.serde_json_path_parser.specs.Errors.{is_told_at_next}
 use Rattle.serde_json_path_parser.specs.declared.error.ParseErrorKind.TheVariants.{NoMemory}
-use Rattle.serde_json_path_parser.specs.declared.error.Place.TheVariants as place
+use Rattle.serde_json_path_parser.specs.declared.error.Context.TheVariants as context
 use Rattle.serde_json_path_parser.specs.declared.error.ParseError.{ParseError}
 use Rattle.serde_json_path_parser.specs.declared.source.PathSource.{Ghosts}
 use Rattle.serde_json_path_parser.specs.declared.parser.reader.Reader.{Reader}
@@ -36,17 +36,17 @@ use Rattle.serde_json_path_parser.specs.declared.parser.call.Argument as argumen
 use Rattle.serde_json_path_parser.specs.declared.parser.call.Argument.TheVariants as the_arguments
 
 -- it stops with what reading refuses, unless memory was refused
-abbrev pub Fails : {Y : Type 0} → Stop → Result Y Refusal → Type 0
-Fails stops.Memory read = Unit {0}
-Fails (stops.Refused r) read = read ≡ Err r
+abbrev pub Fails : {Y : Type 0} → Failure → Result Y Refusal → Type 0
+Fails failures.Memory read = Unit {0}
+Fails (failures.Refused r) read = read ≡ Err r
 
--- The result, seen by view, is what reading gives, and the reader stands behind it.
-abbrev pub Gives : {X Y S : Type 0} {g : Ghosts S} → (X → Y) → Result X Stop → Reader S g → Parsed Y → Type 0
+-- The result, seen by view, is what reading gives, and the reader stands after it.
+abbrev pub Gives : {X Y S : Type 0} {g : Ghosts S} → (X → Y) → Result X Failure → Reader S g → Parsed Y → Type 0
 Gives view (Ok x) reader read = read ≡ Ok (view x, left reader)
 Gives view (Err e) reader read = Fails e read
 
 -- The part that was made stands, as such a piece, for what reading gives.
-abbrev pub Makes : {A S : Type 0} {g : Ghosts S} → (A → Piece) → SyntaxBuilder → Result Part Stop → Reader S g → Parsed A → Type 0
+abbrev pub Makes : {A S : Type 0} {g : Ghosts S} → (A → Piece) → SyntaxBuilder → Result Part Failure → Reader S g → Parsed A → Type 0
 Makes {A} piece builder (Ok part) reader read = (x : A) × IsPart builder part (piece x) × (read ≡ Ok (x, left reader))
 Makes piece builder (Err e) reader read = Fails e read
 
@@ -55,26 +55,26 @@ abbrev pub segment_piece : SegmentKind × Segment → Piece
 segment_piece s = a_segment s.0 s.1
 
 -- The parts that were made stand for the selectors that reading gives.
-abbrev pub MakesSelectors : {S : Type 0} {g : Ghosts S} → SyntaxBuilder → Result Parts Stop → Reader S g → Parsed (List Selector) → Type 0
+abbrev pub MakesSelectors : {S : Type 0} {g : Ghosts S} → SyntaxBuilder → Result Parts Failure → Reader S g → Parsed (List Selector) → Type 0
 MakesSelectors builder (Ok parts) reader read = (ss : List Selector) × AreSelectorsOf builder (parts_in parts) (selector_list ss) × (read ≡ Ok (ss, left reader))
 MakesSelectors builder (Err e) reader read = Fails e read
 
--- A segment was made, or a bracket begins, behind which reading goes on.
-abbrev pub StartsSegment : {S : Type 0} {g : Ghosts S} → SyntaxBuilder → Result declared.SegmentStart Stop → Reader S g → (List ℕ → Parsed Segment) → Parsed (SegmentKind × Segment) → Type 0
+-- A segment was made, or a bracket begins, after which reading goes on.
+abbrev pub StartsSegment : {S : Type 0} {g : Ghosts S} → SyntaxBuilder → Result declared.SegmentStart Failure → Reader S g → (List ℕ → Parsed Segment) → Parsed (SegmentKind × Segment) → Type 0
 StartsSegment builder (Ok (starts.Dotted part)) reader bracket_at read = (s : SegmentKind × Segment) × IsPart builder part (segment_piece s) × (read ≡ Ok (s, left reader))
 StartsSegment builder (Ok (starts.Bracket kind)) reader bracket_at read = read ≡ of_kind (segment_kind_view kind) (bracket_at (left reader))
 StartsSegment builder (Err e) reader bracket_at read = Fails e read
 
--- The parts that were made stand for the segments that reading gives. So many bytes are left behind the last one, and
--- the reader stands behind the blanks there.
-abbrev pub MakesSegments : {S : Type 0} {g : Ghosts S} → SyntaxBuilder → Result (Parts × ℕ) Stop → Reader S g → Parsed (List (SegmentKind × Segment)) → Type 0
+-- The parts that were made stand for the segments that reading gives. So many bytes are left after the last one, and
+-- the reader stands after the blanks there.
+abbrev pub MakesSegments : {S : Type 0} {g : Ghosts S} → SyntaxBuilder → Result (Parts × ℕ) Failure → Reader S g → Parsed (List (SegmentKind × Segment)) → Type 0
 MakesSegments builder (Ok parts) reader read =
     (ss : List (SegmentKind × Segment)) × (rest : List ℕ) × ArePartsOf builder (parts_in parts.0) (segment_list ss)
     × (parts.1 ≡ byte_count rest) × (left reader ≡ past_blanks rest) × (read ≡ Ok (ss, rest))
 MakesSegments builder (Err e) reader read = Fails e read
 
 -- The tree is that of the segments that reading gives, and the signatures are those of the names that it calls.
-abbrev pub GivesQuery : FunctionSet → Result Checked Stop → Result Segments Refusal → Type 0
+abbrev pub GivesQuery : FunctionSet → Result Checked Failure → Result Segments Refusal → Type 0
 GivesQuery F (Ok checked) read = (segs : Segments) × (tree_of checked ≡ query root segs) × (read ≡ Ok segs) × AreCalled (signatures_of checked) (query root segs) × Fits F (signatures_of checked)
 GivesQuery F (Err e) read = Fails e read
 
@@ -85,12 +85,12 @@ IsOperandOf signature builder (the_operands.Query part) (a_query q) = IsPart bui
 IsOperandOf signature builder (the_operands.Call part kind) (a_call c) = IsPart builder part (piece.a_call c) × (result_kind signature c ≡ Some (kind_view kind))
 IsOperandOf signature builder _ _ = ⊥
 
-abbrev pub MakesOperand : {S : Type 0} {g : Ghosts S} → (List ℕ → Option Signature) → SyntaxBuilder → Result operands.Operand Stop → Reader S g → Parsed Operand → Type 0
+abbrev pub MakesOperand : {S : Type 0} {g : Ghosts S} → (List ℕ → Option Signature) → SyntaxBuilder → Result operands.Operand Failure → Reader S g → Parsed Operand → Type 0
 MakesOperand signature builder (Ok o) reader read = (x : Operand) × IsOperandOf signature builder o x × (read ≡ Ok (x, left reader))
 MakesOperand signature builder (Err e) reader read = Fails e read
 
 -- The call is the one that reading gives, and its result is of that type.
-abbrev pub MakesCall : {S : Type 0} {g : Ghosts S} → (List ℕ → Option Signature) → SyntaxBuilder → Result (Part × FunctionArgType) Stop → Reader S g → Parsed Call → Type 0
+abbrev pub MakesCall : {S : Type 0} {g : Ghosts S} → (List ℕ → Option Signature) → SyntaxBuilder → Result (Part × FunctionArgType) Failure → Reader S g → Parsed Call → Type 0
 MakesCall signature builder (Ok call) reader read = (c : Call) × IsPart builder call.0 (piece.a_call c) × (result_kind signature c ≡ Some (kind_view call.1)) × (read ≡ Ok (c, left reader))
 MakesCall signature builder (Err e) reader read = Fails e read
 
@@ -102,45 +102,45 @@ IsArgumentOf signature builder (the_arguments.Call part kind) (call_argument c) 
 IsArgumentOf signature builder (the_arguments.Logical part) (logical_argument e) = IsPart builder part (piece.an_or e)
 IsArgumentOf signature builder _ _ = ⊥
 
-abbrev pub MakesArgument : {S : Type 0} {g : Ghosts S} → (List ℕ → Option Signature) → SyntaxBuilder → Result arguments.Argument Stop → Reader S g → Parsed Argument → Type 0
+abbrev pub MakesArgument : {S : Type 0} {g : Ghosts S} → (List ℕ → Option Signature) → SyntaxBuilder → Result arguments.Argument Failure → Reader S g → Parsed Argument → Type 0
 MakesArgument signature builder (Ok a) reader read = (x : Argument) × IsArgumentOf signature builder a x × (read ≡ Ok (x, left reader))
 MakesArgument signature builder (Err e) reader read = Fails e read
 
--- The parts that were put behind others stand for the arguments that reading gives.
-abbrev pub MakesArguments : {S : Type 0} {g : Ghosts S} → SyntaxBuilder → List Part → List Part → Result Unit Stop → Reader S g → Parsed Arguments → Type 0
+-- The parts that were put after others stand for the arguments that reading gives.
+abbrev pub MakesArguments : {S : Type 0} {g : Ghosts S} → SyntaxBuilder → List Part → List Part → Result Unit Failure → Reader S g → Parsed Arguments → Type 0
 MakesArguments builder before after (Ok u) reader read = (args : Arguments) × (parts : List Part) × (after ≡ before ++ parts) × AreArgumentsOf builder parts args × (read ≡ Ok (args, left reader))
 MakesArguments builder before after (Err e) reader read = Fails e read
 
 -- the end of the arguments is what reading gives
-abbrev pub GivesEnd : {S : Type 0} {g : Ghosts S} → Result Unit Stop → Reader S g → Parsed Arguments → Type 0
+abbrev pub GivesEnd : {S : Type 0} {g : Ghosts S} → Result Unit Failure → Reader S g → Parsed Arguments → Type 0
 GivesEnd (Ok u) reader read = read ≡ Ok (no_arguments, left reader)
 GivesEnd (Err e) reader read = Fails e read
 
 -- a refusal, and not want of memory
-abbrev pub IsRefused : Stop → Type 0
-IsRefused stops.Memory = ⊥
-IsRefused (stops.Refused r) = Unit {0}
+abbrev pub IsRefused : Failure → Type 0
+IsRefused failures.Memory = ⊥
+IsRefused (failures.Refused r) = Unit {0}
 
--- Where a refusal is told at the byte that is next, no byte was seen beyond the one behind its place.
-abbrev pub StopsNear : {S : Type 0} {g : Ghosts S} → Stop → Reader S g → Type 0
-StopsNear stops.Memory reader = Unit {0}
-StopsNear (stops.Refused r) reader = is_told_at_next r.kind ≡ true → seen reader + r.left ≤ length (told reader).text + 2
+-- Where a refusal is reported at the byte that is next, no byte was seen beyond the one after its place.
+abbrev pub StopsNear : {S : Type 0} {g : Ghosts S} → Failure → Reader S g → Type 0
+StopsNear failures.Memory reader = Unit {0}
+StopsNear (failures.Refused r) reader = is_told_at_next r.kind ≡ true → seen reader + r.left ≤ length (told reader).text + 2
 
-abbrev pub IsNear : {X S : Type 0} {g : Ghosts S} → Result X Stop → Reader S g → Type 0
+abbrev pub IsNear : {X S : Type 0} {g : Ghosts S} → Result X Failure → Reader S g → Type 0
 IsNear (Ok x) reader = Unit {0}
 IsNear (Err e) reader = StopsNear e reader
 
 -- The reader moved on, and where it stopped with a refusal no byte was seen beyond the one after its place.
-pub record MovesTo {X S : Type 0} {g : Ghosts S} (result : Result X Stop) (old new : Reader S g) : Type 0 where
+pub record MovesTo {X S : Type 0} {g : Ghosts S} (result : Result X Failure) (old new : Reader S g) : Type 0 where
   pub moves : Moves old new
   pub near : IsNear result new
 
 -- a refusal stands within a text of so many bytes
-abbrev pub IsWithin : Stop → ℕ → Type 0
-IsWithin stops.Memory total = Unit {0}
-IsWithin (stops.Refused r) total = r.left ≤ total
+abbrev pub IsWithin : Failure → ℕ → Type 0
+IsWithin failures.Memory total = Unit {0}
+IsWithin (failures.Refused r) total = r.left ≤ total
 
--- what is told of a stop in a text of so many bytes
-abbrev pub error_of : Stop → ℕ → ParseError
-error_of stops.Memory total = record { kind = NoMemory; place = place.Path; position = 1 }
-error_of (stops.Refused r) total = record { kind = r.kind; place = r.place; position = total - r.left + 1 }
+-- the public error of a failure, in a text of so many bytes
+abbrev pub error_of : Failure → ℕ → ParseError
+error_of failures.Memory total = record { kind = NoMemory; context = context.Path; position = 1 }
+error_of (failures.Refused r) total = record { kind = r.kind; context = r.context; position = total - r.left + 1 }

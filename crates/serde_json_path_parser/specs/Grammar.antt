@@ -37,7 +37,7 @@ abbrev pub InParentheses : (List ℕ → Type 0) → List ℕ → Type 0
 InParentheses ReadsInside t =
     (j a k : List ℕ) × IsBlank j × ReadsInside a × IsBlank k × (t ≡ codes "(" ++ (j ++ (a ++ (k ++ codes ")"))))
 
--- behind `!` and blanks
+-- after `!` and blanks
 abbrev pub Negated : (List ℕ → Type 0) → List ℕ → Type 0
 Negated ReadsInside t = (k a : List ℕ) × IsBlank k × ReadsInside a × (t ≡ codes "!" ++ (k ++ a))
 
@@ -127,7 +127,7 @@ abbrev mutual
   ReadsComparable (singular q) t = IsSingular q × Reads q t
   ReadsComparable (called c) t = ReadsCall c t
 
-  -- a name with `(` at once behind it (section 2.4)
+  -- a name with `(` at once after it (section 2.4)
   pub ReadsCall : Call → List ℕ → Type 0
   ReadsCall (call f args) t =
       (n j a k : List ℕ) × IsFunctionName n f × IsBlank j × ReadArguments args a × IsBlank k

@@ -65,7 +65,7 @@ pub record IsFunctionName (text bytes : List ℕ) : Type 0 where
 
 -- ---- integers (section 2.3.3.1)
 
--- the number that these digits write behind the digits of n
+-- the number that these digits write after the digits of n
 abbrev pub value_from : ℕ → List ℕ → ℕ
 value_from n [] = n
 value_from n (d ∷ ds) = value_from ((n * 10) + (d - 48)) ds
@@ -89,7 +89,7 @@ IsInt text i = IsIntText text i × IsInteger i
 -- ---- number literals (section 2.3.5.1); that there is no exponent, that a fraction has at most nine digits, and the
 -- range are this project's own rules
 
--- the billionths that the digits behind a point write
+-- the billionths that the digits after a point write
 abbrev pub fraction_of : List ℕ → ℕ
 fraction_of digits = (value_from 0 digits) * (10 ^ (9 - length digits))
 
@@ -139,7 +139,7 @@ IsLowSurrogate n = (0xdc00 ≤ n) × (n ≤ 0xdfff)
 abbrev pub pair_of : ℕ → ℕ → ℕ
 pair_of high low = (0x10000 + (0x400 * (high - 0xd800))) + (low - 0xdc00)
 
--- what stands behind a backslash for one character, but for `u` and the quote
+-- what stands after a backslash for one character, but for `u` and the quote
 abbrev pub escaped_by : ℕ → Option ℕ
 escaped_by c =
     if c == 98 then Some 8

@@ -11,7 +11,7 @@ abbrev pub up_to : ℕ → Option ℕ → ℕ
 up_to index None = index
 up_to index (Some b) = index + 1
 
--- the same where the byte behind that one may have been looked at
+-- the same where the byte after that one may have been looked at
 abbrev pub up_to_second : ℕ → Option ℕ → Option (Option ℕ) → ℕ
 up_to_second index next None = up_to index next
 up_to_second index next (Some second) = up_to (index + 1) second

@@ -3,7 +3,7 @@
 -- reported where the literal begins: `start` bytes are left there.
 use Rattle.std.specs.Prelude.{ℕ, ◌+◌, ◌-◌, ◌*◌, ◌^◌, ◌==◌, ◌||◌, min, nat_le, ℤ, pos, ◌-ℤ◌, Bool, List, length, drop, Ok, Err, if◌then◌else◌}
 use Rattle.serde_json_path_parser.specs.declared.error.ParseErrorKind.TheVariants.{ExpectedExpression, ExponentOrEmptyFraction, FractionTooLong, NumberOutOfRange}
-use Rattle.serde_json_path_parser.specs.declared.error.Place.TheVariants as place
+use Rattle.serde_json_path_parser.specs.declared.error.Context.TheVariants as context
 use Rattle.serde_json_path_parser.specs.Lexical.{begins, is_digit, value_from, fraction_of}
 use Rattle.serde_json_path_parser.specs.Parsed.{Parsed, ◌>>=◌, refusal, front, behind, refusal_at, byte_count}
 use Rattle.serde_json_path_parser.specs.Parsing.{is_first_digit}
@@ -16,22 +16,22 @@ unfoldable pub whole_at : ℕ → List ℕ → Parsed ℕ
 whole_at start cs =
     if begins (λ c. c == 48) cs then Ok (0, drop 1 cs)
     else if begins is_first_digit cs then Ok (value_from 0 (front is_digit cs), behind is_digit cs)
-    else Err (refusal_at ExpectedExpression place.LongHand start)
+    else Err (refusal_at ExpectedExpression context.LongHand start)
 
--- behind a point: the billionths of the digits there, which are read whole
+-- after a point: the billionths of the digits there, which are read whole
 unfoldable pub digits_behind_point_at : ℕ → List ℕ → Parsed ℕ
 digits_behind_point_at start cs =
     if begins is_digit cs then
-    (if begins is_exponent (behind is_digit cs) then Err (refusal_at ExponentOrEmptyFraction place.LongHand start)
+    (if begins is_exponent (behind is_digit cs) then Err (refusal_at ExponentOrEmptyFraction context.LongHand start)
     else if nat_le (length (front is_digit cs)) 9 then Ok (fraction_of (front is_digit cs), behind is_digit cs)
-    else Err (refusal_at FractionTooLong place.LongHand start))
-    else Err (refusal_at ExponentOrEmptyFraction place.LongHand start)
+    else Err (refusal_at FractionTooLong context.LongHand start))
+    else Err (refusal_at ExponentOrEmptyFraction context.LongHand start)
 
--- behind a whole number: a point and digits, or nothing
+-- after a whole number: a point and digits, or nothing
 unfoldable pub fraction_at : ℕ → List ℕ → Parsed ℕ
 fraction_at start cs =
     if begins (λ c. c == 46) cs then digits_behind_point_at start (drop 1 cs)
-    else if begins is_exponent cs then Err (refusal_at ExponentOrEmptyFraction place.LongHand start)
+    else if begins is_exponent cs then Err (refusal_at ExponentOrEmptyFraction context.LongHand start)
     else Ok (0, cs)
 
 -- without a sign, in billionths
@@ -43,9 +43,9 @@ unfoldable pub number_at : List ℕ → Parsed ℤ
 number_at cs =
     if begins (λ c. c == 45) cs then
     (amount_at (byte_count cs) (drop 1 cs) >>= λ n.
-    if nat_le n.0 (2 ^ 63 * 1000000000) then Ok (pos 0 -ℤ pos n.0, n.1) else Err (refusal NumberOutOfRange place.LongHand cs))
+    if nat_le n.0 (2 ^ 63 * 1000000000) then Ok (pos 0 -ℤ pos n.0, n.1) else Err (refusal NumberOutOfRange context.LongHand cs))
     else (amount_at (byte_count cs) cs >>= λ n.
-    if nat_le n.0 ((2 ^ 64 - 1) * 1000000000) then Ok (pos n.0, n.1) else Err (refusal NumberOutOfRange place.LongHand cs))
+    if nat_le n.0 ((2 ^ 64 - 1) * 1000000000) then Ok (pos n.0, n.1) else Err (refusal NumberOutOfRange context.LongHand cs))
 
 -- what is read, as a number that stops at the greatest u128
 abbrev pub capped : Parsed ℕ → Parsed ℕ

@@ -29,7 +29,7 @@ is_singular (query kind segs) = are_singular segs
 
 -- ---- names of functions (section 2.4)
 
--- a name with `(` at once behind it stands there, and no function of that name is declared
+-- a name with `(` at once after it stands there, and no function of that name is declared
 abbrev pub IsUndeclared : (List ℕ → Option Signature) → List ℕ → Type 0
 IsUndeclared signature rest = (f more : List ℕ) × IsFunctionName f f × (rest ≡ f ++ (40 ∷ more)) × (signature f ≡ None)
 

@@ -18,20 +18,19 @@ use Rattle.serde_json_path_parser.specs.Parsing.{opens}
 abbrev pub is_dollar : ℕ → Bool
 is_dollar c = c == 36
 
--- there is no `$` at the start, or behind it and blanks neither `.` nor `[`
+-- there is no `$` at the start, or after it and blanks neither `.` nor `[`
 abbrev pub NeedsNoMemory : List ℕ → Type 0
 NeedsNoMemory text =
     (begins is_dollar text ≡ false)
     ⊎ ((blanks rest : List ℕ) × (text ≡ 36 ∷ (blanks ++ rest)) × IsBlank blanks × (begins is_blank rest ≡ false) × (begins opens rest ≡ false))
 
 -- a tree, and the names that it calls, each with its signature
-pub record Read : Type 0 where
+pub record ParsedQuery : Type 0 where
   pub tree : Query
   pub signatures : List (List ℕ × Signature)
 
--- What a parse answers of a text, given by the bytes of its UTF-8: a tree with the names that it calls and their
--- signatures, or an error.
-pub record Answers (signature : List ℕ → Option Signature) (text : List ℕ) (answer : Result Read ParseError) : Type 0 where
+-- What a parse answers of a text, which is given by the bytes of its UTF-8.
+pub record Answers (signature : List ℕ → Option Signature) (text : List ℕ) (answer : Result ParsedQuery ParseError) : Type 0 where
   -- what is accepted is in the typed grammar, with this tree
   pub accepted : IfOk answer (λ read. IsAccepted signature (chars text) read.tree)
   -- it keeps the names that it calls, each once, and no other
@@ -40,25 +39,25 @@ pub record Answers (signature : List ℕ → Option Signature) (text : List ℕ)
   pub only : IfOk answer (λ read. (q : Query) → IsAccepted signature (chars text) q → q ≡ read.tree)
   -- a refusal, unless memory was refused, means that the text is accepted with no tree
   pub refused : IfErr answer (λ e. kind_of e ≢ NoMemory → (q : Query) → IsAccepted signature (chars text) q → ⊥)
-  -- a missing root is told exactly where the text does not begin with `$`
+  -- a missing root is reported exactly where the text does not begin with `$`
   pub missing_root : IsErrAnd answer (λ e. kind_of e ≡ ExpectedRoot) ↔ ((length text < 2 ^ 64 - 1) × (begins is_dollar (chars text) ≡ false))
-  -- text behind the path is told only where the bytes before the position are an accepted text
+  -- text after the path is reported only where the bytes before the position are an accepted text
   pub text_after : IfErr answer (λ e. kind_of e ≡ TextAfterPath → (q : Query) × IsAccepted signature (chars (take (position_of e - 1) text)) q)
-  -- an undefined function is told only where a name that is not declared stands, with `(` at once behind it
+  -- an undefined function is reported only where a name that is not declared stands, with `(` at once after it
   pub undefined : IfErr answer (λ e. kind_of e ≡ UndefinedFunction → IsUndeclared signature (chars (drop (position_of e - 1) text)))
   -- a refusal stands at the start of a character, or at the end of the text
   pub position : IfErr answer (λ e. (1 ≤ position_of e) × IsCharBoundary text (position_of e - 1))
   -- want of memory stands at 1
   pub memory_position : IfErr answer (λ e. kind_of e ≡ NoMemory → position_of e ≡ 1)
-  -- and is not told where nothing is to be kept
+  -- and is not reported where nothing is to be kept
   pub spares_memory : length text < 2 ^ 64 - 1 → NeedsNoMemory (chars text) → IfErr answer (λ e. kind_of e ≢ NoMemory)
   -- but of a text whose end has no number
   pub too_long : length text ≡ 2 ^ 64 - 1 → IsErrAnd answer (λ e. kind_of e ≡ NoMemory)
 
 -- the same of a result that is seen as a tree and its signatures
-abbrev pub IsParseOf : {A : Type 0} → (A → Read) → (List ℕ → Option Signature) → List ℕ → Result A ParseError → Type 0
+abbrev pub IsParseOf : {A : Type 0} → (A → ParsedQuery) → (List ℕ → Option Signature) → List ℕ → Result A ParseError → Type 0
 IsParseOf view signature text result = Answers signature text (result_map_both view (λ e. e) result)
 
 -- a finished query, seen so
-abbrev pub checked_view : Checked → Read
+abbrev pub checked_view : Checked → ParsedQuery
 checked_view checked = record { tree = tree_of checked; signatures = signatures_of checked }

@@ -1,9 +1,9 @@
--- What reading from left to right gives, on lists of characters: what was read and the characters behind it, or the first
+-- What reading from left to right gives, on lists of characters: what was read and the characters after it, or the first
 -- refusal that is met.
 use Rattle.std.specs.Prelude.{ℕ, zero, suc, Bool, List, [], ◌∷◌, length, Result, Ok, Err, if◌then◌else◌}
 use Rattle.std.specs.Str.{encode_utf8_all}
 use Rattle.serde_json_path_parser.specs.declared.error.ParseErrorKind.{ParseErrorKind}
-use Rattle.serde_json_path_parser.specs.declared.error.Place as declared
+use Rattle.serde_json_path_parser.specs.declared.error.Context as declared
 use Rattle.serde_json_path_parser.specs.declared.error.Refusal.{Refusal}
 use Rattle.serde_json_path_parser.specs.Lexical.{is_blank}
 
@@ -20,14 +20,14 @@ abbrev pub byte_count : List ℕ → ℕ
 byte_count cs = length (encode_utf8_all cs)
 
 -- a refusal where so many bytes are left
-abbrev pub refusal_at : ParseErrorKind → declared.Place → ℕ → Refusal
-refusal_at kind here left = record { kind = kind; place = here; left = left }
+abbrev pub refusal_at : ParseErrorKind → declared.Context → ℕ → Refusal
+refusal_at kind here left = record { kind = kind; context = here; left = left }
 
 -- a refusal at the first of these characters
-abbrev pub refusal : ParseErrorKind → declared.Place → List ℕ → Refusal
+abbrev pub refusal : ParseErrorKind → declared.Context → List ℕ → Refusal
 refusal kind here cs = refusal_at kind here (byte_count cs)
 
--- the longest front whose characters pass the test, and what is behind it
+-- the longest front whose characters pass the test, and what is after it
 abbrev pub front : (ℕ → Bool) → List ℕ → List ℕ
 front p [] = []
 front p (c ∷ cs) = if p c then c ∷ front p cs else []
@@ -36,7 +36,7 @@ abbrev pub behind : (ℕ → Bool) → List ℕ → List ℕ
 behind p [] = []
 behind p (c ∷ cs) = if p c then behind p cs else c ∷ cs
 
--- what is behind the blanks
+-- what is after the blanks
 abbrev pub past_blanks : List ℕ → List ℕ
 past_blanks cs = behind is_blank cs
 

@@ -3,20 +3,20 @@ use Rattle.std.specs.Prelude.{ℕ, zero, suc, ℤ, pos, negsuc, ◌==◌, ◌||�
 use Rattle.std.specs.Str.{encode_utf8_all}
 use Rattle.serde_json_path_syntax.specs.Tree.{largest, SegmentKind, child, descendant, Segments, no_segments, segment, Segment, dot_name, dot_wildcard, long_hand, Selectors, selector, no_selectors, Selector, name, wildcard, index, slice, Slice}
 use Rattle.serde_json_path_parser.specs.declared.error.ParseErrorKind.TheVariants.{BadMemberName, ExpectedClosingBracket, ExpectedSelector, IntegerOutOfRange}
-use Rattle.serde_json_path_parser.specs.declared.error.Place as declared
-use Rattle.serde_json_path_parser.specs.declared.error.Place.TheVariants as place
+use Rattle.serde_json_path_parser.specs.declared.error.Context as declared
+use Rattle.serde_json_path_parser.specs.declared.error.Context.TheVariants as context
 use Rattle.serde_json_path_parser.specs.Lexical.{begins, is_digit, is_name_first, is_name_char, value_from}
 use Rattle.serde_json_path_parser.specs.Parsed.{Parsed, ◌>>=◌, refusal, front, behind, past_blanks, many, refusal_at, byte_count}
 use Rattle.serde_json_path_parser.specs.Strings.{string_at}
 
 -- ---- names and integers
 
-unfoldable pub name_at : declared.Place → List ℕ → Parsed (List ℕ)
+unfoldable pub name_at : declared.Context → List ℕ → Parsed (List ℕ)
 name_at here cs =
     if begins is_name_first cs then Ok (encode_utf8_all (front is_name_char cs), behind is_name_char cs)
     else Err (refusal BadMemberName here cs)
 
--- a digit that may stand first, behind `-` too
+-- a digit that may stand first, after `-` too
 abbrev pub is_first_digit : ℕ → Bool
 is_first_digit c = nat_le 49 c && nat_le c 57
 
@@ -24,7 +24,7 @@ is_first_digit c = nat_le 49 c && nat_le c 57
 unfoldable pub digits_at : ℕ → List ℕ → Parsed ℕ
 digits_at start cs =
     if nat_le (value_from 0 (front is_digit cs)) largest then Ok (value_from 0 (front is_digit cs), behind is_digit cs)
-    else Err (refusal_at IntegerOutOfRange place.LongHand start)
+    else Err (refusal_at IntegerOutOfRange context.LongHand start)
 
 -- -n
 abbrev pub negative : ℕ → ℤ
@@ -34,12 +34,12 @@ negative (suc n) = negsuc n
 unfoldable pub int_at : List ℕ → Parsed ℤ
 int_at cs =
     if begins (λ c. c == 45) cs then
-    (if begins is_first_digit (drop 1 cs) then (digits_at (byte_count cs) (drop 1 cs) >>= λ n. Ok (negative n.0, n.1)) else Err (refusal ExpectedSelector place.LongHand cs))
+    (if begins is_first_digit (drop 1 cs) then (digits_at (byte_count cs) (drop 1 cs) >>= λ n. Ok (negative n.0, n.1)) else Err (refusal ExpectedSelector context.LongHand cs))
     else if begins (λ c. c == 48) cs then Ok (pos 0, drop 1 cs)
     else if begins is_first_digit cs then (digits_at (byte_count cs) cs >>= λ n. Ok (pos n.0, n.1))
-    else Err (refusal ExpectedSelector place.LongHand cs)
+    else Err (refusal ExpectedSelector context.LongHand cs)
 
--- ---- slices and selectors, each with the blanks behind it
+-- ---- slices and selectors, each with the blanks after it
 
 abbrev pub begins_int : ℕ → Bool
 begins_int c = c == 45 || is_digit c
@@ -52,7 +52,7 @@ bound_at cs = if begins begins_int cs then (int_at cs >>= λ i. Ok (Some i.0, pa
 unfoldable pub step_at : List ℕ → Parsed (Option ℤ)
 step_at cs = if begins (λ c. c == 58) cs then bound_at (past_blanks (drop 1 cs)) else Ok (None, cs)
 
--- behind a slice's start and its first colon
+-- after a slice's start and its first colon
 unfoldable pub slice_at : Option ℤ → List ℕ → Parsed Slice
 slice_at start cs =
     bound_at (past_blanks cs) >>= λ end. step_at end.1 >>= λ step. Ok (record { start = start; end = end.0; step = step.0 }, step.1)
@@ -63,14 +63,14 @@ position_at cs = int_at cs >>= λ i.
     if begins (λ c. c == 58) (past_blanks i.1) then (slice_at (Some i.0) (drop 1 (past_blanks i.1)) >>= λ s. Ok (slice s.0, s.1))
     else Ok (index i.0, past_blanks i.1)
 
--- behind the opening quote
+-- after the opening quote
 unfoldable pub quoted_at : ℕ → List ℕ → Parsed Selector
 quoted_at quote cs = string_at quote cs >>= λ text. Ok (name text.0, past_blanks text.1)
 
 abbrev pub opens : ℕ → Bool
 opens c = c == 46 || c == 91
 
--- a segment begins behind blanks
+-- a segment begins after blanks
 abbrev pub opens_next : List ℕ → Bool
 opens_next cs = begins opens (past_blanks cs)
 
@@ -82,17 +82,17 @@ abbrev pub segment_list : List (SegmentKind × Segment) → Segments
 segment_list [] = no_segments
 segment_list (s ∷ ss) = segment s.0 s.1 (segment_list ss)
 
--- where a refusal of a member name behind one dot stands
-abbrev pub behind_dot : declared.Place → declared.Place
-behind_dot place.Path = place.DotMemberName
+-- where a refusal of a member name after one dot stands
+abbrev pub behind_dot : declared.Context → declared.Context
+behind_dot context.Path = context.DotMemberName
 behind_dot here = here
 
 -- a segment and its kind
 abbrev pub of_kind : SegmentKind → Parsed Segment → Parsed (SegmentKind × Segment)
 of_kind kind read = read >>= λ s. Ok ((kind, s.0), s.1)
 
--- behind `.` or `..`
-unfoldable pub dotted_at : declared.Place → List ℕ → Parsed Segment
+-- after `.` or `..`
+unfoldable pub dotted_at : declared.Context → List ℕ → Parsed Segment
 dotted_at here cs =
     if begins (λ c. c == 42) cs then Ok (dot_wildcard, drop 1 cs) else (name_at here cs >>= λ n. Ok (dot_name n.0, n.1))
 
@@ -115,18 +115,18 @@ module _ (filter_at : List ℕ → Parsed Selector) where
   selectors_at cs =
       selector_at (past_blanks cs) >>= λ s. many (begins (λ c. c == 44)) next_selector_at s.1 >>= λ ss. Ok (s.0 ∷ ss.0, ss.1)
 
-  -- behind `[`
+  -- after `[`
   unfoldable pub bracket_at : List ℕ → Parsed Segment
   bracket_at cs = selectors_at cs >>= λ ss.
-      if begins (λ c. c == 93) ss.1 then Ok (long_hand (selector_list ss.0), drop 1 ss.1) else Err (refusal ExpectedClosingBracket place.LongHand ss.1)
+      if begins (λ c. c == 93) ss.1 then Ok (long_hand (selector_list ss.0), drop 1 ss.1) else Err (refusal ExpectedClosingBracket context.LongHand ss.1)
 
 -- segments that stand here
-module _ (filter_at : List ℕ → Parsed Selector) (here : declared.Place) where
-  -- behind `..`
+module _ (filter_at : List ℕ → Parsed Selector) (here : declared.Context) where
+  -- after `..`
   unfoldable pub descendant_at : List ℕ → Parsed Segment
   descendant_at cs = if begins (λ c. c == 91) cs then bracket_at filter_at (drop 1 cs) else dotted_at here cs
 
-  -- behind `.`
+  -- after `.`
   unfoldable pub dot_at : List ℕ → Parsed (SegmentKind × Segment)
   dot_at cs = if begins (λ c. c == 46) cs then of_kind descendant (descendant_at (drop 1 cs)) else of_kind child (dotted_at (behind_dot here) cs)
 
@@ -141,6 +141,6 @@ module _ (filter_at : List ℕ → Parsed Selector) (here : declared.Place) wher
   abbrev pub segments_at : List ℕ → Parsed (List (SegmentKind × Segment))
   segments_at cs = many opens_next next_segment_at cs
 
--- a segment begins behind `$` and blanks
+-- a segment begins after `$` and blanks
 abbrev pub opens_behind_root : List ℕ → Bool
 opens_behind_root cs = begins (λ c. c == 36) cs && opens_next (drop 1 cs)

@@ -3,7 +3,7 @@
 use Rattle.std.specs.Prelude.{ℕ, ◌+◌, ◌-◌, ◌*◌, ◌==◌, ◌||◌, ◌&&◌, nat_le, not, Bool, List, [], ◌∷◌, drop, Ok, Err, if◌then◌else◌}
 use Rattle.std.specs.Str.{encode_utf8_all}
 use Rattle.serde_json_path_parser.specs.declared.error.ParseErrorKind.TheVariants.{ExpectedEndingQuote, BadEscape, ControlCharacter}
-use Rattle.serde_json_path_parser.specs.declared.error.Place.TheVariants as place
+use Rattle.serde_json_path_parser.specs.declared.error.Context.TheVariants as context
 use Rattle.serde_json_path_parser.specs.Lexical.{begins, is_digit, pair_of}
 use Rattle.serde_json_path_parser.specs.Parsed.{Parsed, ◌>>=◌, refusal, many, refusal_at, byte_count}
 
@@ -21,7 +21,7 @@ head (c ∷ cs) = c
 
 unfoldable pub hexadecimal_at : ℕ → List ℕ → Parsed ℕ
 hexadecimal_at start cs =
-    if begins is_hexadecimal cs then Ok (hexadecimal_value (head cs), drop 1 cs) else Err (refusal_at BadEscape place.LongHand start)
+    if begins is_hexadecimal cs then Ok (hexadecimal_value (head cs), drop 1 cs) else Err (refusal_at BadEscape context.LongHand start)
 
 unfoldable pub hex4_at : ℕ → List ℕ → Parsed ℕ
 hex4_at start cs = do
@@ -39,23 +39,23 @@ is_high n = nat_le 0xd800 n && nat_le n 0xdbff
 abbrev pub is_low : ℕ → Bool
 is_low n = nat_le 0xdc00 n && nat_le n 0xdfff
 
--- behind a high surrogate: `\u` and a low one
+-- after a high surrogate: `\u` and a low one
 unfoldable pub low_at : ℕ → ℕ → List ℕ → Parsed ℕ
 low_at start high cs =
     if begins (λ c. c == 92) cs then
     (if begins (λ c. c == 117) (drop 1 cs) then
-    (hex4_at start (drop 1 (drop 1 cs)) >>= λ l. if is_low l.0 then Ok (pair_of high l.0, l.1) else Err (refusal_at BadEscape place.LongHand start))
-    else Err (refusal_at BadEscape place.LongHand start))
-    else Err (refusal_at BadEscape place.LongHand start)
+    (hex4_at start (drop 1 (drop 1 cs)) >>= λ l. if is_low l.0 then Ok (pair_of high l.0, l.1) else Err (refusal_at BadEscape context.LongHand start))
+    else Err (refusal_at BadEscape context.LongHand start))
+    else Err (refusal_at BadEscape context.LongHand start)
 
--- behind `\u`
+-- after `\u`
 unfoldable pub unicode_at : ℕ → List ℕ → Parsed ℕ
 unicode_at start cs = hex4_at start cs >>= λ h.
-    if is_high h.0 then low_at start h.0 h.1 else (if is_low h.0 then Err (refusal_at BadEscape place.LongHand start) else Ok (h.0, h.1))
+    if is_high h.0 then low_at start h.0 h.1 else (if is_low h.0 then Err (refusal_at BadEscape context.LongHand start) else Ok (h.0, h.1))
 
 -- ---- pieces
 
--- what stands behind a backslash for one character, but for `u`
+-- what stands after a backslash for one character, but for `u`
 abbrev pub is_letter_escape : ℕ → ℕ → Bool
 is_letter_escape quote c = c == 98 || c == 102 || c == 110 || c == 114 || c == 116 || c == 47 || c == 92 || c == quote
 
@@ -66,7 +66,7 @@ letter_value c = if c == 98 then 8 else (if c == 102 then 12 else (if c == 110 t
 unfoldable pub escape_at : ℕ → List ℕ → Parsed ℕ
 escape_at quote cs =
     if begins (λ c. c == 117) (drop 1 cs) then unicode_at (byte_count cs) (drop 1 (drop 1 cs))
-    else (if begins (is_letter_escape quote) (drop 1 cs) then Ok (letter_value (head (drop 1 cs)), drop 1 (drop 1 cs)) else Err (refusal BadEscape place.LongHand cs))
+    else (if begins (is_letter_escape quote) (drop 1 cs) then Ok (letter_value (head (drop 1 cs)), drop 1 (drop 1 cs)) else Err (refusal BadEscape context.LongHand cs))
 
 abbrev pub is_control : ℕ → Bool
 is_control c = nat_le c 31
@@ -74,14 +74,14 @@ is_control c = nat_le c 31
 unfoldable pub piece_at : ℕ → List ℕ → Parsed ℕ
 piece_at quote cs =
     if begins (λ c. c == 92) cs then escape_at quote cs
-    else (if begins is_control cs then Err (refusal ControlCharacter place.LongHand cs) else Ok (head cs, drop 1 cs))
+    else (if begins is_control cs then Err (refusal ControlCharacter context.LongHand cs) else Ok (head cs, drop 1 cs))
 
 -- ---- the string
 
 abbrev pub is_inside : ℕ → ℕ → Bool
 is_inside quote c = not (c == quote)
 
--- behind the opening quote
+-- after the opening quote
 unfoldable pub string_at : ℕ → List ℕ → Parsed (List ℕ)
 string_at quote cs = many (begins (is_inside quote)) (piece_at quote) cs >>= λ s.
-    if begins (λ c. c == quote) s.1 then Ok (encode_utf8_all s.0, drop 1 s.1) else Err (refusal ExpectedEndingQuote place.LongHand s.1)
+    if begins (λ c. c == quote) s.1 then Ok (encode_utf8_all s.0, drop 1 s.1) else Err (refusal ExpectedEndingQuote context.LongHand s.1)

@@ -1,7 +1,7 @@
 //! Why a text is no path.
 
 ghost use Rattle.std.specs.Prelude.{◌≡◌};
-ghost use Rattle.serde_json_path_parser.specs.declared.error.Stop.TheVariants.{Memory};
+ghost use Rattle.serde_json_path_parser.specs.declared.error.Failure.TheVariants.{Memory};
 
 use std::alloc::{AllocError, AllocFailed};
 use std::fmt;
@@ -15,7 +15,7 @@ pub enum ParseErrorKind {
     ExpectedRoot,
     /// The first character of a member name does not fit.
     BadMemberName,
-    /// Neither `,` nor `]` stands behind a selector.
+    /// A selector is followed by neither `,` nor `]`.
     ExpectedClosingBracket,
     /// A string has no ending quote.
     ExpectedEndingQuote,
@@ -35,7 +35,7 @@ pub enum ParseErrorKind {
     ExpectedExpression,
     /// No `)` stands where one should.
     ExpectedClosingParenthesis,
-    /// No comparison operator stands behind a literal.
+    /// A literal has no comparison operator after it.
     ExpectedComparisonOperator,
     /// A query that may give several nodes is compared.
     NonSingularQuery,
@@ -49,7 +49,7 @@ pub enum ParseErrorKind {
     WrongReturnType,
     /// Filters, parentheses and calls are nested more than 128 deep.
     NestedTooDeep,
-    /// Text stands behind the path.
+    /// There is text after the path.
     TextAfterPath,
     /// Memory was refused.
     NoMemory,
@@ -57,65 +57,65 @@ pub enum ParseErrorKind {
     FractionTooLong,
 }
 
-/// Where in a path a refusal stands, for the beginning of its message.
+/// Where in a path a refusal stands. Its message begins with that.
 #[derive(Clone, Copy, Debug, PartialEq, Eq)]
-pub(crate) enum Place {
-    /// Outside brackets, and not behind a single `.`.
+pub(crate) enum Context {
+    /// Outside brackets, and not after a single `.`.
     Path,
-    /// Behind a single `.` outside brackets.
+    /// After a single `.` outside brackets.
     DotMemberName,
     /// Inside an open bracket.
     LongHand,
 }
 
-impl Place {
+impl Context {
     ghost use Rattle.serde_json_path_parser.specs.Errors.{message};
     ghost use Rattle.serde_json_path_parser.specs.declared.error.ParseErrorKind.TheVariants.{BadMemberName};
 
-    /// The message of a bad member name there.
+    /// The message of a bad member name in this context.
     fn bad_member_name(self) -> &'static str
         ensures { result.now ≡ message BadMemberName self }
     {
         match self {
-            Place::Path => "must start with a letter, '_' or a non-ASCII character",
-            Place::DotMemberName => {
+            Context::Path => "must start with a letter, '_' or a non-ASCII character",
+            Context::DotMemberName => {
                 "in dot member name, must start with a letter, '_' or a non-ASCII character"
             }
-            Place::LongHand => {
+            Context::LongHand => {
                 "in long-hand segment, must start with a letter, '_' or a non-ASCII character"
             }
         }
     }
 }
 
-/// A refusal, and how many bytes of the text stand from its place on.
+/// A refusal, and how many bytes of the text are left where it stands.
 #[derive(Clone, Copy)]
 pub(crate) struct Refusal {
     pub(crate) kind: ParseErrorKind,
-    pub(crate) place: Place,
+    pub(crate) context: Context,
     pub(crate) left: usize,
 }
 
-/// Why the parser stops.
+/// Why a parse fails.
 #[derive(Drop)]
-pub(crate) enum Stop {
+pub(crate) enum Failure {
     Memory,
     Refused(Refusal),
 }
 
-impl From<AllocError> for Stop {
+impl From<AllocError> for Failure {
     ghost from_gives = { λ _ e. e ≡ Memory };
 
-    fn from(_e: AllocError) -> Stop {
-        Stop::Memory
+    fn from(_e: AllocError) -> Failure {
+        Failure::Memory
     }
 }
 
-impl<T: Drop> From<AllocFailed<T>> for Stop {
+impl<T: Drop> From<AllocFailed<T>> for Failure {
     ghost from_gives = { λ _ e. e ≡ Memory };
 
-    fn from(_e: AllocFailed<T>) -> Stop {
-        Stop::Memory
+    fn from(_e: AllocFailed<T>) -> Failure {
+        Failure::Memory
     }
 }
 
@@ -123,7 +123,7 @@ impl<T: Drop> From<AllocFailed<T>> for Stop {
 #[derive(Clone, Copy, Debug, PartialEq, Eq)]
 pub struct ParseError {
     pub(crate) kind: ParseErrorKind,
-    pub(crate) place: Place,
+    pub(crate) context: Context,
     pub(crate) position: usize,
 }
 
@@ -137,8 +137,8 @@ impl ParseError {
         self.kind
     }
 
-    /// Where it is wrong: the number of a byte of the text, from 1, or one more than its length for its end. It stands
-    /// at the start of a character; it is 1 for `NoMemory`.
+    /// Where it is wrong: the number of a byte of the text, counted from 1, or one more than the text's length for
+    /// its end. It is at the start of a character; it is 1 for `NoMemory`.
     pub fn position(&self) -> usize
         ensures { result ≡ position_of self.now }
     {
@@ -152,7 +152,7 @@ impl ParseError {
         use ParseErrorKind as Kind;
         match self.kind {
             Kind::ExpectedRoot => "expected '$'",
-            Kind::BadMemberName => self.place.bad_member_name(),
+            Kind::BadMemberName => self.context.bad_member_name(),
             Kind::ExpectedClosingBracket => "in long-hand segment, expected closing ']'",
             Kind::ExpectedEndingQuote => "in long-hand segment, expected an ending quote",
             Kind::BadEscape => "in long-hand segment, bad escape",
@@ -196,38 +196,38 @@ impl fmt::Display for ParseError {
     }
 }
 
-impl Stop {
+impl Failure {
     ghost use Rattle.std.specs.Prelude.{◌<◌};
-    ghost use Rattle.serde_json_path_parser.specs.declared.error.Place.TheVariants.{LongHand};
+    ghost use Rattle.serde_json_path_parser.specs.declared.error.Context.TheVariants.{LongHand};
     ghost use Rattle.serde_json_path_parser.specs.Giving.{IsWithin, error_of};
     ghost use Rattle.serde_json_path_parser.specs.Looking.{greatest_usize};
 
-    /// A refusal inside a bracket, at a place from which so many bytes of the text are left.
-    pub(crate) fn in_long_hand(kind: ParseErrorKind, left: usize) -> Stop
-        ensures { result ≡ Stop.Refused (record { kind = kind; place = LongHand; left = left }) }
+    /// A refusal inside a bracket, where `left` bytes of the text are left.
+    pub(crate) fn in_long_hand(kind: ParseErrorKind, left: usize) -> Failure
+        ensures { result ≡ Failure.Refused (record { kind = kind; context = LongHand; left = left }) }
     {
-        Stop::Refused(Refusal {
+        Failure::Refused(Refusal {
             kind,
-            place: Place::LongHand,
+            context: Context::LongHand,
             left,
         })
     }
 
-    /// What is told of the stop in a text of so many bytes.
+    /// Turns the failure into the public error, for a text of `total` bytes.
     pub(crate) fn in_text(self, total: usize) -> ParseError
         requires short { total < greatest_usize }
         requires within { IsWithin self total }
         ensures { result ≡ error_of self total }
     {
         match self {
-            Stop::Memory => ParseError {
+            Failure::Memory => ParseError {
                 kind: ParseErrorKind::NoMemory,
-                place: Place::Path,
+                context: Context::Path,
                 position: 1,
             },
-            Stop::Refused(refusal) => ParseError {
+            Failure::Refused(refusal) => ParseError {
                 kind: refusal.kind,
-                place: refusal.place,
+                context: refusal.context,
                 position: total - refusal.left + 1,
             },
         }

@@ -1,8 +1,8 @@
-//! Reading a path, from left to right and each byte once.
+//! Parsing a path, from left to right, with each byte looked at once.
 
 mod call;
 mod decode;
-mod level;
+mod filter_parser;
 mod logical;
 mod name_part;
 mod operand;
@@ -19,22 +19,22 @@ ghost use Rattle.serde_json_path_functions.specs.Functions.{Fits};
 ghost use Rattle.serde_json_path_parser.specs.Errors.{kind_of, position_of, is_told_at_next};
 ghost use Rattle.serde_json_path_parser.specs.Parse.{IsParseOf, checked_view};
 
-use crate::error::{ParseError, Stop};
-use crate::parser::query::query;
+use crate::error::{Failure, ParseError};
+use crate::parser::query::parse_path;
 use crate::parser::reader::Reader;
 use crate::source::PathSource;
 use serde_json_path_functions::Functions;
 use serde_json_path_syntax::Checked;
 use std::alloc::Global;
 
-/// Reads the path that a source tells, from left to right by its `byte` alone; the first refusal that is met is told.
+/// Parses the path of a source, from left to right by its `byte` alone, and reports the first refusal.
 ///
-/// Its filters call functions of this set alone, which the query fits. A text of n bytes is looked at 32(n + 1) times at most,
-/// and where a root, a name, a selector or a closing bracket is missing, nothing beyond the byte behind the one that does not
-/// fit was looked at.
+/// Filters may call the functions of this set alone, and the set fits the query. A text of n bytes is looked at 32(n
+/// + 1) times at most. Where a root, a name, a selector or a closing bracket is missing, at most one byte is looked
+/// at after the one that does not fit.
 ///
-/// An error tells why and where ([`ParseError`]): unless it is `NoMemory`, the text is no path. A text of `usize::MAX` bytes,
-/// whose end would have no position, is refused as `NoMemory` before any look.
+/// An error says why and where ([`ParseError`]). Unless it is `NoMemory`, the text is no path. A text of `usize::MAX`
+/// bytes, whose end would have no position, is refused as `NoMemory` before any look.
 ///
 /// ```text
 /// let mut source = TextSource::new("$..book[-1:].title");
@@ -48,20 +48,20 @@ pub fn parse<S: PathSource, F: Functions>(
     ensures parse { IsParseOf checked_view (F.set functions.now).signature (S.told source.old).text result }
     // The signatures that the query keeps are those of the set.
     ensures fits { IfOk result (λ checked. Fits (F.set functions.now) (signatures_of checked)) }
-    // The source still tells its text.
+    // The source still has its text.
     ensures same_text { (S.told source.new).text ≡ (S.told source.old).text }
-    // However the parse ends, there are at most 32(n + 1) looks more at n bytes.
+    // However the parse ends, there are at most 32(n + 1) further looks at n bytes.
     ensures looks { (S.told source.new).looks ≤ (S.told source.old).looks + 32 * (length (S.told source.old).text + 1) }
-    // Of four kinds nothing beyond the byte behind the position was looked at.
+    // For four kinds nothing beyond the byte after the position was looked at.
     ensures farthest { IfErr result (λ e. is_told_at_next (kind_of e) ≡ true
         → (S.told source.new).farthest ≤ max (S.told source.old).farthest (position_of e + 1)) }
     ensures unseen { length (S.told source.old).text ≡ 2 ^ 64 - 1 → S.told source.new ≡ S.told source.old }
 {
     if source.len() == usize::MAX {
-        return Err(Stop::Memory.in_text(0));
+        return Err(Failure::Memory.in_text(0));
     }
     let mut reader = Reader::new(source);
-    let read = query(alloc, &mut reader, functions);
+    let read = parse_path(alloc, &mut reader, functions);
     let total = reader.len();
     reader.close();
     match read {

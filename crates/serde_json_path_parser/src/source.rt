@@ -26,8 +26,8 @@ pub trait PathSource {
 #[derive(Drop)]
 pub struct TextSource<'t> {
     text: &'t str,
-    /// How many bytes from the first one on were looked at in order. A parse looks at its text so, and this one number then
-    /// tells both the looks and the farthest byte.
+    /// How many bytes from the first one on were looked at in order. A parse looks at its text in this way, and then
+    /// this number is both the looks and the farthest byte.
     in_order: usize,
     other_looks: u128,
     other_farthest: usize,

@@ -14,8 +14,8 @@ ghost use Rattle.serde_json_path_parser.specs.Operands as operands;
 ghost use Rattle.serde_json_path_parser.specs.Reading.{left};
 ghost use Rattle.serde_json_path_syntax.specs.Tree as tree;
 
-use crate::error::{ParseErrorKind, Place, Stop};
-use crate::parser::level::Level;
+use crate::error::{Context, Failure, ParseErrorKind};
+use crate::parser::filter_parser::FilterParser;
 use crate::parser::operand::Operand;
 use crate::parser::reader::Reader;
 use crate::source::PathSource;
@@ -23,7 +23,7 @@ use serde_json_path_functions::{FunctionArgType, Functions};
 use serde_json_path_syntax::{Literal, Part, SyntaxBuilder};
 use std::alloc::AllocError;
 
-/// What stands between the parentheses of a call, before its type is judged.
+/// An argument of a call, before its type is checked.
 #[derive(Drop)]
 pub(crate) enum Argument {
     /// A text, a number, `true`, `false` or `null`.
@@ -85,138 +85,141 @@ impl Argument {
     }
 }
 
-/// The end of a call, at its `)`, where these types are left of its parameters; start is how many bytes are left where the
-/// call begins. The blanks behind it are taken too.
+/// Parses the end of a call, at its `)`, and the blanks after it. `kinds` are the types of the parameters that have
+/// no argument yet. `start` bytes are left where the call begins.
 #[tactic(auto, unfolding(crate::specs::Filters::ended))]
-fn end<S: PathSource>(
+fn parse_end<S: PathSource>(
     reader: &mut Reader<'_, S>,
     start: usize,
     kinds: &[FunctionArgType],
-) -> Result<(), Stop>
+) -> Result<(), Failure>
     requires { 0 < length (left reader.old) }
     ensures moves { MovesTo result reader.old reader.new }
     ensures gives { GivesEnd result reader.new (ended start (map kind_view kinds.now) (drop 1 (left reader.old))) }
 {
     if !kinds.is_empty() {
-        return Err(Stop::in_long_hand(ParseErrorKind::WrongNumberOfArguments, start));
+        return Err(Failure::in_long_hand(ParseErrorKind::WrongNumberOfArguments, start));
     }
     reader.take_char();
     reader.skip_blanks();
     Ok(())
 }
 
-impl<F: Functions> Level<'_, F> {
-    /// A call of the function of that name, at its `(`, and the type of its result; start is how many bytes are left where
-    /// the call begins. The blanks behind it are taken too.
-    #[cycle(level)]
-    pub(crate) fn call<S: PathSource>(
+impl<F: Functions> FilterParser<'_, F> {
+    /// Parses a call of the function of that name, from its `(` on, and the blanks after it: the call, and the type
+    /// of its result. `start` bytes are left where the call begins.
+    #[cycle(filters)]
+    pub(crate) fn parse_call<S: PathSource>(
         &self,
         builder: &mut SyntaxBuilder,
         reader: &mut Reader<'_, S>,
         start: usize,
         name: String,
-    ) -> Result<(Part, FunctionArgType), Stop>
+    ) -> Result<(Part, FunctionArgType), Failure>
         requires { 0 < length (left reader.old) }
         ensures moves { MovesTo result reader.old reader.new }
         ensures keeps { KeepsParts builder.old builder.new }
         ensures gives { MakesCall (signatures F.set self.now) builder.new result reader.new ((deeper F.set self.now).call_of start (string_bytes name) (drop 1 (left reader.old))) }
     {
         if self.depth == 0 {
-            return Err(Stop::in_long_hand(ParseErrorKind::NestedTooDeep, start));
+            return Err(Failure::in_long_hand(ParseErrorKind::NestedTooDeep, start));
         }
         let Some(signature) = self.functions.signature(name.as_str()) else {
-            return Err(Stop::in_long_hand(ParseErrorKind::UndefinedFunction, start));
+            return Err(Failure::in_long_hand(ParseErrorKind::UndefinedFunction, start));
         };
         reader.take_char();
         reader.skip_blanks();
         let mut arguments = Vec::new(self.alloc);
         self.deeper()
-            .parameters(builder, reader, start, signature.params(), &mut arguments)?;
+            .parse_parameters(builder, reader, start, signature.params(), &mut arguments)?;
         let call = builder.call(name, arguments)?;
         Ok((call, signature.result()))
     }
 
-    /// The arguments of a call for parameters of these types, behind `(` and blanks, and its end; they are put behind
-    /// others.
-    #[cycle(level)]
-    fn parameters<S: PathSource>(
+    /// Parses the arguments of a call for parameters of these types, after `(` and blanks, and its end. The arguments
+    /// are appended to `parts`.
+    #[cycle(filters)]
+    fn parse_parameters<S: PathSource>(
         &self,
         builder: &mut SyntaxBuilder,
         reader: &mut Reader<'_, S>,
         start: usize,
         kinds: &[FunctionArgType],
         parts: &mut Vec<Part>,
-    ) -> Result<(), Stop>
+    ) -> Result<(), Failure>
         ensures moves { MovesTo result reader.old reader.new }
         ensures keeps { KeepsParts builder.old builder.new }
         ensures gives { MakesArguments builder.new parts.old.items parts.new.items result reader.new (at_level F.set self.now filters.parameters_at start (map kind_view kinds.now) (left reader.old)) }
     {
         if reader.sees(b')') {
-            return end(reader, start, kinds);
+            return parse_end(reader, start, kinds);
         }
-        self.arguments(builder, reader, start, kinds, parts)
+        self.parse_arguments(builder, reader, start, kinds, parts)
     }
 
-    /// One argument or more.
+    /// Parses one argument or more, and the end of the call.
     // A call has at most eight parameters, and a ninth argument is refused, so that the recursion stays flat.
-    #[cycle(level)]
-    fn arguments<S: PathSource>(
+    #[cycle(filters)]
+    fn parse_arguments<S: PathSource>(
         &self,
         builder: &mut SyntaxBuilder,
         reader: &mut Reader<'_, S>,
         start: usize,
         kinds: &[FunctionArgType],
         parts: &mut Vec<Part>,
-    ) -> Result<(), Stop>
+    ) -> Result<(), Failure>
         ensures moves { MovesTo result reader.old reader.new }
         ensures keeps { KeepsParts builder.old builder.new }
         ensures gives { (fuel : ℕ) → length (left reader.old) ≤ fuel
             → MakesArguments builder.new parts.old.items parts.new.items result reader.new (at_level F.set self.now filters.arguments_at fuel start (map kind_view kinds.now) (left reader.old)) }
     {
         let begin = reader.bytes_left();
-        let argument = self.argument(builder, reader)?;
+        let argument = self.parse_argument(builder, reader)?;
         if !reader.sees_end_of_argument() {
-            return Err(reader.refuse(ParseErrorKind::ExpectedClosingParenthesis, Place::LongHand));
+            return Err(reader.refuse(
+                ParseErrorKind::ExpectedClosingParenthesis,
+                Context::LongHand,
+            ));
         }
         let Some((kind, more)) = kinds.split_first() else {
-            return Err(Stop::in_long_hand(ParseErrorKind::WrongNumberOfArguments, start));
+            return Err(Failure::in_long_hand(ParseErrorKind::WrongNumberOfArguments, start));
         };
         if !argument.fits(builder, *kind) {
-            return Err(Stop::in_long_hand(ParseErrorKind::WrongArgumentType, begin));
+            return Err(Failure::in_long_hand(ParseErrorKind::WrongArgumentType, begin));
         }
         let part = argument.part(builder)?;
         parts.push(part)?;
         if reader.sees(b',') {
             reader.take_char();
             reader.skip_blanks();
-            return self.arguments(builder, reader, start, more, parts);
+            return self.parse_arguments(builder, reader, start, more, parts);
         }
-        end(reader, start, more)
+        parse_end(reader, start, more)
     }
 
-    /// An argument and the blanks behind it.
-    #[cycle(level)]
-    fn argument<S: PathSource>(
+    /// Parses an argument and the blanks after it.
+    #[cycle(filters)]
+    fn parse_argument<S: PathSource>(
         &self,
         builder: &mut SyntaxBuilder,
         reader: &mut Reader<'_, S>,
-    ) -> Result<Argument, Stop>
+    ) -> Result<Argument, Failure>
         ensures moves { MovesTo result reader.old reader.new }
         ensures keeps { KeepsParts builder.old builder.new }
         ensures gives { MakesArgument (signatures F.set self.now) builder.new result reader.new (at_level F.set self.now argument_at (left reader.old)) }
     {
         if reader.sees(b'(') || reader.sees(b'!') {
-            let expression = self.logical_or(builder, reader)?;
+            let expression = self.parse_logical_or(builder, reader)?;
             return Ok(Argument::Logical(expression));
         }
         let start = reader.bytes_left();
-        let operand = self.operand(builder, reader)?;
+        let operand = self.parse_operand(builder, reader)?;
         if reader.sees_end_of_argument() {
             return Ok(Argument::alone(operand));
         }
-        let basic = self.basic_from(builder, reader, start, operand)?;
-        let and = self.and_from(builder, reader, basic)?;
-        let expression = self.or_from(builder, reader, and)?;
+        let basic = self.parse_basic_from(builder, reader, start, operand)?;
+        let and = self.parse_and_from(builder, reader, basic)?;
+        let expression = self.parse_or_from(builder, reader, and)?;
         Ok(Argument::Logical(expression))
     }
 }

@@ -13,60 +13,60 @@ ghost use Rattle.serde_json_path_parser.specs.Operands as operands;
 ghost use Rattle.serde_json_path_parser.specs.Parsed.{byte_count, past_blanks};
 ghost use Rattle.serde_json_path_parser.specs.Reading.{left};
 
-use crate::error::{ParseErrorKind, Place, Stop};
-use crate::parser::level::Level;
+use crate::error::{Context, Failure, ParseErrorKind};
+use crate::parser::filter_parser::FilterParser;
 use crate::parser::operand::Operand;
-use crate::parser::primitive::operator::operator;
+use crate::parser::primitive::operator::parse_operator;
 use crate::parser::reader::Reader;
 use crate::source::PathSource;
 use serde_json_path_functions::{FunctionArgType, Functions};
 use serde_json_path_syntax::{Part, Parts, QueryKind, SyntaxBuilder};
 
-impl<F: Functions> Level<'_, F> {
-    /// The expression of a filter or a parenthesis, at its `?` or `(`.
-    #[cycle(level)]
-    pub(crate) fn inside<S: PathSource>(
+impl<F: Functions> FilterParser<'_, F> {
+    /// Parses the expression of a filter or a parenthesis, from its `?` or `(` on.
+    #[cycle(filters)]
+    pub(crate) fn parse_inside<S: PathSource>(
         &self,
         builder: &mut SyntaxBuilder,
         reader: &mut Reader<'_, S>,
-    ) -> Result<Part, Stop>
+    ) -> Result<Part, Failure>
         requires { 0 < length (left reader.old) }
         ensures moves { MovesTo result reader.old reader.new }
         ensures keeps { KeepsParts builder.old builder.new }
         ensures gives { Makes an_or builder.new result reader.new ((deeper F.set self.now).expression (byte_count (left reader.old)) (past_blanks (drop 1 (left reader.old)))) }
     {
         if self.depth == 0 {
-            return Err(reader.refuse(ParseErrorKind::NestedTooDeep, Place::LongHand));
+            return Err(reader.refuse(ParseErrorKind::NestedTooDeep, Context::LongHand));
         }
         reader.take_char();
         reader.skip_blanks();
-        self.deeper().logical_or(builder, reader)
+        self.deeper().parse_logical_or(builder, reader)
     }
 
-    /// Parts with `||` between them, and the blanks behind the last one.
-    #[cycle(level)]
+    /// Parses operands of `||`, and the blanks after the last one.
+    #[cycle(filters)]
     #[tactic(auto, unfolding(crate::specs::Filters::or_at))]
-    pub(crate) fn logical_or<S: PathSource>(
+    pub(crate) fn parse_logical_or<S: PathSource>(
         &self,
         builder: &mut SyntaxBuilder,
         reader: &mut Reader<'_, S>,
-    ) -> Result<Part, Stop>
+    ) -> Result<Part, Failure>
         ensures moves { MovesTo result reader.old reader.new }
         ensures keeps { KeepsParts builder.old builder.new }
         ensures gives { Makes an_or builder.new result reader.new (at_level F.set self.now or_at (left reader.old)) }
     {
-        let first = self.logical_and(builder, reader)?;
-        self.or_from(builder, reader, first)
+        let first = self.parse_logical_and(builder, reader)?;
+        self.parse_or_from(builder, reader, first)
     }
 
-    /// What goes on with `||` behind a first part.
-    #[cycle(level)]
-    pub(crate) fn or_from<S: PathSource>(
+    /// Parses the further operands of `||` after the first.
+    #[cycle(filters)]
+    pub(crate) fn parse_or_from<S: PathSource>(
         &self,
         builder: &mut SyntaxBuilder,
         reader: &mut Reader<'_, S>,
         first: Part,
-    ) -> Result<Part, Stop>
+    ) -> Result<Part, Failure>
         requires { (a : tree.LogicalAnd) × IsPart builder.old first (an_and a) }
         ensures moves { MovesTo result reader.old reader.new }
         ensures keeps { KeepsParts builder.old builder.new }
@@ -77,37 +77,36 @@ impl<F: Functions> Level<'_, F> {
         'parts: while reader.sees_both(b'|', b'|') {
             reader.take_two();
             reader.skip_blanks();
-            let part = self.logical_and(builder, reader)?;
+            let part = self.parse_logical_and(builder, reader)?;
             parts.push(part)?;
         }
-        let expression = builder.logical_or(parts)?;
-        Ok(expression)
+        Ok(builder.logical_or(parts)?)
     }
 
-    /// Parts with `&&` between them, and the blanks behind the last one.
-    #[cycle(level)]
+    /// Parses operands of `&&`, and the blanks after the last one.
+    #[cycle(filters)]
     #[tactic(auto, unfolding(crate::specs::Filters::and_at))]
-    fn logical_and<S: PathSource>(
+    fn parse_logical_and<S: PathSource>(
         &self,
         builder: &mut SyntaxBuilder,
         reader: &mut Reader<'_, S>,
-    ) -> Result<Part, Stop>
+    ) -> Result<Part, Failure>
         ensures moves { MovesTo result reader.old reader.new }
         ensures keeps { KeepsParts builder.old builder.new }
         ensures gives { Makes an_and builder.new result reader.new (at_level F.set self.now and_at (left reader.old)) }
     {
-        let first = self.basic(builder, reader)?;
-        self.and_from(builder, reader, first)
+        let first = self.parse_basic(builder, reader)?;
+        self.parse_and_from(builder, reader, first)
     }
 
-    /// What goes on with `&&` behind a first part.
-    #[cycle(level)]
-    pub(crate) fn and_from<S: PathSource>(
+    /// Parses the further operands of `&&` after the first.
+    #[cycle(filters)]
+    pub(crate) fn parse_and_from<S: PathSource>(
         &self,
         builder: &mut SyntaxBuilder,
         reader: &mut Reader<'_, S>,
         first: Part,
-    ) -> Result<Part, Stop>
+    ) -> Result<Part, Failure>
         requires { (b : tree.Basic) × IsPart builder.old first (a_basic b) }
         ensures moves { MovesTo result reader.old reader.new }
         ensures keeps { KeepsParts builder.old builder.new }
@@ -119,144 +118,140 @@ impl<F: Functions> Level<'_, F> {
         'parts: while reader.sees_both(b'&', b'&') {
             reader.take_two();
             reader.skip_blanks();
-            let part = self.basic(builder, reader)?;
+            let part = self.parse_basic(builder, reader)?;
             parts.push(part)?;
         }
-        let expression = builder.logical_and(parts)?;
-        Ok(expression)
+        Ok(builder.logical_and(parts)?)
     }
 
-    /// A parenthesis, a negation, a comparison or a test, and the blanks behind it.
-    #[cycle(level)]
+    /// Parses an operand of `&&` (a parenthesis, a negation, a comparison or a test), and the blanks after it.
+    #[cycle(filters)]
     #[tactic(auto, unfolding(crate::specs::Filters::basic_at))]
-    fn basic<S: PathSource>(
+    fn parse_basic<S: PathSource>(
         &self,
         builder: &mut SyntaxBuilder,
         reader: &mut Reader<'_, S>,
-    ) -> Result<Part, Stop>
+    ) -> Result<Part, Failure>
         ensures moves { MovesTo result reader.old reader.new }
         ensures keeps { KeepsParts builder.old builder.new }
         ensures gives { Makes a_basic builder.new result reader.new (at_level F.set self.now basic_at (left reader.old)) }
     {
         if reader.sees(b'(') {
-            let inner = self.paren(builder, reader)?;
-            let paren = builder.paren(inner)?;
-            return Ok(paren);
+            let inner = self.parse_paren(builder, reader)?;
+            return Ok(builder.paren(inner)?);
         }
         if reader.sees(b'!') {
             reader.take_char();
             reader.skip_blanks();
-            return self.negated(builder, reader);
+            return self.parse_negated(builder, reader);
         }
         let start = reader.bytes_left();
-        let operand = self.operand(builder, reader)?;
-        self.basic_from(builder, reader, start, operand)
+        let operand = self.parse_operand(builder, reader)?;
+        self.parse_basic_from(builder, reader, start, operand)
     }
 
-    /// A comparison or a test behind its first operand; start is how many bytes are left where that begins.
-    #[cycle(level)]
-    pub(crate) fn basic_from<S: PathSource>(
+    /// Parses a comparison or a test after its first operand. `start` bytes are left where that operand begins.
+    #[cycle(filters)]
+    pub(crate) fn parse_basic_from<S: PathSource>(
         &self,
         builder: &mut SyntaxBuilder,
         reader: &mut Reader<'_, S>,
         start: usize,
         operand: Operand,
-    ) -> Result<Part, Stop>
+    ) -> Result<Part, Failure>
         requires { (x : operands.Operand) × IsOperandOf (signatures F.set self.now) builder.old operand x }
         ensures moves { MovesTo result reader.old reader.new }
         ensures keeps { KeepsParts builder.old builder.new }
         ensures made { IfOk result (λ part. (b : tree.Basic) × IsPart builder.new part (a_basic b)) }
         ensures gives { (x : operands.Operand) → IsOperandOf (signatures F.set self.now) builder.old operand x → Makes a_basic builder.new result reader.new (at_level F.set self.now filters.basic_from start x (left reader.old)) }
     {
-        let Some(operator) = operator(reader) else {
-            return self.test(builder, reader, start, operand);
+        let Some(operator) = parse_operator(reader) else {
+            return self.as_test(builder, reader, start, operand);
         };
         reader.skip_blanks();
-        let left = self.comparable(builder, reader, start, operand)?;
+        let left = self.as_comparable(builder, reader, start, operand)?;
         let begin = reader.bytes_left();
-        let operand = self.operand(builder, reader)?;
-        let right = self.comparable(builder, reader, begin, operand)?;
-        let relation = builder.relation(left, operator, right)?;
-        Ok(relation)
+        let operand = self.parse_operand(builder, reader)?;
+        let right = self.as_comparable(builder, reader, begin, operand)?;
+        Ok(builder.relation(left, operator, right)?)
     }
 
-    /// A parenthesis, at its `(`, and the blanks behind it.
-    #[cycle(level)]
+    /// Parses a parenthesis, from its `(` on, and the blanks after it.
+    #[cycle(filters)]
     #[tactic(auto, unfolding(crate::specs::Filters::paren_at))]
-    fn paren<S: PathSource>(
+    fn parse_paren<S: PathSource>(
         &self,
         builder: &mut SyntaxBuilder,
         reader: &mut Reader<'_, S>,
-    ) -> Result<Part, Stop>
+    ) -> Result<Part, Failure>
         requires { begins (λ c. c == 40) (left reader.old) ≡ true }
         ensures moves { MovesTo result reader.old reader.new }
         ensures keeps { KeepsParts builder.old builder.new }
         ensures gives { Makes an_or builder.new result reader.new (at_level F.set self.now paren_at (left reader.old)) }
     {
-        let inner = self.inside(builder, reader)?;
+        let inner = self.parse_inside(builder, reader)?;
         if !reader.sees(b')') {
-            return Err(reader.refuse(ParseErrorKind::ExpectedClosingParenthesis, Place::LongHand));
+            return Err(reader.refuse(
+                ParseErrorKind::ExpectedClosingParenthesis,
+                Context::LongHand,
+            ));
         }
         reader.take_char();
         reader.skip_blanks();
         Ok(inner)
     }
 
-    /// What stands behind `!` and blanks, and the blanks behind it.
-    // Within `basic` its nodes would widen the frame of each parenthesis.
+    /// Parses what is negated, after `!` and blanks, and the blanks after it.
+    // Within `parse_basic` its nodes would widen the frame of each parenthesis.
     #[inline(never)]
-    #[cycle(level)]
+    #[cycle(filters)]
     #[tactic(auto, unfolding(crate::specs::Filters::negated_at))]
-    fn negated<S: PathSource>(
+    fn parse_negated<S: PathSource>(
         &self,
         builder: &mut SyntaxBuilder,
         reader: &mut Reader<'_, S>,
-    ) -> Result<Part, Stop>
+    ) -> Result<Part, Failure>
         ensures moves { MovesTo result reader.old reader.new }
         ensures keeps { KeepsParts builder.old builder.new }
         ensures gives { Makes a_basic builder.new result reader.new (at_level F.set self.now negated_at (left reader.old)) }
     {
         if reader.sees(b'(') {
-            let inner = self.paren(builder, reader)?;
-            let paren = builder.not_paren(inner)?;
-            return Ok(paren);
+            let inner = self.parse_paren(builder, reader)?;
+            return Ok(builder.not_paren(inner)?);
         }
         if reader.sees(b'@') {
-            let query = self.query(builder, reader, QueryKind::Current)?;
-            let test = builder.not_exist(query)?;
-            return Ok(test);
+            let query = self.parse_query(builder, reader, QueryKind::Current)?;
+            return Ok(builder.not_exist(query)?);
         }
         if reader.sees(b'$') {
-            let query = self.query(builder, reader, QueryKind::Root)?;
-            let test = builder.not_exist(query)?;
-            return Ok(test);
+            let query = self.parse_query(builder, reader, QueryKind::Root)?;
+            return Ok(builder.not_exist(query)?);
         }
         if reader.sees_small_letter() {
-            return self.negated_call(builder, reader);
+            return self.parse_negated_call(builder, reader);
         }
-        Err(reader.refuse(ParseErrorKind::ExpectedExpression, Place::LongHand))
+        Err(reader.refuse(ParseErrorKind::ExpectedExpression, Context::LongHand))
     }
 
-    /// A call behind `!`, and the blanks behind it.
-    #[cycle(level)]
-    fn negated_call<S: PathSource>(
+    /// Parses a call that is negated, and the blanks after it.
+    #[cycle(filters)]
+    fn parse_negated_call<S: PathSource>(
         &self,
         builder: &mut SyntaxBuilder,
         reader: &mut Reader<'_, S>,
-    ) -> Result<Part, Stop>
+    ) -> Result<Part, Failure>
         requires { begins is_small_letter (left reader.old) ≡ true }
         ensures moves { MovesTo result reader.old reader.new }
         ensures keeps { KeepsParts builder.old builder.new }
         ensures gives { Makes a_basic builder.new result reader.new (at_level F.set self.now filters.negated_name_at (left reader.old)) }
     {
         let start = reader.bytes_left();
-        let Operand::Call(call, result) = self.named(builder, reader)? else {
-            return Err(Stop::in_long_hand(ParseErrorKind::ExpectedExpression, start));
+        let Operand::Call(call, result) = self.parse_named(builder, reader)? else {
+            return Err(Failure::in_long_hand(ParseErrorKind::ExpectedExpression, start));
         };
         if result == FunctionArgType::Value {
-            return Err(Stop::in_long_hand(ParseErrorKind::WrongReturnType, start));
+            return Err(Failure::in_long_hand(ParseErrorKind::WrongReturnType, start));
         }
-        let test = builder.not_test(call)?;
-        Ok(test)
+        Ok(builder.not_test(call)?)
     }
 }

@@ -12,7 +12,7 @@ use crate::source::PathSource;
 use std::alloc::AllocError;
 
 /// Whether a byte is a digit or `_`.
-// Out of line, so that a letter is told by one test.
+// Out of line, so that a letter is found by one test.
 #[inline(never)]
 fn is_digit_or_underscore(b: u8) -> bool
     ensures { result ≡ (is_digit b || b == 95) }
@@ -27,8 +27,8 @@ fn is_ascii_name_char(b: u8) -> bool
     b.is_ascii_alphabetic() || is_digit_or_underscore(b)
 }
 
-/// Gathers the ASCII characters of a member name that stand at an index, behind the first one, which is there already: some
-/// or all of those before an end. Gives where they end, and the byte there.
+/// Gathers ASCII characters of a member name from an index on: some or all of those before an end. The first one was
+/// gathered already. Returns where they end, and the byte there.
 // Out of line, so that its loop has registers of its own.
 #[inline(never)]
 fn gather<S: PathSource>(
@@ -60,7 +60,7 @@ fn gather<S: PathSource>(
     (at, next)
 }
 
-/// Puts ASCII characters behind a text.
+/// Appends ASCII characters to a text.
 fn push_ascii(text: &mut String, bytes: &[u8]) -> Result<(), AllocError>
     requires { IsAscii bytes.now }
     ensures { string_bytes text.new ≡ (if is_ok result then string_bytes text.old ++ bytes.now else string_bytes text.old) }
@@ -68,8 +68,8 @@ fn push_ascii(text: &mut String, bytes: &[u8]) -> Result<(), AllocError>
     text.push_str(str::from_utf8(bytes).unwrap())
 }
 
-/// Takes one or more ASCII characters of a member name that stand at an index, beginning with this one, and puts them
-/// behind a text: where they end, and the byte there.
+/// Takes one or more ASCII characters of a member name from an index on, beginning with this one, and appends them to
+/// a text. Returns where they end, and the byte there.
 // Out of line, so that no other function has a place for the gathered characters.
 #[inline(never)]
 pub(crate) fn push_name_part<S: PathSource>(

@@ -12,10 +12,10 @@ ghost use Rattle.serde_json_path_parser.specs.Lexical.{begins, is_small_letter, 
 ghost use Rattle.serde_json_path_parser.specs.Operands as operands;
 ghost use Rattle.serde_json_path_parser.specs.Reading.{left};
 
-use crate::error::{ParseErrorKind, Place, Stop};
-use crate::parser::level::Level;
-use crate::parser::primitive::number::number;
-use crate::parser::primitive::string::string;
+use crate::error::{Context, Failure, ParseErrorKind};
+use crate::parser::filter_parser::FilterParser;
+use crate::parser::primitive::number::parse_number;
+use crate::parser::primitive::string::parse_string;
 use crate::parser::primitive::word::read_word;
 use crate::parser::reader::Reader;
 use crate::source::PathSource;
@@ -34,51 +34,50 @@ pub(crate) enum Operand {
     Call(Part, FunctionArgType),
 }
 
-/// A string as an operand, at its quote, and the blanks behind it.
+/// Parses a string as an operand, from its quote on, and the blanks after it.
 #[tactic(auto, unfolding(crate::specs::Filters::text_at))]
-fn text<S: PathSource>(
+fn parse_text<S: PathSource>(
     alloc: Global,
     reader: &mut Reader<'_, S>,
     quote: u8,
-) -> Result<Operand, Stop>
+) -> Result<Operand, Failure>
     requires quote { IsQuote quote }
     requires begins { begins (λ c. c == quote) (left reader.old) ≡ true }
     ensures moves { MovesTo result reader.old reader.new }
     ensures gives { (signature : List ℕ → Option Signature) (builder : SyntaxBuilder) → MakesOperand signature builder result reader.new (text_at quote (left reader.old)) }
 {
     reader.take_char();
-    let text = string(alloc, reader, quote)?;
+    let text = parse_string(alloc, reader, quote)?;
     reader.skip_blanks();
     Ok(Operand::Literal(Literal::String(text)))
 }
 
-impl<F: Functions> Level<'_, F> {
-    /// A query in a filter, at its `@` or `$`, and the blanks behind it.
-    #[cycle(level)]
-    pub(crate) fn query<S: PathSource>(
+impl<F: Functions> FilterParser<'_, F> {
+    /// Parses a query in a filter, from its `@` or `$` on, and the blanks after it.
+    #[cycle(filters)]
+    pub(crate) fn parse_query<S: PathSource>(
         &self,
         builder: &mut SyntaxBuilder,
         reader: &mut Reader<'_, S>,
         kind: QueryKind,
-    ) -> Result<Part, Stop>
+    ) -> Result<Part, Failure>
         requires { 0 < length (left reader.old) }
         ensures moves { MovesTo result reader.old reader.new }
         ensures keeps { KeepsParts builder.old builder.new }
         ensures gives { Makes a_query builder.new result reader.new (at_level F.set self.now query_at (kind_view kind) (left reader.old)) }
     {
         reader.take_char();
-        let (parts, _rest) = self.segments(builder, reader, Place::LongHand)?;
-        let query = builder.query(kind, parts)?;
-        Ok(query)
+        let (parts, _rest) = self.parse_segments(builder, reader, Context::LongHand)?;
+        Ok(builder.query(kind, parts)?)
     }
 
-    /// What begins with a small letter: a call, `true`, `false` or `null`, and the blanks behind it.
-    #[cycle(level)]
-    pub(crate) fn named<S: PathSource>(
+    /// Parses what begins with a small letter (a call, `true`, `false` or `null`), and the blanks after it.
+    #[cycle(filters)]
+    pub(crate) fn parse_named<S: PathSource>(
         &self,
         builder: &mut SyntaxBuilder,
         reader: &mut Reader<'_, S>,
-    ) -> Result<Operand, Stop>
+    ) -> Result<Operand, Failure>
         requires { begins is_small_letter (left reader.old) ≡ true }
         ensures moves { MovesTo result reader.old reader.new }
         ensures keeps { KeepsParts builder.old builder.new }
@@ -88,7 +87,7 @@ impl<F: Functions> Level<'_, F> {
         let word = read_word(self.alloc, reader)?;
         if reader.sees(b'(') {
             let name = word.into_name(self.alloc)?;
-            let (call, result) = self.call(builder, reader, start, name)?;
+            let (call, result) = self.parse_call(builder, reader, start, name)?;
             return Ok(Operand::Call(call, result));
         }
         match word.literal() {
@@ -96,89 +95,84 @@ impl<F: Functions> Level<'_, F> {
                 reader.skip_blanks();
                 Ok(Operand::Literal(literal))
             }
-            None => Err(Stop::in_long_hand(ParseErrorKind::ExpectedExpression, start)),
+            None => Err(Failure::in_long_hand(ParseErrorKind::ExpectedExpression, start)),
         }
     }
 
-    /// An operand and the blanks behind it.
-    #[cycle(level)]
+    /// Parses an operand and the blanks after it.
+    #[cycle(filters)]
     #[tactic(auto, unfolding(crate::specs::Filters::operand_at))]
-    pub(crate) fn operand<S: PathSource>(
+    pub(crate) fn parse_operand<S: PathSource>(
         &self,
         builder: &mut SyntaxBuilder,
         reader: &mut Reader<'_, S>,
-    ) -> Result<Operand, Stop>
+    ) -> Result<Operand, Failure>
         ensures moves { MovesTo result reader.old reader.new }
         ensures keeps { KeepsParts builder.old builder.new }
         ensures gives { MakesOperand (signatures F.set self.now) builder.new result reader.new (at_level F.set self.now operand_at (left reader.old)) }
     {
         if reader.sees(b'\'') {
-            return text(self.alloc, reader, b'\'');
+            return parse_text(self.alloc, reader, b'\'');
         }
         if reader.sees(b'"') {
-            return text(self.alloc, reader, b'"');
+            return parse_text(self.alloc, reader, b'"');
         }
         if reader.sees(b'@') {
-            let query = self.query(builder, reader, QueryKind::Current)?;
+            let query = self.parse_query(builder, reader, QueryKind::Current)?;
             return Ok(Operand::Query(query));
         }
         if reader.sees(b'$') {
-            let query = self.query(builder, reader, QueryKind::Root)?;
+            let query = self.parse_query(builder, reader, QueryKind::Root)?;
             return Ok(Operand::Query(query));
         }
         if reader.sees_small_letter() {
-            return self.named(builder, reader);
+            return self.parse_named(builder, reader);
         }
-        let number = number(reader)?;
+        let number = parse_number(reader)?;
         reader.skip_blanks();
         Ok(Operand::Literal(Literal::Number(number)))
     }
 
-    /// An operand as a side of a comparison; start is how many bytes are left where it begins.
+    /// The operand as a side of a comparison. `start` bytes are left where it begins.
     #[tactic(auto, unfolding(crate::specs::Filters::comparable_at))]
-    pub(crate) fn comparable<S: PathSource>(
+    pub(crate) fn as_comparable<S: PathSource>(
         &self,
         builder: &mut SyntaxBuilder,
         reader: &Reader<'_, S>,
         start: usize,
         operand: Operand,
-    ) -> Result<Part, Stop>
+    ) -> Result<Part, Failure>
         requires { (x : operands.Operand) × IsOperandOf (signatures F.set self.now) builder.old operand x }
         ensures near { IsNear result reader.now }
         ensures keeps { KeepsParts builder.old builder.new }
         ensures gives { (x : operands.Operand) → IsOperandOf (signatures F.set self.now) builder.old operand x → Makes a_comparable builder.new result reader.now (at_level F.set self.now comparable_at start x (left reader.now)) }
     {
         match operand {
-            Operand::Literal(literal) => {
-                let side = builder.literal(literal)?;
-                Ok(side)
-            }
+            Operand::Literal(literal) => { Ok(builder.literal(literal)?) }
             Operand::Query(query) => {
                 if !builder.is_singular(query) {
-                    return Err(Stop::in_long_hand(ParseErrorKind::NonSingularQuery, start));
+                    return Err(Failure::in_long_hand(ParseErrorKind::NonSingularQuery, start));
                 }
-                let side = builder.singular(query)?;
-                Ok(side)
+                Ok(builder.singular(query)?)
             }
             Operand::Call(call, result) => {
                 if result != FunctionArgType::Value {
-                    return Err(Stop::in_long_hand(ParseErrorKind::WrongReturnType, start));
+                    return Err(Failure::in_long_hand(ParseErrorKind::WrongReturnType, start));
                 }
-                let side = builder.called(call)?;
-                Ok(side)
+                Ok(builder.called(call)?)
             }
         }
     }
 
-    /// An operand as a test; start is how many bytes are left where it begins.
+    /// The operand as a test. `start` bytes are left where it begins.
     #[tactic(auto, unfolding(crate::specs::Filters::test_at))]
-    pub(crate) fn test<S: PathSource>(
+    pub(crate) fn as_test<S: PathSource>(
         &self,
         builder: &mut SyntaxBuilder,
         reader: &Reader<'_, S>,
         start: usize,
         operand: Operand,
-    ) -> Result<Part, Stop>
+    ) -> Result<Part, Failure>
         requires { (x : operands.Operand) × IsOperandOf (signatures F.set self.now) builder.old operand x }
         ensures near { IsNear result reader.now }
         ensures keeps { KeepsParts builder.old builder.new }
@@ -187,18 +181,14 @@ impl<F: Functions> Level<'_, F> {
         match operand {
             Operand::Literal(_literal) => Err(reader.refuse(
                 ParseErrorKind::ExpectedComparisonOperator,
-                Place::LongHand,
+                Context::LongHand,
             )),
-            Operand::Query(query) => {
-                let test = builder.exist(query)?;
-                Ok(test)
-            }
+            Operand::Query(query) => { Ok(builder.exist(query)?) }
             Operand::Call(call, result) => {
                 if result == FunctionArgType::Value {
-                    return Err(Stop::in_long_hand(ParseErrorKind::WrongReturnType, start));
+                    return Err(Failure::in_long_hand(ParseErrorKind::WrongReturnType, start));
                 }
-                let test = builder.test(call)?;
-                Ok(test)
+                Ok(builder.test(call)?)
             }
         }
     }

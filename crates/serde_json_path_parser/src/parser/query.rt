@@ -6,41 +6,42 @@ ghost use Rattle.serde_json_path_parser.specs.Giving.{GivesQuery, MovesTo, IsRef
 ghost use Rattle.serde_json_path_parser.specs.Parsing.{opens_behind_root};
 ghost use Rattle.serde_json_path_parser.specs.Reading.{left};
 
-use crate::error::{ParseErrorKind, Place, Refusal, Stop};
-use crate::parser::level::Level;
+use crate::error::{Context, Failure, ParseErrorKind, Refusal};
+use crate::parser::filter_parser::FilterParser;
 use crate::parser::reader::Reader;
 use crate::source::PathSource;
 use serde_json_path_functions::Functions;
 use serde_json_path_syntax::{Checked, QueryKind, SyntaxBuilder};
 use std::alloc::Global;
 
-/// `$` and segments up to the end of the text (RFC 9535, section 2.1.1), whose filters call functions of this set.
+/// Parses the whole path: `$` and segments up to the end of the text (RFC 9535, section 2.1.1). Filters may call the
+/// functions of this set.
 ///
 /// Memory is asked for only once a segment has begun.
 #[tactic(auto, unfolding(crate::specs::Filters::path_at))]
-pub(crate) fn query<S: PathSource, F: Functions>(
+pub(crate) fn parse_path<S: PathSource, F: Functions>(
     alloc: Global,
     reader: &mut Reader<'_, S>,
     functions: &F,
-) -> Result<Checked, Stop>
+) -> Result<Checked, Failure>
     ensures moves { MovesTo result reader.old reader.new }
     ensures gives { GivesQuery (F.set functions.now) result (path_at (F.set functions.now).signature (left reader.old)) }
     ensures spares { IfErr result (λ stop. opens_behind_root (left reader.old) ≡ false → IsRefused stop) }
 {
     if !reader.sees(b'$') {
-        return Err(reader.refuse(ParseErrorKind::ExpectedRoot, Place::Path));
+        return Err(reader.refuse(ParseErrorKind::ExpectedRoot, Context::Path));
     }
     reader.take_char();
     let mut builder = SyntaxBuilder::new(alloc);
-    let (parts, rest) = Level::outermost(alloc, functions).segments(
+    let (parts, rest) = FilterParser::outermost(alloc, functions).parse_segments(
         &mut builder,
         reader,
-        Place::Path,
+        Context::Path,
     )?;
     if rest != 0 {
-        return Err(Stop::Refused(Refusal {
+        return Err(Failure::Refused(Refusal {
             kind: ParseErrorKind::TextAfterPath,
-            place: Place::Path,
+            context: Context::Path,
             left: rest,
         }));
     }

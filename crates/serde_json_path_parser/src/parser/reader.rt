@@ -10,19 +10,19 @@ ghost use Rattle.serde_json_path_parser.specs.Parsed.{front, behind};
 ghost use Rattle.serde_json_path_parser.specs.Numbers.{is_exponent};
 ghost use Rattle.serde_json_path_parser.specs.Strings.{is_hexadecimal, is_letter_escape, is_control, is_inside};
 
-use crate::error::{ParseErrorKind, Place, Refusal, Stop};
+use crate::error::{Context, Failure, ParseErrorKind, Refusal};
 use crate::parser::decode::{byte_at, byte_below, wide_character_at};
 use crate::parser::name_part::push_name_part;
 use crate::source::PathSource;
 use std::alloc::AllocError;
 
-/// A text with one byte of look-ahead, and with a second one where the next may be the first of two that are asked for. A
-/// character is decoded only when it is taken, so that no byte beyond these is looked at.
+/// A text with one byte of look-ahead, and a second one where the next byte may begin a sign of two. A character is
+/// decoded only when it is taken, so that no further byte is looked at.
 pub(crate) struct Reader<'s, S: PathSource> {
     pub(crate) source: &'s mut S,
     index: usize,
     next: Option<u8>,
-    /// The byte behind the next one, where it was looked at.
+    /// The byte after the next one, where it was looked at.
     second: Option<Option<u8>>,
     /// Below this index a byte may be looked at: the text's length, or 0 while `second` is known.
     limit: usize,
@@ -150,26 +150,26 @@ impl<'s, S: PathSource> Reader<'s, S> {
     }
 
     /// A refusal at the next character.
-    pub(crate) fn refuse(&self, kind: ParseErrorKind, place: Place) -> Stop
-        ensures value { result ≡ Stop.Refused (refusal kind place (left self.now)) }
+    pub(crate) fn refuse(&self, kind: ParseErrorKind, context: Context) -> Failure
+        ensures value { result ≡ Failure.Refused (refusal kind context (left self.now)) }
         ensures near { StopsNear result self.now }
     {
-        Stop::Refused(Refusal {
+        Failure::Refused(Refusal {
             kind,
-            place,
+            context,
             left: self.bytes_left(),
         })
     }
 
     /// A refusal at the ASCII character that was just taken.
-    pub(crate) fn refuse_before(&self, kind: ParseErrorKind, place: Place) -> Stop
+    pub(crate) fn refuse_before(&self, kind: ParseErrorKind, context: Context) -> Failure
         requires { self.now.second ≡ None }
-        ensures value { (c : ℕ) → c < 128 → result ≡ Stop.Refused (refusal kind place (c ∷ left self.now)) }
+        ensures value { (c : ℕ) → c < 128 → result ≡ Failure.Refused (refusal kind context (c ∷ left self.now)) }
         ensures near { StopsNear result self.now }
     {
-        Stop::Refused(Refusal {
+        Failure::Refused(Refusal {
             kind,
-            place,
+            context,
             left: self.bytes_left() + 1,
         })
     }
@@ -185,7 +185,7 @@ impl<'s, S: PathSource> Reader<'s, S> {
         }
     }
 
-    /// The byte behind the next one, which is ASCII. It is looked at once.
+    /// The byte after the next one, which is ASCII. It is looked at once.
     fn peek_second(&mut self) -> Option<u8>
         requires { is_ascii self.old.next ≡ true }
         ensures moves { Moves self.old self.new }
@@ -201,8 +201,8 @@ impl<'s, S: PathSource> Reader<'s, S> {
         second
     }
 
-    /// Whether these two ASCII characters are next. The byte behind the next one is looked at, once, only where the first
-    /// fits.
+    /// Whether these two ASCII characters are next. The byte after the next one is looked at, once, only where the
+    /// first fits.
     pub(crate) fn sees_both(&mut self, first: u8, second: u8) -> bool
         requires first { first < 128 }
         requires second { second < 128 }
@@ -310,7 +310,7 @@ impl<'s, S: PathSource> Reader<'s, S> {
         self.sees_name_first() || self.sees_digit()
     }
 
-    /// Takes the characters of a member name that are next, and puts them behind a text.
+    /// Takes the characters of a member name that are next, and appends them to a text.
     pub(crate) fn take_name_chars(&mut self, text: &mut String) -> Result<(), AllocError>
         ensures moves { Moves self.old self.new }
         ensures text { IfOk result (λ u. string_bytes text.new ≡ string_bytes text.old ++ encode_utf8_all (front is_name_char (left self.old))) }
@@ -328,7 +328,7 @@ impl<'s, S: PathSource> Reader<'s, S> {
         pushed
     }
 
-    /// Takes one or more characters of a member name that are next, and puts them behind a text.
+    /// Takes one or more characters of a member name that are next, and appends them to a text.
     fn take_name_part(&mut self, text: &mut String) -> Result<(), AllocError>
         requires begun { begins is_name_char (left self.old) ≡ true }
         requires second { self.old.second ≡ None }
@@ -339,7 +339,7 @@ impl<'s, S: PathSource> Reader<'s, S> {
         ensures rest { behind is_name_char (left self.new) ≡ behind is_name_char (left self.old) }
     {
         let first = self.next.unwrap();
-        // Many at a time only behind a longer text, since a short name would gain nothing.
+        // Many at a time only after a longer text, since a short name would gain nothing.
         if first >= 0x80 || text.len() < 32 {
             return text.push(self.take_char());
         }
@@ -359,8 +359,7 @@ impl<'s, S: PathSource> Reader<'s, S> {
         }
     }
 
-    /// Whether a character is next that stands behind a backslash for one character, in a string of these quotes; not
-    /// for `u`.
+    /// Whether a character is next that a backslash may escape in a string of these quotes, other than `u`.
     pub(crate) fn sees_letter_escape(&self, quote: u8) -> bool
         requires { quote < 128 }
         ensures { result ≡ begins (is_letter_escape quote) (left self.now) }
@@ -422,8 +421,9 @@ impl<'s, S: PathSource> Reader<'s, S> {
     }
 }
 
-/// Takes the characters of a member name that stand at an index, where this byte is next: the index and the next byte
-/// behind them. The reader is a local one, so that long names are read without a step through memory for each byte.
+/// Takes the characters of a member name from an index on, where this byte is next. Returns the index after them, and
+/// the byte there. The reader is a local one, so that long names are read without a step through memory for each
+/// byte.
 fn name_chars<S: PathSource>(
     source: &mut S,
     index: usize,

@@ -12,9 +12,9 @@ ghost use Rattle.serde_json_path_parser.specs.Parsed.{Parsed};
 ghost use Rattle.serde_json_path_parser.specs.Parsing.{bracket_at, behind_dot, dotted_at, descendant_at, of_kind, dot_at, segment_at, segments_at, opens, opens_next};
 ghost use Rattle.serde_json_path_parser.specs.Reading.{left};
 
-use crate::error::{ParseErrorKind, Place, Stop};
-use crate::parser::level::Level;
-use crate::parser::primitive::name::name;
+use crate::error::{Context, Failure, ParseErrorKind};
+use crate::parser::filter_parser::FilterParser;
+use crate::parser::primitive::name::parse_name;
 use crate::parser::reader::Reader;
 use crate::source::PathSource;
 use serde_json_path_functions::Functions;
@@ -24,173 +24,170 @@ use std::alloc::Global;
 /// How a segment begins.
 #[derive(Drop)]
 pub(crate) enum SegmentStart {
-    /// With a dot or two, and it ended behind a member name or `*`.
+    /// With one dot or two, and a member name or `*`: the whole segment.
     Dotted(Part),
-    /// With a bracket, behind which the selectors stand.
+    /// With a bracket, after which the selectors follow.
     Bracket(SegmentKind),
 }
 
-/// What stands behind the dots of a segment: a member name or `*`.
+/// Parses what follows the dots of a segment: a member name or `*`.
 #[tactic(auto, unfolding(crate::specs::Parsing::dotted_at))]
-fn dotted<S: PathSource>(
+fn parse_dotted<S: PathSource>(
     alloc: Global,
     builder: &mut SyntaxBuilder,
     reader: &mut Reader<'_, S>,
     kind: SegmentKind,
-    place: Place,
-) -> Result<Part, Stop>
+    context: Context,
+) -> Result<Part, Failure>
     ensures moves { MovesTo result reader.old reader.new }
     ensures keeps { KeepsParts builder.old builder.new }
-    ensures gives { Makes segment_piece builder.new result reader.new (of_kind (segment_kind_view kind) (dotted_at place (left reader.old))) }
+    ensures gives { Makes segment_piece builder.new result reader.new (of_kind (segment_kind_view kind) (dotted_at context (left reader.old))) }
 {
     if reader.sees(b'*') {
         reader.take_char();
-        let wildcard = builder.dot_wildcard(kind)?;
-        return Ok(wildcard);
+        return Ok(builder.dot_wildcard(kind)?);
     }
-    let text = name(alloc, reader, place)?;
-    let segment = builder.dot_name(kind, text)?;
-    Ok(segment)
+    let text = parse_name(alloc, reader, context)?;
+    Ok(builder.dot_name(kind, text)?)
 }
 
-/// What stands behind `..` (RFC 9535, section 2.5.2).
+/// Parses what follows `..` (RFC 9535, section 2.5.2).
 #[tactic(auto, unfolding(crate::specs::Parsing::descendant_at))]
-fn descendant<S: PathSource>(
+fn parse_descendant<S: PathSource>(
     alloc: Global,
     builder: &mut SyntaxBuilder,
     reader: &mut Reader<'_, S>,
-    place: Place,
-) -> Result<SegmentStart, Stop>
+    context: Context,
+) -> Result<SegmentStart, Failure>
     ensures moves { MovesTo result reader.old reader.new }
     ensures keeps { KeepsParts builder.old builder.new }
-    ensures gives { (filter_at : List ℕ → Parsed Selector) → StartsSegment builder.new result reader.new (bracket_at filter_at) (of_kind tree.descendant (descendant_at filter_at place (left reader.old))) }
+    ensures gives { (filter_at : List ℕ → Parsed Selector) → StartsSegment builder.new result reader.new (bracket_at filter_at) (of_kind tree.descendant (descendant_at filter_at context (left reader.old))) }
 {
     if reader.sees(b'[') {
         reader.take_char();
         return Ok(SegmentStart::Bracket(SegmentKind::Descendant));
     }
-    let segment = dotted(alloc, builder, reader, SegmentKind::Descendant, place)?;
+    let segment = parse_dotted(alloc, builder, reader, SegmentKind::Descendant, context)?;
     Ok(SegmentStart::Dotted(segment))
 }
 
-/// Where a refusal of a member name behind one dot stands.
-fn behind_one_dot(place: Place) -> Place
-    ensures { result ≡ behind_dot place }
+/// The context of a member name after one dot.
+fn after_one_dot(context: Context) -> Context
+    ensures { result ≡ behind_dot context }
 {
-    match place {
-        Place::Path => Place::DotMemberName,
-        place => place,
+    match context {
+        Context::Path => Context::DotMemberName,
+        context => context,
     }
 }
 
-/// What stands behind a first `.`.
+/// Parses what follows a first `.`.
 #[tactic(auto, unfolding(crate::specs::Parsing::dot_at))]
-fn dot<S: PathSource>(
+fn parse_dot<S: PathSource>(
     alloc: Global,
     builder: &mut SyntaxBuilder,
     reader: &mut Reader<'_, S>,
-    place: Place,
-) -> Result<SegmentStart, Stop>
+    context: Context,
+) -> Result<SegmentStart, Failure>
     ensures moves { MovesTo result reader.old reader.new }
     ensures keeps { KeepsParts builder.old builder.new }
-    ensures gives { (filter_at : List ℕ → Parsed Selector) → StartsSegment builder.new result reader.new (bracket_at filter_at) (dot_at filter_at place (left reader.old)) }
+    ensures gives { (filter_at : List ℕ → Parsed Selector) → StartsSegment builder.new result reader.new (bracket_at filter_at) (dot_at filter_at context (left reader.old)) }
 {
     if reader.sees(b'.') {
         reader.take_char();
-        return descendant(alloc, builder, reader, place);
+        return parse_descendant(alloc, builder, reader, context);
     }
-    let segment = dotted(
+    let segment = parse_dotted(
         alloc,
         builder,
         reader,
         SegmentKind::Child,
-        behind_one_dot(place),
+        after_one_dot(context),
     )?;
     Ok(SegmentStart::Dotted(segment))
 }
 
-/// A segment up to the selectors of its bracket, at its `.` or `[` (RFC 9535, section 2.5).
+/// Parses a segment up to the selectors of its bracket, from its `.` or `[` on (RFC 9535, section 2.5).
 #[tactic(auto, unfolding(crate::specs::Parsing::segment_at))]
-fn segment_start<S: PathSource>(
+fn parse_segment_start<S: PathSource>(
     alloc: Global,
     builder: &mut SyntaxBuilder,
     reader: &mut Reader<'_, S>,
-    place: Place,
-) -> Result<SegmentStart, Stop>
+    context: Context,
+) -> Result<SegmentStart, Failure>
     requires { begins opens (left reader.old) ≡ true }
     ensures moves { MovesTo result reader.old reader.new }
     ensures keeps { KeepsParts builder.old builder.new }
-    ensures gives { (filter_at : List ℕ → Parsed Selector) → StartsSegment builder.new result reader.new (bracket_at filter_at) (segment_at filter_at place (left reader.old)) }
+    ensures gives { (filter_at : List ℕ → Parsed Selector) → StartsSegment builder.new result reader.new (bracket_at filter_at) (segment_at filter_at context (left reader.old)) }
 {
     if reader.sees(b'.') {
         reader.take_char();
-        return dot(alloc, builder, reader, place);
+        return parse_dot(alloc, builder, reader, context);
     }
     reader.take_char();
     Ok(SegmentStart::Bracket(SegmentKind::Child))
 }
 
-impl<F: Functions> Level<'_, F> {
-    /// What stands behind `[`: selectors and `]`.
-    #[cycle(level)]
+impl<F: Functions> FilterParser<'_, F> {
+    /// Parses what follows `[`: selectors and `]`.
+    #[cycle(filters)]
     #[tactic(auto, unfolding(crate::specs::Parsing::bracket_at))]
-    fn bracket<S: PathSource>(
+    fn parse_bracket<S: PathSource>(
         &self,
         builder: &mut SyntaxBuilder,
         reader: &mut Reader<'_, S>,
         kind: SegmentKind,
-    ) -> Result<Part, Stop>
+    ) -> Result<Part, Failure>
         ensures moves { MovesTo result reader.old reader.new }
         ensures keeps { KeepsParts builder.old builder.new }
         ensures gives { Makes segment_piece builder.new result reader.new (of_kind (segment_kind_view kind) (bracket_at (filter_at F.set self.now) (left reader.old))) }
     {
-        let selectors = self.selectors(builder, reader)?;
+        let selectors = self.parse_selectors(builder, reader)?;
         if !reader.sees(b']') {
-            return Err(reader.refuse(ParseErrorKind::ExpectedClosingBracket, Place::LongHand));
+            return Err(reader.refuse(ParseErrorKind::ExpectedClosingBracket, Context::LongHand));
         }
         reader.take_char();
-        let segment = builder.long_hand(kind, selectors)?;
-        Ok(segment)
+        Ok(builder.long_hand(kind, selectors)?)
     }
 
-    /// A segment (RFC 9535, section 2.5), at its `.` or `[`.
-    #[cycle(level)]
-    fn segment<S: PathSource>(
+    /// Parses a segment (RFC 9535, section 2.5), from its `.` or `[` on.
+    #[cycle(filters)]
+    fn parse_segment<S: PathSource>(
         &self,
         builder: &mut SyntaxBuilder,
         reader: &mut Reader<'_, S>,
-        place: Place,
-    ) -> Result<Part, Stop>
+        context: Context,
+    ) -> Result<Part, Failure>
         requires { begins opens (left reader.old) ≡ true }
         ensures moves { MovesTo result reader.old reader.new }
         ensures keeps { KeepsParts builder.old builder.new }
-        ensures gives { Makes segment_piece builder.new result reader.new (segment_at (filter_at F.set self.now) place (left reader.old)) }
+        ensures gives { Makes segment_piece builder.new result reader.new (segment_at (filter_at F.set self.now) context (left reader.old)) }
     {
-        match segment_start(self.alloc, builder, reader, place)? {
+        match parse_segment_start(self.alloc, builder, reader, context)? {
             SegmentStart::Dotted(segment) => Ok(segment),
-            SegmentStart::Bracket(kind) => self.bracket(builder, reader, kind),
+            SegmentStart::Bracket(kind) => self.parse_bracket(builder, reader, kind),
         }
     }
 
-    /// As many segments as there are, with blanks before each, and how many bytes are left behind the last one. The blanks
-    /// behind it are taken too.
-    #[cycle(level)]
-    pub(crate) fn segments<S: PathSource>(
+    /// Parses as many segments as there are, with blanks before each. Returns them, and how many bytes are left after
+    /// the last one. The blanks after it are taken too.
+    #[cycle(filters)]
+    pub(crate) fn parse_segments<S: PathSource>(
         &self,
         builder: &mut SyntaxBuilder,
         reader: &mut Reader<'_, S>,
-        place: Place,
-    ) -> Result<(Parts, usize), Stop>
+        context: Context,
+    ) -> Result<(Parts, usize), Failure>
         ensures moves { MovesTo result reader.old reader.new }
         ensures keeps { KeepsParts builder.old builder.new }
-        ensures gives { MakesSegments builder.new result reader.new (segments_at (filter_at F.set self.now) place (left reader.old)) }
+        ensures gives { MakesSegments builder.new result reader.new (segments_at (filter_at F.set self.now) context (left reader.old)) }
         ensures spares { IfErr result (λ stop. opens_next (left reader.old) ≡ false → IsRefused stop) }
     {
         let mut parts = Parts::new(self.alloc);
         let mut rest = reader.bytes_left();
         reader.skip_blanks();
         'segments: while reader.sees_segment() {
-            let part = self.segment(builder, reader, place)?;
+            let part = self.parse_segment(builder, reader, context)?;
             parts.push(part)?;
             rest = reader.bytes_left();
             reader.skip_blanks();

@@ -11,65 +11,63 @@ ghost use Rattle.serde_json_path_parser.specs.Lexical.{begins, IsQuote};
 ghost use Rattle.serde_json_path_parser.specs.Parsing.{position_at, quoted_at, selector_at, selectors_at};
 ghost use Rattle.serde_json_path_parser.specs.Reading.{left};
 
-use crate::error::Stop;
-use crate::parser::level::Level;
-use crate::parser::primitive::int::int;
-use crate::parser::primitive::string::string;
+use crate::error::Failure;
+use crate::parser::filter_parser::FilterParser;
+use crate::parser::primitive::int::parse_int;
+use crate::parser::primitive::string::parse_string;
 use crate::parser::reader::Reader;
-use crate::parser::slice::rest_of_slice;
+use crate::parser::slice::parse_rest_of_slice;
 use crate::source::PathSource;
 use serde_json_path_functions::Functions;
 use serde_json_path_syntax::{Part, Parts, SyntaxBuilder};
 use std::alloc::Global;
 
-/// An index, or a slice that begins with an integer, and the blanks behind it (RFC 9535, sections 2.3.3 and 2.3.4).
+/// Parses an index, or a slice that begins with an integer, and the blanks after it (RFC 9535, sections 2.3.3 and
+/// 2.3.4).
 #[tactic(auto, unfolding(crate::specs::Parsing::position_at))]
-fn position<S: PathSource>(
+fn parse_index_or_slice<S: PathSource>(
     builder: &mut SyntaxBuilder,
     reader: &mut Reader<'_, S>,
-) -> Result<Part, Stop>
+) -> Result<Part, Failure>
     ensures moves { MovesTo result reader.old reader.new }
     ensures keeps { KeepsParts builder.old builder.new }
     ensures gives { Makes a_selector builder.new result reader.new (position_at (left reader.old)) }
 {
-    let start = int(reader)?;
+    let start = parse_int(reader)?;
     reader.skip_blanks();
     if reader.sees(b':') {
         reader.take_char();
-        let slice = rest_of_slice(reader, Some(start))?;
-        let selector = builder.slice(slice)?;
-        return Ok(selector);
+        let slice = parse_rest_of_slice(reader, Some(start))?;
+        return Ok(builder.slice(slice)?);
     }
-    let selector = builder.index(start)?;
-    Ok(selector)
+    Ok(builder.index(start)?)
 }
 
-/// A name selector behind its opening quote, and the blanks behind it (RFC 9535, section 2.3.1).
+/// Parses a name selector after its opening quote, and the blanks after it (RFC 9535, section 2.3.1).
 #[tactic(auto, unfolding(crate::specs::Parsing::quoted_at))]
-fn quoted<S: PathSource>(
+fn parse_quoted<S: PathSource>(
     alloc: Global,
     builder: &mut SyntaxBuilder,
     reader: &mut Reader<'_, S>,
     quote: u8,
-) -> Result<Part, Stop>
+) -> Result<Part, Failure>
     requires { IsQuote quote }
     ensures moves { MovesTo result reader.old reader.new }
     ensures keeps { KeepsParts builder.old builder.new }
     ensures gives { Makes a_selector builder.new result reader.new (quoted_at quote (left reader.old)) }
 {
-    let text = string(alloc, reader, quote)?;
+    let text = parse_string(alloc, reader, quote)?;
     reader.skip_blanks();
-    let selector = builder.name(text)?;
-    Ok(selector)
+    Ok(builder.name(text)?)
 }
 
-/// A selector that is no filter, and the blanks behind it (RFC 9535, section 2.3).
+/// Parses a selector that is no filter, and the blanks after it (RFC 9535, section 2.3).
 #[tactic(auto, unfolding(crate::specs::Parsing::selector_at))]
-fn plain_selector<S: PathSource>(
+fn parse_plain_selector<S: PathSource>(
     alloc: Global,
     builder: &mut SyntaxBuilder,
     reader: &mut Reader<'_, S>,
-) -> Result<Part, Stop>
+) -> Result<Part, Failure>
     requires { begins (λ c. c == 63) (left reader.old) ≡ false }
     ensures moves { MovesTo result reader.old reader.new }
     ensures keeps { KeepsParts builder.old builder.new }
@@ -77,66 +75,64 @@ fn plain_selector<S: PathSource>(
 {
     if reader.sees(b'\'') {
         reader.take_char();
-        return quoted(alloc, builder, reader, b'\'');
+        return parse_quoted(alloc, builder, reader, b'\'');
     }
     if reader.sees(b'"') {
         reader.take_char();
-        return quoted(alloc, builder, reader, b'"');
+        return parse_quoted(alloc, builder, reader, b'"');
     }
     if reader.sees(b'*') {
         reader.take_char();
         reader.skip_blanks();
-        let wildcard = builder.wildcard()?;
-        return Ok(wildcard);
+        return Ok(builder.wildcard()?);
     }
     if reader.sees(b':') {
         reader.take_char();
-        let slice = rest_of_slice(reader, None)?;
-        let selector = builder.slice(slice)?;
-        return Ok(selector);
+        let slice = parse_rest_of_slice(reader, None)?;
+        return Ok(builder.slice(slice)?);
     }
-    position(builder, reader)
+    parse_index_or_slice(builder, reader)
 }
 
-impl<F: Functions> Level<'_, F> {
-    /// A selector and the blanks behind it (RFC 9535, section 2.3).
-    #[cycle(level)]
-    fn selector<S: PathSource>(
+impl<F: Functions> FilterParser<'_, F> {
+    /// Parses a selector and the blanks after it (RFC 9535, section 2.3).
+    #[cycle(filters)]
+    fn parse_selector<S: PathSource>(
         &self,
         builder: &mut SyntaxBuilder,
         reader: &mut Reader<'_, S>,
-    ) -> Result<Part, Stop>
+    ) -> Result<Part, Failure>
         ensures moves { MovesTo result reader.old reader.new }
         ensures keeps { KeepsParts builder.old builder.new }
         ensures gives { Makes a_selector builder.new result reader.new (selector_at (filter_at F.set self.now) (left reader.old)) }
     {
         if reader.sees(b'?') {
-            let test = self.inside(builder, reader)?;
-            let filter = builder.filter(test)?;
-            return Ok(filter);
+            let test = self.parse_inside(builder, reader)?;
+            return Ok(builder.filter(test)?);
         }
-        plain_selector(self.alloc, builder, reader)
+        parse_plain_selector(self.alloc, builder, reader)
     }
 
-    /// The selectors behind a bracket, with commas between them and blanks round them (RFC 9535, section 2.5.1).
-    #[cycle(level)]
-    pub(crate) fn selectors<S: PathSource>(
+    /// Parses the selectors after a bracket, with commas between them and blanks round them (RFC 9535, section
+    /// 2.5.1).
+    #[cycle(filters)]
+    pub(crate) fn parse_selectors<S: PathSource>(
         &self,
         builder: &mut SyntaxBuilder,
         reader: &mut Reader<'_, S>,
-    ) -> Result<Parts, Stop>
+    ) -> Result<Parts, Failure>
         ensures moves { MovesTo result reader.old reader.new }
         ensures keeps { KeepsParts builder.old builder.new }
         ensures gives { MakesSelectors builder.new result reader.new (selectors_at (filter_at F.set self.now) (left reader.old)) }
     {
         reader.skip_blanks();
-        let first = self.selector(builder, reader)?;
+        let first = self.parse_selector(builder, reader)?;
         let mut parts = Parts::new(self.alloc);
         parts.push(first)?;
         'selectors: while reader.sees(b',') {
             reader.take_char();
             reader.skip_blanks();
-            let part = self.selector(builder, reader)?;
+            let part = self.parse_selector(builder, reader)?;
             parts.push(part)?;
         }
         Ok(parts)

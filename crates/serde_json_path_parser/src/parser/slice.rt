@@ -7,15 +7,15 @@ ghost use Rattle.serde_json_path_parser.specs.Giving.{Gives, MovesTo};
 ghost use Rattle.serde_json_path_parser.specs.Parsing.{bound_at, step_at, slice_at};
 ghost use Rattle.serde_json_path_parser.specs.Reading.{left};
 
-use crate::error::Stop;
-use crate::parser::primitive::int::int;
+use crate::error::Failure;
+use crate::parser::primitive::int::parse_int;
 use crate::parser::reader::Reader;
 use crate::source::PathSource;
 use serde_json_path_syntax::Slice;
 
-/// A part of a slice and the blanks behind it, or nothing.
+/// Parses a bound of a slice and the blanks after it, or nothing.
 #[tactic(auto, unfolding(crate::specs::Parsing::bound_at))]
-fn bound<S: PathSource>(reader: &mut Reader<'_, S>) -> Result<Option<i64>, Stop>
+fn parse_bound<S: PathSource>(reader: &mut Reader<'_, S>) -> Result<Option<i64>, Failure>
     ensures moves { MovesTo result reader.old reader.new }
     ensures gives { Gives (λ i. i) result reader.new (bound_at (left reader.old)) }
     ensures range { IfOk result (λ i. IsOptionalInteger i) }
@@ -23,14 +23,14 @@ fn bound<S: PathSource>(reader: &mut Reader<'_, S>) -> Result<Option<i64>, Stop>
     if !reader.sees_int() {
         return Ok(None);
     }
-    let i = int(reader)?;
+    let i = parse_int(reader)?;
     reader.skip_blanks();
     Ok(Some(i))
 }
 
-/// A second colon and a step, or nothing.
+/// Parses a second colon and a step, or nothing.
 #[tactic(auto, unfolding(crate::specs::Parsing::step_at))]
-fn step<S: PathSource>(reader: &mut Reader<'_, S>) -> Result<Option<i64>, Stop>
+fn parse_step<S: PathSource>(reader: &mut Reader<'_, S>) -> Result<Option<i64>, Failure>
     ensures moves { MovesTo result reader.old reader.new }
     ensures gives { Gives (λ i. i) result reader.new (step_at (left reader.old)) }
     ensures range { IfOk result (λ i. IsOptionalInteger i) }
@@ -40,15 +40,15 @@ fn step<S: PathSource>(reader: &mut Reader<'_, S>) -> Result<Option<i64>, Stop>
     }
     reader.take_char();
     reader.skip_blanks();
-    bound(reader)
+    parse_bound(reader)
 }
 
-/// A slice (RFC 9535, section 2.3.4.1), behind its start and its first colon, and the blanks behind it.
+/// Parses a slice (RFC 9535, section 2.3.4.1) after its start and its first colon, and the blanks after it.
 #[tactic(auto, unfolding(crate::specs::Parsing::slice_at))]
-pub(crate) fn rest_of_slice<S: PathSource>(
+pub(crate) fn parse_rest_of_slice<S: PathSource>(
     reader: &mut Reader<'_, S>,
     start: Option<i64>,
-) -> Result<Slice, Stop>
+) -> Result<Slice, Failure>
     requires { IsOptionalInteger start }
     ensures moves { MovesTo result reader.old reader.new }
     ensures gives { Gives slice_view result reader.new (slice_at start (left reader.old)) }
@@ -57,7 +57,7 @@ pub(crate) fn rest_of_slice<S: PathSource>(
     ensures step { IfOk result (λ slice. IsOptionalInteger slice.step) }
 {
     reader.skip_blanks();
-    let end = bound(reader)?;
-    let step = step(reader)?;
+    let end = parse_bound(reader)?;
+    let step = parse_step(reader)?;
     Ok(Slice { start, end, step })
 }

@@ -15,7 +15,7 @@ pub in_text-requires-in-Err-clause-within : goal.in_text-requires-in-Err-clause-
 in_text-requires-in-Err-clause-within g c =
     let text = (g.S.PathSource.told c.args.source.now).text in
     let signature = (g.F.Functions.set c.args.functions.now).signature in
-    let total : c.len-total.result ≡ length text = c.len-total.ensures ∙ ap length (c.query-read.ensures.moves.moves.same_text ∙ c.new-reader.ensures.same_text) in
+    let total : c.len-total.result ≡ length text = c.len-total.ensures ∙ ap length (c.parse_path-read.ensures.moves.moves.same_text ∙ c.new-reader.ensures.same_text) in
     within signature text c.len.ensures.utf8 c.in-Err.stop c.len-total.result total
     (subst (λ cs. Fails c.in-Err.stop (path_at signature cs)) c.new-reader.ensures.left c.in-Err.ensures.gives)
 
@@ -32,7 +32,7 @@ returns-in-Err-clause-parse g c =
     let text = (g.S.PathSource.told c.args.source.now).text in
     let signature = (g.F.Functions.set c.args.functions.now).signature in
     let short : length text < 2 ^ 64 - 1 = omega arith in
-    let total : c.len-total.result ≡ length text = c.len-total.ensures ∙ ap length (c.query-read.ensures.moves.moves.same_text ∙ c.new-reader.ensures.same_text) in
+    let total : c.len-total.result ≡ length text = c.len-total.ensures ∙ ap length (c.parse_path-read.ensures.moves.moves.same_text ∙ c.new-reader.ensures.same_text) in
     rw c.in_text-in-Err.ensures
     (refused signature text c.len.ensures.utf8 short c.in-Err.stop c.len-total.result total
     (subst (λ cs. Fails c.in-Err.stop (path_at signature cs)) c.new-reader.ensures.left c.in-Err.ensures.gives)

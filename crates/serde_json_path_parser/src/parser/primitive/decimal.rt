@@ -8,8 +8,8 @@ ghost use Rattle.serde_json_path_parser.specs.Reading.{left, Moves};
 use crate::parser::reader::Reader;
 use crate::source::PathSource;
 
-/// The number that the digits which are next write, or `u128::MAX` where it is greater.
-pub(crate) fn decimal<S: PathSource>(reader: &mut Reader<'_, S>) -> u128
+/// Reads a run of digits, saturating at `u128::MAX`.
+pub(crate) fn parse_decimal<S: PathSource>(reader: &mut Reader<'_, S>) -> u128
     ensures moves { Moves reader.old reader.new }
     ensures value { result ≡ min (value_from 0 (front is_digit (left reader.old))) (2 ^ 128 - 1) }
     ensures rest { left reader.new ≡ behind is_digit (left reader.old) }

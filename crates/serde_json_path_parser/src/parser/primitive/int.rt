@@ -6,31 +6,32 @@ ghost use Rattle.serde_json_path_parser.specs.Giving.{Gives, MovesTo};
 ghost use Rattle.serde_json_path_parser.specs.Parsing.{digits_at, int_at};
 ghost use Rattle.serde_json_path_parser.specs.Reading.{left};
 
-use crate::error::{ParseErrorKind, Place, Stop};
-use crate::parser::primitive::decimal::decimal;
+use crate::error::{Context, Failure, ParseErrorKind};
+use crate::parser::primitive::decimal::parse_decimal;
 use crate::parser::reader::Reader;
 use crate::source::PathSource;
 
 /// The greatest integer: 2^53 - 1.
 const LARGEST: u128 = 9_007_199_254_740_991;
 
-/// The digits of an integer that has so many bytes from its start on. They are read whole before their range is judged.
+/// Parses the digits of an integer, at whose first character `start` bytes are left. They are read whole before their
+/// range is checked.
 #[tactic(auto, unfolding(crate::specs::Parsing::digits_at))]
-fn digits<S: PathSource>(reader: &mut Reader<'_, S>, start: usize) -> Result<u64, Stop>
+fn parse_digits<S: PathSource>(reader: &mut Reader<'_, S>, start: usize) -> Result<u64, Failure>
     ensures moves { MovesTo result reader.old reader.new }
     ensures gives { Gives (λ n. n) result reader.new (digits_at start (left reader.old)) }
     ensures range { IfOk result (λ n. n ≤ largest) }
 {
-    let n = decimal(reader);
+    let n = parse_decimal(reader);
     if n > LARGEST {
-        return Err(Stop::in_long_hand(ParseErrorKind::IntegerOutOfRange, start));
+        return Err(Failure::in_long_hand(ParseErrorKind::IntegerOutOfRange, start));
     }
     Ok(n as u64)
 }
 
-/// An integer of -(2^53 - 1) to 2^53 - 1 (RFC 9535, section 2.3.3.1): an index, or a part of a slice.
+/// Parses an integer of -(2^53 - 1) to 2^53 - 1 (RFC 9535, section 2.3.3.1): an index, or a part of a slice.
 #[tactic(auto, unfolding(crate::specs::Parsing::int_at))]
-pub(crate) fn int<S: PathSource>(reader: &mut Reader<'_, S>) -> Result<i64, Stop>
+pub(crate) fn parse_int<S: PathSource>(reader: &mut Reader<'_, S>) -> Result<i64, Failure>
     ensures moves { MovesTo result reader.old reader.new }
     ensures gives { Gives (λ i. i) result reader.new (int_at (left reader.old)) }
     ensures range { IfOk result (λ i. IsInteger i) }
@@ -39,9 +40,9 @@ pub(crate) fn int<S: PathSource>(reader: &mut Reader<'_, S>) -> Result<i64, Stop
     if reader.sees(b'-') {
         reader.take_char();
         if !reader.sees_first_digit() {
-            return Err(reader.refuse_before(ParseErrorKind::ExpectedSelector, Place::LongHand));
+            return Err(reader.refuse_before(ParseErrorKind::ExpectedSelector, Context::LongHand));
         }
-        let amount = digits(reader, start)?;
+        let amount = parse_digits(reader, start)?;
         return Ok(-(amount as i64));
     }
     if reader.sees(b'0') {
@@ -49,8 +50,8 @@ pub(crate) fn int<S: PathSource>(reader: &mut Reader<'_, S>) -> Result<i64, Stop
         return Ok(0);
     }
     if !reader.sees_first_digit() {
-        return Err(reader.refuse(ParseErrorKind::ExpectedSelector, Place::LongHand));
+        return Err(reader.refuse(ParseErrorKind::ExpectedSelector, Context::LongHand));
     }
-    let amount = digits(reader, start)?;
+    let amount = parse_digits(reader, start)?;
     Ok(amount as i64)
 }

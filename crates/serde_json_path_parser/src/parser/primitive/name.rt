@@ -5,23 +5,23 @@ ghost use Rattle.serde_json_path_parser.specs.Giving.{Gives, MovesTo};
 ghost use Rattle.serde_json_path_parser.specs.Parsing.{name_at};
 ghost use Rattle.serde_json_path_parser.specs.Reading.{left};
 
-use crate::error::{ParseErrorKind, Place, Stop};
+use crate::error::{Context, Failure, ParseErrorKind};
 use crate::parser::reader::Reader;
 use crate::source::PathSource;
 use std::alloc::Global;
 
-/// A member name (RFC 9535, section 2.5.1.1).
+/// Parses a member name (RFC 9535, section 2.5.1.1).
 #[tactic(auto, unfolding(crate::specs::Parsing::name_at))]
-pub(crate) fn name<S: PathSource>(
+pub(crate) fn parse_name<S: PathSource>(
     alloc: Global,
     reader: &mut Reader<'_, S>,
-    place: Place,
-) -> Result<String, Stop>
+    context: Context,
+) -> Result<String, Failure>
     ensures moves { MovesTo result reader.old reader.new }
-    ensures gives { Gives (λ text. string_bytes text) result reader.new (name_at place (left reader.old)) }
+    ensures gives { Gives (λ text. string_bytes text) result reader.new (name_at context (left reader.old)) }
 {
     if !reader.sees_name_first() {
-        return Err(reader.refuse(ParseErrorKind::BadMemberName, place));
+        return Err(reader.refuse(ParseErrorKind::BadMemberName, context));
     }
     let mut text = String::new(alloc);
     reader.take_name_chars(&mut text)?;

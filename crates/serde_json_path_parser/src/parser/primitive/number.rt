@@ -6,8 +6,8 @@ ghost use Rattle.serde_json_path_parser.specs.Giving.{Gives, MovesTo};
 ghost use Rattle.serde_json_path_parser.specs.Numbers.{whole_at, digits_behind_point_at, fraction_at, amount_at, number_at, capped};
 ghost use Rattle.serde_json_path_parser.specs.Reading.{left};
 
-use crate::error::{ParseErrorKind, Stop};
-use crate::parser::primitive::decimal::decimal;
+use crate::error::{Failure, ParseErrorKind};
+use crate::parser::primitive::decimal::parse_decimal;
 use crate::parser::reader::Reader;
 use crate::source::PathSource;
 use serde_json_path_syntax::NumberLiteral;
@@ -21,9 +21,9 @@ const FRACTION_DIGITS: usize = 9;
 /// More billionths than any literal has.
 const TOO_MANY: u128 = (1 << 127) - 1;
 
-/// The digits before a point.
+/// Parses the digits before a point.
 #[tactic(auto, unfolding(crate::specs::Numbers::whole_at))]
-fn whole<S: PathSource>(reader: &mut Reader<'_, S>, start: usize) -> Result<u128, Stop>
+fn parse_whole<S: PathSource>(reader: &mut Reader<'_, S>, start: usize) -> Result<u128, Failure>
     ensures moves { MovesTo result reader.old reader.new }
     ensures gives { Gives (λ n. n) result reader.new (capped (whole_at start (left reader.old))) }
 {
@@ -32,66 +32,68 @@ fn whole<S: PathSource>(reader: &mut Reader<'_, S>, start: usize) -> Result<u128
         return Ok(0);
     }
     if !reader.sees_first_digit() {
-        return Err(Stop::in_long_hand(ParseErrorKind::ExpectedExpression, start));
+        return Err(Failure::in_long_hand(ParseErrorKind::ExpectedExpression, start));
     }
-    Ok(decimal(reader))
+    Ok(parse_decimal(reader))
 }
 
-/// The billionths of the digits behind a point, which are read whole.
+/// Parses the digits after a point, which are read whole: their billionths.
 #[tactic(auto, unfolding(crate::specs::Numbers::digits_behind_point_at))]
-fn digits_behind_point<S: PathSource>(
+fn parse_fraction_digits<S: PathSource>(
     reader: &mut Reader<'_, S>,
     start: usize,
-) -> Result<u128, Stop>
+) -> Result<u128, Failure>
     ensures moves { MovesTo result reader.old reader.new }
     ensures gives { Gives (λ n. n) result reader.new (digits_behind_point_at start (left reader.old)) }
 {
     if !reader.sees_digit() {
-        return Err(Stop::in_long_hand(ParseErrorKind::ExponentOrEmptyFraction, start));
+        return Err(Failure::in_long_hand(ParseErrorKind::ExponentOrEmptyFraction, start));
     }
     let before = reader.bytes_left();
-    let value = decimal(reader);
+    let value = parse_decimal(reader);
     let count = before - reader.bytes_left();
     if reader.sees_exponent() {
-        return Err(Stop::in_long_hand(ParseErrorKind::ExponentOrEmptyFraction, start));
+        return Err(Failure::in_long_hand(ParseErrorKind::ExponentOrEmptyFraction, start));
     }
     if count > FRACTION_DIGITS {
-        return Err(Stop::in_long_hand(ParseErrorKind::FractionTooLong, start));
+        return Err(Failure::in_long_hand(ParseErrorKind::FractionTooLong, start));
     }
     Ok(value * 10_u128.pow((FRACTION_DIGITS - count) as u32))
 }
 
-/// The billionths of a fraction, or 0 where there is none.
+/// Parses a fraction: its billionths, or 0 where there is none.
 #[tactic(auto, unfolding(crate::specs::Numbers::fraction_at))]
-fn fraction<S: PathSource>(reader: &mut Reader<'_, S>, start: usize) -> Result<u128, Stop>
+fn parse_fraction<S: PathSource>(reader: &mut Reader<'_, S>, start: usize) -> Result<u128, Failure>
     ensures moves { MovesTo result reader.old reader.new }
     ensures gives { Gives (λ n. n) result reader.new (fraction_at start (left reader.old)) }
 {
     if reader.sees(b'.') {
         reader.take_char();
-        return digits_behind_point(reader, start);
+        return parse_fraction_digits(reader, start);
     }
     if reader.sees_exponent() {
-        return Err(Stop::in_long_hand(ParseErrorKind::ExponentOrEmptyFraction, start));
+        return Err(Failure::in_long_hand(ParseErrorKind::ExponentOrEmptyFraction, start));
     }
     Ok(0)
 }
 
-/// The billionths of a number without its sign, or `u128::MAX` where there are more.
+/// Parses a number without its sign: its billionths, or `u128::MAX` where there are more.
 #[tactic(auto, unfolding(crate::specs::Numbers::amount_at))]
-fn amount<S: PathSource>(reader: &mut Reader<'_, S>, start: usize) -> Result<u128, Stop>
+fn parse_amount<S: PathSource>(reader: &mut Reader<'_, S>, start: usize) -> Result<u128, Failure>
     ensures moves { MovesTo result reader.old reader.new }
     ensures gives { Gives (λ n. n) result reader.new (capped (amount_at start (left reader.old))) }
 {
-    let whole = whole(reader, start)?;
-    let fraction = fraction(reader, start)?;
+    let whole = parse_whole(reader, start)?;
+    let fraction = parse_fraction(reader, start)?;
     Ok(whole.saturating_mul(ONE).saturating_add(fraction))
 }
 
-/// A number literal of -2^63 to 2^64 - 1 (RFC 9535, section 2.3.5.1), at its first digit or its `-`. It has no exponent,
-/// and at most nine digits behind its point. Its digits are read whole before they are judged.
+/// Parses a number literal of -2^63 to 2^64 - 1 (RFC 9535, section 2.3.5.1), from its first digit or its `-` on. It
+/// has no exponent, and at most nine digits after its point. Its digits are read whole before they are checked.
 #[tactic(auto, unfolding(crate::specs::Numbers::number_at))]
-pub(crate) fn number<S: PathSource>(reader: &mut Reader<'_, S>) -> Result<NumberLiteral, Stop>
+pub(crate) fn parse_number<S: PathSource>(
+    reader: &mut Reader<'_, S>,
+) -> Result<NumberLiteral, Failure>
     ensures moves { MovesTo result reader.old reader.new }
     ensures gives { Gives number_amount result reader.new (number_at (left reader.old)) }
 {
@@ -100,10 +102,10 @@ pub(crate) fn number<S: PathSource>(reader: &mut Reader<'_, S>) -> Result<Number
     if is_negative {
         reader.take_char();
     }
-    let amount = amount(reader, start)?.min(TOO_MANY) as i128;
+    let amount = parse_amount(reader, start)?.min(TOO_MANY) as i128;
     let signed = if is_negative { -amount } else { amount };
     match NumberLiteral::from_billionths(signed) {
         Some(literal) => Ok(literal),
-        None => Err(Stop::in_long_hand(ParseErrorKind::NumberOutOfRange, start)),
+        None => Err(Failure::in_long_hand(ParseErrorKind::NumberOutOfRange, start)),
     }
 }

@@ -9,8 +9,10 @@ use crate::parser::reader::Reader;
 use crate::source::PathSource;
 use serde_json_path_syntax::ComparisonOperator;
 
-/// The comparison operator that stands here, the longest one; it is taken (RFC 9535, section 2.3.5.1).
-pub(crate) fn operator<S: PathSource>(reader: &mut Reader<'_, S>) -> Option<ComparisonOperator>
+/// Parses a comparison operator, the longest that is there, or nothing (RFC 9535, section 2.3.5.1).
+pub(crate) fn parse_operator<S: PathSource>(
+    reader: &mut Reader<'_, S>,
+) -> Option<ComparisonOperator>
     ensures moves { Moves reader.old reader.new }
     ensures stays { IsNone result → left reader.new ≡ left reader.old }
     ensures value { operator_at (left reader.old) ≡ option_map (λ op. (operator_view op, left reader.new)) result }

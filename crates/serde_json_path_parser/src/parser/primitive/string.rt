@@ -7,20 +7,23 @@ ghost use Rattle.serde_json_path_parser.specs.Lexical.{begins, IsQuote};
 ghost use Rattle.serde_json_path_parser.specs.Reading.{left};
 ghost use Rattle.serde_json_path_parser.specs.Strings.{hexadecimal_at, hex4_at, is_high, low_at, unicode_at, escape_at, piece_at, is_inside, string_at};
 
-use crate::error::{ParseErrorKind, Place, Stop};
+use crate::error::{Context, Failure, ParseErrorKind};
 use crate::parser::reader::Reader;
 use crate::source::PathSource;
 use std::alloc::Global;
 
-/// The value of a hexadecimal digit of either case.
+/// Parses a hexadecimal digit of either case.
 #[tactic(auto, unfolding(crate::specs::Strings::hexadecimal_at))]
-fn hexadecimal<S: PathSource>(reader: &mut Reader<'_, S>, start: usize) -> Result<u32, Stop>
+fn parse_hexadecimal<S: PathSource>(
+    reader: &mut Reader<'_, S>,
+    start: usize,
+) -> Result<u32, Failure>
     ensures moves { MovesTo result reader.old reader.new }
     ensures small { IfOk result (λ n. n < 16) }
     ensures gives { Gives (λ n. n) result reader.new (hexadecimal_at start (left reader.old)) }
 {
     if !reader.sees_hexadecimal() {
-        return Err(Stop::in_long_hand(ParseErrorKind::BadEscape, start));
+        return Err(Failure::in_long_hand(ParseErrorKind::BadEscape, start));
     }
     let digit = reader.take_char() as u32;
     if digit <= 57 {
@@ -32,61 +35,65 @@ fn hexadecimal<S: PathSource>(reader: &mut Reader<'_, S>, start: usize) -> Resul
     }
 }
 
-/// The value of four hexadecimal digits.
+/// Parses four hexadecimal digits.
 #[tactic(auto, unfolding(crate::specs::Strings::hex4_at))]
-fn hex4<S: PathSource>(reader: &mut Reader<'_, S>, start: usize) -> Result<u32, Stop>
+fn parse_hex4<S: PathSource>(reader: &mut Reader<'_, S>, start: usize) -> Result<u32, Failure>
     ensures moves { MovesTo result reader.old reader.new }
     ensures small { IfOk result (λ n. n < 65536) }
     ensures gives { Gives (λ n. n) result reader.new (hex4_at start (left reader.old)) }
 {
-    let a = hexadecimal(reader, start)?;
-    let b = hexadecimal(reader, start)?;
-    let c = hexadecimal(reader, start)?;
-    let d = hexadecimal(reader, start)?;
+    let a = parse_hexadecimal(reader, start)?;
+    let b = parse_hexadecimal(reader, start)?;
+    let c = parse_hexadecimal(reader, start)?;
+    let d = parse_hexadecimal(reader, start)?;
     Ok(4096 * a + 256 * b + 16 * c + d)
 }
 
-/// The character of a pair of surrogates, behind the high one.
+/// Parses the low one of a pair of surrogates, after the high one: the character of the pair.
 #[tactic(auto, unfolding(crate::specs::Strings::low_at))]
-fn low<S: PathSource>(reader: &mut Reader<'_, S>, start: usize, high: u32) -> Result<char, Stop>
+fn parse_low_surrogate<S: PathSource>(
+    reader: &mut Reader<'_, S>,
+    start: usize,
+    high: u32,
+) -> Result<char, Failure>
     requires { is_high high ≡ true }
     ensures moves { MovesTo result reader.old reader.new }
     ensures gives { Gives (λ c. c) result reader.new (low_at start high (left reader.old)) }
 {
     if !reader.sees(b'\\') {
-        return Err(Stop::in_long_hand(ParseErrorKind::BadEscape, start));
+        return Err(Failure::in_long_hand(ParseErrorKind::BadEscape, start));
     }
     reader.take_char();
     if !reader.sees(b'u') {
-        return Err(Stop::in_long_hand(ParseErrorKind::BadEscape, start));
+        return Err(Failure::in_long_hand(ParseErrorKind::BadEscape, start));
     }
     reader.take_char();
-    let low = hex4(reader, start)?;
+    let low = parse_hex4(reader, start)?;
     if low < 0xdc00 || low > 0xdfff {
-        return Err(Stop::in_long_hand(ParseErrorKind::BadEscape, start));
+        return Err(Failure::in_long_hand(ParseErrorKind::BadEscape, start));
     }
     Ok(char::from_u32(0x10000 + 0x400 * (high - 0xd800) + (low - 0xdc00)).unwrap())
 }
 
-/// The character of an escape, behind its `u`.
+/// Parses the digits of an escape after its `u`: its character.
 #[tactic(auto, unfolding(crate::specs::Strings::unicode_at))]
-fn unicode<S: PathSource>(reader: &mut Reader<'_, S>, start: usize) -> Result<char, Stop>
+fn parse_unicode<S: PathSource>(reader: &mut Reader<'_, S>, start: usize) -> Result<char, Failure>
     ensures moves { MovesTo result reader.old reader.new }
     ensures gives { Gives (λ c. c) result reader.new (unicode_at start (left reader.old)) }
 {
-    let code = hex4(reader, start)?;
+    let code = parse_hex4(reader, start)?;
     if code >= 0xd800 && code <= 0xdbff {
-        return low(reader, start, code);
+        return parse_low_surrogate(reader, start, code);
     }
     if code >= 0xdc00 && code <= 0xdfff {
-        return Err(Stop::in_long_hand(ParseErrorKind::BadEscape, start));
+        return Err(Failure::in_long_hand(ParseErrorKind::BadEscape, start));
     }
     Ok(char::from_u32(code).unwrap())
 }
 
-/// The character of an escape, at its backslash.
+/// Parses an escape, from its backslash on.
 #[tactic(auto, unfolding(crate::specs::Strings::escape_at))]
-fn escape<S: PathSource>(reader: &mut Reader<'_, S>, quote: u8) -> Result<char, Stop>
+fn parse_escape<S: PathSource>(reader: &mut Reader<'_, S>, quote: u8) -> Result<char, Failure>
     requires quote { quote < 128 }
     requires slash { begins (λ c. c == 92) (left reader.old) ≡ true }
     ensures moves { MovesTo result reader.old reader.new }
@@ -96,10 +103,10 @@ fn escape<S: PathSource>(reader: &mut Reader<'_, S>, quote: u8) -> Result<char, 
     reader.take_char();
     if reader.sees(b'u') {
         reader.take_char();
-        return unicode(reader, start);
+        return parse_unicode(reader, start);
     }
     if !reader.sees_letter_escape(quote) {
-        return Err(Stop::in_long_hand(ParseErrorKind::BadEscape, start));
+        return Err(Failure::in_long_hand(ParseErrorKind::BadEscape, start));
     }
     let letter = reader.take_char();
     Ok(match letter {
@@ -112,41 +119,41 @@ fn escape<S: PathSource>(reader: &mut Reader<'_, S>, quote: u8) -> Result<char, 
     })
 }
 
-/// One character of a string, or an escape that stands for one.
+/// Parses one character of a string, or an escape that stands for one.
 #[tactic(auto, unfolding(crate::specs::Strings::piece_at))]
-fn piece<S: PathSource>(reader: &mut Reader<'_, S>, quote: u8) -> Result<char, Stop>
+fn parse_piece<S: PathSource>(reader: &mut Reader<'_, S>, quote: u8) -> Result<char, Failure>
     requires quote { quote < 128 }
     requires inside { begins (is_inside quote) (left reader.old) ≡ true }
     ensures moves { MovesTo result reader.old reader.new }
     ensures gives { Gives (λ c. c) result reader.new (piece_at quote (left reader.old)) }
 {
     if reader.sees(b'\\') {
-        return escape(reader, quote);
+        return parse_escape(reader, quote);
     }
     if reader.sees_control() {
-        return Err(reader.refuse(ParseErrorKind::ControlCharacter, Place::LongHand));
+        return Err(reader.refuse(ParseErrorKind::ControlCharacter, Context::LongHand));
     }
     Ok(reader.take_char())
 }
 
-/// A string (RFC 9535, section 2.3.1.1), behind its opening quote, up to and with the ending one.
+/// Parses a string (RFC 9535, section 2.3.1.1) after its opening quote, up to and with the ending one.
 #[tactic(auto, unfolding(crate::specs::Strings::string_at))]
-pub(crate) fn string<S: PathSource>(
+pub(crate) fn parse_string<S: PathSource>(
     alloc: Global,
     reader: &mut Reader<'_, S>,
     quote: u8,
-) -> Result<String, Stop>
+) -> Result<String, Failure>
     requires { IsQuote quote }
     ensures moves { MovesTo result reader.old reader.new }
     ensures gives { Gives (λ text. string_bytes text) result reader.new (string_at quote (left reader.old)) }
 {
     let mut text = String::new(alloc);
     'pieces: while reader.sees_inside(quote) {
-        let c = piece(reader, quote)?;
+        let c = parse_piece(reader, quote)?;
         text.push(c)?;
     }
     if !reader.sees(quote) {
-        return Err(reader.refuse(ParseErrorKind::ExpectedEndingQuote, Place::LongHand));
+        return Err(reader.refuse(ParseErrorKind::ExpectedEndingQuote, Context::LongHand));
     }
     reader.take_char();
     Ok(text)

@@ -1,4 +1,4 @@
-//! Words: the literals `true`, `false` and `null`, and other ones.
+//! Words: the literals `true`, `false` and `null`, and others.
 
 ghost use Rattle.std.specs.Prelude.{◌≡◌, true, List, ℕ, length, drop, IfOk, string_bytes, ◌++◌, option_map};
 ghost use Rattle.serde_json_path_syntax.specs.Literals.{literal_view};
@@ -47,7 +47,7 @@ impl Word {
     }
 }
 
-/// Takes the characters that the text has in common with a known one, and tells how many they are.
+/// Takes the characters that the text has in common with a known one, and returns how many they are.
 fn take_common<S: PathSource>(reader: &mut Reader<'_, S>, known: &str) -> usize
     requires { AllPass is_function_char known.now }
     ensures moves { Moves reader.old reader.new }
@@ -63,7 +63,7 @@ fn take_common<S: PathSource>(reader: &mut Reader<'_, S>, known: &str) -> usize
     count
 }
 
-/// Takes the characters of a word that are next, and puts them behind a text.
+/// Takes the characters of a word that are next, and appends them to a text.
 fn take_word<S: PathSource>(reader: &mut Reader<'_, S>, text: &mut String) -> Result<(), AllocError>
     ensures moves { Moves reader.old reader.new }
     ensures text { IfOk result (λ u. string_bytes text.new ≡ string_bytes text.old ++ word (left reader.old)) }
@@ -75,7 +75,7 @@ fn take_word<S: PathSource>(reader: &mut Reader<'_, S>, text: &mut String) -> Re
     Ok(())
 }
 
-/// A literal's word where it is the whole word that stands here, else the other one that stands here.
+/// Reads the word that is next: the literal's word, or another one.
 fn known_or_other<S: PathSource>(
     alloc: Global,
     reader: &mut Reader<'_, S>,
@@ -96,8 +96,8 @@ fn known_or_other<S: PathSource>(
     Ok(Word::Other(text))
 }
 
-/// The word that stands here (RFC 9535, sections 2.3.5.1 and 2.4). Memory is asked for only for a word that is no
-/// literal's.
+/// Reads the word that is next (RFC 9535, sections 2.3.5.1 and 2.4). Memory is asked for only where it is no
+/// literal's word.
 pub(crate) fn read_word<S: PathSource>(
     alloc: Global,
     reader: &mut Reader<'_, S>,

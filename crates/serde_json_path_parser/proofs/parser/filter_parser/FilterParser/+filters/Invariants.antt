@@ -1,0 +1,132 @@
+use Rattle.std.proofs.Common.{◌≡◌, ◌+◌, ◌*◌, ℕ, List, [], ◌∷◌, false, length}
+use Rattle.serde_json_path_syntax.specs.Flat.{parts_in}
+use Rattle.serde_json_path_syntax.specs.Tree.{SegmentKind, Segment, Selector, LogicalAnd, Basic}
+use Rattle.serde_json_path_syntax.specs.Parts.{IsPart, ArePartsOf, AreSelectorsOf, AreOrPartsOf, AreAndPartsOf, KeepsParts}
+use Rattle.serde_json_path_syntax.specs.Piece.{an_and, a_basic}
+use Rattle.serde_json_path_parser.specs.Lexical.{begins, begins_both}
+use Rattle.serde_json_path_parser.specs.Filters.{and_list, or_list, next_basic_at, next_and_at}
+use Rattle.serde_json_path_parser.specs.Levels.{signatures, deeper, filter_at}
+use Rattle.serde_json_path_parser.specs.Parsed.{past_blanks, many, byte_count}
+use Rattle.serde_json_path_parser.specs.Parsing.{opens, opens_next, next_selector_at, selectors_at, selector_list, segments_at, segment_list}
+use Rattle.serde_json_path_parser.specs.Reading.{left, Moves}
+use Rattle.serde_json_path_parser.proofs.BracketTexts.{is_comma}
+use Rattle.serde_json_path_parser.proofs.Many.{with_front}
+use Rattle.serde_json_path_parser.proofs.parser.filter_parser.FilterParser.+filters.Given as goal
+
+-- ---- one level is above all that stands in it; at a level, what stands in another piece is below it
+
+abbrev pub decreases-parse_inside : goal.decreases-parse_inside
+decreases-parse_inside g l = 512 * l.self.now.depth
+
+abbrev pub decreases-parse_paren : goal.decreases-parse_paren
+decreases-parse_paren g l = 512 * l.self.now.depth + 16
+
+abbrev pub decreases-parse_call : goal.decreases-parse_call
+decreases-parse_call g l = 512 * l.self.now.depth + 16
+
+abbrev pub decreases-parse_selector : goal.decreases-parse_selector
+decreases-parse_selector g l = 512 * l.self.now.depth + 16
+
+abbrev pub decreases-parse_named : goal.decreases-parse_named
+decreases-parse_named g l = 512 * l.self.now.depth + 32
+
+abbrev pub decreases-parse_selectors : goal.decreases-parse_selectors
+decreases-parse_selectors g l = 512 * l.self.now.depth + 32
+
+abbrev pub decreases-parse_bracket : goal.decreases-parse_bracket
+decreases-parse_bracket g l = 512 * l.self.now.depth + 48
+
+abbrev pub decreases-parse_negated_call : goal.decreases-parse_negated_call
+decreases-parse_negated_call g l = 512 * l.self.now.depth + 48
+
+abbrev pub decreases-parse_segment : goal.decreases-parse_segment
+decreases-parse_segment g l = 512 * l.self.now.depth + 64
+
+abbrev pub decreases-parse_segments : goal.decreases-parse_segments
+decreases-parse_segments g l = 512 * l.self.now.depth + 80
+
+abbrev pub decreases-parse_query : goal.decreases-parse_query
+decreases-parse_query g l = 512 * l.self.now.depth + 96
+
+abbrev pub decreases-parse_negated : goal.decreases-parse_negated
+decreases-parse_negated g l = 512 * l.self.now.depth + 112
+
+abbrev pub decreases-parse_operand : goal.decreases-parse_operand
+decreases-parse_operand g l = 512 * l.self.now.depth + 112
+
+abbrev pub decreases-parse_basic_from : goal.decreases-parse_basic_from
+decreases-parse_basic_from g l = 512 * l.self.now.depth + 128
+
+abbrev pub decreases-parse_basic : goal.decreases-parse_basic
+decreases-parse_basic g l = 512 * l.self.now.depth + 144
+
+abbrev pub decreases-parse_and_from : goal.decreases-parse_and_from
+decreases-parse_and_from g l = 512 * l.self.now.depth + 160
+
+abbrev pub decreases-parse_logical_and : goal.decreases-parse_logical_and
+decreases-parse_logical_and g l = 512 * l.self.now.depth + 176
+
+abbrev pub decreases-parse_or_from : goal.decreases-parse_or_from
+decreases-parse_or_from g l = 512 * l.self.now.depth + 192
+
+abbrev pub decreases-parse_logical_or : goal.decreases-parse_logical_or
+decreases-parse_logical_or g l = 512 * l.self.now.depth + 208
+
+abbrev pub decreases-parse_argument : goal.decreases-parse_argument
+decreases-parse_argument g l = 512 * l.self.now.depth + 224
+
+abbrev pub decreases-parse_arguments : goal.decreases-parse_arguments
+decreases-parse_arguments g l = 512 * l.self.now.depth + 240 + length l.kinds.now
+
+abbrev pub decreases-parse_parameters : goal.decreases-parse_parameters
+decreases-parse_parameters g l = 512 * l.self.now.depth + 256 + length l.kinds.now
+
+-- ---- loops
+
+abbrev pub invariant-parse_segments-segments : goal.invariant-parse_segments-segments
+invariant-parse_segments-segments g l = record {
+  moves : Moves l.fn.reader l.reader;
+  keeps : KeepsParts l.fn.builder l.builder;
+  none : opens_next (left l.fn.reader) ≡ false → begins opens (left l.reader) ≡ false;
+  so_far : (before : List (SegmentKind × Segment)) × (rest : List ℕ) × ArePartsOf l.builder (parts_in l.parts) (segment_list before)
+      × (l.rest ≡ byte_count rest) × (left l.reader ≡ past_blanks rest)
+      × (with_front before (segments_at (filter_at g.F.Functions.set l.self) l.context rest) ≡ segments_at (filter_at g.F.Functions.set l.self) l.context (left l.fn.reader));
+}
+
+abbrev pub decreases-parse_segments-segments : goal.decreases-parse_segments-segments
+decreases-parse_segments-segments g l = length (left l.reader)
+
+abbrev pub invariant-parse_selectors-selectors : goal.invariant-parse_selectors-selectors
+invariant-parse_selectors-selectors g l = record {
+  moves : Moves l.fn.reader l.reader;
+  keeps : KeepsParts l.fn.builder l.builder;
+  so_far : (before : List Selector) × AreSelectorsOf l.builder (parts_in l.parts) (selector_list before)
+      × (with_front before (many (begins is_comma) (next_selector_at (filter_at g.F.Functions.set l.self)) (left l.reader)) ≡ selectors_at (filter_at g.F.Functions.set l.self) (left l.fn.reader));
+}
+
+abbrev pub decreases-parse_selectors-selectors : goal.decreases-parse_selectors-selectors
+decreases-parse_selectors-selectors g l = length (left l.reader)
+
+abbrev pub invariant-parse_or_from-parts : goal.invariant-parse_or_from-parts
+invariant-parse_or_from-parts g l = record {
+  moves : Moves l.fn.reader l.reader;
+  keeps : KeepsParts l.fn.builder l.builder;
+  so_far : (a : LogicalAnd) → IsPart l.fn.builder l.fn.first (an_and a) → (before : List LogicalAnd) × AreOrPartsOf l.builder (parts_in l.parts) (or_list before)
+      × (with_front before (many (begins_both 124 124) (next_and_at (signatures g.F.Functions.set l.self) (deeper g.F.Functions.set l.self)) (left l.reader))
+      ≡ with_front (a ∷ []) (many (begins_both 124 124) (next_and_at (signatures g.F.Functions.set l.self) (deeper g.F.Functions.set l.self)) (left l.fn.reader)));
+}
+
+abbrev pub decreases-parse_or_from-parts : goal.decreases-parse_or_from-parts
+decreases-parse_or_from-parts g l = length (left l.reader)
+
+abbrev pub invariant-parse_and_from-parts : goal.invariant-parse_and_from-parts
+invariant-parse_and_from-parts g l = record {
+  moves : Moves l.fn.reader l.reader;
+  keeps : KeepsParts l.fn.builder l.builder;
+  so_far : (b : Basic) → IsPart l.fn.builder l.fn.first (a_basic b) → (before : List Basic) × AreAndPartsOf l.builder (parts_in l.parts) (and_list before)
+      × (with_front before (many (begins_both 38 38) (next_basic_at (signatures g.F.Functions.set l.self) (deeper g.F.Functions.set l.self)) (left l.reader))
+      ≡ with_front (b ∷ []) (many (begins_both 38 38) (next_basic_at (signatures g.F.Functions.set l.self) (deeper g.F.Functions.set l.self)) (left l.fn.reader)));
+}
+
+abbrev pub decreases-parse_and_from-parts : goal.decreases-parse_and_from-parts
+decreases-parse_and_from-parts g l = length (left l.reader)

@@ -1,0 +1,40 @@
+use Rattle.std.proofs.Common.{◌≡◌, ◌-◌, ◌<◌, ◌≤◌, true, false, length, sym, ap, ◌∙◌, arith}
+use Rattle.serde_json_path_parser.specs.Lexical.{begins, is_digit}
+use Rattle.serde_json_path_parser.specs.Numbers.{is_exponent}
+use Rattle.serde_json_path_parser.specs.Parsed.{front, behind}
+use Rattle.serde_json_path_parser.specs.Reading.{left}
+use Rattle.serde_json_path_parser.proofs.Numbers.{counted, fraction_below, fraction_is, too_long, reads}
+use Rattle.serde_json_path_parser.proofs.Runs.{front_each}
+use Rattle.serde_json_path_parser.proofs.parser.primitive.number.parse_fraction_digits.Goals as goal
+
+pub overflow_sub-count : goal.overflow_sub-count
+overflow_sub-count g c =
+    let read = counted (left c.args.reader.now) (left c.parse_decimal-value.new.reader) c.bytes_left-before.result c.bytes_left.result c.parse_decimal-value.ensures.rest c.bytes_left-before.ensures.value c.bytes_left.ensures.value in
+    omega (arith, read)
+
+pub returns-then-count-gt-FRACTION_DIGITS-clause-gives : goal.returns-then-count-gt-FRACTION_DIGITS-clause-gives
+returns-then-count-gt-FRACTION_DIGITS-clause-gives g c =
+    let cs = left c.args.reader.now in
+    let read = counted cs (left c.parse_decimal-value.new.reader) c.bytes_left-before.result c.bytes_left.result c.parse_decimal-value.ensures.rest c.bytes_left-before.ensures.value c.bytes_left.ensures.value in
+    let some : begins is_digit cs ≡ true = sym c.sees_digit.ensures ∙ c.if-not-sees_digit.false in
+    let plain : begins is_exponent (behind is_digit cs) ≡ false = ap (begins is_exponent) (sym c.parse_decimal-value.ensures.rest) ∙ sym c.sees_exponent.ensures ∙ c.if-sees_exponent.false in
+    let many : 9 < length (front is_digit cs) = omega (arith, read, c.if-count-gt-FRACTION_DIGITS.true) in
+    rw c.in_long_hand-then-count-gt-FRACTION_DIGITS.ensures (too_long c.args.start cs some plain many)
+
+pub overflow_mul-result : goal.overflow_mul-result
+overflow_mul-result g c =
+    let cs = left c.args.reader.now in
+    let read = counted cs (left c.parse_decimal-value.new.reader) c.bytes_left-before.result c.bytes_left.result c.parse_decimal-value.ensures.rest c.bytes_left-before.ensures.value c.bytes_left.ensures.value in
+    let few : length (front is_digit cs) ≤ 9 = omega (arith, read, c.if-count-gt-FRACTION_DIGITS.false) in
+    let is = fraction_is (front is_digit cs) c.parse_decimal-value.result c.pow.result (c.bytes_left-before.result - c.bytes_left.result) (front_each is_digit cs) (omega (arith, read)) c.if-count-gt-FRACTION_DIGITS.false c.parse_decimal-value.ensures.value c.pow.ensures in
+    rw is (omega (arith, fraction_below (front is_digit cs) (front_each is_digit cs) few))
+
+pub returns-clause-gives : goal.returns-clause-gives
+returns-clause-gives g c =
+    let cs = left c.args.reader.now in
+    let read = counted cs (left c.parse_decimal-value.new.reader) c.bytes_left-before.result c.bytes_left.result c.parse_decimal-value.ensures.rest c.bytes_left-before.ensures.value c.bytes_left.ensures.value in
+    let some : begins is_digit cs ≡ true = sym c.sees_digit.ensures ∙ c.if-not-sees_digit.false in
+    let plain : begins is_exponent (behind is_digit cs) ≡ false = ap (begins is_exponent) (sym c.parse_decimal-value.ensures.rest) ∙ sym c.sees_exponent.ensures ∙ c.if-sees_exponent.false in
+    let few : length (front is_digit cs) ≤ 9 = omega (arith, read, c.if-count-gt-FRACTION_DIGITS.false) in
+    let is = fraction_is (front is_digit cs) c.parse_decimal-value.result c.pow.result (c.bytes_left-before.result - c.bytes_left.result) (front_each is_digit cs) (omega (arith, read)) c.if-count-gt-FRACTION_DIGITS.false c.parse_decimal-value.ensures.value c.pow.ensures in
+    rw (is, c.parse_decimal-value.ensures.rest) (reads c.args.start cs some plain few)

@@ -1,0 +1,17 @@
+use Rattle.std.proofs.Common.{◌≡◌, length}
+use Rattle.std.specs.Prelude.{string_bytes}
+use Rattle.serde_json_path_parser.specs.Lexical.{begins}
+use Rattle.serde_json_path_parser.specs.Parsed.{many}
+use Rattle.serde_json_path_parser.specs.Reading.{left, Moves}
+use Rattle.serde_json_path_parser.specs.Strings.{piece_at, is_inside, string_at}
+use Rattle.serde_json_path_parser.proofs.Strings.{with_text}
+use Rattle.serde_json_path_parser.proofs.parser.primitive.string.parse_string.Given as goal
+
+abbrev pub invariant-pieces : goal.invariant-pieces
+invariant-pieces g l = record {
+  moves : Moves l.fn.reader l.reader;
+  so_far : with_text l.fn.quote (string_bytes l.text) (many (begins (is_inside l.fn.quote)) (piece_at l.fn.quote) (left l.reader)) ≡ string_at l.fn.quote (left l.fn.reader);
+}
+
+abbrev pub decreases-pieces : goal.decreases-pieces
+decreases-pieces g l = length (left l.reader)
