@@ -304,7 +304,3 @@ module _ (F : FunctionSet) (top : Data) where
     argument_as (query_argument q) kind v = result_as kind (results q v)
     argument_as (call_argument c) kind v = answer_as kind (answer c v)
     argument_as (logical_argument e) kind v = logical (is_true e v)
-
-  -- the nodes that a segment selects from a node, in order (section 2.5)
-  abbrev pub picked : SegmentKind → Segment → Located → List Located
-  picked kind seg n = flat_map (λ m. map (placed m.location) (chosen seg m.value)) (reached kind n)

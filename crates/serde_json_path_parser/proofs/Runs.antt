@@ -109,10 +109,6 @@ taken p cs ds c text whole e t h = append_assoc text (encode_utf8 c) (encode_utf
 
 -- ---- the value of digits
 
-pub value_grows : (n m : ℕ) (ds : List ℕ) → n ≤ m → value_from n ds ≤ value_from m ds
-value_grows n m [] h = h
-value_grows n m (d ∷ ds) h = value_grows (n * 10 + (d - 48)) (m * 10 + (d - 48)) ds (omega (arith, h))
-
 pub value_least : (n : ℕ) (ds : List ℕ) → n ≤ value_from n ds
 value_least n [] = omega arith
 value_least n (d ∷ ds) = omega (arith, value_least (n * 10 + (d - 48)) ds)

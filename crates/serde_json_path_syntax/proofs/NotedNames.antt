@@ -7,8 +7,7 @@ use Rattle.serde_json_path_functions.specs.Functions.{FunctionSet, Fits, Signatu
 use Rattle.serde_json_path_syntax.specs.Tree.{Query}
 use Rattle.serde_json_path_syntax.specs.Typing.{IsTyped}
 use Rattle.serde_json_path_syntax.specs.Lists.{IsIn, IsInOrder}
-use Rattle.serde_json_path_syntax.specs.Used.{AreCalled, signature_in}
-use Rattle.serde_json_path_syntax.specs.Called.{names_in}
+use Rattle.serde_json_path_syntax.specs.Used.{AreCalled, signature_in, names_in}
 use Rattle.serde_json_path_syntax.specs.CalledNames.{called_names}
 use Rattle.serde_json_path_syntax.specs.Piece.{a_query}
 use Rattle.serde_json_path_syntax.specs.Flat.{piece_at, query_in}

@@ -4,8 +4,7 @@ use Rattle.std.proofs.lemmas.Option.{none-some}
 use Rattle.std.proofs.lemmas.Slice.Eq.{bytes_eq-Decides}
 use Rattle.serde_json_path_functions.specs.Functions.{Signature}
 use Rattle.serde_json_path_syntax.specs.Lists.{IsIn}
-use Rattle.serde_json_path_syntax.specs.Used.{signature_in}
-use Rattle.serde_json_path_syntax.specs.Called.{names_in}
+use Rattle.serde_json_path_syntax.specs.Used.{signature_in, names_in}
 
 -- a name that has a signature is in the list
 pub found_in : (used : List (List ℕ × Signature)) (f : List ℕ) (s : Signature) → signature_in used f ≡ Some s → IsIn f (names_in used)

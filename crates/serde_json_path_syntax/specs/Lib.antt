@@ -22,8 +22,6 @@ pub mod Lists
 pub mod Parts
 -- the trees that one part of a builder may stand for
 pub mod Piece
--- trees that are handed on with their calls
-pub mod Called
 -- literals and comparison operators as the definitions see them
 pub mod Literals
 -- a slice selector of the program as the definitions see it

@@ -14,6 +14,10 @@ use Rattle.serde_json_path_functions.specs.declared.signature.Signature as decla
 abbrev pub used_view : List (String Global × declared.Signature) → List (List ℕ × Signature)
 used_view used = map (λ (u : String Global × declared.Signature). (string_bytes u.0, signature_view u.1)) used
 
+-- the names of a list
+abbrev pub names_in : List (List ℕ × Signature) → List (List ℕ)
+names_in used = map (λ (u : List ℕ × Signature). u.0) used
+
 -- the signature that the list has for a name
 abbrev pub signature_in : List (List ℕ × Signature) → List ℕ → Option Signature
 signature_in [] f = None
@@ -27,7 +31,7 @@ Calls q f = IsIn f (called_names q)
 abbrev pub AreCalled : List (List ℕ × Signature) → Query → Type 0
 AreCalled used q =
     IsInOrder (λ (a b : List ℕ × Signature). a.0 ≢ b.0) used
-    × ((f : List ℕ) → IsIn f (map (λ (u : List ℕ × Signature). u.0) used) ↔ Calls q f)
+    × ((f : List ℕ) → IsIn f (names_in used) ↔ Calls q f)
 
 -- how many filters, parentheses and calls may stand within each other
 abbrev pub deepest : ℕ
