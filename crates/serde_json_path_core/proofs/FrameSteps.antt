@@ -84,7 +84,7 @@ module _ (Clear : Type 0) (F : FunctionSet) (top : Data) (stage : Stage) where
       of_end : AreOf mid.value mid.left → AreOf mid.value (c ∷ left)
       of_end h = all-end (IsChildOf mid.value) ends.0 (c ∷ left) (subst (AreOf mid.value) ends.1 h)
 
-  -- behind the last selector, the segment goes down to a child
+  -- after the last selector, the segment goes down to a child
   pub comes-down : (old mid : Frame) (c : Step × Data) (left : List (Step × Data)) → Passes Clear F top stage old mid
       → drop mid.selector stage.selectors ≡ [] → stage.kind ≡ descendant → mid.left ≡ c ∷ left
       → ComesTo Clear F top stage old (mid.segment, c) (at_selector mid mid.selector left)
@@ -98,7 +98,7 @@ module _ (Clear : Type 0) (F : FunctionSet) (top : Data) (stage : Stage) where
       of_left : AreOf mid.value mid.left → AreOf mid.value (c ∷ left)
       of_left h = subst (AreOf mid.value) is h
 
-  -- behind the last selector there is nothing left to go down to
+  -- after the last selector there is nothing left to go down to
   pub done : (old mid : Frame) → Passes Clear F top stage old mid → drop mid.selector stage.selectors ≡ [] → (stage.kind ≡ descendant → mid.left ≡ []) → IsDone Clear F top stage old
   done old mid before here none = λ clear. before.1 clear ∙ is_done (admitted F top) mid.segment stage.kind mid.value (drop mid.selector stage.selectors) mid.left here none
 

@@ -13,7 +13,7 @@ pub ends_with : {A : Type 0} (lent xs : List A) (x : A) → lent ≡ xs → 0 < 
 ends_with lent xs x same h e =
     subst (λ ys. (0 < length ys) × (ys ≡ take (length ys - 1) ys ++ x ∷ [])) same (h, last_is lent x h ∙ ap (λ y. take (length lent - 1) lent ++ y ∷ []) (sym e))
 
--- the last element is replaced, and another put behind it
+-- the last element is replaced, and another put after it
 pub over : {A : Type 0} (items next : List A) (n : ℕ) (moved new : A) → 0 < length items → next ≡ items ++ new ∷ [] → n ≡ length items - 1
     → set next n moved ≡ (take (length items - 1) items ++ moved ∷ []) ++ new ∷ []
 over items next n moved new h e i =

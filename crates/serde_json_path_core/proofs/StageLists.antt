@@ -7,7 +7,7 @@ use Rattle.serde_json_path_syntax.specs.declared.node.Part.{Part}
 use Rattle.serde_json_path_syntax.specs.Flat.{piece_in, pieces, pieces_named, segment_in, segment_kind_in, segments_in}
 use Rattle.serde_json_path_syntax.specs.Stages.{stage_of, stages, stage_at, stages_at}
 
--- behind so many elements stands the one of that number
+-- after so many elements comes the one of that number
 pub drop-some : {A : Type 0} (xs : List A) (i : ℕ) (x : A) → slice_get xs i ≡ Some x → drop i xs ≡ x ∷ drop (i + 1) xs
 drop-some [] i x e = absurd (none-some x e)
 drop-some (y ∷ ys) zero x e = ap (λ z. z ∷ ys) (same_Some y x e)

@@ -56,14 +56,14 @@ module _ (admit : Selector → List (Step × Data) → List (Step × Data)) (num
       ∙ ap (λ xs. map onward (admit sel cs) ++ (map onward (all_of more) ++ map downward xs)) (lower_left-lower kind sel more cs v)
       ∙ ap (λ xs. map onward (admit sel cs) ++ xs) (next_opened more ∙ ap (λ xs. tasks admit number kind more xs v) (sym d))
 
-  -- behind the last selector, a child to go down to
+  -- after the last selector, a child to go down to
   pub goes_down : (sels : List Selector) (cs ds : List (Step × Data)) (c : Step × Data)
       → kind ≡ descendant → sels ≡ [] → cs ≡ c ∷ ds → tasks admit number kind sels cs v ≡ downward c ∷ tasks admit number kind sels ds v
   goes_down sels cs ds c k e a =
       ap (λ r. tasks admit number r sels cs v) k ∙ ap (λ xs. tasks admit number descendant xs cs v) e ∙ ap (map downward) a
       ∙ ap (λ xs. downward c ∷ tasks admit number descendant xs ds v) (sym e) ∙ ap (λ r. downward c ∷ tasks admit number r sels ds v) (sym k)
 
-  -- behind the last selector there is nothing left
+  -- after the last selector there is nothing left
   pub is_done : (sels : List Selector) (cs : List (Step × Data)) → sels ≡ [] → (kind ≡ descendant → cs ≡ []) → tasks admit number kind sels cs v ≡ []
   is_done sels cs e h = ap (λ xs. tasks admit number kind xs cs v) e ∙ by_kind kind h
     where

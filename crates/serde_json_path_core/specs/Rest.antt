@@ -52,7 +52,7 @@ begun (stage ∷ more) v = opened stage.kind stage.selectors v
 -- ---- frames
 
 -- A value where the segment of that number is applied: the step that led to it, the number of the selector at work, and
--- the children that are left of it, or, behind the last selector, those that are left to go down to.
+-- the children that are left of it, or, after the last selector, those that are left to go down to.
 pub record Frame : Type 0 where
   pub step : Option Step
   pub value : Data

@@ -1,4 +1,16 @@
 //! The typed grammar of JSONPath (RFC 9535), and its parser.
+//!
+//! [`parse`] reads the path that a [`PathSource`] holds, from left to right and each byte once, into a finished query. A
+//! [`ParseError`] says why a text is refused, and at which position.
+//!
+//! ```text
+//! let mut source = TextSource::new("$..book[-1:].title");
+//! let query = parse(alloc, &mut source, &Builtin)?;
+//! ```
+//!
+//! Definitions are in `specs/`: `Lexical` has names, strings and numbers, `Grammar` which text reads as which tree, `Accepted`
+//! the typed grammar, `Parse` what a parse promises, `Errors` positions and messages, `Source` what a source holds and counts.
+//! `src/parser` follows the grammar, one module for each part.
 #![tactic(auto)]
 
 mod error;

@@ -13,7 +13,7 @@ use Rattle.serde_json_path_syntax.specs.declared.node.Part.{Part}
 use Rattle.serde_json_path_syntax.specs.declared.signatures.Form.{Form}
 use Rattle.serde_json_path_syntax.specs.declared.signatures.Form.TheVariants as form
 
--- names behind others are noted after them
+-- names that come after others are noted after them
 pub noted_append : (signature : List ℕ → Option Signature) (used : List (List ℕ × Signature)) (xs ys : List (List ℕ)) → noted signature used (xs ++ ys) ≡ noted signature (noted signature used xs) ys
 noted_append signature used [] ys = refl
 noted_append signature used (f ∷ xs) ys = noted_append signature (noted_with used f (signature_in used f) (signature f)) xs ys

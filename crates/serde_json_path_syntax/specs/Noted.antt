@@ -8,14 +8,14 @@ use Rattle.serde_json_path_syntax.specs.Flat.{query_in, segment_in, selector_in,
 use Rattle.serde_json_path_syntax.specs.declared.signatures.Form as declared
 use Rattle.serde_json_path_syntax.specs.declared.signatures.Form.TheVariants as form
 
--- what is noted and a name behind it, of which the first is its signature there, and the second that in the set: a name
+-- what is noted and another name after it, of which the first is its signature there, and the second that in the set: a name
 -- that is noted, or that the set does not declare, is passed over
 abbrev pub noted_with : List (List ℕ × Signature) → List ℕ → Option Signature → Option Signature → List (List ℕ × Signature)
 noted_with used f None (Some s) = used ++ (f, s) ∷ []
 noted_with used f None None = used
 noted_with used f (Some known) declared = used
 
--- what is noted, and these names behind it, in order
+-- what is noted, and these names after it, in order
 abbrev pub noted : (List ℕ → Option Signature) → List (List ℕ × Signature) → List (List ℕ) → List (List ℕ × Signature)
 noted signature used [] = used
 noted signature used (f ∷ more) = noted signature (noted_with used f (signature_in used f) (signature f)) more

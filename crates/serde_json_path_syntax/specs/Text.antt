@@ -42,7 +42,7 @@ abbrev pub integer_text : Option ℤ → List ℕ
 integer_text None = []
 integer_text (Some i) = signed_decimal i
 
--- a step that is there stands behind a second colon
+-- a step that is there comes after a second colon
 abbrev pub slice_step_text : Option ℤ → List ℕ
 slice_step_text None = []
 slice_step_text (Some i) = codes ":" ++ signed_decimal i

@@ -9,7 +9,7 @@ use std::test::Fail;
 /// The operators.
 const OPERATORS: &[&str] = &["==", "!=", "<", "<=", ">", ">="];
 
-/// The operators that hold between two sides for the one item of a document, with a space behind each.
+/// The operators that hold between two sides for the one item of a document, with a space after each.
 fn holding(alloc: Global, document: &str, (left, right): (&str, &str)) -> Result<String, Fail> {
     let document = Value::from_str(alloc, document)?;
     let mut text = String::new(alloc);

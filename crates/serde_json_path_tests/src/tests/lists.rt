@@ -13,7 +13,7 @@ fn once(alloc: Global, path: &str, document: &str) -> Result<String, Fail> {
     locations(alloc, &nodes.dedup())
 }
 
-/// The JSON pointers of what a path selects, with a `;` behind each.
+/// The JSON pointers of what a path selects, with a `;` after each.
 fn pointers(alloc: Global, path: &str, document: &str) -> Result<String, Fail> {
     let document = Value::from_str(alloc, document)?;
     let nodes = JsonPath::parse(alloc, path)?.query_located(alloc, &document)?;

@@ -6,7 +6,7 @@ use std::alloc::Global;
 use std::process::Abort;
 use std::test::Fail;
 
-/// A text, and what is told of it.
+/// A text, and the message of its refusal.
 const TOLD: &[(&str, &str)] = &[
     ("x", "at position 1, expected '$'"),
     (
@@ -100,7 +100,7 @@ const TOLD: &[(&str, &str)] = &[
     ),
 ];
 
-/// Each row has a text that is refused, and what is told of it.
+/// Each row has a text that is refused, and the message.
 fn tells_each(rt: &impl Abort, alloc: Global, rows: &[(&str, &str)]) -> Result<(), Fail> {
     for &(text, told) in rows {
         match JsonPath::parse(alloc, text) {

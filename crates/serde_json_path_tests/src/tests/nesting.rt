@@ -98,7 +98,7 @@ fn nests_calls(rt: HostRuntime) -> Result<(), Fail> {
 /// Segments that nest once or twice more.
 const SHALLOW: &[&str] = &["[?@]", "[?(@)]", "[?!(@)]", "[?count(@) == 1]", "[?@[?@]]"];
 
-/// Segments that nest three times more, and where the third opening stands behind the others.
+/// Segments that nest three times more, and where the third opening comes after the others.
 const DEEP: &[(&str, usize)] = &[
     ("[?((@))]", 425),
     ("[?(!(@))]", 426),

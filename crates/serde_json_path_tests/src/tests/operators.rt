@@ -7,7 +7,7 @@ use serde_json_path::ParseErrorKind::{
 };
 use std::test::Fail;
 
-/// A text, and the kind and the position of its refusal: behind the operator that is read.
+/// A text, and the kind and the position of its refusal: after the operator that is read.
 pub(crate) const OPERATORS: &[(&str, ParseErrorKind, usize)] = &[
     ("$[?@ <== 1]", ExpectedExpression, 8),
     ("$[?@ << 1]", ExpectedExpression, 7),

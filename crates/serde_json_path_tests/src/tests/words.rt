@@ -18,7 +18,7 @@ pub(crate) const WORDS: &[(&str, &str, &str, &str)] = &[
     ("$[?(@ == null )]", "[true,null]", " $[1]", " null"),
 ];
 
-/// A text, and the kind and the position of its refusal: a word that is a literal, and what stands behind it.
+/// A text, and the kind and the position of its refusal: a word that is a literal, and what comes after it.
 pub(crate) const LITERAL_WORDS: &[(&str, ParseErrorKind, usize)] = &[
     ("$[?@ == nullX]", ExpectedClosingBracket, 13),
     ("$[?null(@)]", UndefinedFunction, 4),
