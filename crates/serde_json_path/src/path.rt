@@ -35,7 +35,7 @@ impl JsonPath {
     ghost use Rattle.serde_json_path_parser.specs.Parse.{IsParseOf};
     ghost use Rattle.serde_json_path.specs.Paths.{path_tree, path_signatures, path_view};
 
-    /// The path `$`, which selects the document itself. It takes no memory.
+    /// The path `$`, which selects the document itself. It allocates nothing.
     pub fn new(alloc: Global) -> JsonPath
         ensures tree { path_tree result ≡ query root no_segments }
         ensures fits { Fits builtin_functions (path_signatures result) }
@@ -47,7 +47,7 @@ impl JsonPath {
 
     /// Parses a path (RFC 9535, section 2.1) whose filters call the built-in functions.
     ///
-    /// An error says why and where ([`ParseError`]). Unless it is `NoMemory`, the text is no path.
+    /// An error says why and where ([`ParseError`]). Any error other than `NoMemory` means that the text is not a path.
     ///
     /// ```text
     /// let path = JsonPath::parse(alloc, "$.store.book[?@.isbn].title")?;
@@ -61,7 +61,7 @@ impl JsonPath {
         Ok(JsonPath { checked })
     }
 
-    /// Parses a path, as `parse` does. It is no `std::str::FromStr`, since it takes an allocator.
+    /// Parses a path, as `parse` does. This is not `std::str::FromStr`, because it takes an allocator.
     pub fn from_str(alloc: Global, path_str: &str) -> Result<JsonPath, ParseError>
         ensures parse { IsParseOf path_view builtin_functions.signature path_str.now result }
         ensures fits { IfOk result (λ path. Fits builtin_functions (path_signatures path)) }
@@ -69,8 +69,8 @@ impl JsonPath {
         JsonPath::parse(alloc, path_str)
     }
 
-    /// Parses a path whose filters call functions of a set and the built-in ones. Of two functions with one name, that of
-    /// the set counts.
+    /// Parses a path whose filters may call the functions of a set as well as the built-in ones. If both define a name, the
+    /// set's function is used.
     ///
     /// ```text
     /// let path = JsonPath::parse_with(alloc, "$[?first(@.*) == 4]", &functions)?;
@@ -89,8 +89,8 @@ impl JsonPath {
         parse_source(alloc, &mut source, functions)
     }
 
-    /// Whether the set, before the built-in functions, declares each function that the path calls, with the signature that
-    /// the path was parsed with (RFC 9535, section 2.4.3). Takes no memory.
+    /// Whether every function that the path calls is declared, by the set or else by the built-in functions, with the
+    /// signature that it had when the path was parsed (RFC 9535, section 2.4.3). It allocates nothing.
     pub fn fits<F: Functions>(&self, functions: &F) -> bool
         ensures { IsTrue result
             ↔ Fits (before_builtin (F.set functions.now)) (path_signatures self.now) }
@@ -99,9 +99,9 @@ impl JsonPath {
     }
 
     /// The nodes that the path selects from a document, with their locations, in order (RFC 9535, section 2.1.2). The path
-    /// fits the built-in functions.
+    /// must fit the built-in functions, as a path of `parse` does.
     ///
-    /// The nodes and the names of their locations borrow the document. The error is `Pattern` only where the path calls
+    /// The nodes and the names of their locations borrow from the document. The error is `Pattern` only if the path calls
     /// `match` or `search`; otherwise it is `Memory`.
     pub fn query_located<'b>(
         &self,
@@ -117,8 +117,8 @@ impl JsonPath {
     }
 
     /// The nodes that the path selects from a document, with their locations, in order, as `query_located` gives them. The
-    /// path fits the set, before the built-in functions. The error is `Pattern` only where the path calls a name that
-    /// stands for `match` or `search`; otherwise it is `Memory`.
+    /// path must fit the set combined with the built-in functions (see `fits`). The error is `Pattern` only if the path
+    /// calls a name that stands for `match` or `search`; otherwise it is `Memory`.
     pub fn query_located_with<'b, F: Functions>(
         &self,
         alloc: Global,
@@ -133,8 +133,8 @@ impl JsonPath {
         evaluate_located(alloc, &self.checked, value, Both(functions, Builtin))
     }
 
-    /// The nodes that the path selects from a document, in order, without their locations. Errors are those of
-    /// `query_located`.
+    /// The nodes that the path selects from a document, in order, without their locations. It fails in the same
+    /// cases as `query_located`.
     ///
     /// ```text
     /// let path = JsonPath::parse(alloc, "$..book[-1:].title")?;
@@ -149,8 +149,8 @@ impl JsonPath {
         evaluate(alloc, &self.checked, value, Builtin)
     }
 
-    /// The nodes that the path selects from a document, in order, without their locations. The path fits the set, before
-    /// the built-in functions. Errors are those of `query_located_with`.
+    /// The nodes that the path selects from a document, in order, without their locations. The path must fit the set
+    /// combined with the built-in functions (see `fits`). It fails in the same cases as `query_located_with`.
     pub fn query_with<'b, F: Functions>(
         &self,
         alloc: Global,
@@ -165,8 +165,8 @@ impl JsonPath {
         evaluate(alloc, &self.checked, value, Both(functions, Builtin))
     }
 
-    /// A walk over the nodes that the path selects from a document, one at a time. The path fits the set, before the
-    /// built-in functions. It fails only if memory is refused; no function is called yet.
+    /// A walk over the nodes that the path selects from a document, one at a time. The path must fit the set combined with
+    /// the built-in functions (see `fits`). Making the walk fails only if memory is refused, and calls no function yet.
     ///
     /// ```text
     /// let mut walk = path.walk(alloc, &document, &functions)?;

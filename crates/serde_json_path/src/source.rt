@@ -36,12 +36,12 @@ pub fn parse_source<S: PathSource, F: Functions>(
     // The signatures that the path keeps are those of the set, before the built-in ones.
     ensures fits { IfOk result (λ path.
         Fits (before_builtin (F.set functions.now)) (path_signatures path)) }
-    // The source still has its text.
+    // The source's text is unchanged.
     ensures same_text { (S.told source.new).text ≡ (S.told source.old).text }
     // However the parse ends, it took at most 32(n + 1) looks at n bytes.
     ensures looks { (S.told source.new).looks
         ≤ (S.told source.old).looks + 32 * (length (S.told source.old).text + 1) }
-    // For four kinds of refusal, nothing was looked at beyond the byte after the position.
+    // For four kinds of refusal, nothing past the byte after the position was looked at.
     ensures farthest { IfErr result (λ e. is_told_at_next (kind_of e) ≡ true
         → (S.told source.new).farthest ≤ max (S.told source.old).farthest (position_of e + 1)) }
     ensures unseen { length (S.told source.old).text ≡ 2 ^ 64 - 1

@@ -27,14 +27,15 @@ use serde_json_path_functions::Functions;
 use serde_json_path_syntax::Checked;
 use std::alloc::Global;
 
-/// Parses the path of a source, from left to right by its `byte` alone, and reports the first refusal.
+/// Parses the path of a source, from left to right, looking at the text only through `byte`, and reports the first
+/// refusal.
 ///
-/// Filters may call the functions of this set alone, and the set fits the query. A text of n bytes is looked at 32(n
-/// + 1) times at most. Where a root, a name, a selector or a closing bracket is missing, at most one byte is looked
-/// at after the one that does not fit.
+/// Filters may call only functions of this set, and the query fits it. A text of n bytes is looked at no more than
+/// 32(n + 1) times. Where a root, a name, a selector or a closing bracket is missing, the parser looks at most one byte
+/// past the one that does not fit.
 ///
-/// An error says why and where ([`ParseError`]). Unless it is `NoMemory`, the text is no path. A text of `usize::MAX`
-/// bytes, whose end would have no position, is refused as `NoMemory` before any look.
+/// An error says why and where ([`ParseError`]). Any error other than `NoMemory` means that the text is not a path. A text
+/// of `usize::MAX` bytes, whose end would have no position, is refused as `NoMemory` before any look.
 ///
 /// ```text
 /// let mut source = TextSource::new("$..book[-1:].title");
@@ -48,11 +49,11 @@ pub fn parse<S: PathSource, F: Functions>(
     ensures parse { IsParseOf checked_view (F.set functions.now).signature (S.told source.old).text result }
     // The signatures that the query keeps are those of the set.
     ensures fits { IfOk result (λ checked. Fits (F.set functions.now) (signatures_of checked)) }
-    // The source still has its text.
+    // The source's text is unchanged.
     ensures same_text { (S.told source.new).text ≡ (S.told source.old).text }
     // However the parse ends, there are at most 32(n + 1) further looks at n bytes.
     ensures looks { (S.told source.new).looks ≤ (S.told source.old).looks + 32 * (length (S.told source.old).text + 1) }
-    // For four kinds nothing beyond the byte after the position was looked at.
+    // For four kinds of refusal, nothing past the byte after the position was looked at.
     ensures farthest { IfErr result (λ e. is_told_at_next (kind_of e) ≡ true
         → (S.told source.new).farthest ≤ max (S.told source.old).farthest (position_of e + 1)) }
     ensures unseen { length (S.told source.old).text ≡ 2 ^ 64 - 1 → S.told source.new ≡ S.told source.old }

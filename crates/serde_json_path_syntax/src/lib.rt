@@ -10,7 +10,7 @@
 //! let query = builder.query(QueryKind::Root, segments)?;
 //! ```
 //!
-//! Definitions are in `specs/`: `Tree` has the trees, `WellFormed` what the language asks of them, `Typing` which are
+//! Definitions are in `specs/`: `Tree` has the trees, `WellFormed` the range of their numbers, `Typing` which are
 //! well-typed, `Depth` how deep they nest, `Calls` what they call, `Text` how they print.
 #![tactic(auto)]
 

@@ -1,4 +1,4 @@
-//! Walks, which give one node with each call.
+//! Walks, which give one node per call.
 
 ghost use Rattle.serde_json.specs.View.{view};
 ghost use Rattle.serde_json_path_core.specs.Rest.{IsStack};
@@ -13,8 +13,8 @@ use serde_json_path_nodes::LocatedNode;
 
 /// The nodes that a query selects, one at a time, in order.
 ///
-/// A walk keeps no list of nodes, only one frame for each level of the document that it is in. When a call of
-/// [`Walk::next`] is refused, the remaining nodes stay as they were, and a later call goes on.
+/// A walk keeps no list of nodes, only one frame per level of the document that it is in. If a call of [`Walk::next`]
+/// fails, the remaining nodes stay as they were, and a later call goes on from there.
 #[derive(Drop)]
 pub struct Walk<'q, 'b, F: Functions> {
     pub(crate) scope: Scope<'q, 'b, F>,
@@ -30,7 +30,7 @@ impl<'q, 'b, F: Functions> Walk<'q, 'b, F> {
     ghost use Rattle.serde_json_path_core.specs.Selects.{OnlyMemory};
     ghost use Rattle.serde_json_path_core.specs.Walks.{query_of, set_of, document_of, rest, places_of, steps_of, IsClearWalk};
 
-    /// How many frames the walk keeps: at most one more than the document is high. With none, no node remains.
+    /// How many frames the walk keeps: at most the document's height plus one. With none, no node remains.
     pub fn places(&self) -> usize
         ensures count { result ≡ places_of self.now }
         ensures within { result ≤ height (document_of self.now) + 1 }
@@ -42,8 +42,8 @@ impl<'q, 'b, F: Functions> Walk<'q, 'b, F> {
     /// The next node with its location, or `None` after the last one.
     ///
     /// A refusal leaves the remaining nodes as they were, and the next call tries the same step again. So it succeeds once
-    /// memory is there, while a pattern that was refused is refused again. `Pattern` comes only if the query calls a
-    /// function that stands for `match` or `search`; every other refusal is `Memory`.
+    /// memory is there, whereas a refused pattern is refused again. The error is `Pattern` only if the query calls a
+    /// function that stands for `match` or `search`, under whatever name; otherwise it is `Memory`.
     pub fn next(&mut self) -> Result<Option<LocatedNode<'b>>, QueryError>
         ensures query { query_of self.new ≡ query_of self.old }
         ensures set { set_of self.new ≡ set_of self.old }
