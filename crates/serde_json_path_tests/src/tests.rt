@@ -23,5 +23,6 @@ mod rows;
 mod sets;
 mod slices;
 mod strings;
+mod tables;
 mod walks;
 mod words;

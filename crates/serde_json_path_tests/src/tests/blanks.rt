@@ -1,34 +1,11 @@
 //! Blanks (RFC 9535, sections 2.1.1 and 2.5.1).
 
-use crate::tests::rows::selects_each;
-use std::test::Fail;
-
 /// A path, a document, and the locations and the values of what the path selects there.
-pub(crate) const BLANKS: &[(&str, &str, &str, &str)] = &[
-    ("$ .a", r#"{"a":1}"#, " $['a']", " 1"),
-    ("$ ..a", r#"{"a":1}"#, " $['a']", " 1"),
-    (
-        "$\t\n\r .a [0]\r\n..*",
-        r#"{"a":[[1]]}"#,
-        " $['a'][0][0]",
-        " 1",
-    ),
-    (
-        r#"$[ 'a' , "b" ]"#,
-        r#"{"a":1,"b":2}"#,
-        " $['a'] $['b']",
-        " 1 2",
-    ),
-    ("$[ 'a' ]", r#"{"a":1}"#, " $['a']", " 1"),
-    (
-        "$[\t0\n,\r*\t, -1 , 0 : 1 ]",
-        "[1]",
-        " $[0] $[0] $[0] $[0]",
-        " 1 1 1 1",
-    ),
+pub(crate) const BLANKS: &[&str] = &[
+    r#"$ .a ~ {"a":1} ~ $['a'] ~ 1"#,
+    r#"$ ..a ~ {"a":1} ~ $['a'] ~ 1"#,
+    "$\t\n\r .a [0]\r\n..* ~ {\"a\":[[1]]} ~ $['a'][0][0] ~ 1",
+    r#"$[ 'a' , "b" ] ~ {"a":1,"b":2} ~ $['a'] $['b'] ~ 1 2"#,
+    r#"$[ 'a' ] ~ {"a":1} ~ $['a'] ~ 1"#,
+    "$[\t0\n,\r*\t, -1 , 0 : 1 ] ~ [1] ~ $[0] $[0] $[0] $[0] ~ 1 1 1 1",
 ];
-
-#[test]
-fn takes_blanks(rt: HostRuntime) -> Result<(), Fail> {
-    selects_each(&rt, rt.alloc(), BLANKS)
-}

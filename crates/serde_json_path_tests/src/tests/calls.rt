@@ -1,140 +1,51 @@
 //! Calls of the built-in functions (RFC 9535, sections 2.4.4 to 2.4.8).
 
-use crate::tests::rows::selects_each;
-use std::test::Fail;
-
 /// Eight names.
-const NAMES: &str = concat!(
+pub(crate) const NAMES: &str = concat!(
     r#"[{"name":"Homer Simpson"},{"name":"Marge Simpson"},{"name":"Bart Simpson"},"#,
     r#"{"name":"Lisa Simpson"},{"name":"Maggie Simpson"},{"name":"Ned Flanders"},"#,
     r#"{"name":"Rod Flanders"},{"name":"Todd Flanders"}]"#
 );
 
 /// A path, a document, and the locations and the values of what the path selects there.
-pub(crate) const CALLS: &[(&str, &str, &str, &str)] = &[
-    (
-        "$[?length(@) == 1]",
-        "[\"😀\",\"ab\",[0],{\"k\":1},7]",
-        " $[0] $[2] $[3]",
-        " \"😀\" [0] {\"k\":1}",
-    ),
-    ("$[?length( @ )==1]", r#"["a","ab"]"#, " $[0]", r#" "a""#),
-    ("$[?1 == length(@)]", r#"["a","ab"]"#, " $[0]", r#" "a""#),
-    (
-        "$[?length('ab') == length(@)]",
-        r#"["a","ab"]"#,
-        " $[1]",
-        r#" "ab""#,
-    ),
-    ("$[?length(@) < 3]", r#"["a","abc"]"#, " $[0]", r#" "a""#),
-    ("$[?length(true) == 1]", "[1]", "", ""),
-    ("$[?length(null) == 1]", "[1]", "", ""),
-    ("$[?length(1.0) == 1]", "[1]", "", ""),
-    ("$[?length(1.00) == 1]", "[1]", "", ""),
-    ("$[?length(-0.0) == 1]", "[1]", "", ""),
-    (
-        "$[?value(@..a) == 1]",
-        r#"[{"a":1},{"a":{"a":1}}]"#,
-        " $[0]",
-        r#" {"a":1}"#,
-    ),
-    (
-        r#"$[?value(@..color) == "red"]"#,
-        r#"[{"color":"red"},{"color":"blue"}]"#,
-        " $[0]",
-        r#" {"color":"red"}"#,
-    ),
-    (
-        "$[?count(@.foo.*) > 1]",
-        r#"[{"foo":[1]},{"foo":[1,2]}]"#,
-        " $[1]",
-        r#" {"foo":[1,2]}"#,
-    ),
-    (
-        "$[? count(@.foo) == 1]",
-        r#"[{"foo":"bar"},{"foo":"baz"}]"#,
-        " $[0] $[1]",
-        r#" {"foo":"bar"} {"foo":"baz"}"#,
-    ),
-    ("$[?count(@.*) == 1]", "[[1],[1,2]]", " $[0]", " [1]"),
-    (
-        "$[?length(value(@.*)) == 1]",
-        r#"[["ab"],["c"],["d","e"]]"#,
-        " $[1]",
-        r#" ["c"]"#,
-    ),
+pub(crate) const CALLS: &[&str] = &[
+    r#"$[?length(@) == 1] ~ ["😀","ab",[0],{"k":1},7] ~ $[0] $[2] $[3] ~ "😀" [0] {"k":1}"#,
+    r#"$[?length( @ )==1] ~ ["a","ab"] ~ $[0] ~ "a""#,
+    r#"$[?1 == length(@)] ~ ["a","ab"] ~ $[0] ~ "a""#,
+    r#"$[?length('ab') == length(@)] ~ ["a","ab"] ~ $[1] ~ "ab""#,
+    r#"$[?length(@) < 3] ~ ["a","abc"] ~ $[0] ~ "a""#,
+    "$[?length(true) == 1] ~ [1] ~ nothing",
+    "$[?length(null) == 1] ~ [1] ~ nothing",
+    "$[?length(1.0) == 1] ~ [1] ~ nothing",
+    "$[?length(1.00) == 1] ~ [1] ~ nothing",
+    "$[?length(-0.0) == 1] ~ [1] ~ nothing",
+    r#"$[?value(@..a) == 1] ~ [{"a":1},{"a":{"a":1}}] ~ $[0] ~ {"a":1}"#,
+    r#"$[?value(@..color) == "red"] ~ [{"color":"red"},{"color":"blue"}] ~ $[0] ~ {"color":"red"}"#,
+    r#"$[?count(@.foo.*) > 1] ~ [{"foo":[1]},{"foo":[1,2]}] ~ $[1] ~ {"foo":[1,2]}"#,
+    r#"$[? count(@.foo) == 1] ~ [{"foo":"bar"},{"foo":"baz"}] ~ $[0] $[1] ~ {"foo":"bar"} {"foo":"baz"}"#,
+    "$[?count(@.*) == 1] ~ [[1],[1,2]] ~ $[0] ~ [1]",
+    r#"$[?length(value(@.*)) == 1] ~ [["ab"],["c"],["d","e"]] ~ $[1] ~ ["c"]"#,
 ];
 
 /// A path, a document, and the locations and the values of what the path selects there.
-pub(crate) const PATTERNS: &[(&str, &str, &str, &str)] = &[
-    ("$[?match(@,'b')]", r#"["abc","b"]"#, " $[1]", r#" "b""#),
-    (
-        "$[?search(@,'b')]",
-        r#"["abc","b"]"#,
-        " $[0] $[1]",
-        r#" "abc" "b""#,
-    ),
-    ("$[?!match(@,'(')]", r#"["a"]"#, " $[0]", r#" "a""#),
-    ("$[?!search(@,'(')]", r#"["a"]"#, " $[0]", r#" "a""#),
-    ("$[?search(@.foo,'(')]", r#"[{"foo":"bar"}]"#, "", ""),
-    ("$[?match(@, 1)]", r#"["1"]"#, "", ""),
-    ("$[?search(@, 1)]", r#"["1"]"#, "", ""),
-    (
-        "$[?match(@, '1')]",
-        r#"[1,null,["1"],"1"]"#,
-        " $[3]",
-        r#" "1""#,
-    ),
-    (
-        "$[?match(@,'a)|(b')]",
-        r#"["ax","xb","xbx"]"#,
-        " $[0] $[1]",
-        r#" "ax" "xb""#,
-    ),
-    (
-        "$[?match(@.foo,'|')]",
-        r#"[{"foo":"bar"},{"foo":"biz"}]"#,
-        "",
-        "",
-    ),
-    (
-        "$[?match(@.foo,'(')]",
-        r#"[{"foo":"bar"},{"foo":"biz"}]"#,
-        "",
-        "",
-    ),
-    (
-        "$[? match(@.name, 'M[A-Za-z ]*Simpson')].name",
-        NAMES,
-        " $[1]['name'] $[4]['name']",
-        r#" "Marge Simpson" "Maggie Simpson""#,
-    ),
-    (
-        "$[? search(@.name, 'Flanders')]",
-        NAMES,
-        " $[5] $[6] $[7]",
-        r#" {"name":"Ned Flanders"} {"name":"Rod Flanders"} {"name":"Todd Flanders"}"#,
-    ),
-    (
-        r#"$[?@.a=='x'&&!match(@.b , "b")]"#,
-        r#"[{"a":"x","b":"b"},{"a":"x","b":"c"}]"#,
-        " $[1]",
-        r#" {"a":"x","b":"c"}"#,
-    ),
-    (
-        "$[?match(@.timezone, 'Europe/.*')]",
-        r#"[{"timezone":"Europe/Paris"},{"timezone":"Asia/Tokyo"}]"#,
-        " $[0]",
-        r#" {"timezone":"Europe/Paris"}"#,
-    ),
+pub(crate) const PATTERNS: &[&str] = &[
+    r#"$[?match(@,'b')] ~ ["abc","b"] ~ $[1] ~ "b""#,
+    r#"$[?search(@,'b')] ~ ["abc","b"] ~ $[0] $[1] ~ "abc" "b""#,
+    r#"$[?!match(@,'(')] ~ ["a"] ~ $[0] ~ "a""#,
+    r#"$[?!search(@,'(')] ~ ["a"] ~ $[0] ~ "a""#,
+    r#"$[?search(@.foo,'(')] ~ [{"foo":"bar"}] ~ nothing"#,
+    r#"$[?match(@, 1)] ~ ["1"] ~ nothing"#,
+    r#"$[?search(@, 1)] ~ ["1"] ~ nothing"#,
+    r#"$[?match(@, '1')] ~ [1,null,["1"],"1"] ~ $[3] ~ "1""#,
+    r#"$[?match(@,'a)|(b')] ~ ["ax","xb","xbx"] ~ $[0] $[1] ~ "ax" "xb""#,
+    r#"$[?match(@.foo,'|')] ~ [{"foo":"bar"},{"foo":"biz"}] ~ nothing"#,
+    r#"$[?match(@.foo,'(')] ~ [{"foo":"bar"},{"foo":"biz"}] ~ nothing"#,
+    r#"$[?@.a=='x'&&!match(@.b , "b")] ~ [{"a":"x","b":"b"},{"a":"x","b":"c"}] ~ $[1] ~ {"a":"x","b":"c"}"#,
+    r#"$[?match(@.timezone, 'Europe/.*')] ~ [{"timezone":"Europe/Paris"},{"timezone":"Asia/Tokyo"}] ~ $[0] ~ {"timezone":"Europe/Paris"}"#,
 ];
 
-#[test]
-fn selects_by_calls(rt: HostRuntime) -> Result<(), Fail> {
-    selects_each(&rt, rt.alloc(), CALLS)
-}
-
-#[test]
-fn selects_by_patterns(rt: HostRuntime) -> Result<(), Fail> {
-    selects_each(&rt, rt.alloc(), PATTERNS)
-}
+/// A path, and the locations and the values of what it selects from [`NAMES`].
+pub(crate) const OF_NAMES: &[&str] = &[
+    r#"$[? match(@.name, 'M[A-Za-z ]*Simpson')].name ~ $[1]['name'] $[4]['name'] ~ "Marge Simpson" "Maggie Simpson""#,
+    r#"$[? search(@.name, 'Flanders')] ~ $[5] $[6] $[7] ~ {"name":"Ned Flanders"} {"name":"Rod Flanders"} {"name":"Todd Flanders"}"#,
+];

@@ -29,9 +29,9 @@ fn pointers(alloc: Global, path: &str, document: &str) -> Result<String, Fail> {
 fn tells_locations(rt: HostRuntime) -> Result<(), Fail> {
     let alloc = rt.alloc();
     let twice = once(alloc, "$['a','a']", r#"{"a":1}"#)?;
-    assert_eq!(rt; twice.as_str(), " $['a']");
+    assert_eq!(rt; twice.as_str(), "$['a']");
     let turned = once(alloc, "$[1,0,1,0]", r#"["a","b"]"#)?;
-    assert_eq!(rt; turned.as_str(), " $[1] $[0]");
+    assert_eq!(rt; turned.as_str(), "$[1] $[0]");
     let below = pointers(alloc, "$..*", r#"{"a/~":[0]}"#)?;
     assert_eq!(rt; below.as_str(), "/a~1~0;/a~1~0/0;");
     let root = pointers(alloc, "$", r#"{"a/~":[0]}"#)?;

@@ -1,112 +1,45 @@
 //! The words of refusals.
 
 use crate::tests::nesting::parentheses;
+use crate::tests::rows::fields;
 use serde_json_path::JsonPath;
 use std::alloc::Global;
 use std::process::Abort;
 use std::test::Fail;
 
 /// A text, and the message of its refusal.
-const TOLD: &[(&str, &str)] = &[
-    ("x", "at position 1, expected '$'"),
-    (
-        "$.",
-        "at position 3, in dot member name, must start with a letter, '_' or a non-ASCII character",
-    ),
-    (
-        "$..",
-        "at position 4, must start with a letter, '_' or a non-ASCII character",
-    ),
-    (
-        "$[",
-        "at position 3, in long-hand segment, expected a selector",
-    ),
-    (
-        "$['a'",
-        "at position 6, in long-hand segment, expected closing ']'",
-    ),
-    (
-        "$['a",
-        "at position 5, in long-hand segment, expected an ending quote",
-    ),
-    (
-        r#"$["\u"#,
-        "at position 4, in long-hand segment, bad escape",
-    ),
-    (
-        "$['a\t']",
-        "at position 5, in long-hand segment, control character in a string",
-    ),
-    (
-        "$[9007199254740992]",
-        "at position 3, in long-hand segment, integer out of range",
-    ),
-    ("$.a['b']tail", "at position 9, text after the path"),
-    (
-        "$[0].",
-        "at position 6, in dot member name, must start with a letter, '_' or a non-ASCII character",
-    ),
-    (
-        "$[?@.]",
-        "at position 6, in long-hand segment, must start with a letter, '_' or a non-ASCII character",
-    ),
-    (
-        "$[?@ == 1.]",
-        "at position 9, in long-hand segment, exponent or empty fraction not supported",
-    ),
-    (
-        "$[?@ == 1.5e3]",
-        "at position 9, in long-hand segment, exponent or empty fraction not supported",
-    ),
-    (
-        "$[?@ == 0.0000000001]",
-        "at position 9, in long-hand segment, fraction of more than 9 digits",
-    ),
-    (
-        "$[?@ == 18446744073709551616]",
-        "at position 9, in long-hand segment, number out of range",
-    ),
-    (
-        "$[?@.a == ]",
-        "at position 11, in long-hand segment, expected an expression",
-    ),
-    (
-        "$[?(@.a]",
-        "at position 8, in long-hand segment, expected closing ')'",
-    ),
-    (
-        "$[?true]",
-        "at position 8, in long-hand segment, expected a comparison operator",
-    ),
-    (
-        "$[?@.* == 1]",
-        "at position 4, in long-hand segment, non-singular query in a comparison",
-    ),
-    (
-        "$[?first(@.*) == 4]",
-        "at position 4, in long-hand segment, undefined function",
-    ),
-    (
-        "$[?count() == 1]",
-        "at position 4, in long-hand segment, wrong number of arguments",
-    ),
-    (
-        "$[?count(1) == 1]",
-        "at position 10, in long-hand segment, argument of the wrong type",
-    ),
-    (
-        "$[?length(@.author)]",
-        "at position 4, in long-hand segment, function with incorrect return type used",
-    ),
+const TOLD: &[&str] = &[
+    "x ~ at position 1, expected '$'",
+    "$. ~ at position 3, in dot member name, must start with a letter, '_' or a non-ASCII character",
+    "$.. ~ at position 4, must start with a letter, '_' or a non-ASCII character",
+    "$[ ~ at position 3, in long-hand segment, expected a selector",
+    "$['a' ~ at position 6, in long-hand segment, expected closing ']'",
+    "$['a ~ at position 5, in long-hand segment, expected an ending quote",
+    r#"$["\u ~ at position 4, in long-hand segment, bad escape"#,
+    "$['a\t'] ~ at position 5, in long-hand segment, control character in a string",
+    "$[9007199254740992] ~ at position 3, in long-hand segment, integer out of range",
+    "$.a['b']tail ~ at position 9, text after the path",
+    "$[0]. ~ at position 6, in dot member name, must start with a letter, '_' or a non-ASCII character",
+    "$[?@.] ~ at position 6, in long-hand segment, must start with a letter, '_' or a non-ASCII character",
+    "$[?@ == 1.] ~ at position 9, in long-hand segment, exponent or empty fraction not supported",
+    "$[?@ == 1.5e3] ~ at position 9, in long-hand segment, exponent or empty fraction not supported",
+    "$[?@ == 0.0000000001] ~ at position 9, in long-hand segment, fraction of more than 9 digits",
+    "$[?@ == 18446744073709551616] ~ at position 9, in long-hand segment, number out of range",
+    "$[?@.a == ] ~ at position 11, in long-hand segment, expected an expression",
+    "$[?(@.a] ~ at position 8, in long-hand segment, expected closing ')'",
+    "$[?true] ~ at position 8, in long-hand segment, expected a comparison operator",
+    "$[?@.* == 1] ~ at position 4, in long-hand segment, non-singular query in a comparison",
+    "$[?first(@.*) == 4] ~ at position 4, in long-hand segment, undefined function",
+    "$[?count() == 1] ~ at position 4, in long-hand segment, wrong number of arguments",
+    "$[?count(1) == 1] ~ at position 10, in long-hand segment, argument of the wrong type",
+    "$[?length(@.author)] ~ at position 4, in long-hand segment, function with incorrect return type used",
 ];
 
-/// Each row has a text that is refused, and the message.
-fn tells_each(rt: &impl Abort, alloc: Global, rows: &[(&str, &str)]) -> Result<(), Fail> {
-    for &(text, told) in rows {
-        match JsonPath::parse(alloc, text) {
-            Ok(_) => assert!(rt; false, "{text:?} is accepted"),
-            Err(e) => assert_eq!(rt; e.to_string(alloc)?.as_str(), told, "of {text:?}"),
-        }
+/// Holds a text that is refused to the message.
+fn tells(rt: &impl Abort, alloc: Global, text: &str, told: &str) -> Result<(), Fail> {
+    match JsonPath::parse(alloc, text) {
+        Ok(_) => assert!(rt; false, "{text:?} is accepted"),
+        Err(e) => assert_eq!(rt; e.to_string(alloc)?.as_str(), told, "of {text:?}"),
     }
     Ok(())
 }
@@ -114,8 +47,11 @@ fn tells_each(rt: &impl Abort, alloc: Global, rows: &[(&str, &str)]) -> Result<(
 #[test]
 fn tells_refusals(rt: HostRuntime) -> Result<(), Fail> {
     let alloc = rt.alloc();
-    tells_each(&rt, alloc, TOLD)?;
+    for &row in TOLD {
+        let (text, message) = fields(row)?;
+        tells(&rt, alloc, text, message)?;
+    }
     let deep = parentheses(alloc, 128)?;
     let told = "at position 131, in long-hand segment, nested more than 128 deep";
-    tells_each(&rt, alloc, &[(deep.as_str(), told)])
+    tells(&rt, alloc, deep.as_str(), told)
 }

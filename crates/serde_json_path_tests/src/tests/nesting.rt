@@ -1,11 +1,8 @@
 //! Filters, parentheses and calls within each other (RFC 9535, section 2.3.5.1), of which 128 are taken.
 
 use crate::tests::long_texts::long;
-use crate::tests::rows::refuses;
-use serde_json_path::JsonPath;
-use serde_json_path::ParseErrorKind::{NestedTooDeep, NonSingularQuery};
+use crate::tests::rows::{fields, parses};
 use std::alloc::{AllocError, Global};
-use std::process::Abort;
 use std::test::Fail;
 
 /// The beginning, so many openings, the middle, so many closings, and the end.
@@ -54,71 +51,62 @@ fn mixed(alloc: Global, segment: &str) -> Result<String, AllocError> {
     )
 }
 
-/// Holds a text to be a path.
-fn accepts(rt: &impl Abort, alloc: Global, text: &str) {
-    let refusal = JsonPath::parse(alloc, text).err();
-    assert_eq!(rt; refusal, None, "of {text:?}");
-}
-
 #[test]
 fn nests_filters(rt: HostRuntime) -> Result<(), Fail> {
     let alloc = rt.alloc();
-    accepts(&rt, alloc, filters(alloc, 127)?.as_str());
-    accepts(&rt, alloc, filters(alloc, 128)?.as_str());
+    parses(&rt, alloc, filters(alloc, 127)?.as_str(), "accepted")?;
+    parses(&rt, alloc, filters(alloc, 128)?.as_str(), "accepted")?;
     let deep = filters(alloc, 129)?;
-    refuses(&rt, alloc, deep.as_str(), NestedTooDeep, 387);
+    parses(&rt, alloc, deep.as_str(), "NestedTooDeep 387")?;
     let compared = nested(alloc, ("$", "[?@", 128), "", ("]", 127, " == 1]"))?;
-    refuses(&rt, alloc, compared.as_str(), NonSingularQuery, 4);
-    Ok(())
+    parses(&rt, alloc, compared.as_str(), "NonSingularQuery 4")
 }
 
 #[test]
 fn nests_parentheses(rt: HostRuntime) -> Result<(), Fail> {
     let alloc = rt.alloc();
-    accepts(&rt, alloc, parentheses(alloc, 126)?.as_str());
-    accepts(&rt, alloc, parentheses(alloc, 127)?.as_str());
+    parses(&rt, alloc, parentheses(alloc, 126)?.as_str(), "accepted")?;
+    parses(&rt, alloc, parentheses(alloc, 127)?.as_str(), "accepted")?;
     let deep = parentheses(alloc, 128)?;
-    refuses(&rt, alloc, deep.as_str(), NestedTooDeep, 131);
-    accepts(&rt, alloc, negated(alloc, 127)?.as_str());
+    parses(&rt, alloc, deep.as_str(), "NestedTooDeep 131")?;
+    parses(&rt, alloc, negated(alloc, 127)?.as_str(), "accepted")?;
     let deep = negated(alloc, 128)?;
-    refuses(&rt, alloc, deep.as_str(), NestedTooDeep, 259);
-    Ok(())
+    parses(&rt, alloc, deep.as_str(), "NestedTooDeep 259")
 }
 
 #[test]
 fn nests_calls(rt: HostRuntime) -> Result<(), Fail> {
     let alloc = rt.alloc();
-    accepts(&rt, alloc, calls(alloc, 126)?.as_str());
-    accepts(&rt, alloc, calls(alloc, 127)?.as_str());
+    parses(&rt, alloc, calls(alloc, 126)?.as_str(), "accepted")?;
+    parses(&rt, alloc, calls(alloc, 127)?.as_str(), "accepted")?;
     let deep = calls(alloc, 128)?;
-    refuses(&rt, alloc, deep.as_str(), NestedTooDeep, 893);
-    Ok(())
+    parses(&rt, alloc, deep.as_str(), "NestedTooDeep 893")
 }
 
 /// Segments that nest once or twice more.
 const SHALLOW: &[&str] = &["[?@]", "[?(@)]", "[?!(@)]", "[?count(@) == 1]", "[?@[?@]]"];
 
 /// Segments that nest three times more, and where the third opening comes after the others.
-const DEEP: &[(&str, usize)] = &[
-    ("[?((@))]", 425),
-    ("[?(!(@))]", 426),
-    ("[?(count(@) == 1)]", 425),
-    ("[?(none(@))]", 425),
-    ("[?(@[?@])]", 427),
-    ("[?@[?(@)]]", 427),
-    ("[?@[?@[?@]]]", 429),
-    ("[?count(@[?@]) == 1]", 432),
+const DEEP: &[&str] = &[
+    "[?((@))] ~ NestedTooDeep 425",
+    "[?(!(@))] ~ NestedTooDeep 426",
+    "[?(count(@) == 1)] ~ NestedTooDeep 425",
+    "[?(none(@))] ~ NestedTooDeep 425",
+    "[?(@[?@])] ~ NestedTooDeep 427",
+    "[?@[?(@)]] ~ NestedTooDeep 427",
+    "[?@[?@[?@]]] ~ NestedTooDeep 429",
+    "[?count(@[?@]) == 1] ~ NestedTooDeep 432",
 ];
 
 #[test]
 fn nests_all_in_turn(rt: HostRuntime) -> Result<(), Fail> {
     let alloc = rt.alloc();
     for &segment in SHALLOW {
-        accepts(&rt, alloc, mixed(alloc, segment)?.as_str());
+        parses(&rt, alloc, mixed(alloc, segment)?.as_str(), "accepted")?;
     }
-    for &(segment, position) in DEEP {
-        let deep = mixed(alloc, segment)?;
-        refuses(&rt, alloc, deep.as_str(), NestedTooDeep, position);
+    for &row in DEEP {
+        let (segment, refusal) = fields(row)?;
+        parses(&rt, alloc, mixed(alloc, segment)?.as_str(), refusal)?;
     }
     Ok(())
 }
@@ -128,10 +116,9 @@ fn nests_all_in_turn(rt: HostRuntime) -> Result<(), Fail> {
 fn counts_what_is_open(rt: HostRuntime) -> Result<(), Fail> {
     let alloc = rt.alloc();
     let many = long(alloc, "$[?(@)", " && (@)", 200, "]")?;
-    accepts(&rt, alloc, many.as_str());
+    parses(&rt, alloc, many.as_str(), "accepted")?;
     let many = long(alloc, "$[?count(@) == 1", " || count(@) == 1", 200, "]")?;
-    accepts(&rt, alloc, many.as_str());
+    parses(&rt, alloc, many.as_str(), "accepted")?;
     let many = long(alloc, "$", "[?@]", 200, "")?;
-    accepts(&rt, alloc, many.as_str());
-    Ok(())
+    parses(&rt, alloc, many.as_str(), "accepted")
 }

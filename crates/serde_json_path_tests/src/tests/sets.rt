@@ -2,20 +2,16 @@
 
 ghost use Rattle.serde_json_path_tests.specs.TestSets.{kids_functions, odd_functions, strange_functions, pair_functions};
 
-use crate::tests::cuts::cut_with;
+use crate::tests::cuts::cut_rows_with;
 use crate::tests::nesting::nested;
-use crate::tests::rows::{locations, values};
+use crate::tests::rows::{fields, locations, selected, told, values};
 use crate::tests::walks::gives_each;
 use serde_json::Value;
-use serde_json_path::ParseErrorKind::{
-    ExpectedComparisonOperator, ExpectedExpression, NestedTooDeep, UndefinedFunction,
-    WrongArgumentType, WrongNumberOfArguments, WrongReturnType,
-};
 use serde_json_path::functions::FunctionArgType::{Logical, Nodelist};
 use serde_json_path::functions::{
     Builtin, FunctionArgType, FunctionValue, Functions, LogicalType, Signature, ValueType,
 };
-use serde_json_path::{JsonPath, ParseErrorKind, QueryError};
+use serde_json_path::{JsonPath, QueryError};
 use std::alloc::Global;
 use std::process::Abort;
 use std::test::Fail;
@@ -160,9 +156,12 @@ fn selects_each_with<F: Functions>(
     rt: &impl Abort,
     alloc: Global,
     functions: &F,
-    rows: &[(&str, &str, &str, &str)],
+    rows: &[&str],
 ) -> Result<(), Fail> {
-    for &(text, document, places, wanted) in rows {
+    for &row in rows {
+        let (text, rest) = fields(row)?;
+        let (document, end) = fields(rest)?;
+        let (places, wanted) = selected(end)?;
         let path = JsonPath::parse_with(alloc, text, functions)?;
         let document = Value::from_str(alloc, document)?;
         let located = path.query_located_with(alloc, &document, functions)?;
@@ -177,190 +176,113 @@ fn selects_each_with<F: Functions>(
     Ok(())
 }
 
-/// Holds a text to the kind and the position of its refusal under the set.
-fn refuses_with<F: Functions>(
+/// Holds a text to what its parse answers under the set.
+fn parses_with<F: Functions>(
     rt: &impl Abort,
     alloc: Global,
     functions: &F,
-    (text, kind, position): (&str, ParseErrorKind, usize),
-) {
-    match JsonPath::parse_with(alloc, text, functions) {
-        Ok(_) => assert!(rt; false, "{text:?} is accepted"),
-        Err(e) => {
-            assert_eq!(rt; e.kind(), kind, "of {text:?}");
-            assert_eq!(rt; e.position(), position, "of {text:?}");
-        }
-    }
-}
-
-/// Cuts the paths of a table of what is selected, and the texts of a table of what is refused, under the set.
-fn cut_rows<F: Functions>(
-    rt: &impl Abort,
-    alloc: Global,
-    functions: &F,
-    paths: &[(&str, &str, &str, &str)],
-    texts: &[(&str, ParseErrorKind, usize)],
-) {
-    for &(text, _, _, _) in paths {
-        cut_with(rt, alloc, functions, text);
-    }
-    for &(text, _, _) in texts {
-        cut_with(rt, alloc, functions, text);
-    }
-}
-
-/// Each row has a text, and the kind and the position of its refusal under the set.
-fn refuses_each_with<F: Functions>(
-    rt: &impl Abort,
-    alloc: Global,
-    functions: &F,
-    rows: &[(&str, ParseErrorKind, usize)],
+    (text, wanted): (&str, &str),
 ) -> Result<(), Fail> {
-    for &row in rows {
-        refuses_with(rt, alloc, functions, row);
-    }
+    let answer = told(alloc, JsonPath::parse_with(alloc, text, functions))?;
+    assert_eq!(rt; answer.as_str(), wanted, "of {text:?}");
     Ok(())
 }
 
-/// A path, a document, and the locations and the values of what the path selects there.
-const KIDS: &[(&str, &str, &str, &str)] = &[
-    ("$[?kids(@.*)]", "[[],[1]]", " $[1]", " [1]"),
-    ("$[?!kids(@.*)]", "[[],[1]]", " $[0]", " []"),
-    ("$[?kids(kids(@.*))]", "[[],[1]]", " $[1]", " [1]"),
-    (
-        "$[?count(kids(@.*)) == 2]",
-        "[[1,1],[1]]",
-        " $[0]",
-        " [1,1]",
-    ),
-    ("$[?length(@) == 2]", r#"["ab"]"#, " $[0]", r#" "ab""#),
-];
-
-/// A text, and the kind and the position of its refusal.
-const NO_KIDS: &[(&str, ParseErrorKind, usize)] = &[
-    ("$[?kids(@.*) == 1]", WrongReturnType, 4),
-    ("$[?1 == kids(@.*)]", WrongReturnType, 9),
-    ("$[?kids(1)]", WrongArgumentType, 9),
-    ("$[?length(kids(@.*)) == 1]", WrongArgumentType, 11),
-];
-
-/// A path, a document, and the locations and the values of what the path selects there.
-const ODD: &[(&str, &str, &str, &str)] = &[
-    ("$[?length(@.*) == 3]", "[[1,2],[1]]", " $[0]", " [1,2]"),
-    ("$[?count(@.*) == 1]", "[[1,2],[1]]", " $[1]", " [1]"),
-];
-
-/// A text, and the kind and the position of its refusal.
-const NO_ODD: &[(&str, ParseErrorKind, usize)] = &[("$[?length(1) == 3]", WrongArgumentType, 11)];
-
-/// A path, a document, and the locations and the values of what the path selects there.
-const STRANGE: &[(&str, &str, &str, &str)] = &[
-    ("$[?f()]", "[1,2]", " $[0] $[1]", " 1 2"),
-    ("$[?f( )]", "[1,2]", " $[0] $[1]", " 1 2"),
-    ("$[?true()]", "[0]", " $[0]", " 0"),
-    ("$[?@ == true || true()]", "[0]", " $[0]", " 0"),
-    ("$[?eight(1,2,3,4,5,6,7,8)]", "[0]", " $[0]", " 0"),
-    ("$[?@.a && refuse()]", "[{}]", "", ""),
-    (
-        "$[?@.a || refuse()]",
-        r#"[{"a":1}]"#,
-        " $[0]",
-        r#" {"a":1}"#,
-    ),
-];
-
-/// A text, and the kind and the position of its refusal.
-const NO_STRANGE: &[(&str, ParseErrorKind, usize)] = &[
-    ("$[?true == true()]", WrongReturnType, 12),
-    ("$[?eight(1,2,3,4,5,6,7,8,9)]", WrongNumberOfArguments, 4),
-    ("$[?eight(1,2,3,4,5,6,7)]", WrongNumberOfArguments, 4),
-    ("$[?f(@)]", WrongNumberOfArguments, 4),
-    ("$[?f() == 1]", WrongReturnType, 4),
-    ("$[?g()]", UndefinedFunction, 4),
-    ("$[?true]", ExpectedComparisonOperator, 8),
-];
-
-/// A path, a document, and the locations and the values of what the path selects there.
-const PAIRS: &[(&str, &str, &str, &str)] = &[
-    (
-        "$[?both(@.a, @.b > 1)]",
-        r#"[{"a":1,"b":2},{"a":1,"b":1},{"b":3}]"#,
-        " $[0]",
-        r#" {"a":1,"b":2}"#,
-    ),
-    ("$[?none() == @.x]", r#"[{},{"x":1}]"#, " $[0]", " {}"),
-    (
-        "$[?both(both(@.a, @.b), !@.c)]",
-        r#"[{"a":1,"b":1},{"a":1,"b":1,"c":1}]"#,
-        " $[0]",
-        r#" {"a":1,"b":1}"#,
-    ),
-    (
-        "$[?both((@.a), @.b || @.c)]",
-        r#"[{"a":0,"c":0},{"a":0}]"#,
-        " $[0]",
-        r#" {"a":0,"c":0}"#,
-    ),
-    (
-        "$[?both(!(@.a), 1 == @.c && @.d)]",
-        r#"[{"c":1,"d":0},{"a":0,"c":1,"d":0}]"#,
-        " $[0]",
-        r#" {"c":1,"d":0}"#,
-    ),
-    (
-        "$[?both(match(@.a, 'x'), @)]",
-        r#"[{"a":"x"},{"a":"y"}]"#,
-        " $[0]",
-        r#" {"a":"x"}"#,
-    ),
-    (
-        "$[?both(length(@) == 1, @.*)]",
-        r#"[{"a":0},"a"]"#,
-        " $[0]",
-        r#" {"a":0}"#,
-    ),
-];
-
-/// A text, and the kind and the position of its refusal.
-const NO_PAIRS: &[(&str, ParseErrorKind, usize)] = &[
-    ("$[?both(true, @)]", WrongArgumentType, 9),
-    ("$[?both(@.a, none())]", WrongArgumentType, 14),
-    ("$[?both(@.a && 1, @)]", ExpectedComparisonOperator, 17),
-    ("$[?both((1), @)]", ExpectedComparisonOperator, 11),
-    ("$[?both(length(@), @)]", WrongArgumentType, 9),
-    ("$[?both(length(@) && @, @)]", WrongReturnType, 9),
-    ("$[?both(@.a)]", WrongNumberOfArguments, 4),
-    ("$[?both(1 == 1, 1)]", WrongArgumentType, 17),
-    ("$[?both(!1, @)]", ExpectedExpression, 10),
-    ("$[?none()]", WrongReturnType, 4),
-];
-
-#[test]
-fn calls_functions_of_kids(rt: HostRuntime) -> Result<(), Fail> {
-    let alloc = rt.alloc();
-    selects_each_with(&rt, alloc, &Kids, KIDS)?;
-    refuses_each_with(&rt, alloc, &Kids, NO_KIDS)
+/// Holds a set to a table of what is selected and to one of what is refused, and cuts the rows of both.
+fn holds<F: Functions>(
+    rt: &impl Abort,
+    alloc: Global,
+    functions: &F,
+    (paths, refused): (&[&str], &[&str]),
+) -> Result<(), Fail> {
+    selects_each_with(rt, alloc, functions, paths)?;
+    for &row in refused {
+        parses_with(rt, alloc, functions, fields(row)?)?;
+    }
+    cut_rows_with(rt, alloc, functions, paths)?;
+    cut_rows_with(rt, alloc, functions, refused)
 }
 
-#[test]
-fn calls_functions_of_odd(rt: HostRuntime) -> Result<(), Fail> {
-    let alloc = rt.alloc();
-    selects_each_with(&rt, alloc, &Odd, ODD)?;
-    refuses_each_with(&rt, alloc, &Odd, NO_ODD)
-}
+/// A path, a document, and the locations and the values of what the path selects there.
+const KIDS: &[&str] = &[
+    "$[?kids(@.*)] ~ [[],[1]] ~ $[1] ~ [1]",
+    "$[?!kids(@.*)] ~ [[],[1]] ~ $[0] ~ []",
+    "$[?kids(kids(@.*))] ~ [[],[1]] ~ $[1] ~ [1]",
+    "$[?count(kids(@.*)) == 2] ~ [[1,1],[1]] ~ $[0] ~ [1,1]",
+    r#"$[?length(@) == 2] ~ ["ab"] ~ $[0] ~ "ab""#,
+];
+
+/// A text, and the kind and the position of its refusal.
+const NO_KIDS: &[&str] = &[
+    "$[?kids(@.*) == 1] ~ WrongReturnType 4",
+    "$[?1 == kids(@.*)] ~ WrongReturnType 9",
+    "$[?kids(1)] ~ WrongArgumentType 9",
+    "$[?length(kids(@.*)) == 1] ~ WrongArgumentType 11",
+];
+
+/// A path, a document, and the locations and the values of what the path selects there.
+const ODD: &[&str] = &[
+    "$[?length(@.*) == 3] ~ [[1,2],[1]] ~ $[0] ~ [1,2]",
+    "$[?count(@.*) == 1] ~ [[1,2],[1]] ~ $[1] ~ [1]",
+];
+
+/// A text, and the kind and the position of its refusal.
+const NO_ODD: &[&str] = &["$[?length(1) == 3] ~ WrongArgumentType 11"];
+
+/// A path, a document, and the locations and the values of what the path selects there.
+const STRANGE: &[&str] = &[
+    "$[?f()] ~ [1,2] ~ $[0] $[1] ~ 1 2",
+    "$[?f( )] ~ [1,2] ~ $[0] $[1] ~ 1 2",
+    "$[?true()] ~ [0] ~ $[0] ~ 0",
+    "$[?@ == true || true()] ~ [0] ~ $[0] ~ 0",
+    "$[?eight(1,2,3,4,5,6,7,8)] ~ [0] ~ $[0] ~ 0",
+    "$[?@.a && refuse()] ~ [{}] ~ nothing",
+    r#"$[?@.a || refuse()] ~ [{"a":1}] ~ $[0] ~ {"a":1}"#,
+];
+
+/// A text, and the kind and the position of its refusal.
+const NO_STRANGE: &[&str] = &[
+    "$[?true == true()] ~ WrongReturnType 12",
+    "$[?eight(1,2,3,4,5,6,7,8,9)] ~ WrongNumberOfArguments 4",
+    "$[?eight(1,2,3,4,5,6,7)] ~ WrongNumberOfArguments 4",
+    "$[?f(@)] ~ WrongNumberOfArguments 4",
+    "$[?f() == 1] ~ WrongReturnType 4",
+    "$[?g()] ~ UndefinedFunction 4",
+    "$[?true] ~ ExpectedComparisonOperator 8",
+];
+
+/// A path, a document, and the locations and the values of what the path selects there.
+const PAIRS: &[&str] = &[
+    r#"$[?both(@.a, @.b > 1)] ~ [{"a":1,"b":2},{"a":1,"b":1},{"b":3}] ~ $[0] ~ {"a":1,"b":2}"#,
+    r#"$[?none() == @.x] ~ [{},{"x":1}] ~ $[0] ~ {}"#,
+    r#"$[?both(both(@.a, @.b), !@.c)] ~ [{"a":1,"b":1},{"a":1,"b":1,"c":1}] ~ $[0] ~ {"a":1,"b":1}"#,
+    r#"$[?both((@.a), @.b || @.c)] ~ [{"a":0,"c":0},{"a":0}] ~ $[0] ~ {"a":0,"c":0}"#,
+    r#"$[?both(!(@.a), 1 == @.c && @.d)] ~ [{"c":1,"d":0},{"a":0,"c":1,"d":0}] ~ $[0] ~ {"c":1,"d":0}"#,
+    r#"$[?both(match(@.a, 'x'), @)] ~ [{"a":"x"},{"a":"y"}] ~ $[0] ~ {"a":"x"}"#,
+    r#"$[?both(length(@) == 1, @.*)] ~ [{"a":0},"a"] ~ $[0] ~ {"a":0}"#,
+];
+
+/// A text, and the kind and the position of its refusal.
+const NO_PAIRS: &[&str] = &[
+    "$[?both(true, @)] ~ WrongArgumentType 9",
+    "$[?both(@.a, none())] ~ WrongArgumentType 14",
+    "$[?both(@.a && 1, @)] ~ ExpectedComparisonOperator 17",
+    "$[?both((1), @)] ~ ExpectedComparisonOperator 11",
+    "$[?both(length(@), @)] ~ WrongArgumentType 9",
+    "$[?both(length(@) && @, @)] ~ WrongReturnType 9",
+    "$[?both(@.a)] ~ WrongNumberOfArguments 4",
+    "$[?both(1 == 1, 1)] ~ WrongArgumentType 17",
+    "$[?both(!1, @)] ~ ExpectedExpression 10",
+    "$[?none()] ~ WrongReturnType 4",
+];
 
 #[test]
-fn calls_functions_of_strange(rt: HostRuntime) -> Result<(), Fail> {
+fn calls_functions_of_sets(rt: HostRuntime) -> Result<(), Fail> {
     let alloc = rt.alloc();
-    selects_each_with(&rt, alloc, &Strange, STRANGE)?;
-    refuses_each_with(&rt, alloc, &Strange, NO_STRANGE)
-}
-
-#[test]
-fn calls_functions_of_pairs(rt: HostRuntime) -> Result<(), Fail> {
-    let alloc = rt.alloc();
-    selects_each_with(&rt, alloc, &Pairs, PAIRS)?;
-    refuses_each_with(&rt, alloc, &Pairs, NO_PAIRS)
+    holds(&rt, alloc, &Kids, (KIDS, NO_KIDS))?;
+    holds(&rt, alloc, &Odd, (ODD, NO_ODD))?;
+    holds(&rt, alloc, &Strange, (STRANGE, NO_STRANGE))?;
+    holds(&rt, alloc, &Pairs, (PAIRS, NO_PAIRS))
 }
 
 #[test]
@@ -404,26 +326,14 @@ fn nests_logical_arguments(rt: HostRuntime) -> Result<(), Fail> {
     let alloc = rt.alloc();
     let call = "both(@.a && @.b, !@)";
     let shallow = nested(alloc, ("$[?", "(", 126), call, (")", 126, "]"))?;
-    let accepted = JsonPath::parse_with(alloc, shallow.as_str(), &Pairs).is_ok();
-    assert!(rt; accepted);
+    parses_with(&rt, alloc, &Pairs, (shallow.as_str(), "accepted"))?;
     let deep = nested(alloc, ("$[?", "(", 127), call, (")", 127, "]"))?;
-    refuses_with(&rt, alloc, &Pairs, (deep.as_str(), NestedTooDeep, 131));
-    Ok(())
+    parses_with(&rt, alloc, &Pairs, (deep.as_str(), "NestedTooDeep 131"))
 }
 
 #[test]
 fn declares_no_nine_parameters(rt: HostRuntime) -> Result<(), Fail> {
     let nine = Signature::new(&[FunctionArgType::Value; 9], Logical);
     assert!(rt; nine.is_none());
-    Ok(())
-}
-
-#[test]
-fn cuts_paths_of_sets(rt: HostRuntime) -> Result<(), Fail> {
-    let alloc = rt.alloc();
-    cut_rows(&rt, alloc, &Kids, KIDS, NO_KIDS);
-    cut_rows(&rt, alloc, &Odd, ODD, NO_ODD);
-    cut_rows(&rt, alloc, &Strange, STRANGE, NO_STRANGE);
-    cut_rows(&rt, alloc, &Pairs, PAIRS, NO_PAIRS);
     Ok(())
 }
