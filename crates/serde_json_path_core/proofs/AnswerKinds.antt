@@ -26,17 +26,15 @@ module _ (F : FunctionSet) (top : Data) (keeps : KeepsTypes F) where
 
     argument_kind : (a : Argument) (kind : Kind) → IsTypedArgument F.signature a kind → (v : Data) → kind_of_term (argument_as F top a kind v) ≡ kind
     argument_kind (literal_argument l) of_value typed v = refl
-    argument_kind (literal_argument l) of_nodes typed v = absurd typed
-    argument_kind (literal_argument l) of_logical typed v = absurd typed
+    argument_kind (literal_argument l) _ typed v = absurd typed
     argument_kind (query_argument q) of_value typed v = refl
     argument_kind (query_argument q) of_nodes typed v = refl
     argument_kind (query_argument q) of_logical typed v = refl
     argument_kind (call_argument c) of_value typed v = same_Some (kind_of_term (answer F top c v)) of_value (answer_kind c typed.0 v ∙ typed.1)
     argument_kind (call_argument c) of_nodes typed v = same_Some (kind_of_term (answer F top c v)) of_nodes (answer_kind c typed.0 v ∙ typed.1)
     argument_kind (call_argument c) of_logical typed v = refl
-    argument_kind (logical_argument e) of_value typed v = absurd typed
-    argument_kind (logical_argument e) of_nodes typed v = absurd typed
     argument_kind (logical_argument e) of_logical typed v = refl
+    argument_kind (logical_argument e) _ typed v = absurd typed
 
   value_there : (t : Term) → kind_of_term t ≡ of_value → (x : Compared) × (answer_compared t ≡ Some x)
   value_there (value o) e = (value_compared o, refl)

@@ -1,20 +1,19 @@
 -- Stacks of frames, each at a child of the one below: what a step keeps, and how many frames there are at most.
-use Rattle.std.proofs.Common.{◌≡◌, ℕ, ◌+◌, ◌<◌, ◌≤◌, List, [], ◌∷◌, ◌++◌, drop, length, Some, None, sym, ap, subst, ◌∙◌, arith}
-use Rattle.std.specs.List.{All}
-use Rattle.std.proofs.lemmas.List.Elements.{All-nil}
+use Rattle.std.proofs.Common.{◌≡◌, ℕ, ◌+◌, ◌<◌, ◌≤◌, List, [], ◌∷◌, ◌++◌, drop, length, refl, Some, None, sym, ap, subst, ◌∙◌, arith}
 use Rattle.serde_json.specs.Data.{Data}
 use Rattle.serde_json_path_nodes.specs.Location.{Step, child_at}
 use Rattle.serde_json_path_functions.specs.Functions.{FunctionSet}
 use Rattle.serde_json_path_core.specs.Height.{height}
 use Rattle.serde_json_path_syntax.specs.Stages.{Stage}
-use Rattle.serde_json_path_core.specs.Rest.{Frame, begun, rest_of, work, IsOfValue, IsChain, IsStack}
+use Rattle.serde_json_path_core.specs.Rest.{AreChildrenOf, Frame, admitted, begun, rest_of, work, IsOfValue, IsChain, IsStack}
 use Rattle.serde_json_path_core.specs.Advances.{IsSameFrame, ComesTo, IsDone}
 use Rattle.serde_json_path_core.proofs.Heights.{height-child_at}
-use Rattle.serde_json_path_core.proofs.FrameSteps.{IsChildOf, opened-of}
-use Rattle.serde_json_path_core.proofs.AfterSteps.{rest-dropped, rest-moved, work-dropped, work-moved}
+use Rattle.serde_json_path_core.proofs.FrameSteps.{opened-of}
+use Rattle.serde_json_path_core.proofs.Stacks.{rest-dropped, work-dropped, work-moved, entered, moves}
 
-begun-of : (all : List Stage) (v : Data) → All (IsChildOf v) (begun all v)
-begun-of [] v = All-nil _
+begun-of : (all : List Stage) (v : Data) → AreChildrenOf v (begun all v)
+unfolding AreChildrenOf
+begun-of [] v = λ c h. absurd h
 begun-of (stage ∷ more) v = opened-of stage.kind stage.selectors v
 
 -- ---- chains
@@ -86,21 +85,17 @@ module _ (Clear : Type 0) (F : FunctionSet) (top : Data) (all : List Stage) wher
 
   pub turn-moved : (old new ps : List Frame) (p m q : Frame) (stage : Stage) (more : List Stage) (number : ℕ) (c : Step × Data) → old ≡ ps ++ p ∷ [] → new ≡ (ps ++ m ∷ []) ++ q ∷ []
       → drop p.segment all ≡ stage ∷ more → ComesTo Clear F top stage p (number, c) m
-      → q ≡ record { step = Some c.0; value = c.1; segment = number; selector = 0; left = begun (drop number all) c.1 }
+      → q ≡ entered (Some c.0) number (drop number all) c.1
       → IsTurn old new
   turn-moved old new ps p m q stage more number c o n d comes is =
-      let qs : q.step ≡ Some c.0 = ap (λ (p : Frame). p.step) is in
-      let qk : q.segment ≡ number = ap (λ (p : Frame). p.segment) is in
-      let qz : q.selector ≡ 0 = ap (λ (p : Frame). p.selector) is in
-      let qv : q.value ≡ c.1 = ap (λ (p : Frame). p.value) is in
-      let ql : q.left ≡ begun (drop number all) c.1 = ap (λ (p : Frame). p.left) is in (
+      let begins = n ∙ ap (λ x. (ps ++ m ∷ []) ++ x ∷ []) is in (
         λ clear. ap (rest_of F top all) o
-            ∙ rest-moved F top all ps p m q stage more number c d (comes.1 clear) comes.0.0 comes.0.2 qs qk qz qv ql ∙ ap (rest_of F top all) (sym n),
-        subst (λ ns. work all ns < work all old) (sym n)
-            (subst (λ os. work all ((ps ++ m ∷ []) ++ q ∷ []) < work all os) (sym o)
-            (work-moved all ps p m q stage more comes.2.0 number c d comes.2.1 comes.0.0 comes.0.2 qs qk qz qv ql)),
+            ∙ moves (admitted F top) [] (λ n. n ∷ []) all ps p m stage more [] number c d (comes.1 clear) comes.0.0 comes.0.2 ∙ ap (rest_of F top all) (sym begins),
+        subst (λ ns. work all ns < work all old) (sym begins)
+            (subst (λ os. work all ((ps ++ m ∷ []) ++ entered (Some c.0) number (drop number all) c.1 ∷ []) < work all os) (sym o)
+            (work-moved all ps p m stage more comes.2.0 number c d comes.2.1 comes.0.0 comes.0.2)),
         λ start h.
             let is_stack = subst (IsStack start) o h in
-            subst (IsStack start) (sym n)
-            (stack-moved start ps p m q c.0 is_stack comes.0 qs (comes.3 (stack-last start ps p is_stack) ∙ ap Some (sym qv)) (subst IsOfValue (sym is) (begun-of (drop number all) c.1))),
+            subst (IsStack start) (sym begins)
+            (stack-moved start ps p m (entered (Some c.0) number (drop number all) c.1) c.0 is_stack comes.0 refl (comes.3 (stack-last start ps p is_stack)) (begun-of (drop number all) c.1)),
       )

@@ -1,12 +1,12 @@
 -- The computed children of a value are those that a step leads to, in document order.
-use Rattle.std.proofs.Common.{◌≡◌, ℕ, zero, suc, ◌+◌, ◌<◌, ℤ, List, Ordering, Less, Equal, Greater, nat_cmp, is_eq, Bool, true, false, bytes_eq, Option, Some, ◌↔◌, inl, inr, refl, sym, ap, subst, ◌∙◌, arith, true≢false, option_to_list}
+use Rattle.std.proofs.Common.{◌≡◌, ℕ, zero, suc, ◌+◌, ◌<◌, ℤ, List, Ordering, Less, Equal, Greater, nat_cmp, is_eq, Bool, true, false, bytes_eq, Option, Some, ◌↔◌, inl, inr, refl, sym, ap, subst, ◌∙◌, arith, true≢false, option_to_list, ◌-◌, pos, negsuc, None, option_map, option_and_then}
 use Rattle.std.specs.Cmp.Lexicographic.{slice_cmp}
 use Rattle.std.specs.Ordering.{ordering_reverse, match_ordering}
 use Rattle.std.proofs.lemmas.Cmp.{nat_list_cmp_total, tied_itself}
 use Rattle.std.proofs.lemmas.Map.Text.{is_eq-slice_cmp}
 use Rattle.std.proofs.lemmas.Option.{none-some, same_Some}
 use Rattle.std.proofs.lemmas.Slice.Eq.{bytes_eq-Decides}
-use Rattle.serde_json.specs.Data.{Data, null, boolean, number, string, array, object, Items, no_items, item, Members, no_members, member, put}
+use Rattle.serde_json.specs.Data.{Data, array, object, Items, no_items, item, Members, no_members, member, put}
 use Rattle.serde_json.specs.Find.{get_item, get_member}
 use Rattle.serde_json.proofs.Views.{get_member-put, get_member-put_other}
 use Rattle.serde_json_path_nodes.specs.Location.{Step, by_name, by_position, child_at, StepBefore}
@@ -15,7 +15,67 @@ use Rattle.serde_json_path_core.specs.Meaning.{SelectsIndex, IsPositionOf}
 use Rattle.serde_json_path_core.specs.Selected.{child_by, item_at}
 use Rattle.serde_json_path_core.specs.Computed.{children, items_from, members_all, in_order}
 use Rattle.serde_json_path_syntax.proofs.InLists.{in_option}
-use Rattle.serde_json_path_core.proofs.Singular.{by_step, there_by, item_sound, item_complete}
+use Rattle.std.specs.Prelude.{◌<ℤ◌, ◌+ℤ◌, nat_lt, if◌then◌else◌}
+use Rattle.std.proofs.lemmas.Int.{ints}
+use Rattle.serde_json.specs.Events.{items_len}
+
+-- ---- the child at a step, and the item of an index
+
+-- the child at a step, with that step
+by_step : (v : Data) (s t : Step) (c : Data) → child_by v s ≡ Some (t, c) → (t ≡ s) × (child_at v s ≡ Some c)
+by_step v s t c e = split (child_at v s) refl
+  where
+    split : (o : Option Data) → child_at v s ≡ o → (t ≡ s) × (child_at v s ≡ Some c)
+    split None f = absurd (none-some (t, c) (sym (ap (option_map (λ d. (s, d))) f) ∙ e))
+    split (Some d) f =
+        let same = same_Some {A = Step × Data} (s, d) (t, c) (sym (ap (option_map (λ x. (s, x))) f) ∙ e) in
+        (sym (ap (λ (x : Step × Data). x.0) same), f ∙ ap (λ (x : Step × Data). Some x.1) same)
+
+-- and the other way round
+there_by : (v : Data) (s : Step) (c : Data) → child_at v s ≡ Some c → child_by v s ≡ Some (s, c)
+there_by v s c e = ap (option_map (λ d. (s, d))) e
+
+below_zero : (k : ℕ) → negsuc k <ℤ pos 0
+below_zero k = omega (arith, ints)
+
+counted : (n k : ℕ) → nat_lt k n ≡ true → pos (n - (k + 1)) ≡ (negsuc k +ℤ pos n)
+counted n k e = let less : k < n = grind (arith, e) in omega (arith, ints)
+
+-- the position that a negative index means
+counts_back : (n k q : ℕ) → pos q ≡ (negsuc k +ℤ pos n) → (nat_lt k n ≡ true) × (q ≡ n - (k + 1))
+counts_back n k q e = let less : k < n = omega (arith, ints) in (grind arith, omega (arith, ints))
+
+-- the item of an index is at a position that it selects
+item_sound : (items : Items) (i : ℤ) (s : Step) (c : Data) → item_at (array items) i ≡ Some (s, c) → IsPositionOf (SelectsIndex i) (array items) s × (child_at (array items) s ≡ Some c)
+item_sound items (pos p) s c e =
+    let b = by_step (array items) (by_position p) s c e in
+    ((items, refl, p, b.0, inl refl), ap (child_at (array items)) b.0 ∙ b.1)
+item_sound items (negsuc k) s c e = split (nat_lt k (items_len items)) refl
+  where
+    split : (b : Bool) → nat_lt k (items_len items) ≡ b → IsPositionOf (SelectsIndex (negsuc k)) (array items) s × (child_at (array items) s ≡ Some c)
+    split true f =
+        let p = items_len items - (k + 1) in
+        let g : child_by (array items) (by_position p) ≡ Some (s, c) =
+        sym (ap (λ b. option_and_then (λ q. child_by (array items) (by_position q)) (if b then Some p else None)) f) ∙ e in
+        let b = by_step (array items) (by_position p) s c g in
+        ((items, refl, p, b.0, inr (below_zero k, counted (items_len items) k f)), ap (child_at (array items)) b.0 ∙ b.1)
+    split false f =
+        absurd (none-some (s, c) (sym (ap (λ b. option_and_then (λ q. child_by (array items) (by_position q)) (if b then Some (items_len items - (k + 1)) else None)) f) ∙ e))
+
+-- a child at a position that an index selects is the item of the index
+item_complete : (v : Data) (i : ℤ) (s : Step) (c : Data) → IsPositionOf (SelectsIndex i) v s → child_at v s ≡ Some c → item_at v i ≡ Some (s, c)
+item_complete (array ds) (pos p) s c (items, e, q, t, inl f) g =
+    let p_is : p ≡ q = omega (arith, ints, f) in
+    let s_is : by_position p ≡ s = ap by_position p_is ∙ sym t in
+    ap (child_by (array ds)) s_is ∙ there_by (array ds) s c g
+item_complete (array ds) (pos p) s c (items, e, q, t, inr f) g = let h = f.0 in absurd (omega (arith, ints))
+item_complete (array ds) (negsuc k) s c (items, e, q, t, inl f) g = absurd (omega (arith, ints, f))
+item_complete (array ds) (negsuc k) s c (items, e, q, t, inr f) g =
+    let same : ds ≡ items = same_Some ds items e in
+    let back = counts_back (items_len ds) k q (f.1 ∙ ap (λ (xs : Items). negsuc k +ℤ pos (items_len xs)) (sym same)) in
+    ap (λ b. option_and_then (λ p. child_by (array ds) (by_position p)) (if b then Some (items_len ds - (k + 1)) else None)) back.0
+    ∙ ap (λ p. child_by (array ds) (by_position p)) (sym back.1) ∙ ap (child_by (array ds)) (sym t) ∙ there_by (array ds) s c g
+item_complete _ i s c h g = absurd (none-some h.0 h.1)
 
 -- ---- items
 
@@ -151,21 +211,13 @@ children_sound (array items) c h = let k = in_items 0 items c h in ap (child_at 
 children_sound (object ms) c h =
     let k = in_members (in_order ms) c (rising-in_order ms) h in
     ap (child_at (object ms)) k.1 ∙ sym (get_member-in_order k.0 ms) ∙ k.2
-children_sound null c h = absurd h
-children_sound (boolean b) c h = absurd h
-children_sound (number n) c h = absurd h
-children_sound (string s) c h = absurd h
+children_sound _ c h = absurd h
 
 children_complete : (v : Data) (s : Step) (c : Data) → child_at v s ≡ Some c → IsIn {A = Step × Data} (s, c) (children v)
 children_complete (array items) (by_position p) c e =
     subst (λ q. IsIn {A = Step × Data} (by_position q, c) (items_from 0 items)) (omega arith) (items_in 0 p items c e)
 children_complete (object ms) (by_name k) c e = members_in (in_order ms) k c (get_member-in_order k ms ∙ e)
-children_complete (array items) (by_name k) c e = absurd (none-some c e)
-children_complete (object ms) (by_position p) c e = absurd (none-some c e)
-children_complete null s c e = absurd (none-some c e)
-children_complete (boolean b) s c e = absurd (none-some c e)
-children_complete (number n) s c e = absurd (none-some c e)
-children_complete (string t) s c e = absurd (none-some c e)
+children_complete _ _ c e = absurd (none-some c e)
 
 -- the children are what the steps lead to
 pub in_children : (v : Data) (c : Step × Data) → IsIn c (children v) ↔ (child_at v c.0 ≡ Some c.1)
@@ -175,10 +227,7 @@ in_children v c = (children_sound v c, children_complete v c.0 c.1)
 pub children_ordered : (v : Data) → IsInOrder (λ (a b : Step × Data). StepBefore a.0 b.0) (children v)
 children_ordered (array items) = items_ordered 0 items
 children_ordered (object ms) = members_ordered (in_order ms) (rising-in_order ms)
-children_ordered null = tt
-children_ordered (boolean b) = tt
-children_ordered (number n) = tt
-children_ordered (string s) = tt
+children_ordered _ = tt
 
 -- the one child at a step
 pub in_child_by : (v : Data) (s : Step) (c : Step × Data) → IsIn c (option_to_list (child_by v s)) ↔ ((c.0 ≡ s) × (child_at v c.0 ≡ Some c.1))
@@ -191,8 +240,4 @@ pub in_item_at : (v : Data) (i : ℤ) (c : Step × Data) → IsIn c (option_to_l
 in_item_at (array items) i c =
     let here = in_option c (item_at (array items) i) in
     (λ h. item_sound items i c.0 c.1 (here.0 h), λ h. here.1 (item_complete (array items) i c.0 c.1 h.0 h.1))
-in_item_at (object ms) i c = (λ h. absurd h, λ h. absurd (none-some h.0.0 h.0.1))
-in_item_at null i c = (λ h. absurd h, λ h. absurd (none-some h.0.0 h.0.1))
-in_item_at (boolean b) i c = (λ h. absurd h, λ h. absurd (none-some h.0.0 h.0.1))
-in_item_at (number n) i c = (λ h. absurd h, λ h. absurd (none-some h.0.0 h.0.1))
-in_item_at (string t) i c = (λ h. absurd h, λ h. absurd (none-some h.0.0 h.0.1))
+in_item_at _ i c = (λ h. absurd h, λ h. absurd (none-some h.0.0 h.0.1))

@@ -334,9 +334,18 @@ module _ (F : FunctionSet) (top : Data) where
     argument_right (query_argument q) of_value typed v t = result_gives q (query_right q typed.0) v Term (λ ns. value (first_value ns)) t
     argument_right (query_argument q) of_nodes typed v t = result_gives q (query_right q typed) v Term (λ ns. nodes (map (λ (n : Located). n.value) ns)) t
     argument_right (query_argument q) of_logical typed v t = truth_of (Exists F top q v) (is_nonempty (results F top q v)) t (query_right q typed v).1
-    argument_right (call_argument c) of_value typed v t = call_right c typed.0 v t
-    argument_right (call_argument c) of_nodes typed v t = call_right c typed.0 v t
     argument_right (call_argument c) of_logical typed v t = answer_logical (answer F top c v) (Answers F top c v) (call_right c typed.0 v) t
+    argument_right (call_argument c) _ typed v t = call_right c typed.0 v t
     argument_right (logical_argument e) of_logical typed v t = truth_of (Holds F top e v) (is_true F top e v) t (or_right e typed v)
-    argument_right (logical_argument e) of_value typed v t = absurd typed
-    argument_right (logical_argument e) of_nodes typed v t = absurd typed
+    argument_right (logical_argument e) _ typed v t = absurd typed
+
+-- ---- the result of a query
+
+module _ (F : FunctionSet) (top : Data) where
+  -- the computed list of a well-typed query is its result
+  pub computed_result : (q : Query) (v : Data) → IsTyped F.signature q → IsResult F top q v (results F top q v)
+  computed_result q v typed = (query_right F top q typed v).0
+
+  -- and no other list is
+  pub computed_only : (q : Query) (v : Data) (ns : List Located) → IsTyped F.signature q → IsResult F top q v ns → ns ≡ results F top q v
+  computed_only q v ns typed h = result_once F top q v ns (results F top q v) h (computed_result q v typed)

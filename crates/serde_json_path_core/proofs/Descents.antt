@@ -54,10 +54,7 @@ pub descents_are : (v : Data) → descents v ≡ itself v ∷ flat_map below_chi
 descents_are (array items) = ap (λ ns. itself (array items) ∷ ns) (items_descents-children 0 items)
 descents_are (object ms) =
     ap (λ ns. itself (object ms) ∷ ns) (ap (flat_map below_member) (members_descents-in_order ms) ∙ blocks-children (in_order ms))
-descents_are null = refl
-descents_are (boolean b) = refl
-descents_are (number n) = refl
-descents_are (string t) = refl
+descents_are _ = refl
 
 module _ (P : Data → Type 0) (step : (v : Data) → ((s : Step) (c : Data) → child_at v s ≡ Some c → P c) → P v) where
   among : (o : Ordering) (a : Option Data) (d c : Data) → P d → (a ≡ Some c → P c) → match_ordering o a (Some d) a ≡ Some c → P c

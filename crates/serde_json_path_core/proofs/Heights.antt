@@ -3,7 +3,7 @@ use Rattle.std.proofs.Common.{◌≡◌, ℕ, zero, suc, ◌+◌, ◌<◌, max, 
 use Rattle.std.specs.Cmp.Lexicographic.{slice_cmp}
 use Rattle.std.specs.Ordering.{match_ordering}
 use Rattle.std.proofs.lemmas.Option.{none-some, same_Some}
-use Rattle.serde_json.specs.Data.{Data, null, boolean, number, string, array, object, Items, no_items, item, Members, no_members, member}
+use Rattle.serde_json.specs.Data.{Data, array, object, Items, no_items, item, Members, no_members, member}
 use Rattle.serde_json.specs.Find.{get_item, get_member}
 use Rattle.serde_json_path_nodes.specs.Location.{Step, by_name, by_position, child_at}
 use Rattle.serde_json_path_core.specs.Height.{height, items_height, members_height}
@@ -27,9 +27,4 @@ lower_member name (member k d more) c e = by (slice_cmp nat_cmp name k) e (lower
 pub height-child_at : (v : Data) (s : Step) (c : Data) → child_at v s ≡ Some c → height c < height v
 height-child_at (array items) (by_position position) c e = lower_item position items c e
 height-child_at (object ms) (by_name name) c e = lower_member name ms c e
-height-child_at (array items) (by_name name) c e = absurd (none-some c e)
-height-child_at (object ms) (by_position position) c e = absurd (none-some c e)
-height-child_at null s c e = absurd (none-some c e)
-height-child_at (boolean b) s c e = absurd (none-some c e)
-height-child_at (number n) s c e = absurd (none-some c e)
-height-child_at (string text) s c e = absurd (none-some c e)
+height-child_at _ _ c e = absurd (none-some c e)

@@ -1,7 +1,5 @@
 -- Values that stand in the document: those of a walk's frames, and their children.
-use Rattle.std.proofs.Common.{◌≡◌, List, [], ◌∷◌, ◌++◌, option_and_then, Some, inl, inr, refl, sym, ap, subst, ◌∙◌}
-use Rattle.std.specs.List.{AllByRecursion}
-use Rattle.std.proofs.lemmas.List.Elements.{recursion_from_All}
+use Rattle.std.proofs.Common.{◌≡◌, List, [], ◌∷◌, ◌++◌, option_and_then, Some, inr, refl, sym, ap, subst, ◌∙◌}
 use Rattle.std.proofs.Math.Logic.{∥∥₁_map, ∥∥₁_elim, ∥∥₁_prop}
 use Rattle.serde_json.specs.Data.{Data}
 use Rattle.serde_json_path_nodes.specs.Location.{Step, child_at, at}
@@ -9,7 +7,7 @@ use Rattle.serde_json_path_syntax.specs.Tree.{QueryKind, root, current, Query, q
 use Rattle.serde_json_path_syntax.specs.Lists.{IsIn}
 use Rattle.serde_json_path_core.specs.Derivation.{start_of}
 use Rattle.serde_json_path_core.specs.Clear.{StandsIn}
-use Rattle.serde_json_path_core.specs.Rest.{Frame, starting_frame, EndsIn, IsChain, IsStack, IsStackIn, IsInside, AllStandIn}
+use Rattle.serde_json_path_core.specs.Rest.{AreChildrenOf, Frame, starting_frame, EndsIn, IsChain, IsStack, IsStackIn, IsInside, AllStandIn}
 use Rattle.serde_json_path_syntax.specs.Stages.{stages}
 use Rattle.serde_json_path_core.proofs.Chains.{stack-started}
 use Rattle.serde_json_path_core.proofs.Derived.{at-append}
@@ -32,17 +30,10 @@ child_stands top v s c leads h =
 
 -- ---- frames
 
-is_in-all : {A : Type 0} (P : A → Type 0) (xs : List A) (x : A) → IsIn x xs → AllByRecursion P xs → P x
-is_in-all P [] x h all = absurd h
-is_in-all P (y ∷ ys) x (inl e) all = subst P (sym e) all.0
-is_in-all P (y ∷ ys) x (inr h) all = is_in-all P ys x h all.1
-
 -- what is left at a frame
 pub left_stands : (top : Data) (p : Frame) → ∥ IsInside top p ∥₁ → AllStandIn top p.left
-left_stands top p h = λ c i.
-    ∥∥₁_elim h ∥∥₁_prop (λ inside.
-    child_stands top p.value c.0 c.1
-    (is_in-all (λ (d : Step × Data). child_at p.value d.0 ≡ Some d.1) p.left c i (recursion_from_All (λ (d : Step × Data). child_at p.value d.0 ≡ Some d.1) p.left inside.1)) inside.0)
+unfolding AreChildrenOf
+left_stands top p h = λ c i. ∥∥₁_elim h ∥∥₁_prop (λ inside. child_stands top p.value c.0 c.1 (inside.1 c i) inside.0)
 
 chain-inside : (top v : Data) (ps : List Frame) (p : Frame) → StandsIn top v → IsChain v (ps ++ p ∷ []) → IsInside top p
 chain-inside top v [] p stands h = (child_stands top v h.0 p.value h.2 stands, h.3)

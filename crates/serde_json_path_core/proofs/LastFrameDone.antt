@@ -5,12 +5,11 @@ use Rattle.std.proofs.lemmas.Grind.{not_there}
 use Rattle.serde_json.specs.Data.{Data}
 use Rattle.serde_json_path_functions.specs.Functions.{FunctionSet}
 use Rattle.serde_json_path_syntax.specs.Stages.{Stage}
-use Rattle.serde_json_path_core.specs.Rest.{stack_path, rest_of, work, EndsAt, IsStack}
+use Rattle.serde_json_path_core.specs.Rest.{admitted, stack_path, rest_of, work, EndsAt, IsStack}
 use Rattle.serde_json_path_core.specs.Frames.{frame_view, frames_view}
 use Rattle.serde_json_path_core.specs.declared.evaluation.frame.Frame.{Frame}
 use Rattle.serde_json_path_core.proofs.Chains.{stack-front}
-use Rattle.serde_json_path_core.proofs.Stacks.{located}
-use Rattle.serde_json_path_core.proofs.AfterSteps.{rest-given, work-given}
+use Rattle.serde_json_path_core.proofs.Stacks.{gives, located, work-given}
 
 -- what stands before the last of some elements
 front-seen : {A B : Type 0} (see : A → B) (xs : List A) (front : List B) (last : B) → map see xs ≡ front ++ last ∷ [] → (0 < length xs) × (map see (take (length xs - 1) xs) ≡ front)
@@ -37,7 +36,7 @@ module _ (all : List Stage) (frames : List Frame) (v : Data) (ends : EndsAt all 
   pub rest-ends : (F : FunctionSet) (top : Data) (front : List Frame) → front ≡ take (length frames - 1) frames
       → rest_of F top all (frames_view frames) ≡ located (stack_path [] (frames_view frames)) v ∷ rest_of F top all (frames_view front)
   rest-ends F top front e =
-      ap (rest_of F top all) ends.2 ∙ rest-given F top all ends.0 ends.1 ends.3
+      ap (rest_of F top all) ends.2 ∙ gives (admitted F top) [] (λ n. n ∷ []) all ends.0 ends.1 ends.3
       ∙ ap (λ ps. located (stack_path [] ps) ends.1.value ∷ rest_of F top all ends.0) (sym ends.2)
       ∙ ap (λ w. located (stack_path [] (frames_view frames)) w ∷ rest_of F top all ends.0) ends.4
       ∙ ap (λ ps. located (stack_path [] (frames_view frames)) v ∷ rest_of F top all ps)

@@ -16,21 +16,9 @@ pub mod DerivationEnds
 pub mod Order
 -- the computed ends are those of the derivations, and the computed tests hold where the defined ones do
 pub mod Derived
--- the computed list of a query is its result, and the computed tests, sides and answers are those of the definitions
-pub mod Listed
--- ---- laws
-
--- segments that select one child at most lead to one node at most, and that is the query's result
-pub mod Singular
--- `!=` holds exactly where `==` does not
-pub mod Negations
--- a descendant segment's nodes are the child segment's at the node, then those of each child's subtree
-pub mod Subtrees
--- what holds of each call of a query, where something that follows from it is asked
-pub mod EachCalls
 -- ---- a walk gives the computed list
 
--- what a stack of frames has left, when its last frame gives its node, is dropped, or moves on to a child
+-- what a stack of frames has left, and how much work, when its last frame gives its node, is dropped, or moves on to a child
 pub mod Stacks
 -- the tasks of a frame, a step at a time
 pub mod Tasks
@@ -40,12 +28,8 @@ pub mod StageLists
 pub mod Chains
 -- a child is lower than its value
 pub mod Heights
--- all that a cursor over a value's children begins with are children of the value
-pub mod CursorChildren
 -- the steps of a frame that moves on
 pub mod FrameSteps
--- what remains, and how much work, after one step of a walk
-pub mod AfterSteps
 -- the last of so many frames
 pub mod LastFrames
 -- the rest of a walk whose last frame is where the segments end, and without that frame
@@ -60,8 +44,6 @@ pub mod InDocument
 pub mod SoundParts
 -- a query that fits a set is sound as a whole
 pub mod WholeQueries
--- what is well-typed under some signatures is so under each that have these
-pub mod MoreSignatures
 -- ---- steps of the code
 
 -- a call of a set answers what is computed, where the meaning is promised

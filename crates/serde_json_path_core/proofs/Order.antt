@@ -6,7 +6,7 @@ use Rattle.std.proofs.lemmas.Cmp.{nat_list_cmp_total}
 use Rattle.std.proofs.lemmas.Int.{ints}
 use Rattle.serde_json.specs.Data.{Data}
 use Rattle.serde_json_path_nodes.specs.Location.{Step, by_name, by_position, at, StepBefore, DescentBefore, Located}
-use Rattle.serde_json_path_syntax.specs.Tree.{Query, query, Segments, no_segments, segment, Segment, dot_name, dot_wildcard, long_hand, Selectors, no_selectors, selector, Selector, name, wildcard, index, slice, filter}
+use Rattle.serde_json_path_syntax.specs.Tree.{Query, query, Segments, no_segments, segment, Segment, dot_name, dot_wildcard, long_hand, Selectors, no_selectors, selector, Selector, slice}
 use Rattle.serde_json_path_functions.specs.Functions.{FunctionSet}
 use Rattle.serde_json_path_core.specs.Derivation.{Triple, start_of, BelongsTo, SelectedBefore, SelectedBeforeBy, SelectedBeforeIn, TripleBefore, Before}
 use Rattle.serde_json_path_syntax.specs.Lists.{IsIn, IsInOrder}
@@ -34,10 +34,7 @@ selected_once (slice sl) s t (inl h) (inl g) = step_once s t h.1 g.1
 selected_once (slice sl) s t (inr h) (inr g) = step_once t s h.1 g.1
 selected_once (slice sl) s t (inl h) (inr g) = let p = h.0 in let q = g.0 in absurd (omega (arith, ints))
 selected_once (slice sl) s t (inr h) (inl g) = let p = h.0 in let q = g.0 in absurd (omega (arith, ints))
-selected_once (name k) s t h g = step_once s t h g
-selected_once wildcard s t h g = step_once s t h g
-selected_once (index i) s t h g = step_once s t h g
-selected_once (filter e) s t h g = step_once s t h g
+selected_once _ s t h g = step_once s t h g
 
 selected_once_by : (sels : Selectors) (n : ℕ) (s t : Step) → SelectedBeforeBy sels n s t → SelectedBeforeBy sels n t s → ⊥
 selected_once_by no_selectors n s t h g = h

@@ -6,7 +6,7 @@ use Rattle.std.specs.Option.{option_map_or}
 use Rattle.std.proofs.Math.IntN.{pos-*ℤ-pos, pos-*ℤ-negsuc}
 use Rattle.std.proofs.lemmas.Int.{ints, clamps}
 use Rattle.std.proofs.lemmas.Option.{same_Some, none-some}
-use Rattle.serde_json.specs.Data.{Data, null, boolean, number, string, array, object, Items, no_items, item}
+use Rattle.serde_json.specs.Data.{Data, array, Items, no_items, item}
 use Rattle.serde_json.specs.Find.{get_item}
 use Rattle.serde_json_path_nodes.specs.Location.{Step, by_position, child_at}
 use Rattle.serde_json.specs.Events.{items_len}
@@ -287,19 +287,11 @@ in_sliced s (array items) x = (forth, λ h. back h.0.0 h.0.1 h.0.2 h.0.3 h.0.4 h
         let k = (good.selects p).0 (subst (λ (xs : Items). SelectsPosition s (items_len xs) p) (sym (same_Some items same e)) selects) in
         strided_complete c.count c.upwards c.first c.stride items good.there x
         (k.0, k.1, is ∙ ap by_position k.2, ap (λ q. get_item q items) (sym k.2) ∙ ap (child_at (array items)) (sym is) ∙ found)
-in_sliced s (object ms) x = (λ h. absurd h, λ h. absurd (none-some h.0.0 h.0.1))
-in_sliced s null x = (λ h. absurd h, λ h. absurd (none-some h.0.0 h.0.1))
-in_sliced s (boolean b) x = (λ h. absurd h, λ h. absurd (none-some h.0.0 h.0.1))
-in_sliced s (number n) x = (λ h. absurd h, λ h. absurd (none-some h.0.0 h.0.1))
-in_sliced s (string t) x = (λ h. absurd h, λ h. absurd (none-some h.0.0 h.0.1))
+in_sliced s _ x = (λ h. absurd h, λ h. absurd (none-some h.0.0 h.0.1))
 
 -- the children of a slice stand in its order
 pub sliced_ordered : (s : Slice) (v : Data) → IsInOrder (λ (a b : Step × Data). SelectedBefore (slice s) a.0 b.0) (sliced s v)
 sliced_ordered s (array items) =
     let c = positions_by (step_of s) s (items_len items) in
     strided_ordered (SelectedBefore (slice s)) c.count c.upwards c.first c.stride items (is_course (step_of s) s (items_len items) refl).before
-sliced_ordered s (object ms) = tt
-sliced_ordered s null = tt
-sliced_ordered s (boolean b) = tt
-sliced_ordered s (number n) = tt
-sliced_ordered s (string t) = tt
+sliced_ordered s _ = tt

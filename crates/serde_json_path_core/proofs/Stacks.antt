@@ -1,5 +1,5 @@
 -- What a stack of frames has left, when its last frame gives its node, is dropped, or moves on to a child.
-use Rattle.std.proofs.Common.{◌≡◌, ℕ, ◌+◌, List, [], ◌∷◌, ◌++◌, map, drop, flat_map, Some, option_to_list, refl, ap, ◌∙◌, sym, append_assoc}
+use Rattle.std.proofs.Common.{◌≡◌, ℕ, ◌+◌, List, [], ◌∷◌, ◌++◌, map, drop, flat_map, Option, Some, option_to_list, refl, ap, ◌∙◌, sym, append_assoc, ◌<◌, length, arith, length-append}
 use Rattle.std.proofs.lemmas.Grind.{flat_map-append}
 use Rattle.std.proofs.lemmas.List.{append-nil, drop-drop}
 use Rattle.std.proofs.lemmas.List.Folds.{flat_map-map}
@@ -9,13 +9,18 @@ use Rattle.serde_json_path_syntax.specs.Tree.{SegmentKind, child, descendant, Se
 use Rattle.serde_json_path_core.specs.Selected.{beneath}
 use Rattle.serde_json_path_core.specs.Computed.{children, descents, placed, reached}
 use Rattle.serde_json_path_syntax.specs.Stages.{Stage}
-use Rattle.serde_json_path_core.specs.Rest.{Frame, candidates, lower, begun, tasks, frame_tasks, here, stack_path, visit, visit_rest, visit_place, visit_stack}
+use Rattle.serde_json_path_core.specs.Rest.{Frame, candidates, lower, begun, frame_tasks, here, stack_path, visit, visit_rest, visit_place, visit_stack, admitted, unfiltered, rest_of, work}
 use Rattle.serde_json_path_core.proofs.Descents.{below_child, descents_are}
 use Rattle.serde_json_path_syntax.proofs.InLists.{flat_map-same, flat_map-flat_map}
 use Rattle.serde_json_path_core.proofs.Tasks.{next_opened}
+use Rattle.serde_json_path_functions.specs.Functions.{FunctionSet}
 
 abbrev pub located : List Step → Data → Located
 located above v = record { location = above; value = v }
+
+-- a frame where these stages begin, the first of them of that number
+abbrev pub entered : Option Step → ℕ → List Stage → Data → Frame
+entered step number stages v = record { step = step; value = v; segment = number; selector = 0; left = begun stages v }
 
 -- ---- a node and all below it, level by level
 
@@ -100,26 +105,19 @@ module _ (admit : Selector → List (Step × Data) → List (Step × Data)) {A :
   drops ps p stage more d = of_stack-last [] ps p ∙ ap (λ s. visit_rest admit before leaf all s (here (stack_path [] ps) p) p ++ of_stack ps) d
 
   -- a frame where a task begins
-  pub enters : (number : ℕ) (stages : List Stage) (n : Located) (q : Frame) → stages ≡ drop number all
-      → q.segment ≡ number → q.selector ≡ 0 → q.value ≡ n.value → q.left ≡ begun stages n.value
-      → made stages n ≡ before ++ visit_rest admit before leaf all stages n.location q
-  enters number [] n q e s z v l = ap (λ w. before ++ leaf (located n.location w)) (sym v)
-  enters number (stage ∷ more) n q e s z v l =
-      begins number stage more n e
-      ∙ ap (λ ts. before ++ flat_map (of_task n.location) ts)
-      (next_opened admit number stage.kind n.value stage.selectors
-      ∙ ap (λ xs. tasks admit number stage.kind stage.selectors xs n.value) (sym l)
-      ∙ ap (λ w. tasks admit number stage.kind stage.selectors q.left w) (sym v)
-      ∙ ap (λ m. tasks admit number stage.kind (drop m stage.selectors) q.left q.value) (sym z)
-      ∙ ap (λ m. tasks admit m stage.kind (drop q.selector stage.selectors) q.left q.value) (sym s))
+  pub enters : (step : Option Step) (number : ℕ) (stages : List Stage) (n : Located) → stages ≡ drop number all
+      → made stages n ≡ before ++ visit_rest admit before leaf all stages n.location (entered step number stages n.value)
+  enters step number [] n e = refl
+  enters step number (stage ∷ more) n e =
+      begins number stage more n e ∙ ap (λ ts. before ++ flat_map (of_task n.location) ts) (next_opened admit number stage.kind n.value stage.selectors)
 
   -- the last frame moves on, past some tasks, to a child
-  pub moves : (ps : List Frame) (p m q : Frame) (stage : Stage) (more : List Stage) (front : List (ℕ × (Step × Data))) (number : ℕ) (c : Step × Data)
+  pub moves : (ps : List Frame) (p m : Frame) (stage : Stage) (more : List Stage) (front : List (ℕ × (Step × Data))) (number : ℕ) (c : Step × Data)
       → drop p.segment all ≡ stage ∷ more → frame_tasks admit stage p ≡ front ++ (number, c) ∷ frame_tasks admit stage m
       → m.step ≡ p.step → m.segment ≡ p.segment
-      → q.step ≡ Some c.0 → q.segment ≡ number → q.selector ≡ 0 → q.value ≡ c.1 → q.left ≡ begun (drop number all) c.1
-      → of_stack (ps ++ p ∷ []) ≡ flat_map (of_task (here (stack_path [] ps) p)) front ++ (before ++ of_stack ((ps ++ m ∷ []) ++ q ∷ []))
-  moves ps p m q stage more front number c d t ms mk qs qk qz qv ql =
+      → of_stack (ps ++ p ∷ []) ≡ flat_map (of_task (here (stack_path [] ps) p)) front ++ (before ++ of_stack ((ps ++ m ∷ []) ++ entered (Some c.0) number (drop number all) c.1 ∷ []))
+  moves ps p m stage more front number c d t ms mk =
+      let q = entered (Some c.0) number (drop number all) c.1 in
       let S = of_stack ps in
       let L = here (stack_path [] ps) p in
       let L' = here (stack_path [] ps) m in
@@ -127,14 +125,12 @@ module _ (admit : Selector → List (Step × Data) → List (Step × Data)) {A :
       let Q = visit_place admit before leaf all (L ++ c.0 ∷ []) q in
       let M = visit_place admit before leaf all L m in
       let dm : drop m.segment all ≡ stage ∷ more = ap (λ j. drop j all) mk ∙ d in
-      let begun_at : made (drop number all) (placed L c) ≡ before ++ Q =
-      enters number (drop number all) (placed L c) q refl qk qz qv ql ∙ ap (λ j. before ++ visit_rest admit before leaf all (drop j all) (L ++ c.0 ∷ []) q) (sym qk) in
+      let begun_at : made (drop number all) (placed L c) ≡ before ++ Q = enters (Some c.0) number (drop number all) (placed L c) refl in
       let left_is : flat_map (of_task L) (frame_tasks admit stage m) ≡ M = ap (λ s. visit_rest admit before leaf all s L m) (sym dm) in
       let new_is : of_stack ((ps ++ m ∷ []) ++ q ∷ []) ≡ Q ++ (M ++ S) =
       of_stack-last [] (ps ++ m ∷ []) q
       ∙ ap (λ xs. visit_place admit before leaf all (here (stack_path [] (ps ++ m ∷ [])) q) q ++ xs) (of_stack-last [] ps m)
       ∙ ap (λ l. visit_place admit before leaf all (here l q) q ++ (visit_place admit before leaf all L' m ++ S)) (stack_path-last [] ps m)
-      ∙ ap (λ o. visit_place admit before leaf all (L' ++ option_to_list o) q ++ (visit_place admit before leaf all L' m ++ S)) qs
       ∙ ap (λ l. visit_place admit before leaf all (l ++ c.0 ∷ []) q ++ (visit_place admit before leaf all l m ++ S)) (sym same) in
       drops ps p stage more d
       ∙ ap (λ ts. flat_map (of_task L) ts ++ S) t
@@ -144,3 +140,47 @@ module _ (admit : Selector → List (Step × Data) → List (Step × Data)) {A :
       ∙ append_assoc (flat_map (of_task L) front) ((before ++ Q) ++ M) S
       ∙ ap (λ xs. flat_map (of_task L) front ++ xs) (append_assoc (before ++ Q) M S ∙ append_assoc before Q (M ++ S))
       ∙ ap (λ xs. flat_map (of_task L) front ++ (before ++ xs)) (sym new_is)
+
+-- ---- what remains, and how much work, after one step of a walk
+
+-- the last frame gives its node, and so there is less work
+pub work-given : (all : List Stage) (ps : List Frame) (p : Frame) → drop p.segment all ≡ [] → work all ps < work all (ps ++ p ∷ [])
+work-given all ps p d =
+    let left = visit_stack unfiltered {A = ℕ} (0 ∷ 0 ∷ []) (λ n. 0 ∷ []) all [] ps in
+    let marks : length (visit_stack unfiltered {A = ℕ} (0 ∷ 0 ∷ []) (λ n. 0 ∷ []) all [] (ps ++ p ∷ [])) ≡ 1 + length left =
+    ap length {y = 0 ∷ left} (gives unfiltered (0 ∷ 0 ∷ []) (λ n. 0 ∷ []) all ps p d) ∙ omega arith in
+    let frames : length (ps ++ p ∷ []) ≡ length ps + 1 = length-append ps (p ∷ []) in
+    omega arith
+
+-- the last frame has no task left, and is dropped
+pub rest-dropped : (F : FunctionSet) (top : Data) (all : List Stage) (ps : List Frame) (p : Frame) (stage : Stage) (more : List Stage) → drop p.segment all ≡ stage ∷ more
+    → frame_tasks (admitted F top) stage p ≡ [] → rest_of F top all (ps ++ p ∷ []) ≡ rest_of F top all ps
+rest-dropped F top all ps p stage more d t =
+    let of_task : ℕ × (Step × Data) → List Located = λ x. visit (admitted F top) [] (λ n. n ∷ []) (drop x.0 all) (record { location = here (stack_path [] ps) p ++ x.1.0 ∷ []; value = x.1.1 }) in
+    drops (admitted F top) [] (λ n. n ∷ []) all ps p stage more d ∙ ap (λ ts. flat_map of_task ts ++ rest_of F top all ps) t
+
+-- with a frame less there is less work
+pub work-dropped : (all : List Stage) (ps : List Frame) (p : Frame) (stage : Stage) (more : List Stage) → drop p.segment all ≡ stage ∷ more → work all ps < work all (ps ++ p ∷ [])
+work-dropped all ps p stage more d =
+    let of_task : ℕ × (Step × Data) → List ℕ = λ x. visit unfiltered (0 ∷ 0 ∷ []) (λ n. 0 ∷ []) (drop x.0 all) (record { location = here (stack_path [] ps) p ++ x.1.0 ∷ []; value = x.1.1 }) in
+    let tasks_of = flat_map of_task (frame_tasks unfiltered stage p) in
+    let left = visit_stack unfiltered {A = ℕ} (0 ∷ 0 ∷ []) (λ n. 0 ∷ []) all [] ps in
+    let marks : length (visit_stack unfiltered {A = ℕ} (0 ∷ 0 ∷ []) (λ n. 0 ∷ []) all [] (ps ++ p ∷ [])) ≡ length tasks_of + length left =
+    ap length {y = tasks_of ++ left} (drops unfiltered (0 ∷ 0 ∷ []) (λ n. 0 ∷ []) all ps p stage more d) ∙ length-append tasks_of left in
+    let frames : length (ps ++ p ∷ []) ≡ length ps + 1 = length-append ps (p ∷ []) in
+    omega arith
+
+-- a move is less work, whatever is passed over
+pub work-moved : (all : List Stage) (ps : List Frame) (p m : Frame) (stage : Stage) (more : List Stage) (front : List (ℕ × (Step × Data))) (number : ℕ) (c : Step × Data)
+    → drop p.segment all ≡ stage ∷ more → frame_tasks unfiltered stage p ≡ front ++ (number, c) ∷ frame_tasks unfiltered stage m
+    → m.step ≡ p.step → m.segment ≡ p.segment → work all ((ps ++ m ∷ []) ++ entered (Some c.0) number (drop number all) c.1 ∷ []) < work all (ps ++ p ∷ [])
+work-moved all ps p m stage more front number c d t ms mk =
+    let q = entered (Some c.0) number (drop number all) c.1 in
+    let of_task : ℕ × (Step × Data) → List ℕ = λ x. visit unfiltered (0 ∷ 0 ∷ []) (λ n. 0 ∷ []) (drop x.0 all) (record { location = here (stack_path [] ps) p ++ x.1.0 ∷ []; value = x.1.1 }) in
+    let passed = flat_map of_task front in
+    let left = visit_stack unfiltered {A = ℕ} (0 ∷ 0 ∷ []) (λ n. 0 ∷ []) all [] ((ps ++ m ∷ []) ++ q ∷ []) in
+    let marks : length (visit_stack unfiltered {A = ℕ} (0 ∷ 0 ∷ []) (λ n. 0 ∷ []) all [] (ps ++ p ∷ [])) ≡ length passed + (2 + length left) =
+    ap length {y = passed ++ (0 ∷ 0 ∷ left)} (moves unfiltered (0 ∷ 0 ∷ []) (λ n. 0 ∷ []) all ps p m stage more front number c d t ms mk) ∙ length-append passed (0 ∷ 0 ∷ left) ∙ omega arith in
+    let before : length (ps ++ p ∷ []) ≡ length ps + 1 = length-append ps (p ∷ []) in
+    let after : length ((ps ++ m ∷ []) ++ q ∷ []) ≡ length ps + 2 = length-append (ps ++ m ∷ []) (q ∷ []) ∙ ap (λ k. k + 1) (length-append ps (m ∷ [])) ∙ omega arith in
+    omega arith

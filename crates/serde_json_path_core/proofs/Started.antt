@@ -1,17 +1,17 @@
 -- What a walk that begins has left is the result of the segments.
-use Rattle.std.proofs.Common.{◌≡◌, [], ◌∷◌, ◌++◌, List, map, drop, flat_map, None, option_to_list, refl, ap, ◌∙◌, sym}
+use Rattle.std.proofs.Common.{◌≡◌, [], ◌∷◌, ◌++◌, List, map, flat_map, None, refl, ap, ◌∙◌, sym}
 use Rattle.std.proofs.lemmas.List.{append-nil}
 use Rattle.std.proofs.lemmas.List.Folds.{flat_map-map}
 use Rattle.serde_json.specs.Data.{Data}
 use Rattle.serde_json_path_nodes.specs.Location.{Located}
 use Rattle.serde_json_path_functions.specs.Functions.{FunctionSet}
-use Rattle.serde_json_path_syntax.specs.Tree.{Query, query, kind_of, segments_of, Segments, no_segments, segment, Segment, dot_name, dot_wildcard, long_hand, Selectors, no_selectors, selector, Selector, name, wildcard, index, slice, filter}
+use Rattle.serde_json_path_syntax.specs.Tree.{Query, query, kind_of, segments_of, Segments, no_segments, segment, Segment, dot_name, dot_wildcard, long_hand, Selectors, no_selectors, selector, Selector, filter}
 use Rattle.serde_json_path_core.specs.Derivation.{start_of}
 use Rattle.serde_json_path_core.specs.Computed.{results, placed, reached, results_from, chosen, chosen_by, selected}
-use Rattle.serde_json_path_core.specs.Rest.{Frame, candidates, admitted, begun, starting_frame, visit, visit_rest, rest_of}
+use Rattle.serde_json_path_core.specs.Rest.{Frame, candidates, admitted, begun, starting_frame, visit, rest_of}
 use Rattle.serde_json_path_syntax.specs.Stages.{selectors_of, selectors_list, stages}
 use Rattle.serde_json_path_syntax.proofs.InLists.{flat_map-same}
-use Rattle.serde_json_path_core.proofs.Stacks.{located, enters}
+use Rattle.serde_json_path_core.proofs.Stacks.{entered, enters, located}
 
 -- the frame of these segments at that start is where the query begins
 pub begun-frame : (top : Data) (q : Query) (here start : Data) (segs : Segments) (first : Frame) → segs ≡ segments_of q → start ≡ start_of (kind_of q) top here
@@ -22,11 +22,8 @@ begun-frame top (query kind more) here start segs first e v f =
 
 module _ (F : FunctionSet) (top : Data) where
   selected-admitted : (sel : Selector) (v : Data) → admitted F top sel (candidates sel v) ≡ selected F top sel v
-  selected-admitted (name k) v = refl
-  selected-admitted wildcard v = refl
-  selected-admitted (index i) v = refl
-  selected-admitted (slice s) v = refl
   selected-admitted (filter e) v = refl
+  selected-admitted _ v = refl
 
   chosen_by-list : (sels : Selectors) (v : Data) → flat_map (λ s. admitted F top s (candidates s v)) (selectors_list sels) ≡ chosen_by F top sels v
   chosen_by-list no_selectors v = refl
@@ -49,17 +46,11 @@ module _ (F : FunctionSet) (top : Data) where
       ∙ sym (flat_map-map (results_from F top more) (placed m.location) (chosen F top seg m.value)))
       (reached kind n)
 
-  rest-started : (segs : Segments) (v : Data) (q : Frame) → q.step ≡ None → q.segment ≡ 0 → q.selector ≡ 0 → q.value ≡ v → q.left ≡ begun (stages segs) v
-      → rest_of F top (stages segs) (q ∷ []) ≡ results_from F top segs (located [] v)
-  rest-started segs v q t s z w l =
-      ap (λ o. visit_rest (admitted F top) [] (λ m. m ∷ []) (stages segs) (drop q.segment (stages segs)) ([] ++ option_to_list o) q) t
-      ∙ ap (λ k. visit_rest (admitted F top) [] (λ m. m ∷ []) (stages segs) (drop k (stages segs)) [] q) s
-      ∙ sym (enters (admitted F top) [] (λ m. m ∷ []) (stages segs) 0 (stages segs) (located [] v) q refl s z w l) ∙ visit-results segs (located [] v)
+  rest-started : (segs : Segments) (v : Data) → rest_of F top (stages segs) (entered None 0 (stages segs) v ∷ []) ≡ results_from F top segs (located [] v)
+  rest-started segs v = sym (enters (admitted F top) [] (λ m. m ∷ []) (stages segs) None 0 (stages segs) (located [] v) refl) ∙ visit-results segs (located [] v)
 
   -- the frame of a walk that begins has the query's result left
   pub begun-results : (q : Query) (here : Data) (segs : Segments) (ps : List Frame) (first : Frame) → segs ≡ segments_of q → ps ≡ first ∷ [] → first ≡ starting_frame top q here
       → rest_of F top (stages segs) ps ≡ results F top q here
   begun-results (query kind more) here segs ps first e p begins =
-      ap (λ ss. rest_of F top (stages ss) ps) e ∙ ap (rest_of F top (stages more)) p
-      ∙ rest-started more (start_of kind top here) first (ap (λ (f : Frame). f.step) begins) (ap (λ (f : Frame). f.segment) begins) (ap (λ (f : Frame). f.selector) begins)
-      (ap (λ (f : Frame). f.value) begins) (ap (λ (f : Frame). f.left) begins)
+      ap (λ ss. rest_of F top (stages ss) ps) e ∙ ap (rest_of F top (stages more)) (p ∙ ap (λ f. f ∷ []) begins) ∙ rest-started more (start_of kind top here)

@@ -2,7 +2,10 @@
 use Rattle.std.specs.Prelude.{ℕ, List, map, Bool, Option}
 use Rattle.serde_json.specs.Data.{Data}
 use Rattle.serde_json_path_nodes.specs.Location.{Step, Located}
-use Rattle.serde_json_path_functions.specs.Functions.{Kind, Term}
+use Rattle.serde_json_path_functions.specs.Functions.{Kind, Signature, Term}
+use Rattle.serde_json_path_syntax.specs.Tree.{Call}
+use Rattle.serde_json_path_syntax.specs.Calls.{calls_of, calls_in_segments, calls_in_segment, calls_in_selector, calls_in_or, calls_in_and, calls_in_basic, calls_in_comparable, calls_from, calls_in_argument}
+use Rattle.serde_json_path_syntax.specs.Typing.{IsTyped, AreTypedSegments, IsTypedSegment, IsTypedSelector, IsTypedOr, IsTypedAnd, IsTypedBasic, IsTypedComparable, IsTypedCall, IsTypedArgument}
 use Rattle.serde_json_path_syntax.specs.declared.node.Part.{Part}
 use Rattle.serde_json_path_syntax.specs.declared.selector_ref.SelectorRef.{SelectorRef}
 use Rattle.serde_json_path_syntax.specs.Flat.{or_at, and_at, basic_at, comparable_at, call_at, argument_at, part_query, piece_at, segment_in, segments_at}
@@ -13,41 +16,44 @@ use Rattle.serde_json_path_core.specs.Computed as computed
 use Rattle.serde_json_path_core.specs.Rest as rest
 use Rattle.serde_json_path_core.specs.Rest.{Frame}
 use Rattle.serde_json_path_core.specs.Scopes.{Clear, nodes_of, query_of, set_of, top_of}
-use Rattle.serde_json_path_core.specs.Sound.{AreSoundSegments, IsSound, IsSoundAnd, IsSoundArgument, IsSoundBasic, IsSoundCall, IsSoundComparable, IsSoundOr, IsSoundSegment, IsSoundSelector}
+use Rattle.serde_json_path_core.specs.Sound.{IsSound}
 use Rattle.serde_json_path_core.specs.declared.evaluation.scope.Scope.{Scope}
 
 -- ---- the part is well-typed under the set, and its calls are among the query's
 
+abbrev pub Sound : {F : Type 0} {g : _} {A : Type 0} → Scope F g → ((List ℕ → Option Signature) → A → Type 0) → (A → List Call) → A → Type 0
+Sound scope typed calls part = IsSound (set_of scope) (query_of scope) typed calls part
+
 abbrev pub SoundQuery : {F : Type 0} {g : _} → Scope F g → Part → Type 0
-SoundQuery scope part = IsSound (set_of scope) (top_of scope) (query_of scope) (part_query (nodes_of scope) part)
+SoundQuery scope part = Sound scope IsTyped calls_of (part_query (nodes_of scope) part)
 
 abbrev pub SoundSegments : {F : Type 0} {g : _} → Scope F g → List Part → Type 0
-SoundSegments scope parts = AreSoundSegments (set_of scope) (top_of scope) (query_of scope) (segments_at (nodes_of scope) parts)
+SoundSegments scope parts = Sound scope AreTypedSegments calls_in_segments (segments_at (nodes_of scope) parts)
 
 abbrev pub SoundSegment : {F : Type 0} {g : _} → Scope F g → Part → Type 0
-SoundSegment scope part = IsSoundSegment (set_of scope) (top_of scope) (query_of scope) (segment_in (piece_at (nodes_of scope) part.number))
+SoundSegment scope part = Sound scope IsTypedSegment calls_in_segment (segment_in (piece_at (nodes_of scope) part.number))
 
 abbrev pub SoundSelector : {F : Type 0} {g : _} → Scope F g → SelectorRef → Type 0
-SoundSelector scope selector = IsSoundSelector (set_of scope) (top_of scope) (query_of scope) (selector_view (nodes_of scope) selector)
+SoundSelector scope selector = Sound scope IsTypedSelector calls_in_selector (selector_view (nodes_of scope) selector)
 
 abbrev pub SoundOr : {F : Type 0} {g : _} → Scope F g → Part → Type 0
-SoundOr scope part = IsSoundOr (set_of scope) (top_of scope) (query_of scope) (or_at (nodes_of scope) part)
+SoundOr scope part = Sound scope IsTypedOr calls_in_or (or_at (nodes_of scope) part)
 
 abbrev pub SoundAnd : {F : Type 0} {g : _} → Scope F g → Part → Type 0
-SoundAnd scope part = IsSoundAnd (set_of scope) (top_of scope) (query_of scope) (and_at (nodes_of scope) part)
+SoundAnd scope part = Sound scope IsTypedAnd calls_in_and (and_at (nodes_of scope) part)
 
 abbrev pub SoundBasic : {F : Type 0} {g : _} → Scope F g → Part → Type 0
-SoundBasic scope part = IsSoundBasic (set_of scope) (top_of scope) (query_of scope) (basic_at (nodes_of scope) part)
+SoundBasic scope part = Sound scope IsTypedBasic calls_in_basic (basic_at (nodes_of scope) part)
 
 abbrev pub SoundComparable : {F : Type 0} {g : _} → Scope F g → Part → Type 0
-SoundComparable scope part = IsSoundComparable (set_of scope) (top_of scope) (query_of scope) (comparable_at (nodes_of scope) part)
+SoundComparable scope part = Sound scope IsTypedComparable calls_in_comparable (comparable_at (nodes_of scope) part)
 
 abbrev pub SoundCall : {F : Type 0} {g : _} → Scope F g → Part → Type 0
-SoundCall scope part = IsSoundCall (set_of scope) (top_of scope) (query_of scope) (call_at (nodes_of scope) part)
+SoundCall scope part = Sound scope IsTypedCall calls_from (call_at (nodes_of scope) part)
 
 -- the same of an argument, as a parameter of that type takes it
 abbrev pub SoundArgument : {F : Type 0} {g : _} → Scope F g → Kind → Part → Type 0
-SoundArgument scope kind part = IsSoundArgument (set_of scope) (top_of scope) (query_of scope) kind (argument_at (nodes_of scope) part)
+SoundArgument scope kind part = Sound scope (λ signature a. IsTypedArgument signature a kind) calls_in_argument (argument_at (nodes_of scope) part)
 
 -- ---- what a part computes to
 

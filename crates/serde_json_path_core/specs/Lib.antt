@@ -20,7 +20,7 @@ pub mod Height
 pub mod Laws
 -- ---- what the code computes, on plain data
 
--- the one child that a segment of one name or one index selects, and the one node that such segments lead to, computed
+-- the one child that a name or an index selects, computed, and a node below a location
 pub mod Selected
 -- what a query selects, computed
 pub mod Computed

@@ -1,6 +1,5 @@
 -- The nodes that remain of a walk, from the frames on its stack, the document and the query's segments alone.
 use Rattle.std.specs.Prelude.{◌≡◌, ℕ, ◌+◌, List, [], ◌∷◌, ◌++◌, length, map, drop, flat_map, filter as keep, Option, Some, None, option_to_list}
-use Rattle.std.specs.List.{All}
 use Rattle.serde_json.specs.Data.{Data}
 use Rattle.serde_json_path_nodes.specs.Location.{Step, by_name, child_at, Located}
 use Rattle.serde_json_path_syntax.specs.Tree.{Query, query, SegmentKind, child, descendant, Selector, name, wildcard, index, slice, filter}
@@ -129,9 +128,13 @@ EndsIn {A} xs ys = (front : List A) × (xs ≡ front ++ ys)
 
 -- ---- stacks
 
+-- the children are of the value
+unfoldable pub AreChildrenOf : Data → List (Step × Data) → Type 0
+AreChildrenOf v cs = (c : Step × Data) → IsIn c cs → child_at v c.0 ≡ Some c.1
+
 -- what is left at a frame are children of its value
 abbrev pub IsOfValue : Frame → Type 0
-IsOfValue p = All (λ (c : Step × Data). child_at p.value c.0 ≡ Some c.1) p.left
+IsOfValue p = AreChildrenOf p.value p.left
 
 -- each frame is at a child of the value of the frame below it
 abbrev pub IsChain : Data → List Frame → Type 0

@@ -4,7 +4,7 @@ use Rattle.serde_json.specs.Data.{Data}
 use Rattle.serde_json.specs.View.{view}
 use Rattle.serde_json_path_syntax.specs.Tree.{Query}
 use Rattle.serde_json_path_functions.specs.Functions.{FunctionSet}
-use Rattle.serde_json_path_syntax.specs.Parts.{tree_of}
+use Rattle.serde_json_path_syntax.specs.Parts.{nodes_in, tree_of}
 use Rattle.serde_json_path_syntax.specs.Calls.{EachCall}
 use Rattle.serde_json_path_core.specs.Clear.{GoesWithoutPattern, IsClear}
 use Rattle.serde_json_path_syntax.specs.declared.node.Node.{Node}
@@ -12,7 +12,7 @@ use Rattle.serde_json_path_core.specs.declared.evaluation.scope.Scope.{Scope}
 
 -- the nodes of the query's tree
 abbrev pub nodes_of : {F : Type 0} {g : _} → Scope F g → List Node
-nodes_of scope = scope.query.now.nodes.items
+nodes_of scope = nodes_in scope.query.now
 
 -- the query
 abbrev pub query_of : {F : Type 0} {g : _} → Scope F g → Query

@@ -1,17 +1,15 @@
 -- The parts of hand-made trees as lists, and trees that may be finished without signatures.
 use Rattle.std.proofs.Common.{◌≡◌, ◌≤◌, ℕ, List, [], ◌∷◌, refl, sym, subst}
-use Rattle.std.specs.Prelude.{String, Option}
-use Rattle.std.specs.Global.{Global}
+use Rattle.std.specs.Prelude.{Option}
 use Rattle.serde_json_path_functions.specs.Functions.{Signature}
 use Rattle.serde_json_path_syntax.specs.Tree as tree
 use Rattle.serde_json_path_syntax.specs.Piece.{a_segment, a_selector}
 use Rattle.serde_json_path_syntax.specs.Parts.{IsPart, ArePartsOf, AreSelectorsOf}
 use Rattle.serde_json_path_syntax.specs.Typing.{AreTypedSegments}
 use Rattle.serde_json_path_syntax.specs.Depth.{segments_depth}
-use Rattle.serde_json_path_syntax.specs.CalledNames.{called_in_segments}
+use Rattle.serde_json_path_syntax.specs.Calls.{calls_in_segments, names_of}
 use Rattle.serde_json_path_syntax.specs.Lists.{IsIn}
-use Rattle.serde_json_path_syntax.specs.Used.{MayFinish, used_view, signature_in, deepest}
-use Rattle.serde_json_path_functions.specs.declared.signature.Signature as declared
+use Rattle.serde_json_path_syntax.specs.Used.{MayFinish, signature_in, deepest}
 use Rattle.serde_json_path_syntax.specs.declared.node.Part.{Part}
 use Rattle.serde_json_path_syntax.specs.declared.builder.SyntaxBuilder.{SyntaxBuilder}
 
@@ -40,13 +38,18 @@ pub two_segments : (builder : SyntaxBuilder) (xs : List Part) (first second : Pa
 two_segments builder xs first second kind a b e is_a is_b =
     subst (λ (zs : List Part). ArePartsOf builder zs (tree.segment kind a (tree.segment tree.child b tree.no_segments))) (sym e) (is_a, (is_b, tt))
 
--- a query that calls nothing may be finished without signatures
-pub finished_without_calls : (used : List (String Global × declared.Signature)) (segs : tree.Segments) → used ≡ []
+-- a query that calls nothing may be finished by a builder that has made no call
+pub finished_without_calls : (calls : List (List ℕ × Signature)) (segs : tree.Segments) → calls ≡ []
     → ((signature : List ℕ → Option Signature) → AreTypedSegments signature segs)
-    → called_in_segments segs ≡ []
+    → calls_in_segments segs ≡ []
     → segments_depth segs ≤ deepest
-    → MayFinish (used_view used) (tree.query tree.root segs)
-finished_without_calls used segs none typed silent shallow =
-    let finished : MayFinish [] (tree.query tree.root segs) =
-    (refl, typed (signature_in []), shallow, (tt, λ f. (λ i. absurd i, λ i. absurd (subst (IsIn f) silent i))))
-    in subst (λ (us : List (String Global × declared.Signature)). MayFinish (used_view us) (tree.query tree.root segs)) (sym none) finished
+    → MayFinish calls (tree.query tree.root segs)
+finished_without_calls calls segs none typed silent shallow =
+    let finished : MayFinish [] (tree.query tree.root segs) = record {
+      rooted = refl;
+      typed = typed (signature_in []);
+      shallow = shallow;
+      called = λ f. (λ i. absurd i, λ i. absurd (subst (λ (cs : List tree.Call). IsIn f (names_of cs)) silent i));
+      agreed = λ u i. absurd i;
+    } in
+    subst (λ us. MayFinish us (tree.query tree.root segs)) (sym none) finished

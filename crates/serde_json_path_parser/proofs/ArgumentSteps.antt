@@ -1,6 +1,6 @@
 -- The steps of the code at arguments.
 use Rattle.std.proofs.Common.{◌≡◌, ℕ, zero, suc, ◌+◌, ◌≤◌, true, false, cond, List, [], ◌∷◌, ◌++◌, length, drop, Option, Result, Ok, Err, refl, sym, ap, ◌∙◌, append_assoc, arith}
-use Rattle.std.specs.Prelude.{◌==◌, ◌||◌, IfOk}
+use Rattle.std.specs.Prelude.{◌==◌, ◌||◌}
 use Rattle.std.proofs.lemmas.List.{length-append, nil_from_length, append-nil}
 use Rattle.serde_json_path_syntax.specs.Tree.{LogicalOr, LogicalAnd, Basic, Arguments, no_arguments, argument, Argument, logical_argument}
 use Rattle.serde_json_path_functions.specs.Functions.{Kind, Signature}
@@ -9,15 +9,16 @@ use Rattle.serde_json_path_parser.specs.declared.error.Failure.{Failure}
 use Rattle.serde_json_path_parser.specs.declared.error.Failure.TheVariants as failures
 use Rattle.serde_json_path_parser.specs.declared.error.ParseErrorKind.TheVariants.{ExpectedExpression, ExpectedClosingParenthesis, WrongNumberOfArguments, WrongArgumentType}
 use Rattle.serde_json_path_parser.specs.declared.error.Context.TheVariants as context
+use Rattle.serde_json_path_syntax.specs.Calls.{calls_in_argument}
 use Rattle.serde_json_path_syntax.specs.Parts.{IsPart}
-use Rattle.serde_json_path_syntax.specs.Piece.{Piece, an_argument}
+use Rattle.serde_json_path_syntax.specs.Piece.{an_argument}
 use Rattle.serde_json_path_syntax.specs.declared.node.Part.{Part}
 use Rattle.serde_json_path_syntax.specs.declared.builder.SyntaxBuilder.{SyntaxBuilder}
 use Rattle.serde_json_path_parser.specs.declared.source.PathSource.{Ghosts}
 use Rattle.serde_json_path_parser.specs.declared.parser.reader.Reader.{Reader}
-use Rattle.serde_json_path_parser.specs.Giving.{Fails, Makes, GivesEnd, MakesArguments}
+use Rattle.serde_json_path_parser.specs.Giving.{Fails, Grows, GivesEnd, MakesArguments}
 use Rattle.serde_json_path_parser.specs.Reading.{left}
-use Rattle.serde_json_path_parser.specs.Lexical.{begins}
+use Rattle.serde_json_path_parser.specs.Lexical.{is_at, begins}
 use Rattle.serde_json_path_parser.specs.Parsed.{Parsed, ◌>>=◌, refusal, past_blanks, byte_count, refusal_at}
 use Rattle.serde_json_path_parser.specs.Numbers.{whole_at, amount_at, number_at}
 use Rattle.serde_json_path_parser.specs.Operands.{Operand, fits}
@@ -27,12 +28,13 @@ use Rattle.serde_json_path_parser.proofs.Calls.{behind_argument}
 use Rattle.serde_json_path_parser.proofs.LogicalForms.{DeeperLaws}
 use Rattle.serde_json_path_parser.proofs.Steps.{same_fails, first_fails}
 use Rattle.serde_json_path_parser.proofs.Stands.{err_is}
+use Rattle.serde_json_path_parser.proofs.Growth.{grows_none, grows_same, grows_then}
 
-first_of : (cs : List ℕ) → begins (λ c. c == 40 || c == 33) cs ≡ (begins (λ c. c == 40) cs || begins (λ c. c == 33) cs)
+first_of : (cs : List ℕ) → begins (λ c. c == 40 || c == 33) cs ≡ (is_at "(" cs || is_at "!" cs)
 first_of [] = refl
 first_of (c ∷ cs) = refl
 
-one_less : (cs : List ℕ) → begins (λ c. c == 44) cs ≡ true → length (drop 1 cs) + 1 ≡ length cs
+one_less : (cs : List ℕ) → is_at "," cs ≡ true → length (drop 1 cs) + 1 ≡ length cs
 one_less [] e = absurd cc
 one_less (c ∷ cs) e = omega arith
 
@@ -40,7 +42,7 @@ module _ (signature : List ℕ → Option Signature) (deeper : Deeper) where
   -- ---- one argument
 
   -- at `(` or `!`
-  module _ (cs : List ℕ) (opened : (begins (λ c. c == 40) cs || begins (λ c. c == 33) cs) ≡ true) where
+  module _ (cs : List ℕ) (opened : (is_at "(" cs || is_at "!" cs) ≡ true) where
     opens : argument_at signature deeper cs ≡ (or_at signature deeper cs >>= λ e. Ok (logical_argument e.0, e.1))
     unfolding argument_at
     opens = rw (first_of cs, opened) refl
@@ -48,44 +50,25 @@ module _ (signature : List ℕ → Option Signature) (deeper : Deeper) where
     pub expression_argument : (e : LogicalOr) (rest : List ℕ) → or_at signature deeper cs ≡ Ok (e, rest) → argument_at signature deeper cs ≡ Ok (logical_argument e, rest)
     expression_argument e rest read = opens ∙ rw read refl
 
-    pub expression_fails : (s : Failure) → Fails s (or_at signature deeper cs) → Fails s (argument_at signature deeper cs)
-    expression_fails s h = same_fails s _ _ opens (first_fails s (or_at signature deeper cs) _ h)
-
   -- at an operand
-  module _ (cs : List ℕ) (no_parenthesis : begins (λ c. c == 40) cs ≡ false) (no_negation : begins (λ c. c == 33) cs ≡ false) where
+  module _ (cs : List ℕ) (no_parenthesis : is_at "(" cs ≡ false) (no_negation : is_at "!" cs ≡ false) where
     at_operand : argument_at signature deeper cs ≡ (operand_at signature deeper cs >>= λ o. cond (begins ends_argument o.1) (Ok (alone o.0, o.1)) (logical_from signature deeper (byte_count cs) o.0 o.1))
     unfolding argument_at
     at_operand = rw (first_of cs, no_parenthesis, no_negation) refl
 
-    pub operand_fails : (s : Failure) → Fails s (operand_at signature deeper cs) → Fails s (argument_at signature deeper cs)
-    operand_fails s h = same_fails s _ _ at_operand (first_fails s (operand_at signature deeper cs) _ h)
-
     module _ (x : Operand) (rest : List ℕ) (read : operand_at signature deeper cs ≡ Ok (x, rest)) where
-      pub alone_argument : begins ends_argument rest ≡ true → argument_at signature deeper cs ≡ Ok (alone x, rest)
-      alone_argument e = at_operand ∙ rw (read, e) refl
-
       module _ (open_yet : begins ends_argument rest ≡ false) where
         joined : argument_at signature deeper cs ≡ logical_from signature deeper (byte_count cs) x rest
         joined = at_operand ∙ rw (read, open_yet) refl
-
-        pub basic_fails : (s : Failure) → Fails s (basic_from signature deeper (byte_count cs) x rest) → Fails s (argument_at signature deeper cs)
-        unfolding logical_from
-        basic_fails s h = same_fails s _ _ joined (first_fails s (basic_from signature deeper (byte_count cs) x rest) _ h)
 
         module _ (b : Basic) (behind : List ℕ) (basic : basic_from signature deeper (byte_count cs) x rest ≡ Ok (b, behind)) where
           from_basic : argument_at signature deeper cs ≡ (and_from signature deeper b behind >>= λ a. or_from signature deeper a.0 a.1 >>= λ e. Ok (logical_argument e.0, e.1))
           unfolding logical_from
           from_basic = joined ∙ rw basic refl
 
-          pub and_fails : (s : Failure) → Fails s (and_from signature deeper b behind) → Fails s (argument_at signature deeper cs)
-          and_fails s h = same_fails s _ _ from_basic (first_fails s (and_from signature deeper b behind) _ h)
-
           module _ (a : LogicalAnd) (further : List ℕ) (and : and_from signature deeper b behind ≡ Ok (a, further)) where
             from_and : argument_at signature deeper cs ≡ (or_from signature deeper a further >>= λ e. Ok (logical_argument e.0, e.1))
             from_and = from_basic ∙ rw and refl
-
-            pub or_fails : (s : Failure) → Fails s (or_from signature deeper a further) → Fails s (argument_at signature deeper cs)
-            or_fails s h = same_fails s _ _ from_and (first_fails s (or_from signature deeper a further) _ h)
 
             pub joined_argument : (e : LogicalOr) (last : List ℕ) → or_from signature deeper a further ≡ Ok (e, last) → argument_at signature deeper cs ≡ Ok (logical_argument e, last)
             joined_argument e last read = from_and ∙ rw read refl
@@ -113,7 +96,7 @@ module _ (signature : List ℕ → Option Signature) (deeper : Deeper) where
     module _ (a : Argument) (rest : List ℕ) (read : argument_at signature deeper cs ≡ Ok (a, rest)) where
       abbrev pub rests : ℕ → Parsed Arguments
       rests n = judged signature deeper start (byte_count cs) kinds a >>= λ left.
-          cond (begins (λ c. c == 44) rest) (arguments_at signature deeper n start left (past_blanks (drop 1 rest))) (ended start left (drop 1 rest)) >>= λ more. Ok (argument a more.0, more.1)
+          cond (is_at "," rest) (arguments_at signature deeper n start left (past_blanks (drop 1 rest))) (ended start left (drop 1 rest)) >>= λ more. Ok (argument a more.0, more.1)
 
       -- the fuel is there
       fueled : (n : ℕ) × (fuel ≡ suc n) × (arguments_at signature deeper fuel start kinds cs ≡ cond (begins ends_argument rest) (rests n) (Err (refusal ExpectedClosingParenthesis context.LongHand rest)))
@@ -142,67 +125,64 @@ module _ (signature : List ℕ → Option Signature) (deeper : Deeper) where
 
           module _ (fitting : fits signature a kind ≡ true) where
             -- after the last one, and at a comma
-            rests_end : (n : ℕ) → begins (λ c. c == 44) rest ≡ false → rests n ≡ (ended start more (drop 1 rest) >>= λ more. Ok (argument a more.0, more.1))
+            rests_end : (n : ℕ) → is_at "," rest ≡ false → rests n ≡ (ended start more (drop 1 rest) >>= λ more. Ok (argument a more.0, more.1))
             unfolding judged
             rests_end n comma = rw (first, fitting, comma) refl
 
-            rests_on : (n : ℕ) → begins (λ c. c == 44) rest ≡ true → rests n ≡ (arguments_at signature deeper n start more (past_blanks (drop 1 rest)) >>= λ more. Ok (argument a more.0, more.1))
+            rests_on : (n : ℕ) → is_at "," rest ≡ true → rests n ≡ (arguments_at signature deeper n start more (past_blanks (drop 1 rest)) >>= λ more. Ok (argument a more.0, more.1))
             unfolding judged
             rests_on n comma = rw (first, fitting, comma) refl
 
-            pub last_fails : (s : Failure) → begins (λ c. c == 44) rest ≡ false → Fails s (ended start more (drop 1 rest)) → Fails s (arguments_at signature deeper fuel start kinds cs)
+            pub last_fails : (s : Failure) → is_at "," rest ≡ false → Fails s (ended start more (drop 1 rest)) → Fails s (arguments_at signature deeper fuel start kinds cs)
             last_fails s comma h = same_fails s _ (arguments_at signature deeper fuel start kinds cs) (in_rests.2 ∙ rests_end in_rests.0 comma) (first_fails s (ended start more (drop 1 rest)) (λ more. Ok (argument a more.0, more.1)) h)
 
-            pub last : (args : Arguments) (behind : List ℕ) → begins (λ c. c == 44) rest ≡ false → ended start more (drop 1 rest) ≡ Ok (args, behind) → arguments_at signature deeper fuel start kinds cs ≡ Ok (argument a args, behind)
+            pub last : (args : Arguments) (behind : List ℕ) → is_at "," rest ≡ false → ended start more (drop 1 rest) ≡ Ok (args, behind) → arguments_at signature deeper fuel start kinds cs ≡ Ok (argument a args, behind)
             last args behind comma h = in_rests.2 ∙ rests_end in_rests.0 comma ∙ rw h refl
 
             -- the fuel for those after a comma
             abbrev pub fuel_behind : ℕ
             fuel_behind = in_rests.0
 
-            pub enough_behind : (n : ℕ) (laws : DeeperLaws signature n deeper) → begins (λ c. c == 44) rest ≡ true → length (past_blanks (drop 1 rest)) ≤ fuel_behind
+            pub enough_behind : (n : ℕ) (laws : DeeperLaws signature n deeper) → is_at "," rest ≡ true → length (past_blanks (drop 1 rest)) ≤ fuel_behind
             enough_behind n laws comma =
                 let b = behind_argument signature n deeper laws cs (a, rest) read in
                 omega (arith, enough, in_rests.1, ap length b.1, length-append b.0 rest, no_longer (drop 1 rest), one_less rest comma)
 
-            pub more_fail : (s : Failure) → begins (λ c. c == 44) rest ≡ true → Fails s (arguments_at signature deeper fuel_behind start more (past_blanks (drop 1 rest))) → Fails s (arguments_at signature deeper fuel start kinds cs)
+            pub more_fail : (s : Failure) → is_at "," rest ≡ true → Fails s (arguments_at signature deeper fuel_behind start more (past_blanks (drop 1 rest))) → Fails s (arguments_at signature deeper fuel start kinds cs)
             more_fail s comma h =
                 same_fails s _ (arguments_at signature deeper fuel start kinds cs) (in_rests.2 ∙ rests_on in_rests.0 comma) (first_fails s (arguments_at signature deeper fuel_behind start more (past_blanks (drop 1 rest))) (λ more. Ok (argument a more.0, more.1)) h)
 
-            pub more_read : (args : Arguments) (behind : List ℕ) → begins (λ c. c == 44) rest ≡ true → arguments_at signature deeper fuel_behind start more (past_blanks (drop 1 rest)) ≡ Ok (args, behind) → arguments_at signature deeper fuel start kinds cs ≡ Ok (argument a args, behind)
+            pub more_read : (args : Arguments) (behind : List ℕ) → is_at "," rest ≡ true → arguments_at signature deeper fuel_behind start more (past_blanks (drop 1 rest)) ≡ Ok (args, behind) → arguments_at signature deeper fuel start kinds cs ≡ Ok (argument a args, behind)
             more_read args behind comma h =
                 in_rests.2 ∙ rests_on in_rests.0 comma ∙ ap (λ (y : Parsed Arguments). y >>= λ more. Ok (argument a more.0, more.1)) h
 
 -- ---- parts of arguments
 
-module _ {S : Type 0} {g : Ghosts S} (builder : SyntaxBuilder) (before : List Part) (result : Result Unit Failure) (reader : Reader S g) (read whole : Parsed Arguments) where
+module _ {S : Type 0} {g : Ghosts S} (signature : List ℕ → Option Signature) (before : List Part) (result : Result Unit Failure) (reader : Reader S g) (read whole : Parsed Arguments) where
   -- no argument is put after others
-  pub none_made : whole ≡ read → GivesEnd result reader read → MakesArguments builder before before result reader whole
-  none_made = by_result result
+  pub none_made : (builder : SyntaxBuilder) → whole ≡ read → GivesEnd result reader read → MakesArguments signature builder builder before before result reader whole
+  none_made builder = by_result result
     where
-      by_result : (r : Result Unit Failure) → whole ≡ read → GivesEnd r reader read → MakesArguments builder before before r reader whole
-      by_result (Ok u) e h = (no_arguments, [], sym (append-nil before), tt, e ∙ h)
+      by_result : (r : Result Unit Failure) → whole ≡ read → GivesEnd r reader read → MakesArguments signature builder builder before before r reader whole
+      by_result (Ok u) e h = (no_arguments, [], sym (append-nil before), tt, e ∙ h, grows_none builder)
       by_result (Err s) e h = same_fails s read whole e h
 
-  module _ (mid : List Part) (part : Part) (a : Argument) (pushed : mid ≡ before ++ part ∷ []) (is : IsPart builder part (an_argument a))
+  module _ (old builder : SyntaxBuilder) (mid : List Part) (part : Part) (a : Argument) (pushed : mid ≡ before ++ part ∷ []) (is : IsPart builder part (an_argument a))
+      (grown : Grows signature old builder (calls_in_argument a))
       (reads : (args : Arguments) (behind : List ℕ) → read ≡ Ok (args, behind) → whole ≡ Ok (argument a args, behind)) (fail : (s : Failure) → Fails s read → Fails s whole) where
     -- one is put after others, and it is the last one
-    pub last_made : GivesEnd result reader read → MakesArguments builder before mid result reader whole
+    pub last_made : GivesEnd result reader read → MakesArguments signature old builder before mid result reader whole
     last_made = by_result result
       where
-        by_result : (r : Result Unit Failure) → GivesEnd r reader read → MakesArguments builder before mid r reader whole
-        by_result (Ok u) h = (argument a no_arguments, part ∷ [], pushed, (is, tt), reads no_arguments (left reader) h)
+        by_result : (r : Result Unit Failure) → GivesEnd r reader read → MakesArguments signature old builder before mid r reader whole
+        by_result (Ok u) h = (argument a no_arguments, part ∷ [], pushed, (is, tt), reads no_arguments (left reader) h, grows_same (sym (append-nil (calls_in_argument a))) grown)
         by_result (Err s) h = fail s h
 
     -- and more are put after it
-    pub more_made : (after : List Part) → MakesArguments builder mid after result reader read → MakesArguments builder before after result reader whole
-    more_made after = by_result result
+    pub more_made : (new : SyntaxBuilder) (after : List Part) → MakesArguments signature builder new mid after result reader read → MakesArguments signature old new before after result reader whole
+    more_made new after = by_result result
       where
-        by_result : (r : Result Unit Failure) → MakesArguments builder mid after r reader read → MakesArguments builder before after r reader whole
-        by_result (Ok u) h = (argument a h.0, part ∷ h.1, h.2 ∙ ap (λ (ps : List Part). ps ++ h.1) pushed ∙ append_assoc before (part ∷ []) h.1, (is, h.3), reads h.0 (left reader) h.4)
+        by_result : (r : Result Unit Failure) → MakesArguments signature builder new mid after r reader read → MakesArguments signature old new before after r reader whole
+        by_result (Ok u) h =
+            (argument a h.0, part ∷ h.1, h.2 ∙ ap (λ (ps : List Part). ps ++ h.1) pushed ∙ append_assoc before (part ∷ []) h.1, (h.5.trees part (an_argument a) is, h.3), reads h.0 (left reader) h.4, grows_then grown h.5)
         by_result (Err s) h = fail s h
-
--- a part that was made stands for something
-pub was_made : {A S : Type 0} {g : Ghosts S} (piece : A → Piece) (builder : SyntaxBuilder) (result : Result Part Failure) (reader : Reader S g) (read : Parsed A) → Makes piece builder result reader read → IfOk result (λ part. (x : A) × IsPart builder part (piece x))
-was_made piece builder (Ok part) reader read h = (h.0, h.1)
-was_made piece builder (Err e) reader read h = tt

@@ -1,19 +1,19 @@
 -- The steps of the code at names, calls and operands.
-use Rattle.std.proofs.Common.{◌≡◌, ℕ, zero, suc, ◌-◌, ◌<◌, true, false, List, drop, Option, Some, None, Ok, Err, refl, ap, ◌∙◌, arith, length}
-use Rattle.std.specs.Prelude.{◌==◌, ℤ}
+use Rattle.std.proofs.Common.{◌≡◌, ℕ, zero, suc, ◌-◌, ◌<◌, true, false, List, drop, Option, Some, None, Ok, Err, refl, ap, ◌∙◌, arith}
+use Rattle.std.specs.Prelude.{ℤ}
 use Rattle.serde_json_path_syntax.specs.Tree.{Query, root, current, Call, call, Arguments, Literal, number}
 use Rattle.serde_json_path_syntax.specs.Typing.{result_kind}
 use Rattle.serde_json_path_functions.specs.Functions.{Kind, Signature}
 use Rattle.serde_json_path_parser.specs.declared.error.Failure.{Failure}
-use Rattle.serde_json_path_parser.specs.declared.error.ParseErrorKind.TheVariants.{ExpectedExpression, UndefinedFunction, NestedTooDeep}
+use Rattle.serde_json_path_parser.specs.declared.error.ParseErrorKind.TheVariants.{UndefinedFunction, NestedTooDeep}
 use Rattle.serde_json_path_parser.specs.declared.error.Context.TheVariants as context
 use Rattle.serde_json_path_parser.specs.Giving.{Fails}
-use Rattle.serde_json_path_parser.specs.Lexical.{begins, is_small_letter}
-use Rattle.serde_json_path_parser.specs.Parsed.{refusal, past_blanks, byte_count, refusal_at}
+use Rattle.serde_json_path_parser.specs.Lexical.{is_at, begins, is_small_letter}
+use Rattle.serde_json_path_parser.specs.Parsed.{past_blanks, byte_count, refusal_at}
 use Rattle.serde_json_path_parser.specs.Operands.{a_literal, a_query, a_call}
 use Rattle.serde_json_path_parser.specs.Numbers.{number_at}
 use Rattle.serde_json_path_parser.specs.Words.{literal_word}
-use Rattle.serde_json_path_parser.specs.Filters.{Deeper, word, behind_word, begins_call, named_call_at, named_at, query_at, operand_at, ended, arguments_at, parameters_at, call_at, level}
+use Rattle.serde_json_path_parser.specs.Filters.{Deeper, word, behind_word, begins_call, named_call_at, named_at, query_at, operand_at, ended, parameters_at, call_at, level}
 use Rattle.serde_json_path_parser.proofs.Steps.{same_fails, first_fails}
 use Rattle.serde_json_path_parser.proofs.WordTexts.{literal_word_reads}
 
@@ -54,42 +54,33 @@ level_undefined signature n start f cs l e = level_call signature n (n - 1) star
 -- ---- names
 
 module _ (signature : List ℕ → Option Signature) (deeper : Deeper) (cs : List ℕ) (letter : begins is_small_letter cs ≡ true) where
-  call_begins : begins (λ c. c == 40) (behind_word cs) ≡ true → begins_call cs ≡ true
+  call_begins : is_at "(" (behind_word cs) ≡ true → begins_call cs ≡ true
   call_begins e = rw (letter, e) refl
 
-  no_call_begins : begins (λ c. c == 40) (behind_word cs) ≡ false → begins_call cs ≡ false
+  no_call_begins : is_at "(" (behind_word cs) ≡ false → begins_call cs ≡ false
   no_call_begins e = rw (letter, e) refl
 
-  pub named_call : (c : Call) (rest : List ℕ) → begins (λ c. c == 40) (behind_word cs) ≡ true → deeper.call_of (byte_count cs) (word cs) (drop 1 (behind_word cs)) ≡ Ok (c, rest) → named_at signature deeper cs ≡ Ok (a_call c, rest)
+  pub named_call : (c : Call) (rest : List ℕ) → is_at "(" (behind_word cs) ≡ true → deeper.call_of (byte_count cs) (word cs) (drop 1 (behind_word cs)) ≡ Ok (c, rest) → named_at signature deeper cs ≡ Ok (a_call c, rest)
   unfolding named_at named_call_at
   named_call c rest open_parenthesis h = rw (call_begins open_parenthesis, h) refl
 
-  pub named_call_fails : (s : Failure) → begins (λ c. c == 40) (behind_word cs) ≡ true → Fails s (deeper.call_of (byte_count cs) (word cs) (drop 1 (behind_word cs))) → Fails s (named_at signature deeper cs)
-  unfolding named_at named_call_at
-  named_call_fails s open_parenthesis h =
-      same_fails s _ (named_at signature deeper cs) (rw (call_begins open_parenthesis) refl) (first_fails s (deeper.call_of (byte_count cs) (word cs) (drop 1 (behind_word cs))) (λ c. Ok (a_call c.0, c.1)) h)
-
-  pub named_literal : (l : Literal) → begins (λ c. c == 40) (behind_word cs) ≡ false → literal_word (word cs) ≡ Some l → named_at signature deeper cs ≡ Ok (a_literal l, past_blanks (behind_word cs))
+  pub named_literal : (l : Literal) → is_at "(" (behind_word cs) ≡ false → literal_word (word cs) ≡ Some l → named_at signature deeper cs ≡ Ok (a_literal l, past_blanks (behind_word cs))
   unfolding named_at
   named_literal l no_parenthesis is = rw (no_call_begins no_parenthesis) (literal_word_reads cs ∙ rw is refl)
 
-  pub named_nothing : begins (λ c. c == 40) (behind_word cs) ≡ false → literal_word (word cs) ≡ None → named_at signature deeper cs ≡ Err (refusal ExpectedExpression context.LongHand cs)
-  unfolding named_at
-  named_nothing no_parenthesis is = rw (no_call_begins no_parenthesis) (literal_word_reads cs ∙ rw is refl)
-
 -- ---- operands
 
-module _ (signature : List ℕ → Option Signature) (deeper : Deeper) (cs : List ℕ) (no_single : begins (λ c. c == 39) cs ≡ false) (no_double : begins (λ c. c == 34) cs ≡ false) where
-  pub current_operand : (q : Query) (rest : List ℕ) → begins (λ c. c == 64) cs ≡ true → query_at signature deeper current cs ≡ Ok (q, rest) → operand_at signature deeper cs ≡ Ok (a_query q, rest)
+module _ (signature : List ℕ → Option Signature) (deeper : Deeper) (cs : List ℕ) (no_single : is_at "'" cs ≡ false) (no_double : is_at "\"" cs ≡ false) where
+  pub current_operand : (q : Query) (rest : List ℕ) → is_at "@" cs ≡ true → query_at signature deeper current cs ≡ Ok (q, rest) → operand_at signature deeper cs ≡ Ok (a_query q, rest)
   unfolding operand_at
   current_operand q rest at h = rw (no_single, no_double, at, h) refl
 
-  module _ (no_current : begins (λ c. c == 64) cs ≡ false) where
-    pub root_operand : (q : Query) (rest : List ℕ) → begins (λ c. c == 36) cs ≡ true → query_at signature deeper root cs ≡ Ok (q, rest) → operand_at signature deeper cs ≡ Ok (a_query q, rest)
+  module _ (no_current : is_at "@" cs ≡ false) where
+    pub root_operand : (q : Query) (rest : List ℕ) → is_at "$" cs ≡ true → query_at signature deeper root cs ≡ Ok (q, rest) → operand_at signature deeper cs ≡ Ok (a_query q, rest)
     unfolding operand_at
     root_operand q rest dollar h = rw (no_single, no_double, no_current, dollar, h) refl
 
-    module _ (no_root : begins (λ c. c == 36) cs ≡ false) where
+    module _ (no_root : is_at "$" cs ≡ false) where
       pub named_operand : begins is_small_letter cs ≡ true → operand_at signature deeper cs ≡ named_at signature deeper cs
       unfolding operand_at named_at
       named_operand letter = rw (no_single, no_double, no_current, no_root, letter) refl
@@ -101,10 +92,6 @@ module _ (signature : List ℕ → Option Signature) (deeper : Deeper) (cs : Lis
 -- ---- arguments of a call
 
 module _ (signature : List ℕ → Option Signature) (deeper : Deeper) (start : ℕ) (kinds : List Kind) (cs : List ℕ) where
-  pub no_argument : begins (λ c. c == 41) cs ≡ true → parameters_at signature deeper start kinds cs ≡ ended start kinds (drop 1 cs)
+  pub no_argument : is_at ")" cs ≡ true → parameters_at signature deeper start kinds cs ≡ ended start kinds (drop 1 cs)
   unfolding parameters_at
   no_argument e = rw e refl
-
-  pub some_arguments : begins (λ c. c == 41) cs ≡ false → parameters_at signature deeper start kinds cs ≡ arguments_at signature deeper (length cs) start kinds cs
-  unfolding parameters_at
-  some_arguments e = rw e refl

@@ -10,7 +10,7 @@ use Rattle.serde_json_path_syntax.specs.Depth.{argument_depth, arguments_depth, 
 use Rattle.serde_json_path_functions.specs.Functions.{Kind, of_value, of_nodes, of_logical, Signature}
 use Rattle.serde_json_path_parser.specs.declared.error.ParseErrorKind.TheVariants.{ExpectedExpression, ExpectedClosingParenthesis, WrongArgumentType, WrongReturnType, UndefinedFunction, WrongNumberOfArguments}
 use Rattle.serde_json_path_parser.specs.declared.error.Context.TheVariants as context
-use Rattle.serde_json_path_parser.specs.Lexical.{begins, begins_both, IsBlank, IsFunctionName}
+use Rattle.serde_json_path_parser.specs.Lexical.{is_at, are_at, begins, begins_both, IsBlank, IsFunctionName}
 use Rattle.serde_json_path_parser.specs.Grammar.{StandsAlone, ReadsArgument, ReadMoreArguments, ReadArguments}
 use Rattle.serde_json_path_parser.specs.Parsed.{Parsed, ◌>>=◌, refusal, past_blanks, many_at, many, byte_count}
 use Rattle.serde_json_path_parser.specs.Operands.{Operand, a_literal, a_query, a_call, is_result, is_test, takes_result, is_whole, fits}
@@ -135,9 +135,9 @@ module _ (signature : List ℕ → Option Signature) (n : ℕ) (deeper : Deeper)
   not_alone start o cs x open_yet ends e =
       let b = bind_ok (basic_from signature deeper (byte_count start) o cs) (λ b. and_from signature deeper b.0 b.1 >>= λ a. or_from signature deeper a.0 a.1 >>= λ e. Ok (logical_argument e.0, e.1)) x e in
       let a = bind_ok (and_from signature deeper b.0.0 b.0.1) (λ a. or_from signature deeper a.0 a.1 >>= λ e. Ok (logical_argument e.0, e.1)) x b.2 in
-      let bs = bind_ok (many (begins_both 38 38) (next_basic_at signature deeper) b.0.1) (λ bs. Ok (and_list (b.0.0 ∷ bs.0), bs.1)) a.0 a.1 in
+      let bs = bind_ok (many (are_at "&&") (next_basic_at signature deeper) b.0.1) (λ bs. Ok (and_list (b.0.0 ∷ bs.0), bs.1)) a.0 a.1 in
       let f = bind_ok (or_from signature deeper a.0.0 a.0.1) (λ e. Ok (logical_argument e.0, e.1)) x a.2 in
-      let more = bind_ok (many (begins_both 124 124) (next_and_at signature deeper) a.0.1) (λ more. Ok (or_list (a.0.0 ∷ more.0), more.1)) f.0 f.1 in
+      let more = bind_ok (many (are_at "||") (next_and_at signature deeper) a.0.1) (λ more. Ok (or_list (a.0.0 ∷ more.0), more.1)) f.0 f.1 in
       let ands = ok_is (and_list (b.0.0 ∷ bs.0.0), bs.0.1) a.0 bs.2 in
       let ors = ok_is (or_list (a.0.0 ∷ more.0.0), more.0.1) f.0 more.2 in
       let whole = ok_is (logical_argument f.0.0, f.0.1) x f.2 in (
@@ -147,8 +147,8 @@ module _ (signature : List ℕ → Option Signature) (n : ℕ) (deeper : Deeper)
             let shape : f.0.0 ≡ or_list (and_list (b.0.0 ∷ bs.0.0) ∷ more.0.0) = sym (ap (λ y. y.0) ors) ∙ ap (λ (l : LogicalAnd). or_list (l ∷ more.0.0)) (sym (ap (λ y. y.0) ands)) in
             let single = alone_is b.0.0 bs.0.0 more.0.0 (subst StandsAlone shape stands) in
             let rest : x.1 ≡ cs =
-            sym (ap (λ y. y.1) whole) ∙ sym (ap (λ y. y.1) ors) ∙ none_taken (begins_both 124 124) (next_and_at signature deeper) (length a.0.1) a.0.1 more.0 more.1 single.2
-            ∙ sym (ap (λ y. y.1) ands) ∙ none_taken (begins_both 38 38) (next_basic_at signature deeper) (length b.0.1) b.0.1 bs.0 bs.1 single.1
+            sym (ap (λ y. y.1) whole) ∙ sym (ap (λ y. y.1) ors) ∙ none_taken (are_at "||") (next_and_at signature deeper) (length a.0.1) a.0.1 more.0 more.1 single.2
+            ∙ sym (ap (λ y. y.1) ands) ∙ none_taken (are_at "&&") (next_basic_at signature deeper) (length b.0.1) b.0.1 bs.0 bs.1 single.1
             ∙ test_ends start o cs b.0 b.1 single.0 in
             true≢false (sym ends ∙ ap (begins ends_argument) rest ∙ open_yet),
       )
@@ -166,11 +166,11 @@ module _ (signature : List ℕ → Option Signature) (n : ℕ) (deeper : Deeper)
       let in_parens : Parsed Basic = paren_at signature deeper cs >>= λ e. Ok (not_paren e.0, e.1) in
       let current_query : Parsed Basic = query_at signature deeper current cs >>= λ q. Ok (not_exist q.0, q.1) in
       let root_query : Parsed Basic = query_at signature deeper root cs >>= λ q. Ok (not_exist q.0, q.1) in
-      elim (chosen (begins (λ c. c == 40) cs) in_parens _ (Ok x) e) [
+      elim (chosen (is_at "(" cs) in_parens _ (Ok x) e) [
         | inl a ↦ made_no_test (λ e. not_paren e) (paren_at signature deeper cs) x (λ e is. is) a.1
-        | inr a ↦ elim (chosen (begins (λ c. c == 64) cs) current_query _ (Ok x) a.1) [
+        | inr a ↦ elim (chosen (is_at "@" cs) current_query _ (Ok x) a.1) [
           | inl b ↦ made_no_test (λ q. not_exist q) (query_at signature deeper current cs) x (λ q is. is) b.1
-          | inr b ↦ elim (chosen (begins (λ c. c == 36) cs) root_query _ (Ok x) b.1) [
+          | inr b ↦ elim (chosen (is_at "$" cs) root_query _ (Ok x) b.1) [
             | inl c ↦ made_no_test (λ q. not_exist q) (query_at signature deeper root cs) x (λ q is. is) c.1
             | inr c ↦ elim (chosen (begins_call cs) (negated_call_at signature deeper cs) (Err (refusal ExpectedExpression context.LongHand cs)) (Ok x) c.1) [
               | inr d ↦ absurd (let wrong = d.1 in cc)
@@ -203,8 +203,8 @@ module _ (signature : List ℕ → Option Signature) (n : ℕ) (deeper : Deeper)
   opening_not_alone cs x begun e stands =
       let a = bind_ok (and_at signature deeper cs) (λ a. or_from signature deeper a.0 a.1) x e in
       let b = bind_ok (basic_at signature deeper cs) (λ b. and_from signature deeper b.0 b.1) a.0 a.1 in
-      let bs = bind_ok (many (begins_both 38 38) (next_basic_at signature deeper) b.0.1) (λ bs. Ok (and_list (b.0.0 ∷ bs.0), bs.1)) a.0 b.2 in
-      let more = bind_ok (many (begins_both 124 124) (next_and_at signature deeper) a.0.1) (λ more. Ok (or_list (a.0.0 ∷ more.0), more.1)) x a.2 in
+      let bs = bind_ok (many (are_at "&&") (next_basic_at signature deeper) b.0.1) (λ bs. Ok (and_list (b.0.0 ∷ bs.0), bs.1)) a.0 b.2 in
+      let more = bind_ok (many (are_at "||") (next_and_at signature deeper) a.0.1) (λ more. Ok (or_list (a.0.0 ∷ more.0), more.1)) x a.2 in
       let ands = ok_is (and_list (b.0.0 ∷ bs.0.0), bs.0.1) a.0 bs.2 in
       let ors = ok_is (or_list (a.0.0 ∷ more.0.0), more.0.1) x more.2 in
       let shape : x.0 ≡ or_list (and_list (b.0.0 ∷ bs.0.0) ∷ more.0.0) = sym (ap (λ y. y.0) ors) ∙ ap (λ (l : LogicalAnd). or_list (l ∷ more.0.0)) (sym (ap (λ y. y.0) ands)) in
@@ -387,17 +387,17 @@ module _ (signature : List ℕ → Option Signature) (n : ℕ) (deeper : Deeper)
       let r = argument_sound cs a.0 g.0 a.1 in
       let j = judged_sound start cs kinds left.0 a.0.0 r.is_so.2.0 left.1 in
       let next : Parsed Arguments = arguments_at signature deeper fuel (byte_count start) left.0 (past_blanks (drop 1 a.0.1)) in
-      let more = bind_ok (cond (begins (λ c. c == 44) a.0.1) next (ended (byte_count start) left.0 (drop 1 a.0.1))) (λ more. Ok (argument a.0.0 more.0, more.1)) x left.2 in
+      let more = bind_ok (cond (is_at "," a.0.1) next (ended (byte_count start) left.0 (drop 1 a.0.1))) (λ more. Ok (argument a.0.0 more.0, more.1)) x left.2 in
       let split : cs ≡ (r.is_so.0 ++ r.is_so.1) ++ a.0.1 = r.split ∙ ap (λ (l : List ℕ). l ++ a.0.1) r.is_so.4 in
       let at : (k : ℕ) → begins (λ c. c == k) a.0.1 ≡ true → cs ≡ (r.is_so.0 ++ r.is_so.1) ++ (k ∷ drop 1 a.0.1) = λ k here. split ∙ ap (λ (l : List ℕ). (r.is_so.0 ++ r.is_so.1) ++ l) (after_one k a.0.1 here) in
-      elim (chosen (begins (λ c. c == 44) a.0.1) next (ended (byte_count start) left.0 (drop 1 a.0.1)) (Ok more.0) more.1) [
+      elim (chosen (is_at "," a.0.1) next (ended (byte_count start) left.0 (drop 1 a.0.1)) (Ok more.0) more.1) [
         | inl b ↦ one_more_argument cs kinds left.0 a.0.0 r.is_so.0 r.is_so.1 (drop 1 a.0.1) x more.0 r.is_so.2 r.is_so.3 (at 44 b.0) j.0 j.1 j.2
             (arguments_sound fuel start left.0 (past_blanks (drop 1 a.0.1)) more.0 b.1) (ok_is (argument a.0.0 more.0.0, more.0.1) x more.2)
         | inr b ↦ last_argument start cs kinds left.0 a.0.0 r.is_so.0 r.is_so.1 (drop 1 a.0.1) x r.is_so.2 r.is_so.3 (at 41 (closes a.0.1 g.0 b.0)) j.0 j.1 j.2
             (ap (λ (y : Parsed Arguments). y >>= λ more. Ok (argument a.0.0 more.0, more.1)) b.1 ∙ more.2)
       ]
     where
-      closes : (cs : List ℕ) → begins ends_argument cs ≡ true → begins (λ c. c == 44) cs ≡ false → begins (λ c. c == 41) cs ≡ true
+      closes : (cs : List ℕ) → begins ends_argument cs ≡ true → is_at "," cs ≡ false → is_at ")" cs ≡ true
       closes [] e h = absurd cc
       closes (c ∷ cs) e h = sym (rw h refl) ∙ e
 
@@ -412,8 +412,8 @@ module _ (signature : List ℕ → Option Signature) (n : ℕ) (deeper : Deeper)
       let Is : List ℕ → Call → Type 0 = λ t c. (IsTypedCall signature c × (call_depth c ≤ n + 1)) × ReadsBehindName f c t in
       let r = past_blanks cs in
       let j = blanks_of cs in
-      let args = bind_ok (cond (begins (λ c. c == 41) r) (ended (byte_count start) s.params (drop 1 r)) (arguments_at signature deeper (length r) (byte_count start) s.params r)) (λ args. Ok (call f args.0, args.1)) x e in
-      elim (chosen (begins (λ c. c == 41) r) (ended (byte_count start) s.params (drop 1 r)) (arguments_at signature deeper (length r) (byte_count start) s.params r) (Ok args.0) args.1) [
+      let args = bind_ok (cond (is_at ")" r) (ended (byte_count start) s.params (drop 1 r)) (arguments_at signature deeper (length r) (byte_count start) s.params r)) (λ args. Ok (call f args.0, args.1)) x e in
+      elim (chosen (is_at ")" r) (ended (byte_count start) s.params (drop 1 r)) (arguments_at signature deeper (length r) (byte_count start) s.params r) (Ok args.0) args.1) [
         | inl a ↦
             let end = ended_sound start s.params (drop 1 r) args.0 a.1 in
             subst (Read (Spaced Is) cs) (ok_is (call f args.0.0, args.0.1) x args.2) (record {
@@ -513,7 +513,7 @@ no_sign k [] fails e = refl
 no_sign k (c ∷ cs) fails e = rw (differs ends_argument k c fails e) refl
 
 -- what begins neither with `(` nor with `!`
-neither : (cs : List ℕ) → begins (λ c. c == 40 || c == 33) cs ≡ false → (begins (λ c. c == 40) cs ≡ false) × (begins (λ c. c == 33) cs ≡ false)
+neither : (cs : List ℕ) → begins (λ c. c == 40 || c == 33) cs ≡ false → (is_at "(" cs ≡ false) × (is_at "!" cs ≡ false)
 neither [] e = (refl, refl)
 neither (c ∷ cs) e = or_parts (c == 40) (c == 33) e
 
@@ -536,8 +536,8 @@ module _ (signature : List ℕ → Option Signature) (n : ℕ) (deeper : Deeper)
   test_alone : (b : Basic) (cs : List ℕ) (x : LogicalOr × List ℕ) → IsTest b → begins ends_argument cs ≡ true → (and_from signature deeper b cs >>= λ a. or_from signature deeper a.0 a.1) ≡ Ok x → StandsAlone x.0
   unfolding and_from or_from
   test_alone b cs x is ends e =
-      let ands : many (begins_both 38 38) (next_basic_at signature deeper) cs ≡ Ok ([], cs) = many_end (begins_both 38 38) (next_basic_at signature deeper) cs (no_sign 38 cs refl ends) in
-      let ors : many (begins_both 124 124) (next_and_at signature deeper) cs ≡ Ok ([], cs) = many_end (begins_both 124 124) (next_and_at signature deeper) cs (no_sign 124 cs refl ends) in
+      let ands : many (are_at "&&") (next_basic_at signature deeper) cs ≡ Ok ([], cs) = many_end (are_at "&&") (next_basic_at signature deeper) cs (no_sign 38 cs refl ends) in
+      let ors : many (are_at "||") (next_and_at signature deeper) cs ≡ Ok ([], cs) = many_end (are_at "||") (next_and_at signature deeper) cs (no_sign 124 cs refl ends) in
       let whole : (and_from signature deeper b cs >>= λ a. or_from signature deeper a.0 a.1) ≡ Ok (or (and b no_and) no_or, cs) = rw (ands, ors) refl in
       subst (λ (y : LogicalOr × List ℕ). StandsAlone y.0) (ok_is (or (and b no_and) no_or, cs) x (sym whole ∙ e)) (of_test b is)
     where
@@ -663,7 +663,7 @@ module _ (signature : List ℕ → Option Signature) (n : ℕ) (deeper : Deeper)
         let whole : t ++ closing ≡ b ++ (others ++ closing) = ap (λ (l : List ℕ). l ++ closing) e ∙ append_assoc b others closing in
         let begun : begins begins_expression (b ++ (others ++ closing)) ≡ true = argument_begins b a (others ++ closing) is in
         let here : past_blanks (t ++ closing) ≡ b ++ (others ++ closing) = ap past_blanks whole ∙ past_all [] (b ++ (others ++ closing)) tt (no_blank_begins (b ++ (others ++ closing)) begun) in
-        let closes_not : begins (λ c. c == 41) (b ++ (others ++ closing)) ≡ false = begins_differs begins_expression 41 (b ++ (others ++ closing)) refl begun in
+        let closes_not : is_at ")" (b ++ (others ++ closing)) ≡ false = begins_differs begins_expression 41 (b ++ (others ++ closing)) refl begun in
         rw (here, closes_not) (arguments_again (length (b ++ (others ++ closing))) start kinds a more b others typed shallow is are (omega arith))
 
   -- ---- calls
@@ -786,8 +786,8 @@ module _ (signature : List ℕ → Option Signature) (n : ℕ) (deeper : Deeper)
       let rest = past_blanks (drop 1 a.1) in
       ends_or_refused start (before ++ reached.0) a.1 r whole h (λ k.
       bind_stands start (judged signature deeper (byte_count start) (byte_count cs) kinds a.0) _ r (λ d g. inside start d (judged_stands before start cs kinds a.0 d split g)) (λ left g l.
-      bind_stands start (cond (begins (λ c. c == 44) a.1) (arguments_at signature deeper fuel (byte_count start) left rest) (ended (byte_count start) left (drop 1 a.1))) _ r (λ d m.
-      elim (chosen (begins (λ c. c == 44) a.1) (arguments_at signature deeper fuel (byte_count start) left rest) (ended (byte_count start) left (drop 1 a.1)) (Err d) m) [
+      bind_stands start (cond (is_at "," a.1) (arguments_at signature deeper fuel (byte_count start) left rest) (ended (byte_count start) left (drop 1 a.1))) _ r (λ d m.
+      elim (chosen (is_at "," a.1) (arguments_at signature deeper fuel (byte_count start) left rest) (ended (byte_count start) left (drop 1 a.1)) (Err d) m) [
         | inr p ↦ inside start d (ended_stands start left (drop 1 a.1) d p.1)
         | inl p ↦
             let comma : a.1 ≡ (44 ∷ blanks) ++ rest = after_one 44 a.1 p.0 ∙ ap (λ (l : List ℕ). 44 ∷ l) (split_blanks (drop 1 a.1)) in
@@ -810,7 +810,7 @@ module _ (signature : List ℕ → Option Signature) (n : ℕ) (deeper : Deeper)
   -- after `(` and blanks
   parameters_stand : (before start : List ℕ) (kinds : List Kind) (cs : List ℕ) (r : Refusal) → start ≡ before ++ cs → parameters_at signature deeper (byte_count start) kinds cs ≡ Err r → Stands (Inner signature) start r
   unfolding parameters_at
-  parameters_stand before start kinds cs r split e = elim (chosen (begins (λ c. c == 41) cs) (ended (byte_count start) kinds (drop 1 cs)) (arguments_at signature deeper (length cs) (byte_count start) kinds cs) (Err r) e) [
+  parameters_stand before start kinds cs r split e = elim (chosen (is_at ")" cs) (ended (byte_count start) kinds (drop 1 cs)) (arguments_at signature deeper (length cs) (byte_count start) kinds cs) (Err r) e) [
     | inl a ↦ inside start r (ended_stands start kinds (drop 1 cs) r a.1)
     | inr a ↦ arguments_stand (length cs) before start kinds cs r split a.1
   ]

@@ -7,7 +7,7 @@ use Rattle.serde_json_path_parser.specs.declared.error.Context.TheVariants as co
 use Rattle.serde_json_path_parser.specs.declared.error.Failure.{Failure}
 use Rattle.serde_json_path_parser.specs.Filters.{Deeper, filter_at, query_at}
 use Rattle.serde_json_path_parser.specs.Giving.{Fails}
-use Rattle.serde_json_path_parser.specs.Lexical.{begins}
+use Rattle.serde_json_path_parser.specs.Lexical.{is_at, begins}
 use Rattle.serde_json_path_parser.specs.Parsed.{Parsed, ◌>>=◌, past_blanks, byte_count}
 use Rattle.serde_json_path_parser.specs.Parsing.{selector_at, segments_at, segment_list}
 use Rattle.serde_json_path_parser.proofs.Steps.{same_fails, first_fails}
@@ -15,16 +15,16 @@ use Rattle.serde_json_path_parser.proofs.Runs.{begins_differs}
 
 module _ (signature : List ℕ → Option Signature) (deeper : Deeper) where
   -- a selector that begins with `?` is a filter
-  at_mark : (cs : List ℕ) → begins (λ c. c == 63) cs ≡ true → selector_at (filter_at signature deeper) cs ≡ (deeper.expression (byte_count cs) (past_blanks (drop 1 cs)) >>= λ e. Ok (filter e.0, e.1))
+  at_mark : (cs : List ℕ) → is_at "?" cs ≡ true → selector_at (filter_at signature deeper) cs ≡ (deeper.expression (byte_count cs) (past_blanks (drop 1 cs)) >>= λ e. Ok (filter e.0, e.1))
   unfolding selector_at filter_at
   at_mark cs mark =
       let other : (k : ℕ) → (k == 63) ≡ false → begins (λ c. c == k) cs ≡ false = λ k differs. begins_differs (λ c. c == 63) k cs differs mark in
       rw (other 39 refl, other 34 refl, other 42 refl, other 58 refl, mark) refl
 
-  pub filter_reads : (cs rest : List ℕ) (e : LogicalOr) → begins (λ c. c == 63) cs ≡ true → deeper.expression (byte_count cs) (past_blanks (drop 1 cs)) ≡ Ok (e, rest) → selector_at (filter_at signature deeper) cs ≡ Ok (filter e, rest)
+  pub filter_reads : (cs rest : List ℕ) (e : LogicalOr) → is_at "?" cs ≡ true → deeper.expression (byte_count cs) (past_blanks (drop 1 cs)) ≡ Ok (e, rest) → selector_at (filter_at signature deeper) cs ≡ Ok (filter e, rest)
   filter_reads cs rest e mark read = at_mark cs mark ∙ ap (λ (r : Parsed LogicalOr). r >>= λ e. Ok (filter e.0, e.1)) read
 
-  pub filter_fails : (s : Failure) (cs : List ℕ) → begins (λ c. c == 63) cs ≡ true → Fails s (deeper.expression (byte_count cs) (past_blanks (drop 1 cs))) → Fails s (selector_at (filter_at signature deeper) cs)
+  pub filter_fails : (s : Failure) (cs : List ℕ) → is_at "?" cs ≡ true → Fails s (deeper.expression (byte_count cs) (past_blanks (drop 1 cs))) → Fails s (selector_at (filter_at signature deeper) cs)
   filter_fails s cs mark h =
       same_fails s (deeper.expression (byte_count cs) (past_blanks (drop 1 cs)) >>= λ e. Ok (filter e.0, e.1)) (selector_at (filter_at signature deeper) cs) (at_mark cs mark)
       (first_fails s (deeper.expression (byte_count cs) (past_blanks (drop 1 cs))) (λ e. Ok (filter e.0, e.1)) h)
@@ -35,8 +35,3 @@ module _ (signature : List ℕ → Option Signature) (deeper : Deeper) where
         → query_at signature deeper kind cs ≡ Ok (query kind (segment_list ss), behind)
     unfolding query_at
     query_reads rest behind ss read end = rw (e, read, end) refl
-
-    pub query_fails : (s : Failure) → Fails s (segments_at (filter_at signature deeper) context.LongHand ds) → Fails s (query_at signature deeper kind cs)
-    unfolding query_at
-    query_fails s h =
-        rw e (first_fails s (segments_at (filter_at signature deeper) context.LongHand ds) (λ ss. Ok (query kind (segment_list ss.0), past_blanks ss.1)) h)

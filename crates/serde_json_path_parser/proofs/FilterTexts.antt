@@ -3,7 +3,7 @@ use Rattle.std.proofs.Common.{◌≡◌, ℕ, true, List, ◌∷◌, ◌++◌, d
 use Rattle.std.specs.Prelude.{◌==◌, ◌||◌}
 use Rattle.serde_json_path_syntax.specs.Tree.{Selector, filter, LogicalOr}
 use Rattle.serde_json_path_functions.specs.Functions.{Signature}
-use Rattle.serde_json_path_parser.specs.Lexical.{begins}
+use Rattle.serde_json_path_parser.specs.Lexical.{is_at}
 use Rattle.serde_json_path_parser.specs.Parsed.{past_blanks, byte_count}
 use Rattle.serde_json_path_parser.specs.Filters.{Deeper, filter_at}
 use Rattle.serde_json_path_parser.proofs.Texts.{past_all, blanks_of, are_blank, split_blanks}
@@ -18,7 +18,7 @@ closing_ends : (c : ℕ) → (c == 44 || c == 93) ≡ true → ends_or c ≡ tru
 closing_ends c e = grind (arith, e)
 
 module _ (signature : List ℕ → Option Signature) (n : ℕ) (deeper : Deeper) (laws : DeeperLaws signature n deeper) where
-  sound : (cs : List ℕ) (x : Selector × List ℕ) → begins (λ c. c == 63) cs ≡ true → filter_at signature deeper cs ≡ Ok x → Read (Spaced (IsGoodText (IsGoodInside signature n))) cs x
+  sound : (cs : List ℕ) (x : Selector × List ℕ) → is_at "?" cs ≡ true → filter_at signature deeper cs ≡ Ok x → Read (Spaced (IsGoodText (IsGoodInside signature n))) cs x
   unfolding filter_at
   sound cs x mark e =
       let inner = bind_ok (deeper.expression (byte_count cs) (past_blanks (drop 1 cs))) (λ e. Ok (filter e.0, e.1)) x e in

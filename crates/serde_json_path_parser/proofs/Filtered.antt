@@ -4,7 +4,7 @@ use Rattle.std.specs.Prelude.{◌==◌, ◌||◌}
 use Rattle.serde_json_path_syntax.specs.Tree.{Segments, no_segments, segment, Segment, dot_name, dot_wildcard, long_hand, Selectors, no_selectors, selector, Selector, filter, LogicalOr}
 use Rattle.serde_json_path_functions.specs.Functions.{Signature}
 use Rattle.serde_json_path_parser.specs.declared.error.Refusal.{Refusal}
-use Rattle.serde_json_path_parser.specs.Lexical.{begins}
+use Rattle.serde_json_path_parser.specs.Lexical.{is_at, begins}
 use Rattle.serde_json_path_parser.specs.Grammar.{ReadsSelector}
 use Rattle.serde_json_path_parser.specs.Parsed.{Parsed, past_blanks}
 use Rattle.serde_json_path_parser.proofs.Stands.{Inner, Stands}
@@ -38,9 +38,9 @@ module _ (Good : LogicalOr → Type 0) where
 
   -- Filters that are read are good, and each good one is read.
   pub record FilterLaws (filter_at : List ℕ → Parsed Selector) : Type 0 where
-    pub sound : (cs : List ℕ) (x : Selector × List ℕ) → begins (λ c. c == 63) cs ≡ true → filter_at cs ≡ Ok x → Read (Spaced IsGoodText) cs x
+    pub sound : (cs : List ℕ) (x : Selector × List ℕ) → is_at "?" cs ≡ true → filter_at cs ≡ Ok x → Read (Spaced IsGoodText) cs x
     pub again : (t : List ℕ) (e : LogicalOr) (rest : List ℕ) → IsGoodText t (filter e) → Closes rest → filter_at (t ++ rest) ≡ Ok (filter e, past_blanks rest)
 
 -- each refusal of a filter stands in its text
 abbrev pub FiltersStand : (List ℕ → Option Signature) → (List ℕ → Parsed Selector) → Type 0
-FiltersStand signature filter_at = (cs : List ℕ) (r : Refusal) → begins (λ c. c == 63) cs ≡ true → filter_at cs ≡ Err r → Stands (Inner signature) cs r
+FiltersStand signature filter_at = (cs : List ℕ) (r : Refusal) → is_at "?" cs ≡ true → filter_at cs ≡ Err r → Stands (Inner signature) cs r

@@ -7,7 +7,7 @@ use Rattle.serde_json_path_syntax.specs.Tree.{largest}
 use Rattle.serde_json_path_parser.specs.declared.error.ParseErrorKind.TheVariants.{ExpectedSelector, IntegerOutOfRange}
 use Rattle.serde_json_path_parser.specs.declared.error.Context.TheVariants as context
 use Rattle.serde_json_path_parser.specs.declared.error.Refusal.{Refusal}
-use Rattle.serde_json_path_parser.specs.Lexical.{begins, is_blank, is_digit, value_from, IsDecimal, IsInt}
+use Rattle.serde_json_path_parser.specs.Lexical.{is_at, begins, is_blank, is_digit, value_from, IsDecimal, IsInt}
 use Rattle.serde_json_path_parser.specs.Parsed.{Parsed, ◌>>=◌, refusal, front, behind, byte_count}
 use Rattle.serde_json_path_parser.specs.Parsing.{is_first_digit, digits_at, negative, int_at, begins_int}
 use Rattle.serde_json_path_parser.proofs.Runs.{begins_where, differs, begins_differs, no_blank, whole, front_each, front_begins, front_begins_not, front_all, behind_all, value_least}
@@ -80,7 +80,7 @@ int_sound cs x e =
     let wrong = refusal ExpectedSelector context.LongHand cs in
     let below : Parsed ℤ = digits_at (byte_count cs) (drop 1 cs) >>= λ n. Ok (negative n.0, n.1) in
     let above : Parsed ℤ = digits_at (byte_count cs) cs >>= λ n. Ok (pos n.0, n.1) in
-    elim (chosen (begins (λ c. c == 45) cs) (cond (begins is_first_digit (drop 1 cs)) below (Err wrong)) (cond (begins (λ c. c == 48) cs) (Ok (pos 0, drop 1 cs)) (cond (begins is_first_digit cs) above (Err wrong))) (Ok x) e) [
+    elim (chosen (is_at "-" cs) (cond (begins is_first_digit (drop 1 cs)) below (Err wrong)) (cond (is_at "0" cs) (Ok (pos 0, drop 1 cs)) (cond (begins is_first_digit cs) above (Err wrong))) (Ok x) e) [
       | inl a ↦
           let g = guard (begins is_first_digit (drop 1 cs)) wrong below x a.1 in
           let n = bind_ok (digits_at (byte_count cs) (drop 1 cs)) (λ n. Ok (negative n.0, n.1)) x g.1 in
@@ -90,7 +90,7 @@ int_sound cs x e =
             is_so = negative_is r.0.text n.0.0 r.0.is_so r.1 r.2;
             split = after_one 45 cs a.0 ∙ ap (λ (l : List ℕ). 45 ∷ l) r.0.split;
           })
-      | inr a ↦ elim (chosen (begins (λ c. c == 48) cs) (done (pos 0, drop 1 cs)) (cond (begins is_first_digit cs) above (Err wrong)) (Ok x) a.1) [
+      | inr a ↦ elim (chosen (is_at "0" cs) (done (pos 0, drop 1 cs)) (cond (begins is_first_digit cs) above (Err wrong)) (Ok x) a.1) [
         | inl b ↦ subst (Read IsInt cs) (ok_is (pos 0, drop 1 cs) x b.1) (record {
           text = 48 ∷ [];
           is_so = positive_is (48 ∷ []) 0 zero_is (omega arith);
@@ -116,7 +116,7 @@ digits_again start t n rest d most e =
     let in_range : nat_le (value_from 0 t) largest ≡ true = grind (arith, most, d.value_of) in
     rw (front_all is_digit t rest d.each e, behind_all is_digit t rest d.each e, in_range) (ap (λ (k : ℕ). Ok (k, rest)) (sym d.value_of))
 
-pub first_digit : (t rest : List ℕ) → begins is_digit t ≡ true → begins (λ c. c == 48) t ≡ false → begins is_first_digit (t ++ rest) ≡ true
+pub first_digit : (t rest : List ℕ) → begins is_digit t ≡ true → is_at "0" t ≡ false → begins is_first_digit (t ++ rest) ≡ true
 first_digit [] rest d z = absurd cc
 first_digit (c ∷ t) rest d z = digit_is_first c d z
 
@@ -177,11 +177,11 @@ digits_stands start cs r e =
 
 pub int_stands : (cs : List ℕ) (r : Refusal) → int_at cs ≡ Err r → Stands Plain cs r
 unfolding int_at
-int_stands cs r e = elim (chosen (begins (λ c. c == 45) cs) _ _ (Err r) e) [
+int_stands cs r e = elim (chosen (is_at "-" cs) _ _ (Err r) e) [
   | inl a ↦
       guard_stands cs (begins is_first_digit (drop 1 cs)) _ ExpectedSelector context.LongHand r refl (λ f.
       bind_stands cs (digits_at (byte_count cs) (drop 1 cs)) _ r (digits_stands cs (drop 1 cs)) (λ n s h. no_refusal cs _ r h) f) a.1
-  | inr a ↦ elim (chosen (begins (λ c. c == 48) cs) (done (pos 0, drop 1 cs)) _ (Err r) a.1) [
+  | inr a ↦ elim (chosen (is_at "0" cs) (done (pos 0, drop 1 cs)) _ (Err r) a.1) [
     | inl b ↦ no_refusal cs _ r b.1
     | inr b ↦
         guard_stands cs (begins is_first_digit cs) _ ExpectedSelector context.LongHand r refl (λ f.

@@ -22,6 +22,7 @@
 -- steps of the code
 --   WordTexts: what a word has in common with a known one, and which literal it is
 --   PartLists: parts that stand for selectors, for segments and for what `||` and `&&` join
+--   Growth: how the builder grows, and by which calls
 --   SegmentSteps, FilterSteps, LogicalSteps, OperandSteps, ArgumentSteps, CallSteps, CalledSteps: one step of each
 --   LevelSteps: at a level, each selector and each segment takes at least one character
 pub mod Decoding
@@ -51,6 +52,7 @@ pub mod Calls
 pub mod Levels
 pub mod WordTexts
 pub mod PartLists
+pub mod Growth
 pub mod LogicalSteps
 pub mod OperandSteps
 pub mod CallSteps

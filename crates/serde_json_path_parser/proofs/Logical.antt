@@ -10,7 +10,7 @@ use Rattle.serde_json_path_syntax.specs.Depth.{or_depth, and_depth, basic_depth,
 use Rattle.serde_json_path_functions.specs.Functions.{Kind, of_value, of_nodes, of_logical, Signature}
 use Rattle.serde_json_path_parser.specs.declared.error.ParseErrorKind.TheVariants.{NonSingularQuery, WrongReturnType, ExpectedClosingParenthesis, ExpectedExpression, ExpectedComparisonOperator}
 use Rattle.serde_json_path_parser.specs.declared.error.Context.TheVariants as context
-use Rattle.serde_json_path_parser.specs.Lexical.{begins, begins_both, IsBlank, is_blank, is_small_letter, is_function_char, IsQuote}
+use Rattle.serde_json_path_parser.specs.Lexical.{is_at, are_at, begins, begins_both, IsBlank, is_blank, is_small_letter, is_function_char, IsQuote}
 use Rattle.serde_json_path_parser.specs.Grammar.{InParentheses, ReadsOr, ReadMoreOrs, ReadsAnd, ReadMoreAnds, ReadsBasic, ReadsComparable, Reads, ReadsCall}
 use Rattle.serde_json_path_parser.specs.Parsed.{Parsed, ◌>>=◌, refusal, past_blanks, many, byte_count}
 use Rattle.serde_json_path_parser.specs.Operands.{Operand, a_literal, a_query, a_call, is_singular, is_result}
@@ -49,15 +49,15 @@ pub operator_sound : (cs : List ℕ) (op : Operator × List ℕ) → operator_at
 operator_sound cs op e =
     let is : (o : Operator) (rest : List ℕ) → Some (o, rest) ≡ Some op → cs ≡ operator_text o ++ rest → cs ≡ operator_text op.0 ++ op.1 =
     λ o rest same split. subst (λ (x : Operator × List ℕ). cs ≡ operator_text x.0 ++ x.1) (same_Some (o, rest) op same) split in
-    elim (chosen (begins_both 61 61 cs) (Some (equal, drop 2 cs)) _ (Some op) e) [
+    elim (chosen (are_at "==" cs) (Some (equal, drop 2 cs)) _ (Some op) e) [
       | inl a ↦ is equal (drop 2 cs) a.1 (after_two 61 61 cs a.0)
-      | inr a ↦ elim (chosen (begins_both 33 61 cs) (Some (not_equal, drop 2 cs)) _ (Some op) a.1) [
+      | inr a ↦ elim (chosen (are_at "!=" cs) (Some (not_equal, drop 2 cs)) _ (Some op) a.1) [
         | inl b ↦ is not_equal (drop 2 cs) b.1 (after_two 33 61 cs b.0)
-        | inr b ↦ elim (chosen (begins_both 60 61 cs) (Some (less_or_equal, drop 2 cs)) _ (Some op) b.1) [
+        | inr b ↦ elim (chosen (are_at "<=" cs) (Some (less_or_equal, drop 2 cs)) _ (Some op) b.1) [
           | inl c ↦ is less_or_equal (drop 2 cs) c.1 (after_two 60 61 cs c.0)
           | inr c ↦ elim (chosen (begins (λ d. d == 60) cs) (Some (less, drop 1 cs)) _ (Some op) c.1) [
             | inl d ↦ is less (drop 1 cs) d.1 (after_one 60 cs d.0)
-            | inr d ↦ elim (chosen (begins_both 62 61 cs) (Some (greater_or_equal, drop 2 cs)) _ (Some op) d.1) [
+            | inr d ↦ elim (chosen (are_at ">=" cs) (Some (greater_or_equal, drop 2 cs)) _ (Some op) d.1) [
               | inl f ↦ is greater_or_equal (drop 2 cs) f.1 (after_two 62 61 cs f.0)
               | inr f ↦ elim (chosen (begins (λ d. d == 62) cs) (Some (greater, drop 1 cs)) None (Some op) f.1) [
                 | inl g ↦ is greater (drop 1 cs) g.1 (after_one 62 cs g.0)
@@ -176,13 +176,13 @@ module _ (signature : List ℕ → Option Signature) (n : ℕ) (deeper : Deeper)
   -- ---- parentheses and `!`
 
   -- at `(`
-  paren_sound : (cs : List ℕ) (x : LogicalOr × List ℕ) → begins (λ c. c == 40) cs ≡ true → paren_at signature deeper cs ≡ Ok x
+  paren_sound : (cs : List ℕ) (x : LogicalOr × List ℕ) → is_at "(" cs ≡ true → paren_at signature deeper cs ≡ Ok x
       → Read (Spaced (λ t e. IsGoodInside signature n e × InParentheses (ReadsOr e) t)) cs x
   unfolding paren_at
   paren_sound cs x opened e =
       let Is : List ℕ → LogicalOr → Type 0 = λ t e. IsGoodInside signature n e × InParentheses (ReadsOr e) t in
-      let inner = bind_ok (deeper.expression (byte_count cs) (past_blanks (drop 1 cs))) (λ e. cond (begins (λ c. c == 41) e.1) (Ok (e.0, past_blanks (drop 1 e.1))) (Err (refusal ExpectedClosingParenthesis context.LongHand e.1))) x e in
-      let g = guard (begins (λ c. c == 41) inner.0.1) (refusal ExpectedClosingParenthesis context.LongHand inner.0.1) (done (inner.0.0, past_blanks (drop 1 inner.0.1))) x inner.2 in
+      let inner = bind_ok (deeper.expression (byte_count cs) (past_blanks (drop 1 cs))) (λ e. cond (is_at ")" e.1) (Ok (e.0, past_blanks (drop 1 e.1))) (Err (refusal ExpectedClosingParenthesis context.LongHand e.1))) x e in
+      let g = guard (is_at ")" inner.0.1) (refusal ExpectedClosingParenthesis context.LongHand inner.0.1) (done (inner.0.0, past_blanks (drop 1 inner.0.1))) x inner.2 in
       let r = laws.inside_sound cs (past_blanks (drop 1 cs)) inner.0 inner.1 in
       let j = blanks_of (drop 1 cs) in
       let a = r.is_so.0 in
@@ -222,11 +222,11 @@ module _ (signature : List ℕ → Option Signature) (n : ℕ) (deeper : Deeper)
       let in_parens : Parsed Basic = paren_at signature deeper cs >>= λ e. Ok (not_paren e.0, e.1) in
       let current_query : Parsed Basic = query_at signature deeper current cs >>= λ q. Ok (not_exist q.0, q.1) in
       let root_query : Parsed Basic = query_at signature deeper root cs >>= λ q. Ok (not_exist q.0, q.1) in
-      elim (chosen (begins (λ c. c == 40) cs) in_parens _ (Ok x) e) [
+      elim (chosen (is_at "(" cs) in_parens _ (Ok x) e) [
         | inl a ↦ made_sound _ IsNegated (λ e. not_paren e) cs (paren_at signature deeper cs) x (λ t e is k blank. (is.0, (k, t, blank, is.1, refl))) (λ y. paren_sound cs y a.0) a.1
-        | inr a ↦ elim (chosen (begins (λ c. c == 64) cs) current_query _ (Ok x) a.1) [
+        | inr a ↦ elim (chosen (is_at "@" cs) current_query _ (Ok x) a.1) [
           | inl b ↦ made_sound _ IsNegated (λ q. not_exist q) cs (query_at signature deeper current cs) x (λ t q is k blank. (is.0, (k, t, blank, is.1, refl))) (λ q. query_sound signature n deeper laws current 64 cs q refl b.0) b.1
-          | inr b ↦ elim (chosen (begins (λ c. c == 36) cs) root_query _ (Ok x) b.1) [
+          | inr b ↦ elim (chosen (is_at "$" cs) root_query _ (Ok x) b.1) [
             | inl c ↦ made_sound _ IsNegated (λ q. not_exist q) cs (query_at signature deeper root cs) x (λ t q is k blank. (is.0, (k, t, blank, is.1, refl))) (λ q. query_sound signature n deeper laws root 36 cs q refl c.0) c.1
             | inr c ↦ elim (chosen (begins_call cs) (negated_call_at signature deeper cs) (Err (refusal ExpectedExpression context.LongHand cs)) (Ok x) c.1) [
               | inl d ↦ negated_call_sound cs x d.0 d.1
@@ -243,9 +243,9 @@ module _ (signature : List ℕ → Option Signature) (n : ℕ) (deeper : Deeper)
   basic_sound cs x e =
       let in_parens : Parsed Basic = paren_at signature deeper cs >>= λ e. Ok (paren e.0, e.1) in
       let of_operand : Parsed Basic = operand_at signature deeper cs >>= λ o. basic_from signature deeper (byte_count cs) o.0 o.1 in
-      elim (chosen (begins (λ c. c == 40) cs) in_parens _ (Ok x) e) [
+      elim (chosen (is_at "(" cs) in_parens _ (Ok x) e) [
         | inl a ↦ made_sound _ IsBasicText (λ e. paren e) cs (paren_at signature deeper cs) x (λ t e is. is) (λ y. paren_sound cs y a.0) a.1
-        | inr a ↦ elim (chosen (begins (λ c. c == 33) cs) (negated_at signature deeper (past_blanks (drop 1 cs))) of_operand (Ok x) a.1) [
+        | inr a ↦ elim (chosen (is_at "!" cs) (negated_at signature deeper (past_blanks (drop 1 cs))) of_operand (Ok x) a.1) [
           | inl b ↦
               let r = negated_sound (past_blanks (drop 1 cs)) x b.1 in
               let k = blanks_of (drop 1 cs) in
@@ -266,7 +266,7 @@ module _ (signature : List ℕ → Option Signature) (n : ℕ) (deeper : Deeper)
   abbrev next_basic : List ℕ → Parsed Basic
   next_basic cs = next_basic_at signature deeper cs
 
-  pub next_basic_sound : (cs : List ℕ) (x : Basic × List ℕ) → begins_both 38 38 cs ≡ true → next_basic cs ≡ Ok x → Read (r.IsNext (codes "&&") IsBasicText) cs x
+  pub next_basic_sound : (cs : List ℕ) (x : Basic × List ℕ) → are_at "&&" cs ≡ true → next_basic cs ≡ Ok x → Read (r.IsNext (codes "&&") IsBasicText) cs x
   unfolding next_basic_at
   next_basic_sound cs x sign e = r.next_of (codes "&&") IsBasicText cs (drop 2 cs) x (after_two 38 38 cs sign) (basic_sound (past_blanks (drop 2 cs)) x e)
 
@@ -280,8 +280,8 @@ module _ (signature : List ℕ → Option Signature) (n : ℕ) (deeper : Deeper)
   pub and_from_sound : (b : Basic) (cs t k : List ℕ) (x : LogicalAnd × List ℕ) → IsBasicText t b → IsBlank k → and_from signature deeper b cs ≡ Ok x → Read (Spaced IsAndText) ((t ++ k) ++ cs) x
   unfolding and_from many
   and_from_sound b cs t k x h blank e =
-      let bs = bind_ok (many (begins_both 38 38) next_basic cs) (λ bs. Ok (and_list (b ∷ bs.0), bs.1)) x e in
-      let read = many_sound (r.IsNext (codes "&&") IsBasicText) (begins_both 38 38) next_basic next_basic_sound (length cs) cs bs.0 bs.1 in
+      let bs = bind_ok (many (are_at "&&") next_basic cs) (λ bs. Ok (and_list (b ∷ bs.0), bs.1)) x e in
+      let read = many_sound (r.IsNext (codes "&&") IsBasicText) (are_at "&&") next_basic next_basic_sound (length cs) cs bs.0 bs.1 in
       let row = r.row_of (codes "&&") IsBasicText bs.0.0 k read.text blank read.is_so in
       let more = more_ands bs.0.0 row.text row.are in
       subst (Read (Spaced IsAndText) ((t ++ k) ++ cs)) (ok_is (and_list (b ∷ bs.0.0), bs.0.1) x bs.2) (record {
@@ -302,7 +302,7 @@ module _ (signature : List ℕ → Option Signature) (n : ℕ) (deeper : Deeper)
   abbrev next_and : List ℕ → Parsed LogicalAnd
   next_and cs = next_and_at signature deeper cs
 
-  pub next_and_sound : (cs : List ℕ) (x : LogicalAnd × List ℕ) → begins_both 124 124 cs ≡ true → next_and cs ≡ Ok x → Read (r.IsNext (codes "||") IsAndText) cs x
+  pub next_and_sound : (cs : List ℕ) (x : LogicalAnd × List ℕ) → are_at "||" cs ≡ true → next_and cs ≡ Ok x → Read (r.IsNext (codes "||") IsAndText) cs x
   unfolding next_and_at
   next_and_sound cs x sign e = r.next_of (codes "||") IsAndText cs (drop 2 cs) x (after_two 124 124 cs sign) (and_sound (past_blanks (drop 2 cs)) x e)
 
@@ -315,8 +315,8 @@ module _ (signature : List ℕ → Option Signature) (n : ℕ) (deeper : Deeper)
   pub or_from_sound : (a : LogicalAnd) (cs t k : List ℕ) (x : LogicalOr × List ℕ) → IsAndText t a → IsBlank k → or_from signature deeper a cs ≡ Ok x → Read (Spaced IsOrText) ((t ++ k) ++ cs) x
   unfolding or_from many
   or_from_sound a cs t k x h blank e =
-      let xs = bind_ok (many (begins_both 124 124) next_and cs) (λ more. Ok (or_list (a ∷ more.0), more.1)) x e in
-      let read = many_sound (r.IsNext (codes "||") IsAndText) (begins_both 124 124) next_and next_and_sound (length cs) cs xs.0 xs.1 in
+      let xs = bind_ok (many (are_at "||") next_and cs) (λ more. Ok (or_list (a ∷ more.0), more.1)) x e in
+      let read = many_sound (r.IsNext (codes "||") IsAndText) (are_at "||") next_and next_and_sound (length cs) cs xs.0 xs.1 in
       let row = r.row_of (codes "||") IsAndText xs.0.0 k read.text blank read.is_so in
       let more = more_ors xs.0.0 row.text row.are in
       subst (Read (Spaced IsOrText) ((t ++ k) ++ cs)) (ok_is (or_list (a ∷ xs.0.0), xs.0.1) x xs.2) (record {
@@ -375,11 +375,11 @@ module _ {A : Type 0} (sign : ℕ) (is : List ℕ → A → Type 0) (item next :
 -- ---- operators
 
 -- neither a blank nor an operand begins with `=`
-no_equals : (k cs : List ℕ) → IsBlank k → begins begins_operand cs ≡ true → begins (λ c. c == 61) (k ++ cs) ≡ false
+no_equals : (k cs : List ℕ) → IsBlank k → begins begins_operand cs ≡ true → is_at "=" (k ++ cs) ≡ false
 no_equals k cs blank first =
     begins_not (λ c. c == 61) k cs (λ c e. differs is_blank 61 c refl e) blank (begins_differs begins_operand 61 cs refl first)
 
-operator_again : (op : Operator) (rest : List ℕ) → begins (λ c. c == 61) rest ≡ false → operator_at (operator_text op ++ rest) ≡ Some (op, rest)
+operator_again : (op : Operator) (rest : List ℕ) → is_at "=" rest ≡ false → operator_at (operator_text op ++ rest) ≡ Some (op, rest)
 operator_again equal rest none = refl
 operator_again not_equal rest none = refl
 operator_again less rest none = rw none refl
@@ -484,7 +484,7 @@ module _ (signature : List ℕ → Option Signature) (n : ℕ) (deeper : Deeper)
   -- ---- parentheses and `!`
 
   paren_again : (t : List ℕ) (e : LogicalOr) (rest : List ℕ) → IsGoodInside signature n e → InParentheses (ReadsOr e) t
-      → (begins (λ c. c == 40) (t ++ rest) ≡ true) × (paren_at signature deeper (t ++ rest) ≡ Ok (e, past_blanks rest))
+      → (is_at "(" (t ++ rest) ≡ true) × (paren_at signature deeper (t ++ rest) ≡ Ok (e, past_blanks rest))
   unfolding paren_at
   paren_again t e rest good (j, a, k, before, is, behind, same) =
       let closing : past_blanks (k ++ (41 ∷ rest)) ≡ 41 ∷ rest = past_all k (41 ∷ rest) behind refl in
@@ -492,7 +492,7 @@ module _ (signature : List ℕ → Option Signature) (n : ℕ) (deeper : Deeper)
       ap (λ (l : List ℕ). past_blanks (drop 1 (l ++ rest))) same ∙ ap past_blanks (spread j a k (codes ")") rest)
       ∙ past_all j (a ++ (k ++ (41 ∷ rest))) before (no_blank_begins (a ++ (k ++ (41 ∷ rest))) (or_begins e a (k ++ (41 ∷ rest)) is)) in
       let inner = laws.inside_again (t ++ rest) a e (k ++ (41 ∷ rest)) good is (ap (begins ends_or) closing) in
-      (ap (λ (l : List ℕ). begins (λ c. c == 40) (l ++ rest)) same, rw (inside, inner, closing) refl)
+      (ap (λ (l : List ℕ). is_at "(" (l ++ rest)) same, rw (inside, inner, closing) refl)
 
   -- `!`, blanks and what it negates
   negated_again : (t k a rest : List ℕ) (b : Basic) → IsBlank k → t ≡ 33 ∷ (k ++ a) → begins begins_expression (a ++ rest) ≡ true
@@ -678,7 +678,7 @@ module _ (signature : List ℕ → Option Signature) (n : ℕ) (deeper : Deeper)
   named_call_stands : (cs : List ℕ) (r : Refusal) → begins_call cs ≡ true → named_call_at signature deeper cs ≡ Err r → Stands (Inner signature) cs r
   unfolding named_call_at
   named_call_stands cs r begun e =
-      let parts = and_parts (begins is_small_letter cs) (begins (λ c. c == 40) (behind_word cs)) begun in
+      let parts = and_parts (begins is_small_letter cs) (is_at "(" (behind_word cs)) begun in
       let split : cs ≡ word cs ++ (40 ∷ drop 1 (behind_word cs)) = whole is_function_char cs ∙ ap (λ (l : List ℕ). word cs ++ l) (after_one 40 (behind_word cs) parts.1) in
       laws.call_stands cs (word cs) (drop 1 (behind_word cs)) r (word_is_name cs parts.0) split e
 
@@ -696,13 +696,13 @@ module _ (signature : List ℕ → Option Signature) (n : ℕ) (deeper : Deeper)
       let current_query : Parsed Operand = query_at signature deeper current cs >>= λ q. Ok (a_query q.0, q.1) in
       let root_query : Parsed Operand = query_at signature deeper root cs >>= λ q. Ok (a_query q.0, q.1) in
       let a_named : Parsed Operand = named_call_at signature deeper cs >>= λ c. Ok (a_call c.0, c.1) in
-      elim (chosen (begins (λ c. c == 39) cs) (text_at 39 cs) _ (Err r) e) [
+      elim (chosen (is_at "'" cs) (text_at 39 cs) _ (Err r) e) [
         | inl a ↦ inside cs r (text_stands 39 cs r (inl refl) a.1)
-        | inr a ↦ elim (chosen (begins (λ c. c == 34) cs) (text_at 34 cs) _ (Err r) a.1) [
+        | inr a ↦ elim (chosen (is_at "\"" cs) (text_at 34 cs) _ (Err r) a.1) [
           | inl b ↦ inside cs r (text_stands 34 cs r (inr refl) b.1)
-          | inr b ↦ elim (chosen (begins (λ c. c == 64) cs) current_query _ (Err r) b.1) [
+          | inr b ↦ elim (chosen (is_at "@" cs) current_query _ (Err r) b.1) [
             | inl c ↦ bind_stands cs (query_at signature deeper current cs) _ r (query_stands current cs) (λ q f h. no_refusal cs _ r h) c.1
-            | inr c ↦ elim (chosen (begins (λ c. c == 36) cs) root_query _ (Err r) c.1) [
+            | inr c ↦ elim (chosen (is_at "$" cs) root_query _ (Err r) c.1) [
               | inl d ↦ bind_stands cs (query_at signature deeper root cs) _ r (query_stands root cs) (λ q f h. no_refusal cs _ r h) d.1
               | inr d ↦ elim (chosen (begins_call cs) a_named _ (Err r) d.1) [
                 | inl f ↦ bind_stands cs (named_call_at signature deeper cs) _ r (λ x g. named_call_stands cs x f.0 g) (λ q g h. no_refusal cs _ r h) f.1
@@ -737,7 +737,7 @@ module _ (signature : List ℕ → Option Signature) (n : ℕ) (deeper : Deeper)
 
   -- ---- parentheses and `!`
 
-  paren_stands : (cs : List ℕ) (r : Refusal) → begins (λ c. c == 40) cs ≡ true → paren_at signature deeper cs ≡ Err r → Stands (Inner signature) cs r
+  paren_stands : (cs : List ℕ) (r : Refusal) → is_at "(" cs ≡ true → paren_at signature deeper cs ≡ Err r → Stands (Inner signature) cs r
   unfolding paren_at
   paren_stands cs r opened e =
       let j = blanks_of (drop 1 cs) in
@@ -746,7 +746,7 @@ module _ (signature : List ℕ → Option Signature) (n : ℕ) (deeper : Deeper)
       let read = laws.inside_sound cs (past_blanks (drop 1 cs)) x f in
       further cs (40 ∷ j) (past_blanks (drop 1 cs)) r split
       (further (past_blanks (drop 1 cs)) read.text x.1 r read.split
-      (guard_stands x.1 (begins (λ c. c == 41) x.1) (done (x.0, past_blanks (drop 1 x.1))) ExpectedClosingParenthesis context.LongHand r (inl refl) (no_refusal x.1 _ r) h))) e
+      (guard_stands x.1 (is_at ")" x.1) (done (x.0, past_blanks (drop 1 x.1))) ExpectedClosingParenthesis context.LongHand r (inl refl) (no_refusal x.1 _ r) h))) e
 
   negated_call_stands : (cs : List ℕ) (r : Refusal) → begins_call cs ≡ true → negated_call_at signature deeper cs ≡ Err r → Stands (Inner signature) cs r
   unfolding negated_call_at
@@ -764,11 +764,11 @@ module _ (signature : List ℕ → Option Signature) (n : ℕ) (deeper : Deeper)
       let in_parens : Parsed Basic = paren_at signature deeper cs >>= λ e. Ok (not_paren e.0, e.1) in
       let current_query : Parsed Basic = query_at signature deeper current cs >>= λ q. Ok (not_exist q.0, q.1) in
       let root_query : Parsed Basic = query_at signature deeper root cs >>= λ q. Ok (not_exist q.0, q.1) in
-      elim (chosen (begins (λ c. c == 40) cs) in_parens _ (Err r) e) [
+      elim (chosen (is_at "(" cs) in_parens _ (Err r) e) [
         | inl a ↦ bind_stands cs (paren_at signature deeper cs) _ r (λ d f. paren_stands cs d a.0 f) (λ x f h. no_refusal cs _ r h) a.1
-        | inr a ↦ elim (chosen (begins (λ c. c == 64) cs) current_query _ (Err r) a.1) [
+        | inr a ↦ elim (chosen (is_at "@" cs) current_query _ (Err r) a.1) [
           | inl b ↦ bind_stands cs (query_at signature deeper current cs) _ r (query_stands current cs) (λ q f h. no_refusal cs _ r h) b.1
-          | inr b ↦ elim (chosen (begins (λ c. c == 36) cs) root_query _ (Err r) b.1) [
+          | inr b ↦ elim (chosen (is_at "$" cs) root_query _ (Err r) b.1) [
             | inl c ↦ bind_stands cs (query_at signature deeper root cs) _ r (query_stands root cs) (λ q f h. no_refusal cs _ r h) c.1
             | inr c ↦ elim (chosen (begins_call cs) (negated_call_at signature deeper cs) (Err (refusal ExpectedExpression context.LongHand cs)) (Err r) c.1) [
               | inl d ↦ negated_call_stands cs r d.0 d.1
@@ -787,9 +787,9 @@ module _ (signature : List ℕ → Option Signature) (n : ℕ) (deeper : Deeper)
   unfolding basic_at
   basic_stands cs r e =
       let in_parens : Parsed Basic = paren_at signature deeper cs >>= λ e. Ok (paren e.0, e.1) in
-      elim (chosen (begins (λ c. c == 40) cs) in_parens _ (Err r) e) [
+      elim (chosen (is_at "(" cs) in_parens _ (Err r) e) [
         | inl a ↦ bind_stands cs (paren_at signature deeper cs) _ r (λ d f. paren_stands cs d a.0 f) (λ x f h. no_refusal cs _ r h) a.1
-        | inr a ↦ elim (chosen (begins (λ c. c == 33) cs) (negated_at signature deeper (past_blanks (drop 1 cs))) _ (Err r) a.1) [
+        | inr a ↦ elim (chosen (is_at "!" cs) (negated_at signature deeper (past_blanks (drop 1 cs))) _ (Err r) a.1) [
           | inl b ↦ drop_one cs r (drop_blanks (drop 1 cs) r (negated_stands (past_blanks (drop 1 cs)) r b.1))
           | inr b ↦ bind_stands cs (operand_at signature deeper cs) _ r (operand_stands cs) (λ o f h.
               let read = operand_sound signature n deeper laws cs o f in
@@ -809,8 +809,8 @@ module _ (signature : List ℕ → Option Signature) (n : ℕ) (deeper : Deeper)
   unfolding and_from many
   and_from_stands b cs r e =
       let sound = next_basic_sound signature n deeper laws in
-      bind_stands cs (many (begins_both 38 38) (next_basic_at signature deeper) cs) _ r
-      (λ d f. many_stands (IsNext (codes "&&") (IsBasicText signature n deeper laws)) (begins_both 38 38) (next_basic_at signature deeper) sound next_basic_stands (length cs) cs d f) (λ bs f h. no_refusal cs _ r h) e
+      bind_stands cs (many (are_at "&&") (next_basic_at signature deeper) cs) _ r
+      (λ d f. many_stands (IsNext (codes "&&") (IsBasicText signature n deeper laws)) (are_at "&&") (next_basic_at signature deeper) sound next_basic_stands (length cs) cs d f) (λ bs f h. no_refusal cs _ r h) e
 
   and_stands : (cs : List ℕ) (r : Refusal) → and_at signature deeper cs ≡ Err r → Stands (Inner signature) cs r
   unfolding and_at
@@ -826,8 +826,8 @@ module _ (signature : List ℕ → Option Signature) (n : ℕ) (deeper : Deeper)
   unfolding or_from many
   or_from_stands a cs r e =
       let sound = next_and_sound signature n deeper laws in
-      bind_stands cs (many (begins_both 124 124) (next_and_at signature deeper) cs) _ r
-      (λ d f. many_stands (IsNext (codes "||") (IsAndText signature n deeper laws)) (begins_both 124 124) (next_and_at signature deeper) sound next_and_stands (length cs) cs d f) (λ xs f h. no_refusal cs _ r h) e
+      bind_stands cs (many (are_at "||") (next_and_at signature deeper) cs) _ r
+      (λ d f. many_stands (IsNext (codes "||") (IsAndText signature n deeper laws)) (are_at "||") (next_and_at signature deeper) sound next_and_stands (length cs) cs d f) (λ xs f h. no_refusal cs _ r h) e
 
   pub or_stands : (cs : List ℕ) (r : Refusal) → or_at signature deeper cs ≡ Err r → Stands (Inner signature) cs r
   unfolding or_at

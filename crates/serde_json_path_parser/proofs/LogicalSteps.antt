@@ -23,7 +23,7 @@ use Rattle.serde_json_path_parser.specs.declared.parser.operand.Operand as decla
 use Rattle.serde_json_path_parser.specs.declared.parser.operand.Operand.TheVariants as the_operands
 use Rattle.serde_json_path_parser.specs.Filters.{word, behind_word, begins_call, literal_word_at, operator_at, and_list, or_list, Deeper, level, query_at, named_call_at, named_at, operand_at, comparable_at, test_at, right_side_at, relation_at, basic_from, paren_at, negated_call_at, negated_name_at, negated_at, basic_at, next_basic_at, and_from, and_at, next_and_at, or_from, or_at}
 use Rattle.serde_json_path_parser.specs.Giving.{Fails, IsOperandOf}
-use Rattle.serde_json_path_parser.specs.Lexical.{begins, begins_both}
+use Rattle.serde_json_path_parser.specs.Lexical.{is_at, begins, begins_both}
 use Rattle.serde_json_path_parser.specs.Operands.{Operand, a_literal, a_query, a_call, is_result}
 use Rattle.serde_json_path_parser.specs.Parsed.{Parsed, ◌>>=◌, refusal, past_blanks, many, byte_count, refusal_at}
 use Rattle.serde_json_path_parser.proofs.Levels.{level_laws}
@@ -157,19 +157,6 @@ module _ (signature : List ℕ → Option Signature) (deeper : Deeper) (start : 
     unfolding right_side_at
     operand_stops s es h = first_fails s (operand_at signature deeper es) _ h
 
-    -- where one of the three stops, and where none does
-    pub left_fails : (s : Failure) → Fails s (comparable_at signature deeper start o ds) → Fails s (basic_from signature deeper start o cs)
-    left_fails s h = subst (Fails s) (sym operator_read) (first_fails s (comparable_at signature deeper start o ds) _ h)
-
-    pub operand_fails : (s : Failure) (a : Comparable) (es : List ℕ) → comparable_at signature deeper start o ds ≡ Ok (a, es) → Fails s (operand_at signature deeper es)
-        → Fails s (basic_from signature deeper start o cs)
-    operand_fails s a es e h = subst (Fails s) (sym (left_read a es e)) (first_fails s (right_side_at signature deeper es) _ (operand_stops s es h))
-
-    pub right_fails : (s : Failure) (a : Comparable) (es fs : List ℕ) (p : Operand) → comparable_at signature deeper start o ds ≡ Ok (a, es) → operand_at signature deeper es ≡ Ok (p, fs)
-        → Fails s (comparable_at signature deeper (byte_count es) p fs)
-        → Fails s (basic_from signature deeper start o cs)
-    right_fails s a es fs p e read h = subst (Fails s) (sym (left_read a es e)) (first_fails s (right_side_at signature deeper es) _ (subst (Fails s) (sym (right_is es fs p read)) h))
-
     pub relation_read : (a b : Comparable) (es fs gs : List ℕ) (p : Operand) → comparable_at signature deeper start o ds ≡ Ok (a, es) → operand_at signature deeper es ≡ Ok (p, fs)
         → comparable_at signature deeper (byte_count es) p fs ≡ Ok (b, gs)
         → basic_from signature deeper start o cs ≡ Ok (relation a op b, gs)
@@ -209,26 +196,26 @@ word_gives cs read e =
     ]
 
 module _ (signature : List ℕ → Option Signature) (deeper : Deeper) (cs : List ℕ) where
-  pub paren_read : (e : LogicalOr) (rest : List ℕ) → begins (λ c. c == 40) cs ≡ true → paren_at signature deeper cs ≡ Ok (e, rest) → basic_at signature deeper cs ≡ Ok (paren e, rest)
+  pub paren_read : (e : LogicalOr) (rest : List ℕ) → is_at "(" cs ≡ true → paren_at signature deeper cs ≡ Ok (e, rest) → basic_at signature deeper cs ≡ Ok (paren e, rest)
   unfolding basic_at
   paren_read e rest opened read = rw (opened, read) refl
 
-  pub not_paren_read : (e : LogicalOr) (rest : List ℕ) → begins (λ c. c == 40) cs ≡ true → paren_at signature deeper cs ≡ Ok (e, rest) → negated_at signature deeper cs ≡ Ok (not_paren e, rest)
+  pub not_paren_read : (e : LogicalOr) (rest : List ℕ) → is_at "(" cs ≡ true → paren_at signature deeper cs ≡ Ok (e, rest) → negated_at signature deeper cs ≡ Ok (not_paren e, rest)
   unfolding negated_at
   not_paren_read e rest opened read = rw (opened, read) refl
 
-  pub no_current_read : (q : Query) (rest : List ℕ) → begins (λ c. c == 40) cs ≡ false → begins (λ c. c == 64) cs ≡ true → query_at signature deeper current cs ≡ Ok (q, rest)
+  pub no_current_read : (q : Query) (rest : List ℕ) → is_at "(" cs ≡ false → is_at "@" cs ≡ true → query_at signature deeper current cs ≡ Ok (q, rest)
       → negated_at signature deeper cs ≡ Ok (not_exist q, rest)
   unfolding negated_at
   no_current_read q rest a b read = rw (a, b, read) refl
 
-  pub no_root_read : (q : Query) (rest : List ℕ) → begins (λ c. c == 40) cs ≡ false → begins (λ c. c == 64) cs ≡ false → begins (λ c. c == 36) cs ≡ true
+  pub no_root_read : (q : Query) (rest : List ℕ) → is_at "(" cs ≡ false → is_at "@" cs ≡ false → is_at "$" cs ≡ true
       → query_at signature deeper root cs ≡ Ok (q, rest)
       → negated_at signature deeper cs ≡ Ok (not_exist q, rest)
   unfolding negated_at
   no_root_read q rest a b c read = rw (a, b, c, read) refl
 
-  pub negated_is_name : begins (λ c. c == 40) cs ≡ false → begins (λ c. c == 64) cs ≡ false → begins (λ c. c == 36) cs ≡ false → negated_at signature deeper cs ≡ negated_name_at signature deeper cs
+  pub negated_is_name : is_at "(" cs ≡ false → is_at "@" cs ≡ false → is_at "$" cs ≡ false → negated_at signature deeper cs ≡ negated_name_at signature deeper cs
   unfolding negated_at negated_name_at
   negated_is_name a b c = rw (a, b, c) refl
 

@@ -6,7 +6,7 @@ use Rattle.serde_json_path_syntax.specs.WellFormed.{IsLiteralAmount}
 use Rattle.serde_json_path_parser.specs.declared.error.ParseErrorKind.TheVariants.{ExpectedExpression, ExponentOrEmptyFraction, FractionTooLong, NumberOutOfRange}
 use Rattle.serde_json_path_parser.specs.declared.error.Context.TheVariants as context
 use Rattle.serde_json_path_parser.specs.declared.error.Refusal.{Refusal}
-use Rattle.serde_json_path_parser.specs.Lexical.{AllPass, begins, is_digit, value_from, fraction_of, IsDecimal, IsFraction, IsAmount, IsNumber}
+use Rattle.serde_json_path_parser.specs.Lexical.{is_at, AllPass, begins, is_digit, value_from, fraction_of, IsDecimal, IsFraction, IsAmount, IsNumber}
 use Rattle.serde_json_path_parser.specs.Parsed.{Parsed, ◌>>=◌, refusal, front, behind, byte_count, refusal_at}
 use Rattle.serde_json_path_parser.specs.Parsing.{is_first_digit, begins_int}
 use Rattle.serde_json_path_parser.specs.Numbers.{is_exponent, whole_at, digits_behind_point_at, fraction_at, amount_at, number_at}
@@ -28,7 +28,7 @@ unfolding whole_at
 whole_sound start cs x e =
     let wrong = refusal ExpectedExpression context.LongHand start in
     let digits : Parsed ℕ = Ok (value_from 0 (front is_digit cs), behind is_digit cs) in
-    elim (chosen (begins (λ c. c == 48) cs) (done (0, drop 1 cs)) (cond (begins is_first_digit cs) digits (Err wrong)) (Ok x) e) [
+    elim (chosen (is_at "0" cs) (done (0, drop 1 cs)) (cond (begins is_first_digit cs) digits (Err wrong)) (Ok x) e) [
       | inl a ↦ subst (Read IsDecimal cs) (ok_is (0, drop 1 cs) x a.1) (record { text = 48 ∷ []; is_so = zero_is; split = after_one 48 cs a.0 })
       | inr a ↦
           let g = guard (begins is_first_digit cs) wrong digits x a.1 in
@@ -62,7 +62,7 @@ fraction_sound : (start cs : List ℕ) (x : ℕ × List ℕ) → fraction_at (by
 unfolding fraction_at
 fraction_sound start cs x e =
     let wrong = refusal ExponentOrEmptyFraction context.LongHand start in
-    elim (chosen (begins (λ c. c == 46) cs) (digits_behind_point_at (byte_count start) (drop 1 cs)) (cond (begins is_exponent cs) (Err wrong) (done (0, cs))) (Ok x) e) [
+    elim (chosen (is_at "." cs) (digits_behind_point_at (byte_count start) (drop 1 cs)) (cond (begins is_exponent cs) (Err wrong) (done (0, cs))) (Ok x) e) [
       | inl a ↦ digits_sound start cs (drop 1 cs) x (after_one 46 cs a.0) a.1
       | inr a ↦ elim (chosen (begins is_exponent cs) (Err wrong) (done (0, cs)) (Ok x) a.1) [
         | inl b ↦ absurd (let no = b.1 in cc)
@@ -95,7 +95,7 @@ number_sound cs x e =
     let wrong = refusal NumberOutOfRange context.LongHand cs in
     let below : ℕ × List ℕ → Parsed ℤ = λ n. cond (nat_le n.0 (2 ^ 63 * 1000000000)) (Ok (pos 0 -ℤ pos n.0, n.1)) (Err wrong) in
     let above : ℕ × List ℕ → Parsed ℤ = λ n. cond (nat_le n.0 ((2 ^ 64 - 1) * 1000000000)) (Ok (pos n.0, n.1)) (Err wrong) in
-    elim (chosen (begins (λ c. c == 45) cs) (amount_at (byte_count cs) (drop 1 cs) >>= below) (amount_at (byte_count cs) cs >>= above) (Ok x) e) [
+    elim (chosen (is_at "-" cs) (amount_at (byte_count cs) (drop 1 cs) >>= below) (amount_at (byte_count cs) cs >>= above) (Ok x) e) [
       | inl a ↦
           let n = bind_ok (amount_at (byte_count cs) (drop 1 cs)) below x a.1 in
           let r = amount_sound cs (drop 1 cs) n.0 n.1 in
@@ -143,7 +143,7 @@ whole_again start t n rest d e = elim d.plain [
 no_digit : (cs : List ℕ) → begins goes_on cs ≡ false → begins is_digit cs ≡ false
 no_digit cs e = begins_less goes_on is_digit cs (λ c n. grind (arith, n)) e
 
-no_point : (cs : List ℕ) → begins goes_on cs ≡ false → begins (λ c. c == 46) cs ≡ false
+no_point : (cs : List ℕ) → begins goes_on cs ≡ false → is_at "." cs ≡ false
 no_point cs e = begins_less goes_on (λ c. c == 46) cs (λ c n. grind (arith, n)) e
 
 no_exponent : (cs : List ℕ) → begins goes_on cs ≡ false → begins is_exponent cs ≡ false
@@ -222,7 +222,7 @@ number_first p b t amount rest h is = elim is.0.1 [
 
 whole_stands : (start cs : List ℕ) (r : Refusal) → whole_at (byte_count start) cs ≡ Err r → Stands Plain start r
 unfolding whole_at
-whole_stands start cs r e = elim (chosen (begins (λ c. c == 48) cs) (done (0, drop 1 cs)) _ (Err r) e) [
+whole_stands start cs r e = elim (chosen (is_at "0" cs) (done (0, drop 1 cs)) _ (Err r) e) [
   | inl a ↦ no_refusal start _ r a.1
   | inr a ↦ guard_stands start (begins is_first_digit cs) _ ExpectedExpression context.LongHand r refl (no_refusal start _ r) a.1
 ]
@@ -244,7 +244,7 @@ fraction_stands : (start cs : List ℕ) (r : Refusal) → fraction_at (byte_coun
 unfolding fraction_at
 fraction_stands start cs r e =
     let refused : Parsed ℕ = Err (refusal ExponentOrEmptyFraction context.LongHand start) in
-    elim (chosen (begins (λ c. c == 46) cs) (digits_behind_point_at (byte_count start) (drop 1 cs)) (cond (begins is_exponent cs) refused (done (0, cs))) (Err r) e) [
+    elim (chosen (is_at "." cs) (digits_behind_point_at (byte_count start) (drop 1 cs)) (cond (begins is_exponent cs) refused (done (0, cs))) (Err r) e) [
       | inl a ↦ digits_stand start (drop 1 cs) r a.1
       | inr a ↦ elim (chosen (begins is_exponent cs) refused (done (0, cs)) (Err r) a.1) [
         | inl b ↦ here ExponentOrEmptyFraction context.LongHand start refused r refl refl b.1
@@ -260,7 +260,7 @@ amount_stands start cs r e =
 
 pub number_stands : (cs : List ℕ) (r : Refusal) → number_at cs ≡ Err r → Stands Plain cs r
 unfolding number_at
-number_stands cs r e = elim (chosen (begins (λ c. c == 45) cs) _ _ (Err r) e) [
+number_stands cs r e = elim (chosen (is_at "-" cs) _ _ (Err r) e) [
   | inl a ↦
       bind_stands cs (amount_at (byte_count cs) (drop 1 cs)) _ r (amount_stands cs (drop 1 cs)) (λ n s f.
       guard_stands cs (nat_le n.0 (2 ^ 63 * 1000000000)) _ NumberOutOfRange context.LongHand r refl (no_refusal cs _ r) f) a.1

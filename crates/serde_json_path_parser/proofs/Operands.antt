@@ -8,7 +8,7 @@ use Rattle.serde_json_path_syntax.specs.Text.{query_kind_text}
 use Rattle.serde_json_path_functions.specs.Functions.{Signature}
 use Rattle.serde_json_path_parser.specs.declared.error.ParseErrorKind.TheVariants.{ExpectedExpression}
 use Rattle.serde_json_path_parser.specs.declared.error.Context.TheVariants as context
-use Rattle.serde_json_path_parser.specs.Lexical.{begins, is_small_letter, is_function_char, IsFunctionName, IsQuote, AllPass, is_blank, is_name_char, IsNumber}
+use Rattle.serde_json_path_parser.specs.Lexical.{is_at, begins, is_small_letter, is_function_char, IsFunctionName, IsQuote, AllPass, is_blank, is_name_char, IsNumber}
 use Rattle.serde_json_path_parser.specs.Grammar.{IsLiteral, Reads, ReadsCall}
 use Rattle.serde_json_path_parser.specs.Parsed.{Parsed, ◌>>=◌, refusal, past_blanks, byte_count}
 use Rattle.serde_json_path_parser.specs.Strings.{string_at}
@@ -92,7 +92,7 @@ module _ (signature : List ℕ → Option Signature) (n : ℕ) (deeper : Deeper)
   pub named_call_sound : (cs : List ℕ) (x : Call × List ℕ) → begins_call cs ≡ true → named_call_at signature deeper cs ≡ Ok x → Read (Spaced (λ t c. IsGoodCall signature n c × ReadsCall c t)) cs x
   unfolding named_call_at
   named_call_sound cs x begun e =
-      let parts = and_parts (begins is_small_letter cs) (begins (λ c. c == 40) (behind_word cs)) begun in
+      let parts = and_parts (begins is_small_letter cs) (is_at "(" (behind_word cs)) begun in
       let r = laws.call_sound cs (word cs) (drop 1 (behind_word cs)) x e in
       let inside = r.is_so.2.1 in
       record {
@@ -122,13 +122,13 @@ module _ (signature : List ℕ → Option Signature) (n : ℕ) (deeper : Deeper)
       let current_query : Parsed Operand = query_at signature deeper current cs >>= λ q. Ok (a_query q.0, q.1) in
       let root_query : Parsed Operand = query_at signature deeper root cs >>= λ q. Ok (a_query q.0, q.1) in
       let a_named : Parsed Operand = named_call_at signature deeper cs >>= λ c. Ok (a_call c.0, c.1) in
-      elim (chosen (begins (λ c. c == 39) cs) (text_at 39 cs) _ (Ok x) e) [
+      elim (chosen (is_at "'" cs) (text_at 39 cs) _ (Ok x) e) [
         | inl a ↦ text_sound 39 cs x (inl refl) (after_one 39 cs a.0) a.1
-        | inr a ↦ elim (chosen (begins (λ c. c == 34) cs) (text_at 34 cs) _ (Ok x) a.1) [
+        | inr a ↦ elim (chosen (is_at "\"" cs) (text_at 34 cs) _ (Ok x) a.1) [
           | inl b ↦ text_sound 34 cs x (inr refl) (after_one 34 cs b.0) b.1
-          | inr b ↦ elim (chosen (begins (λ c. c == 64) cs) current_query _ (Ok x) b.1) [
+          | inr b ↦ elim (chosen (is_at "@" cs) current_query _ (Ok x) b.1) [
             | inl c ↦ made_sound _ IsOperandText (λ q. a_query q) cs (query_at signature deeper current cs) x (λ t q is. is) (λ q. query_sound current 64 cs q refl c.0) c.1
-            | inr c ↦ elim (chosen (begins (λ c. c == 36) cs) root_query _ (Ok x) c.1) [
+            | inr c ↦ elim (chosen (is_at "$" cs) root_query _ (Ok x) c.1) [
               | inl d ↦ made_sound _ IsOperandText (λ q. a_query q) cs (query_at signature deeper root cs) x (λ t q is. is) (λ q. query_sound root 36 cs q refl d.0) d.1
               | inr d ↦ elim (chosen (begins_call cs) a_named _ (Ok x) d.1) [
                 | inl f ↦ made_sound _ IsOperandText (λ c. a_call c) cs (named_call_at signature deeper cs) x (λ t c is. is) (λ c. named_call_sound cs c f.0) f.1
@@ -176,11 +176,11 @@ no_segment rest follows = begins_where ends_operand opens false (past_blanks res
 -- ---- literal words
 
 -- a word is not a call where no `(` follows
-word_alone : (w rest : List ℕ) → AllPass is_function_char w → Follows ends_operand rest → (word (w ++ rest) ≡ w) × (behind_word (w ++ rest) ≡ rest) × (begins (λ c. c == 40) (behind_word (w ++ rest)) ≡ false)
+word_alone : (w rest : List ℕ) → AllPass is_function_char w → Follows ends_operand rest → (word (w ++ rest) ≡ w) × (behind_word (w ++ rest) ≡ rest) × (is_at "(" (behind_word (w ++ rest)) ≡ false)
 word_alone w rest each follows =
     let none = none_behind is_function_char rest refl follows in
     let past : behind_word (w ++ rest) ≡ rest = behind_all is_function_char w rest each none in
-    (front_all is_function_char w rest each none, past, ap (begins (λ c. c == 40)) past ∙ none_behind (λ c. c == 40) rest refl follows)
+    (front_all is_function_char w rest each none, past, ap (is_at "(") past ∙ none_behind (λ c. c == 40) rest refl follows)
 
 true_at : (cs : List ℕ) → word cs ≡ codes "true" → literal_word_at cs ≡ Ok (a_literal (truth true), past_blanks (behind_word cs))
 unfolding literal_word_at
@@ -229,7 +229,7 @@ module _ (signature : List ℕ → Option Signature) (n : ℕ) (deeper : Deeper)
   read cs = operand_at signature deeper cs
 
   -- at a letter stands a call or a literal word
-  word_read : (cs : List ℕ) → begins is_small_letter cs ≡ true → begins (λ c. c == 40) (behind_word cs) ≡ false → read cs ≡ literal_word_at cs
+  word_read : (cs : List ℕ) → begins is_small_letter cs ≡ true → is_at "(" (behind_word cs) ≡ false → read cs ≡ literal_word_at cs
   unfolding operand_at
   word_read cs letter alone =
       let other : (k : ℕ) → is_small_letter k ≡ false → begins (λ c. c == k) cs ≡ false = λ k none. begins_differs is_small_letter k cs none letter in

@@ -2,7 +2,7 @@
 use Rattle.std.proofs.Common.{◌≡◌, List, [], ◌∷◌, ◌++◌, refl, sym, ap, subst, ◌∙◌}
 use Rattle.serde_json_path_syntax.specs.Tree.{SegmentKind, Segment, Selector, LogicalOr, LogicalAnd, Basic}
 use Rattle.serde_json_path_syntax.specs.Piece.{Piece, a_segment, a_selector, an_and, a_basic}
-use Rattle.serde_json_path_syntax.specs.Parts.{IsPart, ArePartsFor, ArePartsOf, AreSelectorsOf, KeepsParts, segment_pieces, selector_pieces, AreOrPartsOf, AreAndPartsOf, or_pieces, and_pieces}
+use Rattle.serde_json_path_syntax.specs.Parts.{IsPart, ArePartsFor, ArePartsOf, AreSelectorsOf, KeepsTrees, segment_pieces, selector_pieces, AreOrPartsOf, AreAndPartsOf, or_pieces, and_pieces}
 use Rattle.serde_json_path_syntax.specs.declared.node.Part.{Part}
 use Rattle.serde_json_path_syntax.specs.declared.builder.SyntaxBuilder.{SyntaxBuilder}
 use Rattle.serde_json_path_syntax.proofs.NamedParts.{parts_for_kept, or_parts_for, and_parts_for}
@@ -37,7 +37,7 @@ pub first_selector : (builder : SyntaxBuilder) (empty parts : List Part) (part :
 first_selector builder empty parts part s none e is = subst (λ (ps : List Part). AreSelectorsOf builder ps (selector_list (s ∷ []))) (sym (e ∙ ap (λ (ps : List Part). ps ++ part ∷ []) none)) (is, tt)
 
 -- parts stay what they are while the builder grows
-pub selectors_kept : (old new : SyntaxBuilder) (parts : List Part) (ss : List Selector) → KeepsParts old new → AreSelectorsOf old parts (selector_list ss) → AreSelectorsOf new parts (selector_list ss)
+pub selectors_kept : (old new : SyntaxBuilder) (parts : List Part) (ss : List Selector) → KeepsTrees old new → AreSelectorsOf old parts (selector_list ss) → AreSelectorsOf new parts (selector_list ss)
 selectors_kept old new [] ss keeps h = absurd h
 selectors_kept old new (part ∷ parts) ss keeps h = parts_for_kept old new keeps (part ∷ parts) (selector_pieces (selector_list ss)) h
 
@@ -53,7 +53,7 @@ no_segment builder (part ∷ parts) ss h none = absurd (subst (λ (xs : List (Se
 -- ---- what is joined by `||` and by `&&`
 
 -- one part more of those that were there before the builder grew
-more_kept : (old new : SyntaxBuilder) (parts : List Part) (pieces whole : List Piece) (part : Part) (piece : Piece) → KeepsParts old new → ArePartsFor old parts pieces
+more_kept : (old new : SyntaxBuilder) (parts : List Part) (pieces whole : List Piece) (part : Part) (piece : Piece) → KeepsTrees old new → ArePartsFor old parts pieces
     → IsPart new part piece → pieces ++ piece ∷ [] ≡ whole
     → ArePartsFor new (parts ++ part ∷ []) whole
 more_kept old new parts pieces whole part piece keeps h is e = subst (ArePartsFor new (parts ++ part ∷ [])) e (one_more new parts pieces part piece (parts_for_kept old new keeps parts pieces h) is)
@@ -72,7 +72,7 @@ pub first_or : (builder : SyntaxBuilder) (empty parts : List Part) (part : Part)
     → AreOrPartsOf builder parts (or_list (x ∷ []))
 first_or builder empty parts part x none e is = subst (λ (ps : List Part). AreOrPartsOf builder ps (or_list (x ∷ []))) (sym (e ∙ ap (λ (ps : List Part). ps ++ part ∷ []) none)) (is, tt)
 
-pub or_pushed : (old new : SyntaxBuilder) (parts pushed : List Part) (xs : List LogicalAnd) (part : Part) (x : LogicalAnd) → KeepsParts old new → AreOrPartsOf old parts (or_list xs)
+pub or_pushed : (old new : SyntaxBuilder) (parts pushed : List Part) (xs : List LogicalAnd) (part : Part) (x : LogicalAnd) → KeepsTrees old new → AreOrPartsOf old parts (or_list xs)
     → IsPart new part (an_and x)
     → pushed ≡ parts ++ part ∷ [] → AreOrPartsOf new pushed (or_list (xs ++ x ∷ []))
 or_pushed old new parts pushed xs part x keeps h is e =
@@ -93,7 +93,7 @@ pub first_and : (builder : SyntaxBuilder) (empty parts : List Part) (part : Part
     → AreAndPartsOf builder parts (and_list (b ∷ []))
 first_and builder empty parts part b none e is = subst (λ (ps : List Part). AreAndPartsOf builder ps (and_list (b ∷ []))) (sym (e ∙ ap (λ (ps : List Part). ps ++ part ∷ []) none)) (is, tt)
 
-pub and_pushed : (old new : SyntaxBuilder) (parts pushed : List Part) (bs : List Basic) (part : Part) (b : Basic) → KeepsParts old new → AreAndPartsOf old parts (and_list bs)
+pub and_pushed : (old new : SyntaxBuilder) (parts pushed : List Part) (bs : List Basic) (part : Part) (b : Basic) → KeepsTrees old new → AreAndPartsOf old parts (and_list bs)
     → IsPart new part (a_basic b)
     → pushed ≡ parts ++ part ∷ [] → AreAndPartsOf new pushed (and_list (bs ++ b ∷ []))
 and_pushed old new parts pushed bs part b keeps h is e =

@@ -12,7 +12,7 @@ use Rattle.serde_json_path_functions.specs.Functions.{Signature}
 use Rattle.serde_json_path_parser.specs.declared.error.ParseErrorKind.TheVariants.{ExpectedRoot, TextAfterPath}
 use Rattle.serde_json_path_parser.specs.declared.error.Context.TheVariants as context
 use Rattle.serde_json_path_parser.specs.declared.error.Refusal.{Refusal}
-use Rattle.serde_json_path_parser.specs.Lexical.{begins}
+use Rattle.serde_json_path_parser.specs.Lexical.{is_at, begins}
 use Rattle.serde_json_path_parser.specs.Grammar.{ReadSegments}
 use Rattle.serde_json_path_parser.specs.Parsed.{Parsed, ◌>>=◌, refusal}
 use Rattle.serde_json_path_parser.specs.Parsing.{opens_next, segments_at, segment_list, opens_behind_root}
@@ -81,7 +81,7 @@ module _ (signature : List ℕ → Option Signature) where
   pub path_sound : (cs : List ℕ) (segs : Segments) → path_at signature cs ≡ Ok segs → (a : List ℕ) × ArePathSegments a segs × (cs ≡ 36 ∷ a)
   unfolding path_at
   path_sound cs segs e =
-      let g = guard (begins (λ c. c == 36) cs) (refusal ExpectedRoot context.Path cs) (at_end (path_segments_at (drop 1 cs))) segs e in
+      let g = guard (is_at "$" cs) (refusal ExpectedRoot context.Path cs) (at_end (path_segments_at (drop 1 cs))) segs e in
       let b = bind_ok (path_segments_at (drop 1 cs)) (λ ss. cond (length ss.1 == 0) (Ok (segment_list ss.0)) (Err (refusal TextAfterPath context.Path ss.1))) segs g.1 in
       let k = guard (length b.0.1 == 0) (refusal TextAfterPath context.Path b.0.1) (done (segment_list b.0.0)) segs b.2 in
       let r = path_segments_sound (drop 1 cs) b.0 b.1 in
@@ -102,7 +102,7 @@ module _ (signature : List ℕ → Option Signature) where
 
 -- there is no root
 pub record NoRoot (cs : List ℕ) (r : Refusal) : Type 0 where
-  pub begins_not : begins (λ c. c == 36) cs ≡ false
+  pub begins_not : is_at "$" cs ≡ false
   pub is : refusal ExpectedRoot context.Path cs ≡ r
 
 module _ (signature : List ℕ → Option Signature) where
@@ -117,7 +117,7 @@ module _ (signature : List ℕ → Option Signature) where
 
   -- a refusal of a segment
   pub record SegmentRefused (cs : List ℕ) (r : Refusal) : Type 0 where
-    pub rooted : begins (λ c. c == 36) cs ≡ true
+    pub rooted : is_at "$" cs ≡ true
     pub stands : Stands (Inner signature) cs r
     pub some : opens_next (drop 1 cs) ≡ true
 
@@ -130,12 +130,12 @@ module _ (signature : List ℕ → Option Signature) where
 
   pub path_refused : (cs : List ℕ) (r : Refusal) → path_at signature cs ≡ Err r → NoRoot cs r ⊎ (TextBehind cs r ⊎ SegmentRefused cs r)
   unfolding path_at
-  path_refused cs r e = elim (chosen (begins (λ c. c == 36) cs) _ _ (Err r) e) [
+  path_refused cs r e = elim (chosen (is_at "$" cs) _ _ (Err r) e) [
     | inr a ↦ inl (record { begins_not = a.0; is = err_is {A = Segments} (refusal ExpectedRoot context.Path cs) r (Err (refusal ExpectedRoot context.Path cs)) refl a.1 })
     | inl a ↦ inr (behind_root a.0 (path_segments_at signature (drop 1 cs)) refl a.1)
   ]
     where
-      behind_root : begins (λ c. c == 36) cs ≡ true → (read : Parsed (List (SegmentKind × Segment))) → path_segments_at signature (drop 1 cs) ≡ read
+      behind_root : is_at "$" cs ≡ true → (read : Parsed (List (SegmentKind × Segment))) → path_segments_at signature (drop 1 cs) ≡ read
           → (read >>= λ ss. cond (length ss.1 == 0) (done (segment_list ss.0)) (Err (refusal TextAfterPath context.Path ss.1))) ≡ Err r → TextBehind cs r ⊎ SegmentRefused cs r
       behind_root root (Err d) is h =
           let same : d ≡ r = cc in

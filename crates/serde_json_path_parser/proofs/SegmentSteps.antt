@@ -1,16 +1,16 @@
 -- The steps of the code at brackets and segments.
-use Rattle.std.proofs.Common.{◌≡◌, ℕ, true, false, List, [], ◌∷◌, drop, Ok, refl, sym, ap, subst, ◌∙◌}
+use Rattle.std.proofs.Common.{◌≡◌, ℕ, true, false, List, [], ◌∷◌, drop, Ok, refl, sym, ap, ◌∙◌}
 use Rattle.std.specs.Prelude.{◌==◌}
 use Rattle.serde_json_path_syntax.specs.Tree.{SegmentKind, Segment, dot_name, dot_wildcard, long_hand, Selector}
 use Rattle.serde_json_path_parser.specs.declared.error.Context as declared
 use Rattle.serde_json_path_parser.specs.declared.error.Failure.{Failure}
 use Rattle.serde_json_path_parser.specs.Giving.{Fails}
 use Rattle.serde_json_path_parser.specs.Lexical.{begins}
-use Rattle.serde_json_path_parser.specs.Parsed.{Parsed, ◌>>=◌, past_blanks, many}
+use Rattle.serde_json_path_parser.specs.Parsed.{Parsed, past_blanks, many}
 use Rattle.serde_json_path_parser.specs.Parsing.{name_at, selector_at, next_selector_at, selectors_at, selector_list, bracket_at, dotted_at, of_kind, segment_at, next_segment_at}
 use Rattle.serde_json_path_parser.proofs.BracketTexts.{is_comma}
 use Rattle.serde_json_path_parser.proofs.Many.{with_front}
-use Rattle.serde_json_path_parser.proofs.Steps.{same_fails, first_fails}
+use Rattle.serde_json_path_parser.proofs.Steps.{same_fails}
 
 -- how a filter is read
 module _ (filter_at : List ℕ → Parsed Selector) where
@@ -18,11 +18,6 @@ module _ (filter_at : List ℕ → Parsed Selector) where
   pub selectors_begin : (cs ds rest : List ℕ) (s : Selector) → ds ≡ past_blanks cs → selector_at filter_at ds ≡ Ok (s, rest) → with_front (s ∷ []) (many (begins is_comma) (next_selector_at filter_at) rest) ≡ selectors_at filter_at cs
   unfolding selectors_at
   selectors_begin cs ds rest s e read = rw (← e, read) refl
-
-  pub selectors_fail : (s : Failure) (cs ds : List ℕ) → ds ≡ past_blanks cs → Fails s (selector_at filter_at ds) → Fails s (selectors_at filter_at cs)
-  unfolding selectors_at
-  selectors_fail s cs ds e h =
-      first_fails s (selector_at filter_at (past_blanks cs)) (λ x. many (begins is_comma) (next_selector_at filter_at) x.1 >>= λ xs. Ok (x.0 ∷ xs.0, xs.1)) (subst (λ (l : List ℕ). Fails s (selector_at filter_at l)) e h)
 
   -- after a comma and blanks
   pub next_selector_reads : (cs behind ds : List ℕ) (c : ℕ) → cs ≡ c ∷ behind → ds ≡ past_blanks behind → (read : Parsed Selector) → selector_at filter_at ds ≡ read → next_selector_at filter_at cs ≡ read

@@ -7,7 +7,7 @@ use Rattle.serde_json_path_syntax.specs.Tree.{SegmentKind, child, descendant, Se
 use Rattle.serde_json_path_syntax.specs.Text.{dots_of}
 use Rattle.serde_json_path_parser.specs.declared.error.ParseErrorKind.TheVariants.{BadMemberName, ExpectedClosingBracket}
 use Rattle.serde_json_path_parser.specs.declared.error.Context as declared
-use Rattle.serde_json_path_parser.specs.Lexical.{begins, is_blank, IsBlank, is_name_first, is_name_char, IsName, Joined}
+use Rattle.serde_json_path_parser.specs.Lexical.{is_at, begins, is_blank, IsBlank, is_name_first, is_name_char, IsName, Joined}
 use Rattle.serde_json_path_parser.specs.Grammar.{ReadSegments}
 use Rattle.serde_json_path_parser.specs.Parsed.{Parsed, ◌>>=◌, refusal, front, behind, past_blanks, many}
 use Rattle.serde_json_path_parser.specs.Parsing.{behind_dot, name_at, bracket_at, dotted_at, descendant_at, of_kind, dot_at, segment_at, opens, opens_next, next_segment_at, segments_at, segment_list, selector_at, next_selector_at, selectors_at, selector_list}
@@ -50,7 +50,7 @@ name_again here t n rest h e = rw (begins_front is_name_first true t rest (some_
 name_begins_not : (k : ℕ) (t n rest : List ℕ) → is_name_first k ≡ false → IsName t n → begins (λ c. c == k) (t ++ rest) ≡ false
 name_begins_not k t n rest none h = begins_differs is_name_first k (t ++ rest) none (begins_front is_name_first true t rest (some_begun is_name_first t h.first) h.first)
 
-one_of : (cs : List ℕ) → begins opens cs ≡ true → begins (λ c. c == 46) cs ≡ false → begins (λ c. c == 91) cs ≡ true
+one_of : (cs : List ℕ) → begins opens cs ≡ true → is_at "." cs ≡ false → is_at "[" cs ≡ true
 one_of [] o n = absurd cc
 one_of (c ∷ cs) o n = sym (rw n refl) ∙ o
 
@@ -92,7 +92,7 @@ module _ (filter_at : List ℕ → Parsed Selector) (Good : LogicalOr → Type 0
 
   dotted_sound : (kind : SegmentKind) (at : declared.Context) (cs : List ℕ) (x : Segment × List ℕ) → dotted_at at cs ≡ Ok x → Read (IsSegment kind) (dots_of kind ++ cs) x
   unfolding dotted_at
-  dotted_sound kind at cs x e = elim (chosen (begins (λ c. c == 42) cs) (done (dot_wildcard, drop 1 cs)) (name_at at cs >>= λ n. Ok (dot_name n.0, n.1)) (Ok x) e) [
+  dotted_sound kind at cs x e = elim (chosen (is_at "*" cs) (done (dot_wildcard, drop 1 cs)) (name_at at cs >>= λ n. Ok (dot_name n.0, n.1)) (Ok x) e) [
     | inl a ↦ subst (Read (IsSegment kind) (dots_of kind ++ cs)) (ok_is (dot_wildcard, drop 1 cs) x a.1) (record {
       text = dots_of kind ++ (42 ∷ []);
       is_so = (tt, refl);
@@ -110,7 +110,7 @@ module _ (filter_at : List ℕ → Parsed Selector) (Good : LogicalOr → Type 0
 
   descendant_sound : (cs : List ℕ) (x : Segment × List ℕ) → descendant_at filter_at here cs ≡ Ok x → Read (IsSegment descendant) (46 ∷ 46 ∷ cs) x
   unfolding descendant_at
-  descendant_sound cs x e = elim (chosen (begins (λ c. c == 91) cs) (bracket_at filter_at (drop 1 cs)) (dotted_at here cs) (Ok x) e) [
+  descendant_sound cs x e = elim (chosen (is_at "[" cs) (bracket_at filter_at (drop 1 cs)) (dotted_at here cs) (Ok x) e) [
     | inl a ↦ subst (λ (l : List ℕ). Read (IsSegment descendant) (46 ∷ 46 ∷ l) x) (sym (after_one 91 cs a.0)) (bracket_sound filter_at Good laws descendant (drop 1 cs) x a.1)
     | inr a ↦ dotted_sound descendant here cs x a.1
   ]
@@ -129,14 +129,14 @@ module _ (filter_at : List ℕ → Parsed Selector) (Good : LogicalOr → Type 0
 
   dot_sound : (cs : List ℕ) (x : (SegmentKind × Segment) × List ℕ) → dot_at filter_at here cs ≡ Ok x → Read IsItem (46 ∷ cs) x
   unfolding dot_at
-  dot_sound cs x e = elim (chosen (begins (λ c. c == 46) cs) (of_kind descendant (descendant_at filter_at here (drop 1 cs))) (of_kind child (dotted_at (behind_dot here) cs)) (Ok x) e) [
+  dot_sound cs x e = elim (chosen (is_at "." cs) (of_kind descendant (descendant_at filter_at here (drop 1 cs))) (of_kind child (dotted_at (behind_dot here) cs)) (Ok x) e) [
     | inl a ↦ subst (λ (l : List ℕ). Read IsItem (46 ∷ l) x) (sym (after_one 46 cs a.0)) (kind_sound descendant (46 ∷ 46 ∷ drop 1 cs) (descendant_at filter_at here (drop 1 cs)) x (descendant_sound (drop 1 cs)) a.1)
     | inr a ↦ kind_sound child (46 ∷ cs) (dotted_at (behind_dot here) cs) x (dotted_sound child (behind_dot here) cs) a.1
   ]
 
   segment_sound : (cs : List ℕ) (x : (SegmentKind × Segment) × List ℕ) → begins opens cs ≡ true → segment_at filter_at here cs ≡ Ok x → Read IsItem cs x
   unfolding segment_at
-  segment_sound cs x o e = elim (chosen (begins (λ c. c == 46) cs) (dot_at filter_at here (drop 1 cs)) (of_kind child (bracket_at filter_at (drop 1 cs))) (Ok x) e) [
+  segment_sound cs x o e = elim (chosen (is_at "." cs) (dot_at filter_at here (drop 1 cs)) (of_kind child (bracket_at filter_at (drop 1 cs))) (Ok x) e) [
     | inl a ↦ subst (λ (l : List ℕ). Read IsItem l x) (sym (after_one 46 cs a.0)) (dot_sound (drop 1 cs) x a.1)
     | inr a ↦ subst (λ (l : List ℕ). Read IsItem l x) (sym (after_one 91 cs (one_of cs o a.0))) (kind_sound child (91 ∷ drop 1 cs) (bracket_at filter_at (drop 1 cs)) x (bracket_sound filter_at Good laws child (drop 1 cs)) a.1)
   ]
@@ -252,7 +252,7 @@ name_stands at cs r e = guard_stands cs (begins is_name_first cs) (done (encode_
 
 dotted_stands : (at : declared.Context) (cs : List ℕ) (r : Refusal) → dotted_at at cs ≡ Err r → Stands Plain cs r
 unfolding dotted_at
-dotted_stands at cs r e = elim (chosen (begins (λ c. c == 42) cs) (done (dot_wildcard, drop 1 cs)) (name_at at cs >>= λ n. Ok (dot_name n.0, n.1)) (Err r) e) [
+dotted_stands at cs r e = elim (chosen (is_at "*" cs) (done (dot_wildcard, drop 1 cs)) (name_at at cs >>= λ n. Ok (dot_name n.0, n.1)) (Err r) e) [
   | inl a ↦ no_refusal cs _ r a.1
   | inr a ↦ bind_stands cs (name_at at cs) _ r (name_stands at cs) (λ n f h. no_refusal cs _ r h) a.1
 ]
@@ -288,27 +288,27 @@ module _ (signature : List ℕ → Option Signature) (filter_at : List ℕ → P
       let read = selectors_sound filter_at Good laws cs ss f in
       drop_blanks cs r
       (further (past_blanks cs) read.text ss.1 r read.split
-      (guard_stands ss.1 (begins (λ c. c == 93) ss.1) (done (long_hand (selector_list ss.0), drop 1 ss.1)) ExpectedClosingBracket context.LongHand r (inl refl) (no_refusal ss.1 _ r) h))) e
+      (guard_stands ss.1 (is_at "]" ss.1) (done (long_hand (selector_list ss.0), drop 1 ss.1)) ExpectedClosingBracket context.LongHand r (inl refl) (no_refusal ss.1 _ r) h))) e
 
   -- ---- segments
 
   descendant_stands : (cs : List ℕ) (r : Refusal) → descendant_at filter_at here_at cs ≡ Err r → Stands (Inner signature) cs r
   unfolding descendant_at
-  descendant_stands cs r e = elim (chosen (begins (λ c. c == 91) cs) (bracket_at filter_at (drop 1 cs)) (dotted_at here_at cs) (Err r) e) [
+  descendant_stands cs r e = elim (chosen (is_at "[" cs) (bracket_at filter_at (drop 1 cs)) (dotted_at here_at cs) (Err r) e) [
     | inl a ↦ drop_one cs r (bracket_stands (drop 1 cs) r a.1)
     | inr a ↦ inside cs r (dotted_stands here_at cs r a.1)
   ]
 
   dot_stands : (cs : List ℕ) (r : Refusal) → dot_at filter_at here_at cs ≡ Err r → Stands (Inner signature) cs r
   unfolding dot_at
-  dot_stands cs r e = elim (chosen (begins (λ c. c == 46) cs) (of_kind descendant (descendant_at filter_at here_at (drop 1 cs))) (of_kind child (dotted_at (behind_dot here_at) cs)) (Err r) e) [
+  dot_stands cs r e = elim (chosen (is_at "." cs) (of_kind descendant (descendant_at filter_at here_at (drop 1 cs))) (of_kind child (dotted_at (behind_dot here_at) cs)) (Err r) e) [
     | inl a ↦ drop_one cs r (kind_stands descendant (drop 1 cs) (descendant_at filter_at here_at (drop 1 cs)) r (descendant_stands (drop 1 cs)) a.1)
     | inr a ↦ kind_stands child cs (dotted_at (behind_dot here_at) cs) r (λ d f. inside cs d (dotted_stands (behind_dot here_at) cs d f)) a.1
   ]
 
   segment_stands : (cs : List ℕ) (r : Refusal) → segment_at filter_at here_at cs ≡ Err r → Stands (Inner signature) cs r
   unfolding segment_at
-  segment_stands cs r e = elim (chosen (begins (λ c. c == 46) cs) (dot_at filter_at here_at (drop 1 cs)) (of_kind child (bracket_at filter_at (drop 1 cs))) (Err r) e) [
+  segment_stands cs r e = elim (chosen (is_at "." cs) (dot_at filter_at here_at (drop 1 cs)) (of_kind child (bracket_at filter_at (drop 1 cs))) (Err r) e) [
     | inl a ↦ drop_one cs r (dot_stands (drop 1 cs) r a.1)
     | inr a ↦ drop_one cs r (kind_stands child (drop 1 cs) (bracket_at filter_at (drop 1 cs)) r (bracket_stands (drop 1 cs)) a.1)
   ]

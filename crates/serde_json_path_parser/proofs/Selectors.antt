@@ -1,8 +1,8 @@
 -- Selectors: what is read is a good one, each of those is read, and where a refusal stands.
 use Rattle.std.proofs.Common.{◌≡◌, ℕ, inl, inr, false, List, [], ◌∷◌, ◌++◌, drop, Ok, refl, sym, ap, subst, ◌∙◌, append_assoc, Option, Err}
-use Rattle.std.specs.Prelude.{◌==◌, None}
+use Rattle.std.specs.Prelude.{None}
 use Rattle.serde_json_path_syntax.specs.Tree.{Selector, name, wildcard, index, slice, filter, LogicalOr}
-use Rattle.serde_json_path_parser.specs.Lexical.{begins, is_blank, IsQuote}
+use Rattle.serde_json_path_parser.specs.Lexical.{is_at, begins, is_blank, IsQuote}
 use Rattle.serde_json_path_parser.specs.Parsed.{Parsed, ◌>>=◌, past_blanks}
 use Rattle.serde_json_path_parser.specs.Parsing.{slice_at, position_at, quoted_at, selector_at}
 use Rattle.serde_json_path_parser.specs.Strings.{string_at}
@@ -46,15 +46,15 @@ module _ (filter_at : List ℕ → Parsed Selector) (Good : LogicalOr → Type 0
   selector_sound cs x e =
       let star : Parsed Selector = Ok (wildcard, past_blanks (drop 1 cs)) in
       let colon : Parsed Selector = slice_at None (drop 1 cs) >>= λ s. Ok (slice s.0, s.1) in
-      elim (chosen (begins (λ c. c == 39) cs) (quoted_at 39 (drop 1 cs)) _ (Ok x) e) [
+      elim (chosen (is_at "'" cs) (quoted_at 39 (drop 1 cs)) _ (Ok x) e) [
         | inl a ↦ subst (λ (l : List ℕ). Read (Spaced IsText) l x) (sym (after_one 39 cs a.0)) (quoted_sound Good 39 (drop 1 cs) x (inl refl) a.1)
-        | inr a ↦ elim (chosen (begins (λ c. c == 34) cs) (quoted_at 34 (drop 1 cs)) _ (Ok x) a.1) [
+        | inr a ↦ elim (chosen (is_at "\"" cs) (quoted_at 34 (drop 1 cs)) _ (Ok x) a.1) [
           | inl b ↦ subst (λ (l : List ℕ). Read (Spaced IsText) l x) (sym (after_one 34 cs b.0)) (quoted_sound Good 34 (drop 1 cs) x (inr refl) b.1)
-          | inr b ↦ elim (chosen (begins (λ c. c == 42) cs) star _ (Ok x) b.1) [
+          | inr b ↦ elim (chosen (is_at "*" cs) star _ (Ok x) b.1) [
             | inl d ↦ subst (Read (Spaced IsText) cs) (ok_is (wildcard, past_blanks (drop 1 cs)) x d.1)
                 (with_blanks IsText cs (wildcard, drop 1 cs) (record { text = 42 ∷ []; is_so = (tt, refl); split = after_one 42 cs d.0 }))
-            | inr d ↦ elim (chosen (begins (λ c. c == 58) cs) colon _ (Ok x) d.1) [
-              | inr f ↦ elim (chosen (begins (λ c. c == 63) cs) (filter_at cs) (position_at cs) (Ok x) f.1) [ inl g ↦ laws.sound cs x g.0 g.1 | inr g ↦ position_sound Good cs x g.1 ]
+            | inr d ↦ elim (chosen (is_at ":" cs) colon _ (Ok x) d.1) [
+              | inr f ↦ elim (chosen (is_at "?" cs) (filter_at cs) (position_at cs) (Ok x) f.1) [ inl g ↦ laws.sound cs x g.0 g.1 | inr g ↦ position_sound Good cs x g.1 ]
               | inl f ↦ subst (λ (l : List ℕ). Read (Spaced IsText) l x) (sym (after_one 58 cs f.0))
                   (made_sound _ IsText (λ s. slice s) (58 ∷ drop 1 cs) (slice_at None (drop 1 cs)) x (λ t s is. (tt, is)) (λ s. colon_sound (drop 1 cs) s) f.1)
             ]
@@ -102,14 +102,14 @@ module _ (signature : List ℕ → Option Signature) (filter_at : List ℕ → P
   selector_stands cs r e =
       let star : Parsed Selector = Ok (wildcard, past_blanks (drop 1 cs)) in
       let colon : Parsed Selector = slice_at None (drop 1 cs) >>= λ s. Ok (slice s.0, s.1) in
-      elim (chosen (begins (λ c. c == 39) cs) (quoted_at 39 (drop 1 cs)) _ (Err r) e) [
+      elim (chosen (is_at "'" cs) (quoted_at 39 (drop 1 cs)) _ (Err r) e) [
         | inl a ↦ inside cs r (drop_one cs r (quoted_stands 39 (inl refl) (drop 1 cs) r a.1))
-        | inr a ↦ elim (chosen (begins (λ c. c == 34) cs) (quoted_at 34 (drop 1 cs)) _ (Err r) a.1) [
+        | inr a ↦ elim (chosen (is_at "\"" cs) (quoted_at 34 (drop 1 cs)) _ (Err r) a.1) [
           | inl b ↦ inside cs r (drop_one cs r (quoted_stands 34 (inr refl) (drop 1 cs) r b.1))
-          | inr b ↦ elim (chosen (begins (λ c. c == 42) cs) star _ (Err r) b.1) [
+          | inr b ↦ elim (chosen (is_at "*" cs) star _ (Err r) b.1) [
             | inl d ↦ no_refusal cs _ r d.1
-            | inr d ↦ elim (chosen (begins (λ c. c == 58) cs) colon _ (Err r) d.1) [
-              | inr f ↦ elim (chosen (begins (λ c. c == 63) cs) (filter_at cs) (position_at cs) (Err r) f.1) [ inl g ↦ filters_stand cs r g.0 g.1 | inr g ↦ inside cs r (position_stands cs r g.1) ]
+            | inr d ↦ elim (chosen (is_at ":" cs) colon _ (Err r) d.1) [
+              | inr f ↦ elim (chosen (is_at "?" cs) (filter_at cs) (position_at cs) (Err r) f.1) [ inl g ↦ filters_stand cs r g.0 g.1 | inr g ↦ inside cs r (position_stands cs r g.1) ]
               | inl f ↦ inside cs r (drop_one cs r (bind_stands (drop 1 cs) (slice_at None (drop 1 cs)) _ r (slice_stands None (drop 1 cs)) (λ s g h. no_refusal (drop 1 cs) _ r h) f.1))
             ]
           ]

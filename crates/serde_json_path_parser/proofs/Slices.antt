@@ -4,7 +4,7 @@ use Rattle.std.specs.Prelude.{ℤ, ◌==◌, ◌||◌}
 use Rattle.std.proofs.lemmas.List.{append-nil}
 use Rattle.serde_json_path_syntax.specs.Tree.{Slice, Selector, slice, index, LogicalOr}
 use Rattle.serde_json_path_parser.specs.Grammar.{IsBound, IsSliceStep, IsSlice}
-use Rattle.serde_json_path_parser.specs.Lexical.{begins, is_blank, is_digit, IsBlank, IsInt}
+use Rattle.serde_json_path_parser.specs.Lexical.{is_at, begins, is_blank, is_digit, IsBlank, IsInt}
 use Rattle.serde_json_path_parser.specs.Parsed.{Parsed, ◌>>=◌, front, past_blanks}
 use Rattle.serde_json_path_parser.specs.Parsing.{int_at, begins_int, bound_at, step_at, slice_at, position_at, selector_at}
 use Rattle.serde_json_path_parser.proofs.Texts.{past_some}
@@ -46,7 +46,7 @@ step_is t k (Some i) blank b =
 
 step_sound : (cs : List ℕ) (x : Option ℤ × List ℕ) → step_at cs ≡ Ok x → Read (Spaced (λ t i. IsSliceStep i t)) cs x
 unfolding step_at
-step_sound cs x e = elim (chosen (begins (λ c. c == 58) cs) (bound_at (past_blanks (drop 1 cs))) (done (None, cs)) (Ok x) e) [
+step_sound cs x e = elim (chosen (is_at ":" cs) (bound_at (past_blanks (drop 1 cs))) (done (None, cs)) (Ok x) e) [
   | inl a ↦
       let blanks = front is_blank (drop 1 cs) in
       let r = bound_sound (past_blanks (drop 1 cs)) x a.1 in
@@ -101,7 +101,7 @@ position_sound Good cs x e =
     let blanks = front is_blank i.0.1 in
     let rest = past_blanks i.0.1 in
     let split : cs ≡ (r.text ++ blanks) ++ rest = r.split ∙ longer r.text i.0.1 blanks rest (whole is_blank i.0.1) in
-    elim (chosen (begins (λ c. c == 58) rest) (slice_at (Some i.0.0) (drop 1 rest) >>= λ s. Ok (slice s.0, s.1)) (done (index i.0.0, rest)) (Ok x) i.2) [
+    elim (chosen (is_at ":" rest) (slice_at (Some i.0.0) (drop 1 rest) >>= λ s. Ok (slice s.0, s.1)) (done (index i.0.0, rest)) (Ok x) i.2) [
       | inl a ↦
           let s = bind_ok (slice_at (Some i.0.0) (drop 1 rest)) (λ s. Ok (slice s.0, s.1)) x a.1 in
           let t = slice_sound (Some i.0.0) (r.text ++ blanks) (drop 1 rest) s.0 (r.text, blanks, r.is_so, front_each is_blank i.0.1, refl) s.1 in
@@ -244,7 +244,7 @@ bound_stands cs r e = elim (chosen (begins begins_int cs) _ (done (None, cs)) (E
 
 step_stands : (cs : List ℕ) (r : Refusal) → step_at cs ≡ Err r → Stands Plain cs r
 unfolding step_at
-step_stands cs r e = elim (chosen (begins (λ c. c == 58) cs) (bound_at (past_blanks (drop 1 cs))) (done (None, cs)) (Err r) e) [
+step_stands cs r e = elim (chosen (is_at ":" cs) (bound_at (past_blanks (drop 1 cs))) (done (None, cs)) (Err r) e) [
   | inl a ↦ drop_one cs r (drop_blanks (drop 1 cs) r (bound_stands (past_blanks (drop 1 cs)) r a.1))
   | inr a ↦ no_refusal cs _ r a.1
 ]
@@ -263,7 +263,7 @@ position_stands cs r e = bind_stands cs (int_at cs) _ r (int_stands cs) (λ i s 
     let read = int_sound cs i s in
     let rest = past_blanks i.1 in
     let whole : Parsed Selector = slice_at (Some i.0) (drop 1 rest) >>= λ x. Ok (slice x.0, x.1) in
-    further cs read.text i.1 r read.split (drop_blanks i.1 r (elim (chosen (begins (λ c. c == 58) rest) whole (done (index i.0, rest)) (Err r) f) [
+    further cs read.text i.1 r read.split (drop_blanks i.1 r (elim (chosen (is_at ":" rest) whole (done (index i.0, rest)) (Err r) f) [
       | inl a ↦ drop_one rest r (bind_stands (drop 1 rest) (slice_at (Some i.0) (drop 1 rest)) _ r (slice_stands (Some i.0) (drop 1 rest)) (λ x t g. no_refusal (drop 1 rest) _ r g) a.1)
       | inr a ↦ no_refusal rest _ r a.1
     ]))) e

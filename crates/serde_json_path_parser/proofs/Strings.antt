@@ -10,7 +10,7 @@ use Rattle.std.proofs.lemmas.List.{length-append, append-nil}
 use Rattle.std.proofs.lemmas.Option.{same_Some, none-some}
 use Rattle.serde_json_path_parser.specs.declared.error.ParseErrorKind.TheVariants.{ExpectedEndingQuote, BadEscape, ControlCharacter}
 use Rattle.serde_json_path_parser.specs.declared.error.Context.TheVariants as context
-use Rattle.serde_json_path_parser.specs.Lexical.{begins, is_digit, hexadecimal_of, IsHex4, IsHighSurrogate, IsLowSurrogate, pair_of, escaped_by, is_plain, IsPiece, plain, quote_escape, letter_escape, hex_escape, pair_escape, IsQuote, IsString}
+use Rattle.serde_json_path_parser.specs.Lexical.{is_at, begins, is_digit, hexadecimal_of, IsHex4, IsHighSurrogate, IsLowSurrogate, pair_of, escaped_by, is_plain, IsPiece, plain, quote_escape, letter_escape, hex_escape, pair_escape, IsQuote, IsString}
 use Rattle.serde_json_path_parser.specs.Parsed.{Parsed, ◌>>=◌, refusal, many, byte_count}
 use Rattle.serde_json_path_parser.specs.Strings.{is_hexadecimal, hexadecimal_value, head, hexadecimal_at, hex4_at, is_high, is_low, low_at, unicode_at, is_letter_escape, letter_value, escape_at, is_control, piece_at, is_inside, string_at}
 use Rattle.serde_json_path_parser.proofs.Many as m
@@ -112,8 +112,8 @@ unfolding low_at
 pair_sound quote escape cs high x first h e =
     let bad : Parsed ℕ = Err (refusal BadEscape context.LongHand escape) in
     let tail : ℕ × List ℕ → Parsed ℕ = λ l. cond (is_low l.0) (Ok (pair_of high.0 l.0, l.1)) bad in
-    let slash = guard (begins (λ c. c == 92) high.1) (refusal BadEscape context.LongHand escape) (cond (begins (λ c. c == 117) (drop 1 high.1)) (hex4_at (byte_count escape) (drop 1 (drop 1 high.1)) >>= tail) bad) x e in
-    let letter = guard (begins (λ c. c == 117) (drop 1 high.1)) (refusal BadEscape context.LongHand escape) (hex4_at (byte_count escape) (drop 1 (drop 1 high.1)) >>= tail) x slash.1 in
+    let slash = guard (is_at "\\" high.1) (refusal BadEscape context.LongHand escape) (cond (is_at "u" (drop 1 high.1)) (hex4_at (byte_count escape) (drop 1 (drop 1 high.1)) >>= tail) bad) x e in
+    let letter = guard (is_at "u" (drop 1 high.1)) (refusal BadEscape context.LongHand escape) (hex4_at (byte_count escape) (drop 1 (drop 1 high.1)) >>= tail) x slash.1 in
     let four = bind_ok (hex4_at (byte_count escape) (drop 1 (drop 1 high.1))) tail x letter.1 in
     let low = guard (is_low four.0.0) (refusal BadEscape context.LongHand escape) (done (pair_of high.0 four.0.0, four.0.1)) x four.2 in
     let second = hex4_sound escape (drop 1 (drop 1 high.1)) four.0 four.1 in
@@ -185,13 +185,13 @@ first_is : (p : ℕ → Bool) (cs : List ℕ) → begins p cs ≡ true → (cs �
 first_is p [] e = absurd cc
 first_is p (c ∷ cs) e = (refl, e)
 
-escape_sound : (quote : ℕ) (cs : List ℕ) (x : ℕ × List ℕ) → IsQuote quote → begins (λ c. c == 92) cs ≡ true → escape_at quote cs ≡ Ok x → Read (IsPiece quote) cs x
+escape_sound : (quote : ℕ) (cs : List ℕ) (x : ℕ × List ℕ) → IsQuote quote → is_at "\\" cs ≡ true → escape_at quote cs ≡ Ok x → Read (IsPiece quote) cs x
 unfolding escape_at
 escape_sound quote cs x is slash e =
     let bad : Parsed ℕ = Err (refusal BadEscape context.LongHand cs) in
     let letter : Parsed ℕ = Ok (letter_value (head (drop 1 cs)), drop 1 (drop 1 cs)) in
     let here = after_one 92 cs slash in
-    elim (chosen (begins (λ c. c == 117) (drop 1 cs)) (unicode_at (byte_count cs) (drop 1 (drop 1 cs))) (cond (begins (is_letter_escape quote) (drop 1 cs)) letter bad) (Ok x) e) [
+    elim (chosen (is_at "u" (drop 1 cs)) (unicode_at (byte_count cs) (drop 1 (drop 1 cs))) (cond (begins (is_letter_escape quote) (drop 1 cs)) letter bad) (Ok x) e) [
       | inl a ↦
           let read = unicode_sound quote cs (drop 1 (drop 1 cs)) x a.1 in
           record {
@@ -404,8 +404,8 @@ hex4_stands escape cs r e =
 low_stands : (escape : List ℕ) (high : ℕ) (cs : List ℕ) (r : Refusal) → low_at (byte_count escape) high cs ≡ Err r → Stands Plain escape r
 unfolding low_at
 low_stands escape high cs r e =
-    guard_stands escape (begins (λ c. c == 92) cs) _ BadEscape context.LongHand r refl (λ f.
-    guard_stands escape (begins (λ c. c == 117) (drop 1 cs)) _ BadEscape context.LongHand r refl (λ g.
+    guard_stands escape (is_at "\\" cs) _ BadEscape context.LongHand r refl (λ f.
+    guard_stands escape (is_at "u" (drop 1 cs)) _ BadEscape context.LongHand r refl (λ g.
     bind_stands escape (hex4_at (byte_count escape) (drop 1 (drop 1 cs))) _ r (hex4_stands escape (drop 1 (drop 1 cs))) (λ l s h.
     guard_stands escape (is_low l.0) (done (pair_of high l.0, l.1)) BadEscape context.LongHand r refl (no_refusal escape _ r) h) g) f) e
 
@@ -426,7 +426,7 @@ escape_stands : (quote : ℕ) (cs : List ℕ) (r : Refusal) → escape_at quote 
 unfolding escape_at
 escape_stands quote cs r e =
     let letter : Parsed ℕ = Ok (letter_value (head (drop 1 cs)), drop 1 (drop 1 cs)) in
-    elim (chosen (begins (λ c. c == 117) (drop 1 cs)) (unicode_at (byte_count cs) (drop 1 (drop 1 cs))) _ (Err r) e) [
+    elim (chosen (is_at "u" (drop 1 cs)) (unicode_at (byte_count cs) (drop 1 (drop 1 cs))) _ (Err r) e) [
       | inl a ↦ unicode_stands cs (drop 1 (drop 1 cs)) r a.1
       | inr a ↦ guard_stands cs (begins (is_letter_escape quote) (drop 1 cs)) letter BadEscape context.LongHand r refl (no_refusal cs _ r) a.1
     ]
@@ -435,7 +435,7 @@ piece_stands : (quote : ℕ) (cs : List ℕ) (r : Refusal) → piece_at quote cs
 unfolding piece_at
 piece_stands quote cs r e =
     let bad : Parsed ℕ = Err (refusal ControlCharacter context.LongHand cs) in
-    elim (chosen (begins (λ c. c == 92) cs) (escape_at quote cs) (cond (begins is_control cs) bad (Ok (head cs, drop 1 cs))) (Err r) e) [
+    elim (chosen (is_at "\\" cs) (escape_at quote cs) (cond (begins is_control cs) bad (Ok (head cs, drop 1 cs))) (Err r) e) [
       | inl a ↦ escape_stands quote cs r a.1
       | inr a ↦ elim (chosen (begins is_control cs) bad (done (head cs, drop 1 cs)) (Err r) a.1) [
         | inl b ↦ here ControlCharacter context.LongHand cs bad r refl refl b.1

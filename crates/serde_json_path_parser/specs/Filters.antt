@@ -9,7 +9,7 @@ use Rattle.serde_json_path_functions.specs.Functions.{Kind, of_value, Signature}
 use Rattle.serde_json_path_parser.specs.declared.error.ParseErrorKind.TheVariants.{ExpectedRoot, ExpectedExpression, ExpectedClosingParenthesis, ExpectedComparisonOperator, NonSingularQuery, UndefinedFunction, WrongNumberOfArguments, WrongArgumentType, WrongReturnType, NestedTooDeep, TextAfterPath}
 use Rattle.serde_json_path_parser.specs.declared.error.Context.TheVariants as context
 use Rattle.serde_json_path_parser.specs.declared.error.Refusal.{Refusal}
-use Rattle.serde_json_path_parser.specs.Lexical.{begins, begins_both, is_small_letter, is_function_char}
+use Rattle.serde_json_path_parser.specs.Lexical.{is_at, are_at, begins, is_small_letter, is_function_char}
 use Rattle.serde_json_path_parser.specs.Parsed.{Parsed, ◌>>=◌, refusal, front, behind, past_blanks, many, refusal_at, byte_count}
 use Rattle.serde_json_path_parser.specs.Strings.{string_at}
 use Rattle.serde_json_path_parser.specs.Numbers.{number_at}
@@ -27,7 +27,7 @@ behind_word cs = behind is_function_char cs
 
 -- a name with `(` at once after it
 abbrev pub begins_call : List ℕ → Bool
-begins_call cs = begins is_small_letter cs && begins (λ c. c == 40) (behind_word cs)
+begins_call cs = begins is_small_letter cs && is_at "(" (behind_word cs)
 
 -- `true`, `false` or `null`
 unfoldable pub literal_word_at : List ℕ → Parsed Operand
@@ -42,12 +42,12 @@ literal_word_at cs =
 -- the longest comparison operator that stands there, and what is after it
 abbrev pub operator_at : List ℕ → Option (Operator × List ℕ)
 operator_at cs =
-    if begins_both 61 61 cs then Some (equal, drop 2 cs)
-    else if begins_both 33 61 cs then Some (not_equal, drop 2 cs)
-    else if begins_both 60 61 cs then Some (less_or_equal, drop 2 cs)
-    else if begins (λ c. c == 60) cs then Some (less, drop 1 cs)
-    else if begins_both 62 61 cs then Some (greater_or_equal, drop 2 cs)
-    else if begins (λ c. c == 62) cs then Some (greater, drop 1 cs)
+    if are_at "==" cs then Some (equal, drop 2 cs)
+    else if are_at "!=" cs then Some (not_equal, drop 2 cs)
+    else if are_at "<=" cs then Some (less_or_equal, drop 2 cs)
+    else if is_at "<" cs then Some (less, drop 1 cs)
+    else if are_at ">=" cs then Some (greater_or_equal, drop 2 cs)
+    else if is_at ">" cs then Some (greater, drop 1 cs)
     else None
 
 -- a string as an operand, at its quote
@@ -109,10 +109,10 @@ module _ (signature : List ℕ → Option Signature) (deeper : Deeper) where
 
   unfoldable pub operand_at : List ℕ → Parsed Operand
   operand_at cs =
-      if begins (λ c. c == 39) cs then text_at 39 cs
-      else if begins (λ c. c == 34) cs then text_at 34 cs
-      else if begins (λ c. c == 64) cs then (query_at current cs >>= λ q. Ok (a_query q.0, q.1))
-      else if begins (λ c. c == 36) cs then (query_at root cs >>= λ q. Ok (a_query q.0, q.1))
+      if is_at "'" cs then text_at 39 cs
+      else if is_at "\"" cs then text_at 34 cs
+      else if is_at "@" cs then (query_at current cs >>= λ q. Ok (a_query q.0, q.1))
+      else if is_at "$" cs then (query_at root cs >>= λ q. Ok (a_query q.0, q.1))
       else if begins_call cs then (named_call_at cs >>= λ c. Ok (a_call c.0, c.1))
       else if begins is_small_letter cs then literal_word_at cs
       else (number_at cs >>= λ n. Ok (a_literal (number n.0), past_blanks n.1))
@@ -146,7 +146,7 @@ module _ (signature : List ℕ → Option Signature) (deeper : Deeper) where
   -- at `(`
   unfoldable pub paren_at : List ℕ → Parsed LogicalOr
   paren_at cs = deeper.expression (byte_count cs) (past_blanks (drop 1 cs)) >>= λ e.
-      if begins (λ c. c == 41) e.1 then Ok (e.0, past_blanks (drop 1 e.1)) else Err (refusal ExpectedClosingParenthesis context.LongHand e.1)
+      if is_at ")" e.1 then Ok (e.0, past_blanks (drop 1 e.1)) else Err (refusal ExpectedClosingParenthesis context.LongHand e.1)
 
   unfoldable pub negated_call_at : List ℕ → Parsed Basic
   negated_call_at cs = named_call_at cs >>= λ c.
@@ -159,9 +159,9 @@ module _ (signature : List ℕ → Option Signature) (deeper : Deeper) where
   -- after `!` and blanks
   unfoldable pub negated_at : List ℕ → Parsed Basic
   negated_at cs =
-      if begins (λ c. c == 40) cs then (paren_at cs >>= λ e. Ok (not_paren e.0, e.1))
-      else if begins (λ c. c == 64) cs then (query_at current cs >>= λ q. Ok (not_exist q.0, q.1))
-      else if begins (λ c. c == 36) cs then (query_at root cs >>= λ q. Ok (not_exist q.0, q.1))
+      if is_at "(" cs then (paren_at cs >>= λ e. Ok (not_paren e.0, e.1))
+      else if is_at "@" cs then (query_at current cs >>= λ q. Ok (not_exist q.0, q.1))
+      else if is_at "$" cs then (query_at root cs >>= λ q. Ok (not_exist q.0, q.1))
       else if begins_call cs then negated_call_at cs
       else Err (refusal ExpectedExpression context.LongHand cs)
 
@@ -169,8 +169,8 @@ module _ (signature : List ℕ → Option Signature) (deeper : Deeper) where
 
   unfoldable pub basic_at : List ℕ → Parsed Basic
   basic_at cs =
-      if begins (λ c. c == 40) cs then (paren_at cs >>= λ e. Ok (paren e.0, e.1))
-      else if begins (λ c. c == 33) cs then negated_at (past_blanks (drop 1 cs))
+      if is_at "(" cs then (paren_at cs >>= λ e. Ok (paren e.0, e.1))
+      else if is_at "!" cs then negated_at (past_blanks (drop 1 cs))
       else (operand_at cs >>= λ o. basic_from (byte_count cs) o.0 o.1)
 
   -- at `&&`
@@ -179,7 +179,7 @@ module _ (signature : List ℕ → Option Signature) (deeper : Deeper) where
 
   -- after a first part
   unfoldable pub and_from : Basic → List ℕ → Parsed LogicalAnd
-  and_from b cs = many (begins_both 38 38) next_basic_at cs >>= λ bs. Ok (and_list (b ∷ bs.0), bs.1)
+  and_from b cs = many (are_at "&&") next_basic_at cs >>= λ bs. Ok (and_list (b ∷ bs.0), bs.1)
 
   unfoldable pub and_at : List ℕ → Parsed LogicalAnd
   and_at cs = basic_at cs >>= λ b. and_from b.0 b.1
@@ -189,7 +189,7 @@ module _ (signature : List ℕ → Option Signature) (deeper : Deeper) where
   next_and_at cs = and_at (past_blanks (drop 2 cs))
 
   unfoldable pub or_from : LogicalAnd → List ℕ → Parsed LogicalOr
-  or_from a cs = many (begins_both 124 124) next_and_at cs >>= λ more. Ok (or_list (a ∷ more.0), more.1)
+  or_from a cs = many (are_at "||") next_and_at cs >>= λ more. Ok (or_list (a ∷ more.0), more.1)
 
   unfoldable pub or_at : List ℕ → Parsed LogicalOr
   or_at cs = and_at cs >>= λ a. or_from a.0 a.1
@@ -217,13 +217,13 @@ module _ (signature : List ℕ → Option Signature) (deeper : Deeper) where
   arguments_at (suc fuel) start kinds cs = argument_at cs >>= λ a.
       if begins ends_argument a.1 then
       (judged start (byte_count cs) kinds a.0 >>= λ left.
-      (if begins (λ c. c == 44) a.1 then arguments_at fuel start left (past_blanks (drop 1 a.1)) else ended start left (drop 1 a.1)) >>= λ more.
+      (if is_at "," a.1 then arguments_at fuel start left (past_blanks (drop 1 a.1)) else ended start left (drop 1 a.1)) >>= λ more.
       Ok (argument a.0 more.0, more.1))
       else Err (refusal ExpectedClosingParenthesis context.LongHand a.1)
 
   -- after `(` and blanks
   unfoldable pub parameters_at : ℕ → List Kind → List ℕ → Parsed Arguments
-  parameters_at start kinds cs = if begins (λ c. c == 41) cs then ended start kinds (drop 1 cs) else arguments_at (length cs) start kinds cs
+  parameters_at start kinds cs = if is_at ")" cs then ended start kinds (drop 1 cs) else arguments_at (length cs) start kinds cs
 
   -- a call of a name that has this signature
   unfoldable pub call_at : ℕ → List ℕ → Option Signature → List ℕ → Parsed Call
@@ -246,7 +246,7 @@ module _ (signature : List ℕ → Option Signature) where
 
   unfoldable pub path_at : List ℕ → Result Segments Refusal
   path_at cs =
-      if begins (λ c. c == 36) cs then
+      if is_at "$" cs then
       (segments_at (filter_at signature (level deepest)) context.Path (drop 1 cs) >>= λ ss.
       if length ss.1 == 0 then Ok (segment_list ss.0) else Err (refusal TextAfterPath context.Path ss.1))
       else Err (refusal ExpectedRoot context.Path cs)

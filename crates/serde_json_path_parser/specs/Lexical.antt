@@ -1,7 +1,8 @@
 -- The pieces of a path's text (RFC 9535, sections 2.1.1, 2.3.1.1, 2.3.3.1, 2.3.5.1 and 2.5.1.1). A text is a list of
 -- characters, each a Unicode scalar value; names and strings in trees are the bytes of their characters.
-use Rattle.std.specs.Prelude.{◌≡◌, ◌==◌, ℕ, suc, ◌+◌, ◌-◌, ◌*◌, ◌<◌, ◌≤◌, ◌^◌, ◌⊎◌, ◌&&◌, ◌||◌, not, nat_le, ℤ, pos, negsuc, ◌-ℤ◌, Bool, true, false, List, [], ◌∷◌, ◌++◌, length, drop, codes, Option, Some, None, if◌then◌else◌}
+use Rattle.std.specs.Prelude.{◌≡◌, ◌==◌, ℕ, suc, ◌+◌, ◌-◌, ◌*◌, ◌<◌, ◌≤◌, ◌^◌, ◌⊎◌, ◌&&◌, ◌||◌, not, nat_le, ℤ, pos, negsuc, ◌-ℤ◌, Bool, true, false, List, [], ◌∷◌, ◌++◌, length, drop, codes, slice_index, Option, Some, None, if◌then◌else◌}
 use Rattle.std.specs.List.{AllByRecursion}
+use Prim.Native.String.{String}
 use Rattle.std.specs.Str.{encode_utf8_all}
 use Rattle.serde_json_path_syntax.specs.Tree.{IsInteger}
 use Rattle.serde_json_path_syntax.specs.WellFormed.{IsLiteralAmount}
@@ -23,6 +24,13 @@ begins p (c ∷ cs) = p c
 -- the text begins with these two characters
 abbrev pub begins_both : ℕ → ℕ → List ℕ → Bool
 begins_both a b cs = begins (λ c. c == a) cs && begins (λ c. c == b) (drop 1 cs)
+
+-- the text begins with this character, as in `is_at "."`, and with these two, as in `are_at "&&"`
+abbrev pub is_at : String → List ℕ → Bool
+is_at sign cs = begins (λ c. c == slice_index (codes sign) 0) cs
+
+abbrev pub are_at : String → List ℕ → Bool
+are_at signs cs = begins_both (slice_index (codes signs) 0) (slice_index (codes signs) 1) cs
 
 -- ---- blanks (section 2.1.1): space, tab, line feed and carriage return
 
@@ -74,7 +82,7 @@ value_from n (d ∷ ds) = value_from ((n * 10) + (d - 48)) ds
 pub record IsDecimal (text : List ℕ) (n : ℕ) : Type 0 where
   pub first : begins is_digit text ≡ true
   pub each : AllPass is_digit text
-  pub plain : (text ≡ 48 ∷ []) ⊎ (begins (λ c. c == 48) text ≡ false)
+  pub plain : (text ≡ 48 ∷ []) ⊎ (is_at "0" text ≡ false)
   pub value_of : n ≡ value_from 0 text
 
 -- an `int`: a decimal number, or `-` and one that is not 0

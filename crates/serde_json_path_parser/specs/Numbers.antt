@@ -4,7 +4,7 @@
 use Rattle.std.specs.Prelude.{ℕ, ◌+◌, ◌-◌, ◌*◌, ◌^◌, ◌==◌, ◌||◌, min, nat_le, ℤ, pos, ◌-ℤ◌, Bool, List, length, drop, Ok, Err, if◌then◌else◌}
 use Rattle.serde_json_path_parser.specs.declared.error.ParseErrorKind.TheVariants.{ExpectedExpression, ExponentOrEmptyFraction, FractionTooLong, NumberOutOfRange}
 use Rattle.serde_json_path_parser.specs.declared.error.Context.TheVariants as context
-use Rattle.serde_json_path_parser.specs.Lexical.{begins, is_digit, value_from, fraction_of}
+use Rattle.serde_json_path_parser.specs.Lexical.{is_at, begins, is_digit, value_from, fraction_of}
 use Rattle.serde_json_path_parser.specs.Parsed.{Parsed, ◌>>=◌, refusal, front, behind, refusal_at, byte_count}
 use Rattle.serde_json_path_parser.specs.Parsing.{is_first_digit}
 
@@ -14,7 +14,7 @@ is_exponent c = c == 101 || c == 69
 -- `0`, or digits that do not begin with it
 unfoldable pub whole_at : ℕ → List ℕ → Parsed ℕ
 whole_at start cs =
-    if begins (λ c. c == 48) cs then Ok (0, drop 1 cs)
+    if is_at "0" cs then Ok (0, drop 1 cs)
     else if begins is_first_digit cs then Ok (value_from 0 (front is_digit cs), behind is_digit cs)
     else Err (refusal_at ExpectedExpression context.LongHand start)
 
@@ -30,7 +30,7 @@ digits_behind_point_at start cs =
 -- after a whole number: a point and digits, or nothing
 unfoldable pub fraction_at : ℕ → List ℕ → Parsed ℕ
 fraction_at start cs =
-    if begins (λ c. c == 46) cs then digits_behind_point_at start (drop 1 cs)
+    if is_at "." cs then digits_behind_point_at start (drop 1 cs)
     else if begins is_exponent cs then Err (refusal_at ExponentOrEmptyFraction context.LongHand start)
     else Ok (0, cs)
 
@@ -41,7 +41,7 @@ amount_at start cs = whole_at start cs >>= λ whole. fraction_at start whole.1 >
 -- -2 ^ 63 to 2 ^ 64 - 1
 unfoldable pub number_at : List ℕ → Parsed ℤ
 number_at cs =
-    if begins (λ c. c == 45) cs then
+    if is_at "-" cs then
     (amount_at (byte_count cs) (drop 1 cs) >>= λ n.
     if nat_le n.0 (2 ^ 63 * 1000000000) then Ok (pos 0 -ℤ pos n.0, n.1) else Err (refusal NumberOutOfRange context.LongHand cs))
     else (amount_at (byte_count cs) cs >>= λ n.

@@ -1,6 +1,7 @@
 -- What a filter compares or tests: a literal, a query or a call, which is read before its use is known; and what decides
 -- how it may be used.
-use Rattle.std.specs.Prelude.{◌≡◌, ℕ, ◌+◌, ◌%◌, ◌==◌, ◌&&◌, ◌||◌, Bool, true, false, ℤ, pos, negsuc, List, ◌∷◌, ◌++◌, Option, Some, None}
+use Rattle.std.specs.Prelude.{◌≡◌, ℕ, ◌+◌, ◌%◌, ◌==◌, ◌&&◌, ◌||◌, Bool, true, false, ℤ, pos, negsuc, List, [], ◌∷◌, ◌++◌, Option, Some, None}
+use Rattle.serde_json_path_syntax.specs.Calls.{calls_of, calls_from}
 use Rattle.serde_json_path_syntax.specs.Tree.{Query, query, Segments, no_segments, segment, child, descendant, Segment, dot_name, long_hand, selector, no_selectors, name, index, Call, Argument, literal_argument, query_argument, call_argument, logical_argument, Literal, number}
 use Rattle.serde_json_path_syntax.specs.Typing.{result_kind}
 use Rattle.serde_json_path_functions.specs.Functions.{Kind, of_value, of_nodes, of_logical, Signature}
@@ -10,6 +11,12 @@ pub data Operand : Type 0 where
   a_literal : Literal → Operand
   a_query : Query → Operand
   a_call : Call → Operand
+
+-- the calls that an operand makes
+abbrev pub calls_in_operand : Operand → List Call
+calls_in_operand (a_literal l) = []
+calls_in_operand (a_query q) = calls_of q
+calls_in_operand (a_call c) = calls_from c
 
 -- ---- singular queries (RFC 9535, section 2.3.5.1)
 

@@ -5,7 +5,7 @@ use Rattle.serde_json_path_syntax.specs.Tree.{largest, SegmentKind, child, desce
 use Rattle.serde_json_path_parser.specs.declared.error.ParseErrorKind.TheVariants.{BadMemberName, ExpectedClosingBracket, ExpectedSelector, IntegerOutOfRange}
 use Rattle.serde_json_path_parser.specs.declared.error.Context as declared
 use Rattle.serde_json_path_parser.specs.declared.error.Context.TheVariants as context
-use Rattle.serde_json_path_parser.specs.Lexical.{begins, is_digit, is_name_first, is_name_char, value_from}
+use Rattle.serde_json_path_parser.specs.Lexical.{is_at, begins, is_digit, is_name_first, is_name_char, value_from}
 use Rattle.serde_json_path_parser.specs.Parsed.{Parsed, ◌>>=◌, refusal, front, behind, past_blanks, many, refusal_at, byte_count}
 use Rattle.serde_json_path_parser.specs.Strings.{string_at}
 
@@ -33,9 +33,9 @@ negative (suc n) = negsuc n
 
 unfoldable pub int_at : List ℕ → Parsed ℤ
 int_at cs =
-    if begins (λ c. c == 45) cs then
+    if is_at "-" cs then
     (if begins is_first_digit (drop 1 cs) then (digits_at (byte_count cs) (drop 1 cs) >>= λ n. Ok (negative n.0, n.1)) else Err (refusal ExpectedSelector context.LongHand cs))
-    else if begins (λ c. c == 48) cs then Ok (pos 0, drop 1 cs)
+    else if is_at "0" cs then Ok (pos 0, drop 1 cs)
     else if begins is_first_digit cs then (digits_at (byte_count cs) cs >>= λ n. Ok (pos n.0, n.1))
     else Err (refusal ExpectedSelector context.LongHand cs)
 
@@ -50,7 +50,7 @@ bound_at cs = if begins begins_int cs then (int_at cs >>= λ i. Ok (Some i.0, pa
 
 -- a second colon and a step, or nothing
 unfoldable pub step_at : List ℕ → Parsed (Option ℤ)
-step_at cs = if begins (λ c. c == 58) cs then bound_at (past_blanks (drop 1 cs)) else Ok (None, cs)
+step_at cs = if is_at ":" cs then bound_at (past_blanks (drop 1 cs)) else Ok (None, cs)
 
 -- after a slice's start and its first colon
 unfoldable pub slice_at : Option ℤ → List ℕ → Parsed Slice
@@ -60,7 +60,7 @@ slice_at start cs =
 -- an index, or a slice that begins with an integer
 unfoldable pub position_at : List ℕ → Parsed Selector
 position_at cs = int_at cs >>= λ i.
-    if begins (λ c. c == 58) (past_blanks i.1) then (slice_at (Some i.0) (drop 1 (past_blanks i.1)) >>= λ s. Ok (slice s.0, s.1))
+    if is_at ":" (past_blanks i.1) then (slice_at (Some i.0) (drop 1 (past_blanks i.1)) >>= λ s. Ok (slice s.0, s.1))
     else Ok (index i.0, past_blanks i.1)
 
 -- after the opening quote
@@ -94,17 +94,17 @@ of_kind kind read = read >>= λ s. Ok ((kind, s.0), s.1)
 -- after `.` or `..`
 unfoldable pub dotted_at : declared.Context → List ℕ → Parsed Segment
 dotted_at here cs =
-    if begins (λ c. c == 42) cs then Ok (dot_wildcard, drop 1 cs) else (name_at here cs >>= λ n. Ok (dot_name n.0, n.1))
+    if is_at "*" cs then Ok (dot_wildcard, drop 1 cs) else (name_at here cs >>= λ n. Ok (dot_name n.0, n.1))
 
 -- how a filter is read, at its `?`
 module _ (filter_at : List ℕ → Parsed Selector) where
   unfoldable pub selector_at : List ℕ → Parsed Selector
   selector_at cs =
-      if begins (λ c. c == 39) cs then quoted_at 39 (drop 1 cs)
-      else if begins (λ c. c == 34) cs then quoted_at 34 (drop 1 cs)
-      else if begins (λ c. c == 42) cs then Ok (wildcard, past_blanks (drop 1 cs))
-      else if begins (λ c. c == 58) cs then (slice_at None (drop 1 cs) >>= λ s. Ok (slice s.0, s.1))
-      else if begins (λ c. c == 63) cs then filter_at cs
+      if is_at "'" cs then quoted_at 39 (drop 1 cs)
+      else if is_at "\"" cs then quoted_at 34 (drop 1 cs)
+      else if is_at "*" cs then Ok (wildcard, past_blanks (drop 1 cs))
+      else if is_at ":" cs then (slice_at None (drop 1 cs) >>= λ s. Ok (slice s.0, s.1))
+      else if is_at "?" cs then filter_at cs
       else position_at cs
 
   -- at a comma
@@ -113,26 +113,26 @@ module _ (filter_at : List ℕ → Parsed Selector) where
 
   unfoldable pub selectors_at : List ℕ → Parsed (List Selector)
   selectors_at cs =
-      selector_at (past_blanks cs) >>= λ s. many (begins (λ c. c == 44)) next_selector_at s.1 >>= λ ss. Ok (s.0 ∷ ss.0, ss.1)
+      selector_at (past_blanks cs) >>= λ s. many (is_at ",") next_selector_at s.1 >>= λ ss. Ok (s.0 ∷ ss.0, ss.1)
 
   -- after `[`
   unfoldable pub bracket_at : List ℕ → Parsed Segment
   bracket_at cs = selectors_at cs >>= λ ss.
-      if begins (λ c. c == 93) ss.1 then Ok (long_hand (selector_list ss.0), drop 1 ss.1) else Err (refusal ExpectedClosingBracket context.LongHand ss.1)
+      if is_at "]" ss.1 then Ok (long_hand (selector_list ss.0), drop 1 ss.1) else Err (refusal ExpectedClosingBracket context.LongHand ss.1)
 
 -- segments that stand here
 module _ (filter_at : List ℕ → Parsed Selector) (here : declared.Context) where
   -- after `..`
   unfoldable pub descendant_at : List ℕ → Parsed Segment
-  descendant_at cs = if begins (λ c. c == 91) cs then bracket_at filter_at (drop 1 cs) else dotted_at here cs
+  descendant_at cs = if is_at "[" cs then bracket_at filter_at (drop 1 cs) else dotted_at here cs
 
   -- after `.`
   unfoldable pub dot_at : List ℕ → Parsed (SegmentKind × Segment)
-  dot_at cs = if begins (λ c. c == 46) cs then of_kind descendant (descendant_at (drop 1 cs)) else of_kind child (dotted_at (behind_dot here) cs)
+  dot_at cs = if is_at "." cs then of_kind descendant (descendant_at (drop 1 cs)) else of_kind child (dotted_at (behind_dot here) cs)
 
   -- at `.` or `[`
   unfoldable pub segment_at : List ℕ → Parsed (SegmentKind × Segment)
-  segment_at cs = if begins (λ c. c == 46) cs then dot_at (drop 1 cs) else of_kind child (bracket_at filter_at (drop 1 cs))
+  segment_at cs = if is_at "." cs then dot_at (drop 1 cs) else of_kind child (bracket_at filter_at (drop 1 cs))
 
   -- blanks and a segment
   unfoldable pub next_segment_at : List ℕ → Parsed (SegmentKind × Segment)
@@ -143,4 +143,4 @@ module _ (filter_at : List ℕ → Parsed Selector) (here : declared.Context) wh
 
 -- a segment begins after `$` and blanks
 abbrev pub opens_behind_root : List ℕ → Bool
-opens_behind_root cs = begins (λ c. c == 36) cs && opens_next (drop 1 cs)
+opens_behind_root cs = is_at "$" cs && opens_next (drop 1 cs)

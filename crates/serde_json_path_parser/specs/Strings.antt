@@ -4,7 +4,7 @@ use Rattle.std.specs.Prelude.{ℕ, ◌+◌, ◌-◌, ◌*◌, ◌==◌, ◌||◌
 use Rattle.std.specs.Str.{encode_utf8_all}
 use Rattle.serde_json_path_parser.specs.declared.error.ParseErrorKind.TheVariants.{ExpectedEndingQuote, BadEscape, ControlCharacter}
 use Rattle.serde_json_path_parser.specs.declared.error.Context.TheVariants as context
-use Rattle.serde_json_path_parser.specs.Lexical.{begins, is_digit, pair_of}
+use Rattle.serde_json_path_parser.specs.Lexical.{is_at, begins, is_digit, pair_of}
 use Rattle.serde_json_path_parser.specs.Parsed.{Parsed, ◌>>=◌, refusal, many, refusal_at, byte_count}
 
 -- ---- hexadecimal digits
@@ -42,8 +42,8 @@ is_low n = nat_le 0xdc00 n && nat_le n 0xdfff
 -- after a high surrogate: `\u` and a low one
 unfoldable pub low_at : ℕ → ℕ → List ℕ → Parsed ℕ
 low_at start high cs =
-    if begins (λ c. c == 92) cs then
-    (if begins (λ c. c == 117) (drop 1 cs) then
+    if is_at "\\" cs then
+    (if is_at "u" (drop 1 cs) then
     (hex4_at start (drop 1 (drop 1 cs)) >>= λ l. if is_low l.0 then Ok (pair_of high l.0, l.1) else Err (refusal_at BadEscape context.LongHand start))
     else Err (refusal_at BadEscape context.LongHand start))
     else Err (refusal_at BadEscape context.LongHand start)
@@ -65,7 +65,7 @@ letter_value c = if c == 98 then 8 else (if c == 102 then 12 else (if c == 110 t
 -- at a backslash
 unfoldable pub escape_at : ℕ → List ℕ → Parsed ℕ
 escape_at quote cs =
-    if begins (λ c. c == 117) (drop 1 cs) then unicode_at (byte_count cs) (drop 1 (drop 1 cs))
+    if is_at "u" (drop 1 cs) then unicode_at (byte_count cs) (drop 1 (drop 1 cs))
     else (if begins (is_letter_escape quote) (drop 1 cs) then Ok (letter_value (head (drop 1 cs)), drop 1 (drop 1 cs)) else Err (refusal BadEscape context.LongHand cs))
 
 abbrev pub is_control : ℕ → Bool
@@ -73,7 +73,7 @@ is_control c = nat_le c 31
 
 unfoldable pub piece_at : ℕ → List ℕ → Parsed ℕ
 piece_at quote cs =
-    if begins (λ c. c == 92) cs then escape_at quote cs
+    if is_at "\\" cs then escape_at quote cs
     else (if begins is_control cs then Err (refusal ControlCharacter context.LongHand cs) else Ok (head cs, drop 1 cs))
 
 -- ---- the string

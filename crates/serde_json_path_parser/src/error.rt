@@ -188,7 +188,8 @@ impl fmt::Display for ParseError {
     ghost use Rattle.std.specs.Fmt.{decimal};
     ghost use Rattle.serde_json_path_parser.specs.Errors.{position_of, message_of};
 
-    ghost output = { λ e. Some (codes "at position " ++ (decimal (position_of e) ++ (codes ", " ++ message_of e))) };
+    ghost output = { λ e.
+        Some (codes "at position " ++ (decimal (position_of e) ++ (codes ", " ++ message_of e))) };
 
     fn fmt<W: fmt::Write>(&self, f: &mut fmt::Formatter<W>) -> fmt::Result {
         let message = self.message();
@@ -204,7 +205,8 @@ impl Failure {
 
     /// A refusal inside a bracket, where `left` bytes of the text are left.
     pub(crate) fn in_long_hand(kind: ParseErrorKind, left: usize) -> Failure
-        ensures { result ≡ Failure.Refused (record { kind = kind; context = LongHand; left = left }) }
+        ensures { result
+            ≡ Failure.Refused (record { kind = kind; context = LongHand; left = left }) }
     {
         Failure::Refused(Refusal {
             kind,

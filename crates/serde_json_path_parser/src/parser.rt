@@ -46,17 +46,20 @@ pub fn parse<S: PathSource, F: Functions>(
     source: &mut S,
     functions: &F,
 ) -> Result<Checked, ParseError>
-    ensures parse { IsParseOf checked_view (F.set functions.now).signature (S.told source.old).text result }
+    ensures parse { IsParseOf checked_view (F.set functions.now).signature
+        (S.told source.old).text result }
     // The signatures that the query keeps are those of the set.
     ensures fits { IfOk result (λ checked. Fits (F.set functions.now) (signatures_of checked)) }
     // The source's text is unchanged.
     ensures same_text { (S.told source.new).text ≡ (S.told source.old).text }
     // However the parse ends, there are at most 32(n + 1) further looks at n bytes.
-    ensures looks { (S.told source.new).looks ≤ (S.told source.old).looks + 32 * (length (S.told source.old).text + 1) }
+    ensures looks { (S.told source.new).looks
+        ≤ (S.told source.old).looks + 32 * (length (S.told source.old).text + 1) }
     // For four kinds of refusal, nothing past the byte after the position was looked at.
     ensures farthest { IfErr result (λ e. is_told_at_next (kind_of e) ≡ true
         → (S.told source.new).farthest ≤ max (S.told source.old).farthest (position_of e + 1)) }
-    ensures unseen { length (S.told source.old).text ≡ 2 ^ 64 - 1 → S.told source.new ≡ S.told source.old }
+    ensures unseen { length (S.told source.old).text ≡ 2 ^ 64 - 1
+        → S.told source.new ≡ S.told source.old }
 {
     if source.len() == usize::MAX {
         return Err(Failure::Memory.in_text(0));

@@ -1,22 +1,8 @@
 -- The bound of some parts' numbers.
 use Rattle.std.proofs.Common.{◌≡◌, ℕ, zero, suc, ◌<◌, ◌≤◌, List, [], ◌∷◌, length, get_or, Option, Some, None, IfSome, ap, arith}
-use Rattle.std.specs.List.{All, AllByRecursion}
-use Rattle.std.proofs.lemmas.List.Elements.{recursion_from_All}
-use Rattle.serde_json_path_syntax.specs.Flat.{numbers}
 use Rattle.serde_json_path_syntax.specs.PartBounds.{parts_bound, selector_bound}
 use Rattle.serde_json_path_syntax.specs.declared.selector_ref.SelectorRef.{SelectorRef}
 use Rattle.serde_json_path_syntax.specs.declared.node.Part.{Part}
-
-by_recursion : (parts : List Part) (bound : ℕ) → AllByRecursion (λ number. number < bound) (numbers parts) → parts_bound parts ≤ bound
-by_recursion [] bound h = omega arith
-by_recursion (part ∷ parts) bound h =
-    let here = h.0 in
-    let later = by_recursion parts bound h.1 in
-    omega arith
-
--- parts whose numbers are below a number have it as a bound
-pub bounded : (parts : List Part) (bound : ℕ) → All (λ number. number < bound) (numbers parts) → parts_bound parts ≤ bound
-bounded parts bound h = by_recursion parts bound (recursion_from_All (λ number. number < bound) (numbers parts) h)
 
 -- each part's number is below the bound
 pub within_bound : (parts : List Part) (i : ℕ) (part : Part) → i < length parts → part ≡ get_or parts i part → part.number < parts_bound parts

@@ -1,5 +1,6 @@
--- The calls that a query makes.
-use Rattle.std.specs.Prelude.{ℕ, List}
+-- The calls that a query makes, those in arguments too: the inner ones of a call before itself.
+use Rattle.std.specs.Prelude.{ℕ, List, [], ◌∷◌, ◌++◌, map}
+use Rattle.serde_json_path_syntax.specs.Lists.{IsIn}
 use Rattle.serde_json_path_syntax.specs.Tree.{Query, query, Segments, no_segments, segment, Segment, dot_name, dot_wildcard, long_hand, Selectors, no_selectors, selector, Selector, name, wildcard, index, slice, filter, LogicalOr, no_or, or, LogicalAnd, no_and, and, Basic, paren, not_paren, relation, exist, not_exist, test, not_test, Comparable, literal, singular, called, Call, call, Arguments, no_arguments, argument, Argument, literal_argument, query_argument, call_argument, logical_argument}
 
 -- the name that is called, and the arguments
@@ -9,64 +10,74 @@ name_of (call f args) = f
 abbrev pub arguments_of : Call → Arguments
 arguments_of (call f args) = args
 
--- the fact holds of each call, of those in arguments too
-module _ (Fact : Call → Type 0) where
-  abbrev mutual
-    pub EachCall : Query → Type 0
-    EachCall (query kind segs) = EachInSegments segs
+abbrev mutual
+  pub calls_of : Query → List Call
+  calls_of (query kind segs) = calls_in_segments segs
 
-    pub EachInSegments : Segments → Type 0
-    EachInSegments no_segments = Unit {0}
-    EachInSegments (segment kind seg more) = EachInSegment seg × EachInSegments more
+  pub calls_in_segments : Segments → List Call
+  calls_in_segments no_segments = []
+  calls_in_segments (segment kind seg more) = calls_in_segment seg ++ calls_in_segments more
 
-    pub EachInSegment : Segment → Type 0
-    EachInSegment (dot_name k) = Unit {0}
-    EachInSegment dot_wildcard = Unit {0}
-    EachInSegment (long_hand sels) = EachInSelectors sels
+  pub calls_in_segment : Segment → List Call
+  calls_in_segment (dot_name k) = []
+  calls_in_segment dot_wildcard = []
+  calls_in_segment (long_hand sels) = calls_in_selectors sels
 
-    pub EachInSelectors : Selectors → Type 0
-    EachInSelectors no_selectors = Unit {0}
-    EachInSelectors (selector sel more) = EachInSelector sel × EachInSelectors more
+  pub calls_in_selectors : Selectors → List Call
+  calls_in_selectors no_selectors = []
+  calls_in_selectors (selector sel more) = calls_in_selector sel ++ calls_in_selectors more
 
-    pub EachInSelector : Selector → Type 0
-    EachInSelector (filter e) = EachInOr e
-    EachInSelector (name k) = Unit {0}
-    EachInSelector wildcard = Unit {0}
-    EachInSelector (index i) = Unit {0}
-    EachInSelector (slice s) = Unit {0}
+  pub calls_in_selector : Selector → List Call
+  calls_in_selector (filter e) = calls_in_or e
+  calls_in_selector (name k) = []
+  calls_in_selector wildcard = []
+  calls_in_selector (index i) = []
+  calls_in_selector (slice s) = []
 
-    pub EachInOr : LogicalOr → Type 0
-    EachInOr no_or = Unit {0}
-    EachInOr (or a more) = EachInAnd a × EachInOr more
+  pub calls_in_or : LogicalOr → List Call
+  calls_in_or no_or = []
+  calls_in_or (or a more) = calls_in_and a ++ calls_in_or more
 
-    pub EachInAnd : LogicalAnd → Type 0
-    EachInAnd no_and = Unit {0}
-    EachInAnd (and b more) = EachInBasic b × EachInAnd more
+  pub calls_in_and : LogicalAnd → List Call
+  calls_in_and no_and = []
+  calls_in_and (and b more) = calls_in_basic b ++ calls_in_and more
 
-    pub EachInBasic : Basic → Type 0
-    EachInBasic (paren e) = EachInOr e
-    EachInBasic (not_paren e) = EachInOr e
-    EachInBasic (relation a op b) = EachInComparable a × EachInComparable b
-    EachInBasic (exist q) = EachCall q
-    EachInBasic (not_exist q) = EachCall q
-    EachInBasic (test c) = EachFrom c
-    EachInBasic (not_test c) = EachFrom c
+  pub calls_in_basic : Basic → List Call
+  calls_in_basic (paren e) = calls_in_or e
+  calls_in_basic (not_paren e) = calls_in_or e
+  calls_in_basic (relation a op b) = calls_in_comparable a ++ calls_in_comparable b
+  calls_in_basic (exist q) = calls_of q
+  calls_in_basic (not_exist q) = calls_of q
+  calls_in_basic (test c) = calls_from c
+  calls_in_basic (not_test c) = calls_from c
 
-    pub EachInComparable : Comparable → Type 0
-    EachInComparable (literal l) = Unit {0}
-    EachInComparable (singular q) = EachCall q
-    EachInComparable (called c) = EachFrom c
+  pub calls_in_comparable : Comparable → List Call
+  calls_in_comparable (literal l) = []
+  calls_in_comparable (singular q) = calls_of q
+  calls_in_comparable (called c) = calls_from c
 
-    -- of the call, and of those in its arguments
-    pub EachFrom : Call → Type 0
-    EachFrom (call f args) = Fact (call f args) × EachInArguments args
+  -- those in its arguments, and the call itself
+  pub calls_from : Call → List Call
+  calls_from (call f args) = calls_in_arguments args ++ call f args ∷ []
 
-    pub EachInArguments : Arguments → Type 0
-    EachInArguments no_arguments = Unit {0}
-    EachInArguments (argument a more) = EachInArgument a × EachInArguments more
+  pub calls_in_arguments : Arguments → List Call
+  calls_in_arguments no_arguments = []
+  calls_in_arguments (argument a more) = calls_in_argument a ++ calls_in_arguments more
 
-    pub EachInArgument : Argument → Type 0
-    EachInArgument (literal_argument l) = Unit {0}
-    EachInArgument (query_argument q) = EachCall q
-    EachInArgument (call_argument c) = EachFrom c
-    EachInArgument (logical_argument e) = EachInOr e
+  pub calls_in_argument : Argument → List Call
+  calls_in_argument (literal_argument l) = []
+  calls_in_argument (query_argument q) = calls_of q
+  calls_in_argument (call_argument c) = calls_from c
+  calls_in_argument (logical_argument e) = calls_in_or e
+
+-- the names of some calls
+abbrev pub names_of : List Call → List (List ℕ)
+names_of calls = map name_of calls
+
+-- the fact holds of each of some calls
+abbrev pub OfEach : (Call → Type 0) → List Call → Type 0
+OfEach Fact calls = (c : Call) → IsIn c calls → Fact c
+
+-- the fact holds of each call that a query makes
+abbrev pub EachCall : (Call → Type 0) → Query → Type 0
+EachCall Fact q = OfEach Fact (calls_of q)

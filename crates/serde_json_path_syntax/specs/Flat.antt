@@ -1,12 +1,14 @@
 -- The trees of a vector of nodes, each of which names earlier ones.
-use Rattle.std.specs.Prelude.{ℕ, pos, ◌<◌, List, [], ◌∷◌, ◌++◌, length, map, slice_index_or, string_bytes, Option, Some, None}
-use Rattle.std.specs.List.{All}
+use Rattle.std.specs.Prelude.{ℕ, pos, ◌<◌, ◌≤◌, List, [], ◌∷◌, ◌++◌, length, map, flat_map, slice_index_or, string_bytes, Option, Some, None}
 use Rattle.serde_json.specs.Data.{Data, null as null_data, boolean, string}
 use Rattle.serde_json.specs.View.{view}
 use Rattle.serde_json_path_syntax.specs.Tree.{QueryKind, root, current, SegmentKind, child, descendant, Query, query, Segments, no_segments, segment, Segment, dot_name, dot_wildcard, long_hand, Selectors, no_selectors, selector, Selector, name, wildcard, index, slice, filter, LogicalOr, no_or, or, LogicalAnd, no_and, and, Basic, paren, not_paren, relation, exist, not_exist, test, not_test, Comparable, literal, singular, called, Call, call, Arguments, no_arguments, argument, Argument, literal_argument, query_argument, call_argument, logical_argument, Literal, text, truth, null}
 use Rattle.serde_json_path_syntax.specs.Tree as tree
 use Rattle.serde_json_path_syntax.specs.SliceView.{slice_view}
 use Rattle.serde_json_path_syntax.specs.Literals.{literal_view, number_amount, operator_view}
+use Rattle.serde_json_path_functions.specs.Functions.{Signature}
+use Rattle.serde_json_path_functions.specs.Terms.{signature_view}
+use Rattle.serde_json_path_syntax.specs.PartBounds.{parts_bound}
 use Rattle.serde_json_path_syntax.specs.Piece.{Piece, a_query, a_segment, a_selector, an_or, an_and, a_basic, a_comparable, a_call, an_argument}
 use Rattle.serde_json_path_syntax.specs.declared.node.Node.{Node}
 use Rattle.serde_json_path_syntax.specs.declared.node.Node.TheVariants as node
@@ -172,7 +174,7 @@ piece_of earlier (node.LogicalOr parts) = an_or (ors_in (pieces_named earlier (p
 piece_of earlier (node.LogicalAnd parts) = an_and (ands_in (pieces_named earlier (parts_in parts)))
 piece_of earlier (node.Basic b) = a_basic (basic_of earlier b)
 piece_of earlier (node.Comparable c) = a_comparable (comparable_of earlier c)
-piece_of earlier (node.Call k parts) = a_call (call (string_bytes k) (arguments_in (pieces_named earlier parts.items)))
+piece_of earlier (node.Call k s parts) = a_call (call (string_bytes k) (arguments_in (pieces_named earlier parts.items)))
 piece_of earlier (node.Argument a) = an_argument (argument_of earlier a)
 
 abbrev pub pieces_from : List Piece → List Node → List Piece
@@ -216,60 +218,68 @@ abbrev pub query_at : List Node → Option Part → Query
 query_at nodes None = query root no_segments
 query_at nodes (Some part) = query_in (piece_at nodes part.number)
 
--- ---- numbers
+-- ---- references
 
-abbrev pub numbers : List Part → List ℕ
-numbers parts = map (λ (part : Part). part.number) parts
+abbrev pub segment_parts : segments.Segment → List Part
+segment_parts (LongHand parts) = parts_in parts
+segment_parts (DotName k) = []
+segment_parts DotWildcard = []
 
-abbrev pub segment_numbers : segments.Segment → List ℕ
-segment_numbers (LongHand parts) = numbers (parts_in parts)
-segment_numbers (DotName k) = []
-segment_numbers DotWildcard = []
+abbrev pub selector_parts : selectors.Selector → List Part
+selector_parts (one.Filter part) = part ∷ []
+selector_parts (one.Name k) = []
+selector_parts one.Wildcard = []
+selector_parts (one.Index i) = []
+selector_parts (one.Slice s) = []
 
-abbrev pub selector_numbers : selectors.Selector → List ℕ
-selector_numbers (one.Filter part) = part.number ∷ []
-selector_numbers (one.Name k) = []
-selector_numbers one.Wildcard = []
-selector_numbers (one.Index i) = []
-selector_numbers (one.Slice s) = []
+abbrev pub basic_parts : basics.Basic → List Part
+basic_parts (Paren part) = part ∷ []
+basic_parts (NotParen part) = part ∷ []
+basic_parts (Relation left operator right) = left ∷ right ∷ []
+basic_parts (Exist part) = part ∷ []
+basic_parts (NotExist part) = part ∷ []
+basic_parts (Test part) = part ∷ []
+basic_parts (NotTest part) = part ∷ []
 
-abbrev pub basic_numbers : basics.Basic → List ℕ
-basic_numbers (Paren part) = part.number ∷ []
-basic_numbers (NotParen part) = part.number ∷ []
-basic_numbers (Relation left operator right) = left.number ∷ right.number ∷ []
-basic_numbers (Exist part) = part.number ∷ []
-basic_numbers (NotExist part) = part.number ∷ []
-basic_numbers (Test part) = part.number ∷ []
-basic_numbers (NotTest part) = part.number ∷ []
+abbrev pub comparable_parts : comparables.Comparable → List Part
+comparable_parts (side.Literal l) = []
+comparable_parts (side.Singular part) = part ∷ []
+comparable_parts (side.Called part) = part ∷ []
 
-abbrev pub comparable_numbers : comparables.Comparable → List ℕ
-comparable_numbers (side.Literal l) = []
-comparable_numbers (side.Singular part) = part.number ∷ []
-comparable_numbers (side.Called part) = part.number ∷ []
+abbrev pub argument_parts : given.Argument → List Part
+argument_parts (given_as.Value v) = []
+argument_parts (given_as.Number n) = []
+argument_parts (given_as.Query part) = part ∷ []
+argument_parts (given_as.Call part) = part ∷ []
+argument_parts (given_as.Logical part) = part ∷ []
 
-abbrev pub argument_numbers : given.Argument → List ℕ
-argument_numbers (given_as.Value v) = []
-argument_numbers (given_as.Number n) = []
-argument_numbers (given_as.Query part) = part.number ∷ []
-argument_numbers (given_as.Call part) = part.number ∷ []
-argument_numbers (given_as.Logical part) = part.number ∷ []
-
--- the numbers that a node names
-abbrev pub numbers_of : Node → List ℕ
-numbers_of (node.Query start parts) = numbers (parts_in parts)
-numbers_of (node.Segment kind seg) = segment_numbers seg
-numbers_of (node.Selector sel) = selector_numbers sel
-numbers_of (node.LogicalOr parts) = numbers (parts_in parts)
-numbers_of (node.LogicalAnd parts) = numbers (parts_in parts)
-numbers_of (node.Basic b) = basic_numbers b
-numbers_of (node.Comparable c) = comparable_numbers c
-numbers_of (node.Call k parts) = numbers parts.items
-numbers_of (node.Argument a) = argument_numbers a
+-- the parts that a node names
+abbrev pub parts_named : Node → List Part
+parts_named (node.Query start parts) = parts_in parts
+parts_named (node.Segment kind seg) = segment_parts seg
+parts_named (node.Selector sel) = selector_parts sel
+parts_named (node.LogicalOr parts) = parts_in parts
+parts_named (node.LogicalAnd parts) = parts_in parts
+parts_named (node.Basic b) = basic_parts b
+parts_named (node.Comparable c) = comparable_parts c
+parts_named (node.Call k s parts) = parts.items
+parts_named (node.Argument a) = argument_parts a
 
 -- the node names numbers below the bound alone
 abbrev pub NamesBelow : ℕ → Node → Type 0
-NamesBelow bound n = All (λ number. number < bound) (numbers_of n)
+NamesBelow bound n = parts_bound (parts_named n) ≤ bound
 
 -- each node names earlier ones
 abbrev pub IsGrown : List Node → Type 0
 IsGrown nodes = (i : ℕ) (d : Node) → i < length nodes → NamesBelow i (slice_index_or nodes i d)
+
+-- ---- calls
+
+-- the name and the signature that a node calls, if it is a call
+abbrev pub called_by : Node → List (List ℕ × Signature)
+called_by (node.Call k s parts) = (string_bytes k, signature_view s) ∷ []
+called_by _ = []
+
+-- those of the calls among nodes, in the order of the nodes
+abbrev pub calls_among : List Node → List (List ℕ × Signature)
+calls_among nodes = flat_map called_by nodes

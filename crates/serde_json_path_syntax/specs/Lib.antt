@@ -34,11 +34,3 @@ pub mod Flat
 pub mod PartBounds
 -- the segments of a tree as a walk takes them: each with its kind and the list of its selectors
 pub mod Stages
--- ---- the names that a query calls
-
--- the names that a query calls, in the order in which they stand in it, each as often as it is called
-pub mod CalledNames
--- names that are noted one after the other, each once, with their signatures in a set
-pub mod Noted
--- nodes that have nothing to do with a call
-pub mod WithoutCall

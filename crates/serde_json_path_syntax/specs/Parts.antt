@@ -2,9 +2,9 @@
 use Rattle.std.specs.Prelude.{◌≡◌, ◌<◌, ℕ, List, [], ◌∷◌, length}
 use Rattle.serde_json_path_syntax.specs.Tree.{Query, Segments, no_segments, segment, Selectors, no_selectors, selector, LogicalOr, no_or, or, LogicalAnd, no_and, and, Arguments, no_arguments, argument}
 use Rattle.serde_json_path_functions.specs.Functions.{Signature}
-use Rattle.serde_json_path_syntax.specs.Used.{used_view}
+use Rattle.serde_json_path_syntax.specs.Used.{each_once}
 use Rattle.serde_json_path_syntax.specs.Piece.{Piece, a_segment, a_selector, an_and, a_basic, an_argument}
-use Rattle.serde_json_path_syntax.specs.Flat.{piece_at, query_at}
+use Rattle.serde_json_path_syntax.specs.Flat.{calls_among, piece_at, query_at}
 use Rattle.serde_json_path_syntax.specs.declared.node.Node.{Node}
 use Rattle.serde_json_path_syntax.specs.declared.node.Part.{Part}
 use Rattle.serde_json_path_syntax.specs.declared.builder.SyntaxBuilder.{SyntaxBuilder}
@@ -12,7 +12,7 @@ use Rattle.serde_json_path_syntax.specs.declared.checked.Checked.{Checked}
 
 -- the part is good for the builder, and stands for that tree
 abbrev pub IsPart : SyntaxBuilder → Part → Piece → Type 0
-IsPart builder part piece = (part.number < length builder.nodes.items) × (piece_at builder.nodes.items part.number ≡ piece)
+IsPart builder part piece = (part.number < length builder.arena.nodes.items) × (piece_at builder.arena.nodes.items part.number ≡ piece)
 
 -- no part is good for the builder
 abbrev pub HasNoParts : SyntaxBuilder → Type 0
@@ -70,21 +70,30 @@ AreAndPartsOf builder (part ∷ parts) e = ArePartsFor builder (part ∷ parts) 
 abbrev pub AreArgumentsOf : SyntaxBuilder → List Part → Arguments → Type 0
 AreArgumentsOf builder parts args = ArePartsFor builder parts (argument_pieces args)
 
+-- the names and the signatures of the calls that a builder has made, in that order
+abbrev pub calls_in : SyntaxBuilder → List (List ℕ × Signature)
+calls_in builder = calls_among builder.arena.nodes.items
+
 -- each part stays good, with its tree
-abbrev pub KeepsParts : SyntaxBuilder → SyntaxBuilder → Type 0
-KeepsParts old new = (part : Part) (piece : Piece) → IsPart old part piece → IsPart new part piece
+abbrev pub KeepsTrees : SyntaxBuilder → SyntaxBuilder → Type 0
+KeepsTrees old new = (part : Part) (piece : Piece) → IsPart old part piece → IsPart new part piece
+
+-- each part stays good, with its tree, and there is no further call
+pub record KeepsParts (old new : SyntaxBuilder) : Type 0 where
+  pub trees : KeepsTrees old new
+  pub calls : calls_in new ≡ calls_in old
 
 -- the number of a part, and the nodes of a finished query
 abbrev pub number_of : Part → ℕ
 number_of part = part.number
 
 abbrev pub nodes_in : Checked → List Node
-nodes_in checked = checked.nodes.items
+nodes_in checked = checked.arena.nodes.items
 
--- the names that a finished query calls, each with the signature under which it is well-typed
+-- the names that a finished query calls, each once, with the signature under which it is well-typed
 abbrev pub signatures_of : Checked → List (List ℕ × Signature)
-signatures_of checked = used_view checked.used.items
+signatures_of checked = each_once (calls_among (nodes_in checked))
 
 -- the tree of a finished query
 abbrev pub tree_of : Checked → Query
-tree_of checked = query_at checked.nodes.items checked.query
+tree_of checked = query_at (nodes_in checked) checked.query

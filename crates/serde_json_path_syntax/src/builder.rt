@@ -1,7 +1,6 @@
 //! The builder of syntax trees.
 
-ghost use Rattle.serde_json_path_syntax.specs.Flat.{IsGrown};
-
+use crate::arena::Arena;
 use crate::checked::Checked;
 use crate::literal::Literal;
 use crate::node::{
@@ -9,11 +8,10 @@ use crate::node::{
 };
 use crate::operator::ComparisonOperator;
 use crate::parts::Parts;
-use crate::signatures::{Form, calls_nothing, note_calls};
 use crate::singular::is_singular;
 use crate::slice::Slice;
 use serde_json::Value;
-use serde_json_path_functions::{Functions, Signature};
+use serde_json_path_functions::Signature;
 use std::alloc::{AllocError, Global};
 
 /// Builds a syntax tree from its leaves up: each call makes a part out of finished parts.
@@ -22,44 +20,43 @@ use std::alloc::{AllocError, Global};
 /// A call fails only if memory is refused.
 #[derive(Drop)]
 pub struct SyntaxBuilder {
-    nodes: Vec<Node>,
-    ghost grown: { IsGrown nodes.items },
+    arena: Arena,
 }
 
 impl SyntaxBuilder {
-    ghost use Rattle.std.specs.Prelude.{◌≡◌, ◌↔◌, IfOk, IsTrue, string_bytes, length};
+    ghost use Rattle.std.specs.Prelude.{◌≡◌, ◌↔◌, ◌++◌, ◌∷◌, [], if◌then◌else◌, IfOk, OnErr, OnOk, IsTrue, is_ok, string_bytes, length};
     ghost use Rattle.serde_json_path_syntax.specs.Tree as tree;
     ghost use Rattle.serde_json_path_syntax.specs.Literals.{literal_view, operator_view};
     ghost use Rattle.serde_json_path_syntax.specs.Piece.{a_query, a_segment, a_selector, an_or, an_and, a_basic, a_comparable, a_call, an_argument};
     ghost use Rattle.serde_json_path_syntax.specs.WellFormed.{IsOptionalInteger};
-    ghost use Rattle.serde_json_path_syntax.specs.Flat.{kind_view, segment_kind_view, NamesBelow, parts_in, piece_of, pieces};
+    ghost use Rattle.serde_json_path_syntax.specs.Flat.{called_by, kind_view, segment_kind_view, NamesBelow, parts_in, piece_of, pieces};
     ghost use Rattle.serde_json_path_syntax.specs.SliceView.{slice_view};
-    ghost use Rattle.serde_json_path_syntax.specs.Parts.{HasNoParts, IsPart, ArePartsOf, AreSelectorsOf, AreOrPartsOf, AreAndPartsOf, AreArgumentsOf, KeepsParts, tree_of, signatures_of};
-    ghost use Rattle.serde_json_path_syntax.specs.Typing.{IsTyped};
-    ghost use Rattle.serde_json_path_syntax.specs.Used.{AreCalled, MayFinish, signature_in, used_view};
-    ghost use Rattle.serde_json_path_functions.specs.Functions.{Fits};
+    ghost use Rattle.serde_json_path_syntax.specs.Parts.{HasNoParts, IsPart, ArePartsOf, AreSelectorsOf, AreOrPartsOf, AreAndPartsOf, AreArgumentsOf, KeepsParts, KeepsTrees, calls_in, tree_of, signatures_of};
+    ghost use Rattle.serde_json_path_syntax.specs.Used.{MayFinish, each_once};
+    ghost use Rattle.serde_json_path_functions.specs.Terms.{signature_view};
 
     /// A builder with no parts. Takes no memory.
     pub fn new(alloc: Global) -> SyntaxBuilder
         ensures empty { HasNoParts result }
+        ensures silent { calls_in result ≡ [] }
     {
         SyntaxBuilder {
-            nodes: Vec::new(alloc),
+            arena: Arena::new(alloc),
         }
     }
 
     /// Appends a node whose children already exist.
-    // Inlined, so that a caller writes the node straight into the vector.
     #[inline(always)]
     fn push(&mut self, node: Node) -> Result<Part, AllocError>
-        requires { NamesBelow (length self.old.nodes.items) node }
+        requires { NamesBelow (length self.old.arena.nodes.items) node }
         ensures made { IfOk result (λ part.
-            IsPart self.new part (piece_of (pieces self.old.nodes.items) node)) }
-        ensures keeps { KeepsParts self.old self.new }
+            IsPart self.new part (piece_of (pieces self.old.arena.nodes.items) node)) }
+        ensures keeps { called_by node ≡ [] → KeepsParts self.old self.new }
+        ensures trees { KeepsTrees self.old self.new }
+        ensures calls { calls_in self.new
+            ≡ (if is_ok result then calls_in self.old ++ called_by node else calls_in self.old) }
     {
-        let number = self.nodes.len();
-        self.nodes.push(node)?;
-        Ok(Part { number })
+        self.arena.push(node)
     }
 
     /// The segment `.name`.
@@ -257,7 +254,7 @@ impl SyntaxBuilder {
         ensures { (q : tree.Query) → IsPart self.now query (a_query q) → IsTrue result
             ↔ tree.IsSingular q }
     {
-        is_singular(self.nodes.as_slice(), query)
+        is_singular(&self.arena, query)
     }
 
     /// A call as a side of a comparison, as `length(@.a)` (RFC 9535, section 2.3.5.1).
@@ -290,15 +287,29 @@ impl SyntaxBuilder {
         self.push(Node::Basic(Basic::NotTest(call)))
     }
 
-    /// A call of a function by name, with its arguments in order (RFC 9535, section 2.4).
-    pub fn call(&mut self, name: String, arguments: Vec<Part>) -> Result<Part, AllocError>
+    /// A call of a function by name, with the signature that the name has, and with its arguments in order (RFC 9535,
+    /// section 2.4).
+    pub fn call(
+        &mut self,
+        name: String,
+        signature: Signature,
+        arguments: Vec<Part>,
+    ) -> Result<Part, AllocError>
         requires { (args : tree.Arguments) × AreArgumentsOf self.old arguments.items args }
         ensures made { IfOk result (λ part.
             (args : tree.Arguments) → AreArgumentsOf self.old arguments.items args
             → IsPart self.new part (a_call (tree.call (string_bytes name) args))) }
-        ensures keeps { KeepsParts self.old self.new }
+        ensures keeps { KeepsTrees self.old self.new }
+        // The call is the last one of the builder, with that signature.
+        ensures calls { OnOk result (calls_in self.new
+            ≡ calls_in self.old ++ (string_bytes name, signature_view signature) ∷ []) }
+        ensures unchanged { OnErr result (calls_in self.new ≡ calls_in self.old) }
     {
-        self.push(Node::Call { name, arguments })
+        self.push(Node::Call {
+            name,
+            signature,
+            arguments,
+        })
     }
 
     /// A literal as an argument (RFC 9535, section 2.4).
@@ -358,42 +369,16 @@ impl SyntaxBuilder {
         self.push(Node::Query { kind, segments })
     }
 
-    /// The functions that a query calls, each name once, with its signature in this set (RFC 9535, section 2.4.3).
-    /// [`finish`](SyntaxBuilder::finish) asks for them.
-    ///
-    /// Fails only if memory is refused.
-    pub fn signatures<F: Functions>(
-        &self,
-        alloc: Global,
-        query: Part,
-        functions: &F,
-    ) -> Result<Vec<(String, Signature)>, AllocError>
-        requires { (q : tree.Query) × IsPart self.now query (a_query q)
-            × IsTyped (F.set functions.now).signature q }
-        ensures typed { IfOk result (λ used.
-            (q : tree.Query) → IsPart self.now query (a_query q) → IsTyped (signature_in (used_view used.items)) q) }
-        ensures called { IfOk result (λ used.
-            (q : tree.Query) → IsPart self.now query (a_query q) → AreCalled (used_view used.items) q) }
-        ensures fits { IfOk result (λ used. Fits (F.set functions.now) (used_view used.items)) }
-    {
-        let mut used = Vec::new(alloc);
-        let nodes = self.nodes.as_slice();
-        if calls_nothing(nodes) {
-            return Ok(used);
-        }
-        note_calls(alloc, nodes, Form::Query, query, functions, &mut used)?;
-        Ok(used)
-    }
-
     /// The finished tree of a part. Takes no memory.
     ///
-    /// The query starts at the root, and nests at most 128 filters, parentheses and calls. `used` has the functions that
-    /// it calls, each name once, with the signature under which the query is well-typed (RFC 9535, section 2.4.3).
-    pub fn finish(self, part: Part, used: Vec<(String, Signature)>) -> Checked
-        requires { (q : tree.Query) × IsPart self part (a_query q) × MayFinish (used_view used.items) q }
+    /// The query starts at the root, nests at most 128 filters, parentheses and calls, and makes each call that the
+    /// builder has made. A name always has the same signature, and the query is well-typed under them (RFC 9535, section
+    /// 2.4.3).
+    pub fn finish(self, part: Part) -> Checked
+        requires { (q : tree.Query) × IsPart self part (a_query q) × MayFinish (calls_in self) q }
         ensures tree { (q : tree.Query) → IsPart self part (a_query q) → tree_of result ≡ q }
-        ensures used { signatures_of result ≡ used_view used.items }
+        ensures used { signatures_of result ≡ each_once (calls_in self) }
     {
-        Checked::of(self.nodes, part, used)
+        Checked::of(self.arena, part)
     }
 }

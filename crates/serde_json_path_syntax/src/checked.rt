@@ -1,19 +1,19 @@
 //! Finished syntax trees.
 
-ghost use Rattle.std.specs.Prelude.{◌<◌, ◌≤◌, ◌≡◌, IfSome, ◌+◌, ◌^◌, [], ◌∷◌, IsSome, length, option_map, slice_get};
+ghost use Rattle.std.specs.Prelude.{◌<◌, ◌≤◌, ◌≡◌, ◌↔◌, IfSome, ◌+◌, ◌^◌, [], ◌∷◌, IsSome, IsTrue, length, option_map, slice_get};
 ghost use Rattle.std.specs.Option.{ForSome};
 ghost use Rattle.serde_json_path_syntax.specs.Tree.{kind_of, root};
 ghost use Rattle.serde_json_path_syntax.specs.Typing.{IsTyped};
 ghost use Rattle.serde_json_path_syntax.specs.Depth.{depth};
-ghost use Rattle.serde_json_path_syntax.specs.Used.{deepest, signature_in, used_view};
-ghost use Rattle.serde_json_path_syntax.specs.Flat.{IsGrown, query_at};
+ghost use Rattle.serde_json_path_syntax.specs.Used.{AreCalled, AreDeclared, deepest, each_once, signature_in};
+ghost use Rattle.serde_json_path_syntax.specs.Flat.{called_by, calls_among, query_at};
+ghost use Rattle.serde_json_path_functions.specs.Functions.{Fits};
 ghost use Rattle.serde_json_path_syntax.specs.Stages.{selector_view, stage_at};
 
+use crate::arena::Arena;
 use crate::node::{Node, Part, QueryKind, Segment, SegmentKind, Selector};
-use crate::reading::{and_parts, arguments, called_name, node_at, or_parts, query_segments};
 use crate::selector_ref::SelectorRef;
-use crate::signatures::declares_each;
-use serde_json_path_functions::{Functions, Signature};
+use serde_json_path_functions::{FunctionArgType, Functions};
 use std::alloc::Global;
 
 /// A well-typed query from the document's root.
@@ -21,24 +21,26 @@ use std::alloc::Global;
 /// Contracts see it as its syntax tree and the signatures of the functions that it calls.
 #[derive(Drop)]
 pub struct Checked {
-    pub(crate) nodes: Vec<Node>,
-    pub(crate) query: Option<Part>,
-    pub(crate) used: Vec<(String, Signature)>,
-    ghost grown: { IsGrown nodes.items },
-    ghost within: { ForSome query (λ part. part.number < length nodes.items) },
-    pub ghost rooted: { kind_of (query_at nodes.items query) ≡ root },
-    pub ghost typed: { ∥ IsTyped (signature_in (used_view used.items)) (query_at nodes.items query) ∥₁ },
-    ghost shallow: { depth (query_at nodes.items query) ≤ deepest },
+    arena: Arena,
+    query: Option<Part>,
+    ghost within: { ForSome query (λ part. part.number < length arena.nodes.items) },
+    pub ghost rooted: { kind_of (query_at arena.nodes.items query) ≡ root },
+    pub ghost typed: { ∥ IsTyped (signature_in (each_once (calls_among arena.nodes.items))) (query_at arena.nodes.items query) ∥₁ },
+    ghost shallow: { depth (query_at arena.nodes.items query) ≤ deepest },
+    pub ghost called: { ∥ AreCalled (each_once (calls_among arena.nodes.items)) (query_at arena.nodes.items query) ∥₁ },
+    ghost agreed: { AreDeclared (signature_in (calls_among arena.nodes.items)) (calls_among arena.nodes.items) },
 }
 
 impl Checked {
-    ghost use Rattle.std.specs.List.{All};
-    ghost use Rattle.std.specs.Prelude.{◌↔◌, IsTrue};
+    ghost use Rattle.std.specs.Prelude.{ℕ, List, map, Some};
+    ghost use Rattle.serde_json_path_syntax.specs.Lists.{IsIn};
     ghost use Rattle.serde_json_path_syntax.specs.Tree.{query, no_segments, segments_of};
-    ghost use Rattle.serde_json_path_functions.specs.Functions.{Fits};
+    ghost use Rattle.serde_json_path_functions.specs.Functions.{FunctionSet, Signature};
+    ghost use Rattle.serde_json_path_functions.specs.Terms.{kind_view};
     ghost use Rattle.serde_json_path_syntax.specs.Calls.{arguments_of, name_of};
+    ghost use Rattle.serde_json_path_syntax.specs.Typing.{IsTypedCall};
     ghost use Rattle.serde_json_path_syntax.specs.Used.{MayFinish};
-    ghost use Rattle.serde_json_path_syntax.specs.Flat.{or_at, ors_in, and_at, ands_in, call_at, arguments_in, part_query, kind_view, segment_kind_view, query_in, selector_in, selectors_in, piece_at, piece_of, pieces, pieces_named, segments_at, NamesBelow};
+    ghost use Rattle.serde_json_path_syntax.specs.Flat.{or_at, ors_in, and_at, ands_in, call_at, arguments_in, part_query, kind_view as query_kind_view, segment_kind_view, selector_in, selectors_in, piece_at, piece_of, pieces, pieces_named, segments_at, NamesBelow};
     ghost use Rattle.serde_json_path_syntax.specs.Stages.{selectors_list};
     ghost use Rattle.serde_json_path_syntax.specs.Parts.{nodes_in, number_of, tree_of, signatures_of};
     ghost use Rattle.serde_json_path_syntax.specs.PartBounds.{parts_bound, selector_bound};
@@ -49,24 +51,21 @@ impl Checked {
         ensures used { signatures_of result ≡ [] }
     {
         Checked {
-            nodes: Vec::new(alloc),
+            arena: Arena::new(alloc),
             query: None,
-            used: Vec::new(alloc),
         }
     }
 
     /// The tree of a part.
-    pub(crate) fn of(nodes: Vec<Node>, part: Part, used: Vec<(String, Signature)>) -> Checked
-        requires grown { IsGrown nodes.items }
-        requires within { part.number < length nodes.items }
-        requires complete { MayFinish (used_view used.items) (query_in (piece_at nodes.items part.number)) }
-        ensures tree { tree_of result ≡ query_in (piece_at nodes.items part.number) }
-        ensures used { signatures_of result ≡ used_view used.items }
+    pub(crate) fn of(arena: Arena, part: Part) -> Checked
+        requires within { part.number < length arena.nodes.items }
+        requires complete { MayFinish (calls_among arena.nodes.items) (part_query arena.nodes.items part) }
+        ensures tree { tree_of result ≡ part_query arena.nodes.items part }
+        ensures used { signatures_of result ≡ each_once (calls_among arena.nodes.items) }
     {
         Checked {
-            nodes,
+            arena,
             query: Some(part),
-            used,
         }
     }
 
@@ -75,7 +74,12 @@ impl Checked {
     pub fn fits<F: Functions>(&self, functions: &F) -> bool
         ensures { IsTrue result ↔ Fits (F.set functions.now) (signatures_of self.now) }
     {
-        declares_each(functions, self.used.as_slice())
+        for node in self.arena.as_slice() {
+            if !declares(functions, node) {
+                return false;
+            }
+        }
+        true
     }
 
     /// The node of a part.
@@ -84,13 +88,15 @@ impl Checked {
         ensures piece { piece_at (nodes_in self.now) (number_of part)
             ≡ piece_of (pieces (nodes_in self.now)) result.now }
         ensures below { NamesBelow (number_of part) result.now }
+        ensures called { (u : List ℕ × Signature) → IsIn u (called_by result.now)
+            → IsIn u (calls_among (nodes_in self.now)) }
     {
-        node_at(self.nodes.as_slice(), part)
+        self.arena.node(part)
     }
 
     /// Where the query begins.
     pub fn kind(&self) -> QueryKind
-        ensures { kind_view result ≡ kind_of (tree_of self.now) }
+        ensures { query_kind_view result ≡ kind_of (tree_of self.now) }
     {
         match self.query {
             None => QueryKind::Root,
@@ -112,7 +118,7 @@ impl Checked {
     /// Where a query begins.
     pub fn part_kind(&self, query: Part) -> QueryKind
         requires { number_of query < length (nodes_in self.now) }
-        ensures { kind_view result ≡ kind_of (part_query (nodes_in self.now) query) }
+        ensures { query_kind_view result ≡ kind_of (part_query (nodes_in self.now) query) }
     {
         match self.node(query) {
             Node::Query { kind, .. } => *kind,
@@ -127,7 +133,7 @@ impl Checked {
             ≡ segments_of (part_query (nodes_in self.now) query) }
         ensures below { parts_bound result.now ≤ number_of query }
     {
-        query_segments(self.nodes.as_slice(), query)
+        self.arena.segments(query)
     }
 
     /// The operands of `||` in a logical expression.
@@ -137,7 +143,10 @@ impl Checked {
             ≡ ors_in (pieces_named (pieces (nodes_in self.now)) result.now) }
         ensures below { parts_bound result.now ≤ number_of expression }
     {
-        or_parts(self.nodes.as_slice(), expression)
+        match self.node(expression) {
+            Node::LogicalOr(parts) => parts.as_slice(),
+            _ => &[],
+        }
     }
 
     /// The operands of `&&` in an operand of `||`.
@@ -147,7 +156,10 @@ impl Checked {
             ≡ ands_in (pieces_named (pieces (nodes_in self.now)) result.now) }
         ensures below { parts_bound result.now ≤ number_of expression }
     {
-        and_parts(self.nodes.as_slice(), expression)
+        match self.node(expression) {
+            Node::LogicalAnd(parts) => parts.as_slice(),
+            _ => &[],
+        }
     }
 
     /// The name of the function that a call calls.
@@ -155,7 +167,24 @@ impl Checked {
         requires { number_of call < length (nodes_in self.now) }
         ensures { result.now ≡ name_of (call_at (nodes_in self.now) call) }
     {
-        called_name(self.nodes.as_slice(), call)
+        match self.node(call) {
+            Node::Call { name, .. } => name.as_str(),
+            _ => "",
+        }
+    }
+
+    /// The types of the parameters of the function that a call calls.
+    pub fn parameters(&self, call: Part) -> &[FunctionArgType]
+        requires { number_of call < length (nodes_in self.now) }
+        ensures { (F : FunctionSet) (s : Signature) → Fits F (signatures_of self.now)
+            → IsTypedCall F.signature (call_at (nodes_in self.now) call)
+            → F.signature (name_of (call_at (nodes_in self.now) call)) ≡ Some s
+            → map kind_view result.now ≡ s.params }
+    {
+        match self.node(call) {
+            Node::Call { signature, .. } => signature.params(),
+            _ => &[],
+        }
     }
 
     /// The arguments of a call, in order.
@@ -165,7 +194,10 @@ impl Checked {
             ≡ arguments_in (pieces_named (pieces (nodes_in self.now)) result.now) }
         ensures below { parts_bound result.now ≤ number_of call }
     {
-        arguments(self.nodes.as_slice(), call)
+        match self.node(call) {
+            Node::Call { arguments, .. } => arguments.as_slice(),
+            _ => &[],
+        }
     }
 
     /// How far a segment goes down.
@@ -181,9 +213,9 @@ impl Checked {
 
     /// A selector in brackets.
     fn selector(&self, part: Part) -> SelectorRef<'_>
-        requires { part.number < length self.now.nodes.items }
-        ensures selector_ref { selector_view self.now.nodes.items result
-            ≡ selector_in (piece_at self.now.nodes.items part.number) }
+        requires { part.number < length (nodes_in self.now) }
+        ensures selector_ref { selector_view (nodes_in self.now) result
+            ≡ selector_in (piece_at (nodes_in self.now) part.number) }
         ensures below { selector_bound result ≤ part.number }
     {
         match self.node(part) {
@@ -200,12 +232,12 @@ impl Checked {
 
     /// The selector at that index, from 0, among those in brackets.
     fn bracketed(&self, selectors: &[Part], number: usize) -> Option<SelectorRef<'_>>
-        requires { parts_bound selectors.now ≤ length self.now.nodes.items }
+        requires { parts_bound selectors.now ≤ length (nodes_in self.now) }
         ensures more { IsSome result → number + 1 < 2 ^ 64 }
         ensures below { IfSome result (λ selector_ref.
             selector_bound selector_ref ≤ parts_bound selectors.now) }
-        ensures selector_ref { option_map (selector_view self.now.nodes.items) result
-            ≡ slice_get (selectors_list (selectors_in (pieces_named (pieces self.now.nodes.items) selectors.now))) number }
+        ensures selector_ref { option_map (selector_view (nodes_in self.now)) result
+            ≡ slice_get (selectors_list (selectors_in (pieces_named (pieces (nodes_in self.now)) selectors.now))) number }
     {
         match selectors.get(number) {
             Some(part) => Some(self.selector(*part)),
@@ -230,6 +262,30 @@ impl Checked {
             },
             _ => None,
         }
+    }
+}
+
+/// Whether the set declares the name that a node calls, with the signature that the node keeps.
+fn declares<F: Functions>(functions: &F, node: &Node) -> bool
+    ensures { IsTrue result ↔ Fits (F.set functions.now) (called_by node.now) }
+{
+    match node {
+        Node::Call {
+            name,
+            signature,
+            ..
+        } => match functions.signature(name.as_str()) {
+            Some(declared) => declared.is_same(signature),
+            None => false,
+        },
+        Node::Query { .. }
+        | Node::Segment { .. }
+        | Node::Selector(_)
+        | Node::LogicalOr(_)
+        | Node::LogicalAnd(_)
+        | Node::Basic(_)
+        | Node::Comparable(_)
+        | Node::Argument(_) => true,
     }
 }
 

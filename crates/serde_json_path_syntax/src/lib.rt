@@ -14,15 +14,14 @@
 //! well-typed, `Depth` how deep they nest, `Calls` what they call, `Text` how they print.
 #![tactic(auto)]
 
+mod arena;
 mod builder;
 mod checked;
 mod literal;
 mod node;
 mod operator;
 mod parts;
-mod reading;
 mod selector_ref;
-mod signatures;
 mod singular;
 mod slice;
 

@@ -5,6 +5,7 @@ use crate::operator::ComparisonOperator;
 use crate::parts::Parts;
 use crate::slice::Slice;
 use serde_json::Value;
+use serde_json_path_functions::Signature;
 
 /// Where a query starts (RFC 9535, sections 2.2.1 and 2.3.5.1).
 #[derive(Clone, Copy, Debug, PartialEq, Eq)]
@@ -109,9 +110,15 @@ pub enum Argument {
 #[derive(Drop)]
 pub enum Node {
     /// A query and its segments.
-    Query { kind: QueryKind, segments: Parts },
+    Query {
+        kind: QueryKind,
+        segments: Parts,
+    },
     /// A segment.
-    Segment { kind: SegmentKind, segment: Segment },
+    Segment {
+        kind: SegmentKind,
+        segment: Segment,
+    },
     /// A selector.
     Selector(Selector),
     /// Operands of `||`.
@@ -122,8 +129,12 @@ pub enum Node {
     Basic(Basic),
     /// A side of a comparison.
     Comparable(Comparable),
-    /// A call of a function.
-    Call { name: String, arguments: Vec<Part> },
+    /// A call of a function, with the signature that the name had when the call was made.
+    Call {
+        name: String,
+        signature: Signature,
+        arguments: Vec<Part>,
+    },
     /// An argument of a call.
     Argument(Argument),
 }

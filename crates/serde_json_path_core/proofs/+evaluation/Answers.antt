@@ -1,5 +1,6 @@
-use Rattle.std.proofs.Common.{◌≡◌, ℕ, ◌+◌, ◌<◌, ◌-◌, length, map, take, [], drop, option_map, refl, sym, subst, ap, ◌∙◌, arith, ◌∷◌, ◌++◌, ◌||◌, ◌&&◌, get_or, ◌⊎◌, inl, inr, rules, filter as keep, append_assoc}
+use Rattle.std.proofs.Common.{◌≡◌, ℕ, ◌+◌, ◌-◌, length, map, take, [], drop, option_map, refl, sym, subst, ap, ◌∙◌, arith, ◌∷◌, ◌++◌, ◌⊎◌, true, false, inl, inr, rules, filter as keep, append_assoc}
 use Rattle.std.proofs.lemmas.List.{map-append}
+use Rattle.std.proofs.lemmas.Grind.{common_steps}
 use Rattle.std.proofs.Math.Logic.{∥∥₁_map}
 use Rattle.std.specs.Slice.Iter.{iter_rest}
 use Rattle.serde_json.specs.Data.{Data}
@@ -8,35 +9,74 @@ use Rattle.serde_json_path_nodes.specs.Location.{Step, Located}
 use Rattle.serde_json_path_nodes.specs.Views.{node_value}
 use Rattle.serde_json_path_syntax.specs.Tree.{child, descendant}
 use Rattle.serde_json_path_core.specs.Cursors.{cursor_left}
-use Rattle.serde_json_path_syntax.specs.Flat.{segment_kind_view, segment_in, segments_at, piece_at, piece_in, and_in, basic_in, or_at, ors_in, ands_in, call_at, part_query, pieces, pieces_named}
-use Rattle.serde_json_path_functions.specs.Terms.{term_view}
+use Rattle.serde_json_path_syntax.specs.Flat.{segment_kind_view, segment_in, segments_at, piece_at, basic_at, comparable_at, or_at, call_at, part_query, pieces}
+use Rattle.serde_json_path_syntax.specs.Literals.{operator_view}
+use Rattle.serde_json_path_functions.specs.Terms.{term_view, kind_view}
 use Rattle.serde_json_path_core.specs.Clear.{StandsIn}
-use Rattle.serde_json_path_core.specs.Sound.{AreSoundSegments, IsSoundSegment, IsSoundSelector, IsSoundOr, IsSoundAnd, IsSoundBasic}
+use Rattle.serde_json_path_core.specs.Evaluates.{Advances, ComesTo, IsDone, Sound}
+use Rattle.serde_json_path_syntax.specs.Typing.{IsTypedOr, IsTypedAnd, AreTypedArguments}
+use Rattle.serde_json_path_syntax.specs.Calls.{calls_in_or, calls_in_and, name_of, arguments_of}
 use Rattle.serde_json_path_core.specs.Scopes.{Clear, nodes_of, query_of, set_of, top_of}
 use Rattle.serde_json_path_core.specs.Frames.{frame_view, frames_view, task_view}
-use Rattle.serde_json_path_core.specs.Rest.{rest_of, IsStack, IsStackIn, IsInside, AllStandIn}
-use Rattle.serde_json_path_core.specs.Advances.{Advances, IsDone, ComesTo}
+use Rattle.serde_json_path_core.specs.Rest.{rest_of, IsStack, IsStackIn, IsInside}
 use Rattle.serde_json_path_syntax.specs.Stages.{selector_view, stage_at, stages_at}
 use Rattle.serde_json_path_core.specs.Views.{child_view}
 use Rattle.serde_json_path_syntax.specs.Lists.{IsIn}
 use Rattle.serde_json_path_core.specs.Computed as computed
-use Rattle.serde_json_path_syntax.specs.PartBounds.{parts_bound}
-use Rattle.serde_json_path_core.proofs.Answered.{given-all, answered}
+use Rattle.serde_json_path_core.proofs.Answered.{given-all, answered, answered_kind, own_pattern}
 use Rattle.serde_json_path_syntax.proofs.BoundedParts.{within_get, within_bound}
-use Rattle.serde_json_path_core.proofs.OperandLists.{or-part, and-part, keep-yes, keep-no, first-found}
+use Rattle.serde_json_path_core.proofs.OperandLists.{or-step, and-step, keep-yes, keep-no, first-found}
 use Rattle.serde_json_path_core.proofs.FrameSteps.{ends-trans, passes-start, passes-over, comes-onward, comes-down, done, chooses-none, chooses-some}
 use Rattle.serde_json_path_core.proofs.Started.{begun-results}
 use Rattle.serde_json_path_core.proofs.InDocument.{left_stands, stack-inside, ends-stand, begun-inside}
-use Rattle.serde_json_path_core.proofs.SoundParts.{sound-segments, sound-segment, sound-selector, sound-and, sound-basic}
+use Rattle.serde_json_path_core.proofs.SoundParts.{argument-calls, next-calls, side-calls, sound-segments, sound-segment, sound-selector, sound-and, sound-basic, typed-arguments, parameters-known}
 use Rattle.serde_json_path_syntax.proofs.Bounds.{below_length, past_length}
 use Rattle.serde_json_path_core.proofs.Chains.{IsTurn, turn-dropped, turn-moved}
 use Rattle.serde_json_path_core.proofs.KnownCases.{found-none, found-some}
 use Rattle.serde_json_path_core.proofs.LastFrames.{ends_with, sees_last, sees_last_two}
 use Rattle.serde_json_path_core.proofs.LastFrameDone.{rest-ends, stack-dropped, work-ends}
 use Rattle.serde_json_path_core.proofs.StageLists.{drop-some, drop-none, get-within, missing, stages-from, stages-past}
+use Rattle.serde_json_path_syntax.specs.Parts.{signatures_of}
+use Rattle.serde_json_path_core.specs.Meaning.{params_of}
 use Rattle.serde_json_path_core.proofs.+evaluation.Goals as goal
 
 -- ---- frames
+
+dropped : (g : _) (t : ℕ) (c : goal.evaluation::stack::find_next-After-drop_last g t)
+    → IsTurn (Clear c.args.scope.now) (set_of c.args.scope.now) (top_of c.args.scope.now) (stages_at (nodes_of c.args.scope.now) c.args.segments.now) (frames_view c.loop-last.frames.items) (frames_view c.drop_last.new.frames.items)
+dropped g t c =
+    let scope = c.args.scope.now in
+    let items = c.loop-last.frames.items in
+    let front = take (length items - 1) items in
+    let item = c.in-Some.ensures.item in
+    let last = c.in-Some.last.now in
+    let look = c.in-Some-get.ensures.lookup in
+    let segment = c.in-Some-get.segment.now in
+    let ends = ends_with c.deref.result.now items last c.deref.ensures.value item.3.0 item.1 in
+    turn-dropped (Clear scope) (set_of scope) (top_of scope) (stages_at (nodes_of scope) c.args.segments.now) (frames_view items) (frames_view c.drop_last.new.frames.items) (frames_view front) (frame_view last)
+    (stage_at (nodes_of scope) segment) _ (sees_last frame_view items front last ends.1) (ap frames_view c.drop_last.ensures)
+    (stages-from (nodes_of scope) c.args.segments.now last.segment segment (below_length _ _ look.0) look.1)
+    (found-none _ _ c.in_ok-peek-in-Some-get.field-0 c.in-None-2.is c.in_ok-peek-in-Some-get.ensures.peeked)
+
+moved : (g : _) (t : ℕ) (c : goal.evaluation::stack::find_next-In_ok-push_over-in-Some-2 g t)
+    → IsTurn (Clear c.args.scope.now) (set_of c.args.scope.now) (top_of c.args.scope.now) (stages_at (nodes_of c.args.scope.now) c.args.segments.now) (frames_view c.loop-last.frames.items) (frames_view c.push_over.new.frames.items)
+moved g t c =
+    let scope = c.args.scope.now in
+    let items = c.loop-last.frames.items in
+    let front = take (length items - 1) items in
+    let item = c.in-Some.ensures.item in
+    let last = c.in-Some.last.now in
+    let look = c.in-Some-get.ensures.lookup in
+    let segment = c.in-Some-get.segment.now in
+    let peeked = c.in-Some-2.peeked in
+    let task = task_view peeked.task in
+    let next = c.of-next.result in
+    let ends = ends_with c.deref.result.now items last c.deref.ensures.value item.3.0 item.1 in
+    turn-moved (Clear scope) (set_of scope) (top_of scope) (stages_at (nodes_of scope) c.args.segments.now) (frames_view items) (frames_view c.push_over.new.frames.items) (frames_view front) (frame_view last)
+    (frame_view peeked.frame) (frame_view next) (stage_at (nodes_of scope) segment) _
+    task.0 task.1 (sees_last frame_view items front last ends.1) (sees_last_two frame_view c.push_over.new.frames.items front peeked.frame next c.in_ok-push_over-in-Some-2.ensures.ok)
+    (stages-from (nodes_of scope) c.args.segments.now last.segment segment (below_length _ _ look.0) look.1)
+    (found-some _ _ c.in_ok-peek-in-Some-get.field-0 peeked c.in-Some-2.is c.in_ok-peek-in-Some-get.ensures.peeked) c.of-next.ensures
 
 pub evaluation::frame::Frame::advance-next_admitted-requires : goal.evaluation::frame::Frame::advance-next_admitted-requires
 evaluation::frame::Frame::advance-next_admitted-requires g t c =
@@ -44,15 +84,11 @@ evaluation::frame::Frame::advance-next_admitted-requires g t c =
     let stage = stage_at (nodes_of scope) c.args.segment in
     let sel = selector_view (nodes_of scope) c.in-Some.selector_ref in
     let same = c.loop-selector_ref.invariant.1.0 in
-    let sound : IsSoundSelector (set_of scope) (top_of scope) (query_of scope) sel =
-    sound-selector (set_of scope) (top_of scope) (query_of scope) (segment_in (piece_at (nodes_of scope) c.args.segment.number)) c.loop-selector_ref.self.selector sel
+    let sound =
+    sound-selector (set_of scope) (query_of scope) (segment_in (piece_at (nodes_of scope) c.args.segment.number)) c.loop-selector_ref.self.selector sel
     (sym (ap (option_map (selector_view (nodes_of scope))) (sym c.in-Some.is) ∙ c.selector_ref.ensures.selector_ref)) c.requires.sound in
-    let inside : AllStandIn (top_of scope) (cursor_left c.loop-selector_ref.self.cursor) =
-    left_stands (top_of scope) (frame_view c.loop-selector_ref.self) (∥∥₁_map c.requires.inside (λ h. (subst (StandsIn (top_of scope)) (sym same.1) h.0, same.3 h.1))) in
+    let inside = left_stands (top_of scope) (frame_view c.loop-selector_ref.self) (∥∥₁_map c.requires.inside (λ h. (subst (StandsIn (top_of scope)) (sym same.1) h.0, same.3 h.1))) in
     search rules
-
-pub evaluation::frame::Frame::advance-loop-selector_ref-init : goal.evaluation::frame::Frame::advance-loop-selector_ref-init
-evaluation::frame::Frame::advance-loop-selector_ref-init g t c = (refl, passes-start (Clear c.args.scope.now) (set_of c.args.scope.now) (top_of c.args.scope.now) (stage_at (nodes_of c.args.scope.now) c.args.segment) (frame_view c.args.self.now))
 
 pub evaluation::frame::Frame::advance-loop-selector_ref-preserved : goal.evaluation::frame::Frame::advance-loop-selector_ref-preserved
 evaluation::frame::Frame::advance-loop-selector_ref-preserved g t c =
@@ -107,22 +143,6 @@ evaluation::frame::Frame::peek-advance-requires g t c =
     let inside : ∥ IsInside top (frame_view c.in_ok-frame.frame) ∥₁ = subst (λ p. ∥ IsInside top p ∥₁) (sym c.in_ok-frame.ensures.same) c.requires.inside in
     search rules
 
-pub evaluation::frame::Frame::peek-returns-in-Some-clause-peeked : goal.evaluation::frame::Frame::peek-returns-in-Some-clause-peeked
-evaluation::frame::Frame::peek-returns-in-Some-clause-peeked g t c =
-    let stage = stage_at (nodes_of c.args.scope.now) c.args.segment in
-    let new = frame_view c.advance.new.self in
-    subst (λ p. ComesTo (Clear c.args.scope.now) (set_of c.args.scope.now) (top_of c.args.scope.now) stage p (task_view c.in-Some.task) new) c.in_ok-frame.ensures.same
-    (subst (λ o. Advances (Clear c.args.scope.now) (set_of c.args.scope.now) (top_of c.args.scope.now) stage (frame_view c.in_ok-frame.frame) (option_map task_view o) new) c.in-Some.is (c.in_ok-task.ensures.advances))
-
-pub evaluation::frame::Frame::peek-returns-in-None-clause-peeked : goal.evaluation::frame::Frame::peek-returns-in-None-clause-peeked
-evaluation::frame::Frame::peek-returns-in-None-clause-peeked g t c =
-    let stage = stage_at (nodes_of c.args.scope.now) c.args.segment in
-    let new = frame_view c.advance.new.self in
-    subst (λ p. IsDone (Clear c.args.scope.now) (set_of c.args.scope.now) (top_of c.args.scope.now) stage p) c.in_ok-frame.ensures.same
-    (subst (λ o. Advances (Clear c.args.scope.now) (set_of c.args.scope.now) (top_of c.args.scope.now) stage (frame_view c.in_ok-frame.frame) (option_map task_view o) new) c.in-None.is (c.in_ok-task.ensures.advances))
-
--- ---- the stack
-
 pub evaluation::stack::find_next-returns-in-None-clause-found : goal.evaluation::stack::find_next-returns-in-None-clause-found
 evaluation::stack::find_next-returns-in-None-clause-found g t c =
     let items = c.loop-last.frames.items in
@@ -145,30 +165,14 @@ evaluation::stack::find_next-peek-requires g t c =
     let item = c.in-Some.ensures.item in
     let last = c.in-Some.last.now in
     let ends = ends_with c.deref.result.now items last c.deref.ensures.value item.3.0 item.1 in
-    let below : segment.number < parts_bound c.args.segments.now = within_bound c.args.segments.now last.segment segment (below_length _ _ look.0) look.1 in
-    let sound : IsSoundSegment (set_of scope) (top_of scope) (query_of scope) (segment_in (piece_at (nodes_of scope) segment.number)) =
-    sound-segment (set_of scope) (top_of scope) (query_of scope) (pieces (nodes_of scope)) c.args.segments.now last.segment segment (below_length _ _ look.0) look.1 c.requires.sound in
+    let below = within_bound c.args.segments.now last.segment segment (below_length _ _ look.0) look.1 in
+    let sound =
+    sound-segment (set_of scope) (query_of scope) (pieces (nodes_of scope)) c.args.segments.now last.segment segment (below_length _ _ look.0) look.1 c.requires.sound in
     let inside : ∥ IsInside (top_of scope) (frame_view last) ∥₁ =
     ∥∥₁_map c.requires.inside (λ h.
     stack-inside (top_of scope) h.0 (frames_view (take (length items - 1) items)) (frame_view last) h.1
     (subst (IsStack h.0) (sees_last frame_view items (take (length items - 1) items) last ends.1) (c.loop-last.invariant.stack h.0 h.2))) in
     search rules
-
-dropped : (g : _) (t : ℕ) (c : goal.evaluation::stack::find_next-After-drop_last g t)
-    → IsTurn (Clear c.args.scope.now) (set_of c.args.scope.now) (top_of c.args.scope.now) (stages_at (nodes_of c.args.scope.now) c.args.segments.now) (frames_view c.loop-last.frames.items) (frames_view c.drop_last.new.frames.items)
-dropped g t c =
-    let scope = c.args.scope.now in
-    let items = c.loop-last.frames.items in
-    let front = take (length items - 1) items in
-    let item = c.in-Some.ensures.item in
-    let last = c.in-Some.last.now in
-    let look = c.in-Some-get.ensures.lookup in
-    let segment = c.in-Some-get.segment.now in
-    let ends = ends_with c.deref.result.now items last c.deref.ensures.value item.3.0 item.1 in
-    turn-dropped (Clear scope) (set_of scope) (top_of scope) (stages_at (nodes_of scope) c.args.segments.now) (frames_view items) (frames_view c.drop_last.new.frames.items) (frames_view front) (frame_view last)
-    (stage_at (nodes_of scope) segment) _ (sees_last frame_view items front last ends.1) (ap frames_view c.drop_last.ensures)
-    (stages-from (nodes_of scope) c.args.segments.now last.segment segment (below_length _ _ look.0) look.1)
-    (found-none _ _ c.in_ok-peek-in-Some-get.field-0 c.in-None-2.is c.in_ok-peek-in-Some-get.ensures.peeked)
 
 pub evaluation::stack::find_next-loop-last-smaller-in-None-2 : goal.evaluation::stack::find_next-loop-last-smaller-in-None-2
 evaluation::stack::find_next-loop-last-smaller-in-None-2 g t c = (dropped g t c).1
@@ -181,26 +185,6 @@ evaluation::stack::find_next-loop-last-preserved-in-None-2 g t c =
       stack = λ start h. turn.2 start (c.loop-last.invariant.stack start h);
       less = let before = c.loop-last.invariant.less in let now = turn.1 in omega arith;
     }
-
-moved : (g : _) (t : ℕ) (c : goal.evaluation::stack::find_next-In_ok-push_over-in-Some-2 g t)
-    → IsTurn (Clear c.args.scope.now) (set_of c.args.scope.now) (top_of c.args.scope.now) (stages_at (nodes_of c.args.scope.now) c.args.segments.now) (frames_view c.loop-last.frames.items) (frames_view c.push_over.new.frames.items)
-moved g t c =
-    let scope = c.args.scope.now in
-    let items = c.loop-last.frames.items in
-    let front = take (length items - 1) items in
-    let item = c.in-Some.ensures.item in
-    let last = c.in-Some.last.now in
-    let look = c.in-Some-get.ensures.lookup in
-    let segment = c.in-Some-get.segment.now in
-    let peeked = c.in-Some-2.peeked in
-    let task = task_view peeked.task in
-    let next = c.of-next.result in
-    let ends = ends_with c.deref.result.now items last c.deref.ensures.value item.3.0 item.1 in
-    turn-moved (Clear scope) (set_of scope) (top_of scope) (stages_at (nodes_of scope) c.args.segments.now) (frames_view items) (frames_view c.push_over.new.frames.items) (frames_view front) (frame_view last)
-    (frame_view peeked.frame) (frame_view next) (stage_at (nodes_of scope) segment) _
-    task.0 task.1 (sees_last frame_view items front last ends.1) (sees_last_two frame_view c.push_over.new.frames.items front peeked.frame next c.in_ok-push_over-in-Some-2.ensures.ok)
-    (stages-from (nodes_of scope) c.args.segments.now last.segment segment (below_length _ _ look.0) look.1)
-    (found-some _ _ c.in_ok-peek-in-Some-get.field-0 peeked c.in-Some-2.is c.in_ok-peek-in-Some-get.ensures.peeked) c.of-next.ensures
 
 pub evaluation::stack::find_next-loop-last-smaller : goal.evaluation::stack::find_next-loop-last-smaller
 evaluation::stack::find_next-loop-last-smaller g t c = (moved g t c).1
@@ -225,66 +209,36 @@ filter::logic::is_true-all_true-requires g t c =
     let scope = c.args.scope.now in
     let parts = c.or_parts-part-items.result.now in
     let i = c.loop-part.part-index in
-    let below : (get_or parts i (record { number = 0 })).number < parts_bound parts = within_get parts i (record { number = 0 }) c.loop-part-test.true in
-    let sound : IsSoundAnd (set_of scope) (top_of scope) (query_of scope) (and_in (piece_in (pieces (nodes_of scope)) (get_or parts i (record { number = 0 })).number)) =
-    sound-and (set_of scope) (top_of scope) (query_of scope) (pieces (nodes_of scope)) parts i (record { number = 0 }) c.loop-part-test.true
-    (subst (IsSoundOr (set_of scope) (top_of scope) (query_of scope)) c.or_parts-part-items.ensures.tree c.requires.sound) in
+    let below = within_get parts i (record { number = 0 }) c.loop-part-test.true in
+    let sound =
+    sound-and (set_of scope) (query_of scope) (pieces (nodes_of scope)) parts i (record { number = 0 }) c.loop-part-test.true
+    (subst (Sound scope IsTypedOr calls_in_or) c.or_parts-part-items.ensures.tree c.requires.sound) in
     search rules
-
-pub filter::logic::is_true-loop-part-preserved : goal.filter::logic::is_true-loop-part-preserved
-filter::logic::is_true-loop-part-preserved g t c =
-    let ps = pieces (nodes_of c.args.scope.now) in
-    let parts = c.or_parts-part-items.result.now in
-    let i = c.loop-part.part-index in
-    let v = view c.args.value.now in
-    let holds = computed.is_true (set_of c.args.scope.now) (top_of c.args.scope.now) in
-    λ clear.
-    c.loop-part.invariant clear ∙ ap (λ e. holds e v) (or-part ps parts i (record { number = 0 }) c.loop-part-test.true)
-    ∙ ap (λ b. b || holds (ors_in (pieces_named ps (drop (i + 1) parts))) v) (sym (c.in_ok-all_true.ensures.means clear) ∙ c.if-branch.false)
-
-pub filter::logic::is_true-returns-then-branch-clause-means : goal.filter::logic::is_true-returns-then-branch-clause-means
-filter::logic::is_true-returns-then-branch-clause-means g t c =
-    let ps = pieces (nodes_of c.args.scope.now) in
-    let parts = c.or_parts-part-items.result.now in
-    let i = c.loop-part.part-index in
-    let v = view c.args.value.now in
-    let holds = computed.is_true (set_of c.args.scope.now) (top_of c.args.scope.now) in
-    λ clear.
-    sym (c.loop-part.invariant clear ∙ ap (λ e. holds e v) (or-part ps parts i (record { number = 0 }) c.loop-part-test.true)
-    ∙ ap (λ b. b || holds (ors_in (pieces_named ps (drop (i + 1) parts))) v) (sym (c.in_ok-all_true.ensures.means clear) ∙ c.if-branch.true))
 
 pub filter::logic::all_true-basic_true-requires : goal.filter::logic::all_true-basic_true-requires
 filter::logic::all_true-basic_true-requires g t c =
     let scope = c.args.scope.now in
     let parts = c.and_parts-part-items.result.now in
     let i = c.loop-part.part-index in
-    let below : (get_or parts i (record { number = 0 })).number < parts_bound parts = within_get parts i (record { number = 0 }) c.loop-part-test.true in
-    let sound : IsSoundBasic (set_of scope) (top_of scope) (query_of scope) (basic_in (piece_in (pieces (nodes_of scope)) (get_or parts i (record { number = 0 })).number)) =
-    sound-basic (set_of scope) (top_of scope) (query_of scope) (pieces (nodes_of scope)) parts i (record { number = 0 }) c.loop-part-test.true
-    (subst (IsSoundAnd (set_of scope) (top_of scope) (query_of scope)) c.and_parts-part-items.ensures.tree c.requires.sound) in
+    let below = within_get parts i (record { number = 0 }) c.loop-part-test.true in
+    let sound =
+    sound-basic (set_of scope) (query_of scope) (pieces (nodes_of scope)) parts i (record { number = 0 }) c.loop-part-test.true
+    (subst (Sound scope IsTypedAnd calls_in_and) c.and_parts-part-items.ensures.tree c.requires.sound) in
     search rules
 
-pub filter::logic::all_true-loop-part-preserved : goal.filter::logic::all_true-loop-part-preserved
-filter::logic::all_true-loop-part-preserved g t c =
-    let ps = pieces (nodes_of c.args.scope.now) in
-    let parts = c.and_parts-part-items.result.now in
-    let i = c.loop-part.part-index in
-    let v = view c.args.value.now in
-    let holds = computed.all_true (set_of c.args.scope.now) (top_of c.args.scope.now) in
-    λ clear.
-    c.loop-part.invariant clear ∙ ap (λ e. holds e v) (and-part ps parts i (record { number = 0 }) c.loop-part-test.true)
-    ∙ ap (λ b. b && holds (ands_in (pieces_named ps (drop (i + 1) parts))) v) (sym (c.in_ok-basic_true.ensures.means clear) ∙ c.if-not-branch.false)
+pub filter::logic::basic_true-compared-requires : goal.filter::logic::basic_true-compared-requires
+filter::logic::basic_true-compared-requires g t c =
+    let scope = c.args.scope.now in
+    let sides = side-calls (query_of scope) (comparable_at (nodes_of scope) c.in-Relation.left) (operator_view c.in-Relation.operator) (comparable_at (nodes_of scope) c.in-Relation.right) (basic_at (nodes_of scope) c.args.expression)
+    (search rules) c.requires.sound.1 in
+    search rules
 
-pub filter::logic::all_true-returns-then-not-branch-clause-means : goal.filter::logic::all_true-returns-then-not-branch-clause-means
-filter::logic::all_true-returns-then-not-branch-clause-means g t c =
-    let ps = pieces (nodes_of c.args.scope.now) in
-    let parts = c.and_parts-part-items.result.now in
-    let i = c.loop-part.part-index in
-    let v = view c.args.value.now in
-    let holds = computed.all_true (set_of c.args.scope.now) (top_of c.args.scope.now) in
-    λ clear.
-    sym (c.loop-part.invariant clear ∙ ap (λ e. holds e v) (and-part ps parts i (record { number = 0 }) c.loop-part-test.true)
-    ∙ ap (λ b. b && holds (ands_in (pieces_named ps (drop (i + 1) parts))) v) (sym (c.in_ok-basic_true.ensures.means clear) ∙ c.if-not-branch.true))
+pub filter::logic::basic_true-compared-requires-in-Relation : goal.filter::logic::basic_true-compared-requires-in-Relation
+filter::logic::basic_true-compared-requires-in-Relation g t c =
+    let scope = c.args.scope.now in
+    let sides = side-calls (query_of scope) (comparable_at (nodes_of scope) c.in-Relation.left) (operator_view c.in-Relation.operator) (comparable_at (nodes_of scope) c.in-Relation.right) (basic_at (nodes_of scope) c.args.expression)
+    (search rules) c.requires.sound.1 in
+    search rules
 
 -- ---- queries in expressions
 
@@ -294,8 +248,8 @@ filter::logic::first-find_next-requires g t c =
     let q = part_query (nodes_of scope) c.args.query in
     let segments = c.part_segments-segments.result.now in
     let items = ap frames_view (c.in_ok-push.ensures.items ∙ ap (λ frames. frames ++ c.first_frame.result ∷ []) c.new-frames.ensures.items) in
-    let sound : AreSoundSegments (set_of scope) (top_of scope) (query_of scope) (segments_at (nodes_of scope) segments) =
-    sound-segments (set_of scope) (top_of scope) (query_of scope) q (segments_at (nodes_of scope) segments) c.part_segments-segments.ensures.tree c.requires.sound in
+    let sound =
+    sound-segments (set_of scope) (query_of scope) q (segments_at (nodes_of scope) segments) c.part_segments-segments.ensures.tree c.requires.sound in
     let inside : ∥ IsStackIn (top_of scope) (frames_view c.push.new.self.items) ∥₁ =
     ∣ begun-inside (top_of scope) q (view c.args.value.now) (frames_view c.push.new.self.items) (frame_view c.first_frame.result) c.requires.inside items c.first_frame.ensures ∣₁ in
     search rules
@@ -319,8 +273,7 @@ evaluation::frame::next_passing-is_true-requires g t c =
     let top = top_of c.args.scope.now in
     let child = child_view c.in-Some.child in
     let left = cursor_left c.advance.new.self in
-    let inside : StandsIn top (view c.in-Some.child.value.now) =
-    ends-stand top (cursor_left c.args.cursor.now) (cursor_left c.loop-child.cursor) c.loop-child.invariant.1 c.requires.inside child (subst (IsIn child) (sym c.in-Some.ensures) (inl refl)) in
+    let inside = ends-stand top (cursor_left c.args.cursor.now) (cursor_left c.loop-child.cursor) c.loop-child.invariant.1 c.requires.inside child (subst (IsIn child) (sym c.in-Some.ensures) (inl refl)) in
     search rules
 
 pub evaluation::frame::next_passing-loop-child-preserved : goal.evaluation::frame::next_passing-loop-child-preserved
@@ -332,23 +285,6 @@ evaluation::frame::next_passing-loop-child-preserved g t c =
       λ clear. before.0 clear ∙ ap (keep test) c.in-Some.ensures ∙ keep-no test child left (sym (c.in_ok-is_true.ensures.means clear) ∙ c.if-branch.false),
       ends-trans _ _ _ before.1 (child ∷ [], c.in-Some.ensures),
     )
-
-pub evaluation::frame::next_passing-returns-then-branch-clause-chooses : goal.evaluation::frame::next_passing-returns-then-branch-clause-chooses
-evaluation::frame::next_passing-returns-then-branch-clause-chooses g t c =
-    let child = child_view c.in-Some.child in
-    let left = cursor_left c.advance.new.self in
-    let before = c.loop-child.invariant in
-    let test = λ (x : Step × Data). computed.is_true (set_of c.args.scope.now) (top_of c.args.scope.now) (or_at (nodes_of c.args.scope.now) c.args.test) x.1 in (
-      λ clear. before.0 clear ∙ ap (keep test) c.in-Some.ensures ∙ keep-yes test child left (sym (c.in_ok-is_true.ensures.means clear) ∙ c.if-branch.true),
-      ends-trans _ _ _ before.1 ([], c.in-Some.ensures),
-    )
-
-pub evaluation::frame::next_passing-returns-clause-chooses : goal.evaluation::frame::next_passing-returns-clause-chooses
-evaluation::frame::next_passing-returns-clause-chooses g t c =
-    let test = λ (x : Step × Data). computed.is_true (set_of c.args.scope.now) (top_of c.args.scope.now) (or_at (nodes_of c.args.scope.now) c.args.test) x.1 in
-    λ clear. c.loop-child.invariant.0 clear ∙ ap (keep test) c.in_default.ensures.0
-
--- ---- all nodes of a query
 
 pub filter::logic::all_values-values-init : goal.filter::logic::all_values-values-init
 filter::logic::all_values-values-init g t c =
@@ -397,6 +333,45 @@ filter::logic::all_values-values-preserved g t c =
 
 -- ---- calls
 
+pub filter::call::answer-loop-argument-init : goal.filter::call::answer-loop-argument-init
+filter::call::answer-loop-argument-init g t c =
+    let scope = c.args.scope.now in
+    let F = set_of scope in
+    let asked = call_at (nodes_of scope) c.args.call in
+    let kinds = map kind_view c.parameters-parameters.result.now in
+    let known : kinds ≡ params_of (F.signature (name_of asked)) = parameters-known F (signatures_of scope.query.now) asked kinds scope.fits c.requires.sound.0 c.parameters-parameters.ensures in
+    let calls = argument-calls (query_of scope) asked c.requires.sound.1 in
+    let typed : AreTypedArguments F.signature (arguments_of asked) kinds = subst (AreTypedArguments F.signature (arguments_of asked)) (sym known) (typed-arguments F asked c.requires.sound.0) in
+    record {
+      below = grind (arith, common_steps);
+      sound = search rules;
+      typed = grind (arith, common_steps);
+      means = search rules;
+    }
+
+pub filter::call::answer-argument_as-requires : goal.filter::call::answer-argument_as-requires
+filter::call::answer-argument_as-requires g t c =
+    let scope = c.args.scope.now in
+    let calls = next-calls (query_of scope) (pieces (nodes_of scope)) (iter_rest c.loop-argument.argument-iterator.a) c.in-Some.argument.now (iter_rest c.next.new.self.a) (search rules) c.loop-argument.invariant.sound.1 in
+    search rules
+
+pub filter::call::answer-loop-argument-preserved : goal.filter::call::answer-loop-argument-preserved
+filter::call::answer-loop-argument-preserved g t c =
+    let scope = c.args.scope.now in
+    let calls = next-calls (query_of scope) (pieces (nodes_of scope)) (iter_rest c.loop-argument.argument-iterator.a) c.in-Some.argument.now (iter_rest c.next.new.self.a) (search rules) c.loop-argument.invariant.sound.1 in
+    record {
+      below = grind (arith, common_steps);
+      sound = (grind (arith, common_steps), calls.1);
+      typed = grind (arith, common_steps);
+      means = grind (arith, common_steps);
+    }
+
+pub filter::call::answer-returns-clause-refused : goal.filter::call::answer-returns-clause-refused
+filter::call::answer-returns-clause-refused g t c =
+    let scope = c.args.scope.now in
+    let own = own_pattern (set_of scope) (query_of scope) (call_at (nodes_of scope) c.args.call) c.requires.sound.1 in
+    search rules
+
 pub filter::call::answer-returns-clause-means : goal.filter::call::answer-returns-clause-means
 filter::call::answer-returns-clause-means g t c =
     let scope = c.args.scope.now in
@@ -405,6 +380,6 @@ filter::call::answer-returns-clause-means g t c =
     let parts = iter_rest c.loop-argument.argument-iterator.a in
     let kinds = iter_rest c.loop-argument.argument-iterator.b in
     let given = map term_view c.loop-argument.given.items in
-    let over : (length parts ≡ 0) ⊎ (length kinds ≡ 0) = elim c.in-None-2.ensures.steps [ inl h ↦ inl h.1.0 | inr h ↦ inr h.1.0 ] in
-    answered (set_of scope) (top_of scope) (Clear scope) asked c.called_name-name.result.now v given c.call.result c.called_name-name.ensures c.requires.sound.0 c.requires.sound.1 c.requires.inside
+    let over : (length parts ≡ 0) ⊎ (length kinds ≡ 0) = elim c.in-None.ensures.steps [ inl h ↦ inl h.1.0 | inr h ↦ inr h.1.0 ] in
+    answered (set_of scope) (top_of scope) (query_of scope) asked c.called_name-name.result.now v given c.call.result c.called_name-name.ensures c.requires.sound c.requires.inside
     (λ clear. given-all (set_of scope) (top_of scope) (pieces (nodes_of scope)) parts kinds v given _ over (c.loop-argument.invariant.means clear)) c.call.ensures.means

@@ -7,7 +7,8 @@ use Rattle.serde_json_path_nodes.specs.Location.{Step, Located}
 use Rattle.serde_json_path_nodes.specs.Views.{node_value}
 use Rattle.serde_json_path_functions.specs.Functions.{kind_of_term}
 use Rattle.serde_json_path_functions.specs.Terms.{kind_view, term_view}
-use Rattle.serde_json_path_syntax.specs.Calls.{arguments_of, name_of}
+use Rattle.serde_json_path_syntax.specs.Calls.{arguments_of, calls_in_arguments, name_of}
+use Rattle.serde_json_path_syntax.specs.Typing.{AreTypedArguments}
 use Rattle.serde_json_path_core.specs.Meaning.{params_of}
 use Rattle.serde_json_path_core.specs.Computed as computed
 use Rattle.serde_json_path_syntax.specs.Flat.{or_at, and_at, ors_in, ands_in, arguments_in, call_at, part_query, pieces, pieces_named}
@@ -16,8 +17,8 @@ use Rattle.serde_json_path_core.specs.Cursors.{cursor_left}
 use Rattle.serde_json_path_core.specs.Rest.{rest_of, work, EndsIn, IsStack, IsStackIn}
 use Rattle.serde_json_path_core.specs.Advances.{Passes}
 use Rattle.serde_json_path_syntax.specs.Stages.{stage_at, stages_at}
-use Rattle.serde_json_path_core.specs.Sound.{AreSoundArguments}
-use Rattle.serde_json_path_core.specs.Scopes.{Clear, nodes_of, query_of, set_of, top_of}
+use Rattle.serde_json_path_core.specs.Evaluates.{Sound}
+use Rattle.serde_json_path_core.specs.Scopes.{Clear, nodes_of, set_of, top_of}
 use Rattle.serde_json_path_core.specs.Frames.{frame_view, frames_view}
 use Rattle.serde_json_path_core.proofs.+evaluation.Given as goal
 
@@ -121,7 +122,7 @@ invariant-filter::call::answer-loop-argument g l =
     let given = map term_view l.given.items in
     record {
       below : parts_bound parts ≤ l.fn.call.number;
-      sound : AreSoundArguments F (top_of l.scope) (query_of l.scope) kinds left;
+      sound : Sound l.scope (λ signature args. AreTypedArguments signature args kinds) calls_in_arguments left;
       typed : map kind_of_term given ++ kinds ≡ params_of (F.signature (name_of call));
       means : Clear l.scope
           → computed.arguments F (top_of l.scope) (arguments_of call) (params_of (F.signature (name_of call))) (view l.value)

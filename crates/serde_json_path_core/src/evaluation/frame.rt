@@ -2,6 +2,7 @@
 
 ghost use Rattle.std.specs.Prelude.{◌≡◌, ◌+◌, ◌<◌, ◌≤◌, ◌^◌, None, Some, IfOk, IfErr, MatchOption, drop, length, option_map};
 ghost use Rattle.serde_json.specs.View.{view};
+ghost use Rattle.serde_json_path_syntax.specs.Parts.{nodes_in};
 ghost use Rattle.serde_json_path_syntax.specs.Tree.{filter};
 ghost use Rattle.serde_json_path_syntax.specs.PartBounds.{parts_bound, selector_bound};
 ghost use Rattle.serde_json_path_core.specs.Evaluates.{Advances, Chooses, ComesTo, IsDone, SoundOr, SoundSegment, SoundSelector};
@@ -52,7 +53,7 @@ pub(crate) struct Peeked<'b> {
 /// The children that a selector chooses from.
 fn choose<'b>(query: &Checked, selector_ref: SelectorRef<'_>, value: &'b Value) -> Cursor<'b>
     ensures { cursor_left result
-        ≡ candidates (selector_view query.now.nodes.items selector_ref.entry) (view value.now) }
+        ≡ candidates (selector_view (nodes_in query.now) selector_ref.entry) (view value.now) }
 {
     match selector_ref {
         SelectorRef::Name(name) => Cursor::one(member(value, name)),
@@ -65,9 +66,9 @@ fn choose<'b>(query: &Checked, selector_ref: SelectorRef<'_>, value: &'b Value) 
 
 /// The children for one selector of a segment; after the last selector, those to go down to.
 fn open<'b>(query: &Checked, segment: Part, selector: usize, value: &'b Value) -> Cursor<'b>
-    requires { segment.number < length query.now.nodes.items }
+    requires { segment.number < length (nodes_in query.now) }
     ensures { cursor_left result
-        ≡ opened (stage_at query.now.nodes.items segment).kind (drop selector (stage_at query.now.nodes.items segment).selectors) (view value.now) }
+        ≡ opened (stage_at (nodes_in query.now) segment).kind (drop selector (stage_at (nodes_in query.now) segment).selectors) (view value.now) }
 {
     match query.selector_ref(segment, selector) {
         Some(selector_ref) => choose(query, selector_ref, value),
@@ -80,9 +81,9 @@ fn open<'b>(query: &Checked, segment: Part, selector: usize, value: &'b Value) -
 
 /// The children with which a segment begins.
 fn begin<'b>(query: &Checked, segments: &[Part], number: usize, value: &'b Value) -> Cursor<'b>
-    requires { parts_bound segments.now ≤ length query.now.nodes.items }
+    requires { parts_bound segments.now ≤ length (nodes_in query.now) }
     ensures { cursor_left result
-        ≡ begun (drop number (stages_at query.now.nodes.items segments.now)) (view value.now) }
+        ≡ begun (drop number (stages_at (nodes_in query.now) segments.now)) (view value.now) }
 {
     match segments.get(number) {
         Some(segment) => open(query, *segment, 0, value),
@@ -93,13 +94,13 @@ fn begin<'b>(query: &Checked, segments: &[Part], number: usize, value: &'b Value
 impl<'b> Frame<'b> {
     /// The first frame of a walk.
     pub(crate) fn start(query: &Checked, segments: &[Part], value: &'b Value) -> Frame<'b>
-        requires { parts_bound segments.now ≤ length query.now.nodes.items }
+        requires { parts_bound segments.now ≤ length (nodes_in query.now) }
         ensures { frame_view result ≡ record {
           step = None;
           value = view value.now;
           segment = 0;
           selector = 0;
-          left = begun (stages_at query.now.nodes.items segments.now) (view value.now);
+          left = begun (stages_at (nodes_in query.now) segments.now) (view value.now);
         } }
     {
         Frame {
@@ -113,14 +114,14 @@ impl<'b> Frame<'b> {
 
     /// The frame that a task opens.
     pub(crate) fn of(query: &Checked, segments: &[Part], task: Task<'b>) -> Frame<'b>
-        requires { parts_bound segments.now ≤ length query.now.nodes.items }
+        requires { parts_bound segments.now ≤ length (nodes_in query.now) }
         ensures { let c = child_view task.entry.child in
             frame_view result ≡ record {
               step = Some c.0;
               value = c.1;
               segment = task.entry.segment;
               selector = 0;
-              left = begun (drop task.entry.segment (stages_at query.now.nodes.items segments.now)) c.1;
+              left = begun (drop task.entry.segment (stages_at (nodes_in query.now) segments.now)) c.1;
             } }
     {
         Frame {

@@ -75,17 +75,9 @@ pub(crate) fn answer<'x, 'q: 'x, 'b: 'x, F: Functions>(
     ensures refused { IfErr result (λ e. WithoutPatterns scope.now → e ≡ Memory) }
 {
     let name = scope.query.called_name(call);
-    let signature = match scope.functions.signature(name) {
-        Some(signature) => signature,
-        None => unreachable!(),
-    };
+    let parameters = scope.query.parameters(call);
     let mut given: Vec<FunctionValue<'x>> = Vec::new(scope.alloc);
-    for (argument, kind) in scope
-        .query
-        .arguments(call)
-        .iter()
-        .zip(signature.params().iter())
-    {
+    for (argument, kind) in scope.query.arguments(call).iter().zip(parameters.iter()) {
         let term: FunctionValue<'x> = argument_as(scope, *argument, *kind, value)?;
         given.push(term)?;
     }

@@ -24,7 +24,7 @@ fn first_of_member(alloc: Global) -> Result<Checked, Fail>
     let bracket = builder.long_hand(SegmentKind::Child, selectors)?;
     let segments = Parts::from(vec![in alloc; member, bracket]?);
     let query = builder.query(QueryKind::Root, segments)?;
-    Ok(builder.finish(query, Vec::new(alloc)))
+    Ok(builder.finish(query))
 }
 
 /// The query `$['a','b']`, for which the part of `'b'` is made first.
@@ -38,7 +38,7 @@ fn made_from_the_end(alloc: Global) -> Result<Checked, Fail>
     let bracket = builder.long_hand(SegmentKind::Child, selectors)?;
     let segments = Parts::from(vec![in alloc; bracket]?);
     let query = builder.query(QueryKind::Root, segments)?;
-    Ok(builder.finish(query, Vec::new(alloc)))
+    Ok(builder.finish(query))
 }
 
 /// The query `$..*[*,1:]`.
@@ -57,7 +57,7 @@ fn all_and_all_but_the_first(alloc: Global) -> Result<Checked, Fail>
     let bracket = builder.long_hand(SegmentKind::Child, selectors)?;
     let segments = Parts::from(vec![in alloc; below, bracket]?);
     let query = builder.query(QueryKind::Root, segments)?;
-    Ok(builder.finish(query, Vec::new(alloc)))
+    Ok(builder.finish(query))
 }
 
 /// The nodes' locations and values, with a `;` after each.
@@ -123,11 +123,9 @@ fn gives_one_node_in_each_way(rt: HostRuntime) -> Result<(), Fail> {
 }
 
 #[test]
-fn a_query_without_calls_has_no_signatures(rt: HostRuntime) -> Result<(), Fail> {
-    let alloc = rt.alloc();
-    let mut builder = SyntaxBuilder::new(alloc);
-    let query = builder.query(QueryKind::Root, Parts::new(alloc))?;
+fn tells_a_singular_query(rt: HostRuntime) -> Result<(), Fail> {
+    let mut builder = SyntaxBuilder::new(rt.alloc());
+    let query = builder.query(QueryKind::Root, Parts::new(rt.alloc()))?;
     assert!(rt; builder.is_singular(query));
-    assert!(rt; builder.signatures(alloc, query, &Builtin)?.is_empty());
     Ok(())
 }

@@ -7,7 +7,7 @@ ghost use Rattle.serde_json_path_functions.specs.Functions.{Signature};
 ghost use Rattle.serde_json_path_functions.specs.Terms.{kind_view};
 ghost use Rattle.serde_json_path_parser.specs.Filters.{argument_at, logical_from, ended};
 ghost use Rattle.serde_json_path_parser.specs.Filters as filters;
-ghost use Rattle.serde_json_path_parser.specs.Giving.{Makes, MakesArgument, MakesArguments, MakesCall, IsArgumentOf, IsOperandOf, GivesEnd, MovesTo};
+ghost use Rattle.serde_json_path_parser.specs.Giving.{MakesArgument, MakesArguments, MakesCall, IsArgumentOf, IsOperandOf, GivesEnd, MovesTo};
 ghost use Rattle.serde_json_path_parser.specs.Levels.{at_level, signatures, deeper};
 ghost use Rattle.serde_json_path_parser.specs.Lexical.{begins};
 ghost use Rattle.serde_json_path_parser.specs.Operands as operands;
@@ -39,7 +39,9 @@ pub(crate) enum Argument {
 impl Argument {
     /// An operand that stands alone.
     fn alone(operand: Operand) -> Argument
-        ensures { (signature : List ℕ → Option Signature) (builder : SyntaxBuilder) (x : operands.Operand) → IsOperandOf signature builder operand x → IsArgumentOf signature builder result (filters.alone x) }
+        ensures { (signature : List ℕ → Option Signature) (builder : SyntaxBuilder)
+            → (x : operands.Operand) → IsOperandOf signature builder operand x
+            → IsArgumentOf signature builder result (filters.alone x) }
     {
         match operand {
             Operand::Literal(literal) => Argument::Literal(literal),
@@ -50,8 +52,11 @@ impl Argument {
 
     /// Whether a parameter of that type takes the argument (RFC 9535, section 2.4.3).
     fn fits(&self, builder: &SyntaxBuilder, kind: FunctionArgType) -> bool
-        requires { (signature : List ℕ → Option Signature) × (x : tree.Argument) × IsArgumentOf signature builder.now self.now x }
-        ensures { (signature : List ℕ → Option Signature) (x : tree.Argument) → IsArgumentOf signature builder.now self.now x → result ≡ operands.fits signature x (kind_view kind) }
+        requires { (signature : List ℕ → Option Signature) × (x : tree.Argument)
+            × IsArgumentOf signature builder.now self.now x }
+        ensures { (signature : List ℕ → Option Signature) (x : tree.Argument)
+            → IsArgumentOf signature builder.now self.now x
+            → result ≡ operands.fits signature x (kind_view kind) }
     {
         match self {
             Argument::Literal(literal) => match kind {
@@ -72,9 +77,12 @@ impl Argument {
 
     /// The argument as a part of the tree.
     fn part(self, builder: &mut SyntaxBuilder) -> Result<Part, AllocError>
-        requires { (signature : List ℕ → Option Signature) × (x : tree.Argument) × IsArgumentOf signature builder.old self x }
+        requires { (signature : List ℕ → Option Signature) × (x : tree.Argument)
+            × IsArgumentOf signature builder.old self x }
+        ensures made { IfOk result (λ part.
+            (signature : List ℕ → Option Signature) (x : tree.Argument)
+            → IsArgumentOf signature builder.old self x → IsPart builder.new part (an_argument x)) }
         ensures keeps { KeepsParts builder.old builder.new }
-        ensures made { IfOk result (λ part. (signature : List ℕ → Option Signature) (x : tree.Argument) → IsArgumentOf signature builder.old self x → IsPart builder.new part (an_argument x)) }
     {
         match self {
             Argument::Literal(literal) => builder.literal_argument(literal),
@@ -95,7 +103,8 @@ fn parse_end<S: PathSource>(
 ) -> Result<(), Failure>
     requires { 0 < length (left reader.old) }
     ensures moves { MovesTo result reader.old reader.new }
-    ensures gives { GivesEnd result reader.new (ended start (map kind_view kinds.now) (drop 1 (left reader.old))) }
+    ensures gives { GivesEnd result reader.new
+        (ended start (map kind_view kinds.now) (drop 1 (left reader.old))) }
 {
     if !kinds.is_empty() {
         return Err(Failure::in_long_hand(ParseErrorKind::WrongNumberOfArguments, start));
@@ -118,8 +127,9 @@ impl<F: Functions> FilterParser<'_, F> {
     ) -> Result<(Part, FunctionArgType), Failure>
         requires { 0 < length (left reader.old) }
         ensures moves { MovesTo result reader.old reader.new }
-        ensures keeps { KeepsParts builder.old builder.new }
-        ensures gives { MakesCall (signatures F.set self.now) builder.new result reader.new ((deeper F.set self.now).call_of start (string_bytes name) (drop 1 (left reader.old))) }
+        ensures gives { MakesCall (signatures F.set self.now) builder.old builder.new
+            result reader.new
+            ((deeper F.set self.now).call_of start (string_bytes name) (drop 1 (left reader.old))) }
     {
         if self.depth == 0 {
             return Err(Failure::in_long_hand(ParseErrorKind::NestedTooDeep, start));
@@ -132,13 +142,14 @@ impl<F: Functions> FilterParser<'_, F> {
         let mut arguments = Vec::new(self.alloc);
         self.deeper()
             .parse_parameters(builder, reader, start, signature.params(), &mut arguments)?;
-        let call = builder.call(name, arguments)?;
+        let call = builder.call(name, signature, arguments)?;
         Ok((call, signature.result()))
     }
 
     /// Parses the arguments of a call for parameters of these types, after `(` and blanks, and its end. The arguments
     /// are appended to `parts`.
     #[cycle(filters)]
+    #[tactic(auto, unfolding(crate::specs::Filters::parameters_at))]
     fn parse_parameters<S: PathSource>(
         &self,
         builder: &mut SyntaxBuilder,
@@ -148,8 +159,10 @@ impl<F: Functions> FilterParser<'_, F> {
         parts: &mut Vec<Part>,
     ) -> Result<(), Failure>
         ensures moves { MovesTo result reader.old reader.new }
-        ensures keeps { KeepsParts builder.old builder.new }
-        ensures gives { MakesArguments builder.new parts.old.items parts.new.items result reader.new (at_level F.set self.now filters.parameters_at start (map kind_view kinds.now) (left reader.old)) }
+        ensures gives { MakesArguments (signatures F.set self.now) builder.old builder.new
+            parts.old.items parts.new.items result reader.new
+            (at_level F.set self.now filters.parameters_at start (map kind_view kinds.now)
+            (left reader.old)) }
     {
         if reader.sees(b')') {
             return parse_end(reader, start, kinds);
@@ -169,9 +182,11 @@ impl<F: Functions> FilterParser<'_, F> {
         parts: &mut Vec<Part>,
     ) -> Result<(), Failure>
         ensures moves { MovesTo result reader.old reader.new }
-        ensures keeps { KeepsParts builder.old builder.new }
         ensures gives { (fuel : ℕ) → length (left reader.old) ≤ fuel
-            → MakesArguments builder.new parts.old.items parts.new.items result reader.new (at_level F.set self.now filters.arguments_at fuel start (map kind_view kinds.now) (left reader.old)) }
+            → MakesArguments (signatures F.set self.now) builder.old builder.new
+            parts.old.items parts.new.items result reader.new
+            (at_level F.set self.now filters.arguments_at fuel start (map kind_view kinds.now)
+            (left reader.old)) }
     {
         let begin = reader.bytes_left();
         let argument = self.parse_argument(builder, reader)?;
@@ -199,14 +214,16 @@ impl<F: Functions> FilterParser<'_, F> {
 
     /// Parses an argument and the blanks after it.
     #[cycle(filters)]
+    #[tactic(auto, unfolding(crate::specs::Filters::argument_at, crate::specs::Filters::logical_from))]
     fn parse_argument<S: PathSource>(
         &self,
         builder: &mut SyntaxBuilder,
         reader: &mut Reader<'_, S>,
     ) -> Result<Argument, Failure>
         ensures moves { MovesTo result reader.old reader.new }
-        ensures keeps { KeepsParts builder.old builder.new }
-        ensures gives { MakesArgument (signatures F.set self.now) builder.new result reader.new (at_level F.set self.now argument_at (left reader.old)) }
+        ensures gives { MakesArgument (signatures F.set self.now) builder.old builder.new
+            result reader.new
+            (at_level F.set self.now argument_at (left reader.old)) }
     {
         if reader.sees(b'(') || reader.sees(b'!') {
             let expression = self.parse_logical_or(builder, reader)?;

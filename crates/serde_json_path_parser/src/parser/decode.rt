@@ -12,9 +12,11 @@ use crate::source::PathSource;
 /// The byte of that index, if it is below a limit.
 pub(crate) fn byte_below<S: PathSource>(source: &mut S, index: usize, limit: usize) -> Option<u8>
     requires { limit ≤ length (S.told source.old).text }
-    ensures some { ForSome result (λ b. (index < limit) × (slice_get (S.told source.old).text index ≡ Some b)) }
+    ensures some { ForSome result (λ b.
+        (index < limit) × (slice_get (S.told source.old).text index ≡ Some b)) }
     ensures none { result ≡ None → limit ≤ index }
-    ensures looks { LooksOn (S.told source.old) (S.told source.new) (up_to index result - index) (up_to index result) }
+    ensures looks { LooksOn (S.told source.old) (S.told source.new)
+        (up_to index result - index) (up_to index result) }
 {
     if index < limit {
         Some(source.byte(index))
@@ -26,7 +28,8 @@ pub(crate) fn byte_below<S: PathSource>(source: &mut S, index: usize, limit: usi
 /// The byte of that index, unless the text ends there.
 pub(crate) fn byte_at<S: PathSource>(source: &mut S, index: usize) -> Option<u8>
     ensures value { result ≡ slice_get (S.told source.old).text index }
-    ensures looks { LooksOn (S.told source.old) (S.told source.new) (up_to index result - index) (up_to index result) }
+    ensures looks { LooksOn (S.told source.old) (S.told source.new)
+        (up_to index result - index) (up_to index result) }
 {
     let end = source.len();
     byte_below(source, index, end)
@@ -62,7 +65,8 @@ pub(crate) fn wide_character_at<S: PathSource>(
     requires wide { 128 ≤ lead }
     ensures decodes { StartsWithChar (drop index (S.told source.old).text) result.0 result.1 }
     ensures scalar { IsScalar result.0 }
-    ensures looks { LooksOn (S.told source.old) (S.told source.new) (result.1 - 1) (index + result.1) }
+    ensures looks { LooksOn (S.told source.old) (S.told source.new)
+        (result.1 - 1) (index + result.1) }
 {
     let first = lead as u32;
     let second = low_bits(source, index + 1);

@@ -1,15 +1,17 @@
 //! Logical expressions (RFC 9535, section 2.3.5.1).
 
 ghost use Rattle.std.specs.Prelude.{◌≡◌, ◌==◌, ◌<◌, ℕ, List, drop, length, true, IfOk};
-ghost use Rattle.serde_json_path_syntax.specs.Parts.{KeepsParts, IsPart};
+ghost use Rattle.serde_json_path_syntax.specs.Calls.{calls_in_and, calls_in_basic};
+ghost use Rattle.serde_json_path_syntax.specs.Parts.{IsPart};
 ghost use Rattle.serde_json_path_syntax.specs.Piece.{an_or, an_and, a_basic};
 ghost use Rattle.serde_json_path_syntax.specs.Tree as tree;
 ghost use Rattle.serde_json_path_parser.specs.Filters.{paren_at, negated_at, basic_at, and_from, and_at, or_from, or_at};
 ghost use Rattle.serde_json_path_parser.specs.Filters as filters;
-ghost use Rattle.serde_json_path_parser.specs.Giving.{Makes, IsOperandOf, MovesTo};
+ghost use Rattle.serde_json_path_parser.specs.Giving.{Makes, MakesFrom, IsOperandOf, MovesTo};
 ghost use Rattle.serde_json_path_parser.specs.Levels.{at_level, signatures, deeper};
-ghost use Rattle.serde_json_path_parser.specs.Lexical.{begins, is_small_letter};
+ghost use Rattle.serde_json_path_parser.specs.Lexical.{is_at, begins, is_small_letter};
 ghost use Rattle.serde_json_path_parser.specs.Operands as operands;
+ghost use Rattle.serde_json_path_parser.specs.Operands.{calls_in_operand};
 ghost use Rattle.serde_json_path_parser.specs.Parsed.{byte_count, past_blanks};
 ghost use Rattle.serde_json_path_parser.specs.Reading.{left};
 
@@ -32,8 +34,10 @@ impl<F: Functions> FilterParser<'_, F> {
     ) -> Result<Part, Failure>
         requires { 0 < length (left reader.old) }
         ensures moves { MovesTo result reader.old reader.new }
-        ensures keeps { KeepsParts builder.old builder.new }
-        ensures gives { Makes an_or builder.new result reader.new ((deeper F.set self.now).expression (byte_count (left reader.old)) (past_blanks (drop 1 (left reader.old)))) }
+        ensures gives { Makes (signatures F.set self.now) an_or builder.old builder.new
+            result reader.new
+            ((deeper F.set self.now).expression (byte_count (left reader.old))
+            (past_blanks (drop 1 (left reader.old)))) }
     {
         if self.depth == 0 {
             return Err(reader.refuse(ParseErrorKind::NestedTooDeep, Context::LongHand));
@@ -52,8 +56,9 @@ impl<F: Functions> FilterParser<'_, F> {
         reader: &mut Reader<'_, S>,
     ) -> Result<Part, Failure>
         ensures moves { MovesTo result reader.old reader.new }
-        ensures keeps { KeepsParts builder.old builder.new }
-        ensures gives { Makes an_or builder.new result reader.new (at_level F.set self.now or_at (left reader.old)) }
+        ensures gives { Makes (signatures F.set self.now) an_or builder.old builder.new
+            result reader.new
+            (at_level F.set self.now or_at (left reader.old)) }
     {
         let first = self.parse_logical_and(builder, reader)?;
         self.parse_or_from(builder, reader, first)
@@ -69,8 +74,10 @@ impl<F: Functions> FilterParser<'_, F> {
     ) -> Result<Part, Failure>
         requires { (a : tree.LogicalAnd) × IsPart builder.old first (an_and a) }
         ensures moves { MovesTo result reader.old reader.new }
-        ensures keeps { KeepsParts builder.old builder.new }
-        ensures gives { (a : tree.LogicalAnd) → IsPart builder.old first (an_and a) → Makes an_or builder.new result reader.new (at_level F.set self.now or_from a (left reader.old)) }
+        ensures gives { (a : tree.LogicalAnd) → IsPart builder.old first (an_and a)
+            → MakesFrom (signatures F.set self.now) (calls_in_and a) an_or
+            builder.old builder.new result reader.new
+            (at_level F.set self.now or_from a (left reader.old)) }
     {
         let mut parts = Parts::new(self.alloc);
         parts.push(first)?;
@@ -92,8 +99,9 @@ impl<F: Functions> FilterParser<'_, F> {
         reader: &mut Reader<'_, S>,
     ) -> Result<Part, Failure>
         ensures moves { MovesTo result reader.old reader.new }
-        ensures keeps { KeepsParts builder.old builder.new }
-        ensures gives { Makes an_and builder.new result reader.new (at_level F.set self.now and_at (left reader.old)) }
+        ensures gives { Makes (signatures F.set self.now) an_and builder.old builder.new
+            result reader.new
+            (at_level F.set self.now and_at (left reader.old)) }
     {
         let first = self.parse_basic(builder, reader)?;
         self.parse_and_from(builder, reader, first)
@@ -109,9 +117,12 @@ impl<F: Functions> FilterParser<'_, F> {
     ) -> Result<Part, Failure>
         requires { (b : tree.Basic) × IsPart builder.old first (a_basic b) }
         ensures moves { MovesTo result reader.old reader.new }
-        ensures keeps { KeepsParts builder.old builder.new }
-        ensures made { IfOk result (λ part. (a : tree.LogicalAnd) × IsPart builder.new part (an_and a)) }
-        ensures gives { (b : tree.Basic) → IsPart builder.old first (a_basic b) → Makes an_and builder.new result reader.new (at_level F.set self.now and_from b (left reader.old)) }
+        ensures made { IfOk result (λ part.
+            (a : tree.LogicalAnd) × IsPart builder.new part (an_and a)) }
+        ensures gives { (b : tree.Basic) → IsPart builder.old first (a_basic b)
+            → MakesFrom (signatures F.set self.now) (calls_in_basic b) an_and
+            builder.old builder.new result reader.new
+            (at_level F.set self.now and_from b (left reader.old)) }
     {
         let mut parts = Parts::new(self.alloc);
         parts.push(first)?;
@@ -133,8 +144,9 @@ impl<F: Functions> FilterParser<'_, F> {
         reader: &mut Reader<'_, S>,
     ) -> Result<Part, Failure>
         ensures moves { MovesTo result reader.old reader.new }
-        ensures keeps { KeepsParts builder.old builder.new }
-        ensures gives { Makes a_basic builder.new result reader.new (at_level F.set self.now basic_at (left reader.old)) }
+        ensures gives { Makes (signatures F.set self.now) a_basic builder.old builder.new
+            result reader.new
+            (at_level F.set self.now basic_at (left reader.old)) }
     {
         if reader.sees(b'(') {
             let inner = self.parse_paren(builder, reader)?;
@@ -152,6 +164,7 @@ impl<F: Functions> FilterParser<'_, F> {
 
     /// Parses a comparison or a test after its first operand. `start` bytes are left where that operand begins.
     #[cycle(filters)]
+    #[tactic(auto, unfolding(crate::specs::Filters::basic_from, crate::specs::Filters::relation_at, crate::specs::Filters::right_side_at))]
     pub(crate) fn parse_basic_from<S: PathSource>(
         &self,
         builder: &mut SyntaxBuilder,
@@ -159,11 +172,16 @@ impl<F: Functions> FilterParser<'_, F> {
         start: usize,
         operand: Operand,
     ) -> Result<Part, Failure>
-        requires { (x : operands.Operand) × IsOperandOf (signatures F.set self.now) builder.old operand x }
+        requires { (x : operands.Operand)
+            × IsOperandOf (signatures F.set self.now) builder.old operand x }
         ensures moves { MovesTo result reader.old reader.new }
-        ensures keeps { KeepsParts builder.old builder.new }
-        ensures made { IfOk result (λ part. (b : tree.Basic) × IsPart builder.new part (a_basic b)) }
-        ensures gives { (x : operands.Operand) → IsOperandOf (signatures F.set self.now) builder.old operand x → Makes a_basic builder.new result reader.new (at_level F.set self.now filters.basic_from start x (left reader.old)) }
+        ensures made { IfOk result (λ part.
+            (b : tree.Basic) × IsPart builder.new part (a_basic b)) }
+        ensures gives { (x : operands.Operand)
+            → IsOperandOf (signatures F.set self.now) builder.old operand x
+            → MakesFrom (signatures F.set self.now) (calls_in_operand x) a_basic
+            builder.old builder.new result reader.new
+            (at_level F.set self.now filters.basic_from start x (left reader.old)) }
     {
         let Some(operator) = parse_operator(reader) else {
             return self.as_test(builder, reader, start, operand);
@@ -184,10 +202,11 @@ impl<F: Functions> FilterParser<'_, F> {
         builder: &mut SyntaxBuilder,
         reader: &mut Reader<'_, S>,
     ) -> Result<Part, Failure>
-        requires { begins (λ c. c == 40) (left reader.old) ≡ true }
+        requires { is_at "(" (left reader.old) ≡ true }
         ensures moves { MovesTo result reader.old reader.new }
-        ensures keeps { KeepsParts builder.old builder.new }
-        ensures gives { Makes an_or builder.new result reader.new (at_level F.set self.now paren_at (left reader.old)) }
+        ensures gives { Makes (signatures F.set self.now) an_or builder.old builder.new
+            result reader.new
+            (at_level F.set self.now paren_at (left reader.old)) }
     {
         let inner = self.parse_inside(builder, reader)?;
         if !reader.sees(b')') {
@@ -212,8 +231,9 @@ impl<F: Functions> FilterParser<'_, F> {
         reader: &mut Reader<'_, S>,
     ) -> Result<Part, Failure>
         ensures moves { MovesTo result reader.old reader.new }
-        ensures keeps { KeepsParts builder.old builder.new }
-        ensures gives { Makes a_basic builder.new result reader.new (at_level F.set self.now negated_at (left reader.old)) }
+        ensures gives { Makes (signatures F.set self.now) a_basic builder.old builder.new
+            result reader.new
+            (at_level F.set self.now negated_at (left reader.old)) }
     {
         if reader.sees(b'(') {
             let inner = self.parse_paren(builder, reader)?;
@@ -242,8 +262,9 @@ impl<F: Functions> FilterParser<'_, F> {
     ) -> Result<Part, Failure>
         requires { begins is_small_letter (left reader.old) ≡ true }
         ensures moves { MovesTo result reader.old reader.new }
-        ensures keeps { KeepsParts builder.old builder.new }
-        ensures gives { Makes a_basic builder.new result reader.new (at_level F.set self.now filters.negated_name_at (left reader.old)) }
+        ensures gives { Makes (signatures F.set self.now) a_basic builder.old builder.new
+            result reader.new
+            (at_level F.set self.now filters.negated_name_at (left reader.old)) }
     {
         let start = reader.bytes_left();
         let Operand::Call(call, result) = self.parse_named(builder, reader)? else {

@@ -45,7 +45,8 @@ fn gather<S: PathSource>(
     ensures most { result.0 ≤ end }
     ensures gathered { Gathered (S.told source.old).text index result.0 part.new }
     ensures next_is { result.1 ≡ slice_get (S.told source.old).text result.0 }
-    ensures looks { LooksOn (S.told source.old) (S.told source.new) (up_to result.0 result.1 - (index + 1)) (up_to result.0 result.1) }
+    ensures looks { LooksOn (S.told source.old) (S.told source.new)
+        (up_to result.0 result.1 - (index + 1)) (up_to result.0 result.1) }
 {
     let mut at = index + 1;
     while at < end {
@@ -63,7 +64,8 @@ fn gather<S: PathSource>(
 /// Appends ASCII characters to a text.
 fn push_ascii(text: &mut String, bytes: &[u8]) -> Result<(), AllocError>
     requires { IsAscii bytes.now }
-    ensures { string_bytes text.new ≡ (if is_ok result then string_bytes text.old ++ bytes.now else string_bytes text.old) }
+    ensures { string_bytes text.new
+        ≡ (if is_ok result then string_bytes text.old ++ bytes.now else string_bytes text.old) }
 {
     text.push_str(str::from_utf8(bytes).unwrap())
 }
@@ -85,10 +87,17 @@ pub(crate) fn push_name_part<S: PathSource>(
     ensures within { result.0 ≤ length (S.told source.old).text }
     ensures utf8 { is_utf8 (drop result.0 (S.told source.old).text) ≡ true }
     ensures next_is { result.1 ≡ slice_get (S.told source.old).text result.0 }
-    ensures looks { LooksOn (S.told source.old) (S.told source.new) (up_to result.0 result.1 - (index + 1)) (up_to result.0 result.1) }
-    ensures less { length (chars (drop result.0 (S.told source.old).text)) < length (chars (drop index (S.told source.old).text)) }
-    ensures text { IfOk result.2 (λ u. string_bytes text.new ++ encoded (front is_name_char (chars (drop result.0 (S.told source.old).text))) ≡ string_bytes text.old ++ encoded (front is_name_char (chars (drop index (S.told source.old).text)))) }
-    ensures rest { behind is_name_char (chars (drop result.0 (S.told source.old).text)) ≡ behind is_name_char (chars (drop index (S.told source.old).text)) }
+    ensures looks { LooksOn (S.told source.old) (S.told source.new)
+        (up_to result.0 result.1 - (index + 1)) (up_to result.0 result.1) }
+    ensures less { length (chars (drop result.0 (S.told source.old).text))
+        < length (chars (drop index (S.told source.old).text)) }
+    ensures text { IfOk result.2 (λ u.
+        string_bytes text.new ++ encoded (front is_name_char
+        (chars (drop result.0 (S.told source.old).text)))
+        ≡ string_bytes text.old ++ encoded (front is_name_char
+        (chars (drop index (S.told source.old).text)))) }
+    ensures rest { behind is_name_char (chars (drop result.0 (S.told source.old).text))
+        ≡ behind is_name_char (chars (drop index (S.told source.old).text)) }
 {
     let most = index + (source.len() - index).min(128);
     let mut part = [first; 128];

@@ -3,13 +3,15 @@
 ghost use Rattle.std.specs.Prelude.{◌≡◌, ◌==◌, ◌<◌, ℕ, List, length, true, Option};
 ghost use Rattle.serde_json_path_syntax.specs.Flat.{kind_view};
 ghost use Rattle.serde_json_path_syntax.specs.Parts.{KeepsParts};
+ghost use Rattle.serde_json_path_syntax.specs.declared.builder.SyntaxBuilder.{SyntaxBuilder};
 ghost use Rattle.serde_json_path_syntax.specs.Piece.{a_query, a_comparable, a_basic};
 ghost use Rattle.serde_json_path_functions.specs.Functions.{Signature};
 ghost use Rattle.serde_json_path_parser.specs.Filters.{query_at, operand_at, comparable_at, named_at, test_at, text_at};
-ghost use Rattle.serde_json_path_parser.specs.Giving.{Makes, MakesOperand, IsOperandOf, IsNear, MovesTo};
+ghost use Rattle.serde_json_path_parser.specs.Giving.{Makes, MakesOf, MakesOperand, IsOperandOf, IsNear, MovesTo};
 ghost use Rattle.serde_json_path_parser.specs.Levels.{at_level, signatures};
 ghost use Rattle.serde_json_path_parser.specs.Lexical.{begins, is_small_letter, IsQuote};
 ghost use Rattle.serde_json_path_parser.specs.Operands as operands;
+ghost use Rattle.serde_json_path_parser.specs.Operands.{calls_in_operand};
 ghost use Rattle.serde_json_path_parser.specs.Reading.{left};
 
 use crate::error::{Context, Failure, ParseErrorKind};
@@ -44,7 +46,9 @@ fn parse_text<S: PathSource>(
     requires quote { IsQuote quote }
     requires begins { begins (λ c. c == quote) (left reader.old) ≡ true }
     ensures moves { MovesTo result reader.old reader.new }
-    ensures gives { (signature : List ℕ → Option Signature) (builder : SyntaxBuilder) → MakesOperand signature builder result reader.new (text_at quote (left reader.old)) }
+    ensures gives { (signature : List ℕ → Option Signature) (builder : SyntaxBuilder)
+        → MakesOperand signature builder builder result reader.new
+        (text_at quote (left reader.old)) }
 {
     reader.take_char();
     let text = parse_string(alloc, reader, quote)?;
@@ -55,6 +59,7 @@ fn parse_text<S: PathSource>(
 impl<F: Functions> FilterParser<'_, F> {
     /// Parses a query in a filter, from its `@` or `$` on, and the blanks after it.
     #[cycle(filters)]
+    #[tactic(auto, unfolding(crate::specs::Filters::query_at))]
     pub(crate) fn parse_query<S: PathSource>(
         &self,
         builder: &mut SyntaxBuilder,
@@ -63,8 +68,9 @@ impl<F: Functions> FilterParser<'_, F> {
     ) -> Result<Part, Failure>
         requires { 0 < length (left reader.old) }
         ensures moves { MovesTo result reader.old reader.new }
-        ensures keeps { KeepsParts builder.old builder.new }
-        ensures gives { Makes a_query builder.new result reader.new (at_level F.set self.now query_at (kind_view kind) (left reader.old)) }
+        ensures gives { Makes (signatures F.set self.now) a_query builder.old builder.new
+            result reader.new
+            (at_level F.set self.now query_at (kind_view kind) (left reader.old)) }
     {
         reader.take_char();
         let (parts, _rest) = self.parse_segments(builder, reader, Context::LongHand)?;
@@ -73,6 +79,7 @@ impl<F: Functions> FilterParser<'_, F> {
 
     /// Parses what begins with a small letter (a call, `true`, `false` or `null`), and the blanks after it.
     #[cycle(filters)]
+    #[tactic(auto, unfolding(crate::specs::Filters::named_at, crate::specs::Filters::named_call_at, crate::specs::Filters::literal_word_at))]
     pub(crate) fn parse_named<S: PathSource>(
         &self,
         builder: &mut SyntaxBuilder,
@@ -80,8 +87,9 @@ impl<F: Functions> FilterParser<'_, F> {
     ) -> Result<Operand, Failure>
         requires { begins is_small_letter (left reader.old) ≡ true }
         ensures moves { MovesTo result reader.old reader.new }
-        ensures keeps { KeepsParts builder.old builder.new }
-        ensures gives { MakesOperand (signatures F.set self.now) builder.new result reader.new (at_level F.set self.now named_at (left reader.old)) }
+        ensures gives { MakesOperand (signatures F.set self.now) builder.old builder.new
+            result reader.new
+            (at_level F.set self.now named_at (left reader.old)) }
     {
         let start = reader.bytes_left();
         let word = read_word(self.alloc, reader)?;
@@ -108,8 +116,9 @@ impl<F: Functions> FilterParser<'_, F> {
         reader: &mut Reader<'_, S>,
     ) -> Result<Operand, Failure>
         ensures moves { MovesTo result reader.old reader.new }
-        ensures keeps { KeepsParts builder.old builder.new }
-        ensures gives { MakesOperand (signatures F.set self.now) builder.new result reader.new (at_level F.set self.now operand_at (left reader.old)) }
+        ensures gives { MakesOperand (signatures F.set self.now) builder.old builder.new
+            result reader.new
+            (at_level F.set self.now operand_at (left reader.old)) }
     {
         if reader.sees(b'\'') {
             return parse_text(self.alloc, reader, b'\'');
@@ -142,10 +151,14 @@ impl<F: Functions> FilterParser<'_, F> {
         start: usize,
         operand: Operand,
     ) -> Result<Part, Failure>
-        requires { (x : operands.Operand) × IsOperandOf (signatures F.set self.now) builder.old operand x }
+        requires { (x : operands.Operand)
+            × IsOperandOf (signatures F.set self.now) builder.old operand x }
         ensures near { IsNear result reader.now }
         ensures keeps { KeepsParts builder.old builder.new }
-        ensures gives { (x : operands.Operand) → IsOperandOf (signatures F.set self.now) builder.old operand x → Makes a_comparable builder.new result reader.now (at_level F.set self.now comparable_at start x (left reader.now)) }
+        ensures gives { (x : operands.Operand)
+            → IsOperandOf (signatures F.set self.now) builder.old operand x
+            → MakesOf (calls_in_operand x) a_comparable builder.new result reader.now
+            (at_level F.set self.now comparable_at start x (left reader.now)) }
     {
         match operand {
             Operand::Literal(literal) => { Ok(builder.literal(literal)?) }
@@ -173,10 +186,14 @@ impl<F: Functions> FilterParser<'_, F> {
         start: usize,
         operand: Operand,
     ) -> Result<Part, Failure>
-        requires { (x : operands.Operand) × IsOperandOf (signatures F.set self.now) builder.old operand x }
+        requires { (x : operands.Operand)
+            × IsOperandOf (signatures F.set self.now) builder.old operand x }
         ensures near { IsNear result reader.now }
         ensures keeps { KeepsParts builder.old builder.new }
-        ensures gives { (x : operands.Operand) → IsOperandOf (signatures F.set self.now) builder.old operand x → Makes a_basic builder.new result reader.now (at_level F.set self.now test_at start x (left reader.now)) }
+        ensures gives { (x : operands.Operand)
+            → IsOperandOf (signatures F.set self.now) builder.old operand x
+            → MakesOf (calls_in_operand x) a_basic builder.new result reader.now
+            (at_level F.set self.now test_at start x (left reader.now)) }
     {
         match operand {
             Operand::Literal(_literal) => Err(reader.refuse(

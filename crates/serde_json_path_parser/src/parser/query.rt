@@ -25,8 +25,10 @@ pub(crate) fn parse_path<S: PathSource, F: Functions>(
     functions: &F,
 ) -> Result<Checked, Failure>
     ensures moves { MovesTo result reader.old reader.new }
-    ensures gives { GivesQuery (F.set functions.now) result (path_at (F.set functions.now).signature (left reader.old)) }
-    ensures spares { IfErr result (λ stop. opens_behind_root (left reader.old) ≡ false → IsRefused stop) }
+    ensures gives { GivesQuery (F.set functions.now) result
+        (path_at (F.set functions.now).signature (left reader.old)) }
+    ensures spares { IfErr result (λ stop.
+        opens_behind_root (left reader.old) ≡ false → IsRefused stop) }
 {
     if !reader.sees(b'$') {
         return Err(reader.refuse(ParseErrorKind::ExpectedRoot, Context::Path));
@@ -49,6 +51,5 @@ pub(crate) fn parse_path<S: PathSource, F: Functions>(
         return Ok(Checked::new(alloc));
     }
     let part = builder.query(QueryKind::Root, parts)?;
-    let used = builder.signatures(alloc, part, functions)?;
-    Ok(builder.finish(part, used))
+    Ok(builder.finish(part))
 }

@@ -164,7 +164,8 @@ impl<'s, S: PathSource> Reader<'s, S> {
     /// A refusal at the ASCII character that was just taken.
     pub(crate) fn refuse_before(&self, kind: ParseErrorKind, context: Context) -> Failure
         requires { self.now.second ≡ None }
-        ensures value { (c : ℕ) → c < 128 → result ≡ Failure.Refused (refusal kind context (c ∷ left self.now)) }
+        ensures value { (c : ℕ) → c < 128
+            → result ≡ Failure.Refused (refusal kind context (c ∷ left self.now)) }
         ensures near { StopsNear result self.now }
     {
         Failure::Refused(Refusal {
@@ -313,7 +314,8 @@ impl<'s, S: PathSource> Reader<'s, S> {
     /// Takes the characters of a member name that are next, and appends them to a text.
     pub(crate) fn take_name_chars(&mut self, text: &mut String) -> Result<(), AllocError>
         ensures moves { Moves self.old self.new }
-        ensures text { IfOk result (λ u. string_bytes text.new ≡ string_bytes text.old ++ encode_utf8_all (front is_name_char (left self.old))) }
+        ensures text { IfOk result (λ u. string_bytes text.new
+            ≡ string_bytes text.old ++ encode_utf8_all (front is_name_char (left self.old))) }
         ensures rest { IfOk result (λ u. left self.new ≡ behind is_name_char (left self.old)) }
     {
         if self.second.is_some() {
@@ -335,7 +337,9 @@ impl<'s, S: PathSource> Reader<'s, S> {
         ensures moves { Moves self.old self.new }
         ensures second { self.new.second ≡ None }
         ensures less { length (left self.new) < length (left self.old) }
-        ensures text { IfOk result (λ u. string_bytes text.new ++ encode_utf8_all (front is_name_char (left self.new)) ≡ string_bytes text.old ++ encode_utf8_all (front is_name_char (left self.old))) }
+        ensures text { IfOk result (λ u.
+            string_bytes text.new ++ encode_utf8_all (front is_name_char (left self.new))
+            ≡ string_bytes text.old ++ encode_utf8_all (front is_name_char (left self.old))) }
         ensures rest { behind is_name_char (left self.new) ≡ behind is_name_char (left self.old) }
     {
         let first = self.next.unwrap();
@@ -438,11 +442,16 @@ fn name_chars<S: PathSource>(
     ensures within { result.0 ≤ length (S.told source.new).text }
     ensures utf8 { is_utf8 (drop result.0 (S.told source.new).text) ≡ true }
     ensures next_is { result.1 ≡ slice_get (S.told source.new).text result.0 }
-    ensures looks { (S.told source.new).looks + up_to index next ≤ (S.told source.old).looks + up_to result.0 result.1 }
-    ensures farthest { (S.told source.new).farthest ≤ max (S.told source.old).farthest (up_to result.0 result.1) }
+    ensures looks { (S.told source.new).looks + up_to index next
+        ≤ (S.told source.old).looks + up_to result.0 result.1 }
+    ensures farthest { (S.told source.new).farthest
+        ≤ max (S.told source.old).farthest (up_to result.0 result.1) }
     ensures on { up_to index next ≤ up_to result.0 result.1 }
-    ensures text { IfOk result.2 (λ u. string_bytes text.new ≡ string_bytes text.old ++ encoded (front is_name_char (chars (drop index (S.told source.old).text)))) }
-    ensures rest { IfOk result.2 (λ u. chars (drop result.0 (S.told source.new).text) ≡ behind is_name_char (chars (drop index (S.told source.old).text))) }
+    ensures text { IfOk result.2 (λ u. string_bytes text.new
+        ≡ string_bytes text.old ++ encoded (front is_name_char
+        (chars (drop index (S.told source.old).text)))) }
+    ensures rest { IfOk result.2 (λ u. chars (drop result.0 (S.told source.new).text)
+        ≡ behind is_name_char (chars (drop index (S.told source.old).text))) }
 {
     let mut reader = Reader::resume(source, index, next);
     let mut pushed = Ok(());

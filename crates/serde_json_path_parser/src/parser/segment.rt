@@ -1,12 +1,12 @@
 //! Segments.
 
-ghost use Rattle.std.specs.Prelude.{◌≡◌, true, ℕ, List, IfErr, false};
-ghost use Rattle.serde_json_path_syntax.specs.Parts.{KeepsParts};
+ghost use Rattle.std.specs.Prelude.{◌≡◌, true, ℕ, List, Option, IfErr, false};
 ghost use Rattle.serde_json_path_syntax.specs.Flat.{segment_kind_view};
 ghost use Rattle.serde_json_path_syntax.specs.Tree.{Selector};
 ghost use Rattle.serde_json_path_syntax.specs.Tree as tree;
+ghost use Rattle.serde_json_path_functions.specs.Functions.{Signature};
 ghost use Rattle.serde_json_path_parser.specs.Giving.{Makes, MakesSegments, StartsSegment, segment_piece, MovesTo, IsRefused};
-ghost use Rattle.serde_json_path_parser.specs.Levels.{filter_at};
+ghost use Rattle.serde_json_path_parser.specs.Levels.{filter_at, signatures};
 ghost use Rattle.serde_json_path_parser.specs.Lexical.{begins};
 ghost use Rattle.serde_json_path_parser.specs.Parsed.{Parsed};
 ghost use Rattle.serde_json_path_parser.specs.Parsing.{bracket_at, behind_dot, dotted_at, descendant_at, of_kind, dot_at, segment_at, segments_at, opens, opens_next};
@@ -40,8 +40,9 @@ fn parse_dotted<S: PathSource>(
     context: Context,
 ) -> Result<Part, Failure>
     ensures moves { MovesTo result reader.old reader.new }
-    ensures keeps { KeepsParts builder.old builder.new }
-    ensures gives { Makes segment_piece builder.new result reader.new (of_kind (segment_kind_view kind) (dotted_at context (left reader.old))) }
+    ensures gives { (signature : List ℕ → Option Signature)
+        → Makes signature segment_piece builder.old builder.new result reader.new
+        (of_kind (segment_kind_view kind) (dotted_at context (left reader.old))) }
 {
     if reader.sees(b'*') {
         reader.take_char();
@@ -60,8 +61,9 @@ fn parse_descendant<S: PathSource>(
     context: Context,
 ) -> Result<SegmentStart, Failure>
     ensures moves { MovesTo result reader.old reader.new }
-    ensures keeps { KeepsParts builder.old builder.new }
-    ensures gives { (filter_at : List ℕ → Parsed Selector) → StartsSegment builder.new result reader.new (bracket_at filter_at) (of_kind tree.descendant (descendant_at filter_at context (left reader.old))) }
+    ensures gives { (signature : List ℕ → Option Signature) (filter_at : List ℕ → Parsed Selector)
+        → StartsSegment signature builder.old builder.new result reader.new (bracket_at filter_at)
+        (of_kind tree.descendant (descendant_at filter_at context (left reader.old))) }
 {
     if reader.sees(b'[') {
         reader.take_char();
@@ -90,8 +92,9 @@ fn parse_dot<S: PathSource>(
     context: Context,
 ) -> Result<SegmentStart, Failure>
     ensures moves { MovesTo result reader.old reader.new }
-    ensures keeps { KeepsParts builder.old builder.new }
-    ensures gives { (filter_at : List ℕ → Parsed Selector) → StartsSegment builder.new result reader.new (bracket_at filter_at) (dot_at filter_at context (left reader.old)) }
+    ensures gives { (signature : List ℕ → Option Signature) (filter_at : List ℕ → Parsed Selector)
+        → StartsSegment signature builder.old builder.new result reader.new (bracket_at filter_at)
+        (dot_at filter_at context (left reader.old)) }
 {
     if reader.sees(b'.') {
         reader.take_char();
@@ -117,8 +120,9 @@ fn parse_segment_start<S: PathSource>(
 ) -> Result<SegmentStart, Failure>
     requires { begins opens (left reader.old) ≡ true }
     ensures moves { MovesTo result reader.old reader.new }
-    ensures keeps { KeepsParts builder.old builder.new }
-    ensures gives { (filter_at : List ℕ → Parsed Selector) → StartsSegment builder.new result reader.new (bracket_at filter_at) (segment_at filter_at context (left reader.old)) }
+    ensures gives { (signature : List ℕ → Option Signature) (filter_at : List ℕ → Parsed Selector)
+        → StartsSegment signature builder.old builder.new result reader.new (bracket_at filter_at)
+        (segment_at filter_at context (left reader.old)) }
 {
     if reader.sees(b'.') {
         reader.take_char();
@@ -139,8 +143,10 @@ impl<F: Functions> FilterParser<'_, F> {
         kind: SegmentKind,
     ) -> Result<Part, Failure>
         ensures moves { MovesTo result reader.old reader.new }
-        ensures keeps { KeepsParts builder.old builder.new }
-        ensures gives { Makes segment_piece builder.new result reader.new (of_kind (segment_kind_view kind) (bracket_at (filter_at F.set self.now) (left reader.old))) }
+        ensures gives { Makes (signatures F.set self.now) segment_piece builder.old builder.new
+            result reader.new
+            (of_kind (segment_kind_view kind)
+            (bracket_at (filter_at F.set self.now) (left reader.old))) }
     {
         let selectors = self.parse_selectors(builder, reader)?;
         if !reader.sees(b']') {
@@ -160,8 +166,9 @@ impl<F: Functions> FilterParser<'_, F> {
     ) -> Result<Part, Failure>
         requires { begins opens (left reader.old) ≡ true }
         ensures moves { MovesTo result reader.old reader.new }
-        ensures keeps { KeepsParts builder.old builder.new }
-        ensures gives { Makes segment_piece builder.new result reader.new (segment_at (filter_at F.set self.now) context (left reader.old)) }
+        ensures gives { Makes (signatures F.set self.now) segment_piece builder.old builder.new
+            result reader.new
+            (segment_at (filter_at F.set self.now) context (left reader.old)) }
     {
         match parse_segment_start(self.alloc, builder, reader, context)? {
             SegmentStart::Dotted(segment) => Ok(segment),
@@ -179,9 +186,11 @@ impl<F: Functions> FilterParser<'_, F> {
         context: Context,
     ) -> Result<(Parts, usize), Failure>
         ensures moves { MovesTo result reader.old reader.new }
-        ensures keeps { KeepsParts builder.old builder.new }
-        ensures gives { MakesSegments builder.new result reader.new (segments_at (filter_at F.set self.now) context (left reader.old)) }
-        ensures spares { IfErr result (λ stop. opens_next (left reader.old) ≡ false → IsRefused stop) }
+        ensures gives { MakesSegments (signatures F.set self.now) builder.old builder.new
+            result reader.new
+            (segments_at (filter_at F.set self.now) context (left reader.old)) }
+        ensures spares { IfErr result (λ stop.
+            opens_next (left reader.old) ≡ false → IsRefused stop) }
     {
         let mut parts = Parts::new(self.alloc);
         let mut rest = reader.bytes_left();

@@ -1,13 +1,13 @@
 //! Selectors.
 
-ghost use Rattle.std.specs.Prelude.{◌≡◌, ◌==◌, ℕ, List, true, false};
-ghost use Rattle.serde_json_path_syntax.specs.Parts.{KeepsParts};
+ghost use Rattle.std.specs.Prelude.{◌≡◌, ◌==◌, ℕ, List, Option, true, false};
 ghost use Rattle.serde_json_path_syntax.specs.Piece.{a_selector};
 ghost use Rattle.serde_json_path_syntax.specs.Tree.{Selector};
+ghost use Rattle.serde_json_path_functions.specs.Functions.{Signature};
 ghost use Rattle.serde_json_path_parser.specs.Giving.{Makes, MakesSelectors, MovesTo};
-ghost use Rattle.serde_json_path_parser.specs.Levels.{filter_at};
+ghost use Rattle.serde_json_path_parser.specs.Levels.{filter_at, signatures};
 ghost use Rattle.serde_json_path_parser.specs.Parsed.{Parsed, past_blanks};
-ghost use Rattle.serde_json_path_parser.specs.Lexical.{begins, IsQuote};
+ghost use Rattle.serde_json_path_parser.specs.Lexical.{is_at, begins, IsQuote};
 ghost use Rattle.serde_json_path_parser.specs.Parsing.{position_at, quoted_at, selector_at, selectors_at};
 ghost use Rattle.serde_json_path_parser.specs.Reading.{left};
 
@@ -30,8 +30,9 @@ fn parse_index_or_slice<S: PathSource>(
     reader: &mut Reader<'_, S>,
 ) -> Result<Part, Failure>
     ensures moves { MovesTo result reader.old reader.new }
-    ensures keeps { KeepsParts builder.old builder.new }
-    ensures gives { Makes a_selector builder.new result reader.new (position_at (left reader.old)) }
+    ensures gives { (signature : List ℕ → Option Signature)
+        → Makes signature a_selector builder.old builder.new result reader.new
+        (position_at (left reader.old)) }
 {
     let start = parse_int(reader)?;
     reader.skip_blanks();
@@ -53,8 +54,9 @@ fn parse_quoted<S: PathSource>(
 ) -> Result<Part, Failure>
     requires { IsQuote quote }
     ensures moves { MovesTo result reader.old reader.new }
-    ensures keeps { KeepsParts builder.old builder.new }
-    ensures gives { Makes a_selector builder.new result reader.new (quoted_at quote (left reader.old)) }
+    ensures gives { (signature : List ℕ → Option Signature)
+        → Makes signature a_selector builder.old builder.new result reader.new
+        (quoted_at quote (left reader.old)) }
 {
     let text = parse_string(alloc, reader, quote)?;
     reader.skip_blanks();
@@ -68,10 +70,11 @@ fn parse_plain_selector<S: PathSource>(
     builder: &mut SyntaxBuilder,
     reader: &mut Reader<'_, S>,
 ) -> Result<Part, Failure>
-    requires { begins (λ c. c == 63) (left reader.old) ≡ false }
+    requires { is_at "?" (left reader.old) ≡ false }
     ensures moves { MovesTo result reader.old reader.new }
-    ensures keeps { KeepsParts builder.old builder.new }
-    ensures gives { (filter_at : List ℕ → Parsed Selector) → Makes a_selector builder.new result reader.new (selector_at filter_at (left reader.old)) }
+    ensures gives { (signature : List ℕ → Option Signature) (filter_at : List ℕ → Parsed Selector)
+        → Makes signature a_selector builder.old builder.new result reader.new
+        (selector_at filter_at (left reader.old)) }
 {
     if reader.sees(b'\'') {
         reader.take_char();
@@ -103,8 +106,9 @@ impl<F: Functions> FilterParser<'_, F> {
         reader: &mut Reader<'_, S>,
     ) -> Result<Part, Failure>
         ensures moves { MovesTo result reader.old reader.new }
-        ensures keeps { KeepsParts builder.old builder.new }
-        ensures gives { Makes a_selector builder.new result reader.new (selector_at (filter_at F.set self.now) (left reader.old)) }
+        ensures gives { Makes (signatures F.set self.now) a_selector builder.old builder.new
+            result reader.new
+            (selector_at (filter_at F.set self.now) (left reader.old)) }
     {
         if reader.sees(b'?') {
             let test = self.parse_inside(builder, reader)?;
@@ -116,14 +120,16 @@ impl<F: Functions> FilterParser<'_, F> {
     /// Parses the selectors after a bracket, with commas between them and blanks round them (RFC 9535, section
     /// 2.5.1).
     #[cycle(filters)]
+    #[tactic(auto, unfolding(crate::specs::Parsing::selectors_at))]
     pub(crate) fn parse_selectors<S: PathSource>(
         &self,
         builder: &mut SyntaxBuilder,
         reader: &mut Reader<'_, S>,
     ) -> Result<Parts, Failure>
         ensures moves { MovesTo result reader.old reader.new }
-        ensures keeps { KeepsParts builder.old builder.new }
-        ensures gives { MakesSelectors builder.new result reader.new (selectors_at (filter_at F.set self.now) (left reader.old)) }
+        ensures gives { MakesSelectors (signatures F.set self.now) builder.old builder.new
+            result reader.new
+            (selectors_at (filter_at F.set self.now) (left reader.old)) }
     {
         reader.skip_blanks();
         let first = self.parse_selector(builder, reader)?;

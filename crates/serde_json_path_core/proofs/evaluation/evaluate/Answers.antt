@@ -1,25 +1,13 @@
-use Rattle.std.proofs.Common.{◌≡◌, [], ◌∷◌, ◌++◌, map, IfErr, sym, subst, ap, ◌∙◌, append_assoc, rules}
+use Rattle.std.proofs.Common.{[], ◌∷◌, ◌++◌, map, sym, subst, ap, ◌∙◌, append_assoc, rules}
 use Rattle.std.proofs.lemmas.List.{append-nil, map-append}
 use Rattle.serde_json.specs.View.{view}
 use Rattle.serde_json_path_nodes.specs.Location.{Located}
 use Rattle.serde_json_path_nodes.specs.Views.{node_value}
-use Rattle.serde_json_path_syntax.specs.Calls.{EachCall}
-use Rattle.serde_json_path_core.specs.Clear.{GoesWithoutPattern}
 use Rattle.serde_json_path_core.specs.Meaning.{IsResult}
 use Rattle.serde_json_path_syntax.specs.Parts.{tree_of}
-use Rattle.serde_json_path_core.specs.Walks.{document_of, query_of, rest, set_of}
-use Rattle.serde_json_path_functions.specs.declared.error.QueryError.TheVariants.{Memory}
+use Rattle.serde_json_path_core.specs.Walks.{rest}
 use Rattle.serde_json_path_core.proofs.KnownCases.{found-none, found-some}
-use Rattle.serde_json_path_core.proofs.WholeQueries.{clear-there}
 use Rattle.serde_json_path_core.proofs.evaluation.evaluate.Goals as goal
-
-pub returns-in_err-value-clause-refused : goal.returns-in_err-value-clause-refused
-returns-in_err-value-clause-refused g c =
-    let w = c.values.walk in
-    let r = c.from_residual-in_err-value.result in
-    let there : IfErr r (λ e. EachCall (GoesWithoutPattern (set_of w)) (query_of w) → e ≡ Memory) = search rules in
-    subst (λ F. IfErr r (λ e. EachCall (GoesWithoutPattern F) (tree_of c.args.query.now) → e ≡ Memory)) c.values.invariant.set
-    (subst (λ q. IfErr r (λ e. EachCall (GoesWithoutPattern (set_of w)) q → e ≡ Memory)) c.values.invariant.query there)
 
 pub values-preserved : goal.values-preserved
 values-preserved g c =
@@ -32,7 +20,7 @@ values-preserved g c =
       query = c.next_value.ensures.query ∙ before.query;
       document = c.next_value.ensures.document ∙ before.document;
       selected = λ clear.
-          let given = found-some _ _ c.in_ok-value.field-0 value c.in-Some.is (c.in_ok-value.ensures.given (clear-there (g.F.Functions.set c.args.functions) (set_of c.values.walk) (tree_of c.args.query.now) (query_of c.values.walk) (view c.args.document.now) (document_of c.values.walk) before.set before.query before.document clear)) in
+          let given = found-some _ _ c.in_ok-value.field-0 value c.in-Some.is (c.in_ok-value.ensures.given (rw (before.set, before.query, before.document) clear)) in
           let found = before.selected clear in (
             found.0 ++ given.0 ∷ [],
             subst nodes (ap (λ more. found.0 ++ more) given.2 ∙ sym (append_assoc found.0 (given.0 ∷ []) left)) found.1,
@@ -41,14 +29,3 @@ values-preserved g c =
                 ∙ sym (map-append (λ (n : Located). n.value) found.0 (given.0 ∷ [])),
           );
     }
-
-pub returns-clause-selects : goal.returns-clause-selects
-returns-clause-selects g c =
-    let before = c.values.invariant in
-    λ clear.
-    let none = found-none _ _ c.in_ok-value.field-0 c.in_default.is (c.in_ok-value.ensures.given (clear-there (g.F.Functions.set c.args.functions) (set_of c.values.walk) (tree_of c.args.query.now) (query_of c.values.walk) (view c.args.document.now) (document_of c.values.walk) before.set before.query before.document clear)) in
-    let found = before.selected clear in (
-      found.0,
-      subst (IsResult (g.F.Functions.set c.args.functions) (view c.args.document.now) (tree_of c.args.query.now) (view c.args.document.now)) (ap (λ more. found.0 ++ more) none ∙ append-nil found.0) found.1,
-      c.from.ensures ∙ found.2,
-    )

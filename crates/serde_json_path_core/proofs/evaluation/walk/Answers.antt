@@ -2,26 +2,23 @@ use Rattle.std.proofs.Common.{[], ◌∷◌, ◌++◌, sym, subst, ap, ◌∙◌
 use Rattle.serde_json.specs.View.{view}
 use Rattle.serde_json_path_core.specs.Derivation.{start_of}
 use Rattle.serde_json_path_syntax.specs.Flat.{segments_at}
-use Rattle.serde_json_path_syntax.specs.Parts.{signatures_of, tree_of}
+use Rattle.serde_json_path_syntax.specs.Parts.{nodes_in, signatures_of, tree_of}
 use Rattle.serde_json_path_core.specs.Frames.{frame_view, frames_view}
 use Rattle.serde_json_path_core.specs.Rest.{rest_of, IsStack}
 use Rattle.serde_json_path_syntax.specs.Stages.{stages, stages_at}
 use Rattle.serde_json_path_core.specs.Meaning.{IsResult}
 use Rattle.serde_json_path_core.proofs.Chains.{stack-started}
-use Rattle.serde_json_path_core.proofs.Listed.{computed_result}
+use Rattle.serde_json_path_core.proofs.Derived.{computed_result}
 use Rattle.serde_json_path_core.proofs.Started.{begun-frame, begun-results}
 use Rattle.serde_json_path_core.proofs.WholeQueries.{whole-sound}
 use Rattle.serde_json_path_core.proofs.evaluation.walk.Goals as goal
-
-pub invariant_of-scope : goal.invariant_of-scope
-invariant_of-scope g c = record { fits = ∣ c.requires ∣₁ }
 
 pub invariant_of-result : goal.invariant_of-result
 invariant_of-result g c =
     let items = c.in_ok-push.ensures.items ∙ ap (λ frames. frames ++ c.start.result ∷ []) c.new-frames.ensures.items in
     let top = view c.args.document.now in
     record {
-      stack = ∣ subst (λ frames. IsStack top (frames_view frames)) (sym items) (stack-started (stages_at c.args.query.now.nodes.items c.segments.result.now) top (frame_view c.start.result) c.start.ensures) ∣₁;
+      stack = ∣ subst (λ frames. IsStack top (frames_view frames)) (sym items) (stack-started (stages_at (nodes_in c.args.query.now) c.segments.result.now) top (frame_view c.start.result) c.start.ensures) ∣₁;
     }
 
 pub returns-clause-selects : goal.returns-clause-selects
@@ -31,11 +28,11 @@ returns-clause-selects g c =
     let tree = tree_of q in
     let top = view c.args.document.now in
     let frames = c.push.new.self.items in
-    let segs = segments_at q.nodes.items c.segments.result.now in
+    let segs = segments_at (nodes_in q) c.segments.result.now in
     let items = c.in_ok-push.ensures.items ∙ ap (λ frames. frames ++ c.start.result ∷ []) c.new-frames.ensures.items in
     let first = begun-frame top tree top top segs (frame_view c.start.result) c.segments.ensures.tree
     (sym (ap (λ kind. start_of kind top top) q.rooted)) c.start.ensures in
     let begun = begun-results F top tree top segs (frames_view frames) (frame_view c.start.result) c.segments.ensures.tree (ap frames_view items) first in
     λ clear.
     subst (IsResult F top tree top) (sym begun ∙ ap (λ segs. rest_of F top (stages segs) (frames_view frames)) c.segments.ensures.tree)
-    (computed_result F top tree top (whole-sound F top (signatures_of q) tree ∣ c.requires ∣₁ q.typed).0)
+    (computed_result F top tree top (whole-sound F (signatures_of q) tree ∣ c.requires ∣₁ q.typed).0)

@@ -1,5 +1,87 @@
-use Rattle.serde_json_path_core.proofs.Subtrees.{descendants_in_document_order}
+-- A descendant segment's nodes are the child segment's at the node, then those of each child's subtree.
+use Rattle.std.proofs.Common.{◌≡◌, List, [], ◌∷◌, ◌++◌, map, flat_map, sym, ap, ◌∙◌}
+use Rattle.std.proofs.lemmas.List.{append-nil, map-id}
+use Rattle.std.proofs.lemmas.List.Folds.{flat_map-map}
+use Rattle.std.proofs.lemmas.Simd.{map-map}
+use Rattle.serde_json.specs.Data.{Data}
+use Rattle.serde_json_path_nodes.specs.Location.{Step, StepBefore, Located}
+use Rattle.serde_json_path_syntax.specs.Tree.{Query, query, current, Segments, segment, child, descendant, Segment}
+use Rattle.serde_json_path_functions.specs.Functions.{FunctionSet}
+use Rattle.serde_json_path_core.specs.Meaning.{IsResult}
+use Rattle.serde_json_path_syntax.specs.Typing.{IsTyped}
+use Rattle.serde_json_path_core.specs.Selected.{beneath}
+use Rattle.serde_json_path_core.specs.Computed.{itself, children, descents, placed, results, results_from, chosen}
+use Rattle.serde_json_path_core.specs.Laws.{AreChildren, AreSubtreeResults}
+use Rattle.serde_json_path_core.proofs.ChildSteps.{in_children, children_ordered}
+use Rattle.serde_json_path_core.proofs.Descents.{below_child, descents_are}
+use Rattle.serde_json_path_core.proofs.DerivationEnds.{node_at, ends, results-ends}
+use Rattle.serde_json_path_syntax.proofs.InLists.{flat_map-same, flat_map-flat_map, map-flat_map}
+use Rattle.serde_json_path_core.proofs.Derived.{computed_only}
+use Rattle.serde_json_path_core.proofs.Order.{step_once, in_order_once}
 use Rattle.serde_json_path_core.proofs.laws.law_descendants_in_document_order.Goals as goal
+
+-- a list of the children is the computed one
+children_are : (v : Data) (cs : List (Step × Data)) → AreChildren v cs → cs ≡ children v
+children_are v cs h =
+    in_order_once (λ (a b : Step × Data). StepBefore a.0 b.0) (λ a b. step_once a.0 b.0) cs (children v) h.0 (children_ordered v)
+    (λ c k. (in_children v c).1 ((h.1 c).0 k)) (λ c k. (h.1 c).1 ((in_children v c).0 k))
+
+module _ (F : FunctionSet) (top : Data) where
+  -- what segments select from a node is what they select from its value, below its location
+  results_beneath : (segs : Segments) (n : Located) → results_from F top segs n ≡ map (beneath n.location) (results_from F top segs (itself n.value))
+  results_beneath segs n =
+      results-ends F top segs n ∙ sym (map-map (beneath n.location) (node_at (itself n.value)) (ends F top segs n.value))
+      ∙ ap (map (beneath n.location)) (sym (results-ends F top segs (itself n.value)))
+
+  -- the results at each of the children, below its step, joined
+  abbrev subtrees : Query → List (Step × Data) → List Located
+  subtrees q cs = flat_map (λ (c : Step × Data). map (beneath (c.0 ∷ [])) (results F top q c.1)) cs
+
+  subtree_results : (q : Query) (cs : List (Step × Data)) (ns : List Located) → IsTyped F.signature q → AreSubtreeResults F top q cs ns → ns ≡ subtrees q cs
+  subtree_results q [] ns typed h = h
+  subtree_results q (c ∷ cs) ns typed h =
+      h.4 ∙ ap (λ first. map (beneath (c.0 ∷ [])) first ++ h.1) (computed_only F top q c.1 h.0 typed h.2)
+      ∙ ap (λ later. map (beneath (c.0 ∷ [])) (results F top q c.1) ++ later) (subtree_results q cs h.1 typed h.3)
+
+  module _ (seg : Segment) (more : Segments) where
+    -- what the child segment selects at a node below
+    abbrev at_node : Located → List Located
+    at_node n = map (beneath n.location) (results F top (query current (segment child seg more)) n.value)
+
+    -- the descendant segment's nodes are the child segment's at the value and at each one below it
+    each_node : (v : Data) → results F top (query current (segment descendant seg more)) v ≡ flat_map at_node (descents v)
+    each_node v =
+        let select : Located → List Located = λ m. flat_map (results_from F top more) (map (placed m.location) (chosen F top seg m.value)) in
+        ap (flat_map select) (map-id (descents v))
+        ∙ flat_map-same select at_node (λ m. sym (append-nil (select m)) ∙ results_beneath (segment child seg more) m) (descents v)
+
+    -- those below a child are its subtree's
+    in_subtree : (c : Step × Data) → flat_map at_node (below_child c) ≡ map (beneath (c.0 ∷ [])) (results F top (query current (segment descendant seg more)) c.1)
+    in_subtree c =
+        flat_map-map at_node (beneath (c.0 ∷ [])) (descents c.1)
+        ∙ flat_map-same (λ n. at_node (beneath (c.0 ∷ []) n)) (λ n. map (beneath (c.0 ∷ [])) (at_node n))
+        (λ n. sym (map-map (beneath (c.0 ∷ [])) (beneath n.location) (results F top (query current (segment child seg more)) n.value))) (descents c.1)
+        ∙ sym (map-flat_map (beneath (c.0 ∷ [])) at_node (descents c.1)) ∙ ap (map (beneath (c.0 ∷ []))) (sym (each_node c.1))
+
+    node_then_subtrees : (v : Data) → results F top (query current (segment descendant seg more)) v
+        ≡ results F top (query current (segment child seg more)) v ++ subtrees (query current (segment descendant seg more)) (children v)
+    node_then_subtrees v =
+        each_node v ∙ ap (flat_map at_node) (descents_are v)
+        ∙ ap (λ ns. ns ++ flat_map at_node (flat_map below_child (children v))) (map-id (results F top (query current (segment child seg more)) v))
+        ∙ ap (λ ns. results F top (query current (segment child seg more)) v ++ ns)
+        (flat_map-flat_map at_node below_child (children v)
+        ∙ flat_map-same (λ c. flat_map at_node (below_child c)) (λ (c : Step × Data). map (beneath (c.0 ∷ [])) (results F top (query current (segment descendant seg more)) c.1)) in_subtree (children v))
+
+    -- the result is the child segment's, then those of the children's subtrees
+    descendants_in_document_order : (v : Data) (cs : List (Step × Data)) (list here below : List Located)
+        → IsTyped F.signature (query current (segment descendant seg more)) → IsResult F top (query current (segment descendant seg more)) v list
+        → IsResult F top (query current (segment child seg more)) v here → AreChildren v cs → AreSubtreeResults F top (query current (segment descendant seg more)) cs below
+        → list ≡ here ++ below
+    descendants_in_document_order v cs list here below typed is_list is_here are_children are_below =
+        let whole = query current (segment descendant seg more) in
+        computed_only F top whole v list typed is_list ∙ node_then_subtrees v
+        ∙ ap (λ ns. ns ++ subtrees whole (children v)) (sym (computed_only F top (query current (segment child seg more)) v here typed is_here))
+        ∙ ap (λ ns. here ++ ns) (sym (subtree_results whole cs below typed are_below ∙ ap (subtrees whole) (children_are v cs are_children)))
 
 pub returns : goal.returns
 returns c = λ F top seg more v cs list here below typed is_list is_here are_children are_below.

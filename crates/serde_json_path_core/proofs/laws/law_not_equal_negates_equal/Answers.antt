@@ -1,5 +1,32 @@
-use Rattle.serde_json_path_core.proofs.Negations.{not_equal_negates}
+use Rattle.std.proofs.Common.{◌≡◌, ◌↔◌, sym, subst, ◌∙◌}
+use Rattle.std.proofs.lemmas.Option.{same_Some}
+use Rattle.serde_json.specs.Data.{Data}
+use Rattle.serde_json_path_syntax.specs.Tree.{relation, equal, not_equal, Comparable}
+use Rattle.serde_json_path_functions.specs.Functions.{FunctionSet, KeepsTypes}
+use Rattle.serde_json_path_core.specs.Compared.{Compared, AreEqual}
+use Rattle.serde_json_path_core.specs.Meaning.{HoldsBasic, IsComparedAs}
+use Rattle.serde_json_path_syntax.specs.Typing.{IsTypedComparable}
+use Rattle.serde_json_path_core.proofs.AnswerKinds.{compared_there}
+use Rattle.serde_json_path_core.proofs.Derived.{compared_right}
 use Rattle.serde_json_path_core.proofs.laws.law_not_equal_negates_equal.Goals as goal
+
+-- a side of a comparison stands for one thing at most
+compared_once : (F : FunctionSet) (top : Data) (a : Comparable) (v : Data) (x y : Compared) → IsTypedComparable F.signature a → IsComparedAs F top a v x → IsComparedAs F top a v y → x ≡ y
+compared_once F top a v x y typed h g = same_Some x y (sym ((compared_right F top a typed v x).0 h) ∙ (compared_right F top a typed v y).0 g)
+
+-- each side stands for something, so that one of the two comparisons holds
+not_equal_negates : (F : FunctionSet) (top : Data) (a b : Comparable) (v : Data) → KeepsTypes F → IsTypedComparable F.signature a → IsTypedComparable F.signature b
+    → HoldsBasic F top (relation a not_equal b) v ↔ (HoldsBasic F top (relation a equal b) v → ⊥)
+not_equal_negates F top a b v keeps typed_a typed_b = (
+  λ h g. h.4 (subst (λ x. AreEqual x h.1) (compared_once F top a v g.0 h.0 typed_a g.2 h.2)
+      (subst (AreEqual g.0) (compared_once F top b v g.1 h.1 typed_b g.3 h.3) g.4)),
+  λ never.
+      let x = compared_there F top keeps a typed_a v in
+      let y = compared_there F top keeps b typed_b v in
+      let left = (compared_right F top a typed_a v x.0).1 x.1 in
+      let right = (compared_right F top b typed_b v y.0).1 y.1 in
+      (x.0, y.0, left, right, λ same. never (x.0, y.0, left, right, same)),
+)
 
 pub returns : goal.returns
 returns c = λ F top a b v keeps typed_a typed_b. not_equal_negates F top a b v keeps typed_a typed_b

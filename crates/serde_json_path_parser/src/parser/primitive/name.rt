@@ -18,7 +18,8 @@ pub(crate) fn parse_name<S: PathSource>(
     context: Context,
 ) -> Result<String, Failure>
     ensures moves { MovesTo result reader.old reader.new }
-    ensures gives { Gives (λ text. string_bytes text) result reader.new (name_at context (left reader.old)) }
+    ensures gives { Gives (λ text. string_bytes text) result reader.new
+        (name_at context (left reader.old)) }
 {
     if !reader.sees_name_first() {
         return Err(reader.refuse(ParseErrorKind::BadMemberName, context));

@@ -44,7 +44,8 @@ fn parse_fraction_digits<S: PathSource>(
     start: usize,
 ) -> Result<u128, Failure>
     ensures moves { MovesTo result reader.old reader.new }
-    ensures gives { Gives (λ n. n) result reader.new (digits_behind_point_at start (left reader.old)) }
+    ensures gives { Gives (λ n. n) result reader.new
+        (digits_behind_point_at start (left reader.old)) }
 {
     if !reader.sees_digit() {
         return Err(Failure::in_long_hand(ParseErrorKind::ExponentOrEmptyFraction, start));

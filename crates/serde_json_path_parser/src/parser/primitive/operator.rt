@@ -15,7 +15,8 @@ pub(crate) fn parse_operator<S: PathSource>(
 ) -> Option<ComparisonOperator>
     ensures moves { Moves reader.old reader.new }
     ensures stays { IsNone result → left reader.new ≡ left reader.old }
-    ensures value { operator_at (left reader.old) ≡ option_map (λ op. (operator_view op, left reader.new)) result }
+    ensures value { operator_at (left reader.old)
+        ≡ option_map (λ op. (operator_view op, left reader.new)) result }
 {
     if reader.sees_both(b'=', b'=') {
         reader.take_two();

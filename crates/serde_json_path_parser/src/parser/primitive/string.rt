@@ -3,7 +3,7 @@
 ghost use Rattle.std.specs.Prelude.{◌≡◌, ◌==◌, ◌<◌, ◌≤◌, ◌+◌, ◌^◌, ℕ, List, length, true, IfOk, string_bytes};
 ghost use Rattle.std.specs.Char.{IsScalar};
 ghost use Rattle.serde_json_path_parser.specs.Giving.{Gives, MovesTo};
-ghost use Rattle.serde_json_path_parser.specs.Lexical.{begins, IsQuote};
+ghost use Rattle.serde_json_path_parser.specs.Lexical.{is_at, begins, IsQuote};
 ghost use Rattle.serde_json_path_parser.specs.Reading.{left};
 ghost use Rattle.serde_json_path_parser.specs.Strings.{hexadecimal_at, hex4_at, is_high, low_at, unicode_at, escape_at, piece_at, is_inside, string_at};
 
@@ -95,7 +95,7 @@ fn parse_unicode<S: PathSource>(reader: &mut Reader<'_, S>, start: usize) -> Res
 #[tactic(auto, unfolding(crate::specs::Strings::escape_at))]
 fn parse_escape<S: PathSource>(reader: &mut Reader<'_, S>, quote: u8) -> Result<char, Failure>
     requires quote { quote < 128 }
-    requires slash { begins (λ c. c == 92) (left reader.old) ≡ true }
+    requires slash { is_at "\\" (left reader.old) ≡ true }
     ensures moves { MovesTo result reader.old reader.new }
     ensures gives { Gives (λ c. c) result reader.new (escape_at quote (left reader.old)) }
 {
@@ -145,7 +145,8 @@ pub(crate) fn parse_string<S: PathSource>(
 ) -> Result<String, Failure>
     requires { IsQuote quote }
     ensures moves { MovesTo result reader.old reader.new }
-    ensures gives { Gives (λ text. string_bytes text) result reader.new (string_at quote (left reader.old)) }
+    ensures gives { Gives (λ text. string_bytes text) result reader.new
+        (string_at quote (left reader.old)) }
 {
     let mut text = String::new(alloc);
     'pieces: while reader.sees_inside(quote) {

@@ -24,7 +24,8 @@ pub(crate) enum Word {
 impl Word {
     /// The literal that is written so.
     pub(crate) fn literal(&self) -> Option<Literal>
-        ensures { (text : List ℕ) → IsWord self.now text → option_map literal_view result ≡ literal_word text }
+        ensures { (text : List ℕ) → IsWord self.now text
+            → option_map literal_view result ≡ literal_word text }
     {
         match self {
             Word::True => Some(Literal::Bool(true)),
@@ -36,7 +37,8 @@ impl Word {
 
     /// The word as a function's name. Memory is asked for only for a literal's word.
     pub(crate) fn into_name(self, alloc: Global) -> Result<String, AllocError>
-        ensures { IfOk result (λ name. (text : List ℕ) → IsWord self text → string_bytes name ≡ text) }
+        ensures { IfOk result (λ name.
+            (text : List ℕ) → IsWord self text → string_bytes name ≡ text) }
     {
         match self {
             Word::True => String::from_str(alloc, "true"),
@@ -66,7 +68,8 @@ fn take_common<S: PathSource>(reader: &mut Reader<'_, S>, known: &str) -> usize
 /// Takes the characters of a word that are next, and appends them to a text.
 fn take_word<S: PathSource>(reader: &mut Reader<'_, S>, text: &mut String) -> Result<(), AllocError>
     ensures moves { Moves reader.old reader.new }
-    ensures text { IfOk result (λ u. string_bytes text.new ≡ string_bytes text.old ++ word (left reader.old)) }
+    ensures text { IfOk result (λ u.
+        string_bytes text.new ≡ string_bytes text.old ++ word (left reader.old)) }
     ensures rest { IfOk result (λ u. left reader.new ≡ behind_word (left reader.old)) }
 {
     while reader.sees_function_char() {

@@ -4,4 +4,4 @@ use Rattle.serde_json_path_syntax.specs.Flat.{part_query, segments_at}
 use Rattle.serde_json_path_syntax.proofs.singular.is_singular.Given as goal
 
 abbrev pub invariant-loop-segment : goal.invariant-loop-segment
-invariant-loop-segment l = IsSingular (part_query l.fn.nodes l.fn.query) ↔ AreSingular (segments_at l.fn.nodes (drop l.segment-index l.segment-items))
+invariant-loop-segment l = IsSingular (part_query l.fn.arena.nodes.items l.fn.query) ↔ AreSingular (segments_at l.fn.arena.nodes.items (drop l.segment-index l.segment-items))

@@ -1,11 +1,11 @@
 use Rattle.serde_json_path_syntax.specs.Flat.{parts_in, segment_kind_view}
 use Rattle.serde_json_path_syntax.specs.Parts.{selector_pieces}
-use Rattle.serde_json_path_syntax.proofs.NamedParts.{numbers_below, selectors_for, long_hand_of_parts}
+use Rattle.serde_json_path_syntax.proofs.NamedParts.{parts_below, selectors_for, long_hand_of_parts}
 use Rattle.serde_json_path_syntax.proofs.builder.SyntaxBuilder.long_hand.Goals as goal
 
 pub push-requires : goal.push-requires
 push-requires c =
-    numbers_below c.args.self.now (parts_in c.args.selectors) (selector_pieces c.requires.0)
+    parts_below c.args.self.now (parts_in c.args.selectors) (selector_pieces c.requires.0)
     (selectors_for c.args.self.now (parts_in c.args.selectors) c.requires.0 c.requires.1)
 
 pub returns-clause-made : goal.returns-clause-made

@@ -1,11 +1,8 @@
 use Rattle.serde_json_path_syntax.specs.Tree as tree
 use Rattle.serde_json_path_syntax.specs.Piece.{a_basic, a_query}
 use Rattle.serde_json_path_syntax.specs.Flat.{query_in}
-use Rattle.serde_json_path_syntax.proofs.NamedParts.{one_below, made_of_part}
+use Rattle.serde_json_path_syntax.proofs.NamedParts.{made_of_part}
 use Rattle.serde_json_path_syntax.proofs.builder.SyntaxBuilder.not_exist.Goals as goal
-
-pub push-requires : goal.push-requires
-push-requires c = one_below c.args.self.now c.args.query (a_query c.requires.0) c.requires.1
 
 pub returns-clause-made : goal.returns-clause-made
 returns-clause-made c = made_of_part c.args.self.now c.push.new.self c.args.query a_query (λ piece. a_basic (tree.not_exist (query_in piece))) c.push.result c.push.ensures.made

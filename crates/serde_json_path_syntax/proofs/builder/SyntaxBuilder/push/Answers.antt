@@ -1,9 +1,17 @@
-use Rattle.std.proofs.Common.{◌∙◌}
-use Rattle.serde_json_path_syntax.proofs.Growing.{pushed_is, push_keeps}
+use Rattle.serde_json_path_syntax.proofs.Growing.{push_made, push_keeps, push_calls, push_silent}
 use Rattle.serde_json_path_syntax.proofs.builder.SyntaxBuilder.push.Goals as goal
 
 pub returns-clause-made : goal.returns-clause-made
-returns-clause-made c = pushed_is c.args.self.now.nodes.items _ _ _ c.in_ok-push.ensures.items (c.len-number.ensures ∙ c.args.self.now.nodes.ok.0)
+returns-clause-made c = push_made c.push.result c.args.self.now.arena.nodes.items _ _ c.push.ensures.nodes c.push.ensures.number
 
 pub returns-clause-keeps : goal.returns-clause-keeps
-returns-clause-keeps c = λ part piece h. push_keeps c.args.self.now.nodes.items _ _ part.number piece c.in_ok-push.ensures.items h
+returns-clause-keeps c = λ silent. record {
+  trees = λ part piece h. push_keeps c.push.result c.args.self.now.arena.nodes.items _ _ c.push.ensures.nodes part.number piece h;
+  calls = push_silent c.push.result c.args.self.now.arena.nodes.items _ _ c.push.ensures.nodes silent;
+}
+
+pub returns-clause-trees : goal.returns-clause-trees
+returns-clause-trees c = λ part piece h. push_keeps c.push.result c.args.self.now.arena.nodes.items _ _ c.push.ensures.nodes part.number piece h
+
+pub returns-clause-calls : goal.returns-clause-calls
+returns-clause-calls c = push_calls c.push.result c.args.self.now.arena.nodes.items _ _ c.push.ensures.nodes

@@ -2,13 +2,8 @@ use Rattle.serde_json_path_syntax.specs.Tree as tree
 use Rattle.serde_json_path_syntax.specs.Piece.{a_basic, a_comparable}
 use Rattle.serde_json_path_syntax.specs.Literals.{operator_view}
 use Rattle.serde_json_path_syntax.specs.Flat.{comparable_in}
-use Rattle.serde_json_path_syntax.proofs.NamedParts.{two_below, made_of_two}
+use Rattle.serde_json_path_syntax.proofs.NamedParts.{made_of_two}
 use Rattle.serde_json_path_syntax.proofs.builder.SyntaxBuilder.relation.Goals as goal
-
-pub push-requires : goal.push-requires
-push-requires c =
-    two_below c.args.self.now c.args.left c.args.right (a_comparable c.requires.left.0) (a_comparable c.requires.right.0)
-    c.requires.left.1 c.requires.right.1
 
 pub returns-clause-made : goal.returns-clause-made
 returns-clause-made c =

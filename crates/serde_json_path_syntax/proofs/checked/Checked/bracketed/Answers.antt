@@ -9,7 +9,7 @@ use Rattle.serde_json_path_syntax.proofs.checked.Checked.bracketed.Goals as goal
 
 pub returns-in-Some-clause-selector_ref : goal.returns-in-Some-clause-selector_ref
 returns-in-Some-clause-selector_ref c =
-    let ps = pieces c.args.self.now.nodes.items in
+    let ps = pieces c.args.self.now.arena.nodes.items in
     let look = c.in-Some.ensures.lookup in
     ap Some c.selector.ensures.selector_ref
     ∙ sym (selectors_get ps c.args.selectors.now c.args.number
@@ -17,7 +17,7 @@ returns-in-Some-clause-selector_ref c =
 
 pub returns-in-None-clause-selector_ref : goal.returns-in-None-clause-selector_ref
 returns-in-None-clause-selector_ref c =
-    let ps = pieces c.args.self.now.nodes.items in
+    let ps = pieces c.args.self.now.arena.nodes.items in
     let look = c.in-None.ensures.lookup in
     sym (selectors_get ps c.args.selectors.now c.args.number
     ∙ ap (option_map (λ (part : Part). selector_in (piece_in ps part.number))) (slice_get_past c.args.selectors.now c.args.number (past_length _ _ look.0)))

@@ -1,18 +1,19 @@
 use Rattle.serde_json_path_parser.proofs.Steps.{same_fails}
-use Rattle.std.proofs.Common.{◌≡◌, ◌∙◌, ◌∷◌, [], true, false, Some, Ok, Err, ◌++◌, ◌≤◌, ◌<◌, length, refl, sym, ap, subst, map, drop, option_map, arith, true≢false}
-use Rattle.std.specs.Prelude.{◌==◌, ◌||◌, string_bytes}
-use Rattle.std.proofs.lemmas.List.{nil_from_length}
+use Rattle.std.proofs.Common.{rules, ◌≡◌, ◌∙◌, ◌∷◌, [], true, false, Some, Ok, Err, ◌++◌, ◌≤◌, ◌<◌, length, refl, sym, ap, subst, map, drop, option_map, arith, true≢false}
+use Rattle.std.specs.Prelude.{◌||◌, string_bytes}
+use Rattle.std.proofs.lemmas.List.{nil_from_length, append-nil}
 use Rattle.std.proofs.lemmas.Result.{err_from_is_err_and}
+use Rattle.serde_json_path_syntax.specs.Calls.{calls_in_selector, calls_in_and, calls_in_basic}
 use Rattle.serde_json_path_syntax.specs.Literals.{literal_view, number_amount, operator_view}
 use Rattle.serde_json_path_syntax.specs.Parts.{AreArgumentsOf, ArePartsOf, AreSelectorsOf}
-use Rattle.serde_json_path_syntax.specs.Piece.{an_argument, an_or, a_basic, a_comparable}
+use Rattle.serde_json_path_syntax.specs.Piece.{an_or, an_and, a_basic, a_comparable}
 use Rattle.serde_json_path_syntax.specs.Tree.{logical_argument, call, number}
 use Rattle.serde_json_path_functions.specs.Terms.{kind_view, signature_view}
-use Rattle.serde_json_path_parser.specs.Filters.{alone, word, ended, arguments_at, parameters_at, level, and_list, or_list, named_at}
-use Rattle.serde_json_path_parser.specs.Giving.{Fails, MakesOperand, MakesArguments, StartsSegment, Makes}
-use Rattle.serde_json_path_parser.specs.Levels.{signatures, deeper, filter_at}
-use Rattle.serde_json_path_parser.specs.Lexical.{begins, begins_both}
-use Rattle.serde_json_path_parser.specs.Operands.{a_literal, a_query, a_call}
+use Rattle.serde_json_path_parser.specs.Filters.{basic_at, or_at, and_at, word, ended, arguments_at, parameters_at, level, and_list, or_list, named_at}
+use Rattle.serde_json_path_parser.specs.Giving.{MakesOperand, MakesArguments, StartsSegment, Makes, MakesFrom, segment_piece}
+use Rattle.serde_json_path_parser.specs.Levels.{signatures, deeper, at_level, filter_at}
+use Rattle.serde_json_path_parser.specs.Lexical.{is_at, are_at, begins}
+use Rattle.serde_json_path_parser.specs.Operands.{a_literal, a_query, a_call, calls_in_operand}
 use Rattle.serde_json_path_parser.specs.Parsed.{byte_count, past_blanks}
 use Rattle.serde_json_path_parser.specs.Reading.{left}
 use Rattle.serde_json_path_parser.proofs.ArgumentSteps as of_arguments
@@ -25,11 +26,12 @@ use Rattle.serde_json_path_syntax.proofs.NamedParts.{parts_kept}
 use Rattle.serde_json_path_parser.specs.Parsing.{opens, opens_next, bracket_at, next_selector_at, selectors_at, selector_list, segment_at, next_segment_at, segments_at, segment_list}
 use Rattle.serde_json_path_parser.proofs.Texts.{no_longer}
 use Rattle.serde_json_path_parser.proofs.BracketTexts.{is_comma}
-use Rattle.serde_json_path_parser.proofs.FilterSteps.{filter_reads, filter_fails, query_reads, query_fails}
+use Rattle.serde_json_path_parser.proofs.Growth.{grows_none, grows_kept, grows_same, grows_then, grows_call, from_first, made_from, made_then, made_after, more_segments, more_selectors, more_ors, more_ands}
+use Rattle.serde_json_path_parser.proofs.FilterSteps.{filter_reads, filter_fails, query_reads}
 use Rattle.serde_json_path_parser.proofs.LevelSteps.{selector_takes, segment_takes, segment_shorter}
 use Rattle.serde_json_path_parser.proofs.PartLists.{segment_pushed, first_selector, selector_pushed, selectors_kept, first_or, or_pushed, first_and, and_pushed}
-use Rattle.serde_json_path_parser.proofs.SegmentSteps.{selectors_begin, selectors_fail, next_selector_reads, next_selector_fails, bracket_reads, next_reads, next_fails}
-use Rattle.serde_json_path_parser.proofs.LogicalSteps.{behind_one, behind_two, read_more, row_shorter, row_goes_on, row_fails, row_done, ands, ors, too_deep, inside_is, no_operator_read, left_fails, operand_fails, right_fails, relation_read, call_is, paren_read, not_paren_read, no_current_read, no_root_read, negated_is_name, name_fails, no_call_read, value_refused, not_test_read}
+use Rattle.serde_json_path_parser.proofs.SegmentSteps.{selectors_begin, next_selector_reads, next_selector_fails, bracket_reads, next_reads, next_fails}
+use Rattle.serde_json_path_parser.proofs.LogicalSteps.{behind_one, behind_two, read_more, row_shorter, row_goes_on, row_fails, row_done, ands, ors, too_deep, inside_is, no_operator_read, relation_read, call_is, paren_read, not_paren_read, no_current_read, no_root_read, negated_is_name, name_fails, no_call_read, value_refused, not_test_read}
 use Rattle.serde_json_path_parser.proofs.Many.{with_front}
 use Rattle.serde_json_path_parser.proofs.parser.filter_parser.FilterParser.+filters.Goals as goal
 use Rattle.serde_json_path_syntax.specs.Tree as tree
@@ -38,139 +40,63 @@ use Rattle.serde_json_path_parser.proofs.Many as m
 pub parse_and_from-parts-init : goal.parse_and_from-parts-init
 parse_and_from-parts-init g t c = record {
   moves = grind (arith, common_steps);
-  keeps = λ part piece h. h;
-  so_far = λ x is. (x ∷ [], first_and c.args.builder.now _ _ _ x c.new-parts.ensures.items c.in_ok-push.ensures.items is, refl);
+  so_far = λ x is. (x ∷ [], first_and c.args.builder.now _ _ _ x c.new-parts.ensures.items c.in_ok-push.ensures.items is, refl, from_first);
 }
-
-pub parse_and_from-returns-in_err-part-clause-moves : goal.parse_and_from-returns-in_err-part-clause-moves
-parse_and_from-returns-in_err-part-clause-moves g t c = grind (arith, common_steps)
-
-pub parse_and_from-returns-in_err-part-clause-keeps : goal.parse_and_from-returns-in_err-part-clause-keeps
-parse_and_from-returns-in_err-part-clause-keeps g t c = λ part piece h. c.parse_basic.ensures.keeps part piece (c.parts.invariant.keeps part piece h)
 
 pub parse_and_from-returns-in_err-part-clause-gives : goal.parse_and_from-returns-in_err-part-clause-gives
 parse_and_from-returns-in_err-part-clause-gives g t c = λ x is.
     let p = err_from_is_err_and c.from_residual-in_err-part.result c.from_residual-in_err-part.ensures.1 in
     let so_far = c.parts.invariant.so_far x is in
-    let sign : begins_both 38 38 (left c.parts.reader) ≡ true = sym c.sees_both.ensures.value ∙ c.parts-test.true in
+    let sign : are_at "&&" (left c.parts.reader) ≡ true = sym c.sees_both.ensures.value ∙ c.parts-test.true in
     let behind = behind_two _ _ _ _ c.sees_both.ensures.stays c.take_two.ensures.left c.skip_blanks.ensures.left in
     rw (p.1, p.2) (row_fails (ands (signatures g.F.Functions.set c.args.self.now) c.args.self.now.depth) c.in_err-part.field-0.0 x so_far.0 _ _ _ sign behind c.in_err-part.ensures.gives so_far.2)
 
 pub parse_and_from-parts-smaller : goal.parse_and_from-parts-smaller
 parse_and_from-parts-smaller g t c =
-    let sign : begins_both 38 38 (left c.parts.reader) ≡ true = sym c.sees_both.ensures.value ∙ c.parts-test.true in
+    let sign : are_at "&&" (left c.parts.reader) ≡ true = sym c.sees_both.ensures.value ∙ c.parts-test.true in
     let behind = behind_two _ _ _ _ c.sees_both.ensures.stays c.take_two.ensures.left c.skip_blanks.ensures.left in
     row_shorter (ands (signatures g.F.Functions.set c.args.self.now) c.args.self.now.depth) _ _ _ c.in_ok-part.ensures.gives.0 sign behind c.in_ok-part.ensures.gives.2
 
 pub parse_and_from-parts-preserved : goal.parse_and_from-parts-preserved
 parse_and_from-parts-preserved g t c =
-    let sign : begins_both 38 38 (left c.parts.reader) ≡ true = sym c.sees_both.ensures.value ∙ c.parts-test.true in
+    let signature = signatures g.F.Functions.set c.args.self.now in
+    let sign : are_at "&&" (left c.parts.reader) ≡ true = sym c.sees_both.ensures.value ∙ c.parts-test.true in
     let behind = behind_two _ _ _ _ c.sees_both.ensures.stays c.take_two.ensures.left c.skip_blanks.ensures.left in
     let one = c.in_ok-part.ensures.gives in
     record {
       moves = grind (arith, common_steps);
-      keeps = λ part piece h. c.parse_basic.ensures.keeps part piece (c.parts.invariant.keeps part piece h);
       so_far = λ x is.
           let so_far = c.parts.invariant.so_far x is in
-          let total = with_front (x ∷ []) (read_more (ands (signatures g.F.Functions.set c.args.self.now) c.args.self.now.depth) (left c.args.reader.now)) in (
+          let total = with_front (x ∷ []) (read_more (ands signature c.args.self.now.depth) (left c.args.reader.now)) in (
             so_far.0 ++ one.0 ∷ [],
-            and_pushed c.parts.builder c.parse_basic.new.builder (parts_in c.parts.parts) (parts_in c.push-in-parts.new.self) so_far.0 _ one.0 c.parse_basic.ensures.keeps so_far.1 one.1 c.in_ok-push-2.ensures.items,
-            row_goes_on (ands (signatures g.F.Functions.set c.args.self.now) c.args.self.now.depth) so_far.0 _ _ _ one.0 total sign behind one.2 so_far.2,
+            and_pushed c.parts.builder c.parse_basic.new.builder (parts_in c.parts.parts) (parts_in c.push-in-parts.new.self) so_far.0 _ one.0 one.3.trees so_far.1 one.1 c.in_ok-push-2.ensures.items,
+            row_goes_on (ands signature c.args.self.now.depth) so_far.0 _ _ _ one.0 total sign behind one.2 so_far.2,
+            λ before grown. grows_same (more_ands so_far.0 one.0) (grows_then (so_far.3 before grown) one.3),
           );
     }
-
-pub parse_and_from-returns-in_err-push-2-clause-moves : goal.parse_and_from-returns-in_err-push-2-clause-moves
-parse_and_from-returns-in_err-push-2-clause-moves g t c = grind (arith, common_steps)
-
-pub parse_and_from-returns-in_err-push-2-clause-keeps : goal.parse_and_from-returns-in_err-push-2-clause-keeps
-parse_and_from-returns-in_err-push-2-clause-keeps g t c = λ part piece h. c.parse_basic.ensures.keeps part piece (c.parts.invariant.keeps part piece h)
 
 pub parse_and_from-logical_and-requires : goal.parse_and_from-logical_and-requires
 parse_and_from-logical_and-requires g t c = let so_far = c.parts.invariant.so_far c.requires.0 c.requires.1 in (and_list so_far.0, so_far.1)
 
-pub parse_and_from-returns-in_err-logical_and-clause-keeps : goal.parse_and_from-returns-in_err-logical_and-clause-keeps
-parse_and_from-returns-in_err-logical_and-clause-keeps g t c = λ part piece h. c.logical_and.ensures.keeps part piece (c.parts.invariant.keeps part piece h)
-
-pub parse_and_from-returns-clause-moves : goal.parse_and_from-returns-clause-moves
-parse_and_from-returns-clause-moves g t c = grind (arith, common_steps)
-
-pub parse_and_from-returns-clause-keeps : goal.parse_and_from-returns-clause-keeps
-parse_and_from-returns-clause-keeps g t c = λ part piece h. c.logical_and.ensures.keeps part piece (c.parts.invariant.keeps part piece h)
-
 pub parse_and_from-returns-clause-gives : goal.parse_and_from-returns-clause-gives
 parse_and_from-returns-clause-gives g t c = λ x is.
     let so_far = c.parts.invariant.so_far x is in
-    let ends : begins_both 38 38 (left c.parts.reader) ≡ false = sym c.sees_both.ensures.value ∙ c.parts-test.false in (
+    let ends : are_at "&&" (left c.parts.reader) ≡ false = sym c.sees_both.ensures.value ∙ c.parts-test.false in (
       and_list so_far.0,
       c.in_ok-logical_and.ensures.made (and_list so_far.0) so_far.1,
       row_done (ands (signatures g.F.Functions.set c.args.self.now) c.args.self.now.depth) x so_far.0 _ _ ends so_far.2 ∙ ap (λ l. Ok (and_list so_far.0, l)) (sym c.sees_both.ensures.stays),
+      λ before grown. grows_kept (so_far.3 before grown) c.logical_and.ensures.keeps,
     )
-
-pub parse_argument-returns-in_err-expression-clause-gives : goal.parse_argument-returns-in_err-expression-clause-gives
-parse_argument-returns-in_err-expression-clause-gives g t c =
-    let opened : (begins (λ c. c == 40) (left c.args.reader.now) || begins (λ c. c == 33) (left c.args.reader.now)) ≡ true =
-    elim c.then-sees.branch [
-      | parse_argument-then-sees-via-then-sees w ↦ rw (sym c.sees.ensures ∙ w.if-sees.true) refl
-      | parse_argument-then-sees-via-else-sees+then-sees-2 w ↦ rw (sym c.sees.ensures ∙ w.if-sees.false, sym w.sees-else-sees.ensures ∙ w.if-sees-2.true) refl
-    ] in
-    let p = err_from_is_err_and c.from_residual.result c.from_residual.ensures.1 in
-    rw (p.1, p.2) (of_arguments.expression_fails (signatures g.F.Functions.set c.args.self.now) (deeper g.F.Functions.set c.args.self.now) (left c.args.reader.now) opened c.in_err-expression.field-0.0 c.in_err-expression.ensures.gives)
 
 pub parse_argument-returns-then-sees-clause-gives : goal.parse_argument-returns-then-sees-clause-gives
 parse_argument-returns-then-sees-clause-gives g t c =
-    let opened : (begins (λ c. c == 40) (left c.args.reader.now) || begins (λ c. c == 33) (left c.args.reader.now)) ≡ true =
+    let opened : (is_at "(" (left c.args.reader.now) || is_at "!" (left c.args.reader.now)) ≡ true =
     elim c.then-sees.branch [
       | parse_argument-then-sees-via-then-sees w ↦ rw (sym c.sees.ensures ∙ w.if-sees.true) refl
       | parse_argument-then-sees-via-else-sees+then-sees-2 w ↦ rw (sym c.sees.ensures ∙ w.if-sees.false, sym w.sees-else-sees.ensures ∙ w.if-sees-2.true) refl
     ] in
     let e = c.in_ok-expression.ensures.gives in
-    (logical_argument e.0, e.1, of_arguments.expression_argument (signatures g.F.Functions.set c.args.self.now) (deeper g.F.Functions.set c.args.self.now) (left c.args.reader.now) opened e.0 (left c.parse_logical_or.new.reader) e.2)
-
-pub parse_argument-returns-in_err-operand-clause-gives : goal.parse_argument-returns-in_err-operand-clause-gives
-parse_argument-returns-in_err-operand-clause-gives g t c =
-    let p = err_from_is_err_and c.from_residual-in_err-operand.result c.from_residual-in_err-operand.ensures.1 in
-    rw (p.1, p.2) (of_arguments.operand_fails (signatures g.F.Functions.set c.args.self.now) (deeper g.F.Functions.set c.args.self.now) (left c.args.reader.now) (sym c.sees.ensures ∙ c.if-sees.false) (sym c.sees-else-sees.ensures ∙ c.if-sees-2.false) c.in_err-operand.field-0.0 c.in_err-operand.ensures.gives)
-
-pub parse_argument-returns-then-sees_end_of_argument-clause-gives : goal.parse_argument-returns-then-sees_end_of_argument-clause-gives
-parse_argument-returns-then-sees_end_of_argument-clause-gives g t c =
-    let o = c.in_ok-operand.ensures.gives in
-    (alone o.0, c.alone.ensures (signatures g.F.Functions.set c.args.self.now) c.parse_operand.new.builder o.0 o.1, of_arguments.alone_argument (signatures g.F.Functions.set c.args.self.now) (deeper g.F.Functions.set c.args.self.now) (left c.args.reader.now) (sym c.sees.ensures ∙ c.if-sees.false) (sym c.sees-else-sees.ensures ∙ c.if-sees-2.false) o.0 (left c.parse_operand.new.reader) o.2 (sym c.sees_end_of_argument.ensures ∙ c.if-sees_end_of_argument.true))
-
-pub parse_argument-returns-in_err-basic-clause-keeps : goal.parse_argument-returns-in_err-basic-clause-keeps
-parse_argument-returns-in_err-basic-clause-keeps g t c = λ part piece h. c.parse_basic_from.ensures.keeps part piece (c.parse_operand.ensures.keeps part piece (h))
-
-pub parse_argument-returns-in_err-basic-clause-gives : goal.parse_argument-returns-in_err-basic-clause-gives
-parse_argument-returns-in_err-basic-clause-gives g t c =
-    let o = c.in_ok-operand.ensures.gives in
-    let open_yet = sym c.sees_end_of_argument.ensures ∙ c.if-sees_end_of_argument.false in
-    let p = err_from_is_err_and c.from_residual-in_err-basic.result c.from_residual-in_err-basic.ensures.1 in
-    rw (p.1, p.2) (of_arguments.basic_fails (signatures g.F.Functions.set c.args.self.now) (deeper g.F.Functions.set c.args.self.now) (left c.args.reader.now) (sym c.sees.ensures ∙ c.if-sees.false) (sym c.sees-else-sees.ensures ∙ c.if-sees-2.false) o.0 (left c.parse_operand.new.reader) o.2 open_yet c.in_err-basic.field-0.0 (rw c.bytes_left-start.ensures.value at (c.in_err-basic.ensures.gives o.0 o.1)))
-
-pub parse_argument-returns-in_err-and-clause-keeps : goal.parse_argument-returns-in_err-and-clause-keeps
-parse_argument-returns-in_err-and-clause-keeps g t c = λ part piece h. c.parse_and_from.ensures.keeps part piece (c.parse_basic_from.ensures.keeps part piece (c.parse_operand.ensures.keeps part piece (h)))
-
-pub parse_argument-returns-in_err-and-clause-gives : goal.parse_argument-returns-in_err-and-clause-gives
-parse_argument-returns-in_err-and-clause-gives g t c =
-    let o = c.in_ok-operand.ensures.gives in
-    let open_yet = sym c.sees_end_of_argument.ensures ∙ c.if-sees_end_of_argument.false in
-    let b = rw c.bytes_left-start.ensures.value at (c.in_ok-basic.ensures.gives o.0 o.1) in
-    let p = err_from_is_err_and c.from_residual-in_err-and.result c.from_residual-in_err-and.ensures.1 in
-    rw (p.1, p.2) (of_arguments.and_fails (signatures g.F.Functions.set c.args.self.now) (deeper g.F.Functions.set c.args.self.now) (left c.args.reader.now) (sym c.sees.ensures ∙ c.if-sees.false) (sym c.sees-else-sees.ensures ∙ c.if-sees-2.false) o.0 (left c.parse_operand.new.reader) o.2 open_yet b.0 (left c.parse_basic_from.new.reader) b.2 c.in_err-and.field-0.0 (c.in_err-and.ensures.gives b.0 b.1))
-
-pub parse_argument-returns-in_err-expression-2-clause-keeps : goal.parse_argument-returns-in_err-expression-2-clause-keeps
-parse_argument-returns-in_err-expression-2-clause-keeps g t c = λ part piece h. c.parse_or_from.ensures.keeps part piece (c.parse_and_from.ensures.keeps part piece (c.parse_basic_from.ensures.keeps part piece (c.parse_operand.ensures.keeps part piece (h))))
-
-pub parse_argument-returns-in_err-expression-2-clause-gives : goal.parse_argument-returns-in_err-expression-2-clause-gives
-parse_argument-returns-in_err-expression-2-clause-gives g t c =
-    let o = c.in_ok-operand.ensures.gives in
-    let open_yet = sym c.sees_end_of_argument.ensures ∙ c.if-sees_end_of_argument.false in
-    let b = rw c.bytes_left-start.ensures.value at (c.in_ok-basic.ensures.gives o.0 o.1) in
-    let a = c.in_ok-and.ensures.gives b.0 b.1 in
-    let p = err_from_is_err_and c.from_residual-in_err-expression-2.result c.from_residual-in_err-expression-2.ensures.1 in
-    rw (p.1, p.2) (of_arguments.or_fails (signatures g.F.Functions.set c.args.self.now) (deeper g.F.Functions.set c.args.self.now) (left c.args.reader.now) (sym c.sees.ensures ∙ c.if-sees.false) (sym c.sees-else-sees.ensures ∙ c.if-sees-2.false) o.0 (left c.parse_operand.new.reader) o.2 open_yet b.0 (left c.parse_basic_from.new.reader) b.2 a.0 (left c.parse_and_from.new.reader) a.2 c.in_err-expression-2.field-0.0 (c.in_err-expression-2.ensures.gives a.0 a.1))
-
-pub parse_argument-returns-clause-keeps : goal.parse_argument-returns-clause-keeps
-parse_argument-returns-clause-keeps g t c = λ part piece h. c.parse_or_from.ensures.keeps part piece (c.parse_and_from.ensures.keeps part piece (c.parse_basic_from.ensures.keeps part piece (c.parse_operand.ensures.keeps part piece (h))))
+    (logical_argument e.0, e.1, of_arguments.expression_argument (signatures g.F.Functions.set c.args.self.now) (deeper g.F.Functions.set c.args.self.now) (left c.args.reader.now) opened e.0 (left c.parse_logical_or.new.reader) e.2, e.3)
 
 pub parse_argument-returns-clause-gives : goal.parse_argument-returns-clause-gives
 parse_argument-returns-clause-gives g t c =
@@ -179,7 +105,7 @@ parse_argument-returns-clause-gives g t c =
     let b = rw c.bytes_left-start.ensures.value at (c.in_ok-basic.ensures.gives o.0 o.1) in
     let a = c.in_ok-and.ensures.gives b.0 b.1 in
     let e = c.in_ok-expression-2.ensures.gives a.0 a.1 in
-    (logical_argument e.0, e.1, of_arguments.joined_argument (signatures g.F.Functions.set c.args.self.now) (deeper g.F.Functions.set c.args.self.now) (left c.args.reader.now) (sym c.sees.ensures ∙ c.if-sees.false) (sym c.sees-else-sees.ensures ∙ c.if-sees-2.false) o.0 (left c.parse_operand.new.reader) o.2 open_yet b.0 (left c.parse_basic_from.new.reader) b.2 a.0 (left c.parse_and_from.new.reader) a.2 e.0 (left c.parse_or_from.new.reader) e.2)
+    (logical_argument e.0, e.1, of_arguments.joined_argument (signatures g.F.Functions.set c.args.self.now) (deeper g.F.Functions.set c.args.self.now) (left c.args.reader.now) (sym c.sees.ensures ∙ c.if-sees.false) (sym c.sees-else-sees.ensures ∙ c.if-sees-2.false) o.0 (left c.parse_operand.new.reader) o.2 open_yet b.0 (left c.parse_basic_from.new.reader) b.2 a.0 (left c.parse_and_from.new.reader) a.2 e.0 (left c.parse_or_from.new.reader) e.2, e.3 c.args.builder.now (a.3 c.args.builder.now (b.3 c.args.builder.now o.3)))
 
 pub parse_arguments-returns-in_err-argument-clause-gives : goal.parse_arguments-returns-in_err-argument-clause-gives
 parse_arguments-returns-in_err-argument-clause-gives g t c = λ fuel enough.
@@ -198,56 +124,43 @@ parse_arguments-returns-in_default-clause-gives g t c = λ fuel enough.
 
 pub parse_arguments-returns-then-not-fits-clause-gives : goal.parse_arguments-returns-then-not-fits-clause-gives
 parse_arguments-returns-then-not-fits-clause-gives g t c = λ fuel enough.
+    let signature = signatures g.F.Functions.set c.args.self.now in
     let a = c.in_ok-argument.ensures.gives in
     let kind = kind_view c.in-Some.kind.now in
     let more = map kind_view c.in-Some.more.now in
     let first : map kind_view c.args.kinds.now ≡ kind ∷ more = ap (map kind_view) c.in-Some.ensures.cases.0 in
-    rw (c.in_long_hand-then-not-fits.ensures, c.bytes_left-begin.ensures.value) (of_arguments.wrong_type (signatures g.F.Functions.set c.args.self.now) (deeper g.F.Functions.set c.args.self.now) c.args.start (map kind_view c.args.kinds.now) fuel (left c.args.reader.now) enough a.0 (left c.parse_argument.new.reader) a.2 (sym c.sees_end_of_argument.ensures ∙ c.if-not-sees_end_of_argument.false) kind more first (sym (c.fits.ensures (signatures g.F.Functions.set c.args.self.now) a.0 a.1) ∙ c.if-not-fits.true))
-
-pub parse_arguments-returns-in_err-part-clause-keeps : goal.parse_arguments-returns-in_err-part-clause-keeps
-parse_arguments-returns-in_err-part-clause-keeps g t c = λ part piece h. c.part.ensures.keeps part piece (c.parse_argument.ensures.keeps part piece (h))
-
-pub parse_arguments-returns-in_err-push-clause-keeps : goal.parse_arguments-returns-in_err-push-clause-keeps
-parse_arguments-returns-in_err-push-clause-keeps g t c = λ part piece h. c.part.ensures.keeps part piece (c.parse_argument.ensures.keeps part piece (h))
-
-pub parse_arguments-returns-then-sees-clause-keeps : goal.parse_arguments-returns-then-sees-clause-keeps
-parse_arguments-returns-then-sees-clause-keeps g t c = λ part piece h. c.parse_arguments.ensures.keeps part piece (c.part.ensures.keeps part piece (c.parse_argument.ensures.keeps part piece (h)))
+    rw (c.in_long_hand-then-not-fits.ensures, c.bytes_left-begin.ensures.value) (of_arguments.wrong_type signature (deeper g.F.Functions.set c.args.self.now) c.args.start (map kind_view c.args.kinds.now) fuel (left c.args.reader.now) enough a.0 (left c.parse_argument.new.reader) a.2 (sym c.sees_end_of_argument.ensures ∙ c.if-not-sees_end_of_argument.false) kind more first (sym (c.fits.ensures signature a.0 a.1) ∙ c.if-not-fits.true))
 
 pub parse_arguments-returns-then-sees-clause-gives : goal.parse_arguments-returns-then-sees-clause-gives
 parse_arguments-returns-then-sees-clause-gives g t c = λ fuel enough.
+    let signature = signatures g.F.Functions.set c.args.self.now in
+    let below = deeper g.F.Functions.set c.args.self.now in
     let a = c.in_ok-argument.ensures.gives in
     let kind = kind_view c.in-Some.kind.now in
     let more = map kind_view c.in-Some.more.now in
     let first : map kind_view c.args.kinds.now ≡ kind ∷ more = ap (map kind_view) c.in-Some.ensures.cases.0 in
-    let fitting = sym (c.fits.ensures (signatures g.F.Functions.set c.args.self.now) a.0 a.1) ∙ c.if-not-fits.false in
+    let fitting = sym (c.fits.ensures signature a.0 a.1) ∙ c.if-not-fits.false in
     let comma = sym c.sees.ensures ∙ c.if-sees.true in
     let further : left c.skip_blanks.new.self ≡ past_blanks (drop 1 (left c.parse_argument.new.reader)) = c.skip_blanks.ensures.left ∙ ap past_blanks (sym (ap (drop 1) c.take_char.ensures.value)) in
-    let less = of_arguments.fuel_behind (signatures g.F.Functions.set c.args.self.now) (deeper g.F.Functions.set c.args.self.now) c.args.start (map kind_view c.args.kinds.now) fuel (left c.args.reader.now) enough a.0 (left c.parse_argument.new.reader) a.2 (sym c.sees_end_of_argument.ensures ∙ c.if-not-sees_end_of_argument.false) kind more first fitting in
-    let enough_there = of_arguments.enough_behind (signatures g.F.Functions.set c.args.self.now) (deeper g.F.Functions.set c.args.self.now) c.args.start (map kind_view c.args.kinds.now) fuel (left c.args.reader.now) enough a.0 (left c.parse_argument.new.reader) a.2 (sym c.sees_end_of_argument.ensures ∙ c.if-not-sees_end_of_argument.false) kind more first fitting c.args.self.now.depth (level_laws (signatures g.F.Functions.set c.args.self.now) c.args.self.now.depth) comma in
-    let rests = subst (λ l. length l ≤ less → MakesArguments c.parse_arguments.new.builder c.push.new.self.items c.parse_arguments.new.parts.items c.parse_arguments.result c.parse_arguments.new.reader (arguments_at (signatures g.F.Functions.set c.args.self.now) (deeper g.F.Functions.set c.args.self.now) less c.args.start more l)) further (c.parse_arguments.ensures.gives less) enough_there in
-    of_arguments.more_made c.parse_arguments.new.builder c.args.parts.now.items c.parse_arguments.result c.parse_arguments.new.reader (arguments_at (signatures g.F.Functions.set c.args.self.now) (deeper g.F.Functions.set c.args.self.now) less c.args.start more (past_blanks (drop 1 (left c.parse_argument.new.reader)))) (arguments_at (signatures g.F.Functions.set c.args.self.now) (deeper g.F.Functions.set c.args.self.now) fuel c.args.start (map kind_view c.args.kinds.now) (left c.args.reader.now)) c.push.new.self.items c.in_ok-part.part a.0 c.in_ok-push.ensures.items
-    (c.parse_arguments.ensures.keeps c.in_ok-part.part (an_argument a.0) (c.in_ok-part.ensures.made (signatures g.F.Functions.set c.args.self.now) a.0 a.1))
-    (λ args behind h. of_arguments.more_read (signatures g.F.Functions.set c.args.self.now) (deeper g.F.Functions.set c.args.self.now) c.args.start (map kind_view c.args.kinds.now) fuel (left c.args.reader.now) enough a.0 (left c.parse_argument.new.reader) a.2 (sym c.sees_end_of_argument.ensures ∙ c.if-not-sees_end_of_argument.false) kind more first fitting args behind comma h) (λ s h. of_arguments.more_fail (signatures g.F.Functions.set c.args.self.now) (deeper g.F.Functions.set c.args.self.now) c.args.start (map kind_view c.args.kinds.now) fuel (left c.args.reader.now) enough a.0 (left c.parse_argument.new.reader) a.2 (sym c.sees_end_of_argument.ensures ∙ c.if-not-sees_end_of_argument.false) kind more first fitting s comma h) c.parse_arguments.new.parts.items rests
-
-pub parse_arguments-returns-clause-keeps : goal.parse_arguments-returns-clause-keeps
-parse_arguments-returns-clause-keeps g t c = λ part piece h. c.part.ensures.keeps part piece (c.parse_argument.ensures.keeps part piece (h))
+    let less = of_arguments.fuel_behind signature below c.args.start (map kind_view c.args.kinds.now) fuel (left c.args.reader.now) enough a.0 (left c.parse_argument.new.reader) a.2 (sym c.sees_end_of_argument.ensures ∙ c.if-not-sees_end_of_argument.false) kind more first fitting in
+    let enough_there = of_arguments.enough_behind signature below c.args.start (map kind_view c.args.kinds.now) fuel (left c.args.reader.now) enough a.0 (left c.parse_argument.new.reader) a.2 (sym c.sees_end_of_argument.ensures ∙ c.if-not-sees_end_of_argument.false) kind more first fitting c.args.self.now.depth (level_laws signature c.args.self.now.depth) comma in
+    let rests = subst (λ l. length l ≤ less → MakesArguments signature c.part.new.builder c.parse_arguments.new.builder c.push.new.self.items c.parse_arguments.new.parts.items c.parse_arguments.result c.parse_arguments.new.reader (arguments_at signature below less c.args.start more l)) further (c.parse_arguments.ensures.gives less) enough_there in
+    of_arguments.more_made signature c.args.parts.now.items c.parse_arguments.result c.parse_arguments.new.reader (arguments_at signature below less c.args.start more (past_blanks (drop 1 (left c.parse_argument.new.reader)))) (arguments_at signature below fuel c.args.start (map kind_view c.args.kinds.now) (left c.args.reader.now)) c.args.builder.now c.part.new.builder c.push.new.self.items c.in_ok-part.part a.0 c.in_ok-push.ensures.items
+    (c.in_ok-part.ensures.made signature a.0 a.1) (grows_kept a.3 c.part.ensures.keeps)
+    (λ args behind h. of_arguments.more_read signature below c.args.start (map kind_view c.args.kinds.now) fuel (left c.args.reader.now) enough a.0 (left c.parse_argument.new.reader) a.2 (sym c.sees_end_of_argument.ensures ∙ c.if-not-sees_end_of_argument.false) kind more first fitting args behind comma h) (λ s h. of_arguments.more_fail signature below c.args.start (map kind_view c.args.kinds.now) fuel (left c.args.reader.now) enough a.0 (left c.parse_argument.new.reader) a.2 (sym c.sees_end_of_argument.ensures ∙ c.if-not-sees_end_of_argument.false) kind more first fitting s comma h) c.parse_arguments.new.builder c.parse_arguments.new.parts.items rests
 
 pub parse_arguments-returns-clause-gives : goal.parse_arguments-returns-clause-gives
 parse_arguments-returns-clause-gives g t c = λ fuel enough.
+    let signature = signatures g.F.Functions.set c.args.self.now in
+    let below = deeper g.F.Functions.set c.args.self.now in
     let a = c.in_ok-argument.ensures.gives in
     let kind = kind_view c.in-Some.kind.now in
     let more = map kind_view c.in-Some.more.now in
     let first : map kind_view c.args.kinds.now ≡ kind ∷ more = ap (map kind_view) c.in-Some.ensures.cases.0 in
-    let fitting = sym (c.fits.ensures (signatures g.F.Functions.set c.args.self.now) a.0 a.1) ∙ c.if-not-fits.false in
+    let fitting = sym (c.fits.ensures signature a.0 a.1) ∙ c.if-not-fits.false in
     let no_comma = sym c.sees.ensures ∙ c.if-sees.false in
-    of_arguments.last_made c.part.new.builder c.args.parts.now.items c.parse_end.result c.parse_end.new.reader (ended c.args.start more (drop 1 (left c.parse_argument.new.reader))) (arguments_at (signatures g.F.Functions.set c.args.self.now) (deeper g.F.Functions.set c.args.self.now) fuel c.args.start (map kind_view c.args.kinds.now) (left c.args.reader.now)) c.push.new.self.items c.in_ok-part.part a.0 c.in_ok-push.ensures.items (c.in_ok-part.ensures.made (signatures g.F.Functions.set c.args.self.now) a.0 a.1)
-    (λ args behind h. of_arguments.last (signatures g.F.Functions.set c.args.self.now) (deeper g.F.Functions.set c.args.self.now) c.args.start (map kind_view c.args.kinds.now) fuel (left c.args.reader.now) enough a.0 (left c.parse_argument.new.reader) a.2 (sym c.sees_end_of_argument.ensures ∙ c.if-not-sees_end_of_argument.false) kind more first fitting args behind no_comma h) (λ s h. of_arguments.last_fails (signatures g.F.Functions.set c.args.self.now) (deeper g.F.Functions.set c.args.self.now) c.args.start (map kind_view c.args.kinds.now) fuel (left c.args.reader.now) enough a.0 (left c.parse_argument.new.reader) a.2 (sym c.sees_end_of_argument.ensures ∙ c.if-not-sees_end_of_argument.false) kind more first fitting s no_comma h) c.parse_end.ensures.gives
-
-pub parse_basic-returns-in_err-paren-clause-keeps : goal.parse_basic-returns-in_err-paren-clause-keeps
-parse_basic-returns-in_err-paren-clause-keeps g t c = λ part piece h. c.paren.ensures.keeps part piece (c.parse_paren.ensures.keeps part piece h)
-
-pub parse_basic-returns-then-sees-clause-keeps : goal.parse_basic-returns-then-sees-clause-keeps
-parse_basic-returns-then-sees-clause-keeps g t c = λ part piece h. c.paren.ensures.keeps part piece (c.parse_paren.ensures.keeps part piece h)
+    of_arguments.last_made signature c.args.parts.now.items c.parse_end.result c.parse_end.new.reader (ended c.args.start more (drop 1 (left c.parse_argument.new.reader))) (arguments_at signature below fuel c.args.start (map kind_view c.args.kinds.now) (left c.args.reader.now)) c.args.builder.now c.part.new.builder c.push.new.self.items c.in_ok-part.part a.0 c.in_ok-push.ensures.items (c.in_ok-part.ensures.made signature a.0 a.1) (grows_kept a.3 c.part.ensures.keeps)
+    (λ args behind h. of_arguments.last signature below c.args.start (map kind_view c.args.kinds.now) fuel (left c.args.reader.now) enough a.0 (left c.parse_argument.new.reader) a.2 (sym c.sees_end_of_argument.ensures ∙ c.if-not-sees_end_of_argument.false) kind more first fitting args behind no_comma h) (λ s h. of_arguments.last_fails signature below c.args.start (map kind_view c.args.kinds.now) fuel (left c.args.reader.now) enough a.0 (left c.parse_argument.new.reader) a.2 (sym c.sees_end_of_argument.ensures ∙ c.if-not-sees_end_of_argument.false) kind more first fitting s no_comma h) c.parse_end.ensures.gives
 
 pub parse_basic-returns-then-sees-clause-gives : goal.parse_basic-returns-then-sees-clause-gives
 parse_basic-returns-then-sees-clause-gives g t c =
@@ -255,69 +168,35 @@ parse_basic-returns-then-sees-clause-gives g t c =
       tree.paren inner.0,
       c.in_ok-paren.ensures.made inner.0 inner.1,
       paren_read _ _ _ inner.0 _ (sym c.sees.ensures ∙ c.if-sees.true) inner.2,
+      grows_kept inner.3 c.paren.ensures.keeps,
     )
-
-pub parse_basic-returns-clause-keeps : goal.parse_basic-returns-clause-keeps
-parse_basic-returns-clause-keeps g t c = λ part piece h. c.parse_basic_from.ensures.keeps part piece (c.parse_operand.ensures.keeps part piece h)
 
 pub parse_basic_from-returns-in_default-clause-gives : goal.parse_basic_from-returns-in_default-clause-gives
 parse_basic_from-returns-in_default-clause-gives g t c = λ x is.
-    subst (Makes a_basic c.as_test.new.builder c.as_test.result c.parse_operator.new.reader)
+    let signature = signatures g.F.Functions.set c.args.self.now in
+    subst (MakesFrom signature (calls_in_operand x) a_basic c.args.builder.now c.as_test.new.builder c.as_test.result c.parse_operator.new.reader)
     (sym (no_operator_read _ _ c.args.start x _ _ c.in_default.ensures.value (c.in_default.ensures.stays refl)))
-    (c.as_test.ensures.gives x is)
-
-pub parse_basic_from-returns-in_err-left-clause-gives : goal.parse_basic_from-returns-in_err-left-clause-gives
-parse_basic_from-returns-in_err-left-clause-gives g t c = λ x is.
-    let p = err_from_is_err_and c.from_residual.result c.from_residual.ensures.1 in
-    rw (p.1, p.2) (left_fails _ _ c.args.start x _ _ _ _ c.in-Some.ensures.value c.skip_blanks.ensures.left c.in_err-left.field-0.0 (c.in_err-left.ensures.gives x is))
-
-pub parse_basic_from-returns-in_err-operand-clause-keeps : goal.parse_basic_from-returns-in_err-operand-clause-keeps
-parse_basic_from-returns-in_err-operand-clause-keeps g t c = λ part piece h. c.parse_operand.ensures.keeps part piece (c.as_comparable.ensures.keeps part piece h)
-
-pub parse_basic_from-returns-in_err-operand-clause-gives : goal.parse_basic_from-returns-in_err-operand-clause-gives
-parse_basic_from-returns-in_err-operand-clause-gives g t c = λ x is.
-    let p = err_from_is_err_and c.from_residual-in_err-operand.result c.from_residual-in_err-operand.ensures.1 in
-    let a = c.in_ok-left.ensures.gives x is in
-    rw (p.1, p.2) (operand_fails _ _ c.args.start x _ _ _ _ c.in-Some.ensures.value c.skip_blanks.ensures.left c.in_err-operand.field-0.0 a.0 _ a.2 c.in_err-operand.ensures.gives)
-
-pub parse_basic_from-returns-in_err-right-clause-keeps : goal.parse_basic_from-returns-in_err-right-clause-keeps
-parse_basic_from-returns-in_err-right-clause-keeps g t c = λ part piece h. c.as_comparable-2.ensures.keeps part piece (c.parse_operand.ensures.keeps part piece (c.as_comparable.ensures.keeps part piece h))
-
-pub parse_basic_from-returns-in_err-right-clause-gives : goal.parse_basic_from-returns-in_err-right-clause-gives
-parse_basic_from-returns-in_err-right-clause-gives g t c = λ x is.
-    let p = err_from_is_err_and c.from_residual-in_err-right.result c.from_residual-in_err-right.ensures.1 in
-    let a = c.in_ok-left.ensures.gives x is in
-    let o = c.in_ok-operand.ensures.gives in
-    let refused = rw c.bytes_left-begin.ensures.value at (c.in_err-right.ensures.gives o.0 o.1) in
-    rw (p.1, p.2) (right_fails _ _ c.args.start x _ _ _ _ c.in-Some.ensures.value c.skip_blanks.ensures.left c.in_err-right.field-0.0 a.0 _ _ o.0 a.2 o.2 refused)
+    (made_from signature a_basic c.args.builder.now c.as_test.new.builder c.parse_operator.new.reader _ c.as_test.result (calls_in_operand x) c.as_test.ensures.keeps (c.as_test.ensures.gives x is))
 
 pub parse_basic_from-relation-requires-clause-left : goal.parse_basic_from-relation-requires-clause-left
 parse_basic_from-relation-requires-clause-left g t c =
     let a = c.in_ok-left.ensures.gives c.requires.0 c.requires.1 in
-    (a.0, c.as_comparable-2.ensures.keeps c.in_ok-left.left (a_comparable a.0) (c.parse_operand.ensures.keeps c.in_ok-left.left (a_comparable a.0) a.1))
-
-pub parse_basic_from-returns-in_err-relation-clause-keeps : goal.parse_basic_from-returns-in_err-relation-clause-keeps
-parse_basic_from-returns-in_err-relation-clause-keeps g t c = λ part piece h. c.relation.ensures.keeps part piece (c.as_comparable-2.ensures.keeps part piece (c.parse_operand.ensures.keeps part piece (c.as_comparable.ensures.keeps part piece h)))
-
-pub parse_basic_from-returns-clause-keeps : goal.parse_basic_from-returns-clause-keeps
-parse_basic_from-returns-clause-keeps g t c = λ part piece h. c.relation.ensures.keeps part piece (c.as_comparable-2.ensures.keeps part piece (c.parse_operand.ensures.keeps part piece (c.as_comparable.ensures.keeps part piece h)))
+    (a.0, c.as_comparable-2.ensures.keeps.trees c.in_ok-left.left (a_comparable a.0) (c.in_ok-operand.ensures.gives.3.trees c.in_ok-left.left (a_comparable a.0) a.1))
 
 pub parse_basic_from-returns-clause-gives : goal.parse_basic_from-returns-clause-gives
 parse_basic_from-returns-clause-gives g t c = λ x is.
     let a = c.in_ok-left.ensures.gives x is in
     let o = c.in_ok-operand.ensures.gives in
     let b = rw c.bytes_left-begin.ensures.value at (c.in_ok-right.ensures.gives o.0 o.1) in
-    let kept = c.as_comparable-2.ensures.keeps c.in_ok-left.left (a_comparable a.0) (c.parse_operand.ensures.keeps c.in_ok-left.left (a_comparable a.0) a.1) in (
+    let kept = c.as_comparable-2.ensures.keeps.trees c.in_ok-left.left (a_comparable a.0) (o.3.trees c.in_ok-left.left (a_comparable a.0) a.1) in (
       tree.relation a.0 (operator_view c.in-Some.operator) b.0,
       c.in_ok-relation.ensures.made a.0 b.0 kept b.1,
       relation_read _ _ c.args.start x _ _ _ _ c.in-Some.ensures.value c.skip_blanks.ensures.left a.0 b.0 _ _ _ o.0 a.2 o.2 b.2,
+      λ before grown.
+          let left_side = grows_same a.3 (grows_kept {new = c.as_comparable.new.builder} grown c.as_comparable.ensures.keeps) in
+          let right_side = grows_same b.3 (grows_kept {new = c.as_comparable-2.new.builder} o.3 c.as_comparable-2.ensures.keeps) in
+          grows_kept (grows_then left_side right_side) c.relation.ensures.keeps,
     )
-
-pub parse_bracket-returns-in_err-long_hand-clause-keeps : goal.parse_bracket-returns-in_err-long_hand-clause-keeps
-parse_bracket-returns-in_err-long_hand-clause-keeps g t c = λ part piece h. c.long_hand.ensures.keeps part piece (c.parse_selectors.ensures.keeps part piece h)
-
-pub parse_bracket-returns-clause-keeps : goal.parse_bracket-returns-clause-keeps
-parse_bracket-returns-clause-keeps g t c = λ part piece h. c.long_hand.ensures.keeps part piece (c.parse_selectors.ensures.keeps part piece h)
 
 pub parse_bracket-returns-clause-gives : goal.parse_bracket-returns-clause-gives
 parse_bracket-returns-clause-gives g t c =
@@ -326,6 +205,7 @@ parse_bracket-returns-clause-gives g t c =
       (kind, tree.long_hand (selector_list read.0)),
       c.in_ok-long_hand.ensures.made (selector_list read.0) read.1,
       bracket_reads (filter_at g.F.Functions.set c.args.self.now) kind (left c.args.reader.now) (left c.parse_selectors.new.reader) (left c.take_char.new.self) read.0 c.take_char.result read.2 (sym c.sees.ensures ∙ c.if-not-sees.false) c.take_char.ensures.value,
+      grows_kept read.3 c.long_hand.ensures.keeps,
     )
 
 pub parse_call-returns-then-self-eq0-clause-gives : goal.parse_call-returns-then-self-eq0-clause-gives
@@ -334,47 +214,39 @@ parse_call-returns-then-self-eq0-clause-gives g t c =
 
 pub parse_call-returns-in_default-clause-gives : goal.parse_call-returns-in_default-clause-gives
 parse_call-returns-in_default-clause-gives g t c =
+    let signature = signatures g.F.Functions.set c.args.self.now in
     let f = string_bytes c.args.name in
-    rw c.in_long_hand-in_default.ensures (of_calls.level_undefined (signatures g.F.Functions.set c.args.self.now) c.args.self.now.depth c.args.start f (drop 1 (left c.args.reader.now)) (omega (arith, c.if-self-eq0.false)) (ap (signatures g.F.Functions.set c.args.self.now) (sym c.as_str.ensures.value) ∙ sym c.signature.ensures ∙ ap (option_map signature_view) c.in_default.is))
+    rw c.in_long_hand-in_default.ensures (of_calls.level_undefined signature c.args.self.now.depth c.args.start f (drop 1 (left c.args.reader.now)) (omega (arith, c.if-self-eq0.false)) (ap signature (sym c.as_str.ensures.value) ∙ sym c.signature.ensures ∙ ap (option_map signature_view) c.in_default.is))
 
 pub parse_call-returns-in_err-parse_parameters-clause-gives : goal.parse_call-returns-in_err-parse_parameters-clause-gives
 parse_call-returns-in_err-parse_parameters-clause-gives g t c =
+    let signature = signatures g.F.Functions.set c.args.self.now in
     let there : drop 1 (left c.args.reader.now) ≡ left c.take_char.new.self = ap (drop 1) c.take_char.ensures.value in
     let s = signature_view c.in-Some.signature in
     let f = string_bytes c.args.name in
-    let declared : signatures g.F.Functions.set c.args.self.now f ≡ Some s = ap (signatures g.F.Functions.set c.args.self.now) (sym c.as_str.ensures.value) ∙ sym c.signature.ensures ∙ ap (option_map signature_view) c.in-Some.is in
-    let inner = level (signatures g.F.Functions.set c.args.self.now) c.deeper.result.depth in
-    let at_call = of_calls.level_call (signatures g.F.Functions.set c.args.self.now) c.args.self.now.depth c.deeper.result.depth c.args.start f (drop 1 (left c.args.reader.now)) (omega (arith, c.if-self-eq0.false)) c.deeper.ensures.depth in
-    let read = subst (λ ks. MakesArguments c.parse_parameters.new.builder c.new-arguments.result.items c.parse_parameters.new.parts.items (Err c.in_err-parse_parameters.field-0.0) c.parse_parameters.new.reader (parameters_at (signatures g.F.Functions.set c.args.self.now) inner c.args.start ks (past_blanks (drop 1 (left c.args.reader.now))))) c.params.ensures
-    (subst (λ l. MakesArguments c.parse_parameters.new.builder c.new-arguments.result.items c.parse_parameters.new.parts.items (Err c.in_err-parse_parameters.field-0.0) c.parse_parameters.new.reader (parameters_at (signatures g.F.Functions.set c.args.self.now) inner c.args.start (map kind_view c.params.result.now) l)) (c.skip_blanks.ensures.left ∙ ap past_blanks (sym there))
-    (subst (λ fs. MakesArguments c.parse_parameters.new.builder c.new-arguments.result.items c.parse_parameters.new.parts.items (Err c.in_err-parse_parameters.field-0.0) c.parse_parameters.new.reader (parameters_at (g.F.Functions.set fs).signature (level (g.F.Functions.set fs).signature c.deeper.result.depth) c.args.start (map kind_view c.params.result.now) (left c.skip_blanks.new.self))) c.deeper.ensures.functions (c.in_err-parse_parameters.ensures.gives))) in
+    let declared : signatures g.F.Functions.set c.args.self.now f ≡ Some s = ap signature (sym c.as_str.ensures.value) ∙ sym c.signature.ensures ∙ ap (option_map signature_view) c.in-Some.is in
+    let inner = level signature c.deeper.result.depth in
+    let at_call = of_calls.level_call signature c.args.self.now.depth c.deeper.result.depth c.args.start f (drop 1 (left c.args.reader.now)) (omega (arith, c.if-self-eq0.false)) c.deeper.ensures.depth in
+    let read = subst (λ ks. MakesArguments signature c.args.builder.now c.parse_parameters.new.builder c.new-arguments.result.items c.parse_parameters.new.parts.items (Err c.in_err-parse_parameters.field-0.0) c.parse_parameters.new.reader (parameters_at signature inner c.args.start ks (past_blanks (drop 1 (left c.args.reader.now))))) c.params.ensures
+    (subst (λ l. MakesArguments signature c.args.builder.now c.parse_parameters.new.builder c.new-arguments.result.items c.parse_parameters.new.parts.items (Err c.in_err-parse_parameters.field-0.0) c.parse_parameters.new.reader (parameters_at signature inner c.args.start (map kind_view c.params.result.now) l)) (c.skip_blanks.ensures.left ∙ ap past_blanks (sym there))
+    (subst (λ fs. MakesArguments (g.F.Functions.set fs).signature c.args.builder.now c.parse_parameters.new.builder c.new-arguments.result.items c.parse_parameters.new.parts.items (Err c.in_err-parse_parameters.field-0.0) c.parse_parameters.new.reader (parameters_at (g.F.Functions.set fs).signature (level (g.F.Functions.set fs).signature c.deeper.result.depth) c.args.start (map kind_view c.params.result.now) (left c.skip_blanks.new.self))) c.deeper.ensures.functions (c.in_err-parse_parameters.ensures.gives))) in
     let p = err_from_is_err_and c.from_residual.result c.from_residual.ensures.1 in
-    rw (p.1, p.2) (same_fails c.in_err-parse_parameters.field-0.0 _ _ at_call (of_calls.parameters_fail (signatures g.F.Functions.set c.args.self.now) inner c.args.start f (drop 1 (left c.args.reader.now)) s declared c.in_err-parse_parameters.field-0.0 read))
-
-pub parse_call-call-requires : goal.parse_call-call-requires
-parse_call-call-requires g t c =
-    let read = c.in_ok-parse_parameters.ensures.gives in
-    (read.0, subst (λ ps. AreArgumentsOf c.parse_parameters.new.builder ps read.0) (sym (read.2 ∙ ap (λ ps. ps ++ read.1) c.new-arguments.ensures.items)) read.3)
-
-pub parse_call-returns-in_err-call-clause-keeps : goal.parse_call-returns-in_err-call-clause-keeps
-parse_call-returns-in_err-call-clause-keeps g t c = λ part piece h. c.call.ensures.keeps part piece (c.parse_parameters.ensures.keeps part piece (h))
-
-pub parse_call-returns-clause-keeps : goal.parse_call-returns-clause-keeps
-parse_call-returns-clause-keeps g t c = λ part piece h. c.call.ensures.keeps part piece (c.parse_parameters.ensures.keeps part piece (h))
+    rw (p.1, p.2) (same_fails c.in_err-parse_parameters.field-0.0 _ _ at_call (of_calls.parameters_fail signature inner c.args.start f (drop 1 (left c.args.reader.now)) s declared c.in_err-parse_parameters.field-0.0 read))
 
 pub parse_call-returns-clause-gives : goal.parse_call-returns-clause-gives
 parse_call-returns-clause-gives g t c =
+    let signature = signatures g.F.Functions.set c.args.self.now in
     let there : drop 1 (left c.args.reader.now) ≡ left c.take_char.new.self = ap (drop 1) c.take_char.ensures.value in
     let s = signature_view c.in-Some.signature in
     let f = string_bytes c.args.name in
-    let declared : signatures g.F.Functions.set c.args.self.now f ≡ Some s = ap (signatures g.F.Functions.set c.args.self.now) (sym c.as_str.ensures.value) ∙ sym c.signature.ensures ∙ ap (option_map signature_view) c.in-Some.is in
-    let inner = level (signatures g.F.Functions.set c.args.self.now) c.deeper.result.depth in
-    let at_call = of_calls.level_call (signatures g.F.Functions.set c.args.self.now) c.args.self.now.depth c.deeper.result.depth c.args.start f (drop 1 (left c.args.reader.now)) (omega (arith, c.if-self-eq0.false)) c.deeper.ensures.depth in
-    let read = subst (λ ks. MakesArguments c.parse_parameters.new.builder c.new-arguments.result.items c.parse_parameters.new.parts.items (Ok tt) c.parse_parameters.new.reader (parameters_at (signatures g.F.Functions.set c.args.self.now) inner c.args.start ks (past_blanks (drop 1 (left c.args.reader.now))))) c.params.ensures
-    (subst (λ l. MakesArguments c.parse_parameters.new.builder c.new-arguments.result.items c.parse_parameters.new.parts.items (Ok tt) c.parse_parameters.new.reader (parameters_at (signatures g.F.Functions.set c.args.self.now) inner c.args.start (map kind_view c.params.result.now) l)) (c.skip_blanks.ensures.left ∙ ap past_blanks (sym there))
-    (subst (λ fs. MakesArguments c.parse_parameters.new.builder c.new-arguments.result.items c.parse_parameters.new.parts.items (Ok tt) c.parse_parameters.new.reader (parameters_at (g.F.Functions.set fs).signature (level (g.F.Functions.set fs).signature c.deeper.result.depth) c.args.start (map kind_view c.params.result.now) (left c.skip_blanks.new.self))) c.deeper.ensures.functions (c.in_ok-parse_parameters.ensures.gives))) in
+    let declared : signatures g.F.Functions.set c.args.self.now f ≡ Some s = ap signature (sym c.as_str.ensures.value) ∙ sym c.signature.ensures ∙ ap (option_map signature_view) c.in-Some.is in
+    let inner = level signature c.deeper.result.depth in
+    let at_call = of_calls.level_call signature c.args.self.now.depth c.deeper.result.depth c.args.start f (drop 1 (left c.args.reader.now)) (omega (arith, c.if-self-eq0.false)) c.deeper.ensures.depth in
+    let read = subst (λ ks. MakesArguments signature c.args.builder.now c.parse_parameters.new.builder c.new-arguments.result.items c.parse_parameters.new.parts.items (Ok tt) c.parse_parameters.new.reader (parameters_at signature inner c.args.start ks (past_blanks (drop 1 (left c.args.reader.now))))) c.params.ensures
+    (subst (λ l. MakesArguments signature c.args.builder.now c.parse_parameters.new.builder c.new-arguments.result.items c.parse_parameters.new.parts.items (Ok tt) c.parse_parameters.new.reader (parameters_at signature inner c.args.start (map kind_view c.params.result.now) l)) (c.skip_blanks.ensures.left ∙ ap past_blanks (sym there))
+    (subst (λ fs. MakesArguments (g.F.Functions.set fs).signature c.args.builder.now c.parse_parameters.new.builder c.new-arguments.result.items c.parse_parameters.new.parts.items (Ok tt) c.parse_parameters.new.reader (parameters_at (g.F.Functions.set fs).signature (level (g.F.Functions.set fs).signature c.deeper.result.depth) c.args.start (map kind_view c.params.result.now) (left c.skip_blanks.new.self))) c.deeper.ensures.functions (c.in_ok-parse_parameters.ensures.gives))) in
     let are = subst (λ ps. AreArgumentsOf c.parse_parameters.new.builder ps read.0) (sym (read.2 ∙ ap (λ ps. ps ++ read.1) c.new-arguments.ensures.items)) read.3 in
-    (call f read.0, c.in_ok-call.ensures.made read.0 are, of_calls.result_is (signatures g.F.Functions.set c.args.self.now) inner c.args.start f (drop 1 (left c.args.reader.now)) s declared read.0 ∙ ap (λ k. Some k) (sym c.result.ensures), at_call ∙ of_calls.called (signatures g.F.Functions.set c.args.self.now) inner c.args.start f (drop 1 (left c.args.reader.now)) s declared read.0 (left c.parse_parameters.new.reader) read.4)
+    (call f read.0, c.in_ok-call.ensures.made read.0 are, of_calls.result_is signature inner c.args.start f (drop 1 (left c.args.reader.now)) s declared read.0 ∙ ap (λ k. Some k) (sym c.result.ensures), at_call ∙ of_calls.called signature inner c.args.start f (drop 1 (left c.args.reader.now)) s declared read.0 (left c.parse_parameters.new.reader) read.4, grows_call f s read.0 declared read.5 c.call.ensures.keeps c.in_ok-call.ensures.calls)
 
 pub parse_inside-returns-then-self-eq0-clause-gives : goal.parse_inside-returns-then-self-eq0-clause-gives
 parse_inside-returns-then-self-eq0-clause-gives g t c =
@@ -386,40 +258,22 @@ parse_inside-returns-clause-gives g t c =
     let some : 0 < c.args.self.now.depth = omega (arith, c.if-self-eq0.false) in
     let behind = behind_one _ _ _ _ c.take_char.ensures.value c.skip_blanks.ensures.left in
     let same = ap (λ f. (g.F.Functions.set f).signature) c.deeper.ensures.functions in
-    subst (Makes an_or c.parse_logical_or.new.builder c.parse_logical_or.result c.parse_logical_or.new.reader)
+    subst (Makes (signatures g.F.Functions.set c.args.self.now) an_or c.args.builder.now c.parse_logical_or.new.builder c.parse_logical_or.result c.parse_logical_or.new.reader)
     (sym (inside_is _ _ _ _ _ _ _ some same c.deeper.ensures.depth behind))
-    c.parse_logical_or.ensures.gives
-
-pub parse_logical_and-returns-clause-keeps : goal.parse_logical_and-returns-clause-keeps
-parse_logical_and-returns-clause-keeps g t c = λ part piece h. c.parse_and_from.ensures.keeps part piece (c.parse_basic.ensures.keeps part piece h)
-
-pub parse_logical_or-returns-clause-keeps : goal.parse_logical_or-returns-clause-keeps
-parse_logical_or-returns-clause-keeps g t c = λ part piece h. c.parse_or_from.ensures.keeps part piece (c.parse_logical_and.ensures.keeps part piece h)
-
-pub parse_named-returns-in_err-call-clause-gives : goal.parse_named-returns-in_err-call-clause-gives
-parse_named-returns-in_err-call-clause-gives g t c =
-    let p = err_from_is_err_and c.from_residual-in_err-call.result c.from_residual-in_err-call.ensures.1 in
-    rw (p.1, p.2) (of_calls.named_call_fails (signatures g.F.Functions.set c.args.self.now) (deeper g.F.Functions.set c.args.self.now) (left c.args.reader.now) c.requires c.in_err-call.field-0.0 (ap (begins (λ c. c == 40)) (sym c.in_ok-word.ensures.rest) ∙ sym c.sees.ensures ∙ c.if-sees.true) (subst (λ l. Fails c.in_err-call.field-0.0 ((deeper g.F.Functions.set c.args.self.now).call_of (byte_count (left c.args.reader.now)) (word (left c.args.reader.now)) (drop 1 l))) c.in_ok-word.ensures.rest (subst (λ f. Fails c.in_err-call.field-0.0 ((deeper g.F.Functions.set c.args.self.now).call_of (byte_count (left c.args.reader.now)) f (drop 1 (left c.read_word.new.reader)))) (c.in_ok-name.ensures (word (left c.args.reader.now)) c.in_ok-word.ensures.word) (rw c.bytes_left-start.ensures.value at c.in_err-call.ensures.gives))))
+    (subst (λ signature. Makes signature an_or c.args.builder.now c.parse_logical_or.new.builder c.parse_logical_or.result c.parse_logical_or.new.reader
+    (at_level g.F.Functions.set c.deeper.result or_at (left c.skip_blanks.new.self))) same
+    c.parse_logical_or.ensures.gives)
 
 pub parse_named-returns-then-sees-clause-gives : goal.parse_named-returns-then-sees-clause-gives
 parse_named-returns-then-sees-clause-gives g t c =
+    let below = deeper g.F.Functions.set c.args.self.now in
     let k = rw c.bytes_left-start.ensures.value at c.in_ok-call.ensures.gives in
-    (a_call k.0, (k.1, k.2), of_calls.named_call (signatures g.F.Functions.set c.args.self.now) (deeper g.F.Functions.set c.args.self.now) (left c.args.reader.now) c.requires k.0 (left c.parse_call.new.reader) (ap (begins (λ c. c == 40)) (sym c.in_ok-word.ensures.rest) ∙ sym c.sees.ensures ∙ c.if-sees.true) (subst (λ l. (deeper g.F.Functions.set c.args.self.now).call_of (byte_count (left c.args.reader.now)) (word (left c.args.reader.now)) (drop 1 l) ≡ Ok (k.0, left c.parse_call.new.reader)) c.in_ok-word.ensures.rest (subst (λ f. (deeper g.F.Functions.set c.args.self.now).call_of (byte_count (left c.args.reader.now)) f (drop 1 (left c.read_word.new.reader)) ≡ Ok (k.0, left c.parse_call.new.reader)) (c.in_ok-name.ensures (word (left c.args.reader.now)) c.in_ok-word.ensures.word) k.3)))
+    (a_call k.0, (k.1, k.2), of_calls.named_call (signatures g.F.Functions.set c.args.self.now) below (left c.args.reader.now) c.requires k.0 (left c.parse_call.new.reader) (ap (is_at "(") (sym c.in_ok-word.ensures.rest) ∙ sym c.sees.ensures ∙ c.if-sees.true) (subst (λ l. below.call_of (byte_count (left c.args.reader.now)) (word (left c.args.reader.now)) (drop 1 l) ≡ Ok (k.0, left c.parse_call.new.reader)) c.in_ok-word.ensures.rest (subst (λ f. below.call_of (byte_count (left c.args.reader.now)) f (drop 1 (left c.read_word.new.reader)) ≡ Ok (k.0, left c.parse_call.new.reader)) (c.in_ok-name.ensures (word (left c.args.reader.now)) c.in_ok-word.ensures.word) k.3)), k.4)
 
 pub parse_named-returns-in-Some-clause-gives : goal.parse_named-returns-in-Some-clause-gives
 parse_named-returns-in-Some-clause-gives g t c =
     let l = literal_view c.in-Some.literal in
-    (a_literal l, refl, of_calls.named_literal (signatures g.F.Functions.set c.args.self.now) (deeper g.F.Functions.set c.args.self.now) (left c.args.reader.now) c.requires l (ap (begins (λ c. c == 40)) (sym c.in_ok-word.ensures.rest) ∙ sym c.sees.ensures ∙ c.if-sees.false) (sym (c.literal.ensures (word (left c.args.reader.now)) c.in_ok-word.ensures.word) ∙ ap (option_map literal_view) c.in-Some.is) ∙ ap (λ r. Ok (a_literal l, r)) (ap past_blanks (sym c.in_ok-word.ensures.rest) ∙ sym c.skip_blanks.ensures.left))
-
-pub parse_named-returns-clause-gives : goal.parse_named-returns-clause-gives
-parse_named-returns-clause-gives g t c =
-    rw (c.in_long_hand.ensures, c.bytes_left-start.ensures.value) (of_calls.named_nothing (signatures g.F.Functions.set c.args.self.now) (deeper g.F.Functions.set c.args.self.now) (left c.args.reader.now) c.requires (ap (begins (λ c. c == 40)) (sym c.in_ok-word.ensures.rest) ∙ sym c.sees.ensures ∙ c.if-sees.false) (sym (c.literal.ensures (word (left c.args.reader.now)) c.in_ok-word.ensures.word) ∙ ap (option_map literal_view) c.in-None.is))
-
-pub parse_negated-returns-in_err-not_paren-clause-keeps : goal.parse_negated-returns-in_err-not_paren-clause-keeps
-parse_negated-returns-in_err-not_paren-clause-keeps g t c = λ part piece h. c.not_paren.ensures.keeps part piece (c.parse_paren.ensures.keeps part piece h)
-
-pub parse_negated-returns-then-sees-clause-keeps : goal.parse_negated-returns-then-sees-clause-keeps
-parse_negated-returns-then-sees-clause-keeps g t c = λ part piece h. c.not_paren.ensures.keeps part piece (c.parse_paren.ensures.keeps part piece h)
+    (a_literal l, refl, of_calls.named_literal (signatures g.F.Functions.set c.args.self.now) (deeper g.F.Functions.set c.args.self.now) (left c.args.reader.now) c.requires l (ap (is_at "(") (sym c.in_ok-word.ensures.rest) ∙ sym c.sees.ensures ∙ c.if-sees.false) (sym (c.literal.ensures (word (left c.args.reader.now)) c.in_ok-word.ensures.word) ∙ ap (option_map literal_view) c.in-Some.is) ∙ ap (λ r. Ok (a_literal l, r)) (ap past_blanks (sym c.in_ok-word.ensures.rest) ∙ sym c.skip_blanks.ensures.left), grows_none c.args.builder.now)
 
 pub parse_negated-returns-then-sees-clause-gives : goal.parse_negated-returns-then-sees-clause-gives
 parse_negated-returns-then-sees-clause-gives g t c =
@@ -427,13 +281,8 @@ parse_negated-returns-then-sees-clause-gives g t c =
       tree.not_paren inner.0,
       c.in_ok-not_paren.ensures.made inner.0 inner.1,
       not_paren_read _ _ _ inner.0 _ (sym c.sees.ensures ∙ c.if-sees.true) inner.2,
+      grows_kept inner.3 c.not_paren.ensures.keeps,
     )
-
-pub parse_negated-returns-in_err-not_exist-clause-keeps : goal.parse_negated-returns-in_err-not_exist-clause-keeps
-parse_negated-returns-in_err-not_exist-clause-keeps g t c = λ part piece h. c.not_exist.ensures.keeps part piece (c.parse_query.ensures.keeps part piece h)
-
-pub parse_negated-returns-then-sees-2-clause-keeps : goal.parse_negated-returns-then-sees-2-clause-keeps
-parse_negated-returns-then-sees-2-clause-keeps g t c = λ part piece h. c.not_exist.ensures.keeps part piece (c.parse_query.ensures.keeps part piece h)
 
 pub parse_negated-returns-then-sees-2-clause-gives : goal.parse_negated-returns-then-sees-2-clause-gives
 parse_negated-returns-then-sees-2-clause-gives g t c =
@@ -441,13 +290,8 @@ parse_negated-returns-then-sees-2-clause-gives g t c =
       tree.not_exist q.0,
       c.in_ok-not_exist.ensures.made q.0 q.1,
       no_current_read _ _ _ q.0 _ (sym c.sees.ensures ∙ c.if-sees.false) (sym c.sees-2.ensures ∙ c.if-sees-2.true) q.2,
+      grows_kept q.3 c.not_exist.ensures.keeps,
     )
-
-pub parse_negated-returns-in_err-not_exist-2-clause-keeps : goal.parse_negated-returns-in_err-not_exist-2-clause-keeps
-parse_negated-returns-in_err-not_exist-2-clause-keeps g t c = λ part piece h. c.not_exist-then-sees-3.ensures.keeps part piece (c.parse_query-then-sees-3.ensures.keeps part piece h)
-
-pub parse_negated-returns-then-sees-3-clause-keeps : goal.parse_negated-returns-then-sees-3-clause-keeps
-parse_negated-returns-then-sees-3-clause-keeps g t c = λ part piece h. c.not_exist-then-sees-3.ensures.keeps part piece (c.parse_query-then-sees-3.ensures.keeps part piece h)
 
 pub parse_negated-returns-then-sees-3-clause-gives : goal.parse_negated-returns-then-sees-3-clause-gives
 parse_negated-returns-then-sees-3-clause-gives g t c =
@@ -455,11 +299,12 @@ parse_negated-returns-then-sees-3-clause-gives g t c =
       tree.not_exist q.0,
       c.in_ok-not_exist-2.ensures.made q.0 q.1,
       no_root_read _ _ _ q.0 _ (sym c.sees.ensures ∙ c.if-sees.false) (sym c.sees-2.ensures ∙ c.if-sees-2.false) (sym c.sees-3.ensures ∙ c.if-sees-3.true) q.2,
+      grows_kept q.3 c.not_exist-then-sees-3.ensures.keeps,
     )
 
 pub parse_negated-returns-then-sees_small_letter-clause-gives : goal.parse_negated-returns-then-sees_small_letter-clause-gives
 parse_negated-returns-then-sees_small_letter-clause-gives g t c =
-    subst (Makes a_basic c.parse_negated_call.new.builder c.parse_negated_call.result c.parse_negated_call.new.reader)
+    subst (Makes (signatures g.F.Functions.set c.args.self.now) a_basic c.args.builder.now c.parse_negated_call.new.builder c.parse_negated_call.result c.parse_negated_call.new.reader)
     (sym (negated_is_name _ _ _ (sym c.sees.ensures ∙ c.if-sees.false) (sym c.sees-2.ensures ∙ c.if-sees-2.false) (sym c.sees-3.ensures ∙ c.if-sees-3.false)))
     c.parse_negated_call.ensures.gives
 
@@ -473,142 +318,105 @@ parse_negated_call-returns-in_default g t c =
     let o = c.in_ok-call.ensures.gives in
     record {
       moves = record { moves = c.parse_named.ensures.moves.moves; near = rw c.in_long_hand.ensures (λ e. absurd cc) };
-      keeps = c.parse_named.ensures.keeps;
       gives = rw (c.in_long_hand.ensures, c.bytes_left-start.ensures.value) (no_call_read _ _ _ c.parse_named.new.builder _ o.0 _ c.in_default.not-Call o.1 o.2);
     }
 
 pub parse_negated_call-returns-then-eq-clause-gives : goal.parse_negated_call-returns-then-eq-clause-gives
 parse_negated_call-returns-then-eq-clause-gives g t c =
+    let signature = signatures g.F.Functions.set c.args.self.now in
     let o = c.in_ok-call.ensures.gives in
-    let f = call_is (signatures g.F.Functions.set c.args.self.now) c.parse_named.new.builder _ _ _ o.0 c.in-Call.is o.1 in
-    let read = subst (λ y. named_at (signatures g.F.Functions.set c.args.self.now) (deeper g.F.Functions.set c.args.self.now) (left c.args.reader.now) ≡ Ok (y, left c.parse_named.new.reader)) f.1 o.2 in
+    let f = call_is signature c.parse_named.new.builder _ _ _ o.0 c.in-Call.is o.1 in
+    let read = subst (λ y. named_at signature (deeper g.F.Functions.set c.args.self.now) (left c.args.reader.now) ≡ Ok (y, left c.parse_named.new.reader)) f.1 o.2 in
     rw (c.in_long_hand-then-eq.ensures, c.bytes_left-start.ensures.value) (value_refused _ _ _ f.0 _ _ _ f.3 c.eq.ensures read c.if-eq.true)
-
-pub parse_negated_call-returns-in_err-not_test-clause-keeps : goal.parse_negated_call-returns-in_err-not_test-clause-keeps
-parse_negated_call-returns-in_err-not_test-clause-keeps g t c = λ part piece h. c.not_test.ensures.keeps part piece (c.parse_named.ensures.keeps part piece h)
-
-pub parse_negated_call-returns-clause-keeps : goal.parse_negated_call-returns-clause-keeps
-parse_negated_call-returns-clause-keeps g t c = λ part piece h. c.not_test.ensures.keeps part piece (c.parse_named.ensures.keeps part piece h)
 
 pub parse_negated_call-returns-clause-gives : goal.parse_negated_call-returns-clause-gives
 parse_negated_call-returns-clause-gives g t c =
+    let signature = signatures g.F.Functions.set c.args.self.now in
     let o = c.in_ok-call.ensures.gives in
-    let f = call_is (signatures g.F.Functions.set c.args.self.now) c.parse_named.new.builder _ _ _ o.0 c.in-Call.is o.1 in
-    let read = subst (λ y. named_at (signatures g.F.Functions.set c.args.self.now) (deeper g.F.Functions.set c.args.self.now) (left c.args.reader.now) ≡ Ok (y, left c.parse_named.new.reader)) f.1 o.2 in (
+    let f = call_is signature c.parse_named.new.builder _ _ _ o.0 c.in-Call.is o.1 in
+    let read = subst (λ y. named_at signature (deeper g.F.Functions.set c.args.self.now) (left c.args.reader.now) ≡ Ok (y, left c.parse_named.new.reader)) f.1 o.2 in (
       tree.not_test f.0,
       c.in_ok-not_test.ensures.made f.0 f.2,
       not_test_read _ _ _ f.0 _ _ _ f.3 c.eq.ensures read c.if-eq.false,
+      grows_kept (grows_same (ap calls_in_operand f.1) o.3) c.not_test.ensures.keeps,
     )
 
 pub parse_operand-returns-then-sees-3-clause-gives : goal.parse_operand-returns-then-sees-3-clause-gives
 parse_operand-returns-then-sees-3-clause-gives g t c =
     let q = c.in_ok-query.ensures.gives in
-    (a_query q.0, q.1, of_calls.current_operand (signatures g.F.Functions.set c.args.self.now) (deeper g.F.Functions.set c.args.self.now) (left c.args.reader.now) (sym c.sees.ensures ∙ c.if-sees.false) (sym c.sees-2.ensures ∙ c.if-sees-2.false) q.0 (left c.parse_query.new.reader) (sym c.sees-3.ensures ∙ c.if-sees-3.true) q.2)
+    (a_query q.0, q.1, of_calls.current_operand (signatures g.F.Functions.set c.args.self.now) (deeper g.F.Functions.set c.args.self.now) (left c.args.reader.now) (sym c.sees.ensures ∙ c.if-sees.false) (sym c.sees-2.ensures ∙ c.if-sees-2.false) q.0 (left c.parse_query.new.reader) (sym c.sees-3.ensures ∙ c.if-sees-3.true) q.2, q.3)
 
 pub parse_operand-returns-then-sees-4-clause-gives : goal.parse_operand-returns-then-sees-4-clause-gives
 parse_operand-returns-then-sees-4-clause-gives g t c =
     let q = c.in_ok-query-2.ensures.gives in
-    (a_query q.0, q.1, of_calls.root_operand (signatures g.F.Functions.set c.args.self.now) (deeper g.F.Functions.set c.args.self.now) (left c.args.reader.now) (sym c.sees.ensures ∙ c.if-sees.false) (sym c.sees-2.ensures ∙ c.if-sees-2.false) (sym c.sees-3.ensures ∙ c.if-sees-3.false) q.0 (left c.parse_query-then-sees-4.new.reader) (sym c.sees-4.ensures ∙ c.if-sees-4.true) q.2)
+    (a_query q.0, q.1, of_calls.root_operand (signatures g.F.Functions.set c.args.self.now) (deeper g.F.Functions.set c.args.self.now) (left c.args.reader.now) (sym c.sees.ensures ∙ c.if-sees.false) (sym c.sees-2.ensures ∙ c.if-sees-2.false) (sym c.sees-3.ensures ∙ c.if-sees-3.false) q.0 (left c.parse_query-then-sees-4.new.reader) (sym c.sees-4.ensures ∙ c.if-sees-4.true) q.2, q.3)
 
 pub parse_operand-returns-then-sees_small_letter-clause-gives : goal.parse_operand-returns-then-sees_small_letter-clause-gives
 parse_operand-returns-then-sees_small_letter-clause-gives g t c =
-    subst (λ read. MakesOperand (signatures g.F.Functions.set c.args.self.now) c.parse_named.new.builder c.parse_named.result c.parse_named.new.reader read) (sym (of_calls.named_operand (signatures g.F.Functions.set c.args.self.now) (deeper g.F.Functions.set c.args.self.now) (left c.args.reader.now) (sym c.sees.ensures ∙ c.if-sees.false) (sym c.sees-2.ensures ∙ c.if-sees-2.false) (sym c.sees-3.ensures ∙ c.if-sees-3.false) (sym c.sees-4.ensures ∙ c.if-sees-4.false) (sym c.sees_small_letter.ensures ∙ c.if-sees_small_letter.true))) c.parse_named.ensures.gives
+    let signature = signatures g.F.Functions.set c.args.self.now in
+    subst (λ read. MakesOperand signature c.args.builder.now c.parse_named.new.builder c.parse_named.result c.parse_named.new.reader read) (sym (of_calls.named_operand signature (deeper g.F.Functions.set c.args.self.now) (left c.args.reader.now) (sym c.sees.ensures ∙ c.if-sees.false) (sym c.sees-2.ensures ∙ c.if-sees-2.false) (sym c.sees-3.ensures ∙ c.if-sees-3.false) (sym c.sees-4.ensures ∙ c.if-sees-4.false) (sym c.sees_small_letter.ensures ∙ c.if-sees_small_letter.true))) c.parse_named.ensures.gives
 
 pub parse_operand-returns-clause-gives : goal.parse_operand-returns-clause-gives
 parse_operand-returns-clause-gives g t c =
     let n = number_amount c.in_ok-number.number in
-    (a_literal (number n), refl, of_calls.number_operand (signatures g.F.Functions.set c.args.self.now) (deeper g.F.Functions.set c.args.self.now) (left c.args.reader.now) (sym c.sees.ensures ∙ c.if-sees.false) (sym c.sees-2.ensures ∙ c.if-sees-2.false) (sym c.sees-3.ensures ∙ c.if-sees-3.false) (sym c.sees-4.ensures ∙ c.if-sees-4.false) n (left c.parse_number.new.reader) (sym c.sees_small_letter.ensures ∙ c.if-sees_small_letter.false) c.in_ok-number.ensures.gives ∙ ap (λ l. Ok (a_literal (number n), l)) (sym c.skip_blanks.ensures.left))
+    (a_literal (number n), refl, of_calls.number_operand (signatures g.F.Functions.set c.args.self.now) (deeper g.F.Functions.set c.args.self.now) (left c.args.reader.now) (sym c.sees.ensures ∙ c.if-sees.false) (sym c.sees-2.ensures ∙ c.if-sees-2.false) (sym c.sees-3.ensures ∙ c.if-sees-3.false) (sym c.sees-4.ensures ∙ c.if-sees-4.false) n (left c.parse_number.new.reader) (sym c.sees_small_letter.ensures ∙ c.if-sees_small_letter.false) c.in_ok-number.ensures.gives ∙ ap (λ l. Ok (a_literal (number n), l)) (sym c.skip_blanks.ensures.left), grows_none c.args.builder.now)
 
 pub parse_or_from-parts-init : goal.parse_or_from-parts-init
 parse_or_from-parts-init g t c = record {
   moves = grind (arith, common_steps);
-  keeps = λ part piece h. h;
-  so_far = λ x is. (x ∷ [], first_or c.args.builder.now _ _ _ x c.new-parts.ensures.items c.in_ok-push.ensures.items is, refl);
+  so_far = λ x is. (x ∷ [], first_or c.args.builder.now _ _ _ x c.new-parts.ensures.items c.in_ok-push.ensures.items is, refl, from_first);
 }
-
-pub parse_or_from-returns-in_err-part-clause-moves : goal.parse_or_from-returns-in_err-part-clause-moves
-parse_or_from-returns-in_err-part-clause-moves g t c = grind (arith, common_steps)
-
-pub parse_or_from-returns-in_err-part-clause-keeps : goal.parse_or_from-returns-in_err-part-clause-keeps
-parse_or_from-returns-in_err-part-clause-keeps g t c = λ part piece h. c.parse_logical_and.ensures.keeps part piece (c.parts.invariant.keeps part piece h)
 
 pub parse_or_from-returns-in_err-part-clause-gives : goal.parse_or_from-returns-in_err-part-clause-gives
 parse_or_from-returns-in_err-part-clause-gives g t c = λ x is.
     let p = err_from_is_err_and c.from_residual-in_err-part.result c.from_residual-in_err-part.ensures.1 in
     let so_far = c.parts.invariant.so_far x is in
-    let sign : begins_both 124 124 (left c.parts.reader) ≡ true = sym c.sees_both.ensures.value ∙ c.parts-test.true in
+    let sign : are_at "||" (left c.parts.reader) ≡ true = sym c.sees_both.ensures.value ∙ c.parts-test.true in
     let behind = behind_two _ _ _ _ c.sees_both.ensures.stays c.take_two.ensures.left c.skip_blanks.ensures.left in
     rw (p.1, p.2) (row_fails (ors (signatures g.F.Functions.set c.args.self.now) c.args.self.now.depth) c.in_err-part.field-0.0 x so_far.0 _ _ _ sign behind c.in_err-part.ensures.gives so_far.2)
 
 pub parse_or_from-parts-smaller : goal.parse_or_from-parts-smaller
 parse_or_from-parts-smaller g t c =
-    let sign : begins_both 124 124 (left c.parts.reader) ≡ true = sym c.sees_both.ensures.value ∙ c.parts-test.true in
+    let sign : are_at "||" (left c.parts.reader) ≡ true = sym c.sees_both.ensures.value ∙ c.parts-test.true in
     let behind = behind_two _ _ _ _ c.sees_both.ensures.stays c.take_two.ensures.left c.skip_blanks.ensures.left in
     row_shorter (ors (signatures g.F.Functions.set c.args.self.now) c.args.self.now.depth) _ _ _ c.in_ok-part.ensures.gives.0 sign behind c.in_ok-part.ensures.gives.2
 
 pub parse_or_from-parts-preserved : goal.parse_or_from-parts-preserved
 parse_or_from-parts-preserved g t c =
-    let sign : begins_both 124 124 (left c.parts.reader) ≡ true = sym c.sees_both.ensures.value ∙ c.parts-test.true in
+    let signature = signatures g.F.Functions.set c.args.self.now in
+    let sign : are_at "||" (left c.parts.reader) ≡ true = sym c.sees_both.ensures.value ∙ c.parts-test.true in
     let behind = behind_two _ _ _ _ c.sees_both.ensures.stays c.take_two.ensures.left c.skip_blanks.ensures.left in
     let one = c.in_ok-part.ensures.gives in
     record {
       moves = grind (arith, common_steps);
-      keeps = λ part piece h. c.parse_logical_and.ensures.keeps part piece (c.parts.invariant.keeps part piece h);
       so_far = λ x is.
           let so_far = c.parts.invariant.so_far x is in
-          let total = with_front (x ∷ []) (read_more (ors (signatures g.F.Functions.set c.args.self.now) c.args.self.now.depth) (left c.args.reader.now)) in (
+          let total = with_front (x ∷ []) (read_more (ors signature c.args.self.now.depth) (left c.args.reader.now)) in (
             so_far.0 ++ one.0 ∷ [],
-            or_pushed c.parts.builder c.parse_logical_and.new.builder (parts_in c.parts.parts) (parts_in c.push-in-parts.new.self) so_far.0 _ one.0 c.parse_logical_and.ensures.keeps so_far.1 one.1 c.in_ok-push-2.ensures.items,
-            row_goes_on (ors (signatures g.F.Functions.set c.args.self.now) c.args.self.now.depth) so_far.0 _ _ _ one.0 total sign behind one.2 so_far.2,
+            or_pushed c.parts.builder c.parse_logical_and.new.builder (parts_in c.parts.parts) (parts_in c.push-in-parts.new.self) so_far.0 _ one.0 one.3.trees so_far.1 one.1 c.in_ok-push-2.ensures.items,
+            row_goes_on (ors signature c.args.self.now.depth) so_far.0 _ _ _ one.0 total sign behind one.2 so_far.2,
+            λ before grown. grows_same (more_ors so_far.0 one.0) (grows_then (so_far.3 before grown) one.3),
           );
     }
-
-pub parse_or_from-returns-in_err-push-2-clause-moves : goal.parse_or_from-returns-in_err-push-2-clause-moves
-parse_or_from-returns-in_err-push-2-clause-moves g t c = grind (arith, common_steps)
-
-pub parse_or_from-returns-in_err-push-2-clause-keeps : goal.parse_or_from-returns-in_err-push-2-clause-keeps
-parse_or_from-returns-in_err-push-2-clause-keeps g t c = λ part piece h. c.parse_logical_and.ensures.keeps part piece (c.parts.invariant.keeps part piece h)
 
 pub parse_or_from-logical_or-requires : goal.parse_or_from-logical_or-requires
 parse_or_from-logical_or-requires g t c = let so_far = c.parts.invariant.so_far c.requires.0 c.requires.1 in (or_list so_far.0, so_far.1)
 
-pub parse_or_from-returns-in_err-logical_or-clause-keeps : goal.parse_or_from-returns-in_err-logical_or-clause-keeps
-parse_or_from-returns-in_err-logical_or-clause-keeps g t c = λ part piece h. c.logical_or.ensures.keeps part piece (c.parts.invariant.keeps part piece h)
-
-pub parse_or_from-returns-clause-moves : goal.parse_or_from-returns-clause-moves
-parse_or_from-returns-clause-moves g t c = grind (arith, common_steps)
-
-pub parse_or_from-returns-clause-keeps : goal.parse_or_from-returns-clause-keeps
-parse_or_from-returns-clause-keeps g t c = λ part piece h. c.logical_or.ensures.keeps part piece (c.parts.invariant.keeps part piece h)
-
 pub parse_or_from-returns-clause-gives : goal.parse_or_from-returns-clause-gives
 parse_or_from-returns-clause-gives g t c = λ x is.
     let so_far = c.parts.invariant.so_far x is in
-    let ends : begins_both 124 124 (left c.parts.reader) ≡ false = sym c.sees_both.ensures.value ∙ c.parts-test.false in (
+    let ends : are_at "||" (left c.parts.reader) ≡ false = sym c.sees_both.ensures.value ∙ c.parts-test.false in (
       or_list so_far.0,
       c.in_ok-logical_or.ensures.made (or_list so_far.0) so_far.1,
       row_done (ors (signatures g.F.Functions.set c.args.self.now) c.args.self.now.depth) x so_far.0 _ _ ends so_far.2 ∙ ap (λ l. Ok (or_list so_far.0, l)) (sym c.sees_both.ensures.stays),
+      λ before grown. grows_kept (so_far.3 before grown) c.logical_or.ensures.keeps,
     )
 
 pub parse_parameters-returns-then-sees-clause-gives : goal.parse_parameters-returns-then-sees-clause-gives
 parse_parameters-returns-then-sees-clause-gives g t c =
-    of_arguments.none_made c.args.builder.now c.args.parts.now.items c.parse_end.result c.parse_end.new.reader (ended c.args.start (map kind_view c.args.kinds.now) (drop 1 (left c.args.reader.now))) (parameters_at (signatures g.F.Functions.set c.args.self.now) (deeper g.F.Functions.set c.args.self.now) c.args.start (map kind_view c.args.kinds.now) (left c.args.reader.now)) (of_calls.no_argument (signatures g.F.Functions.set c.args.self.now) (deeper g.F.Functions.set c.args.self.now) c.args.start (map kind_view c.args.kinds.now) (left c.args.reader.now) (sym c.sees.ensures ∙ c.if-sees.true)) c.parse_end.ensures.gives
-
-pub parse_parameters-returns-clause-gives : goal.parse_parameters-returns-clause-gives
-parse_parameters-returns-clause-gives g t c =
-    subst (λ read. MakesArguments c.parse_arguments.new.builder c.args.parts.now.items c.parse_arguments.new.parts.items c.parse_arguments.result c.parse_arguments.new.reader read) (sym (of_calls.some_arguments (signatures g.F.Functions.set c.args.self.now) (deeper g.F.Functions.set c.args.self.now) c.args.start (map kind_view c.args.kinds.now) (left c.args.reader.now) (sym c.sees.ensures ∙ c.if-sees.false))) (c.parse_arguments.ensures.gives (length (left c.args.reader.now)) (omega arith))
-
-pub parse_query-returns-in_err-parts-clause-gives : goal.parse_query-returns-in_err-parts-clause-gives
-parse_query-returns-in_err-parts-clause-gives g t c =
-    let p = err_from_is_err_and c.from_residual.result c.from_residual.ensures.1 in
-    let level = c.args.self.now in
-    rw (p.1, p.2) (query_fails (signatures g.F.Functions.set level) (deeper g.F.Functions.set level) (query_kind_view c.args.kind) c.take_char.result (left c.args.reader.now) (left c.take_char.new.self) c.take_char.ensures.value c.in_err-parts.field-0.0 c.in_err-parts.ensures.gives)
-
-pub parse_query-returns-in_err-query-clause-keeps : goal.parse_query-returns-in_err-query-clause-keeps
-parse_query-returns-in_err-query-clause-keeps g t c = λ part piece h. c.query.ensures.keeps part piece (c.parse_segments.ensures.keeps part piece h)
-
-pub parse_query-returns-clause-keeps : goal.parse_query-returns-clause-keeps
-parse_query-returns-clause-keeps g t c = λ part piece h. c.query.ensures.keeps part piece (c.parse_segments.ensures.keeps part piece h)
+    let signature = signatures g.F.Functions.set c.args.self.now in
+    let below = deeper g.F.Functions.set c.args.self.now in
+    of_arguments.none_made signature c.args.parts.now.items c.parse_end.result c.parse_end.new.reader (ended c.args.start (map kind_view c.args.kinds.now) (drop 1 (left c.args.reader.now))) (parameters_at signature below c.args.start (map kind_view c.args.kinds.now) (left c.args.reader.now)) c.args.builder.now (of_calls.no_argument signature below c.args.start (map kind_view c.args.kinds.now) (left c.args.reader.now) (sym c.sees.ensures ∙ c.if-sees.true)) c.parse_end.ensures.gives
 
 pub parse_query-returns-clause-gives : goal.parse_query-returns-clause-gives
 parse_query-returns-clause-gives g t c =
@@ -618,31 +426,38 @@ parse_query-returns-clause-gives g t c =
       tree.query kind (segment_list read.0),
       c.in_ok-query.ensures.made (segment_list read.0) read.2,
       query_reads (signatures g.F.Functions.set level) (deeper g.F.Functions.set level) kind c.take_char.result (left c.args.reader.now) (left c.take_char.new.self) c.take_char.ensures.value read.1 (left c.parse_segments.new.reader) read.0 read.5 read.4,
+      grows_kept read.6 c.query.ensures.keeps,
     )
+
+pub parse_segment-returns-in_err-segment-clause-gives : goal.parse_segment-returns-in_err-segment-clause-gives
+parse_segment-returns-in_err-segment-clause-gives g t c =
+    let read = c.in_err-segment.ensures.gives (signatures g.F.Functions.set c.args.self.now) (filter_at g.F.Functions.set c.args.self.now) in
+    search rules
 
 pub parse_segment-returns-in-Dotted-clause-gives : goal.parse_segment-returns-in-Dotted-clause-gives
 parse_segment-returns-in-Dotted-clause-gives g t c =
+    let signature = signatures g.F.Functions.set c.args.self.now in
     let filters = filter_at g.F.Functions.set c.args.self.now in
-    subst (λ start. StartsSegment c.parse_segment_start.new.builder (Ok start) c.parse_segment_start.new.reader (bracket_at filters) (segment_at filters c.args.context (left c.args.reader.now))) c.in-Dotted.is (c.in_ok-segment.ensures.gives filters)
+    subst (λ start. StartsSegment signature c.args.builder.now c.parse_segment_start.new.builder (Ok start) c.parse_segment_start.new.reader (bracket_at filters) (segment_at filters c.args.context (left c.args.reader.now)))
+    c.in-Dotted.is (c.in_ok-segment.ensures.gives signature filters)
 
-pub parse_segment-returns-in-Bracket-clause-keeps : goal.parse_segment-returns-in-Bracket-clause-keeps
-parse_segment-returns-in-Bracket-clause-keeps g t c = λ part piece h. c.parse_bracket.ensures.keeps part piece (c.parse_segment_start.ensures.keeps part piece h)
+pub parse_segment-returns-in-Bracket-clause-gives : goal.parse_segment-returns-in-Bracket-clause-gives
+parse_segment-returns-in-Bracket-clause-gives g t c =
+    let signature = signatures g.F.Functions.set c.args.self.now in
+    let filters = filter_at g.F.Functions.set c.args.self.now in
+    let started = subst (λ start. StartsSegment signature c.args.builder.now c.parse_segment_start.new.builder (Ok start) c.parse_segment_start.new.reader (bracket_at filters) (segment_at filters c.args.context (left c.args.reader.now)))
+    c.in-Bracket.is (c.in_ok-segment.ensures.gives signature filters) in
+    subst (Makes signature segment_piece c.args.builder.now c.parse_bracket.new.builder c.parse_bracket.result c.parse_bracket.new.reader) (sym started.0)
+    (made_after signature segment_piece c.args.builder.now c.parse_segment_start.new.builder c.parse_bracket.new.builder c.parse_bracket.new.reader _ c.parse_bracket.result started.1 c.parse_bracket.ensures.gives)
 
 pub parse_segments-segments-init : goal.parse_segments-segments-init
 parse_segments-segments-init g t c =
     let start = left c.args.reader.now in
     record {
       moves = c.skip_blanks.ensures.moves;
-      keeps = λ part piece h. h;
       none = λ e. ap (begins opens) c.skip_blanks.ensures.left ∙ e;
-      so_far = ([], start, subst (λ parts. ArePartsOf c.args.builder.now parts tree.no_segments) (sym c.new-parts.ensures.items) tt, c.bytes_left-rest.ensures.value, c.skip_blanks.ensures.left, m.with_none (segments_at (filter_at g.F.Functions.set c.args.self.now) c.args.context start));
+      so_far = ([], start, subst (λ parts. ArePartsOf c.args.builder.now parts tree.no_segments) (sym c.new-parts.ensures.items) tt, c.bytes_left-rest.ensures.value, c.skip_blanks.ensures.left, m.with_none (segments_at (filter_at g.F.Functions.set c.args.self.now) c.args.context start), grows_none c.args.builder.now);
     }
-
-pub parse_segments-returns-in_err-part-clause-moves : goal.parse_segments-returns-in_err-part-clause-moves
-parse_segments-returns-in_err-part-clause-moves g t c = grind (arith, common_steps)
-
-pub parse_segments-returns-in_err-part-clause-keeps : goal.parse_segments-returns-in_err-part-clause-keeps
-parse_segments-returns-in_err-part-clause-keeps g t c = λ part piece h. c.parse_segment.ensures.keeps part piece (c.segments.invariant.keeps part piece h)
 
 pub parse_segments-returns-in_err-part-clause-gives : goal.parse_segments-returns-in_err-part-clause-gives
 parse_segments-returns-in_err-part-clause-gives g t c =
@@ -658,12 +473,6 @@ parse_segments-returns-in_err-part-clause-spares g t c =
     let p = err_from_is_err_and c.from_residual.result c.from_residual.ensures.1 in
     let opened : begins opens (left c.segments.reader) ≡ true = sym c.sees_segment.ensures ∙ c.segments-test.true in
     rw p.1 (λ e. absurd (true≢false (sym opened ∙ c.segments.invariant.none e)))
-
-pub parse_segments-returns-in_err-push-clause-moves : goal.parse_segments-returns-in_err-push-clause-moves
-parse_segments-returns-in_err-push-clause-moves g t c = grind (arith, common_steps)
-
-pub parse_segments-returns-in_err-push-clause-keeps : goal.parse_segments-returns-in_err-push-clause-keeps
-parse_segments-returns-in_err-push-clause-keeps g t c = λ part piece h. c.parse_segment.ensures.keeps part piece (c.segments.invariant.keeps part piece h)
 
 pub parse_segments-returns-in_err-push-clause-spares : goal.parse_segments-returns-in_err-push-clause-spares
 parse_segments-returns-in_err-push-clause-spares g t c =
@@ -685,12 +494,12 @@ parse_segments-segments-preserved g t c =
     let opened : begins opens (left c.segments.reader) ≡ true = sym c.sees_segment.ensures ∙ c.segments-test.true in
     let starts : opens_next so_far.1 ≡ true = ap (begins opens) (sym so_far.4) ∙ opened in
     let seg = c.in_ok-part.ensures.gives.0 in
-    let kept = parts_kept c.segments.builder c.parse_segment.new.builder c.parse_segment.ensures.keeps (parts_in c.segments.parts) (segment_list before) so_far.2 in
+    let one = c.in_ok-part.ensures.gives in
+    let kept = parts_kept c.segments.builder c.parse_segment.new.builder one.3.trees (parts_in c.segments.parts) (segment_list before) so_far.2 in
     let pushed = segment_pushed c.parse_segment.new.builder (parts_in c.segments.parts) before c.in_ok-part.part seg kept c.in_ok-part.ensures.gives.1 in
     let rest = left c.parse_segment.new.reader in
     record {
       moves = grind (arith, common_steps);
-      keeps = λ part piece h. c.parse_segment.ensures.keeps part piece (c.segments.invariant.keeps part piece h);
       none = λ e. absurd (true≢false (sym opened ∙ c.segments.invariant.none e));
       so_far = (
         before ++ seg ∷ [],
@@ -699,33 +508,22 @@ parse_segments-segments-preserved g t c =
         c.bytes_left-rest-in-segments.ensures.value,
         c.skip_blanks-in-segments.ensures.left,
         m.goes_on opens_next (next_segment_at filters c.args.context) (segment_takes g.F.Functions.set c.args.self.now c.args.context) before so_far.1 rest seg (segments_at filters c.args.context (left c.args.reader.now)) starts (next_reads filters c.args.context so_far.1 (left c.segments.reader) _ so_far.4 c.in_ok-part.ensures.gives.2) so_far.5,
+        grows_same (more_segments before seg) (grows_then so_far.6 one.3),
       );
     }
-
-pub parse_segments-returns-clause-moves : goal.parse_segments-returns-clause-moves
-parse_segments-returns-clause-moves g t c = grind (arith, common_steps)
-
-pub parse_segments-returns-clause-keeps : goal.parse_segments-returns-clause-keeps
-parse_segments-returns-clause-keeps g t c = c.segments.invariant.keeps
 
 pub parse_segments-returns-clause-gives : goal.parse_segments-returns-clause-gives
 parse_segments-returns-clause-gives g t c =
     let filters = filter_at g.F.Functions.set c.args.self.now in
     let so_far = c.segments.invariant.so_far in
     let ended : opens_next so_far.1 ≡ false = ap (begins opens) (sym so_far.4) ∙ sym c.sees_segment.ensures ∙ c.segments-test.false in
-    (so_far.0, so_far.1, so_far.2, so_far.3, so_far.4, m.is_done opens_next (next_segment_at filters c.args.context) (segment_takes g.F.Functions.set c.args.self.now c.args.context) so_far.0 so_far.1 (segments_at filters c.args.context (left c.args.reader.now)) ended so_far.5)
+    (so_far.0, so_far.1, so_far.2, so_far.3, so_far.4, m.is_done opens_next (next_segment_at filters c.args.context) (segment_takes g.F.Functions.set c.args.self.now c.args.context) so_far.0 so_far.1 (segments_at filters c.args.context (left c.args.reader.now)) ended so_far.5, so_far.6)
 
 pub parse_selector-returns-in_err-test-clause-gives : goal.parse_selector-returns-in_err-test-clause-gives
 parse_selector-returns-in_err-test-clause-gives g t c =
     let p = err_from_is_err_and c.from_residual.result c.from_residual.ensures.1 in
     let level = c.args.self.now in
     rw (p.1, p.2) (filter_fails (signatures g.F.Functions.set level) (deeper g.F.Functions.set level) c.in_err-test.field-0.0 (left c.args.reader.now) (sym c.sees.ensures ∙ c.if-sees.true) c.in_err-test.ensures.gives)
-
-pub parse_selector-returns-in_err-filter-clause-keeps : goal.parse_selector-returns-in_err-filter-clause-keeps
-parse_selector-returns-in_err-filter-clause-keeps g t c = λ part piece h. c.filter.ensures.keeps part piece (c.parse_inside.ensures.keeps part piece h)
-
-pub parse_selector-returns-then-sees-clause-keeps : goal.parse_selector-returns-then-sees-clause-keeps
-parse_selector-returns-then-sees-clause-keeps g t c = λ part piece h. c.filter.ensures.keeps part piece (c.parse_inside.ensures.keeps part piece h)
 
 pub parse_selector-returns-then-sees-clause-gives : goal.parse_selector-returns-then-sees-clause-gives
 parse_selector-returns-then-sees-clause-gives g t c =
@@ -734,12 +532,8 @@ parse_selector-returns-then-sees-clause-gives g t c =
       tree.filter read.0,
       c.in_ok-filter.ensures.made read.0 read.1,
       filter_reads (signatures g.F.Functions.set level) (deeper g.F.Functions.set level) (left c.args.reader.now) (left c.parse_inside.new.reader) read.0 (sym c.sees.ensures ∙ c.if-sees.true) read.2,
+      grows_kept read.3 c.filter.ensures.keeps,
     )
-
-pub parse_selectors-returns-in_err-first-clause-gives : goal.parse_selectors-returns-in_err-first-clause-gives
-parse_selectors-returns-in_err-first-clause-gives g t c =
-    let p = err_from_is_err_and c.from_residual.result c.from_residual.ensures.1 in
-    rw (p.1, p.2) (selectors_fail (filter_at g.F.Functions.set c.args.self.now) c.in_err-first.field-0.0 (left c.args.reader.now) (left c.skip_blanks.new.self) c.skip_blanks.ensures.left c.in_err-first.ensures.gives)
 
 pub parse_selectors-selectors-init : goal.parse_selectors-selectors-init
 parse_selectors-selectors-init g t c =
@@ -747,19 +541,13 @@ parse_selectors-selectors-init g t c =
     let read = c.in_ok-first.ensures.gives in
     record {
       moves = grind (arith, common_steps);
-      keeps = c.parse_selector.ensures.keeps;
       so_far = (
         read.0 ∷ [],
         first_selector c.parse_selector.new.builder (parts_in c.new-parts.result) (parts_in c.push.new.self) c.in_ok-first.first read.0 c.new-parts.ensures.items c.in_ok-push.ensures.items read.1,
         selectors_begin filters (left c.args.reader.now) (left c.skip_blanks.new.self) (left c.parse_selector.new.reader) read.0 c.skip_blanks.ensures.left read.2,
+        grows_same (sym (append-nil (calls_in_selector read.0))) read.3,
       );
     }
-
-pub parse_selectors-returns-in_err-part-clause-moves : goal.parse_selectors-returns-in_err-part-clause-moves
-parse_selectors-returns-in_err-part-clause-moves g t c = grind (arith, common_steps)
-
-pub parse_selectors-returns-in_err-part-clause-keeps : goal.parse_selectors-returns-in_err-part-clause-keeps
-parse_selectors-returns-in_err-part-clause-keeps g t c = λ part piece h. c.parse_selector-in-selectors.ensures.keeps part piece (c.selectors.invariant.keeps part piece h)
 
 pub parse_selectors-returns-in_err-part-clause-gives : goal.parse_selectors-returns-in_err-part-clause-gives
 parse_selectors-returns-in_err-part-clause-gives g t c =
@@ -789,29 +577,17 @@ parse_selectors-selectors-preserved g t c =
     let sel = c.in_ok-part.ensures.gives.0 in
     let read = next_selector_reads filters (left c.selectors.reader) (left c.take_char.new.self) (left c.skip_blanks-in-selectors.new.self) c.take_char.result c.take_char.ensures.value c.skip_blanks-in-selectors.ensures.left _ c.in_ok-part.ensures.gives.2 in
     let before = so_far.0 in
-    let kept = selectors_kept c.selectors.builder c.parse_selector-in-selectors.new.builder (parts_in c.selectors.parts) before c.parse_selector-in-selectors.ensures.keeps so_far.1 in
+    let kept = selectors_kept c.selectors.builder c.parse_selector-in-selectors.new.builder (parts_in c.selectors.parts) before c.in_ok-part.ensures.gives.3.trees so_far.1 in
     let pushed = selector_pushed c.parse_selector-in-selectors.new.builder (parts_in c.selectors.parts) before c.in_ok-part.part sel kept c.in_ok-part.ensures.gives.1 in
     record {
       moves = grind (arith, common_steps);
-      keeps = λ part piece h. c.parse_selector-in-selectors.ensures.keeps part piece (c.selectors.invariant.keeps part piece h);
       so_far = (
         before ++ sel ∷ [],
         subst (λ parts. AreSelectorsOf c.parse_selector-in-selectors.new.builder parts (selector_list (before ++ sel ∷ []))) (sym c.in_ok-push-2.ensures.items) pushed,
         m.goes_on (begins is_comma) (next_selector_at filters) (selector_takes g.F.Functions.set level) before (left c.selectors.reader) (left c.parse_selector-in-selectors.new.reader) sel (selectors_at filters (left c.args.reader.now)) comma read so_far.2,
+        grows_same (more_selectors before sel) (grows_then so_far.3 c.in_ok-part.ensures.gives.3),
       );
     }
-
-pub parse_selectors-returns-in_err-push-2-clause-moves : goal.parse_selectors-returns-in_err-push-2-clause-moves
-parse_selectors-returns-in_err-push-2-clause-moves g t c = grind (arith, common_steps)
-
-pub parse_selectors-returns-in_err-push-2-clause-keeps : goal.parse_selectors-returns-in_err-push-2-clause-keeps
-parse_selectors-returns-in_err-push-2-clause-keeps g t c = λ part piece h. c.parse_selector-in-selectors.ensures.keeps part piece (c.selectors.invariant.keeps part piece h)
-
-pub parse_selectors-returns-clause-moves : goal.parse_selectors-returns-clause-moves
-parse_selectors-returns-clause-moves g t c = grind (arith, common_steps)
-
-pub parse_selectors-returns-clause-keeps : goal.parse_selectors-returns-clause-keeps
-parse_selectors-returns-clause-keeps g t c = c.selectors.invariant.keeps
 
 pub parse_selectors-returns-clause-gives : goal.parse_selectors-returns-clause-gives
 parse_selectors-returns-clause-gives g t c =
@@ -819,18 +595,34 @@ parse_selectors-returns-clause-gives g t c =
     let filters = filter_at g.F.Functions.set level in
     let so_far = c.selectors.invariant.so_far in
     let ended : begins is_comma (left c.selectors.reader) ≡ false = sym c.sees.ensures ∙ c.selectors-test.false in
-    (so_far.0, so_far.1, m.is_done (begins is_comma) (next_selector_at filters) (selector_takes g.F.Functions.set level) so_far.0 (left c.selectors.reader) (selectors_at filters (left c.args.reader.now)) ended so_far.2)
+    (so_far.0, so_far.1, m.is_done (begins is_comma) (next_selector_at filters) (selector_takes g.F.Functions.set level) so_far.0 (left c.selectors.reader) (selectors_at filters (left c.args.reader.now)) ended so_far.2, so_far.3)
 
 pub parse_and_from-returns-clause-made : goal.parse_and_from-returns-clause-made
 parse_and_from-returns-clause-made g t c =
     let made = parse_and_from-returns-clause-gives g t c c.requires.0 c.requires.1 in
     (made.0, made.1)
 
-pub parse_basic_from-returns-in_default-clause-made : goal.parse_basic_from-returns-in_default-clause-made
-parse_basic_from-returns-in_default-clause-made g t c =
-    of_arguments.was_made a_basic c.as_test.new.builder c.as_test.result c.parse_operator.new.reader _ (c.as_test.ensures.gives c.requires.0 c.requires.1)
-
 pub parse_basic_from-returns-clause-made : goal.parse_basic_from-returns-clause-made
 parse_basic_from-returns-clause-made g t c =
     let made = parse_basic_from-returns-clause-gives g t c c.requires.0 c.requires.1 in
     (made.0, made.1)
+
+pub parse_logical_or-returns-clause-gives : goal.parse_logical_or-returns-clause-gives
+unfolding or_at
+parse_logical_or-returns-clause-gives g t c =
+    let one = c.in_ok-first.ensures.gives in
+    rw one.2 (made_then (signatures g.F.Functions.set c.args.self.now) an_or c.args.builder.now c.parse_logical_and.new.builder c.parse_or_from.new.builder c.parse_or_from.new.reader _ c.parse_or_from.result (calls_in_and one.0) one.3 (c.parse_or_from.ensures.gives one.0 one.1))
+
+pub parse_logical_and-returns-clause-gives : goal.parse_logical_and-returns-clause-gives
+unfolding and_at
+parse_logical_and-returns-clause-gives g t c =
+    let one = c.in_ok-first.ensures.gives in
+    rw one.2 (made_then (signatures g.F.Functions.set c.args.self.now) an_and c.args.builder.now c.parse_basic.new.builder c.parse_and_from.new.builder c.parse_and_from.new.reader _ c.parse_and_from.result (calls_in_basic one.0) one.3 (c.parse_and_from.ensures.gives one.0 one.1))
+
+pub parse_basic-returns-clause-gives : goal.parse_basic-returns-clause-gives
+unfolding basic_at
+parse_basic-returns-clause-gives g t c =
+    let o = c.in_ok-operand.ensures.gives in
+    let made = rw c.bytes_left-start.ensures.value at (c.parse_basic_from.ensures.gives o.0 o.1) in
+    rw (sym c.sees.ensures ∙ c.if-sees.false, sym c.sees-2.ensures ∙ c.if-sees-2.false, o.2)
+    (made_then (signatures g.F.Functions.set c.args.self.now) a_basic c.args.builder.now c.parse_operand.new.builder c.parse_basic_from.new.builder c.parse_basic_from.new.reader _ c.parse_basic_from.result (calls_in_operand o.0) o.3 made)

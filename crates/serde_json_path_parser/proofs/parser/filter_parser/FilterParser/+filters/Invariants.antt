@@ -1,10 +1,12 @@
 use Rattle.std.proofs.Common.{◌≡◌, ◌+◌, ◌*◌, ℕ, List, [], ◌∷◌, false, length}
+use Rattle.serde_json_path_syntax.specs.Calls.{calls_in_segments, calls_in_selectors, calls_in_or, calls_in_and, calls_in_basic}
 use Rattle.serde_json_path_syntax.specs.Flat.{parts_in}
 use Rattle.serde_json_path_syntax.specs.Tree.{SegmentKind, Segment, Selector, LogicalAnd, Basic}
-use Rattle.serde_json_path_syntax.specs.Parts.{IsPart, ArePartsOf, AreSelectorsOf, AreOrPartsOf, AreAndPartsOf, KeepsParts}
+use Rattle.serde_json_path_syntax.specs.Parts.{IsPart, ArePartsOf, AreSelectorsOf, AreOrPartsOf, AreAndPartsOf}
 use Rattle.serde_json_path_syntax.specs.Piece.{an_and, a_basic}
-use Rattle.serde_json_path_parser.specs.Lexical.{begins, begins_both}
+use Rattle.serde_json_path_parser.specs.Lexical.{are_at, begins}
 use Rattle.serde_json_path_parser.specs.Filters.{and_list, or_list, next_basic_at, next_and_at}
+use Rattle.serde_json_path_parser.specs.Giving.{Grows, GrowsFrom}
 use Rattle.serde_json_path_parser.specs.Levels.{signatures, deeper, filter_at}
 use Rattle.serde_json_path_parser.specs.Parsed.{past_blanks, many, byte_count}
 use Rattle.serde_json_path_parser.specs.Parsing.{opens, opens_next, next_selector_at, selectors_at, selector_list, segments_at, segment_list}
@@ -86,11 +88,11 @@ decreases-parse_parameters g l = 512 * l.self.now.depth + 256 + length l.kinds.n
 abbrev pub invariant-parse_segments-segments : goal.invariant-parse_segments-segments
 invariant-parse_segments-segments g l = record {
   moves : Moves l.fn.reader l.reader;
-  keeps : KeepsParts l.fn.builder l.builder;
   none : opens_next (left l.fn.reader) ≡ false → begins opens (left l.reader) ≡ false;
   so_far : (before : List (SegmentKind × Segment)) × (rest : List ℕ) × ArePartsOf l.builder (parts_in l.parts) (segment_list before)
       × (l.rest ≡ byte_count rest) × (left l.reader ≡ past_blanks rest)
-      × (with_front before (segments_at (filter_at g.F.Functions.set l.self) l.context rest) ≡ segments_at (filter_at g.F.Functions.set l.self) l.context (left l.fn.reader));
+      × (with_front before (segments_at (filter_at g.F.Functions.set l.self) l.context rest) ≡ segments_at (filter_at g.F.Functions.set l.self) l.context (left l.fn.reader))
+      × Grows (signatures g.F.Functions.set l.self) l.fn.builder l.builder (calls_in_segments (segment_list before));
 }
 
 abbrev pub decreases-parse_segments-segments : goal.decreases-parse_segments-segments
@@ -99,9 +101,9 @@ decreases-parse_segments-segments g l = length (left l.reader)
 abbrev pub invariant-parse_selectors-selectors : goal.invariant-parse_selectors-selectors
 invariant-parse_selectors-selectors g l = record {
   moves : Moves l.fn.reader l.reader;
-  keeps : KeepsParts l.fn.builder l.builder;
   so_far : (before : List Selector) × AreSelectorsOf l.builder (parts_in l.parts) (selector_list before)
-      × (with_front before (many (begins is_comma) (next_selector_at (filter_at g.F.Functions.set l.self)) (left l.reader)) ≡ selectors_at (filter_at g.F.Functions.set l.self) (left l.fn.reader));
+      × (with_front before (many (begins is_comma) (next_selector_at (filter_at g.F.Functions.set l.self)) (left l.reader)) ≡ selectors_at (filter_at g.F.Functions.set l.self) (left l.fn.reader))
+      × Grows (signatures g.F.Functions.set l.self) l.fn.builder l.builder (calls_in_selectors (selector_list before));
 }
 
 abbrev pub decreases-parse_selectors-selectors : goal.decreases-parse_selectors-selectors
@@ -110,10 +112,10 @@ decreases-parse_selectors-selectors g l = length (left l.reader)
 abbrev pub invariant-parse_or_from-parts : goal.invariant-parse_or_from-parts
 invariant-parse_or_from-parts g l = record {
   moves : Moves l.fn.reader l.reader;
-  keeps : KeepsParts l.fn.builder l.builder;
   so_far : (a : LogicalAnd) → IsPart l.fn.builder l.fn.first (an_and a) → (before : List LogicalAnd) × AreOrPartsOf l.builder (parts_in l.parts) (or_list before)
-      × (with_front before (many (begins_both 124 124) (next_and_at (signatures g.F.Functions.set l.self) (deeper g.F.Functions.set l.self)) (left l.reader))
-      ≡ with_front (a ∷ []) (many (begins_both 124 124) (next_and_at (signatures g.F.Functions.set l.self) (deeper g.F.Functions.set l.self)) (left l.fn.reader)));
+      × (with_front before (many (are_at "||") (next_and_at (signatures g.F.Functions.set l.self) (deeper g.F.Functions.set l.self)) (left l.reader))
+      ≡ with_front (a ∷ []) (many (are_at "||") (next_and_at (signatures g.F.Functions.set l.self) (deeper g.F.Functions.set l.self)) (left l.fn.reader)))
+      × GrowsFrom (signatures g.F.Functions.set l.self) l.fn.builder l.builder (calls_in_and a) (calls_in_or (or_list before));
 }
 
 abbrev pub decreases-parse_or_from-parts : goal.decreases-parse_or_from-parts
@@ -122,10 +124,10 @@ decreases-parse_or_from-parts g l = length (left l.reader)
 abbrev pub invariant-parse_and_from-parts : goal.invariant-parse_and_from-parts
 invariant-parse_and_from-parts g l = record {
   moves : Moves l.fn.reader l.reader;
-  keeps : KeepsParts l.fn.builder l.builder;
   so_far : (b : Basic) → IsPart l.fn.builder l.fn.first (a_basic b) → (before : List Basic) × AreAndPartsOf l.builder (parts_in l.parts) (and_list before)
-      × (with_front before (many (begins_both 38 38) (next_basic_at (signatures g.F.Functions.set l.self) (deeper g.F.Functions.set l.self)) (left l.reader))
-      ≡ with_front (b ∷ []) (many (begins_both 38 38) (next_basic_at (signatures g.F.Functions.set l.self) (deeper g.F.Functions.set l.self)) (left l.fn.reader)));
+      × (with_front before (many (are_at "&&") (next_basic_at (signatures g.F.Functions.set l.self) (deeper g.F.Functions.set l.self)) (left l.reader))
+      ≡ with_front (b ∷ []) (many (are_at "&&") (next_basic_at (signatures g.F.Functions.set l.self) (deeper g.F.Functions.set l.self)) (left l.fn.reader)))
+      × GrowsFrom (signatures g.F.Functions.set l.self) l.fn.builder l.builder (calls_in_basic b) (calls_in_and (and_list before));
 }
 
 abbrev pub decreases-parse_and_from-parts : goal.decreases-parse_and_from-parts

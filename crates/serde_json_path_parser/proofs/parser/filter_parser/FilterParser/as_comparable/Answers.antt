@@ -1,8 +1,9 @@
-use Rattle.std.proofs.Common.{◌≡◌, Ok, sym, subst}
+use Rattle.std.proofs.Common.{◌≡◌, Ok, sym, ap, subst}
 use Rattle.serde_json_path_syntax.specs.Tree as tree
 use Rattle.serde_json_path_parser.specs.Filters.{comparable_at}
 use Rattle.serde_json_path_parser.specs.Levels.{signatures, deeper}
 use Rattle.serde_json_path_parser.specs.Reading.{left}
+use Rattle.serde_json_path_parser.specs.Operands.{calls_in_operand}
 use Rattle.serde_json_path_parser.proofs.OperandSteps.{query_is, compared, not_compared}
 use Rattle.serde_json_path_parser.proofs.parser.filter_parser.FilterParser.as_comparable.Goals as goal
 
@@ -13,5 +14,14 @@ returns-then-not-is_singular-clause-gives g c = λ x h.
 
 pub returns-in_ok-singular-in-Query-clause-gives : goal.returns-in_ok-singular-in-Query-clause-gives
 returns-in_ok-singular-in-Query-clause-gives g c = λ x h.
-    let q = query_is (signatures g.F.Functions.set c.args.self.now) c.args.builder.now c.args.operand c.in-Query.query x c.in-Query.is h in
-    (tree.singular q.0, c.in_ok-singular-in-Query.ensures.made q.0 q.2, subst (λ y. comparable_at (signatures g.F.Functions.set c.args.self.now) (deeper g.F.Functions.set c.args.self.now) c.args.start y (left c.args.reader.now) ≡ Ok (tree.singular q.0, left c.args.reader.now)) (sym q.1) (compared (signatures g.F.Functions.set c.args.self.now) (deeper g.F.Functions.set c.args.self.now) c.args.start (left c.args.reader.now) q.0 c.is_singular.result (c.is_singular.ensures q.0 q.2) c.if-not-is_singular.false))
+    let signature = signatures g.F.Functions.set c.args.self.now in
+    let below = deeper g.F.Functions.set c.args.self.now in
+    let rest = left c.args.reader.now in
+    let q = query_is signature c.args.builder.now c.args.operand c.in-Query.query x c.in-Query.is h in
+    let is = c.is_singular.ensures q.0 q.2 in (
+      tree.singular q.0,
+      c.in_ok-singular-in-Query.ensures.made q.0 q.2,
+      subst (λ y. comparable_at signature below c.args.start y rest ≡ Ok (tree.singular q.0, rest)) (sym q.1)
+          (compared signature below c.args.start rest q.0 c.is_singular.result is c.if-not-is_singular.false),
+      ap calls_in_operand q.1,
+    )

@@ -1,0 +1,10 @@
+use Rattle.serde_json_path_syntax.specs.Tree as tree
+use Rattle.serde_json_path_core_tests.proofs.Trees.{no_segments}
+use Rattle.serde_json_path_core_tests.proofs.tests.built.tells_a_singular_query.Goals as goal
+
+pub query-requires : goal.query-requires
+query-requires g c = (tree.no_segments, no_segments c.new-builder.result _ c.new.ensures.items)
+
+pub is_singular-requires : goal.is_singular-requires
+is_singular-requires g c =
+    (tree.query tree.root tree.no_segments, c.in_ok-query.ensures.made tree.no_segments (no_segments c.new-builder.result _ c.new.ensures.items))

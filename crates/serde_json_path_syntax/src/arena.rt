@@ -1,0 +1,77 @@
+//! A growing vector of nodes, in which each node refers to earlier ones.
+
+ghost use Rattle.serde_json_path_syntax.specs.Flat.{IsGrown};
+
+use crate::node::{Node, Part};
+use std::alloc::{AllocError, Global};
+
+/// The nodes of a tree, each after those that it refers to.
+#[derive(Drop)]
+pub(crate) struct Arena {
+    nodes: Vec<Node>,
+    ghost grown: { IsGrown nodes.items },
+}
+
+impl Arena {
+    ghost use Rattle.std.specs.Prelude.{ℕ, List, ◌≡◌, ◌<◌, ◌≤◌, ◌++◌, ◌∷◌, [], if◌then◌else◌, IfOk, is_ok, length};
+    ghost use Rattle.serde_json_path_syntax.specs.Flat.{NamesBelow, called_by, calls_among, part_query, piece_at, piece_of, pieces, segments_at};
+    ghost use Rattle.serde_json_path_functions.specs.Functions.{Signature};
+    ghost use Rattle.serde_json_path_syntax.specs.Lists.{IsIn};
+    ghost use Rattle.serde_json_path_syntax.specs.PartBounds.{parts_bound};
+    ghost use Rattle.serde_json_path_syntax.specs.Tree.{segments_of};
+
+    /// No nodes. Takes no memory.
+    pub(crate) fn new(alloc: Global) -> Arena
+        ensures { result.nodes.items ≡ [] }
+    {
+        Arena {
+            nodes: Vec::new(alloc),
+        }
+    }
+
+    /// Appends a node whose children already exist.
+    // Inlined, so that a caller writes the node straight into the vector.
+    #[inline(always)]
+    pub(crate) fn push(&mut self, node: Node) -> Result<Part, AllocError>
+        requires { NamesBelow (length self.old.nodes.items) node }
+        ensures number { IfOk result (λ part. part.number ≡ length self.old.nodes.items) }
+        ensures nodes { self.new.nodes.items
+            ≡ (if is_ok result then self.old.nodes.items ++ node ∷ [] else self.old.nodes.items) }
+    {
+        let number = self.nodes.len();
+        self.nodes.push(node)?;
+        Ok(Part { number })
+    }
+
+    /// The nodes, in order.
+    pub(crate) fn as_slice(&self) -> &[Node]
+        ensures { result.now ≡ self.now.nodes.items }
+    {
+        self.nodes.as_slice()
+    }
+
+    /// The node of a part.
+    pub(crate) fn node(&self, part: Part) -> &Node
+        requires { part.number < length self.now.nodes.items }
+        ensures piece { piece_at self.now.nodes.items part.number
+            ≡ piece_of (pieces self.now.nodes.items) result.now }
+        ensures below { NamesBelow part.number result.now }
+        ensures called { (u : List ℕ × Signature) → IsIn u (called_by result.now)
+            → IsIn u (calls_among self.now.nodes.items) }
+    {
+        &self.nodes[part.number]
+    }
+
+    /// The segments of a query, in order.
+    pub(crate) fn segments(&self, query: Part) -> &[Part]
+        requires { query.number < length self.now.nodes.items }
+        ensures tree { segments_at self.now.nodes.items result.now
+            ≡ segments_of (part_query self.now.nodes.items query) }
+        ensures below { parts_bound result.now ≤ query.number }
+    {
+        match self.node(query) {
+            Node::Query { segments, .. } => segments.as_slice(),
+            _ => &[],
+        }
+    }
+}
