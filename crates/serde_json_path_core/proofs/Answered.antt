@@ -1,12 +1,12 @@
 -- A call of a set answers what is computed, where the meaning is promised.
-use Rattle.std.proofs.Common.{◌≡◌, ◌⊎◌, ℕ, List, [], ◌∷◌, ◌++◌, length, map, inl, inr, Some, option_map, Result, Ok, Err, IfOk, IsNone, refl, sym, ap, subst, ◌∙◌}
+use Rattle.std.proofs.Common.{◌≡◌, ◌⊎◌, ℕ, List, [], ◌∷◌, ◌++◌, length, map, inl, inr, Result, Ok, Err, IfOk, IsNone, refl, sym, ap, subst, ◌∙◌}
 use Rattle.std.proofs.lemmas.List.{append-nil}
 use Rattle.serde_json.specs.Data.{Data}
 use Rattle.serde_json_path_syntax.specs.Tree.{Query, Call, call, Arguments}
-use Rattle.serde_json_path_functions.specs.Functions.{Term, Signature, FunctionSet, Gives, kind_of_term}
+use Rattle.serde_json_path_functions.specs.Functions.{Term, FunctionSet}
 use Rattle.serde_json_path_functions.specs.Terms.{kind_view, term_view}
 use Rattle.serde_json_path_core.specs.Meaning.{params_of}
-use Rattle.serde_json_path_syntax.specs.Typing.{result_kind, IsTypedCall, AreTypedArguments}
+use Rattle.serde_json_path_syntax.specs.Typing.{IsTypedCall, AreTypedArguments}
 use Rattle.serde_json_path_functions.specs.Patterns.{IsPromised}
 use Rattle.serde_json_path_core.specs.Clear.{GoesWithoutPattern, StandsIn, IsClear, IsClearCall}
 use Rattle.serde_json_path_core.specs.Sound.{AreCallsOf, IsSound}
@@ -53,11 +53,3 @@ module _ (F : FunctionSet) (top : Data) where
 -- where no call of the query goes by `regex`, the name of none does
 pub own_pattern : (F : FunctionSet) (q : Query) (c : Call) → AreCallsOf q (calls_from c) → EachCall (GoesWithoutPattern F) q → IsNone (F.by_regex (name_of c))
 own_pattern F q (call f args) each none = of-call (GoesWithoutPattern F) q (call f args) each none
-
--- the answer is of the type of the call's result
-pub answered_kind : {E : Type 0} (F : FunctionSet) (c : Call) (name : List ℕ) (r : Result FunctionValue E) → name ≡ name_of c → IsTypedCall F.signature c
-    → IfOk r (λ a. Gives (F.signature name) (term_view a)) → IfOk r (λ a. Some (kind_of_term (term_view a)) ≡ result_kind F.signature c)
-answered_kind F (call f args) name (Ok a) e typed gives =
-    let there : Gives (Some typed.0) (term_view a) = subst (λ o. Gives o (term_view a)) (ap F.signature e ∙ typed.1) gives in
-    ap Some there ∙ sym (ap (option_map (λ (s : Signature). s.result)) typed.1)
-answered_kind F (call f args) name (Err x) e typed gives = tt

@@ -15,9 +15,6 @@ use Rattle.serde_json_path_core.proofs.Tasks.{onward, gives_child, turns_over, g
 
 -- ---- ends of lists
 
-ends-refl : {A : Type 0} (xs : List A) → EndsIn xs xs
-ends-refl xs = ([], refl)
-
 pub ends-trans : {A : Type 0} (xs ys zs : List A) → EndsIn xs ys → EndsIn ys zs → EndsIn xs zs
 ends-trans xs ys zs a b = (a.0 ++ b.0, a.1 ∙ ap (λ more. a.0 ++ more) b.1 ∙ sym (append_assoc a.0 b.0 zs))
 
@@ -53,9 +50,6 @@ abbrev pub at_selector : Frame → ℕ → List (Step × Data) → Frame
 at_selector p number left = record { step = p.step; value = p.value; segment = p.segment; selector = number; left = left }
 
 module _ (Clear : Type 0) (F : FunctionSet) (top : Data) (stage : Stage) where
-  pub passes-start : (p : Frame) → Passes Clear F top stage p p
-  passes-start p = ((refl, refl, refl, λ h. h), λ h. refl, ends-refl _)
-
   -- the selector at work admits no more of them, and the next one begins
   pub passes-over : (old mid : Frame) (sel : Selector) (left : List (Step × Data)) → Passes Clear F top stage old mid
       → drop mid.selector stage.selectors ≡ sel ∷ drop (mid.selector + 1) stage.selectors → (Clear → admitted F top sel mid.left ≡ [])

@@ -29,9 +29,6 @@ front-seen see (x ∷ z ∷ zs) (y ∷ ys) last e =
     (omega arith, ap (λ k. map see (take k (x ∷ z ∷ zs))) less ∙ ap (λ b. b ∷ map see (take (length (z ∷ zs) - 1) (z ∷ zs))) (ap (λ bs. get_or bs 0 y) e) ∙ ap (λ bs. y ∷ bs) more.1)
 
 module _ (all : List Stage) (frames : List Frame) (v : Data) (ends : EndsAt all (frames_view frames) v) where
-  pub has-last : 0 < length frames
-  has-last = (front-seen frame_view frames ends.0 ends.1 ends.2).0
-
   -- the node of the last frame comes first
   pub rest-ends : (F : FunctionSet) (top : Data) (front : List Frame) → front ≡ take (length frames - 1) frames
       → rest_of F top all (frames_view frames) ≡ located (stack_path [] (frames_view frames)) v ∷ rest_of F top all (frames_view front)

@@ -5,8 +5,8 @@ use Rattle.std.proofs.lemmas.List.{take-append-drop, drop_more, drop_all, set_at
 last_is : {A : Type 0} (xs : List A) (d : A) → 0 < length xs → xs ≡ take (length xs - 1) xs ++ get_or xs (length xs - 1) d ∷ []
 last_is xs d h =
     let n = length xs - 1 in
-    let behind : length xs ≤ n + 1 = omega arith in
-    sym (take-append-drop n xs) ∙ ap (λ ys. take n xs ++ ys) (drop_more xs n d (omega (arith, h)) ∙ ap (λ ys. get_or xs n d ∷ ys) (drop_all (n + 1) xs behind))
+    let after : length xs ≤ n + 1 = omega arith in
+    sym (take-append-drop n xs) ∙ ap (λ ys. take n xs ++ ys) (drop_more xs n d (omega (arith, h)) ∙ ap (λ ys. get_or xs n d ∷ ys) (drop_all (n + 1) xs after))
 
 -- the list is what stands before its last element, and that element
 pub ends_with : {A : Type 0} (lent xs : List A) (x : A) → lent ≡ xs → 0 < length lent → x ≡ get_or lent (length lent - 1) x → (0 < length xs) × (xs ≡ take (length xs - 1) xs ++ x ∷ [])

@@ -8,7 +8,7 @@ use Rattle.serde_json_path_syntax.specs.Calls.{calls_of, calls_in_segments, call
 use Rattle.serde_json_path_syntax.specs.Typing.{IsTyped, AreTypedSegments, IsTypedSegment, IsTypedSelector, IsTypedOr, IsTypedAnd, IsTypedBasic, IsTypedComparable, IsTypedCall, IsTypedArgument}
 use Rattle.serde_json_path_syntax.specs.declared.node.Part.{Part}
 use Rattle.serde_json_path_syntax.specs.declared.selector_ref.SelectorRef.{SelectorRef}
-use Rattle.serde_json_path_syntax.specs.Flat.{or_at, and_at, basic_at, comparable_at, call_at, argument_at, part_query, piece_at, segment_in, segments_at}
+use Rattle.serde_json_path_syntax.specs.Flat.{or_at, and_at, basic_at, comparable_at, call_at, argument_at, part_query, segment_at, segments_at}
 use Rattle.serde_json_path_syntax.specs.Stages.{selector_view, stage_at, stages_at}
 use Rattle.serde_json_path_core.specs.Advances as advances
 use Rattle.serde_json_path_core.specs.Compared.{Compared}
@@ -31,7 +31,7 @@ abbrev pub SoundSegments : {F : Type 0} {g : _} → Scope F g → List Part → 
 SoundSegments scope parts = Sound scope AreTypedSegments calls_in_segments (segments_at (nodes_of scope) parts)
 
 abbrev pub SoundSegment : {F : Type 0} {g : _} → Scope F g → Part → Type 0
-SoundSegment scope part = Sound scope IsTypedSegment calls_in_segment (segment_in (piece_at (nodes_of scope) part.number))
+SoundSegment scope part = Sound scope IsTypedSegment calls_in_segment (segment_at (nodes_of scope) part)
 
 abbrev pub SoundSelector : {F : Type 0} {g : _} → Scope F g → SelectorRef → Type 0
 SoundSelector scope selector = Sound scope IsTypedSelector calls_in_selector (selector_view (nodes_of scope) selector)

@@ -70,7 +70,7 @@ lower_left child sels cs v = []
 lower_left descendant [] cs v = cs
 lower_left descendant (sel ∷ more) cs v = children v
 
--- the location of a frame above which the location is that
+-- the location of a frame, given the location above it
 abbrev pub here : List Step → Frame → List Step
 here above p = above ++ option_to_list p.step
 

@@ -19,6 +19,6 @@ abbrev pub SelectsValues : FunctionSet → Query → Data → List Data → Type
 SelectsValues F q document values =
     IsClear F q document → (nodes : List Located) × IsResult F document q document nodes × (values ≡ map (λ n. n.value) nodes)
 
--- an error for another reason than memory comes only of a call that stands for `match` or `search`
+-- an error for another reason than memory comes only of a query with a call that stands for `match` or `search`
 abbrev pub OnlyMemory : {A : Type 0} → FunctionSet → Query → Result A QueryError → Type 0
 OnlyMemory F q result = IfErr result (λ e. EachCall (GoesWithoutPattern F) q → e ≡ Memory)

@@ -38,10 +38,9 @@ pub(crate) fn start<'b>(kind: QueryKind, node: &'b Value, root: &'b Value) -> &'
 }
 
 /// A walk over what the query selects in the document, node by node (RFC 9535, sections 2.1.2 and 2.5), under a function
-/// set that the query fits, which the walk keeps.
+/// set that the query fits, which the walk keeps. What it gives is promised of clear queries (`specs/Clear`).
 ///
-/// The nodes and the names of their locations borrow the document. An error comes only where memory is refused. No
-/// function is called yet.
+/// The nodes and the names of their locations borrow the document. An error comes only where memory is refused.
 ///
 /// ```text
 /// let mut walk = walk(alloc, &query, &document, Builtin)?;
@@ -73,7 +72,7 @@ pub fn walk<'q, 'b, F: Functions + Drop>(
 }
 
 /// What the query selects in the document, with locations, in order (RFC 9535, sections 2.1.2 and 2.5), under a function
-/// set that the query fits.
+/// set that the query fits. That is promised of clear queries (`specs/Clear`).
 ///
 /// The nodes and the names of their locations borrow the document. Where an error comes there is no list: `Pattern` comes
 /// only where the query calls a function that stands for `match` or `search`; every other error is of memory.
@@ -100,8 +99,8 @@ pub fn evaluate_located<'b, F: Functions + Drop>(
     Ok(LocatedNodeList::from(found))
 }
 
-/// The values of what the query selects, in order, as [`evaluate_located`] gives them (RFC 9535, section 2.1.2). No location
-/// is made. Errors come as there.
+/// The values of what the query selects, in order, as [`evaluate_located`] gives them (RFC 9535, section 2.1.2). Errors
+/// come as there.
 pub fn evaluate<'b, F: Functions + Drop>(
     alloc: Global,
     query: &Checked,

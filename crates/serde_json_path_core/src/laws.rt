@@ -11,7 +11,7 @@ ghost use Rattle.serde_json_path_core.specs.Derivation.{Triple, Before};
 ghost use Rattle.serde_json_path_core.specs.Meaning.{IsResult};
 ghost use Rattle.serde_json_path_core.specs.Laws.{SingularQuerySelectsAtMostOne, NotEqualNegatesEqual, LessOrEqualIsEither, DescendantsInDocumentOrder};
 
-/// Of two derivations of one query never both stand before the other (RFC 9535, sections 2.5.1.2 and 2.5.2.2).
+/// Of two derivations of one query, at most one comes before the other (RFC 9535, sections 2.5.1.2 and 2.5.2.2).
 pub fn law_before_is_asymmetric()
     ensures { (q : Query) (xs ys : List Triple) → Before (segments_of q) xs ys
         → Before (segments_of q) ys xs → ⊥ }
@@ -54,9 +54,9 @@ pub fn law_descendants_in_document_order()
     ensures { DescendantsInDocumentOrder }
 {}
 
-/// A query that calls nothing which stands for `match` or `search` is clear.
+/// A query is clear if no function that it calls stands for `match` or `search`.
 ///
-/// So what the evaluation promises holds of such a query without a premise.
+/// So what evaluation promises holds of such a query without a condition.
 pub fn law_clear_without_patterns()
     ensures { (F : FunctionSet) (q : Query) (top : Data) → EachCall (GoesWithoutPattern F) q
         → IsClear F q top }

@@ -47,8 +47,8 @@ brackets_apart [] (b ∷ ys) r t x y same = absurd (y.0 (ap (λ (l : List ℕ). 
 brackets_apart (a ∷ xs) [] r t x y same = absurd (x.0 (ap (λ (l : List ℕ). get_or l 0 0) same))
 brackets_apart (a ∷ xs) (b ∷ ys) r t x y same =
     let first : a ≡ b = cc in
-    let behind : xs ++ 93 ∷ r ≡ ys ++ 93 ∷ t = cc in
-    let rest = brackets_apart xs ys r t x.1 y.1 behind in
+    let after : xs ++ 93 ∷ r ≡ ys ++ 93 ∷ t = cc in
+    let rest = brackets_apart xs ys r t x.1 y.1 after in
     (λ i. first i ∷ rest.0 i, rest.1)
 
 -- an index does not begin with a quote

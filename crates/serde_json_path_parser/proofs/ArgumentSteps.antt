@@ -24,7 +24,7 @@ use Rattle.serde_json_path_parser.specs.Numbers.{whole_at, amount_at, number_at}
 use Rattle.serde_json_path_parser.specs.Operands.{Operand, fits}
 use Rattle.serde_json_path_parser.specs.Filters.{Deeper, alone, ends_argument, ended, operand_at, basic_from, and_from, or_from, or_at, logical_from, argument_at, judged, arguments_at}
 use Rattle.serde_json_path_parser.proofs.Texts.{no_longer}
-use Rattle.serde_json_path_parser.proofs.Calls.{behind_argument}
+use Rattle.serde_json_path_parser.proofs.Calls.{after_argument}
 use Rattle.serde_json_path_parser.proofs.LogicalForms.{DeeperLaws}
 use Rattle.serde_json_path_parser.proofs.Steps.{same_fails, first_fails}
 use Rattle.serde_json_path_parser.proofs.Stands.{err_is}
@@ -57,16 +57,19 @@ module _ (signature : List ℕ → Option Signature) (deeper : Deeper) where
     at_operand = rw (first_of cs, no_parenthesis, no_negation) refl
 
     module _ (x : Operand) (rest : List ℕ) (read : operand_at signature deeper cs ≡ Ok (x, rest)) where
+      pub alone_argument : begins ends_argument rest ≡ true → argument_at signature deeper cs ≡ Ok (alone x, rest)
+      alone_argument ends = at_operand ∙ rw (read, ends) refl
+
       module _ (open_yet : begins ends_argument rest ≡ false) where
         joined : argument_at signature deeper cs ≡ logical_from signature deeper (byte_count cs) x rest
         joined = at_operand ∙ rw (read, open_yet) refl
 
-        module _ (b : Basic) (behind : List ℕ) (basic : basic_from signature deeper (byte_count cs) x rest ≡ Ok (b, behind)) where
-          from_basic : argument_at signature deeper cs ≡ (and_from signature deeper b behind >>= λ a. or_from signature deeper a.0 a.1 >>= λ e. Ok (logical_argument e.0, e.1))
+        module _ (b : Basic) (after : List ℕ) (basic : basic_from signature deeper (byte_count cs) x rest ≡ Ok (b, after)) where
+          from_basic : argument_at signature deeper cs ≡ (and_from signature deeper b after >>= λ a. or_from signature deeper a.0 a.1 >>= λ e. Ok (logical_argument e.0, e.1))
           unfolding logical_from
           from_basic = joined ∙ rw basic refl
 
-          module _ (a : LogicalAnd) (further : List ℕ) (and : and_from signature deeper b behind ≡ Ok (a, further)) where
+          module _ (a : LogicalAnd) (further : List ℕ) (and : and_from signature deeper b after ≡ Ok (a, further)) where
             from_and : argument_at signature deeper cs ≡ (or_from signature deeper a further >>= λ e. Ok (logical_argument e.0, e.1))
             from_and = from_basic ∙ rw and refl
 
@@ -136,24 +139,24 @@ module _ (signature : List ℕ → Option Signature) (deeper : Deeper) where
             pub last_fails : (s : Failure) → is_at "," rest ≡ false → Fails s (ended start more (drop 1 rest)) → Fails s (arguments_at signature deeper fuel start kinds cs)
             last_fails s comma h = same_fails s _ (arguments_at signature deeper fuel start kinds cs) (in_rests.2 ∙ rests_end in_rests.0 comma) (first_fails s (ended start more (drop 1 rest)) (λ more. Ok (argument a more.0, more.1)) h)
 
-            pub last : (args : Arguments) (behind : List ℕ) → is_at "," rest ≡ false → ended start more (drop 1 rest) ≡ Ok (args, behind) → arguments_at signature deeper fuel start kinds cs ≡ Ok (argument a args, behind)
-            last args behind comma h = in_rests.2 ∙ rests_end in_rests.0 comma ∙ rw h refl
+            pub last : (args : Arguments) (after : List ℕ) → is_at "," rest ≡ false → ended start more (drop 1 rest) ≡ Ok (args, after) → arguments_at signature deeper fuel start kinds cs ≡ Ok (argument a args, after)
+            last args after comma h = in_rests.2 ∙ rests_end in_rests.0 comma ∙ rw h refl
 
             -- the fuel for those after a comma
-            abbrev pub fuel_behind : ℕ
-            fuel_behind = in_rests.0
+            abbrev pub fuel_after : ℕ
+            fuel_after = in_rests.0
 
-            pub enough_behind : (n : ℕ) (laws : DeeperLaws signature n deeper) → is_at "," rest ≡ true → length (past_blanks (drop 1 rest)) ≤ fuel_behind
-            enough_behind n laws comma =
-                let b = behind_argument signature n deeper laws cs (a, rest) read in
+            pub enough_after : (n : ℕ) (laws : DeeperLaws signature n deeper) → is_at "," rest ≡ true → length (past_blanks (drop 1 rest)) ≤ fuel_after
+            enough_after n laws comma =
+                let b = after_argument signature n deeper laws cs (a, rest) read in
                 omega (arith, enough, in_rests.1, ap length b.1, length-append b.0 rest, no_longer (drop 1 rest), one_less rest comma)
 
-            pub more_fail : (s : Failure) → is_at "," rest ≡ true → Fails s (arguments_at signature deeper fuel_behind start more (past_blanks (drop 1 rest))) → Fails s (arguments_at signature deeper fuel start kinds cs)
+            pub more_fail : (s : Failure) → is_at "," rest ≡ true → Fails s (arguments_at signature deeper fuel_after start more (past_blanks (drop 1 rest))) → Fails s (arguments_at signature deeper fuel start kinds cs)
             more_fail s comma h =
-                same_fails s _ (arguments_at signature deeper fuel start kinds cs) (in_rests.2 ∙ rests_on in_rests.0 comma) (first_fails s (arguments_at signature deeper fuel_behind start more (past_blanks (drop 1 rest))) (λ more. Ok (argument a more.0, more.1)) h)
+                same_fails s _ (arguments_at signature deeper fuel start kinds cs) (in_rests.2 ∙ rests_on in_rests.0 comma) (first_fails s (arguments_at signature deeper fuel_after start more (past_blanks (drop 1 rest))) (λ more. Ok (argument a more.0, more.1)) h)
 
-            pub more_read : (args : Arguments) (behind : List ℕ) → is_at "," rest ≡ true → arguments_at signature deeper fuel_behind start more (past_blanks (drop 1 rest)) ≡ Ok (args, behind) → arguments_at signature deeper fuel start kinds cs ≡ Ok (argument a args, behind)
-            more_read args behind comma h =
+            pub more_read : (args : Arguments) (after : List ℕ) → is_at "," rest ≡ true → arguments_at signature deeper fuel_after start more (past_blanks (drop 1 rest)) ≡ Ok (args, after) → arguments_at signature deeper fuel start kinds cs ≡ Ok (argument a args, after)
+            more_read args after comma h =
                 in_rests.2 ∙ rests_on in_rests.0 comma ∙ ap (λ (y : Parsed Arguments). y >>= λ more. Ok (argument a more.0, more.1)) h
 
 -- ---- parts of arguments
@@ -169,7 +172,7 @@ module _ {S : Type 0} {g : Ghosts S} (signature : List ℕ → Option Signature)
 
   module _ (old builder : SyntaxBuilder) (mid : List Part) (part : Part) (a : Argument) (pushed : mid ≡ before ++ part ∷ []) (is : IsPart builder part (an_argument a))
       (grown : Grows signature old builder (calls_in_argument a))
-      (reads : (args : Arguments) (behind : List ℕ) → read ≡ Ok (args, behind) → whole ≡ Ok (argument a args, behind)) (fail : (s : Failure) → Fails s read → Fails s whole) where
+      (reads : (args : Arguments) (after : List ℕ) → read ≡ Ok (args, after) → whole ≡ Ok (argument a args, after)) (fail : (s : Failure) → Fails s read → Fails s whole) where
     -- one is put after others, and it is the last one
     pub last_made : GivesEnd result reader read → MakesArguments signature old builder before mid result reader whole
     last_made = by_result result

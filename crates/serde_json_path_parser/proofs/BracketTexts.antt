@@ -9,7 +9,7 @@ use Rattle.serde_json_path_parser.specs.Lexical.{is_at, begins, IsBlank}
 use Rattle.serde_json_path_parser.specs.Grammar.{ReadsSegment, ReadSelectors, ReadMoreSelectors}
 use Rattle.serde_json_path_parser.specs.Parsed.{Parsed, ◌>>=◌, refusal, past_blanks, many}
 use Rattle.serde_json_path_parser.specs.Parsing.{selector_at, next_selector_at, selectors_at, selector_list, bracket_at}
-use Rattle.serde_json_path_parser.proofs.Texts.{past_all, blanks_of, are_blank, split_blanks, gathered_behind, enclosed, spread}
+use Rattle.serde_json_path_parser.proofs.Texts.{past_all, blanks_of, are_blank, split_blanks, gathered_after, enclosed, spread}
 use Rattle.serde_json_path_parser.proofs.Many as m
 use Rattle.serde_json_path_parser.proofs.Rows as r
 use Rattle.serde_json_path_parser.proofs.Runs.{some_begun}
@@ -78,7 +78,7 @@ module _ (filter_at : List ℕ → Parsed Selector) (Good : LogicalOr → Type 0
         split =
             first.split ∙ ap (λ (l : List ℕ). l ++ s.0.1) first.is_so.4
             ∙ ap (λ (l : List ℕ). (first.is_so.0 ++ first.is_so.1) ++ l) rest.split
-            ∙ gathered_behind first.is_so.0 first.is_so.1 rest.text ss.0.1
+            ∙ gathered_after first.is_so.0 first.is_so.1 rest.text ss.0.1
             ∙ ap (λ (l : List ℕ). (first.is_so.0 ++ l) ++ ss.0.1) row.split;
       })
 
@@ -120,7 +120,7 @@ module _ (filter_at : List ℕ → Parsed Selector) (Good : LogicalOr → Type 0
 
     pub closes : (sels : Selectors) (t : List ℕ) → ReadMoreSelectors sels t → Closes (t ++ closing)
     closes no_selectors t h = ap (λ (l : List ℕ). begins (λ c. c == 44 || c == 93) (past_blanks (l ++ closing))) h ∙ ap (begins (λ c. c == 44 || c == 93)) at_closing
-    closes (selector sel more) t (s, a, b, (j, i, blanks, behind, sign), is, rests, e) =
+    closes (selector sel more) t (s, a, b, (j, i, blanks, after, sign), is, rests, e) =
         ap (begins (λ c. c == 44 || c == 93)) (r.at_sign (codes ",") t s j i a b closing (λ cs. refl) blanks sign e)
 
     abbrev read_more : List ℕ → Parsed (List Selector)
@@ -130,10 +130,10 @@ module _ (filter_at : List ℕ → Parsed Selector) (Good : LogicalOr → Type 0
     unfolding next_selector_at
     more_again no_selectors t h o =
         ap (λ (l : List ℕ). read_more (past_blanks (l ++ closing))) h ∙ ap read_more at_closing ∙ m.many_end (begins is_comma) (next_selector_at filter_at) (93 ∷ rest) refl
-    more_again (selector sel more) t (s, a, b, (j, i, blanks, behind, sign), is, rests, e) o =
+    more_again (selector sel more) t (s, a, b, (j, i, blanks, after, sign), is, rests, e) o =
         let here : past_blanks (t ++ closing) ≡ 44 ∷ (i ++ (a ++ (b ++ closing))) = r.at_sign (codes ",") t s j i a b closing (λ cs. refl) blanks sign e in
         let one : next_selector_at filter_at (44 ∷ (i ++ (a ++ (b ++ closing)))) ≡ Ok (sel, past_blanks (b ++ closing)) =
-        ap (selector_at filter_at) (past_all i (a ++ (b ++ closing)) behind (begins_no_blank filter_at Good laws a sel (b ++ closing) (o.0, is)))
+        ap (selector_at filter_at) (past_all i (a ++ (b ++ closing)) after (begins_no_blank filter_at Good laws a sel (b ++ closing) (o.0, is)))
         ∙ selector_again filter_at Good laws a sel (b ++ closing) (o.0, is) (closes more b rests) in
         ap read_more here
         ∙ m.many_more (begins is_comma) (next_selector_at filter_at) next_takes (44 ∷ (i ++ (a ++ (b ++ closing)))) (past_blanks (b ++ closing)) sel refl one
@@ -152,5 +152,5 @@ module _ (filter_at : List ℕ → Parsed Selector) (Good : LogicalOr → Type 0
   -- after `[`
   pub bracket_again : (sels : Selectors) (j a k rest : List ℕ) → IsBlank j → ReadSelectors sels a → IsBlank k → AreGood sels → bracket_at filter_at ((j ++ (a ++ (k ++ 93 ∷ []))) ++ rest) ≡ Ok (long_hand sels, rest)
   unfolding bracket_at
-  bracket_again sels j a k rest before is behind o =
-      ap (bracket_at filter_at) (spread j a k (codes "]") rest) ∙ rw (selectors_again k rest behind sels j a before is o) (ap (λ (s : Selectors). Ok (long_hand s, rest)) (same_selectors sels))
+  bracket_again sels j a k rest before is after o =
+      ap (bracket_at filter_at) (spread j a k (codes "]") rest) ∙ rw (selectors_again k rest after sels j a before is o) (ap (λ (s : Selectors). Ok (long_hand s, rest)) (same_selectors sels))

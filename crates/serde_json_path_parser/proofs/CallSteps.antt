@@ -13,6 +13,7 @@ use Rattle.serde_json_path_syntax.specs.declared.builder.SyntaxBuilder.{SyntaxBu
 use Rattle.serde_json_path_functions.specs.Functions.{of_value, Signature}
 use Rattle.serde_json_path_parser.specs.declared.parser.call.Argument as declared
 use Rattle.serde_json_path_parser.specs.declared.parser.call.Argument.TheVariants as the_arguments
+use Rattle.serde_json_path_parser.specs.declared.parser.operand.Operand.TheVariants as the_operands
 use Rattle.serde_json_path_parser.specs.Giving.{IsArgumentOf}
 use Rattle.serde_json_path_parser.specs.Operands.{is_value_literal, is_whole, fits}
 use Rattle.serde_json_path_parser.proofs.Calls.{amount_whole, whole_amount}
@@ -32,24 +33,24 @@ value_by b null h = h.1 tt
 
 module _ (signature : List ℕ → Option Signature) (builder : SyntaxBuilder) (a : declared.Argument) (x : Argument) (is : IsArgumentOf signature builder a x) where
   -- a literal, for a parameter of values
-  pub literal_fits : (l : core.Literal) (b : Bool) → a ≡ the_arguments.Literal l → IsTrue b ↔ IsValueLiteral (literal_view l) → b ≡ fits signature x of_value
+  pub literal_fits : (l : core.Literal) (b : Bool) → a ≡ the_arguments.Operand (the_operands.Literal l) → IsTrue b ↔ IsValueLiteral (literal_view l) → b ≡ fits signature x of_value
   literal_fits l b e h = by_argument x (subst (λ p. IsArgumentOf signature builder p x) e is)
     where
-      by_argument : (y : Argument) → IsArgumentOf signature builder (the_arguments.Literal l) y → b ≡ fits signature y of_value
+      by_argument : (y : Argument) → IsArgumentOf signature builder (the_arguments.Operand (the_operands.Literal l)) y → b ≡ fits signature y of_value
       by_argument (literal_argument m) same = value_by b (literal_view l) h ∙ ap is_value_literal same
       by_argument (query_argument q) same = absurd same
       by_argument (call_argument c) same = absurd same
       by_argument (logical_argument f) same = absurd same
 
   -- a query
-  pub query_part : (part : Part) → a ≡ the_arguments.Query part → (q : tree.Query) × (x ≡ query_argument q) × IsPart builder part (a_query q)
+  pub query_part : (part : Part) → a ≡ the_arguments.Operand (the_operands.Query part) → (q : tree.Query) × (x ≡ query_argument q) × IsPart builder part (a_query q)
   query_part part e = by_argument x (subst (λ p. IsArgumentOf signature builder p x) e is)
     where
-      by_argument : (y : Argument) → IsArgumentOf signature builder (the_arguments.Query part) y → (q : tree.Query) × (y ≡ query_argument q) × IsPart builder part (a_query q)
+      by_argument : (y : Argument) → IsArgumentOf signature builder (the_arguments.Operand (the_operands.Query part)) y → (q : tree.Query) × (y ≡ query_argument q) × IsPart builder part (a_query q)
       by_argument (literal_argument m) same = absurd same
       by_argument (query_argument q) same = (q, refl, same)
       by_argument (call_argument c) same = absurd same
       by_argument (logical_argument f) same = absurd same
 
-  pub query_fits : (part : Part) (b : Bool) → a ≡ the_arguments.Query part → ((q : tree.Query) → IsPart builder part (a_query q) → IsTrue b ↔ tree.IsSingular q) → b ≡ fits signature x of_value
+  pub query_fits : (part : Part) (b : Bool) → a ≡ the_arguments.Operand (the_operands.Query part) → ((q : tree.Query) → IsPart builder part (a_query q) → IsTrue b ↔ tree.IsSingular q) → b ≡ fits signature x of_value
   query_fits part b e h = let q = query_part part e in sym (singular_by b q.0 (h q.0 q.2)) ∙ ap (λ y. fits signature y of_value) (sym q.1)

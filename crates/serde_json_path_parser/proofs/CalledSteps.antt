@@ -13,7 +13,7 @@ use Rattle.serde_json_path_parser.specs.Parsed.{past_blanks, byte_count, refusal
 use Rattle.serde_json_path_parser.specs.Operands.{a_literal, a_query, a_call}
 use Rattle.serde_json_path_parser.specs.Numbers.{number_at}
 use Rattle.serde_json_path_parser.specs.Words.{literal_word}
-use Rattle.serde_json_path_parser.specs.Filters.{Deeper, word, behind_word, begins_call, named_call_at, named_at, query_at, operand_at, ended, parameters_at, call_at, level}
+use Rattle.serde_json_path_parser.specs.Filters.{Deeper, word, past_word, begins_call, named_call_at, named_at, query_at, operand_at, ended, parameters_at, call_at, level}
 use Rattle.serde_json_path_parser.proofs.Steps.{same_fails, first_fails}
 use Rattle.serde_json_path_parser.proofs.WordTexts.{literal_word_reads}
 
@@ -54,17 +54,17 @@ level_undefined signature n start f cs l e = level_call signature n (n - 1) star
 -- ---- names
 
 module _ (signature : List ℕ → Option Signature) (deeper : Deeper) (cs : List ℕ) (letter : begins is_small_letter cs ≡ true) where
-  call_begins : is_at "(" (behind_word cs) ≡ true → begins_call cs ≡ true
+  call_begins : is_at "(" (past_word cs) ≡ true → begins_call cs ≡ true
   call_begins e = rw (letter, e) refl
 
-  no_call_begins : is_at "(" (behind_word cs) ≡ false → begins_call cs ≡ false
+  no_call_begins : is_at "(" (past_word cs) ≡ false → begins_call cs ≡ false
   no_call_begins e = rw (letter, e) refl
 
-  pub named_call : (c : Call) (rest : List ℕ) → is_at "(" (behind_word cs) ≡ true → deeper.call_of (byte_count cs) (word cs) (drop 1 (behind_word cs)) ≡ Ok (c, rest) → named_at signature deeper cs ≡ Ok (a_call c, rest)
+  pub named_call : (c : Call) (rest : List ℕ) → is_at "(" (past_word cs) ≡ true → deeper.call_of (byte_count cs) (word cs) (drop 1 (past_word cs)) ≡ Ok (c, rest) → named_at signature deeper cs ≡ Ok (a_call c, rest)
   unfolding named_at named_call_at
   named_call c rest open_parenthesis h = rw (call_begins open_parenthesis, h) refl
 
-  pub named_literal : (l : Literal) → is_at "(" (behind_word cs) ≡ false → literal_word (word cs) ≡ Some l → named_at signature deeper cs ≡ Ok (a_literal l, past_blanks (behind_word cs))
+  pub named_literal : (l : Literal) → is_at "(" (past_word cs) ≡ false → literal_word (word cs) ≡ Some l → named_at signature deeper cs ≡ Ok (a_literal l, past_blanks (past_word cs))
   unfolding named_at
   named_literal l no_parenthesis is = rw (no_call_begins no_parenthesis) (literal_word_reads cs ∙ rw is refl)
 

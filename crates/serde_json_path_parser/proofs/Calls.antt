@@ -15,8 +15,8 @@ use Rattle.serde_json_path_parser.specs.Grammar.{StandsAlone, ReadsArgument, Rea
 use Rattle.serde_json_path_parser.specs.Parsed.{Parsed, ◌>>=◌, refusal, past_blanks, many_at, many, byte_count}
 use Rattle.serde_json_path_parser.specs.Operands.{Operand, a_literal, a_query, a_call, is_result, is_test, takes_result, is_whole, fits}
 use Rattle.serde_json_path_parser.specs.Filters.{begins_call, query_at, operator_at, and_list, or_list, alone, ends_argument, Deeper, named_call_at, operand_at, comparable_at, test_at, right_side_at, relation_at, basic_from, paren_at, negated_call_at, negated_at, basic_at, next_basic_at, and_from, and_at, next_and_at, or_from, or_at, logical_from, argument_at, judged, ended, arguments_at, parameters_at, call_at}
-use Rattle.serde_json_path_parser.proofs.Texts.{blanks_of, are_blank, split_blanks, past_some, past_all, gathered_behind, spread}
-use Rattle.serde_json_path_parser.proofs.LogicalForms.{IsGoodOr, IsGoodQuery, IsGoodCall, DeeperLaws, ReadsBehindName, singular_query, Follows, ends_operand, ends_basic, ends_or, query_singular}
+use Rattle.serde_json_path_parser.proofs.Texts.{blanks_of, are_blank, split_blanks, past_some, past_all, gathered_after, spread}
+use Rattle.serde_json_path_parser.proofs.LogicalForms.{IsGoodOr, IsGoodQuery, IsGoodCall, DeeperLaws, ReadsAfterName, singular_query, Follows, ends_operand, ends_basic, ends_or, query_singular}
 use Rattle.serde_json_path_parser.proofs.Logical.{value_result, or_sound, and_from_sound, or_from_sound, basic_from_sound, no_operator, or_again, operand_stands, basic_from_stands, and_from_stands, or_from_stands, or_stands, IsBasicText, IsAndText, IsOrText}
 use Rattle.serde_json_path_parser.proofs.Operands.{IsOperandText, operand_sound, operand_again}
 use Rattle.serde_json_path_parser.proofs.Steps.{Read, Spaced, bind_ok, chosen, guard, done, ok_is, after_one, made_of}
@@ -300,12 +300,12 @@ module _ (signature : List ℕ → Option Signature) (n : ℕ) (deeper : Deeper)
     here : List ℕ
     rest : List ℕ
     blanks : List ℕ
-    behind : List ℕ
+    after : List ℕ
     reads_first : ReadsArgument first here
     reads_more : ReadMoreArguments more rest
     blank : IsBlank blanks
-    blank_behind : IsBlank behind
-    split : cs ≡ (here ++ (rest ++ (blanks ++ 41 ∷ behind))) ++ x.1
+    blank_after : IsBlank after
+    split : cs ≡ (here ++ (rest ++ (blanks ++ 41 ∷ after))) ++ x.1
 
   -- a judged argument
   judged_sound : (start cs : List ℕ) (kinds left : List Kind) (a : Argument) → IsGoodArgument a → judged signature deeper (byte_count start) (byte_count cs) kinds a ≡ Ok left → (kind : Kind) × (kinds ≡ kind ∷ left) × IsTypedArgument signature a kind
@@ -321,9 +321,9 @@ module _ (signature : List ℕ → Option Signature) (n : ℕ) (deeper : Deeper)
   ended_sound start (kind ∷ kinds) cs x e = absurd cc
 
   -- a comma and blanks before arguments
-  behind_comma : (first : Argument) (more : Arguments) (j here rest : List ℕ) → IsBlank j → ReadsArgument first here → ReadMoreArguments more rest → (k : List ℕ) → IsBlank k
+  after_comma : (first : Argument) (more : Arguments) (j here rest : List ℕ) → IsBlank j → ReadsArgument first here → ReadMoreArguments more rest → (k : List ℕ) → IsBlank k
       → ReadMoreArguments (argument first more) ((k ++ (44 ∷ j)) ++ (here ++ rest))
-  behind_comma first more j here rest blank is are k before = (k ++ (44 ∷ j), here, rest, (k, j, before, blank, refl), is, are, refl)
+  after_comma first more j here rest blank is are k before = (k ++ (44 ∷ j), here, rest, (k, j, before, blank, refl), is, are, refl)
 
   last_argument : (start cs : List ℕ) (kinds left : List Kind) (a : Argument) (t k rest : List ℕ) (x : Arguments × List ℕ) → IsArgument t a → IsBlank k
       → cs ≡ (t ++ k) ++ (41 ∷ rest) → (kind : Kind) → kinds ≡ kind ∷ left → IsTypedArgument signature a kind → (ended (byte_count start) left rest >>= λ more. Ok (argument a more.0, more.1)) ≡ Ok x → AreArguments kinds cs x
@@ -340,15 +340,15 @@ module _ (signature : List ℕ → Option Signature) (n : ℕ) (deeper : Deeper)
         here = t;
         rest = [];
         blanks = k;
-        behind = blanks_of rest;
+        after = blanks_of rest;
         reads_first = is.1;
         reads_more = refl;
         blank = blank;
-        blank_behind = are_blank rest;
+        blank_after = are_blank rest;
         split =
             split
             ∙ ap (λ (l : List ℕ). (t ++ k) ++ (41 ∷ l)) (split_blanks rest ∙ ap (λ (l : List ℕ). blanks_of rest ++ l) (sym (sym (ap (λ y. y.1) whole) ∙ end.2)))
-            ∙ gathered_behind t k (41 ∷ blanks_of rest) x.1;
+            ∙ gathered_after t k (41 ∷ blanks_of rest) x.1;
       }
 
   one_more_argument : (cs : List ℕ) (kinds left : List Kind) (a : Argument) (t k rest : List ℕ) (x more : Arguments × List ℕ) → IsArgument t a → IsBlank k
@@ -362,16 +362,16 @@ module _ (signature : List ℕ → Option Signature) (n : ℕ) (deeper : Deeper)
     here = t;
     rest = (k ++ (44 ∷ blanks_of rest)) ++ (h.here ++ h.rest);
     blanks = h.blanks;
-    behind = h.behind;
+    after = h.after;
     reads_first = is.1;
-    reads_more = behind_comma h.first h.more (blanks_of rest) h.here h.rest (are_blank rest) h.reads_first h.reads_more k blank;
+    reads_more = after_comma h.first h.more (blanks_of rest) h.here h.rest (are_blank rest) h.reads_first h.reads_more k blank;
     blank = h.blank;
-    blank_behind = h.blank_behind;
+    blank_after = h.blank_after;
     split =
         split
         ∙ ap (λ (l : List ℕ). (t ++ k) ++ (44 ∷ l)) (split_blanks rest ∙ ap (λ (l : List ℕ). blanks_of rest ++ l) h.split)
-        ∙ in_front (44 ∷ []) t k (blanks_of rest) h.here h.rest (h.blanks ++ 41 ∷ h.behind) more.1
-        ∙ ap (λ (l : List ℕ). (t ++ (((k ++ (44 ∷ blanks_of rest)) ++ (h.here ++ h.rest)) ++ (h.blanks ++ 41 ∷ h.behind))) ++ l) (ap (λ y. y.1) whole);
+        ∙ in_front (44 ∷ []) t k (blanks_of rest) h.here h.rest (h.blanks ++ 41 ∷ h.after) more.1
+        ∙ ap (λ (l : List ℕ). (t ++ (((k ++ (44 ∷ blanks_of rest)) ++ (h.here ++ h.rest)) ++ (h.blanks ++ 41 ∷ h.after))) ++ l) (ap (λ y. y.1) whole);
   }
     where
       in_front : (s t k j a b c d : List ℕ) → (t ++ k) ++ (s ++ (j ++ ((a ++ (b ++ c)) ++ d))) ≡ (t ++ (((k ++ (s ++ j)) ++ (a ++ b)) ++ c)) ++ d
@@ -405,11 +405,11 @@ module _ (signature : List ℕ → Option Signature) (n : ℕ) (deeper : Deeper)
 
   -- after `(` of a call of this name, with its `)` and the blanks after it
   pub call_sound : (start f cs : List ℕ) (sig : Option Signature) (x : Call × List ℕ) → signature f ≡ sig → call_at signature deeper (byte_count start) f sig cs ≡ Ok x
-      → Read (Spaced (λ t c. (IsTypedCall signature c × (call_depth c ≤ n + 1)) × ReadsBehindName f c t)) cs x
+      → Read (Spaced (λ t c. (IsTypedCall signature c × (call_depth c ≤ n + 1)) × ReadsAfterName f c t)) cs x
   unfolding call_at parameters_at
   call_sound start f cs None x same e = absurd cc
   call_sound start f cs (Some s) x same e =
-      let Is : List ℕ → Call → Type 0 = λ t c. (IsTypedCall signature c × (call_depth c ≤ n + 1)) × ReadsBehindName f c t in
+      let Is : List ℕ → Call → Type 0 = λ t c. (IsTypedCall signature c × (call_depth c ≤ n + 1)) × ReadsAfterName f c t in
       let r = past_blanks cs in
       let j = blanks_of cs in
       let args = bind_ok (cond (is_at ")" r) (ended (byte_count start) s.params (drop 1 r)) (arguments_at signature deeper (length r) (byte_count start) s.params r)) (λ args. Ok (call f args.0, args.1)) x e in
@@ -434,16 +434,16 @@ module _ (signature : List ℕ → Option Signature) (n : ℕ) (deeper : Deeper)
             let h = arguments_sound (length r) start s.params r args.0 a.1 in
             let inside = h.here ++ h.rest in
             subst (Read (Spaced Is) cs) (ok_is (call f args.0.0, args.0.1) x args.2) (record {
-              text = (j ++ (inside ++ (h.blanks ++ 41 ∷ []))) ++ h.behind;
+              text = (j ++ (inside ++ (h.blanks ++ 41 ∷ []))) ++ h.after;
               is_so = (
                 j ++ (inside ++ (h.blanks ++ 41 ∷ [])),
-                h.behind,
+                h.after,
                 subst (λ (l : Arguments). Is (j ++ (inside ++ (h.blanks ++ 41 ∷ []))) (call f l)) (sym h.is)
                     (((s, same, h.typed), omega (arith, h.shallow)), (argument h.first h.more, refl, j, inside, h.blanks, are_blank cs, (h.here, h.rest, h.reads_first, h.reads_more, refl), h.blank, refl)),
-                h.blank_behind,
+                h.blank_after,
                 refl,
               );
-              split = split_blanks cs ∙ ap (λ (l : List ℕ). j ++ l) h.split ∙ enclosed (41 ∷ []) j h.here h.rest h.blanks h.behind args.0.1;
+              split = split_blanks cs ∙ ap (λ (l : List ℕ). j ++ l) h.split ∙ enclosed (41 ∷ []) j h.here h.rest h.blanks h.after args.0.1;
             })
       ]
     where
@@ -625,7 +625,7 @@ module _ (signature : List ℕ → Option Signature) (n : ℕ) (deeper : Deeper)
 
     follows : (more : Arguments) (t : List ℕ) → ReadMoreArguments more t → Follows ends_argument (t ++ closing)
     follows no_arguments t h = ap (λ (l : List ℕ). begins ends_argument (past_blanks (l ++ closing))) h ∙ ap (begins ends_argument) at_closing
-    follows (argument a more) t (s, b, c, (j, i, blanks, behind, sign), is, are, e) =
+    follows (argument a more) t (s, b, c, (j, i, blanks, after, sign), is, are, e) =
         ap (begins ends_argument) (at_sign (codes ",") t s j i b c closing (λ cs. refl) blanks sign e)
 
     arguments_again : (fuel : ℕ) (start : List ℕ) (kinds : List Kind) (a : Argument) (more : Arguments) (t others : List ℕ) → AreTypedArguments signature (argument a more) kinds → arguments_depth (argument a more) ≤ n
@@ -640,12 +640,12 @@ module _ (signature : List ℕ → Option Signature) (n : ℕ) (deeper : Deeper)
         argument_again t a (others ++ closing) (typed_good a kind typed.0 (omega (arith, shallow)), is) (follows no_arguments others are)
         ∙ ap (λ (l : List ℕ). Ok (a, l)) (ap (λ (l : List ℕ). past_blanks (l ++ closing)) are ∙ at_closing) in
         rw (read, typed_fits signature a kind typed.0, typed.1) refl
-    arguments_again (suc fuel) start (kind ∷ kinds) a (argument b more) t others typed shallow is (s, c, d, (j, i, blanks, behind, sign), next, are, e) enough =
+    arguments_again (suc fuel) start (kind ∷ kinds) a (argument b more) t others typed shallow is (s, c, d, (j, i, blanks, after, sign), next, are, e) enough =
         let split : others ≡ (j ++ (44 ∷ i)) ++ (c ++ d) = e ∙ ap (λ (l : List ℕ). l ++ (c ++ d)) sign in
         let read : argument_at signature deeper (t ++ (others ++ closing)) ≡ Ok (a, 44 ∷ (i ++ (c ++ (d ++ closing)))) =
-        argument_again t a (others ++ closing) (typed_good a kind typed.0 (omega (arith, shallow)), is) (follows (argument b more) others (s, c, d, (j, i, blanks, behind, sign), next, are, e))
+        argument_again t a (others ++ closing) (typed_good a kind typed.0 (omega (arith, shallow)), is) (follows (argument b more) others (s, c, d, (j, i, blanks, after, sign), next, are, e))
         ∙ ap (λ (l : List ℕ). Ok (a, l)) (at_sign (codes ",") others s j i c d closing (λ cs. refl) blanks sign e) in
-        let onward : past_blanks (i ++ (c ++ (d ++ closing))) ≡ c ++ (d ++ closing) = past_all i (c ++ (d ++ closing)) behind (no_blank_begins (c ++ (d ++ closing)) (argument_begins c b (d ++ closing) next)) in
+        let onward : past_blanks (i ++ (c ++ (d ++ closing))) ≡ c ++ (d ++ closing) = past_all i (c ++ (d ++ closing)) after (no_blank_begins (c ++ (d ++ closing)) (argument_begins c b (d ++ closing) next)) in
         let front : length others ≡ length (j ++ (44 ∷ i)) + length (c ++ d) = ap length split ∙ length-append (j ++ (44 ∷ i)) (c ++ d) in
         let ahead : length (c ++ (d ++ closing)) < length (t ++ (others ++ closing)) =
         omega (arith, front, length-append t (others ++ closing), length-append others closing, length-append j (44 ∷ i), length-append c d, length-append c (d ++ closing), length-append d closing) in
@@ -669,7 +669,7 @@ module _ (signature : List ℕ → Option Signature) (n : ℕ) (deeper : Deeper)
   -- ---- calls
 
   -- after `(` of a call of this name
-  pub call_again : (start f t : List ℕ) (c : Call) (rest : List ℕ) → (IsTypedCall signature c × (call_depth c ≤ n + 1)) → ReadsBehindName f c t
+  pub call_again : (start f t : List ℕ) (c : Call) (rest : List ℕ) → (IsTypedCall signature c × (call_depth c ≤ n + 1)) → ReadsAfterName f c t
       → call_at signature deeper (byte_count start) f (signature f) (t ++ rest) ≡ Ok (c, past_blanks rest)
   unfolding call_at
   call_again start f t c rest good (args, same, j, a, k, before, is, blank, e) =
@@ -740,33 +740,33 @@ module _ (signature : List ℕ → Option Signature) (n : ℕ) (deeper : Deeper)
       ]
 
   -- what stands after an argument is the end of the text
-  abbrev Behind : List ℕ → Argument × List ℕ → Type 0
-  Behind cs x = (t : List ℕ) × (cs ≡ t ++ x.1)
+  abbrev LeavesEnd : List ℕ → Argument × List ℕ → Type 0
+  LeavesEnd cs x = (t : List ℕ) × (cs ≡ t ++ x.1)
 
-  behind_logical : (cs : List ℕ) (o : Operand × List ℕ) (x : Argument × List ℕ) → operand_at signature deeper cs ≡ Ok o → logical_from signature deeper (byte_count cs) o.0 o.1 ≡ Ok x → Behind cs x
+  after_logical : (cs : List ℕ) (o : Operand × List ℕ) (x : Argument × List ℕ) → operand_at signature deeper cs ≡ Ok o → logical_from signature deeper (byte_count cs) o.0 o.1 ≡ Ok x → LeavesEnd cs x
   unfolding logical_from
-  behind_logical cs o x read e =
+  after_logical cs o x read e =
       let b = bind_ok (basic_from signature deeper (byte_count cs) o.0 o.1) (λ b. and_from signature deeper b.0 b.1 >>= λ a. or_from signature deeper a.0 a.1 >>= λ e. Ok (logical_argument e.0, e.1)) x e in
       let a = bind_ok (and_from signature deeper b.0.0 b.0.1) (λ a. or_from signature deeper a.0 a.1 >>= λ e. Ok (logical_argument e.0, e.1)) x b.2 in
       let f = bind_ok (or_from signature deeper a.0.0 a.0.1) (λ e. Ok (logical_argument e.0, e.1)) x a.2 in
       let ors = with_ors cs a.0 f.0 (with_ands cs b.0 a.0 (first_part cs o b.0 read b.1) a.1) f.1 in
-      subst (Behind cs) (ok_is (logical_argument f.0.0, f.0.1) x f.2) (ors.text, ors.split)
+      subst (LeavesEnd cs) (ok_is (logical_argument f.0.0, f.0.1) x f.2) (ors.text, ors.split)
 
-  pub behind_argument : (cs : List ℕ) (x : Argument × List ℕ) → argument_at signature deeper cs ≡ Ok x → Behind cs x
+  pub after_argument : (cs : List ℕ) (x : Argument × List ℕ) → argument_at signature deeper cs ≡ Ok x → LeavesEnd cs x
   unfolding argument_at
-  behind_argument cs x e =
+  after_argument cs x e =
       let expression : Parsed Argument = or_at signature deeper cs >>= λ e. Ok (logical_argument e.0, e.1) in
       elim (chosen (begins (λ c. c == 40 || c == 33) cs) expression _ (Ok x) e) [
         | inl a ↦
             let f = bind_ok (or_at signature deeper cs) (λ e. Ok (logical_argument e.0, e.1)) x a.1 in
             let s = or_sound signature n deeper laws cs f.0 f.1 in
-            subst (Behind cs) (ok_is (logical_argument f.0.0, f.0.1) x f.2) (s.text, s.split)
+            subst (LeavesEnd cs) (ok_is (logical_argument f.0.0, f.0.1) x f.2) (s.text, s.split)
         | inr a ↦
             let o = bind_ok (operand_at signature deeper cs) (λ o. cond (begins ends_argument o.1) (Ok (alone o.0, o.1)) (logical_from signature deeper (byte_count cs) o.0 o.1)) x a.1 in
             let s = operand_sound signature n deeper laws cs o.0 o.1 in
             elim (chosen (begins ends_argument o.0.1) (done (alone o.0.0, o.0.1)) (logical_from signature deeper (byte_count cs) o.0.0 o.0.1) (Ok x) o.2) [
-              | inl b ↦ subst (Behind cs) (ok_is (alone o.0.0, o.0.1) x b.1) (s.text, s.split)
-              | inr b ↦ behind_logical cs o.0 x o.1 b.1
+              | inl b ↦ subst (LeavesEnd cs) (ok_is (alone o.0.0, o.0.1) x b.1) (s.text, s.split)
+              | inr b ↦ after_logical cs o.0 x o.1 b.1
             ]
       ]
 
@@ -780,7 +780,7 @@ module _ (signature : List ℕ → Option Signature) (n : ℕ) (deeper : Deeper)
   unfolding arguments_at
   arguments_stand zero before start kinds cs r split e = further start before cs r split (here ExpectedExpression context.LongHand cs (arguments_at signature deeper zero (byte_count start) kinds cs) r (inl refl) refl e)
   arguments_stand (suc fuel) before start kinds cs r split e = bind_stands start (argument_at signature deeper cs) _ r (λ d f. further start before cs d split (argument_stands cs d f)) (λ a f h.
-      let reached = behind_argument cs a f in
+      let reached = after_argument cs a f in
       let whole : start ≡ (before ++ reached.0) ++ a.1 = split ∙ ap (λ (l : List ℕ). before ++ l) reached.1 ∙ sym (append_assoc before reached.0 a.1) in
       let blanks = blanks_of (drop 1 a.1) in
       let rest = past_blanks (drop 1 a.1) in
@@ -822,5 +822,5 @@ module _ (signature : List ℕ → Option Signature) (n : ℕ) (deeper : Deeper)
   call_stands start f cs None r named split undeclared e = here UndefinedFunction context.LongHand start (call_at signature deeper (byte_count start) f None cs) r (inr (refl, (f, cs, named, split, undeclared))) refl e
   call_stands start f cs (Some s) r named split declared e =
       let before = f ++ (40 ∷ blanks_of cs) in
-      let behind : start ≡ before ++ past_blanks cs = split ∙ ap (λ (l : List ℕ). f ++ (40 ∷ l)) (split_blanks cs) ∙ sym (append_assoc f (40 ∷ blanks_of cs) (past_blanks cs)) in
-      bind_stands start (parameters_at signature deeper (byte_count start) s.params (past_blanks cs)) _ r (λ d g. parameters_stand before start s.params (past_blanks cs) d behind g) (λ args g h. no_refusal start _ r h) e
+      let after : start ≡ before ++ past_blanks cs = split ∙ ap (λ (l : List ℕ). f ++ (40 ∷ l)) (split_blanks cs) ∙ sym (append_assoc f (40 ∷ blanks_of cs) (past_blanks cs)) in
+      bind_stands start (parameters_at signature deeper (byte_count start) s.params (past_blanks cs)) _ r (λ d g. parameters_stand before start s.params (past_blanks cs) d after g) (λ args g h. no_refusal start _ r h) e

@@ -31,7 +31,7 @@ module _ (signature : List ℕ → Option Signature) (deeper : Deeper) where
 
   -- after the `@` or `$` of a query, its segments are read
   module _ (kind : QueryKind) (c : ℕ) (cs ds : List ℕ) (e : cs ≡ c ∷ ds) where
-    pub query_reads : (rest behind : List ℕ) (ss : List (SegmentKind × Segment)) → segments_at (filter_at signature deeper) context.LongHand ds ≡ Ok (ss, rest) → behind ≡ past_blanks rest
-        → query_at signature deeper kind cs ≡ Ok (query kind (segment_list ss), behind)
+    pub query_reads : (rest after : List ℕ) (ss : List (SegmentKind × Segment)) → segments_at (filter_at signature deeper) context.LongHand ds ≡ Ok (ss, rest) → after ≡ past_blanks rest
+        → query_at signature deeper kind cs ≡ Ok (query kind (segment_list ss), after)
     unfolding query_at
-    query_reads rest behind ss read end = rw (e, read, end) refl
+    query_reads rest after ss read end = rw (e, read, end) refl

@@ -38,7 +38,7 @@ letter_begins : (c : ℕ) → is_small_letter c ≡ true → begins_operand c �
 letter_begins c e = grind (arith, e)
 
 call_begins : (c : Call) (t rest : List ℕ) → ReadsCall c t → begins begins_operand (t ++ rest) ≡ true
-call_begins (call f args) t rest (n, j, a, k, name, before, is, behind, e) =
+call_begins (call f args) t rest (n, j, a, k, name, before, is, after, e) =
     begins_where is_small_letter begins_operand true (t ++ rest) letter_begins
     (ap (λ (x : List ℕ). begins is_small_letter (x ++ rest)) e ∙ ap (begins is_small_letter) (append_assoc n _ rest) ∙ begins_front is_small_letter true n _ (some_begun is_small_letter n name.first) name.first)
 

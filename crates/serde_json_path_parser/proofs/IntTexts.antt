@@ -8,9 +8,9 @@ use Rattle.serde_json_path_parser.specs.declared.error.ParseErrorKind.TheVariant
 use Rattle.serde_json_path_parser.specs.declared.error.Context.TheVariants as context
 use Rattle.serde_json_path_parser.specs.declared.error.Refusal.{Refusal}
 use Rattle.serde_json_path_parser.specs.Lexical.{is_at, begins, is_blank, is_digit, value_from, IsDecimal, IsInt}
-use Rattle.serde_json_path_parser.specs.Parsed.{Parsed, ◌>>=◌, refusal, front, behind, byte_count}
+use Rattle.serde_json_path_parser.specs.Parsed.{Parsed, ◌>>=◌, refusal, front, past, byte_count}
 use Rattle.serde_json_path_parser.specs.Parsing.{is_first_digit, digits_at, negative, int_at, begins_int}
-use Rattle.serde_json_path_parser.proofs.Runs.{begins_where, differs, begins_differs, no_blank, whole, front_each, front_begins, front_begins_not, front_all, behind_all, value_least}
+use Rattle.serde_json_path_parser.proofs.Runs.{begins_where, differs, begins_differs, no_blank, whole, front_each, front_begins, front_begins_not, front_all, past_run, value_least}
 use Rattle.serde_json_path_parser.proofs.Steps.{Read, bind_ok, chosen, guard, done, ok_is, after_one}
 use Rattle.serde_json_path_parser.proofs.Stands.{Plain, Stands, bind_stands, guard_stands, no_refusal}
 
@@ -40,7 +40,7 @@ some_value (c ∷ cs) e =
 -- ---- what is read is an integer
 
 -- digits that are read whole, the first of them not `0`
-pub decimal_read : (cs : List ℕ) → begins is_first_digit cs ≡ true → Read IsDecimal cs (value_from 0 (front is_digit cs), behind is_digit cs)
+pub decimal_read : (cs : List ℕ) → begins is_first_digit cs ≡ true → Read IsDecimal cs (value_from 0 (front is_digit cs), past is_digit cs)
 decimal_read cs first = record {
   text = front is_digit cs;
   is_so = record {
@@ -56,9 +56,9 @@ digits_sound : (start cs : List ℕ) (x : ℕ × List ℕ) → begins is_first_d
 unfolding digits_at
 digits_sound start cs x first e =
     let n = value_from 0 (front is_digit cs) in
-    let g = guard (nat_le n largest) (refusal IntegerOutOfRange context.LongHand start) (done (n, behind is_digit cs)) x e in
+    let g = guard (nat_le n largest) (refusal IntegerOutOfRange context.LongHand start) (done (n, past is_digit cs)) x e in
     let most : n ≤ largest = grind (arith, g.0) in
-    subst (λ (y : ℕ × List ℕ). Read IsDecimal cs y × (1 ≤ y.0) × (y.0 ≤ largest)) (ok_is (n, behind is_digit cs) x g.1) (
+    subst (λ (y : ℕ × List ℕ). Read IsDecimal cs y × (1 ≤ y.0) × (y.0 ≤ largest)) (ok_is (n, past is_digit cs) x g.1) (
       decimal_read cs first,
       some_value cs first,
       most,
@@ -114,7 +114,7 @@ digits_again : (start t : List ℕ) (n : ℕ) (rest : List ℕ) → IsDecimal t 
 unfolding digits_at
 digits_again start t n rest d most e =
     let in_range : nat_le (value_from 0 t) largest ≡ true = grind (arith, most, d.value_of) in
-    rw (front_all is_digit t rest d.each e, behind_all is_digit t rest d.each e, in_range) (ap (λ (k : ℕ). Ok (k, rest)) (sym d.value_of))
+    rw (front_all is_digit t rest d.each e, past_run is_digit t rest d.each e, in_range) (ap (λ (k : ℕ). Ok (k, rest)) (sym d.value_of))
 
 pub first_digit : (t rest : List ℕ) → begins is_digit t ≡ true → is_at "0" t ≡ false → begins is_first_digit (t ++ rest) ≡ true
 first_digit [] rest d z = absurd cc
@@ -173,7 +173,7 @@ digits_stands : (start cs : List ℕ) (r : Refusal) → digits_at (byte_count st
 unfolding digits_at
 digits_stands start cs r e =
     let n = value_from 0 (front is_digit cs) in
-    guard_stands start (nat_le n largest) (done (n, behind is_digit cs)) IntegerOutOfRange context.LongHand r refl (no_refusal start _ r) e
+    guard_stands start (nat_le n largest) (done (n, past is_digit cs)) IntegerOutOfRange context.LongHand r refl (no_refusal start _ r) e
 
 pub int_stands : (cs : List ℕ) (r : Refusal) → int_at cs ≡ Err r → Stands Plain cs r
 unfolding int_at

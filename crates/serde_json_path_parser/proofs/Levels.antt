@@ -9,7 +9,7 @@ use Rattle.serde_json_path_parser.specs.Grammar.{ReadsOr}
 use Rattle.serde_json_path_parser.specs.Parsed.{Parsed, refusal, byte_count}
 use Rattle.serde_json_path_parser.specs.Filters.{level}
 use Rattle.serde_json_path_parser.proofs.Calls.{call_stands, call_again, call_sound}
-use Rattle.serde_json_path_parser.proofs.LogicalForms.{IsGoodInside, IsGoodCall, DeeperLaws, ReadsBehindName}
+use Rattle.serde_json_path_parser.proofs.LogicalForms.{IsGoodInside, IsGoodCall, DeeperLaws, ReadsAfterName}
 use Rattle.serde_json_path_parser.proofs.Logical.{or_stands, or_again, or_sound}
 use Rattle.serde_json_path_parser.proofs.Stands.{Inner, Stands, here, further}
 use Rattle.serde_json_path_parser.proofs.Steps.{Read, Spaced, made_of}
@@ -41,10 +41,10 @@ module _ (signature : List ℕ → Option Signature) where
     inside_sound start cs x e =
         made_of _ (λ t e. IsGoodInside signature (suc n) e × ReadsOr e t) (λ e. e) cs x (λ t h. ((h.0.0, omega (arith, h.0.1)), h.1)) (or_sound signature n (level signature n) laws cs x e)
 
-    behind_sound : (start f cs : List ℕ) (x : Call × List ℕ) → (level signature (suc n)).call_of (byte_count start) f cs ≡ Ok x → Read (Spaced (λ t c. IsGoodCall signature (suc n) c × ReadsBehindName f c t)) cs x
+    after_sound : (start f cs : List ℕ) (x : Call × List ℕ) → (level signature (suc n)).call_of (byte_count start) f cs ≡ Ok x → Read (Spaced (λ t c. IsGoodCall signature (suc n) c × ReadsAfterName f c t)) cs x
     unfolding level
-    behind_sound start f cs x e =
-        made_of _ (λ t c. IsGoodCall signature (suc n) c × ReadsBehindName f c t) (λ c. c) cs x (λ t h. ((h.0.0, omega (arith, h.0.1)), h.1))
+    after_sound start f cs x e =
+        made_of _ (λ t c. IsGoodCall signature (suc n) c × ReadsAfterName f c t) (λ c. c) cs x (λ t h. ((h.0.0, omega (arith, h.0.1)), h.1))
         (call_sound signature n (level signature n) laws start f cs (signature f) x refl e)
 
     suc_laws : DeeperLaws signature (suc n) (level signature (suc n))
@@ -53,7 +53,7 @@ module _ (signature : List ℕ → Option Signature) where
       inside_sound = inside_sound;
       inside_again = λ start t e rest good is ends. or_again signature n (level signature n) laws t e rest ((good.0, omega (arith, good.1)), is) ends;
       inside_stands = λ before start cs r split e. further start before cs r split (or_stands signature n (level signature n) laws cs r e);
-      call_sound = behind_sound;
+      call_sound = after_sound;
       call_again = λ start f t c rest good is. call_again signature n (level signature n) laws start f t c rest (good.0, omega (arith, good.1)) is;
       call_stands = λ start f cs r named split e. call_stands signature n (level signature n) laws start f cs (signature f) r named split refl e;
     }

@@ -14,8 +14,8 @@ use Rattle.serde_json_path_parser.specs.Lexical.{is_at, are_at, begins, begins_b
 use Rattle.serde_json_path_parser.specs.Grammar.{InParentheses, ReadsOr, ReadMoreOrs, ReadsAnd, ReadMoreAnds, ReadsBasic, ReadsComparable, Reads, ReadsCall}
 use Rattle.serde_json_path_parser.specs.Parsed.{Parsed, ◌>>=◌, refusal, past_blanks, many, byte_count}
 use Rattle.serde_json_path_parser.specs.Operands.{Operand, a_literal, a_query, a_call, is_singular, is_result}
-use Rattle.serde_json_path_parser.specs.Filters.{begins_call, operator_at, and_list, or_list, Deeper, query_at, named_call_at, operand_at, comparable_at, test_at, right_side_at, relation_at, basic_from, paren_at, negated_call_at, negated_at, basic_at, next_basic_at, and_from, and_at, next_and_at, or_from, or_at, behind_word, filter_at, word, literal_word_at, text_at}
-use Rattle.serde_json_path_parser.proofs.Texts.{blanks_of, are_blank, split_blanks, past_all, begins_not, gathered, gathered_behind, enclosed, spread}
+use Rattle.serde_json_path_parser.specs.Filters.{begins_call, operator_at, and_list, or_list, Deeper, query_at, named_call_at, operand_at, comparable_at, test_at, right_side_at, relation_at, basic_from, paren_at, negated_call_at, negated_at, basic_at, next_basic_at, and_from, and_at, next_and_at, or_from, or_at, past_word, filter_at, word, literal_word_at, text_at}
+use Rattle.serde_json_path_parser.proofs.Texts.{blanks_of, are_blank, split_blanks, past_all, begins_not, gathered, gathered_after, enclosed, spread}
 use Rattle.serde_json_path_parser.proofs.LogicalForms.{IsGoodOr, IsGoodInside, IsGoodCall, DeeperLaws, singular_query, Follows, ends_or, ends_and, ends_basic, ends_operand, IsGoodQuery, query_singular}
 use Rattle.serde_json_path_parser.proofs.Operands.{IsOperandText, query_sound, named_call_sound, operand_sound, query_again, named_call_again, operand_again, word_is_name}
 use Rattle.serde_json_path_parser.proofs.Rows as r
@@ -156,7 +156,7 @@ module _ (signature : List ℕ → Option Signature) (n : ℕ) (deeper : Deeper)
           let r = right_side_sound a.0.1 b.0 b.1 in
           let j = blanks_of op.1 in
           let sign = k ++ (operator_text op.0 ++ j) in
-          let behind : cs ≡ operator_text op.0 ++ (j ++ (r.text ++ b.0.1)) =
+          let after : cs ≡ operator_text op.0 ++ (j ++ (r.text ++ b.0.1)) =
           operator_sound cs op found ∙ ap (λ (l : List ℕ). operator_text op.0 ++ l) (split_blanks op.1 ∙ ap (λ (l : List ℕ). j ++ l) (left_side.1 ∙ r.split)) in
           subst (Read (Spaced IsBasicText) ((t ++ k) ++ cs)) (ok_is (relation a.0.0 op.0 b.0.0, b.0.1) x b.2) (record {
             text = t ++ (sign ++ r.text);
@@ -167,7 +167,7 @@ module _ (signature : List ℕ → Option Signature) (n : ℕ) (deeper : Deeper)
               r.is_so.3,
               ap (λ (l : List ℕ). t ++ (sign ++ l)) r.is_so.4 ∙ gathered t sign r.is_so.0 r.is_so.1,
             );
-            split = ap (λ (l : List ℕ). (t ++ k) ++ l) behind ∙ joined t k (operator_text op.0) j r.text b.0.1;
+            split = ap (λ (l : List ℕ). (t ++ k) ++ l) after ∙ joined t k (operator_text op.0) j r.text b.0.1;
           })
         where
           joined : (t k o j r d : List ℕ) → (t ++ k) ++ (o ++ (j ++ (r ++ d))) ≡ (t ++ ((k ++ (o ++ j)) ++ r)) ++ d
@@ -287,7 +287,7 @@ module _ (signature : List ℕ → Option Signature) (n : ℕ) (deeper : Deeper)
       subst (Read (Spaced IsAndText) ((t ++ k) ++ cs)) (ok_is (and_list (b ∷ bs.0.0), bs.0.1) x bs.2) (record {
         text = t ++ (row.text ++ row.blanks);
         is_so = (t ++ row.text, row.blanks, (((h.0.0, more.0.0), omega (arith, h.0.1, more.0.1)), (t, row.text, h.1, more.1, refl)), row.blank, sym (append_assoc t row.text row.blanks));
-        split = ap (λ (l : List ℕ). (t ++ k) ++ l) read.split ∙ gathered_behind t k read.text bs.0.1 ∙ ap (λ (l : List ℕ). (t ++ l) ++ bs.0.1) row.split;
+        split = ap (λ (l : List ℕ). (t ++ k) ++ l) read.split ∙ gathered_after t k read.text bs.0.1 ∙ ap (λ (l : List ℕ). (t ++ l) ++ bs.0.1) row.split;
       })
 
   pub and_sound : (cs : List ℕ) (x : LogicalAnd × List ℕ) → and_at signature deeper cs ≡ Ok x → Read (Spaced IsAndText) cs x
@@ -322,7 +322,7 @@ module _ (signature : List ℕ → Option Signature) (n : ℕ) (deeper : Deeper)
       subst (Read (Spaced IsOrText) ((t ++ k) ++ cs)) (ok_is (or_list (a ∷ xs.0.0), xs.0.1) x xs.2) (record {
         text = t ++ (row.text ++ row.blanks);
         is_so = (t ++ row.text, row.blanks, (((h.0.0, more.0.0), omega (arith, h.0.1, more.0.1)), (t, row.text, h.1, more.1, refl)), row.blank, sym (append_assoc t row.text row.blanks));
-        split = ap (λ (l : List ℕ). (t ++ k) ++ l) read.split ∙ gathered_behind t k read.text xs.0.1 ∙ ap (λ (l : List ℕ). (t ++ l) ++ xs.0.1) row.split;
+        split = ap (λ (l : List ℕ). (t ++ k) ++ l) read.split ∙ gathered_after t k read.text xs.0.1 ∙ ap (λ (l : List ℕ). (t ++ l) ++ xs.0.1) row.split;
       })
 
   pub or_sound : (cs : List ℕ) (x : LogicalOr × List ℕ) → or_at signature deeper cs ≡ Ok x → Read (Spaced IsOrText) cs x
@@ -357,17 +357,17 @@ module _ {A : Type 0} (sign : ℕ) (is : List ℕ → A → Type 0) (item next :
 
   rows_follow : (xs : List A) (t rest : List ℕ) → r.AreRows (sign ∷ sign ∷ []) is t xs → Follows ends rest → Follows ends_item (t ++ rest)
   rows_follow [] t rest h follows = ap (λ (l : List ℕ). begins ends_item (past_blanks (l ++ rest))) h ∙ begins_where ends ends_item true (past_blanks rest) law.ends_too follows
-  rows_follow (x ∷ xs) t rest (s, a, b, (j, k, before, behind, is_sign), h, more, e) follows = ap (begins ends_item) (r.at_sign (sign ∷ sign ∷ []) t s j k a b rest (λ cs. law.sign_no_blank) before is_sign e) ∙ law.sign_ends
+  rows_follow (x ∷ xs) t rest (s, a, b, (j, k, before, after, is_sign), h, more, e) follows = ap (begins ends_item) (r.at_sign (sign ∷ sign ∷ []) t s j k a b rest (λ cs. law.sign_no_blank) before is_sign e) ∙ law.sign_ends
 
   rows_again : (xs : List A) (t rest : List ℕ) → r.AreRows (sign ∷ sign ∷ []) is t xs → Follows ends rest → many (begins_both sign sign) next (past_blanks (t ++ rest)) ≡ Ok (xs, past_blanks rest)
   rows_again [] t rest h follows =
       let none : begins (λ c. c == sign) (past_blanks rest) ≡ false = begins_differs ends sign (past_blanks rest) law.sign_no_end follows in
       ap (λ (l : List ℕ). many (begins_both sign sign) next (past_blanks (l ++ rest))) h ∙ m.many_end (begins_both sign sign) next (past_blanks rest) (rw none refl)
-  rows_again (x ∷ xs) t rest (s, a, b, (j, k, before, behind, is_sign), h, more, e) follows =
+  rows_again (x ∷ xs) t rest (s, a, b, (j, k, before, after, is_sign), h, more, e) follows =
       let here = sign ∷ sign ∷ (k ++ (a ++ (b ++ rest))) in
       let begun : begins_both sign sign here ≡ true = let same : (sign == sign) ≡ true = eq-eqb sign sign refl in rw same refl in
       let one : next here ≡ Ok (x, past_blanks (b ++ rest)) =
-      law.next_is here ∙ ap item (past_all k (a ++ (b ++ rest)) behind (no_blank_begins (a ++ (b ++ rest)) (law.starts a x (b ++ rest) h))) ∙ law.again a x (b ++ rest) h (rows_follow xs b rest more follows) in
+      law.next_is here ∙ ap item (past_all k (a ++ (b ++ rest)) after (no_blank_begins (a ++ (b ++ rest)) (law.starts a x (b ++ rest) h))) ∙ law.again a x (b ++ rest) h (rows_follow xs b rest more follows) in
       ap (many (begins_both sign sign) next) (r.at_sign (sign ∷ sign ∷ []) t s j k a b rest (λ cs. law.sign_no_blank) before is_sign e)
       ∙ m.many_more (begins_both sign sign) next next_takes here (past_blanks (b ++ rest)) x begun one
       ∙ ap (m.with_front (x ∷ [])) (rows_again xs b rest more follows)
@@ -486,8 +486,8 @@ module _ (signature : List ℕ → Option Signature) (n : ℕ) (deeper : Deeper)
   paren_again : (t : List ℕ) (e : LogicalOr) (rest : List ℕ) → IsGoodInside signature n e → InParentheses (ReadsOr e) t
       → (is_at "(" (t ++ rest) ≡ true) × (paren_at signature deeper (t ++ rest) ≡ Ok (e, past_blanks rest))
   unfolding paren_at
-  paren_again t e rest good (j, a, k, before, is, behind, same) =
-      let closing : past_blanks (k ++ (41 ∷ rest)) ≡ 41 ∷ rest = past_all k (41 ∷ rest) behind refl in
+  paren_again t e rest good (j, a, k, before, is, after, same) =
+      let closing : past_blanks (k ++ (41 ∷ rest)) ≡ 41 ∷ rest = past_all k (41 ∷ rest) after refl in
       let inside : past_blanks (drop 1 (t ++ rest)) ≡ a ++ (k ++ (41 ∷ rest)) =
       ap (λ (l : List ℕ). past_blanks (drop 1 (l ++ rest))) same ∙ ap past_blanks (spread j a k (codes ")") rest)
       ∙ past_all j (a ++ (k ++ (41 ∷ rest))) before (no_blank_begins (a ++ (k ++ (41 ∷ rest))) (or_begins e a (k ++ (41 ∷ rest)) is)) in
@@ -520,7 +520,7 @@ module _ (signature : List ℕ → Option Signature) (n : ℕ) (deeper : Deeper)
   unfolding negated_at negated_call_at
   not_test_again t c rest good kind is =
       let named = named_call_again signature n deeper laws t c rest good is in
-      let letter = (and_parts (begins is_small_letter (t ++ rest)) (begins (λ d. d == 40) (behind_word (t ++ rest))) named.0).0 in
+      let letter = (and_parts (begins is_small_letter (t ++ rest)) (begins (λ d. d == 40) (past_word (t ++ rest))) named.0).0 in
       let other : (k : ℕ) → is_small_letter k ≡ false → begins (λ c. c == k) (t ++ rest) ≡ false = λ k none. begins_differs is_small_letter k (t ++ rest) none letter in
       rw (other 40 refl, other 64 refl, other 36 refl, named.0, named.1, test_no_value (result_kind signature c) kind) refl
 
@@ -531,7 +531,7 @@ module _ (signature : List ℕ → Option Signature) (n : ℕ) (deeper : Deeper)
   basic_again t (paren e) rest h follows = let p = paren_again t e rest h.0 h.1 in rw (p.0, p.1) refl
   basic_again t (not_paren e) rest (good, (k, a, blank, is, same)) follows =
       negated_again t k a rest (not_paren e) blank same (basic_begins (paren e) a rest is) (not_paren_again a e rest good is)
-  basic_again t (relation left op right) rest (good, (a, s, b, is_left, (j, k, before, behind, sign), is_right, same)) follows =
+  basic_again t (relation left op right) rest (good, (a, s, b, is_left, (j, k, before, after, sign), is_right, same)) follows =
       let here = operator_text op ++ (k ++ (b ++ rest)) in
       let left_good : IsComparable a left = ((good.0.0, omega (arith, good.1)), is_left) in
       let right_good : IsComparable b right = ((good.0.1, omega (arith, good.1)), is_right) in
@@ -541,7 +541,7 @@ module _ (signature : List ℕ → Option Signature) (n : ℕ) (deeper : Deeper)
       let left_read = operand_again signature n deeper laws a (operand_of left) (j ++ here) o (ap (begins ends_operand) past ∙ operator_ends op (k ++ (b ++ rest))) in
       ap read whole
       ∙ of_operand (a ++ (j ++ here)) (operand_of left) here (operand_begins (operand_of left) a (j ++ here) o.1) (left_read ∙ ap (λ (l : List ℕ). Ok (operand_of left, l)) past)
-      ∙ relation_again (a ++ (j ++ here)) left op right a k b rest left_good behind right_good follows
+      ∙ relation_again (a ++ (j ++ here)) left op right a k b rest left_good after right_good follows
     where
       regrouped : (a j o k b d : List ℕ) → (a ++ ((j ++ (o ++ k)) ++ b)) ++ d ≡ a ++ (j ++ (o ++ (k ++ (b ++ d))))
       regrouped a j o k b d = simp append_assoc refl
@@ -588,9 +588,9 @@ module _ (signature : List ℕ → Option Signature) (n : ℕ) (deeper : Deeper)
   and_again t no_and rest h follows = absurd h.1
   and_again t (and b more) rest (good, (a, c, is, others, same)) follows =
       let rows = and_rows more c good.0.1 (omega (arith, good.1)) others in
-      let behind = rows_follow 38 IsBasic (basic_at signature deeper) (next_basic_at signature deeper) ends_and ends_basic and_row_law (ands_in more) c rest rows follows in
+      let after = rows_follow 38 IsBasic (basic_at signature deeper) (next_basic_at signature deeper) ends_and ends_basic and_row_law (ands_in more) c rest rows follows in
       let again = rows_again 38 IsBasic (basic_at signature deeper) (next_basic_at signature deeper) ends_and ends_basic and_row_law (ands_in more) c rest rows follows in
-      let first = basic_again a b (c ++ rest) ((good.0.0, omega (arith, good.1)), is) behind in
+      let first = basic_again a b (c ++ rest) ((good.0.0, omega (arith, good.1)), is) after in
       let whole : t ++ rest ≡ a ++ (c ++ rest) = ap (λ (l : List ℕ). l ++ rest) same ∙ append_assoc a c rest in
       ap (and_at signature deeper) whole ∙ rw (first, again) (ap (λ (l : LogicalAnd). Ok (and b l, past_blanks rest)) (same_ands more))
 
@@ -626,9 +626,9 @@ module _ (signature : List ℕ → Option Signature) (n : ℕ) (deeper : Deeper)
   or_again t no_or rest h follows = absurd h.1
   or_again t (or x more) rest (good, (a, c, is, others, same)) follows =
       let rows = or_rows more c good.0.1 (omega (arith, good.1)) others in
-      let behind = rows_follow 124 IsAnd (and_at signature deeper) (next_and_at signature deeper) ends_or ends_and or_row_law (ors_in more) c rest rows follows in
+      let after = rows_follow 124 IsAnd (and_at signature deeper) (next_and_at signature deeper) ends_or ends_and or_row_law (ors_in more) c rest rows follows in
       let again = rows_again 124 IsAnd (and_at signature deeper) (next_and_at signature deeper) ends_or ends_and or_row_law (ors_in more) c rest rows follows in
-      let first = and_again a x (c ++ rest) ((good.0.0, omega (arith, good.1)), is) behind in
+      let first = and_again a x (c ++ rest) ((good.0.0, omega (arith, good.1)), is) after in
       let whole : t ++ rest ≡ a ++ (c ++ rest) = ap (λ (l : List ℕ). l ++ rest) same ∙ append_assoc a c rest in
       ap (or_at signature deeper) whole ∙ rw (first, again) (ap (λ (l : LogicalOr). Ok (or x l, past_blanks rest)) (same_ors more))
 
@@ -637,7 +637,7 @@ module _ (signature : List ℕ → Option Signature) (n : ℕ) (deeper : Deeper)
 literal_word_stands : (cs : List ℕ) (r : Refusal) → literal_word_at cs ≡ Err r → Stands Plain cs r
 unfolding literal_word_at
 literal_word_stands cs r e =
-    let rest = past_blanks (behind_word cs) in
+    let rest = past_blanks (past_word cs) in
     elim (chosen (bytes_eq (word cs) (codes "true")) (done (a_literal (truth true), rest)) _ (Err r) e) [
       | inl a ↦ no_refusal cs _ r a.1
       | inr a ↦ elim (chosen (bytes_eq (word cs) (codes "false")) (done (a_literal (truth false), rest)) _ (Err r) a.1) [
@@ -678,9 +678,9 @@ module _ (signature : List ℕ → Option Signature) (n : ℕ) (deeper : Deeper)
   named_call_stands : (cs : List ℕ) (r : Refusal) → begins_call cs ≡ true → named_call_at signature deeper cs ≡ Err r → Stands (Inner signature) cs r
   unfolding named_call_at
   named_call_stands cs r begun e =
-      let parts = and_parts (begins is_small_letter cs) (is_at "(" (behind_word cs)) begun in
-      let split : cs ≡ word cs ++ (40 ∷ drop 1 (behind_word cs)) = whole is_function_char cs ∙ ap (λ (l : List ℕ). word cs ++ l) (after_one 40 (behind_word cs) parts.1) in
-      laws.call_stands cs (word cs) (drop 1 (behind_word cs)) r (word_is_name cs parts.0) split e
+      let parts = and_parts (begins is_small_letter cs) (is_at "(" (past_word cs)) begun in
+      let split : cs ≡ word cs ++ (40 ∷ drop 1 (past_word cs)) = whole is_function_char cs ∙ ap (λ (l : List ℕ). word cs ++ l) (after_one 40 (past_word cs) parts.1) in
+      laws.call_stands cs (word cs) (drop 1 (past_word cs)) r (word_is_name cs parts.0) split e
 
   query_stands : (kind : QueryKind) (cs : List ℕ) (r : Refusal) → query_at signature deeper kind cs ≡ Err r → Stands (Inner signature) cs r
   unfolding query_at
@@ -730,9 +730,9 @@ module _ (signature : List ℕ → Option Signature) (n : ℕ) (deeper : Deeper)
       by_operator (Some op) found e =
           bind_stands start (comparable_at signature deeper (byte_count start) o (past_blanks op.1)) _ r (λ d f. comparable_stands start o (past_blanks op.1) d f) (λ a f h.
           let right : op.1 ≡ blanks_of op.1 ++ a.1 = split_blanks op.1 ∙ ap (λ (l : List ℕ). blanks_of op.1 ++ l) (same_rest start o (past_blanks op.1) a f) in
-          let behind : start ≡ (before ++ (operator_text op.0 ++ blanks_of op.1)) ++ a.1 =
+          let after : start ≡ (before ++ (operator_text op.0 ++ blanks_of op.1)) ++ a.1 =
           split ∙ ap (λ (l : List ℕ). before ++ l) (operator_sound cs op found ∙ ap (λ (l : List ℕ). operator_text op.0 ++ l) right) ∙ gathered before (operator_text op.0) (blanks_of op.1) a.1 in
-          further start (before ++ (operator_text op.0 ++ blanks_of op.1)) a.1 r behind
+          further start (before ++ (operator_text op.0 ++ blanks_of op.1)) a.1 r after
           (bind_stands a.1 (right_side_at signature deeper a.1) _ r (right_side_stands a.1) (λ b g k. no_refusal a.1 _ r k) h)) e
 
   -- ---- parentheses and `!`

@@ -108,8 +108,8 @@ ReadsOperand (a_query q) t = Reads q t
 ReadsOperand (a_call c) t = ReadsCall c t
 
 -- what stands after the `(` of a call of this name, with its `)`
-abbrev pub ReadsBehindName : List ℕ → Call → List ℕ → Type 0
-ReadsBehindName f c t =
+abbrev pub ReadsAfterName : List ℕ → Call → List ℕ → Type 0
+ReadsAfterName f c t =
     (args : Arguments) × (c ≡ call f args) × (j a k : List ℕ) × IsBlank j × ReadArguments args a × IsBlank k × (t ≡ j ++ (a ++ (k ++ 41 ∷ [])))
 
 -- ---- how filters, parentheses and calls are read at such a level
@@ -119,8 +119,8 @@ pub record DeeperLaws (signature : List ℕ → Option Signature) (n : ℕ) (dee
   pub inside_sound : (start cs : List ℕ) (x : LogicalOr × List ℕ) → deeper.expression (byte_count start) cs ≡ Ok x → Read (Spaced (λ t e. IsGoodInside signature n e × ReadsOr e t)) cs x
   pub inside_again : (start t : List ℕ) (e : LogicalOr) (rest : List ℕ) → IsGoodInside signature n e → ReadsOr e t → Follows ends_or rest → deeper.expression (byte_count start) (t ++ rest) ≡ Ok (e, past_blanks rest)
   pub inside_stands : (before start cs : List ℕ) (r : Refusal) → start ≡ before ++ cs → deeper.expression (byte_count start) cs ≡ Err r → Stands (Inner signature) start r
-  pub call_sound : (start f cs : List ℕ) (x : Call × List ℕ) → deeper.call_of (byte_count start) f cs ≡ Ok x → Read (Spaced (λ t c. IsGoodCall signature n c × ReadsBehindName f c t)) cs x
-  pub call_again : (start f t : List ℕ) (c : Call) (rest : List ℕ) → IsGoodCall signature n c → ReadsBehindName f c t → deeper.call_of (byte_count start) f (t ++ rest) ≡ Ok (c, past_blanks rest)
+  pub call_sound : (start f cs : List ℕ) (x : Call × List ℕ) → deeper.call_of (byte_count start) f cs ≡ Ok x → Read (Spaced (λ t c. IsGoodCall signature n c × ReadsAfterName f c t)) cs x
+  pub call_again : (start f t : List ℕ) (c : Call) (rest : List ℕ) → IsGoodCall signature n c → ReadsAfterName f c t → deeper.call_of (byte_count start) f (t ++ rest) ≡ Ok (c, past_blanks rest)
   pub call_stands : (start f cs : List ℕ) (r : Refusal) → IsFunctionName f f → start ≡ f ++ (40 ∷ cs) → deeper.call_of (byte_count start) f cs ≡ Err r → Stands (Inner signature) start r
 
 -- ---- singular queries

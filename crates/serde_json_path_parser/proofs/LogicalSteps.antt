@@ -21,7 +21,7 @@ use Rattle.serde_json_path_parser.specs.declared.error.Failure.{Failure}
 use Rattle.serde_json_path_parser.specs.declared.error.Failure.TheVariants as failures
 use Rattle.serde_json_path_parser.specs.declared.parser.operand.Operand as declared
 use Rattle.serde_json_path_parser.specs.declared.parser.operand.Operand.TheVariants as the_operands
-use Rattle.serde_json_path_parser.specs.Filters.{word, behind_word, begins_call, literal_word_at, operator_at, and_list, or_list, Deeper, level, query_at, named_call_at, named_at, operand_at, comparable_at, test_at, right_side_at, relation_at, basic_from, paren_at, negated_call_at, negated_name_at, negated_at, basic_at, next_basic_at, and_from, and_at, next_and_at, or_from, or_at}
+use Rattle.serde_json_path_parser.specs.Filters.{word, past_word, begins_call, literal_word_at, operator_at, and_list, or_list, Deeper, level, query_at, named_call_at, named_at, operand_at, comparable_at, test_at, right_side_at, relation_at, basic_from, paren_at, negated_call_at, negated_name_at, negated_at, basic_at, next_basic_at, and_from, and_at, next_and_at, or_from, or_at}
 use Rattle.serde_json_path_parser.specs.Giving.{Fails, IsOperandOf}
 use Rattle.serde_json_path_parser.specs.Lexical.{is_at, begins, begins_both}
 use Rattle.serde_json_path_parser.specs.Operands.{Operand, a_literal, a_query, a_call, is_result}
@@ -42,21 +42,21 @@ made_err (Ok x) make r e = absurd cc
 made_err (Err d) make r e = let same : d ≡ r = cc in rw same refl
 
 -- after one character and blanks, and after a sign of two and blanks
-pub behind_one : (c : ℕ) (cs ds es : List ℕ) → cs ≡ c ∷ ds → es ≡ past_blanks ds → es ≡ past_blanks (drop 1 cs)
-behind_one c cs ds es taken skipped = skipped ∙ ap (λ (l : List ℕ). past_blanks (drop 1 l)) (sym taken)
+pub blanks_past_one : (c : ℕ) (cs ds es : List ℕ) → cs ≡ c ∷ ds → es ≡ past_blanks ds → es ≡ past_blanks (drop 1 cs)
+blanks_past_one c cs ds es taken skipped = skipped ∙ ap (λ (l : List ℕ). past_blanks (drop 1 l)) (sym taken)
 
-pub behind_two : (cs ds es fs : List ℕ) → ds ≡ cs → es ≡ drop 2 ds → fs ≡ past_blanks es → fs ≡ past_blanks (drop 2 cs)
-behind_two cs ds es fs stays taken skipped = skipped ∙ ap past_blanks (taken ∙ ap (λ (l : List ℕ). drop 2 l) stays)
+pub blanks_past_two : (cs ds es fs : List ℕ) → ds ≡ cs → es ≡ drop 2 ds → fs ≡ past_blanks es → fs ≡ past_blanks (drop 2 cs)
+blanks_past_two cs ds es fs stays taken skipped = skipped ∙ ap past_blanks (taken ∙ ap (λ (l : List ℕ). drop 2 l) stays)
 
 -- ---- what is joined by a sign of two equal characters
 
 -- Such items are read after the sign and blanks, and a first one and they are joined.
-pub record IsRow {A B : Type 0} (sign : ℕ) (item next : List ℕ → Parsed A) (join : List A → B) (behind_first : A → List ℕ → Parsed B) : Type 0 where
+pub record IsRow {A B : Type 0} (sign : ℕ) (item next : List ℕ → Parsed A) (join : List A → B) (after_first : A → List ℕ → Parsed B) : Type 0 where
   pub next_is : (cs : List ℕ) → next cs ≡ item (past_blanks (drop 2 cs))
-  pub whole_is : (x : A) (cs : List ℕ) → behind_first x cs ≡ (many (begins_both sign sign) next cs >>= λ xs. Ok (join (x ∷ xs.0), xs.1))
+  pub whole_is : (x : A) (cs : List ℕ) → after_first x cs ≡ (many (begins_both sign sign) next cs >>= λ xs. Ok (join (x ∷ xs.0), xs.1))
   pub takes : m.Takes (begins_both sign sign) next
 
-module _ {A B : Type 0} {sign : ℕ} {item next : List ℕ → Parsed A} {join : List A → B} {behind_first : A → List ℕ → Parsed B} (row : IsRow sign item next join behind_first) where
+module _ {A B : Type 0} {sign : ℕ} {item next : List ℕ → Parsed A} {join : List A → B} {after_first : A → List ℕ → Parsed B} (row : IsRow sign item next join after_first) where
   abbrev pub read_more : List ℕ → Parsed (List A)
   read_more cs = many (begins_both sign sign) next cs
 
@@ -79,14 +79,14 @@ module _ {A B : Type 0} {sign : ℕ} {item next : List ℕ → Parsed A} {join :
   row_goes_on before cs ds rest x total t e read h = m.goes_on (begins_both sign sign) next row.takes before cs rest x total t (next_reads cs ds e ∙ read) h
 
   pub row_fails : (s : Failure) (first : A) (before : List A) (start cs ds : List ℕ) → begins_both sign sign cs ≡ true → ds ≡ past_blanks (drop 2 cs) → Fails s (item ds)
-      → with_front before (read_more cs) ≡ with_front (first ∷ []) (read_more start) → Fails s (behind_first first start)
+      → with_front before (read_more cs) ≡ with_front (first ∷ []) (read_more start) → Fails s (after_first first start)
   row_fails s first before start cs ds t e fails h =
       let all : Parsed (List A) = with_front (first ∷ []) (read_more start) in
       let refused = m.fails (begins_both sign sign) next row.takes s before cs all t (subst (Fails s) (sym (next_reads cs ds e)) fails) h in
       subst (Fails s) (sym (row.whole_is first start ∙ with_first first (read_more start))) (first_fails s all joined refused)
 
   pub row_done : (first : A) (before : List A) (start cs : List ℕ) → begins_both sign sign cs ≡ false → with_front before (read_more cs) ≡ with_front (first ∷ []) (read_more start)
-      → behind_first first start ≡ Ok (join before, cs)
+      → after_first first start ≡ Ok (join before, cs)
   row_done first before start cs t h =
       row.whole_is first start ∙ with_first first (read_more start)
       ∙ ap (λ (read : Parsed (List A)). read >>= joined) (m.is_done (begins_both sign sign) next row.takes before cs (with_front (first ∷ []) (read_more start)) t h)
@@ -153,10 +153,6 @@ module _ (signature : List ℕ → Option Signature) (deeper : Deeper) (start : 
     unfolding right_side_at
     right_is es fs p e = rw e refl
 
-    operand_stops : (s : Failure) (es : List ℕ) → Fails s (operand_at signature deeper es) → Fails s (right_side_at signature deeper es)
-    unfolding right_side_at
-    operand_stops s es h = first_fails s (operand_at signature deeper es) _ h
-
     pub relation_read : (a b : Comparable) (es fs gs : List ℕ) (p : Operand) → comparable_at signature deeper start o ds ≡ Ok (a, es) → operand_at signature deeper es ≡ Ok (p, fs)
         → comparable_at signature deeper (byte_count es) p fs ≡ Ok (b, gs)
         → basic_from signature deeper start o cs ≡ Ok (relation a op b, gs)
@@ -180,10 +176,10 @@ call_is signature builder o part kind (a_call c) e h = let is = subst (λ p. IsO
 
 -- a word is read as a literal, or refused
 word_gives : (cs : List ℕ) (read : Parsed Operand) → literal_word_at cs ≡ read
-    → ((l : Literal) × (done (a_literal l, past_blanks (behind_word cs)) ≡ read)) ⊎ (Err (refusal ExpectedExpression context.LongHand cs) ≡ read)
+    → ((l : Literal) × (done (a_literal l, past_blanks (past_word cs)) ≡ read)) ⊎ (Err (refusal ExpectedExpression context.LongHand cs) ≡ read)
 unfolding literal_word_at
 word_gives cs read e =
-    let rest = past_blanks (behind_word cs) in
+    let rest = past_blanks (past_word cs) in
     elim (chosen (bytes_eq (word cs) (codes "true")) (done (a_literal (truth true), rest)) _ read e) [
       | inl a ↦ inl (truth true, a.1)
       | inr a ↦ elim (chosen (bytes_eq (word cs) (codes "false")) (done (a_literal (truth false), rest)) _ read a.1) [
@@ -268,7 +264,7 @@ module _ (signature : List ℕ → Option Signature) (deeper : Deeper) (cs : Lis
           let rest_same : d.0.1 ≡ rest = ap (λ (y : Operand × List ℕ). y.1) (ok_is (a_call d.0.0, d.0.1) (a_call c, rest) d.2) in
           (a.0, d.1 ∙ ap (λ (x : Call). Ok (x, d.0.1)) call_same ∙ ap (λ (l : List ℕ). Ok (c, l)) rest_same)
       | inr a ↦ elim (word_gives cs (Ok (a_call c, rest)) a.1) [
-        | inl w ↦ absurd (let no : a_literal w.0 ≡ a_call c = ap (λ (y : Operand × List ℕ). y.0) (ok_is (a_literal w.0, past_blanks (behind_word cs)) (a_call c, rest) w.1) in cc)
+        | inl w ↦ absurd (let no : a_literal w.0 ≡ a_call c = ap (λ (y : Operand × List ℕ). y.0) (ok_is (a_literal w.0, past_blanks (past_word cs)) (a_call c, rest) w.1) in cc)
         | inr w ↦ absurd (let no = w in cc)
       ]
     ]

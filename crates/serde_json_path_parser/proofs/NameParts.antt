@@ -6,12 +6,12 @@ use Rattle.std.proofs.lemmas.Bool.{and_parts}
 use Rattle.std.proofs.lemmas.List.{take_more_set}
 use Rattle.std.proofs.lemmas.Str.{encodes-append, encodes-IsAscii}
 use Rattle.serde_json_path_parser.specs.Lexical.{AllPass, is_name_char}
-use Rattle.serde_json_path_parser.specs.Parsed.{front, behind}
+use Rattle.serde_json_path_parser.specs.Parsed.{front, past}
 use Rattle.serde_json_path_parser.specs.Source.{Told, one_more, looked}
 use Rattle.serde_json_path_parser.specs.Looking.{LooksOn}
 use Rattle.serde_json_path_parser.specs.NameParts.{is_ascii_name_char, Gathered}
 use Rattle.serde_json_path_parser.proofs.FirstByte.{step_one}
-use Rattle.serde_json_path_parser.proofs.Runs.{behind_past}
+use Rattle.serde_json_path_parser.proofs.Runs.{past_through}
 
 -- ---- an ASCII character of a name
 
@@ -87,8 +87,8 @@ more_gathered text index at c part le l is fits h =
     }
 
 -- what is after a name stays as a part of it is taken
-pub behind_part : (cs part rest : List ℕ) → AllPass is_ascii_name_char part → cs ≡ part ++ rest → behind is_name_char rest ≡ behind is_name_char cs
-behind_part cs part rest h e = sym (ap (behind is_name_char) e ∙ behind_past is_name_char part rest (all_in_name part h))
+pub past_part : (cs part rest : List ℕ) → AllPass is_ascii_name_char part → cs ≡ part ++ rest → past is_name_char rest ≡ past is_name_char cs
+past_part cs part rest h e = sym (ap (past is_name_char) e ∙ past_through is_name_char part rest (all_in_name part h))
 
 -- a text with a part after it, and then the rest of the name
 pub front_part : (cs part rest text : List ℕ) → AllPass is_ascii_name_char part → cs ≡ part ++ rest

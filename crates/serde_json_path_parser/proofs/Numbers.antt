@@ -7,11 +7,11 @@ use Rattle.serde_json_path_parser.specs.declared.error.ParseErrorKind.TheVariant
 use Rattle.serde_json_path_parser.specs.declared.error.Context.TheVariants as context
 use Rattle.serde_json_path_parser.specs.declared.error.Refusal.{Refusal}
 use Rattle.serde_json_path_parser.specs.Lexical.{is_at, AllPass, begins, is_digit, value_from, fraction_of, IsDecimal, IsFraction, IsAmount, IsNumber}
-use Rattle.serde_json_path_parser.specs.Parsed.{Parsed, ◌>>=◌, refusal, front, behind, byte_count, refusal_at}
+use Rattle.serde_json_path_parser.specs.Parsed.{Parsed, ◌>>=◌, refusal, front, past, byte_count, refusal_at}
 use Rattle.serde_json_path_parser.specs.Parsing.{is_first_digit, begins_int}
-use Rattle.serde_json_path_parser.specs.Numbers.{is_exponent, whole_at, digits_behind_point_at, fraction_at, amount_at, number_at}
+use Rattle.serde_json_path_parser.specs.Numbers.{is_exponent, whole_at, digits_after_point_at, fraction_at, amount_at, number_at}
 use Rattle.serde_json_path_parser.proofs.IntTexts.{decimal_read, digit_begins, zero_is, first_digit}
-use Rattle.serde_json_path_parser.proofs.Runs.{some_begun, begins_front, begins_where, differs, begins_differs, front_begins, front_each, whole, front_all, behind_all}
+use Rattle.serde_json_path_parser.proofs.Runs.{some_begun, begins_front, begins_where, differs, begins_differs, front_begins, front_each, whole, front_all, past_run}
 use Rattle.serde_json_path_parser.proofs.Steps.{Read, bind_ok, chosen, guard, done, ok_is, after_one}
 use Rattle.serde_json_path_parser.proofs.Stands.{Plain, Stands, here, bind_stands, guard_stands, no_refusal}
 use Rattle.std.proofs.Math.Nat.{mul-le-mul_right, mul-lt-mul_of_pos_right, le-mul_of_pos_right, one-le-pow, pow-succ'}
@@ -27,20 +27,20 @@ whole_sound : (start cs : List ℕ) (x : ℕ × List ℕ) → whole_at (byte_cou
 unfolding whole_at
 whole_sound start cs x e =
     let wrong = refusal ExpectedExpression context.LongHand start in
-    let digits : Parsed ℕ = Ok (value_from 0 (front is_digit cs), behind is_digit cs) in
+    let digits : Parsed ℕ = Ok (value_from 0 (front is_digit cs), past is_digit cs) in
     elim (chosen (is_at "0" cs) (done (0, drop 1 cs)) (cond (begins is_first_digit cs) digits (Err wrong)) (Ok x) e) [
       | inl a ↦ subst (Read IsDecimal cs) (ok_is (0, drop 1 cs) x a.1) (record { text = 48 ∷ []; is_so = zero_is; split = after_one 48 cs a.0 })
       | inr a ↦
           let g = guard (begins is_first_digit cs) wrong digits x a.1 in
-          subst (Read IsDecimal cs) (ok_is (value_from 0 (front is_digit cs), behind is_digit cs) x g.1) (decimal_read cs g.0)
+          subst (Read IsDecimal cs) (ok_is (value_from 0 (front is_digit cs), past is_digit cs) x g.1) (decimal_read cs g.0)
     ]
 
 -- after a point
-digits_sound : (start cs ds : List ℕ) (x : ℕ × List ℕ) → cs ≡ 46 ∷ ds → digits_behind_point_at (byte_count start) ds ≡ Ok x → Read IsFraction cs x
-unfolding digits_behind_point_at
+digits_sound : (start cs ds : List ℕ) (x : ℕ × List ℕ) → cs ≡ 46 ∷ ds → digits_after_point_at (byte_count start) ds ≡ Ok x → Read IsFraction cs x
+unfolding digits_after_point_at
 digits_sound start cs ds x point e =
     let digits = front is_digit ds in
-    let rest = behind is_digit ds in
+    let rest = past is_digit ds in
     let wrong = refusal ExponentOrEmptyFraction context.LongHand start in
     let long = refusal FractionTooLong context.LongHand start in
     let judged : Parsed ℕ = cond (nat_le (length digits) 9) (Ok (fraction_of digits, rest)) (Err long) in
@@ -62,7 +62,7 @@ fraction_sound : (start cs : List ℕ) (x : ℕ × List ℕ) → fraction_at (by
 unfolding fraction_at
 fraction_sound start cs x e =
     let wrong = refusal ExponentOrEmptyFraction context.LongHand start in
-    elim (chosen (is_at "." cs) (digits_behind_point_at (byte_count start) (drop 1 cs)) (cond (begins is_exponent cs) (Err wrong) (done (0, cs))) (Ok x) e) [
+    elim (chosen (is_at "." cs) (digits_after_point_at (byte_count start) (drop 1 cs)) (cond (begins is_exponent cs) (Err wrong) (done (0, cs))) (Ok x) e) [
       | inl a ↦ digits_sound start cs (drop 1 cs) x (after_one 46 cs a.0) a.1
       | inr a ↦ elim (chosen (begins is_exponent cs) (Err wrong) (done (0, cs)) (Ok x) a.1) [
         | inl b ↦ absurd (let no = b.1 in cc)
@@ -137,7 +137,7 @@ whole_again start t n rest d e = elim d.plain [
       ap (λ (l : List ℕ). whole_at (byte_count start) (l ++ rest)) z ∙ ap (λ (k : ℕ). Ok (k, rest)) (sym none)
   | inr z ↦
       let first = first_digit t rest d.first z in
-      rw (begins_differs is_first_digit 48 (t ++ rest) refl first, first, front_all is_digit t rest d.each e, behind_all is_digit t rest d.each e) (ap (λ (k : ℕ). Ok (k, rest)) (sym d.value_of))
+      rw (begins_differs is_first_digit 48 (t ++ rest) refl first, first, front_all is_digit t rest d.each e, past_run is_digit t rest d.each e) (ap (λ (k : ℕ). Ok (k, rest)) (sym d.value_of))
 ]
 
 no_digit : (cs : List ℕ) → begins goes_on cs ≡ false → begins is_digit cs ≡ false
@@ -154,13 +154,13 @@ digits_begin [] rest some each = absurd (omega (arith, some))
 digits_begin (c ∷ digits) rest some each = each.0
 
 fraction_again : (start t : List ℕ) (n : ℕ) (rest : List ℕ) → IsFraction t n → begins goes_on rest ≡ false → fraction_at (byte_count start) (t ++ rest) ≡ Ok (n, rest)
-unfolding fraction_at digits_behind_point_at
+unfolding fraction_at digits_after_point_at
 fraction_again start t n rest is e = elim is [
   | inl none ↦ ap (λ (l : List ℕ). fraction_at (byte_count start) (l ++ rest)) none.0 ∙ rw (no_point rest e, no_exponent rest e) (ap (λ (k : ℕ). Ok (k, rest)) (sym none.1))
   | inr some ↦
       let few : nat_le (length some.0) 9 ≡ true = let most = some.4 in grind (arith, most) in
       ap (λ (l : List ℕ). fraction_at (byte_count start) (l ++ rest)) some.1
-      ∙ rw (digits_begin some.0 rest some.3 some.2, front_all is_digit some.0 rest some.2 (no_digit rest e), behind_all is_digit some.0 rest some.2 (no_digit rest e), no_exponent rest e, few)
+      ∙ rw (digits_begin some.0 rest some.3 some.2, front_all is_digit some.0 rest some.2 (no_digit rest e), past_run is_digit some.0 rest some.2 (no_digit rest e), no_exponent rest e, few)
       (ap (λ (k : ℕ). Ok (k, rest)) (sym some.5))
 ]
 
@@ -227,12 +227,12 @@ whole_stands start cs r e = elim (chosen (is_at "0" cs) (done (0, drop 1 cs)) _ 
   | inr a ↦ guard_stands start (begins is_first_digit cs) _ ExpectedExpression context.LongHand r refl (no_refusal start _ r) a.1
 ]
 
-digits_stand : (start cs : List ℕ) (r : Refusal) → digits_behind_point_at (byte_count start) cs ≡ Err r → Stands Plain start r
-unfolding digits_behind_point_at
+digits_stand : (start cs : List ℕ) (r : Refusal) → digits_after_point_at (byte_count start) cs ≡ Err r → Stands Plain start r
+unfolding digits_after_point_at
 digits_stand start cs r e =
     let refused : Parsed ℕ = Err (refusal ExponentOrEmptyFraction context.LongHand start) in
     let digits = front is_digit cs in
-    let rest = behind is_digit cs in
+    let rest = past is_digit cs in
     let judged : Parsed ℕ = cond (nat_le (length digits) 9) (Ok (fraction_of digits, rest)) (Err (refusal FractionTooLong context.LongHand start)) in
     guard_stands start (begins is_digit cs) (cond (begins is_exponent rest) refused judged) ExponentOrEmptyFraction context.LongHand r refl (λ f.
     elim (chosen (begins is_exponent rest) refused judged (Err r) f) [
@@ -244,7 +244,7 @@ fraction_stands : (start cs : List ℕ) (r : Refusal) → fraction_at (byte_coun
 unfolding fraction_at
 fraction_stands start cs r e =
     let refused : Parsed ℕ = Err (refusal ExponentOrEmptyFraction context.LongHand start) in
-    elim (chosen (is_at "." cs) (digits_behind_point_at (byte_count start) (drop 1 cs)) (cond (begins is_exponent cs) refused (done (0, cs))) (Err r) e) [
+    elim (chosen (is_at "." cs) (digits_after_point_at (byte_count start) (drop 1 cs)) (cond (begins is_exponent cs) refused (done (0, cs))) (Err r) e) [
       | inl a ↦ digits_stand start (drop 1 cs) r a.1
       | inr a ↦ elim (chosen (begins is_exponent cs) refused (done (0, cs)) (Err r) a.1) [
         | inl b ↦ here ExponentOrEmptyFraction context.LongHand start refused r refl refl b.1
@@ -280,19 +280,19 @@ digit_byte c d =
     ap length (encode_ascii c ascii)
 
 -- a digit is one byte
-front_bytes : (cs : List ℕ) → length (encode_utf8_all cs) ≡ length (front is_digit cs) + length (encode_utf8_all (behind is_digit cs))
+front_bytes : (cs : List ℕ) → length (encode_utf8_all cs) ≡ length (front is_digit cs) + length (encode_utf8_all (past is_digit cs))
 front_bytes [] = refl
 front_bytes (c ∷ cs) = by_test (is_digit c) refl (front_bytes cs)
   where
-    by_test : (b : Bool) → is_digit c ≡ b → length (encode_utf8_all cs) ≡ length (front is_digit cs) + length (encode_utf8_all (behind is_digit cs))
-        → length (encode_utf8_all (c ∷ cs)) ≡ length (front is_digit (c ∷ cs)) + length (encode_utf8_all (behind is_digit (c ∷ cs)))
+    by_test : (b : Bool) → is_digit c ≡ b → length (encode_utf8_all cs) ≡ length (front is_digit cs) + length (encode_utf8_all (past is_digit cs))
+        → length (encode_utf8_all (c ∷ cs)) ≡ length (front is_digit (c ∷ cs)) + length (encode_utf8_all (past is_digit (c ∷ cs)))
     by_test true e h = rw e (omega (arith, length-append (encode_utf8 c) (encode_utf8_all cs), digit_byte c e, h))
     by_test false e h = rw e (omega arith)
 
 -- the bytes of the digits, as the bytes that were left before them and after
-pub counted : (cs rest : List ℕ) (before after : ℕ) → rest ≡ behind is_digit cs → before ≡ length (encode_utf8_all cs) → after ≡ length (encode_utf8_all rest) → before ≡ after + length (front is_digit cs)
+pub counted : (cs rest : List ℕ) (before after : ℕ) → rest ≡ past is_digit cs → before ≡ length (encode_utf8_all cs) → after ≡ length (encode_utf8_all rest) → before ≡ after + length (front is_digit cs)
 counted cs rest before after e b a =
-    let same : after ≡ length (encode_utf8_all (behind is_digit cs)) = a ∙ ap (λ (l : List ℕ). length (encode_utf8_all l)) e in
+    let same : after ≡ length (encode_utf8_all (past is_digit cs)) = a ∙ ap (λ (l : List ℕ). length (encode_utf8_all l)) e in
     omega (arith, front_bytes cs, b, same)
 
 -- ---- the number
@@ -335,11 +335,11 @@ fraction_is ds value power count each c few v p =
 
 -- ---- reading
 
-module _ (start : ℕ) (cs : List ℕ) (some : begins is_digit cs ≡ true) (plain : begins is_exponent (behind is_digit cs) ≡ false) where
-  pub too_long : 9 < length (front is_digit cs) → digits_behind_point_at start cs ≡ Err (refusal_at FractionTooLong context.LongHand start)
-  unfolding digits_behind_point_at
+module _ (start : ℕ) (cs : List ℕ) (some : begins is_digit cs ≡ true) (plain : begins is_exponent (past is_digit cs) ≡ false) where
+  pub too_long : 9 < length (front is_digit cs) → digits_after_point_at start cs ≡ Err (refusal_at FractionTooLong context.LongHand start)
+  unfolding digits_after_point_at
   too_long many = let judged : nat_le (length (front is_digit cs)) 9 ≡ false = grind (arith, many) in rw (some, plain, judged) refl
 
-  pub reads : length (front is_digit cs) ≤ 9 → digits_behind_point_at start cs ≡ Ok (fraction_of (front is_digit cs), behind is_digit cs)
-  unfolding digits_behind_point_at
+  pub reads : length (front is_digit cs) ≤ 9 → digits_after_point_at start cs ≡ Ok (fraction_of (front is_digit cs), past is_digit cs)
+  unfolding digits_after_point_at
   reads few = let judged : nat_le (length (front is_digit cs)) 9 ≡ true = grind (arith, few) in rw (some, plain, judged) refl

@@ -1,6 +1,7 @@
 -- The steps of the code at operands and arguments.
 use Rattle.std.proofs.Common.{◌≡◌, ℕ, Bool, true, false, List, ◌∷◌, Option, Ok, Err, refl, subst}
 use Rattle.std.specs.Prelude.{◌↔◌, IsTrue}
+use Rattle.serde_json_path_syntax.specs.Calls.{calls_in_argument}
 use Rattle.serde_json_path_syntax.specs.Tree as tree
 use Rattle.serde_json_path_syntax.specs.Piece.{a_query}
 use Rattle.serde_json_path_syntax.specs.Parts.{IsPart}
@@ -9,11 +10,12 @@ use Rattle.serde_json_path_syntax.specs.declared.builder.SyntaxBuilder.{SyntaxBu
 use Rattle.serde_json_path_functions.specs.Functions.{Signature}
 use Rattle.serde_json_path_parser.specs.declared.error.ParseErrorKind.TheVariants.{NonSingularQuery}
 use Rattle.serde_json_path_parser.specs.declared.error.Context.TheVariants as context
+use Rattle.serde_json_path_parser.specs.declared.parser.call.Argument.TheVariants as the_arguments
 use Rattle.serde_json_path_parser.specs.declared.parser.operand.Operand as declared
 use Rattle.serde_json_path_parser.specs.declared.parser.operand.Operand.TheVariants as the_operands
-use Rattle.serde_json_path_parser.specs.Filters.{Deeper, comparable_at, text_at}
-use Rattle.serde_json_path_parser.specs.Giving.{IsOperandOf}
-use Rattle.serde_json_path_parser.specs.Operands.{Operand, a_literal, a_query as query_operand, a_call, is_singular}
+use Rattle.serde_json_path_parser.specs.Filters.{Deeper, alone, comparable_at, text_at}
+use Rattle.serde_json_path_parser.specs.Giving.{IsOperandOf, IsArgumentOf}
+use Rattle.serde_json_path_parser.specs.Operands.{Operand, a_literal, a_query as query_operand, a_call, calls_in_operand, is_singular}
 use Rattle.serde_json_path_parser.specs.Parsed.{past_blanks, refusal_at}
 use Rattle.serde_json_path_parser.specs.Strings.{string_at}
 use Rattle.serde_json_path_parser.proofs.LogicalForms.{singular_query, query_singular}
@@ -24,6 +26,23 @@ pub query_is : (signature : List ℕ → Option Signature) (builder : SyntaxBuil
 query_is signature builder o part (a_literal l) e h = absurd (subst (λ p. IsOperandOf signature builder p (a_literal l)) e h)
 query_is signature builder o part (query_operand q) e h = (q, refl, subst (λ p. IsOperandOf signature builder p (query_operand q)) e h)
 query_is signature builder o part (a_call c) e h = absurd (subst (λ p. IsOperandOf signature builder p (a_call c)) e h)
+
+-- an operand that stands alone
+pub alone_is : (signature : List ℕ → Option Signature) (builder : SyntaxBuilder) (o : declared.Operand) (x : Operand) → IsOperandOf signature builder o x → IsArgumentOf signature builder (the_arguments.Operand o) (alone x)
+alone_is signature builder (the_operands.Literal l) (a_literal m) h = h
+alone_is signature builder (the_operands.Literal l) (query_operand q) h = absurd h
+alone_is signature builder (the_operands.Literal l) (a_call c) h = absurd h
+alone_is signature builder (the_operands.Query part) (a_literal m) h = absurd h
+alone_is signature builder (the_operands.Query part) (query_operand q) h = h
+alone_is signature builder (the_operands.Query part) (a_call c) h = absurd h
+alone_is signature builder (the_operands.Call part kind) (a_literal m) h = absurd h
+alone_is signature builder (the_operands.Call part kind) (query_operand q) h = absurd h
+alone_is signature builder (the_operands.Call part kind) (a_call c) h = h
+
+pub alone_calls : (x : Operand) → calls_in_operand x ≡ calls_in_argument (alone x)
+alone_calls (a_literal l) = refl
+alone_calls (query_operand q) = refl
+alone_calls (a_call c) = refl
 
 -- how a query that is a singular one is compared, and that no other is
 pub singular_by : (b : Bool) (q : tree.Query) → IsTrue b ↔ tree.IsSingular q → is_singular q ≡ b

@@ -15,11 +15,11 @@ use Rattle.serde_json_path_parser.specs.Strings.{string_at}
 use Rattle.serde_json_path_parser.specs.Numbers.{number_at}
 use Rattle.serde_json_path_parser.specs.Parsing.{segments_at, segment_list, begins_int, opens, opens_next}
 use Rattle.serde_json_path_parser.specs.Operands.{Operand, a_literal, a_query, a_call}
-use Rattle.serde_json_path_parser.specs.Filters.{Deeper, word, behind_word, begins_call, literal_word_at, filter_at, query_at, named_call_at, text_at, operand_at}
+use Rattle.serde_json_path_parser.specs.Filters.{Deeper, word, past_word, begins_call, literal_word_at, filter_at, query_at, named_call_at, text_at, operand_at}
 use Rattle.serde_json_path_parser.proofs.FilterTexts.{filter_laws}
 use Rattle.serde_json_path_parser.proofs.LogicalForms.{IsGoodInside, IsGoodQuery, IsGoodCall, IsGoodOperand, good_segments, ReadsOperand, DeeperLaws, Follows, ends_operand, segments_good}
 use Rattle.serde_json_path_parser.proofs.Numbers.{number_sound, goes_on, number_first, number_again}
-use Rattle.serde_json_path_parser.proofs.Runs.{whole, front_each, front_begins, some_begun, begins_front, begins_where, differs, begins_differs, front_all, behind_all}
+use Rattle.serde_json_path_parser.proofs.Runs.{whole, front_each, front_begins, some_begun, begins_front, begins_where, differs, begins_differs, front_all, past_run}
 use Rattle.serde_json_path_parser.proofs.Segments.{segments_sound, same_segments, segments_again}
 use Rattle.serde_json_path_parser.proofs.Selectors.{with_blanks}
 use Rattle.serde_json_path_parser.proofs.Steps.{Read, Spaced, bind_ok, chosen, done, ok_is, after_one, made_sound}
@@ -46,14 +46,14 @@ module _ (signature : List ℕ → Option Signature) (n : ℕ) (deeper : Deeper)
   -- ---- what is read is an operand
 
   -- a literal word and the blanks after it
-  word_sound : (cs bytes : List ℕ) (l : Literal) → bytes_eq (word cs) bytes ≡ true → ((t : List ℕ) → t ≡ bytes → IsLiteral l t) → Read (Spaced IsOperandText) cs (a_literal l, past_blanks (behind_word cs))
+  word_sound : (cs bytes : List ℕ) (l : Literal) → bytes_eq (word cs) bytes ≡ true → ((t : List ℕ) → t ≡ bytes → IsLiteral l t) → Read (Spaced IsOperandText) cs (a_literal l, past_blanks (past_word cs))
   word_sound cs bytes l e is =
-      with_blanks IsOperandText cs (a_literal l, behind_word cs) (record { text = word cs; is_so = (tt, is (word cs) ((bytes_eq-Decides (word cs) bytes).0 e)); split = whole is_function_char cs })
+      with_blanks IsOperandText cs (a_literal l, past_word cs) (record { text = word cs; is_so = (tt, is (word cs) ((bytes_eq-Decides (word cs) bytes).0 e)); split = whole is_function_char cs })
 
   literal_word_sound : (cs : List ℕ) (x : Operand × List ℕ) → literal_word_at cs ≡ Ok x → Read (Spaced IsOperandText) cs x
   unfolding literal_word_at
   literal_word_sound cs x e =
-      let rest = past_blanks (behind_word cs) in
+      let rest = past_blanks (past_word cs) in
       let kept : (l : Literal) → done (a_literal l, rest) ≡ Ok x → Read (Spaced IsOperandText) cs (a_literal l, rest) → Read (Spaced IsOperandText) cs x =
       λ l same read. subst (Read (Spaced IsOperandText) cs) (ok_is (a_literal l, rest) x same) read in
       elim (chosen (bytes_eq (word cs) (codes "true")) (done (a_literal (truth true), rest)) _ (Ok x) e) [
@@ -92,8 +92,8 @@ module _ (signature : List ℕ → Option Signature) (n : ℕ) (deeper : Deeper)
   pub named_call_sound : (cs : List ℕ) (x : Call × List ℕ) → begins_call cs ≡ true → named_call_at signature deeper cs ≡ Ok x → Read (Spaced (λ t c. IsGoodCall signature n c × ReadsCall c t)) cs x
   unfolding named_call_at
   named_call_sound cs x begun e =
-      let parts = and_parts (begins is_small_letter cs) (is_at "(" (behind_word cs)) begun in
-      let r = laws.call_sound cs (word cs) (drop 1 (behind_word cs)) x e in
+      let parts = and_parts (begins is_small_letter cs) (is_at "(" (past_word cs)) begun in
+      let r = laws.call_sound cs (word cs) (drop 1 (past_word cs)) x e in
       let inside = r.is_so.2.1 in
       record {
         text = word cs ++ (40 ∷ r.text);
@@ -105,7 +105,7 @@ module _ (signature : List ℕ → Option Signature) (n : ℕ) (deeper : Deeper)
           ap (λ (l : List ℕ). word cs ++ (40 ∷ l)) r.is_so.4 ∙ sym (append_assoc (word cs) (40 ∷ r.is_so.0) r.is_so.1),
         );
         split =
-            whole is_function_char cs ∙ ap (λ (l : List ℕ). word cs ++ l) (after_one 40 (behind_word cs) parts.1 ∙ ap (λ (l : List ℕ). 40 ∷ l) r.split)
+            whole is_function_char cs ∙ ap (λ (l : List ℕ). word cs ++ l) (after_one 40 (past_word cs) parts.1 ∙ ap (λ (l : List ℕ). 40 ∷ l) r.split)
             ∙ sym (append_assoc (word cs) (40 ∷ r.text) x.1);
       }
 
@@ -156,19 +156,19 @@ none_of : (p : ℕ → Bool) (ks : List ℕ) (c : ℕ) → any_passes p ks ≡ f
 none_of p [] c none passes = tt
 none_of p (k ∷ ks) c none passes = let parts = or_parts (p k) (any_passes p ks) none in (differs p k c parts.0 passes, none_of p ks c parts.1 passes)
 
-behind_fails : (p : ℕ → Bool) (c : ℕ) → any_passes p (codes " \t\n\r=!<>&|),]") ≡ false → (is_blank c || ends_operand c) ≡ true → p c ≡ false
-behind_fails p c none behind = false_from_ne_true (p c) (λ passes. true≢false (sym behind ∙ neither (none_of p (codes " \t\n\r=!<>&|),]") c none passes)))
+after_fails : (p : ℕ → Bool) (c : ℕ) → any_passes p (codes " \t\n\r=!<>&|),]") ≡ false → (is_blank c || ends_operand c) ≡ true → p c ≡ false
+after_fails p c none after = false_from_ne_true (p c) (λ passes. true≢false (sym after ∙ neither (none_of p (codes " \t\n\r=!<>&|),]") c none passes)))
   where
     neither : AllByRecursion (λ k. (c == k) ≡ false) (codes " \t\n\r=!<>&|),]") → (is_blank c || ends_operand c) ≡ false
     neither (space, (tab, (feed, (return, (equals, (mark, (less, (greater, (both, (either, (parenthesis, (comma, (bracket, h))))))))))))) =
         rw (space, tab, feed, return, equals, mark, less, greater, both, either, parenthesis, comma, bracket) refl
 
 -- it begins with no character that passes a test, where neither a blank nor what may follow does
-none_behind : (p : ℕ → Bool) (rest : List ℕ) → any_passes p (codes " \t\n\r=!<>&|),]") ≡ false → Follows ends_operand rest → begins p rest ≡ false
-none_behind p rest none follows =
+none_after : (p : ℕ → Bool) (rest : List ℕ) → any_passes p (codes " \t\n\r=!<>&|),]") ≡ false → Follows ends_operand rest → begins p rest ≡ false
+none_after p rest none follows =
     ap (begins p) (split_blanks rest)
-    ∙ begins_not p (blanks_of rest) (past_blanks rest) (λ c e. behind_fails p c none (or_left (is_blank c) (ends_operand c) e)) (are_blank rest)
-    (begins_where ends_operand p false (past_blanks rest) (λ c e. behind_fails p c none (or_right (is_blank c) (ends_operand c) e)) follows)
+    ∙ begins_not p (blanks_of rest) (past_blanks rest) (λ c e. after_fails p c none (or_left (is_blank c) (ends_operand c) e)) (are_blank rest)
+    (begins_where ends_operand p false (past_blanks rest) (λ c e. after_fails p c none (or_right (is_blank c) (ends_operand c) e)) follows)
 
 no_segment : (rest : List ℕ) → Follows ends_operand rest → opens_next rest ≡ false
 no_segment rest follows = begins_where ends_operand opens false (past_blanks rest) (λ c e. grind (arith, e)) follows
@@ -176,21 +176,21 @@ no_segment rest follows = begins_where ends_operand opens false (past_blanks res
 -- ---- literal words
 
 -- a word is not a call where no `(` follows
-word_alone : (w rest : List ℕ) → AllPass is_function_char w → Follows ends_operand rest → (word (w ++ rest) ≡ w) × (behind_word (w ++ rest) ≡ rest) × (is_at "(" (behind_word (w ++ rest)) ≡ false)
+word_alone : (w rest : List ℕ) → AllPass is_function_char w → Follows ends_operand rest → (word (w ++ rest) ≡ w) × (past_word (w ++ rest) ≡ rest) × (is_at "(" (past_word (w ++ rest)) ≡ false)
 word_alone w rest each follows =
-    let none = none_behind is_function_char rest refl follows in
-    let past : behind_word (w ++ rest) ≡ rest = behind_all is_function_char w rest each none in
-    (front_all is_function_char w rest each none, past, ap (is_at "(") past ∙ none_behind (λ c. c == 40) rest refl follows)
+    let none = none_after is_function_char rest refl follows in
+    let passed : past_word (w ++ rest) ≡ rest = past_run is_function_char w rest each none in
+    (front_all is_function_char w rest each none, passed, ap (is_at "(") passed ∙ none_after (λ c. c == 40) rest refl follows)
 
-true_at : (cs : List ℕ) → word cs ≡ codes "true" → literal_word_at cs ≡ Ok (a_literal (truth true), past_blanks (behind_word cs))
+true_at : (cs : List ℕ) → word cs ≡ codes "true" → literal_word_at cs ≡ Ok (a_literal (truth true), past_blanks (past_word cs))
 unfolding literal_word_at
 true_at cs is = rw is refl
 
-false_at : (cs : List ℕ) → word cs ≡ codes "false" → literal_word_at cs ≡ Ok (a_literal (truth false), past_blanks (behind_word cs))
+false_at : (cs : List ℕ) → word cs ≡ codes "false" → literal_word_at cs ≡ Ok (a_literal (truth false), past_blanks (past_word cs))
 unfolding literal_word_at
 false_at cs is = rw is refl
 
-null_at : (cs : List ℕ) → word cs ≡ codes "null" → literal_word_at cs ≡ Ok (a_literal null, past_blanks (behind_word cs))
+null_at : (cs : List ℕ) → word cs ≡ codes "null" → literal_word_at cs ≡ Ok (a_literal null, past_blanks (past_word cs))
 unfolding literal_word_at
 null_at cs is = rw is refl
 
@@ -201,10 +201,10 @@ module _ (signature : List ℕ → Option Signature) (n : ℕ) (deeper : Deeper)
       → query_at signature deeper kind (t ++ rest) ≡ Ok (query kind segs, past_blanks rest)
   unfolding query_at
   query_again kind t segs rest good (a, reads, e) follows =
-      let behind_sign : drop 1 (t ++ rest) ≡ a ++ rest = ap (λ (l : List ℕ). drop 1 (l ++ rest)) e ∙ by_kind kind in
+      let after_sign : drop 1 (t ++ rest) ≡ a ++ rest = ap (λ (l : List ℕ). drop 1 (l ++ rest)) e ∙ by_kind kind in
       let read = segments_again (filter_at signature deeper) (IsGoodInside signature n) (filter_laws signature n deeper laws) context.LongHand a segs rest
-      (segments_good signature n segs good.0 good.1, reads) (none_behind is_name_char rest refl follows) (no_segment rest follows) in
-      rw (behind_sign, read) (ap (λ (s : Segments). Ok (query kind s, past_blanks rest)) (same_segments segs))
+      (segments_good signature n segs good.0 good.1, reads) (none_after is_name_char rest refl follows) (no_segment rest follows) in
+      rw (after_sign, read) (ap (λ (s : Segments). Ok (query kind s, past_blanks rest)) (same_segments segs))
     where
       by_kind : (k : QueryKind) → drop 1 ((query_kind_text k ++ a) ++ rest) ≡ a ++ rest
       by_kind root = refl
@@ -216,11 +216,11 @@ module _ (signature : List ℕ → Option Signature) (n : ℕ) (deeper : Deeper)
       let inside = j ++ (a ++ (k ++ 41 ∷ [])) in
       let regrouped : t ++ rest ≡ m ++ (40 ∷ (inside ++ rest)) = ap (λ (l : List ℕ). l ++ rest) e ∙ append_assoc m (40 ∷ inside) rest in
       let its_word : word (t ++ rest) ≡ m = ap word regrouped ∙ front_all is_function_char m (40 ∷ (inside ++ rest)) name.each refl in
-      let behind_it : behind_word (t ++ rest) ≡ 40 ∷ (inside ++ rest) = ap behind_word regrouped ∙ behind_all is_function_char m (40 ∷ (inside ++ rest)) name.each refl in
+      let after_it : past_word (t ++ rest) ≡ 40 ∷ (inside ++ rest) = ap past_word regrouped ∙ past_run is_function_char m (40 ∷ (inside ++ rest)) name.each refl in
       let first : begins is_small_letter (t ++ rest) ≡ true = ap (begins is_small_letter) regrouped ∙ begins_front is_small_letter true m (40 ∷ (inside ++ rest)) (some_begun is_small_letter m name.first) name.first in
       let read = laws.call_again (t ++ rest) f inside (call f args) rest good (args, refl, j, a, k, before, are, closing, refl) in (
-        rw (first, behind_it) refl,
-        ap (λ (w : List ℕ). deeper.call_of (byte_count (t ++ rest)) w (drop 1 (behind_word (t ++ rest)))) (its_word ∙ sym name.bytes_of) ∙ ap (λ (l : List ℕ). deeper.call_of (byte_count (t ++ rest)) f (drop 1 l)) behind_it ∙ read,
+        rw (first, after_it) refl,
+        ap (λ (w : List ℕ). deeper.call_of (byte_count (t ++ rest)) w (drop 1 (past_word (t ++ rest)))) (its_word ∙ sym name.bytes_of) ∙ ap (λ (l : List ℕ). deeper.call_of (byte_count (t ++ rest)) f (drop 1 l)) after_it ∙ read,
       )
 
   -- ---- literals
@@ -229,17 +229,17 @@ module _ (signature : List ℕ → Option Signature) (n : ℕ) (deeper : Deeper)
   read cs = operand_at signature deeper cs
 
   -- at a letter stands a call or a literal word
-  word_read : (cs : List ℕ) → begins is_small_letter cs ≡ true → is_at "(" (behind_word cs) ≡ false → read cs ≡ literal_word_at cs
+  word_read : (cs : List ℕ) → begins is_small_letter cs ≡ true → is_at "(" (past_word cs) ≡ false → read cs ≡ literal_word_at cs
   unfolding operand_at
   word_read cs letter alone =
       let other : (k : ℕ) → is_small_letter k ≡ false → begins (λ c. c == k) cs ≡ false = λ k none. begins_differs is_small_letter k cs none letter in
       rw (other 39 refl, other 34 refl, other 64 refl, other 36 refl, letter, alone) refl
 
   word_again : (w rest : List ℕ) (l : Literal) → AllPass is_function_char w → begins is_small_letter (w ++ rest) ≡ true
-      → ((cs : List ℕ) → word cs ≡ w → literal_word_at cs ≡ Ok (a_literal l, past_blanks (behind_word cs))) → Follows ends_operand rest → read (w ++ rest) ≡ Ok (a_literal l, past_blanks rest)
+      → ((cs : List ℕ) → word cs ≡ w → literal_word_at cs ≡ Ok (a_literal l, past_blanks (past_word cs))) → Follows ends_operand rest → read (w ++ rest) ≡ Ok (a_literal l, past_blanks rest)
   word_again w rest l each letter at follows =
       let h = word_alone w rest each follows in
-      word_read (w ++ rest) letter h.2 ∙ at (w ++ rest) h.0 ∙ ap (λ (behind : List ℕ). Ok (a_literal l, past_blanks behind)) h.1
+      word_read (w ++ rest) letter h.2 ∙ at (w ++ rest) h.0 ∙ ap (λ (after : List ℕ). Ok (a_literal l, past_blanks after)) h.1
 
   quoted_again : (quote : ℕ) (cs bytes rest : List ℕ) → IsQuote quote → string_at quote cs ≡ Ok (bytes, rest) → read (quote ∷ cs) ≡ Ok (a_literal (text bytes), past_blanks rest)
   unfolding operand_at text_at
@@ -251,7 +251,7 @@ module _ (signature : List ℕ → Option Signature) (n : ℕ) (deeper : Deeper)
   number_read t amount rest is follows =
       let other : (k : ℕ) → begins_int k ≡ false → begins (λ c. c == k) (t ++ rest) ≡ false = λ k none. number_first (λ c. c == k) false t amount rest (λ c e. differs begins_int k c none e) is in
       let no_word : begins is_small_letter (t ++ rest) ≡ false = number_first is_small_letter false t amount rest (λ c e. grind (arith, e)) is in
-      rw (other 39 refl, other 34 refl, other 64 refl, other 36 refl, no_word, number_again t amount rest is (none_behind goes_on rest refl follows)) refl
+      rw (other 39 refl, other 34 refl, other 64 refl, other 36 refl, no_word, number_again t amount rest is (none_after goes_on rest refl follows)) refl
 
   -- ---- operands
 
@@ -272,6 +272,6 @@ module _ (signature : List ℕ → Option Signature) (n : ℕ) (deeper : Deeper)
       ap (λ (l : List ℕ). read (l ++ rest)) is ∙ rw (ap (λ (l : List ℕ). query_at signature deeper current (l ++ rest)) (sym is) ∙ query_again current t segs rest h.0 h.1 follows) refl
   operand_again t (a_call c) rest h follows =
       let named = named_call_again t c rest h.0 h.1 in
-      let letter : begins is_small_letter (t ++ rest) ≡ true = (and_parts (begins is_small_letter (t ++ rest)) (begins (λ d. d == 40) (behind_word (t ++ rest))) named.0).0 in
+      let letter : begins is_small_letter (t ++ rest) ≡ true = (and_parts (begins is_small_letter (t ++ rest)) (begins (λ d. d == 40) (past_word (t ++ rest))) named.0).0 in
       let other : (k : ℕ) → is_small_letter k ≡ false → begins (λ c. c == k) (t ++ rest) ≡ false = λ k none. begins_differs is_small_letter k (t ++ rest) none letter in
       rw (other 39 refl, other 34 refl, other 64 refl, other 36 refl, named.0, named.1) refl

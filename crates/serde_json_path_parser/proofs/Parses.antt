@@ -18,13 +18,13 @@ use Rattle.serde_json_path_parser.specs.Lexical.{begins}
 use Rattle.serde_json_path_parser.specs.Accepted.{IsAccepted}
 use Rattle.serde_json_path_parser.specs.Laws.{OneTreeAtMost}
 use Rattle.serde_json_path_syntax.specs.Used.{AreCalled}
-use Rattle.serde_json_path_parser.specs.Parsing.{opens, opens_next, opens_behind_root}
+use Rattle.serde_json_path_parser.specs.Parsing.{opens, opens_next, opens_after_root}
 use Rattle.serde_json_path_parser.specs.Operands.{IsUndeclared}
 use Rattle.serde_json_path_parser.specs.Filters.{path_at}
 use Rattle.serde_json_path_parser.specs.Giving.{Fails, IsRefused, IsWithin, error_of}
 use Rattle.serde_json_path_parser.specs.Parse.{is_dollar, NeedsNoMemory, Answers, checked_view}
 use Rattle.serde_json_path_parser.proofs.Texts.{past_all}
-use Rattle.serde_json_path_parser.proofs.Paths.{ArePathSegments, path_sound, path_again, NoRoot, TextBehind, SegmentRefused, path_refused, scalars_behind, boundary}
+use Rattle.serde_json_path_parser.proofs.Paths.{ArePathSegments, path_sound, path_again, NoRoot, TextAfter, SegmentRefused, path_refused, scalars_after, boundary}
 use Rattle.serde_json_path_parser.proofs.Stands.{is_plain, Inner}
 use Rattle.serde_json_path_parser.proofs.Steps.{ok_is}
 
@@ -48,9 +48,9 @@ one_tree_at_most signature text p q h g =
 -- ---- what needs no memory
 
 -- where nothing is to be kept no segment begins after `$`
-needs_none : (cs : List ℕ) → NeedsNoMemory cs → opens_behind_root cs ≡ false
+needs_none : (cs : List ℕ) → NeedsNoMemory cs → opens_after_root cs ≡ false
 needs_none cs (inl h) = ap (λ b. b && opens_next (drop 1 cs)) h
-needs_none cs (inr h) = ap opens_behind_root h.2 ∙ ap (begins opens) (past_all h.0 h.1 h.3 h.4) ∙ h.5
+needs_none cs (inr h) = ap opens_after_root h.2 ∙ ap (begins opens) (past_all h.0 h.1 h.3 h.4) ∙ h.5
 
 -- ---- the text before text that stands after a path
 
@@ -81,9 +81,9 @@ text_from text before rest left u split is =
     let long : length text ≡ length (encode_utf8_all before) + left =
     ap length b.2 ∙ length-append (encode_utf8_all before) (encode_utf8_all rest) ∙ ap (λ (n : ℕ). length (encode_utf8_all before) + n) (sym is) in
     let cut : length text - left ≡ length (encode_utf8_all before) = omega (arith, long) in
-    let behind : drop (length text - left) text ≡ encode_utf8_all rest =
+    let after : drop (length text - left) text ≡ encode_utf8_all rest =
     ap (λ (n : ℕ). drop n text) cut ∙ ap (drop (length (encode_utf8_all before))) b.2 ∙ drop-append_seam (encode_utf8_all before) (encode_utf8_all rest) in
-    ap chars behind ∙ chars-encodes rest (scalars_behind before rest (ap all_scalars (sym split) ∙ scalars-chars text u))
+    ap chars after ∙ chars-encodes rest (scalars_after before rest (ap all_scalars (sym split) ∙ scalars-chars text u))
 
 -- ---- what a refusal tells
 
@@ -119,8 +119,8 @@ module _ (signature : List ℕ → Option Signature) (text : List ℕ) (u : IsUt
         placed = (b.0, b.1);
       }
 
-  told_text_behind : (r : Refusal) → TextBehind signature (chars text) r → Told signature text r
-  told_text_behind r h =
+  told_text_after : (r : Refusal) → TextAfter signature (chars text) r → Told signature text r
+  told_text_after r h =
       let kind : TextAfterPath ≡ r.kind = ap (λ (x : Refusal). x.kind) h.is in
       let left : r.left ≡ length (encode_utf8_all h.rest) = sym (ap (λ (x : Refusal). x.left) h.is) in
       let b = boundary text (36 ∷ h.path) h.rest r.left u h.split left in
@@ -151,7 +151,7 @@ module _ (signature : List ℕ → Option Signature) (text : List ℕ) (u : IsUt
   told : (r : Refusal) → path_at signature (chars text) ≡ Err r → Told signature text r
   told r e = elim (path_refused signature (chars text) r e) [
     | inl h ↦ told_no_root r h
-    | inr h ↦ elim h [ inl g ↦ told_text_behind r g | inr g ↦ told_segment r g ]
+    | inr h ↦ elim h [ inl g ↦ told_text_after r g | inr g ↦ told_segment r g ]
   ]
 
   -- where the refusal stands
@@ -193,7 +193,7 @@ module _ (signature : List ℕ → Option Signature) (text : List ℕ) (u : IsUt
         too_long = λ long. absurd (omega (arith, long));
       }
 
-  pub refused : (short : length text < 2 ^ 64 - 1) (s : Failure) (total : ℕ) → total ≡ length text → Fails s (path_at signature (chars text)) → (opens_behind_root (chars text) ≡ false → IsRefused s)
+  pub refused : (short : length text < 2 ^ 64 - 1) (s : Failure) (total : ℕ) → total ≡ length text → Fails s (path_at signature (chars text)) → (opens_after_root (chars text) ≡ false → IsRefused s)
       → Answers signature text (Err (error_of s total))
   refused short failures.Memory total t h spares = record {
     accepted = tt;

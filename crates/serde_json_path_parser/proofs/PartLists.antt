@@ -15,23 +15,23 @@ one_more builder [] (x ∷ pieces) part piece h p = absurd h
 one_more builder (q ∷ parts) [] part piece h p = absurd h
 one_more builder (q ∷ parts) (x ∷ pieces) part piece h p = (h.0, one_more builder parts pieces part piece h.1 p)
 
-segment_behind : (ss : List (SegmentKind × Segment)) (s : SegmentKind × Segment) → segment_pieces (segment_list ss) ++ a_segment s.0 s.1 ∷ [] ≡ segment_pieces (segment_list (ss ++ s ∷ []))
-segment_behind [] s = refl
-segment_behind (x ∷ ss) s = ap (λ (l : List Piece). a_segment x.0 x.1 ∷ l) (segment_behind ss s)
+segment_appended : (ss : List (SegmentKind × Segment)) (s : SegmentKind × Segment) → segment_pieces (segment_list ss) ++ a_segment s.0 s.1 ∷ [] ≡ segment_pieces (segment_list (ss ++ s ∷ []))
+segment_appended [] s = refl
+segment_appended (x ∷ ss) s = ap (λ (l : List Piece). a_segment x.0 x.1 ∷ l) (segment_appended ss s)
 
 pub segment_pushed : (builder : SyntaxBuilder) (parts : List Part) (ss : List (SegmentKind × Segment)) (part : Part) (s : SegmentKind × Segment) → ArePartsOf builder parts (segment_list ss) → IsPart builder part (a_segment s.0 s.1)
     → ArePartsOf builder (parts ++ part ∷ []) (segment_list (ss ++ s ∷ []))
-segment_pushed builder parts ss part s h p = subst (ArePartsFor builder (parts ++ part ∷ [])) (segment_behind ss s) (one_more builder parts (segment_pieces (segment_list ss)) part (a_segment s.0 s.1) h p)
+segment_pushed builder parts ss part s h p = subst (ArePartsFor builder (parts ++ part ∷ [])) (segment_appended ss s) (one_more builder parts (segment_pieces (segment_list ss)) part (a_segment s.0 s.1) h p)
 
-selector_behind : (ss : List Selector) (s : Selector) → selector_pieces (selector_list ss) ++ a_selector s ∷ [] ≡ selector_pieces (selector_list (ss ++ s ∷ []))
-selector_behind [] s = refl
-selector_behind (x ∷ ss) s = ap (λ (l : List Piece). a_selector x ∷ l) (selector_behind ss s)
+selector_appended : (ss : List Selector) (s : Selector) → selector_pieces (selector_list ss) ++ a_selector s ∷ [] ≡ selector_pieces (selector_list (ss ++ s ∷ []))
+selector_appended [] s = refl
+selector_appended (x ∷ ss) s = ap (λ (l : List Piece). a_selector x ∷ l) (selector_appended ss s)
 
 pub selector_pushed : (builder : SyntaxBuilder) (parts : List Part) (ss : List Selector) (part : Part) (s : Selector) → AreSelectorsOf builder parts (selector_list ss) → IsPart builder part (a_selector s)
     → AreSelectorsOf builder (parts ++ part ∷ []) (selector_list (ss ++ s ∷ []))
 selector_pushed builder [] ss part s h p = absurd h
 selector_pushed builder (q ∷ parts) ss part s h p =
-    subst (ArePartsFor builder ((q ∷ parts) ++ part ∷ [])) (selector_behind ss s) (one_more builder (q ∷ parts) (selector_pieces (selector_list ss)) part (a_selector s) h p)
+    subst (ArePartsFor builder ((q ∷ parts) ++ part ∷ [])) (selector_appended ss s) (one_more builder (q ∷ parts) (selector_pieces (selector_list ss)) part (a_selector s) h p)
 
 pub first_selector : (builder : SyntaxBuilder) (empty parts : List Part) (part : Part) (s : Selector) → empty ≡ [] → parts ≡ empty ++ part ∷ [] → IsPart builder part (a_selector s) → AreSelectorsOf builder parts (selector_list (s ∷ []))
 first_selector builder empty parts part s none e is = subst (λ (ps : List Part). AreSelectorsOf builder ps (selector_list (s ∷ []))) (sym (e ∙ ap (λ (ps : List Part). ps ++ part ∷ []) none)) (is, tt)
@@ -60,9 +60,9 @@ more_kept old new parts pieces whole part piece keeps h is e = subst (ArePartsFo
 
 -- ---- `||`
 
-or_behind : (xs : List LogicalAnd) (x : LogicalAnd) → or_pieces (or_list xs) ++ an_and x ∷ [] ≡ or_pieces (or_list (xs ++ x ∷ []))
-or_behind [] x = refl
-or_behind (y ∷ xs) x = ap (λ (l : List Piece). an_and y ∷ l) (or_behind xs x)
+or_appended : (xs : List LogicalAnd) (x : LogicalAnd) → or_pieces (or_list xs) ++ an_and x ∷ [] ≡ or_pieces (or_list (xs ++ x ∷ []))
+or_appended [] x = refl
+or_appended (y ∷ xs) x = ap (λ (l : List Piece). an_and y ∷ l) (or_appended xs x)
 
 some_ors : (builder : SyntaxBuilder) (parts : List Part) (part : Part) (e : LogicalOr) → ArePartsFor builder (parts ++ part ∷ []) (or_pieces e) → AreOrPartsOf builder (parts ++ part ∷ []) e
 some_ors builder [] part e h = h
@@ -76,14 +76,14 @@ pub or_pushed : (old new : SyntaxBuilder) (parts pushed : List Part) (xs : List 
     → IsPart new part (an_and x)
     → pushed ≡ parts ++ part ∷ [] → AreOrPartsOf new pushed (or_list (xs ++ x ∷ []))
 or_pushed old new parts pushed xs part x keeps h is e =
-    let more = more_kept old new parts (or_pieces (or_list xs)) (or_pieces (or_list (xs ++ x ∷ []))) part (an_and x) keeps (or_parts_for old parts (or_list xs) h) is (or_behind xs x) in
+    let more = more_kept old new parts (or_pieces (or_list xs)) (or_pieces (or_list (xs ++ x ∷ []))) part (an_and x) keeps (or_parts_for old parts (or_list xs) h) is (or_appended xs x) in
     subst (λ (ps : List Part). AreOrPartsOf new ps (or_list (xs ++ x ∷ []))) (sym e) (some_ors new parts part (or_list (xs ++ x ∷ [])) more)
 
 -- ---- `&&`
 
-and_behind : (bs : List Basic) (b : Basic) → and_pieces (and_list bs) ++ a_basic b ∷ [] ≡ and_pieces (and_list (bs ++ b ∷ []))
-and_behind [] b = refl
-and_behind (y ∷ bs) b = ap (λ (l : List Piece). a_basic y ∷ l) (and_behind bs b)
+and_appended : (bs : List Basic) (b : Basic) → and_pieces (and_list bs) ++ a_basic b ∷ [] ≡ and_pieces (and_list (bs ++ b ∷ []))
+and_appended [] b = refl
+and_appended (y ∷ bs) b = ap (λ (l : List Piece). a_basic y ∷ l) (and_appended bs b)
 
 some_ands : (builder : SyntaxBuilder) (parts : List Part) (part : Part) (e : LogicalAnd) → ArePartsFor builder (parts ++ part ∷ []) (and_pieces e) → AreAndPartsOf builder (parts ++ part ∷ []) e
 some_ands builder [] part e h = h
@@ -97,5 +97,5 @@ pub and_pushed : (old new : SyntaxBuilder) (parts pushed : List Part) (bs : List
     → IsPart new part (a_basic b)
     → pushed ≡ parts ++ part ∷ [] → AreAndPartsOf new pushed (and_list (bs ++ b ∷ []))
 and_pushed old new parts pushed bs part b keeps h is e =
-    let more = more_kept old new parts (and_pieces (and_list bs)) (and_pieces (and_list (bs ++ b ∷ []))) part (a_basic b) keeps (and_parts_for old parts (and_list bs) h) is (and_behind bs b) in
+    let more = more_kept old new parts (and_pieces (and_list bs)) (and_pieces (and_list (bs ++ b ∷ []))) part (a_basic b) keeps (and_parts_for old parts (and_list bs) h) is (and_appended bs b) in
     subst (λ (ps : List Part). AreAndPartsOf new ps (and_list (bs ++ b ∷ []))) (sym e) (some_ands new parts part (and_list (bs ++ b ∷ [])) more)

@@ -15,7 +15,7 @@ use Rattle.serde_json_path_parser.specs.declared.error.Refusal.{Refusal}
 use Rattle.serde_json_path_parser.specs.Lexical.{is_at, begins}
 use Rattle.serde_json_path_parser.specs.Grammar.{ReadSegments}
 use Rattle.serde_json_path_parser.specs.Parsed.{Parsed, ◌>>=◌, refusal}
-use Rattle.serde_json_path_parser.specs.Parsing.{opens_next, segments_at, segment_list, opens_behind_root}
+use Rattle.serde_json_path_parser.specs.Parsing.{opens_next, segments_at, segment_list, opens_after_root}
 use Rattle.serde_json_path_parser.specs.Filters.{filter_at, level, path_at}
 use Rattle.serde_json_path_parser.proofs.Decoding.{some_bytes}
 use Rattle.serde_json_path_parser.proofs.Filtered.{FilterLaws}
@@ -65,7 +65,7 @@ module _ (signature : List ℕ → Option Signature) where
     path_ends e = rooted cs ds c root split ∙ ap at_end read ∙ rw e refl
 
   -- where no segment begins after `$`, none is read
-  pub none_read : (cs ds rest : List ℕ) (c : ℕ) (ss : List (SegmentKind × Segment)) → begins (λ d. d == 36) cs ≡ true → cs ≡ c ∷ ds → path_segments_at ds ≡ Ok (ss, rest) → opens_behind_root cs ≡ false → ss ≡ []
+  pub none_read : (cs ds rest : List ℕ) (c : ℕ) (ss : List (SegmentKind × Segment)) → begins (λ d. d == 36) cs ≡ true → cs ≡ c ∷ ds → path_segments_at ds ≡ Ok (ss, rest) → opens_after_root cs ≡ false → ss ≡ []
   none_read cs ds rest c ss root split read none =
       let closed : opens_next ds ≡ false = sym (rw (root, split) refl) ∙ none in
       let empty = no_segments_read (filter_at signature (level signature deepest)) context.Path ds closed in
@@ -107,7 +107,7 @@ pub record NoRoot (cs : List ℕ) (r : Refusal) : Type 0 where
 
 module _ (signature : List ℕ → Option Signature) where
   -- a path, and more after it
-  pub record TextBehind (cs : List ℕ) (r : Refusal) : Type 0 where
+  pub record TextAfter (cs : List ℕ) (r : Refusal) : Type 0 where
     pub path : List ℕ
     pub rest : List ℕ
     pub segments : Segments
@@ -128,22 +128,22 @@ module _ (signature : List ℕ → Option Signature) where
       let f : done {A = List (SegmentKind × Segment) × List ℕ} ([], cs) ≡ Err r = sym none ∙ e in
       absurd cc
 
-  pub path_refused : (cs : List ℕ) (r : Refusal) → path_at signature cs ≡ Err r → NoRoot cs r ⊎ (TextBehind cs r ⊎ SegmentRefused cs r)
+  pub path_refused : (cs : List ℕ) (r : Refusal) → path_at signature cs ≡ Err r → NoRoot cs r ⊎ (TextAfter cs r ⊎ SegmentRefused cs r)
   unfolding path_at
   path_refused cs r e = elim (chosen (is_at "$" cs) _ _ (Err r) e) [
     | inr a ↦ inl (record { begins_not = a.0; is = err_is {A = Segments} (refusal ExpectedRoot context.Path cs) r (Err (refusal ExpectedRoot context.Path cs)) refl a.1 })
-    | inl a ↦ inr (behind_root a.0 (path_segments_at signature (drop 1 cs)) refl a.1)
+    | inl a ↦ inr (after_root a.0 (path_segments_at signature (drop 1 cs)) refl a.1)
   ]
     where
-      behind_root : is_at "$" cs ≡ true → (read : Parsed (List (SegmentKind × Segment))) → path_segments_at signature (drop 1 cs) ≡ read
-          → (read >>= λ ss. cond (length ss.1 == 0) (done (segment_list ss.0)) (Err (refusal TextAfterPath context.Path ss.1))) ≡ Err r → TextBehind cs r ⊎ SegmentRefused cs r
-      behind_root root (Err d) is h =
+      after_root : is_at "$" cs ≡ true → (read : Parsed (List (SegmentKind × Segment))) → path_segments_at signature (drop 1 cs) ≡ read
+          → (read >>= λ ss. cond (length ss.1 == 0) (done (segment_list ss.0)) (Err (refusal TextAfterPath context.Path ss.1))) ≡ Err r → TextAfter cs r ⊎ SegmentRefused cs r
+      after_root root (Err d) is h =
           let same : d ≡ r = cc in
           let refused = is ∙ ap (λ (x : Refusal). Err x) same in
           let refusals = filters_stand signature deepest (level signature deepest) (level_laws signature deepest) in
           let stands = segments_stand signature (filter_at signature (level signature deepest)) (IsGoodInside signature deepest) (path_filters signature) refusals context.Path (drop 1 cs) r refused in
           inr (record { rooted = root; stands = drop_one cs r stands; some = no_segment_refused (drop 1 cs) r refused (opens_next (drop 1 cs)) refl })
-      behind_root root (Ok ss) is h = elim (chosen (length ss.1 == 0) _ _ (Err r) h) [
+      after_root root (Ok ss) is h = elim (chosen (length ss.1 == 0) _ _ (Err r) h) [
         | inl b ↦ absurd (let k = b.1 in cc)
         | inr b ↦
             let read = path_segments_sound signature (drop 1 cs) ss is in
@@ -159,16 +159,16 @@ module _ (signature : List ℕ → Option Signature) where
 
 -- ---- the place in bytes
 
-pub scalars_behind : (xs ys : List ℕ) → all_scalars (xs ++ ys) ≡ true → all_scalars ys ≡ true
-scalars_behind [] ys e = e
-scalars_behind (x ∷ xs) ys e = scalars_behind xs ys (and_parts _ _ e).1
+pub scalars_after : (xs ys : List ℕ) → all_scalars (xs ++ ys) ≡ true → all_scalars ys ≡ true
+scalars_after [] ys e = e
+scalars_after (x ∷ xs) ys e = scalars_after xs ys (and_parts _ _ e).1
 
 -- where so many bytes are left a character begins
 pub boundary : (text before rest : List ℕ) (left : ℕ) → IsUtf8 text → chars text ≡ before ++ rest → left ≡ length (encode_utf8_all rest)
     → (left ≤ length text) × IsCharBoundary text (length text - left) × (text ≡ encode_utf8_all before ++ encode_utf8_all rest)
 boundary text before rest left u split is =
     let whole : text ≡ encode_utf8_all before ++ encode_utf8_all rest = sym (encodes-chars text u) ∙ ap encode_utf8_all split ∙ encodes-append before rest in
-    let scalars : all_scalars rest ≡ true = scalars_behind before rest (ap all_scalars (sym split) ∙ scalars-chars text u) in
+    let scalars : all_scalars rest ≡ true = scalars_after before rest (ap all_scalars (sym split) ∙ scalars-chars text u) in
     let seam : IsCharBoundary text (length (encode_utf8_all before)) = IsCharBoundary-at_seam text (encode_utf8_all before) (encode_utf8_all rest) whole (rest, (scalars, refl)) in
     let sum : length text ≡ length (encode_utf8_all before) + left = ap length whole ∙ length-append (encode_utf8_all before) (encode_utf8_all rest) ∙ ap (λ (n : ℕ). length (encode_utf8_all before) + n) (sym is) in
     (omega (arith, sum), subst (IsCharBoundary text) (omega (arith, sum)) seam, whole)

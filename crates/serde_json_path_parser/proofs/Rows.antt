@@ -23,11 +23,11 @@ module _ {A : Type 0} (sign : List ℕ) (is : List ℕ → A → Type 0) where
   pub record IsNext (t : List ℕ) (x : A) : Type 0 where
     pub before : List ℕ
     pub text : List ℕ
-    pub behind : List ℕ
+    pub after : List ℕ
     pub blank_before : IsBlank before
     pub is_so : is text x
-    pub blank_behind : IsBlank behind
-    pub joined : t ≡ sign ++ (before ++ (text ++ behind))
+    pub blank_after : IsBlank after
+    pub joined : t ≡ sign ++ (before ++ (text ++ after))
 
   -- an item that is read after a sign and blanks
   pub next_of : (cs rest : List ℕ) (x : A × List ℕ) → cs ≡ sign ++ rest → Read (Spaced is) (past_blanks rest) x → Read IsNext cs x
@@ -35,14 +35,14 @@ module _ {A : Type 0} (sign : List ℕ) (is : List ℕ → A → Type 0) where
       let k = blanks_of rest in
       record {
         text = sign ++ (k ++ read.text);
-        is_so = record { before = k; text = read.is_so.0; behind = read.is_so.1; blank_before = are_blank rest; is_so = read.is_so.2; blank_behind = read.is_so.3; joined = ap (λ (l : List ℕ). sign ++ (k ++ l)) read.is_so.4 };
+        is_so = record { before = k; text = read.is_so.0; after = read.is_so.1; blank_before = are_blank rest; is_so = read.is_so.2; blank_after = read.is_so.3; joined = ap (λ (l : List ℕ). sign ++ (k ++ l)) read.is_so.4 };
         split = begun ∙ ap (λ (l : List ℕ). sign ++ l) (split_blanks rest ∙ ap (λ (l : List ℕ). k ++ l) read.split) ∙ gathered sign k read.text x.1;
       }
 
   pub next_shorter : (cs rest : List ℕ) (x : A) → 0 < length sign → Read IsNext cs (x, rest) → length rest < length cs
   next_shorter cs rest x some read =
       let next = read.is_so in
-      omega (arith, some, ap length read.split, length-append read.text rest, ap length next.joined, length-append sign (next.before ++ (next.text ++ next.behind)))
+      omega (arith, some, ap length read.split, length-append read.text rest, ap length next.joined, length-append sign (next.before ++ (next.text ++ next.after)))
 
   abbrev pub AreRows : List ℕ → List A → Type 0
   AreRows t [] = t ≡ []
@@ -61,7 +61,7 @@ module _ {A : Type 0} (sign : List ℕ) (is : List ℕ → A → Type 0) where
   row_of [] j t blank h = record { text = []; blanks = j; are = refl; blank = blank; split = ap (λ (l : List ℕ). j ++ l) h ∙ append-nil j }
   row_of (x ∷ xs) j t blank h =
       let first = h.2 in
-      let rest = row_of xs first.behind h.1 first.blank_behind h.3 in
+      let rest = row_of xs first.after h.1 first.blank_after h.3 in
       let here = j ++ (sign ++ first.before) in
       record {
         text = here ++ (first.text ++ rest.text);
@@ -70,7 +70,7 @@ module _ {A : Type 0} (sign : List ℕ) (is : List ℕ → A → Type 0) where
         blank = rest.blank;
         split =
             ap (λ (l : List ℕ). j ++ l) (h.4 ∙ ap (λ (l : List ℕ). l ++ h.1) first.joined)
-            ∙ ap (λ (l : List ℕ). j ++ l) (spread sign first.before first.text first.behind h.1 ∙ ap (λ (l : List ℕ). sign ++ (first.before ++ (first.text ++ l))) rest.split)
+            ∙ ap (λ (l : List ℕ). j ++ l) (spread sign first.before first.text first.after h.1 ∙ ap (λ (l : List ℕ). sign ++ (first.before ++ (first.text ++ l))) rest.split)
             ∙ signed j first.before first.text rest.text rest.blanks;
       }
     where

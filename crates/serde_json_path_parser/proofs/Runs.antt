@@ -5,7 +5,7 @@ use Rattle.std.specs.Str.{encode_utf8_all}
 use Rattle.std.specs.Prelude.{encode_utf8, ◌==◌}
 use Rattle.std.specs.List.{AllByRecursion}
 use Rattle.serde_json_path_parser.specs.Lexical.{begins, is_blank, is_digit, value_from}
-use Rattle.serde_json_path_parser.specs.Parsed.{front, behind}
+use Rattle.serde_json_path_parser.specs.Parsed.{front, past}
 
 -- ---- what begins a list
 
@@ -44,11 +44,11 @@ begins_differs p k cs fails begun = begins_where p (λ c. c == k) false cs (λ c
 -- ---- a front and what is after it
 
 -- the front and what is after it are the whole
-pub whole : (p : ℕ → Bool) (cs : List ℕ) → cs ≡ front p cs ++ behind p cs
+pub whole : (p : ℕ → Bool) (cs : List ℕ) → cs ≡ front p cs ++ past p cs
 whole p [] = refl
 whole p (c ∷ cs) = by_test (p c) refl (whole p cs)
   where
-    by_test : (b : Bool) → p c ≡ b → cs ≡ front p cs ++ behind p cs → c ∷ cs ≡ front p (c ∷ cs) ++ behind p (c ∷ cs)
+    by_test : (b : Bool) → p c ≡ b → cs ≡ front p cs ++ past p cs → c ∷ cs ≡ front p (c ∷ cs) ++ past p (c ∷ cs)
     by_test true e h = rw e (ap (λ (l : List ℕ). c ∷ l) h)
     by_test false e h = rw e refl
 
@@ -78,29 +78,29 @@ front_all p [] [] h e = refl
 front_all p [] (c ∷ rest) h e = rw e refl
 front_all p (c ∷ t) rest h e = rw h.0 (ap (λ (l : List ℕ). c ∷ l) (front_all p t rest h.1 e))
 
-pub behind_all : (p : ℕ → Bool) (t rest : List ℕ) → AllByRecursion (λ c. p c ≡ true) t → begins p rest ≡ false → behind p (t ++ rest) ≡ rest
-behind_all p [] [] h e = refl
-behind_all p [] (c ∷ rest) h e = rw e refl
-behind_all p (c ∷ t) rest h e = rw h.0 (behind_all p t rest h.1 e)
+pub past_run : (p : ℕ → Bool) (t rest : List ℕ) → AllByRecursion (λ c. p c ≡ true) t → begins p rest ≡ false → past p (t ++ rest) ≡ rest
+past_run p [] [] h e = refl
+past_run p [] (c ∷ rest) h e = rw e refl
+past_run p (c ∷ t) rest h e = rw h.0 (past_run p t rest h.1 e)
 
 -- what is after a text that passes, and more
-pub behind_past : (p : ℕ → Bool) (t rest : List ℕ) → AllByRecursion (λ c. p c ≡ true) t → behind p (t ++ rest) ≡ behind p rest
-behind_past p [] rest h = refl
-behind_past p (c ∷ t) rest h = rw h.0 (behind_past p t rest h.1)
+pub past_through : (p : ℕ → Bool) (t rest : List ℕ) → AllByRecursion (λ c. p c ≡ true) t → past p (t ++ rest) ≡ past p rest
+past_through p [] rest h = refl
+past_through p (c ∷ t) rest h = rw h.0 (past_through p t rest h.1)
 
 pub front_more : (p : ℕ → Bool) (cs ds : List ℕ) (c : ℕ) → cs ≡ c ∷ ds → begins p cs ≡ true → front p cs ≡ c ∷ front p ds
 front_more p cs ds c e t = let k : p c ≡ true = sym (ap (begins p) e) ∙ t in ap (front p) e ∙ rw k refl
 
-pub behind_more : (p : ℕ → Bool) (cs ds : List ℕ) (c : ℕ) → cs ≡ c ∷ ds → begins p cs ≡ true → behind p cs ≡ behind p ds
-behind_more p cs ds c e t = let k : p c ≡ true = sym (ap (begins p) e) ∙ t in ap (behind p) e ∙ rw k refl
+pub past_more : (p : ℕ → Bool) (cs ds : List ℕ) (c : ℕ) → cs ≡ c ∷ ds → begins p cs ≡ true → past p cs ≡ past p ds
+past_more p cs ds c e t = let k : p c ≡ true = sym (ap (begins p) e) ∙ t in ap (past p) e ∙ rw k refl
 
 pub front_end : (p : ℕ → Bool) (cs : List ℕ) → begins p cs ≡ false → front p cs ≡ []
 front_end p [] t = refl
 front_end p (c ∷ cs) t = rw t refl
 
-pub behind_end : (p : ℕ → Bool) (cs : List ℕ) → begins p cs ≡ false → behind p cs ≡ cs
-behind_end p [] t = refl
-behind_end p (c ∷ cs) t = rw t refl
+pub past_end : (p : ℕ → Bool) (cs : List ℕ) → begins p cs ≡ false → past p cs ≡ cs
+past_end p [] t = refl
+past_end p (c ∷ cs) t = rw t refl
 
 -- one more character of the front is taken into a text
 pub taken : (p : ℕ → Bool) (cs ds : List ℕ) (c : ℕ) (text whole : List ℕ) → cs ≡ c ∷ ds → begins p cs ≡ true

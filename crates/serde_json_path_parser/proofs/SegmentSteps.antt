@@ -20,12 +20,12 @@ module _ (filter_at : List ℕ → Parsed Selector) where
   selectors_begin cs ds rest s e read = rw (← e, read) refl
 
   -- after a comma and blanks
-  pub next_selector_reads : (cs behind ds : List ℕ) (c : ℕ) → cs ≡ c ∷ behind → ds ≡ past_blanks behind → (read : Parsed Selector) → selector_at filter_at ds ≡ read → next_selector_at filter_at cs ≡ read
+  pub next_selector_reads : (cs after ds : List ℕ) (c : ℕ) → cs ≡ c ∷ after → ds ≡ past_blanks after → (read : Parsed Selector) → selector_at filter_at ds ≡ read → next_selector_at filter_at cs ≡ read
   unfolding next_selector_at
-  next_selector_reads cs behind ds c comma e read h = ap (λ (l : List ℕ). selector_at filter_at (past_blanks (drop 1 l))) comma ∙ ap (selector_at filter_at) (sym e) ∙ h
+  next_selector_reads cs after ds c comma e read h = ap (λ (l : List ℕ). selector_at filter_at (past_blanks (drop 1 l))) comma ∙ ap (selector_at filter_at) (sym e) ∙ h
 
-  pub next_selector_fails : (s : Failure) (cs behind ds : List ℕ) (c : ℕ) → cs ≡ c ∷ behind → ds ≡ past_blanks behind → Fails s (selector_at filter_at ds) → Fails s (next_selector_at filter_at cs)
-  next_selector_fails s cs behind ds c comma e h = same_fails s (selector_at filter_at ds) (next_selector_at filter_at cs) (next_selector_reads cs behind ds c comma e (selector_at filter_at ds) refl) h
+  pub next_selector_fails : (s : Failure) (cs after ds : List ℕ) (c : ℕ) → cs ≡ c ∷ after → ds ≡ past_blanks after → Fails s (selector_at filter_at ds) → Fails s (next_selector_at filter_at cs)
+  next_selector_fails s cs after ds c comma e h = same_fails s (selector_at filter_at ds) (next_selector_at filter_at cs) (next_selector_reads cs after ds c comma e (selector_at filter_at ds) refl) h
 
   pub bracket_reads : (kind : SegmentKind) (cs rest ds : List ℕ) (ss : List Selector) (c : ℕ) → selectors_at filter_at cs ≡ Ok (ss, rest) → begins (λ d. d == 93) rest ≡ true → rest ≡ c ∷ ds
       → of_kind kind (bracket_at filter_at cs) ≡ Ok ((kind, long_hand (selector_list ss)), ds)

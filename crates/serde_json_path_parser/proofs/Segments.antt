@@ -9,13 +9,13 @@ use Rattle.serde_json_path_parser.specs.declared.error.ParseErrorKind.TheVariant
 use Rattle.serde_json_path_parser.specs.declared.error.Context as declared
 use Rattle.serde_json_path_parser.specs.Lexical.{is_at, begins, is_blank, IsBlank, is_name_first, is_name_char, IsName, Joined}
 use Rattle.serde_json_path_parser.specs.Grammar.{ReadSegments}
-use Rattle.serde_json_path_parser.specs.Parsed.{Parsed, ◌>>=◌, refusal, front, behind, past_blanks, many}
-use Rattle.serde_json_path_parser.specs.Parsing.{behind_dot, name_at, bracket_at, dotted_at, descendant_at, of_kind, dot_at, segment_at, opens, opens_next, next_segment_at, segments_at, segment_list, selector_at, next_selector_at, selectors_at, selector_list}
+use Rattle.serde_json_path_parser.specs.Parsed.{Parsed, ◌>>=◌, refusal, front, past, past_blanks, many}
+use Rattle.serde_json_path_parser.specs.Parsing.{after_dot, name_at, bracket_at, dotted_at, descendant_at, of_kind, dot_at, segment_at, opens, opens_next, next_segment_at, segments_at, segment_list, selector_at, next_selector_at, selectors_at, selector_list}
 use Rattle.serde_json_path_parser.proofs.Texts.{past_all, blanks_of, are_blank, split_blanks, no_longer, begins_not}
 use Rattle.serde_json_path_parser.proofs.BracketTexts.{IsSegmentText, bracket_sound, bracket_again, is_comma, next_sound, selectors_sound}
 use Rattle.serde_json_path_parser.proofs.Filtered.{AreGoodSegments, FilterLaws, IsGoodText, FiltersStand}
 use Rattle.serde_json_path_parser.proofs.Many as m
-use Rattle.serde_json_path_parser.proofs.Runs.{some_begun, begins_front, begins_where, begins_differs, no_blank, whole, front_each, front_begins, front_all, behind_all}
+use Rattle.serde_json_path_parser.proofs.Runs.{some_begun, begins_front, begins_where, begins_differs, no_blank, whole, front_each, front_begins, front_all, past_run}
 use Rattle.serde_json_path_parser.proofs.Steps.{Read, bind_ok, chosen, guard, done, ok_is, after_one, many_sound, Again, many_again}
 use Rattle.serde_json_path_functions.specs.Functions.{Signature}
 use Rattle.serde_json_path_parser.specs.declared.error.Refusal.{Refusal}
@@ -35,7 +35,7 @@ start_is_char c e = rw e refl
 name_sound : (here : declared.Context) (cs : List ℕ) (x : List ℕ × List ℕ) → name_at here cs ≡ Ok x → Read IsName cs x
 unfolding name_at
 name_sound here cs x e =
-    let g = guard (begins is_name_first cs) (refusal BadMemberName here cs) (done (encode_utf8_all (front is_name_char cs), behind is_name_char cs)) x e in
+    let g = guard (begins is_name_first cs) (refusal BadMemberName here cs) (done (encode_utf8_all (front is_name_char cs), past is_name_char cs)) x e in
     subst (Read IsName cs) (ok_is _ x g.1) (record {
       text = front is_name_char cs;
       is_so = record { first = front_begins is_name_char is_name_first cs start_is_char g.0; each = front_each is_name_char cs; bytes_of = refl };
@@ -44,7 +44,7 @@ name_sound here cs x e =
 
 name_again : (here : declared.Context) (t n rest : List ℕ) → IsName t n → begins is_name_char rest ≡ false → name_at here (t ++ rest) ≡ Ok (n, rest)
 unfolding name_at
-name_again here t n rest h e = rw (begins_front is_name_first true t rest (some_begun is_name_first t h.first) h.first, front_all is_name_char t rest h.each e, behind_all is_name_char t rest h.each e, ← h.bytes_of) refl
+name_again here t n rest h e = rw (begins_front is_name_first true t rest (some_begun is_name_first t h.first) h.first, front_all is_name_char t rest h.each e, past_run is_name_char t rest h.each e, ← h.bytes_of) refl
 
 -- a name begins with no character that may not begin it
 name_begins_not : (k : ℕ) (t n rest : List ℕ) → is_name_first k ≡ false → IsName t n → begins (λ c. c == k) (t ++ rest) ≡ false
@@ -129,9 +129,9 @@ module _ (filter_at : List ℕ → Parsed Selector) (Good : LogicalOr → Type 0
 
   dot_sound : (cs : List ℕ) (x : (SegmentKind × Segment) × List ℕ) → dot_at filter_at here cs ≡ Ok x → Read IsItem (46 ∷ cs) x
   unfolding dot_at
-  dot_sound cs x e = elim (chosen (is_at "." cs) (of_kind descendant (descendant_at filter_at here (drop 1 cs))) (of_kind child (dotted_at (behind_dot here) cs)) (Ok x) e) [
+  dot_sound cs x e = elim (chosen (is_at "." cs) (of_kind descendant (descendant_at filter_at here (drop 1 cs))) (of_kind child (dotted_at (after_dot here) cs)) (Ok x) e) [
     | inl a ↦ subst (λ (l : List ℕ). Read IsItem (46 ∷ l) x) (sym (after_one 46 cs a.0)) (kind_sound descendant (46 ∷ 46 ∷ drop 1 cs) (descendant_at filter_at here (drop 1 cs)) x (descendant_sound (drop 1 cs)) a.1)
-    | inr a ↦ kind_sound child (46 ∷ cs) (dotted_at (behind_dot here) cs) x (dotted_sound child (behind_dot here) cs) a.1
+    | inr a ↦ kind_sound child (46 ∷ cs) (dotted_at (after_dot here) cs) x (dotted_sound child (after_dot here) cs) a.1
   ]
 
   segment_sound : (cs : List ℕ) (x : (SegmentKind × Segment) × List ℕ) → begins opens cs ≡ true → segment_at filter_at here cs ≡ Ok x → Read IsItem cs x
@@ -184,7 +184,7 @@ module _ (filter_at : List ℕ → Parsed Selector) (Good : LogicalOr → Type 0
   segment_again : (t : List ℕ) (x : SegmentKind × Segment) (rest : List ℕ) → IsItem t x → begins is_name_char rest ≡ false → segment_at filter_at here (t ++ rest) ≡ Ok (x, rest)
   unfolding segment_at dot_at descendant_at dotted_at
   segment_again t (child, dot_name n) rest h e =
-      ap (λ (l : List ℕ). segment_at filter_at here (l ++ rest)) h.1.2 ∙ rw (name_begins_not 46 h.1.0 n rest refl h.1.1, dotted_again (behind_dot here) h.1.0 n rest h.1.1 e) refl
+      ap (λ (l : List ℕ). segment_at filter_at here (l ++ rest)) h.1.2 ∙ rw (name_begins_not 46 h.1.0 n rest refl h.1.1, dotted_again (after_dot here) h.1.0 n rest h.1.1 e) refl
   segment_again t (descendant, dot_name n) rest h e =
       ap (λ (l : List ℕ). segment_at filter_at here (l ++ rest)) h.1.2 ∙ rw (name_begins_not 91 h.1.0 n rest refl h.1.1, dotted_again here h.1.0 n rest h.1.1 e) refl
   segment_again t (child, dot_wildcard) rest h e = ap (λ (l : List ℕ). segment_at filter_at here (l ++ rest)) h.1
@@ -248,7 +248,7 @@ module _ (filter_at : List ℕ → Parsed Selector) (Good : LogicalOr → Type 0
 
 name_stands : (at : declared.Context) (cs : List ℕ) (r : Refusal) → name_at at cs ≡ Err r → Stands Plain cs r
 unfolding name_at
-name_stands at cs r e = guard_stands cs (begins is_name_first cs) (done (encode_utf8_all (front is_name_char cs), behind is_name_char cs)) BadMemberName at r refl (no_refusal cs _ r) e
+name_stands at cs r e = guard_stands cs (begins is_name_first cs) (done (encode_utf8_all (front is_name_char cs), past is_name_char cs)) BadMemberName at r refl (no_refusal cs _ r) e
 
 dotted_stands : (at : declared.Context) (cs : List ℕ) (r : Refusal) → dotted_at at cs ≡ Err r → Stands Plain cs r
 unfolding dotted_at
@@ -301,9 +301,9 @@ module _ (signature : List ℕ → Option Signature) (filter_at : List ℕ → P
 
   dot_stands : (cs : List ℕ) (r : Refusal) → dot_at filter_at here_at cs ≡ Err r → Stands (Inner signature) cs r
   unfolding dot_at
-  dot_stands cs r e = elim (chosen (is_at "." cs) (of_kind descendant (descendant_at filter_at here_at (drop 1 cs))) (of_kind child (dotted_at (behind_dot here_at) cs)) (Err r) e) [
+  dot_stands cs r e = elim (chosen (is_at "." cs) (of_kind descendant (descendant_at filter_at here_at (drop 1 cs))) (of_kind child (dotted_at (after_dot here_at) cs)) (Err r) e) [
     | inl a ↦ drop_one cs r (kind_stands descendant (drop 1 cs) (descendant_at filter_at here_at (drop 1 cs)) r (descendant_stands (drop 1 cs)) a.1)
-    | inr a ↦ kind_stands child cs (dotted_at (behind_dot here_at) cs) r (λ d f. inside cs d (dotted_stands (behind_dot here_at) cs d f)) a.1
+    | inr a ↦ kind_stands child cs (dotted_at (after_dot here_at) cs) r (λ d f. inside cs d (dotted_stands (after_dot here_at) cs d f)) a.1
   ]
 
   segment_stands : (cs : List ℕ) (r : Refusal) → segment_at filter_at here_at cs ≡ Err r → Stands (Inner signature) cs r

@@ -10,7 +10,7 @@ use Rattle.serde_json_path_parser.specs.Parsing.{int_at, begins_int, bound_at, s
 use Rattle.serde_json_path_parser.proofs.Texts.{past_some}
 use Rattle.serde_json_path_parser.proofs.Filtered.{Closes, IsGoodText}
 use Rattle.serde_json_path_parser.proofs.IntTexts.{int_sound, int_again, int_begins, int_not, int_no_blank, int_stands}
-use Rattle.serde_json_path_parser.proofs.Runs.{differs, no_blank, whole, front_each, behind_end}
+use Rattle.serde_json_path_parser.proofs.Runs.{differs, no_blank, whole, front_each, past_end}
 use Rattle.serde_json_path_parser.proofs.Steps.{Read, Spaced, bind_ok, chosen, done, ok_is, after_one}
 use Rattle.serde_json_path_parser.specs.declared.error.Refusal.{Refusal}
 use Rattle.serde_json_path_parser.proofs.Stands.{Plain, Stands, further, bind_stands, no_refusal, drop_one, drop_blanks}
@@ -74,9 +74,9 @@ slice_sound start a cs x first e =
     let step = bind_ok (step_at end.0.1) _ x end.2 in
     let b = bound_sound (past_blanks cs) end.0 end.1 in
     let c = step_sound end.0.1 step.0 step.1 in
-    let behind_end : end.0.1 ≡ (c.is_so.0 ++ c.is_so.1) ++ step.0.1 = c.split ∙ ap (λ (l : List ℕ). l ++ step.0.1) c.is_so.4 in
-    let behind_colon : cs ≡ k ++ (b.text ++ ((c.is_so.0 ++ c.is_so.1) ++ step.0.1)) =
-    whole is_blank cs ∙ ap (λ (l : List ℕ). k ++ l) (b.split ∙ ap (λ (l : List ℕ). b.text ++ l) behind_end) in
+    let past_end : end.0.1 ≡ (c.is_so.0 ++ c.is_so.1) ++ step.0.1 = c.split ∙ ap (λ (l : List ℕ). l ++ step.0.1) c.is_so.4 in
+    let after_colon : cs ≡ k ++ (b.text ++ ((c.is_so.0 ++ c.is_so.1) ++ step.0.1)) =
+    whole is_blank cs ∙ ap (λ (l : List ℕ). k ++ l) (b.split ∙ ap (λ (l : List ℕ). b.text ++ l) past_end) in
     subst (Read (Spaced (λ t s. IsSlice s t)) (a ++ (58 ∷ cs))) (ok_is (record { start = start; end = end.0.0; step = step.0.0 }, step.0.1) x step.2) (record {
       text = (a ++ (58 ∷ (k ++ (b.text ++ c.is_so.0)))) ++ c.is_so.1;
       is_so = (
@@ -86,7 +86,7 @@ slice_sound start a cs x first e =
         c.is_so.3,
         refl,
       );
-      split = ap (λ (l : List ℕ). a ++ (58 ∷ l)) behind_colon ∙ regrouped a k b.text c.is_so.0 c.is_so.1 step.0.1;
+      split = ap (λ (l : List ℕ). a ++ (58 ∷ l)) after_colon ∙ regrouped a k b.text c.is_so.0 c.is_so.1 step.0.1;
     })
 
 -- after the colon that begins a slice
@@ -151,7 +151,7 @@ unfolding bound_at
 bound_again None t rest b ends = ap (λ (l : List ℕ). bound_at (past_blanks (l ++ rest))) b ∙ rw ends refl
 bound_again (Some i) t rest (a, k, is, blank, e) ends =
     let here : past_blanks (t ++ rest) ≡ a ++ (k ++ rest) =
-    ap (λ (l : List ℕ). past_blanks (l ++ rest)) e ∙ ap past_blanks (append_assoc a k rest) ∙ behind_end is_blank (a ++ (k ++ rest)) (int_no_blank a i (k ++ rest) is) in
+    ap (λ (l : List ℕ). past_blanks (l ++ rest)) e ∙ ap past_blanks (append_assoc a k rest) ∙ past_end is_blank (a ++ (k ++ rest)) (int_no_blank a i (k ++ rest) is) in
     let further : begins is_digit (k ++ rest) ≡ false = ends_digits (k ++ rest) (ap (begins begins_int) (past_some k rest blank) ∙ ends) in
     ap bound_at here ∙ rw (int_begins a i (k ++ rest) is, int_again a i (k ++ rest) is further, past_some k rest blank) refl
 
@@ -182,9 +182,9 @@ alone_again t i rest is closes =
     let colon = closes_not (λ c. c == 58) (past_blanks rest) refl refl closes in
     rw (int_again t i rest is (ends_digits rest (closed_ends rest closes)), colon) refl
 
-begun_again : (t k : List ℕ) (i : ℤ) (rest : List ℕ) (s : Slice) (behind : List ℕ) → IsInt t i → IsBlank k → slice_at (Some i) rest ≡ Ok (s, behind) → position_at (t ++ (k ++ (58 ∷ rest))) ≡ Ok (slice s, behind)
+begun_again : (t k : List ℕ) (i : ℤ) (rest : List ℕ) (s : Slice) (after : List ℕ) → IsInt t i → IsBlank k → slice_at (Some i) rest ≡ Ok (s, after) → position_at (t ++ (k ++ (58 ∷ rest))) ≡ Ok (slice s, after)
 unfolding position_at
-begun_again t k i rest s behind is blank read =
+begun_again t k i rest s after is blank read =
     let colon : past_blanks (k ++ (58 ∷ rest)) ≡ 58 ∷ rest = past_some k (58 ∷ rest) blank in
     let further = ends_digits (k ++ (58 ∷ rest)) (ap (begins begins_int) colon) in
     rw (int_again t i (k ++ (58 ∷ rest)) is further, colon, read) refl
@@ -209,9 +209,9 @@ module _ (filter_at : List ℕ → Parsed Selector) where
   pub index_again : (t : List ℕ) (i : ℤ) (rest : List ℕ) → IsInt t i → Closes rest → selector_at filter_at (t ++ rest) ≡ Ok (index i, past_blanks rest)
   index_again t i rest is closes = at_position t i rest is ∙ alone_again t i rest is closes
 
-  colon_again : (rest : List ℕ) (s : Slice) (behind : List ℕ) → slice_at None rest ≡ Ok (s, behind) → selector_at filter_at (58 ∷ rest) ≡ Ok (slice s, behind)
+  colon_again : (rest : List ℕ) (s : Slice) (after : List ℕ) → slice_at None rest ≡ Ok (s, after) → selector_at filter_at (58 ∷ rest) ≡ Ok (slice s, after)
   unfolding selector_at
-  colon_again rest s behind read = rw read refl
+  colon_again rest s after read = rw read refl
 
   pub slice_again : (t : List ℕ) (s : Slice) (rest : List ℕ) → IsSlice s t → Closes rest → selector_at filter_at (t ++ rest) ≡ Ok (slice s, past_blanks rest)
   slice_again t s rest (a, k, b, c, first, blank, second, third, e) closes = by_start s.start refl first

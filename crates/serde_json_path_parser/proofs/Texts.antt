@@ -3,13 +3,13 @@ use Rattle.std.proofs.Common.{◌≡◌, ℕ, List, ◌++◌, refl, append_assoc
 use Rattle.std.proofs.lemmas.List.{length-append}
 use Rattle.serde_json_path_parser.specs.Lexical.{begins, is_blank, IsBlank}
 use Rattle.serde_json_path_parser.specs.Parsed.{front, past_blanks}
-use Rattle.serde_json_path_parser.proofs.Runs.{whole, front_each, behind_end, behind_past}
+use Rattle.serde_json_path_parser.proofs.Runs.{whole, front_each, past_end, past_through}
 
 pub gathered : (a b c d : List ℕ) → a ++ (b ++ (c ++ d)) ≡ (a ++ (b ++ c)) ++ d
 gathered a b c d = simp append_assoc refl
 
-pub gathered_behind : (a b c d : List ℕ) → (a ++ b) ++ (c ++ d) ≡ (a ++ (b ++ c)) ++ d
-gathered_behind a b c d = simp append_assoc refl
+pub gathered_after : (a b c d : List ℕ) → (a ++ b) ++ (c ++ d) ≡ (a ++ (b ++ c)) ++ d
+gathered_after a b c d = simp append_assoc refl
 
 -- an end, as a sign that closes, too
 pub enclosed : (a b c s d : List ℕ) → a ++ ((b ++ c) ++ (s ++ d)) ≡ (a ++ (b ++ (c ++ s))) ++ d
@@ -21,10 +21,10 @@ spread a b c s d = simp append_assoc refl
 -- ---- blanks at the start of a text
 
 pub past_some : (k rest : List ℕ) → IsBlank k → past_blanks (k ++ rest) ≡ past_blanks rest
-past_some k rest h = behind_past is_blank k rest h
+past_some k rest h = past_through is_blank k rest h
 
 pub past_all : (k rest : List ℕ) → IsBlank k → begins is_blank rest ≡ false → past_blanks (k ++ rest) ≡ rest
-past_all k rest h e = past_some k rest h ∙ behind_end is_blank rest e
+past_all k rest h e = past_some k rest h ∙ past_end is_blank rest e
 
 -- the blanks themselves
 abbrev pub blanks_of : List ℕ → List ℕ

@@ -9,9 +9,9 @@ use Rattle.serde_json_path_syntax.specs.Tree.{Literal}
 use Rattle.serde_json_path_parser.specs.declared.error.ParseErrorKind.TheVariants.{ExpectedExpression}
 use Rattle.serde_json_path_parser.specs.declared.error.Context.TheVariants as context
 use Rattle.serde_json_path_parser.specs.Lexical.{AllPass, begins, is_function_char}
-use Rattle.serde_json_path_parser.specs.Parsed.{Parsed, refusal, front, behind, past_blanks}
+use Rattle.serde_json_path_parser.specs.Parsed.{Parsed, refusal, front, past, past_blanks}
 use Rattle.serde_json_path_parser.specs.Operands.{Operand, a_literal}
-use Rattle.serde_json_path_parser.specs.Filters.{word, behind_word, literal_word_at}
+use Rattle.serde_json_path_parser.specs.Filters.{word, past_word, literal_word_at}
 use Rattle.serde_json_path_parser.specs.Words.{common, literal_word}
 use Rattle.serde_json_path_parser.proofs.Runs.{whole, front_end}
 
@@ -51,21 +51,21 @@ front_common p (b ∷ bs) (c ∷ cs) h = by_test (c == b) refl (front_common p b
     by_test true e more = let passes : p c ≡ true = ap p (eqb-true c b e) ∙ h.0 in rw (e, passes) (ap (λ (l : List ℕ). c ∷ l) more ∙ ap (λ (k : ℕ). k ∷ (take (common bs cs) bs ++ front p (drop (common bs cs) cs))) (eqb-true c b e))
     by_test false e more = rw e refl
 
-behind_common : (p : ℕ → Bool) (known cs : List ℕ) → AllPass p known → behind p cs ≡ behind p (drop (common known cs) cs)
-behind_common p [] cs h = refl
-behind_common p (b ∷ bs) [] h = refl
-behind_common p (b ∷ bs) (c ∷ cs) h = by_test (c == b) refl (behind_common p bs cs h.1)
+past_common : (p : ℕ → Bool) (known cs : List ℕ) → AllPass p known → past p cs ≡ past p (drop (common known cs) cs)
+past_common p [] cs h = refl
+past_common p (b ∷ bs) [] h = refl
+past_common p (b ∷ bs) (c ∷ cs) h = by_test (c == b) refl (past_common p bs cs h.1)
   where
-    by_test : (t : Bool) → (c == b) ≡ t → behind p cs ≡ behind p (drop (common bs cs) cs) → behind p (c ∷ cs) ≡ behind p (drop (common (b ∷ bs) (c ∷ cs)) (c ∷ cs))
+    by_test : (t : Bool) → (c == b) ≡ t → past p cs ≡ past p (drop (common bs cs) cs) → past p (c ∷ cs) ≡ past p (drop (common (b ∷ bs) (c ∷ cs)) (c ∷ cs))
     by_test true e more = let passes : p c ≡ true = ap p (eqb-true c b e) ∙ h.0 in rw (e, passes) more
     by_test false e more = rw e refl
 
 -- what is after the front does not begin with a character that passes
-behind_begins : (p : ℕ → Bool) (cs : List ℕ) → begins p (behind p cs) ≡ false
-behind_begins p [] = refl
-behind_begins p (c ∷ cs) = by_test (p c) refl (behind_begins p cs)
+past_begins : (p : ℕ → Bool) (cs : List ℕ) → begins p (past p cs) ≡ false
+past_begins p [] = refl
+past_begins p (c ∷ cs) = by_test (p c) refl (past_begins p cs)
   where
-    by_test : (t : Bool) → p c ≡ t → begins p (behind p cs) ≡ false → begins p (behind p (c ∷ cs)) ≡ false
+    by_test : (t : Bool) → p c ≡ t → begins p (past p cs) ≡ false → begins p (past p (c ∷ cs)) ≡ false
     by_test true e h = rw e h
     by_test false e h = rw e e
 
@@ -74,8 +74,8 @@ module _ (p : ℕ → Bool) (known cs ds : List ℕ) (n : ℕ) (each : AllPass p
   pub front_on : front p cs ≡ take n known ++ front p ds
   front_on = rw (rest, count) (front_common p known cs each)
 
-  pub behind_on : behind p cs ≡ behind p ds
-  behind_on = rw (rest, count) (behind_common p known cs each)
+  pub past_on : past p cs ≡ past p ds
+  past_on = rw (rest, count) (past_common p known cs each)
 
   -- the front is the known text, where that is common whole and the front ends after it
   pub front_known : n ≡ length known → begins p ds ≡ false → front p cs ≡ known
@@ -88,10 +88,10 @@ module _ (p : ℕ → Bool) (known cs ds : List ℕ) (n : ℕ) (each : AllPass p
       by_test : (t : Bool) → bytes_eq (front p cs) known ≡ t → bytes_eq (front p cs) known ≡ false
       by_test true e =
           let same : front p cs ≡ known = (bytes_eq-Decides (front p cs) known).0 e in
-          let split : cs ≡ known ++ behind p cs = whole p cs ∙ ap (λ (l : List ℕ). l ++ behind p cs) same in
-          let all : n ≡ length known = count ∙ ap (common known) split ∙ common_whole known (behind p cs) in
-          let left : ds ≡ behind p cs = rest ∙ ap (λ (m : ℕ). drop m cs) all ∙ ap (drop (length known)) split ∙ drop-append_seam known (behind p cs) in
-          absurd (true≢false (sym (more all) ∙ ap (begins p) left ∙ behind_begins p cs))
+          let split : cs ≡ known ++ past p cs = whole p cs ∙ ap (λ (l : List ℕ). l ++ past p cs) same in
+          let all : n ≡ length known = count ∙ ap (common known) split ∙ common_whole known (past p cs) in
+          let left : ds ≡ past p cs = rest ∙ ap (λ (m : ℕ). drop m cs) all ∙ ap (drop (length known)) split ∙ drop-append_seam known (past p cs) in
+          absurd (true≢false (sym (more all) ∙ ap (begins p) left ∙ past_begins p cs))
       by_test false e = e
 
 -- ---- characters of a known text
@@ -109,7 +109,7 @@ ascii_at (b ∷ bs) (suc i) h l = ascii_at bs i h.1 (omega arith)
 
 -- what reading gives where the word is that literal's, or none's
 abbrev pub read_literal : Option Literal → List ℕ → Parsed Operand
-read_literal (Some l) cs = Ok (a_literal l, past_blanks (behind_word cs))
+read_literal (Some l) cs = Ok (a_literal l, past_blanks (past_word cs))
 read_literal None cs = Err (refusal ExpectedExpression context.LongHand cs)
 
 -- the tests for each literal's word, one after another, give what the word's literal does

@@ -4,11 +4,12 @@ use Rattle.serde_json_path_syntax.specs.Tree.{Query, root, kind_of}
 use Rattle.serde_json_path_functions.specs.Functions.{Signature}
 use Rattle.serde_json_path_syntax.specs.Typing.{IsTyped}
 use Rattle.serde_json_path_syntax.specs.Depth.{depth}
+use Rattle.serde_json_path_syntax.specs.Used.{deepest}
 use Rattle.serde_json_path_parser.specs.Grammar.{Reads}
 
--- The text, a list of characters, reads as the tree of a query from the root, well-typed under these signatures and nested at most 128 deep.
+-- The text, a list of characters, reads as the tree of a query from the root, well-typed under these signatures and no deeper than the limit.
 pub record IsAccepted (signature : List ℕ → Option Signature) (text : List ℕ) (q : Query) : Type 0 where
   pub reads : Reads q text
   pub from_root : kind_of q ≡ root
   pub typed : IsTyped signature q
-  pub shallow : depth q ≤ 128
+  pub shallow : depth q ≤ deepest

@@ -2,7 +2,7 @@
 use Rattle.std.specs.Prelude.{◌≡◌, ℕ, ◌<◌, ◌≤◌, nat_le, Bool, true, false, List, [], ◌∷◌, Option, Some, None, drop}
 use Rattle.std.specs.Option.{ForSome}
 
--- A byte is the first of some characters: below 128 it is the first character, else that one is from 128 on.
+-- The byte is the first of these characters' bytes: below 128 it is itself the first character; otherwise that is 128 or above.
 abbrev pub IsAhead : Option ℕ → List ℕ → Type 0
 IsAhead None cs = cs ≡ []
 IsAhead (Some b) cs = (c : ℕ) × (cs ≡ c ∷ drop 1 cs) × (b < 128 → c ≡ b) × (128 ≤ b → 128 ≤ c)

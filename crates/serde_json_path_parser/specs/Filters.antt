@@ -10,7 +10,7 @@ use Rattle.serde_json_path_parser.specs.declared.error.ParseErrorKind.TheVariant
 use Rattle.serde_json_path_parser.specs.declared.error.Context.TheVariants as context
 use Rattle.serde_json_path_parser.specs.declared.error.Refusal.{Refusal}
 use Rattle.serde_json_path_parser.specs.Lexical.{is_at, are_at, begins, is_small_letter, is_function_char}
-use Rattle.serde_json_path_parser.specs.Parsed.{Parsed, ◌>>=◌, refusal, front, behind, past_blanks, many, refusal_at, byte_count}
+use Rattle.serde_json_path_parser.specs.Parsed.{Parsed, ◌>>=◌, refusal, front, past, past_blanks, many, refusal_at, byte_count}
 use Rattle.serde_json_path_parser.specs.Strings.{string_at}
 use Rattle.serde_json_path_parser.specs.Numbers.{number_at}
 use Rattle.serde_json_path_parser.specs.Operands.{Operand, a_literal, a_query, a_call, is_singular, is_result, fits}
@@ -22,19 +22,19 @@ use Rattle.serde_json_path_parser.specs.Parsing.{segments_at, segment_list}
 abbrev pub word : List ℕ → List ℕ
 word cs = front is_function_char cs
 
-abbrev pub behind_word : List ℕ → List ℕ
-behind_word cs = behind is_function_char cs
+abbrev pub past_word : List ℕ → List ℕ
+past_word cs = past is_function_char cs
 
 -- a name with `(` at once after it
 abbrev pub begins_call : List ℕ → Bool
-begins_call cs = begins is_small_letter cs && is_at "(" (behind_word cs)
+begins_call cs = begins is_small_letter cs && is_at "(" (past_word cs)
 
 -- `true`, `false` or `null`
 unfoldable pub literal_word_at : List ℕ → Parsed Operand
 literal_word_at cs =
-    if bytes_eq (word cs) (codes "true") then Ok (a_literal (truth true), past_blanks (behind_word cs))
-    else if bytes_eq (word cs) (codes "false") then Ok (a_literal (truth false), past_blanks (behind_word cs))
-    else if bytes_eq (word cs) (codes "null") then Ok (a_literal null, past_blanks (behind_word cs))
+    if bytes_eq (word cs) (codes "true") then Ok (a_literal (truth true), past_blanks (past_word cs))
+    else if bytes_eq (word cs) (codes "false") then Ok (a_literal (truth false), past_blanks (past_word cs))
+    else if bytes_eq (word cs) (codes "null") then Ok (a_literal null, past_blanks (past_word cs))
     else Err (refusal ExpectedExpression context.LongHand cs)
 
 -- ---- operators
@@ -101,7 +101,7 @@ module _ (signature : List ℕ → Option Signature) (deeper : Deeper) where
 
   -- at a name with `(` after it
   unfoldable pub named_call_at : List ℕ → Parsed Call
-  named_call_at cs = deeper.call_of (byte_count cs) (word cs) (drop 1 (behind_word cs))
+  named_call_at cs = deeper.call_of (byte_count cs) (word cs) (drop 1 (past_word cs))
 
   -- at a small letter
   unfoldable pub named_at : List ℕ → Parsed Operand

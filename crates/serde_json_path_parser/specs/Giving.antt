@@ -142,9 +142,9 @@ MakesCall signature old new (Err e) reader read = Fails e read
 
 -- The argument is the one that reading gives.
 abbrev pub IsArgumentOf : (List ℕ → Option Signature) → SyntaxBuilder → arguments.Argument → Argument → Type 0
-IsArgumentOf signature builder (the_arguments.Literal l) (literal_argument x) = literal_view l ≡ x
-IsArgumentOf signature builder (the_arguments.Query part) (query_argument q) = IsPart builder part (piece.a_query q)
-IsArgumentOf signature builder (the_arguments.Call part kind) (call_argument c) =
+IsArgumentOf signature builder (the_arguments.Operand (the_operands.Literal l)) (literal_argument x) = literal_view l ≡ x
+IsArgumentOf signature builder (the_arguments.Operand (the_operands.Query part)) (query_argument q) = IsPart builder part (piece.a_query q)
+IsArgumentOf signature builder (the_arguments.Operand (the_operands.Call part kind)) (call_argument c) =
     IsPart builder part (piece.a_call c) × (result_kind signature c ≡ Some (kind_view kind))
 IsArgumentOf signature builder (the_arguments.Logical part) (logical_argument e) = IsPart builder part (piece.an_or e)
 IsArgumentOf signature builder _ _ = ⊥
@@ -173,7 +173,7 @@ abbrev pub IsRefused : Failure → Type 0
 IsRefused failures.Memory = ⊥
 IsRefused (failures.Refused r) = Unit {0}
 
--- Where a refusal is reported at the byte that is next, no byte was seen beyond the one after its place.
+-- Where a refusal of some kinds is reported at the byte that is next, no byte was seen beyond the one after its place.
 abbrev pub StopsNear : {S : Type 0} {g : Ghosts S} → Failure → Reader S g → Type 0
 StopsNear failures.Memory reader = Unit {0}
 StopsNear (failures.Refused r) reader = is_told_at_next r.kind ≡ true → seen reader + r.left ≤ length (told reader).text + 2
@@ -182,7 +182,7 @@ abbrev pub IsNear : {X S : Type 0} {g : Ghosts S} → Result X Failure → Reade
 IsNear (Ok x) reader = Unit {0}
 IsNear (Err e) reader = StopsNear e reader
 
--- The reader moved on, and where it stopped with a refusal no byte was seen beyond the one after its place.
+-- The reader moved on, and where it stopped with such a refusal no byte was seen beyond the one after its place.
 pub record MovesTo {X S : Type 0} {g : Ghosts S} (result : Result X Failure) (old new : Reader S g) : Type 0 where
   pub moves : Moves old new
   pub near : IsNear result new

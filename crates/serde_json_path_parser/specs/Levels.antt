@@ -12,7 +12,7 @@ module _ {F : Type 0} (set : F → FunctionSet) where
   abbrev pub signatures : FilterParser F → List ℕ → Option Signature
   signatures l = (set l.functions.now).signature
 
-  -- how what stands one filter, parenthesis or call deeper is read
+  -- how the text one filter, parenthesis or call deeper is read
   abbrev pub deeper : FilterParser F → Deeper
   deeper l = filters.level (signatures l) l.depth
 

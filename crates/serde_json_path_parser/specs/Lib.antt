@@ -5,7 +5,7 @@
 --   Grammar: which text has which tree
 --   Accepted: which text is accepted, and with which tree
 --   Laws: a text has one tree at most
---   Errors: kinds, positions and messages of refusals
+--   Errors: what contracts see of a refusal, and its message
 --   Parse: what a parse answers
 -- the computed reading, on lists of characters
 --   Parsed: what reading a piece gives, and how pieces follow one another

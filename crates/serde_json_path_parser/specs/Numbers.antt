@@ -5,7 +5,7 @@ use Rattle.std.specs.Prelude.{ℕ, ◌+◌, ◌-◌, ◌*◌, ◌^◌, ◌==◌,
 use Rattle.serde_json_path_parser.specs.declared.error.ParseErrorKind.TheVariants.{ExpectedExpression, ExponentOrEmptyFraction, FractionTooLong, NumberOutOfRange}
 use Rattle.serde_json_path_parser.specs.declared.error.Context.TheVariants as context
 use Rattle.serde_json_path_parser.specs.Lexical.{is_at, begins, is_digit, value_from, fraction_of}
-use Rattle.serde_json_path_parser.specs.Parsed.{Parsed, ◌>>=◌, refusal, front, behind, refusal_at, byte_count}
+use Rattle.serde_json_path_parser.specs.Parsed.{Parsed, ◌>>=◌, refusal, front, past, refusal_at, byte_count}
 use Rattle.serde_json_path_parser.specs.Parsing.{is_first_digit}
 
 abbrev pub is_exponent : ℕ → Bool
@@ -15,22 +15,22 @@ is_exponent c = c == 101 || c == 69
 unfoldable pub whole_at : ℕ → List ℕ → Parsed ℕ
 whole_at start cs =
     if is_at "0" cs then Ok (0, drop 1 cs)
-    else if begins is_first_digit cs then Ok (value_from 0 (front is_digit cs), behind is_digit cs)
+    else if begins is_first_digit cs then Ok (value_from 0 (front is_digit cs), past is_digit cs)
     else Err (refusal_at ExpectedExpression context.LongHand start)
 
 -- after a point: the billionths of the digits there, which are read whole
-unfoldable pub digits_behind_point_at : ℕ → List ℕ → Parsed ℕ
-digits_behind_point_at start cs =
+unfoldable pub digits_after_point_at : ℕ → List ℕ → Parsed ℕ
+digits_after_point_at start cs =
     if begins is_digit cs then
-    (if begins is_exponent (behind is_digit cs) then Err (refusal_at ExponentOrEmptyFraction context.LongHand start)
-    else if nat_le (length (front is_digit cs)) 9 then Ok (fraction_of (front is_digit cs), behind is_digit cs)
+    (if begins is_exponent (past is_digit cs) then Err (refusal_at ExponentOrEmptyFraction context.LongHand start)
+    else if nat_le (length (front is_digit cs)) 9 then Ok (fraction_of (front is_digit cs), past is_digit cs)
     else Err (refusal_at FractionTooLong context.LongHand start))
     else Err (refusal_at ExponentOrEmptyFraction context.LongHand start)
 
 -- after a whole number: a point and digits, or nothing
 unfoldable pub fraction_at : ℕ → List ℕ → Parsed ℕ
 fraction_at start cs =
-    if is_at "." cs then digits_behind_point_at start (drop 1 cs)
+    if is_at "." cs then digits_after_point_at start (drop 1 cs)
     else if begins is_exponent cs then Err (refusal_at ExponentOrEmptyFraction context.LongHand start)
     else Ok (0, cs)
 

@@ -39,7 +39,7 @@ pub record Answers (signature : List ℕ → Option Signature) (text : List ℕ)
   pub only : IfOk answer (λ read. (q : Query) → IsAccepted signature (chars text) q → q ≡ read.tree)
   -- a refusal, unless memory was refused, means that the text is accepted with no tree
   pub refused : IfErr answer (λ e. kind_of e ≢ NoMemory → (q : Query) → IsAccepted signature (chars text) q → ⊥)
-  -- a missing root is reported exactly where the text does not begin with `$`
+  -- a missing root is reported exactly where a text whose end has a position does not begin with `$`
   pub missing_root : IsErrAnd answer (λ e. kind_of e ≡ ExpectedRoot) ↔ ((length text < 2 ^ 64 - 1) × (begins is_dollar (chars text) ≡ false))
   -- text after the path is reported only where the bytes before the position are an accepted text
   pub text_after : IfErr answer (λ e. kind_of e ≡ TextAfterPath → (q : Query) × IsAccepted signature (chars (take (position_of e - 1) text)) q)
@@ -47,11 +47,11 @@ pub record Answers (signature : List ℕ → Option Signature) (text : List ℕ)
   pub undefined : IfErr answer (λ e. kind_of e ≡ UndefinedFunction → IsUndeclared signature (chars (drop (position_of e - 1) text)))
   -- a refusal stands at the start of a character, or at the end of the text
   pub position : IfErr answer (λ e. (1 ≤ position_of e) × IsCharBoundary text (position_of e - 1))
-  -- want of memory stands at 1
+  -- `NoMemory` is reported at position 1,
   pub memory_position : IfErr answer (λ e. kind_of e ≡ NoMemory → position_of e ≡ 1)
-  -- and is not reported where nothing is to be kept
+  -- and never where there is nothing to store,
   pub spares_memory : length text < 2 ^ 64 - 1 → NeedsNoMemory (chars text) → IfErr answer (λ e. kind_of e ≢ NoMemory)
-  -- but of a text whose end has no number
+  -- except for a text so long that its end has no position
   pub too_long : length text ≡ 2 ^ 64 - 1 → IsErrAnd answer (λ e. kind_of e ≡ NoMemory)
 
 -- the same of a result that is seen as a tree and its signatures

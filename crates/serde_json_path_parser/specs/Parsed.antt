@@ -32,13 +32,13 @@ abbrev pub front : (ℕ → Bool) → List ℕ → List ℕ
 front p [] = []
 front p (c ∷ cs) = if p c then c ∷ front p cs else []
 
-abbrev pub behind : (ℕ → Bool) → List ℕ → List ℕ
-behind p [] = []
-behind p (c ∷ cs) = if p c then behind p cs else c ∷ cs
+abbrev pub past : (ℕ → Bool) → List ℕ → List ℕ
+past p [] = []
+past p (c ∷ cs) = if p c then past p cs else c ∷ cs
 
 -- what is after the blanks
 abbrev pub past_blanks : List ℕ → List ℕ
-past_blanks cs = behind is_blank cs
+past_blanks cs = past is_blank cs
 
 -- as many items as there are while more says that one begins, and at most fuel of them
 unfoldable pub many_at : {A : Type 0} → (List ℕ → Bool) → (List ℕ → Parsed A) → ℕ → List ℕ → Parsed (List A)

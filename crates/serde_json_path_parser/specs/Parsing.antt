@@ -6,14 +6,14 @@ use Rattle.serde_json_path_parser.specs.declared.error.ParseErrorKind.TheVariant
 use Rattle.serde_json_path_parser.specs.declared.error.Context as declared
 use Rattle.serde_json_path_parser.specs.declared.error.Context.TheVariants as context
 use Rattle.serde_json_path_parser.specs.Lexical.{is_at, begins, is_digit, is_name_first, is_name_char, value_from}
-use Rattle.serde_json_path_parser.specs.Parsed.{Parsed, ◌>>=◌, refusal, front, behind, past_blanks, many, refusal_at, byte_count}
+use Rattle.serde_json_path_parser.specs.Parsed.{Parsed, ◌>>=◌, refusal, front, past, past_blanks, many, refusal_at, byte_count}
 use Rattle.serde_json_path_parser.specs.Strings.{string_at}
 
 -- ---- names and integers
 
 unfoldable pub name_at : declared.Context → List ℕ → Parsed (List ℕ)
 name_at here cs =
-    if begins is_name_first cs then Ok (encode_utf8_all (front is_name_char cs), behind is_name_char cs)
+    if begins is_name_first cs then Ok (encode_utf8_all (front is_name_char cs), past is_name_char cs)
     else Err (refusal BadMemberName here cs)
 
 -- a digit that may stand first, after `-` too
@@ -23,7 +23,7 @@ is_first_digit c = nat_le 49 c && nat_le c 57
 -- the digits of an integer, at whose first character start bytes are left; they are read whole before their range is judged
 unfoldable pub digits_at : ℕ → List ℕ → Parsed ℕ
 digits_at start cs =
-    if nat_le (value_from 0 (front is_digit cs)) largest then Ok (value_from 0 (front is_digit cs), behind is_digit cs)
+    if nat_le (value_from 0 (front is_digit cs)) largest then Ok (value_from 0 (front is_digit cs), past is_digit cs)
     else Err (refusal_at IntegerOutOfRange context.LongHand start)
 
 -- -n
@@ -83,9 +83,9 @@ segment_list [] = no_segments
 segment_list (s ∷ ss) = segment s.0 s.1 (segment_list ss)
 
 -- where a refusal of a member name after one dot stands
-abbrev pub behind_dot : declared.Context → declared.Context
-behind_dot context.Path = context.DotMemberName
-behind_dot here = here
+abbrev pub after_dot : declared.Context → declared.Context
+after_dot context.Path = context.DotMemberName
+after_dot here = here
 
 -- a segment and its kind
 abbrev pub of_kind : SegmentKind → Parsed Segment → Parsed (SegmentKind × Segment)
@@ -128,7 +128,7 @@ module _ (filter_at : List ℕ → Parsed Selector) (here : declared.Context) wh
 
   -- after `.`
   unfoldable pub dot_at : List ℕ → Parsed (SegmentKind × Segment)
-  dot_at cs = if is_at "." cs then of_kind descendant (descendant_at (drop 1 cs)) else of_kind child (dotted_at (behind_dot here) cs)
+  dot_at cs = if is_at "." cs then of_kind descendant (descendant_at (drop 1 cs)) else of_kind child (dotted_at (after_dot here) cs)
 
   -- at `.` or `[`
   unfoldable pub segment_at : List ℕ → Parsed (SegmentKind × Segment)
@@ -142,5 +142,5 @@ module _ (filter_at : List ℕ → Parsed Selector) (here : declared.Context) wh
   segments_at cs = many opens_next next_segment_at cs
 
 -- a segment begins after `$` and blanks
-abbrev pub opens_behind_root : List ℕ → Bool
-opens_behind_root cs = is_at "$" cs && opens_next (drop 1 cs)
+abbrev pub opens_after_root : List ℕ → Bool
+opens_after_root cs = is_at "$" cs && opens_next (drop 1 cs)

@@ -19,8 +19,7 @@ module _ {S : Type 0} {g : Ghosts S} where
   abbrev pub seen : Reader S g → ℕ
   seen r = up_to_second r.index r.next r.second
 
-  -- The text stays, what was read stays read, each byte is looked at once at most, and none beyond those that were
-  -- seen.
+  -- The text stays, what was read stays read, there were no more looks than bytes that were seen, and none beyond them.
   pub record Moves (old new : Reader S g) : Type 0 where
     pub same_source : new.source.ghost_name ≡ old.source.ghost_name
     pub same_text : (told new).text ≡ (told old).text

@@ -1,4 +1,4 @@
-//! Why a text is no path.
+//! Why a text is not a path.
 
 ghost use Rattle.std.specs.Prelude.{◌≡◌};
 ghost use Rattle.serde_json_path_parser.specs.declared.error.Failure.TheVariants.{Memory};
@@ -57,7 +57,7 @@ pub enum ParseErrorKind {
     FractionTooLong,
 }
 
-/// Where in a path a refusal stands. Its message begins with that.
+/// Where in a path a refusal is, as far as its message says so.
 #[derive(Clone, Copy, Debug, PartialEq, Eq)]
 pub(crate) enum Context {
     /// Outside brackets, and not after a single `.`.
@@ -138,7 +138,7 @@ impl ParseError {
     }
 
     /// Where it is wrong: the number of a byte of the text, counted from 1, or one more than the text's length for
-    /// its end. It is at the start of a character; it is 1 for `NoMemory`.
+    /// its end. Of an error of a parse it is at the start of a character, and 1 for `NoMemory`.
     pub fn position(&self) -> usize
         ensures { result ≡ position_of self.now }
     {

@@ -1,6 +1,6 @@
 //! The typed grammar of JSONPath (RFC 9535), and its parser.
 //!
-//! [`parse`] reads the path that a [`PathSource`] holds, from left to right and each byte once, into a finished query. A
+//! [`parse`] reads the path that a [`PathSource`] holds, from left to right, into a finished query. A
 //! [`ParseError`] says why a text is refused, and at which position.
 //!
 //! ```text
@@ -9,7 +9,7 @@
 //! ```
 //!
 //! Definitions are in `specs/`: `Lexical` has names, strings and numbers, `Grammar` which text reads as which tree, `Accepted`
-//! the typed grammar, `Parse` what a parse promises, `Errors` positions and messages, `Source` what a source holds and counts.
+//! the typed grammar, `Parse` what a parse promises, `Errors` messages, `Source` what a source holds and counts.
 //! `src/parser` follows the grammar, one module for each part.
 #![tactic(auto)]
 

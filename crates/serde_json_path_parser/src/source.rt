@@ -10,7 +10,7 @@ pub trait PathSource {
     /// The text, the number of looks so far, and the farthest byte looked at.
     ghost told: { Self → Told };
 
-    /// The length of the text in bytes. This is no look.
+    /// The length of the text in bytes. This does not count as a look.
     fn len(&self) -> usize
         ensures bytes { result ≡ length (told self.now).text }
         ensures utf8 { IsUtf8 (told self.now).text };
@@ -26,8 +26,8 @@ pub trait PathSource {
 #[derive(Drop)]
 pub struct TextSource<'t> {
     text: &'t str,
-    /// How many bytes from the first one on were looked at in order. A parse looks at its text in this way, and then
-    /// this number is both the looks and the farthest byte.
+    /// How many bytes from the first one on were looked at in order. Where all looks are in order, this number is both
+    /// the looks and the farthest byte.
     in_order: usize,
     other_looks: u128,
     other_farthest: usize,
@@ -36,7 +36,7 @@ pub struct TextSource<'t> {
 impl<'t> TextSource<'t> {
     ghost use Rattle.serde_json_path_parser.specs.TextSources.{told_by};
 
-    /// A source that was not looked at yet.
+    /// A source that has not been looked at yet.
     pub fn new(text: &'t str) -> TextSource<'t>
         ensures { told_by result ≡ record { text = text.now; looks = 0; farthest = 0 } }
     {

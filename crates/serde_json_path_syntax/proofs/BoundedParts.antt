@@ -1,7 +1,6 @@
 -- The bound of some parts' numbers.
-use Rattle.std.proofs.Common.{◌≡◌, ℕ, zero, suc, ◌<◌, ◌≤◌, List, [], ◌∷◌, length, get_or, Option, Some, None, IfSome, ap, arith}
-use Rattle.serde_json_path_syntax.specs.PartBounds.{parts_bound, selector_bound}
-use Rattle.serde_json_path_syntax.specs.declared.selector_ref.SelectorRef.{SelectorRef}
+use Rattle.std.proofs.Common.{◌≡◌, ℕ, zero, suc, ◌<◌, List, [], ◌∷◌, length, get_or, ap, arith}
+use Rattle.serde_json_path_syntax.specs.PartBounds.{parts_bound}
 use Rattle.serde_json_path_syntax.specs.declared.node.Part.{Part}
 
 -- each part's number is below the bound
@@ -13,11 +12,6 @@ within_bound (p ∷ parts) zero part h e =
 within_bound (p ∷ parts) (suc i) part h e =
     let later = within_bound parts i part (omega (arith, h)) e in
     omega arith
-
--- what a selector refers to is below a greater bound
-pub some_below : (found : Option SelectorRef) (low high : ℕ) → low ≤ high → IfSome found (λ selector_ref. selector_bound selector_ref ≤ low) → IfSome found (λ selector_ref. selector_bound selector_ref ≤ high)
-some_below None low high le h = tt
-some_below (Some selector_ref) low high le h = let below : selector_bound selector_ref ≤ low = h in omega arith
 
 pub within_get : (parts : List Part) (i : ℕ) (d : Part) → i < length parts → (get_or parts i d).number < parts_bound parts
 within_get [] i d h = omega (arith, h)

@@ -125,10 +125,6 @@ piece_at-is nodes i d grown h =
 pub piece_at-node : (nodes : List Node) (i : ℕ) (d n : Node) → IsGrown nodes → i < length nodes → d ≡ get_or nodes i d → d ≡ n → piece_at nodes i ≡ piece_of (pieces nodes) n
 piece_at-node nodes i d n grown h e f = piece_at-is nodes i d grown h ∙ ap (piece_of (pieces nodes)) (sym e ∙ f)
 
--- the numbers that a node names stand before it
-pub named_before : (nodes : List Node) (i : ℕ) (d n : Node) → IsGrown nodes → i < length nodes → d ≡ get_or nodes i d → d ≡ n → NamesBelow i n
-named_before nodes i d n grown h e f = subst (NamesBelow i) (sym e ∙ f) (grown i d h)
-
 -- ---- a push
 
 pushed_is : (old new : List Node) (n : Node) (p : ℕ) → new ≡ old ++ n ∷ [] → p ≡ length old → (p < length new) × (piece_at new p ≡ piece_of (pieces old) n)

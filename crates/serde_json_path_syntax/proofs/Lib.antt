@@ -8,7 +8,7 @@ pub mod NamedParts
 pub mod Bounds
 -- the bound of some parts' numbers
 pub mod BoundedParts
--- segments of parts of which each is singular
+-- a bracket with two selectors or more is not singular
 pub mod SingularParts
 -- ---- typing
 
@@ -16,6 +16,8 @@ pub mod SingularParts
 pub mod Typings
 -- well-typedness rests on the signatures of the called names alone
 pub mod TypedByNames
+-- one of several parts that are well-typed is well-typed
+pub mod TypedParts
 -- ---- the names that a query calls
 
 -- what holds of each call that a part makes holds of each that a part of it makes

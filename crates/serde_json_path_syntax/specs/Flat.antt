@@ -39,15 +39,31 @@ abbrev pub segment_kind_view : reach.SegmentKind → SegmentKind
 segment_kind_view Child = child
 segment_kind_view Descendant = descendant
 
--- ---- out of pieces; what stands in the place of a piece of another kind is made by no builder
+-- ---- trees that are ill-typed under every signature; they stand in for a piece of the wrong kind, so a well-typed tree has no such piece
 
+-- a number that is not whole: no parameter takes it
+abbrev pub untyped_argument : Argument
+untyped_argument = literal_argument (tree.number (pos 1))
+
+abbrev pub untyped_call : Call
+untyped_call = call [] (argument untyped_argument no_arguments)
+
+abbrev pub untyped_or : LogicalOr
+untyped_or = or (and (test untyped_call) no_and) no_or
+
+abbrev pub untyped_segment : Segment
+untyped_segment = long_hand (selector (filter untyped_or) no_selectors)
+
+-- ---- out of pieces
+
+-- beyond the last piece
 abbrev pub no_piece : Piece
 no_piece = a_query (query root no_segments)
 
 -- the query of a piece
 abbrev pub query_in : Piece → Query
 query_in (a_query q) = q
-query_in _ = query root no_segments
+query_in _ = query root (segment child untyped_segment no_segments)
 
 -- the kind and the segment of a piece
 abbrev pub segment_kind_in : Piece → SegmentKind
@@ -56,35 +72,35 @@ segment_kind_in _ = child
 
 abbrev pub segment_in : Piece → Segment
 segment_in (a_segment kind seg) = seg
-segment_in _ = long_hand no_selectors
+segment_in _ = untyped_segment
 
 abbrev pub selector_in : Piece → Selector
 selector_in (a_selector sel) = sel
-selector_in _ = wildcard
+selector_in _ = filter untyped_or
 
 abbrev pub or_in : Piece → LogicalOr
 or_in (an_or e) = e
-or_in _ = no_or
+or_in _ = untyped_or
 
 abbrev pub and_in : Piece → LogicalAnd
 and_in (an_and e) = e
-and_in _ = no_and
+and_in _ = and (test untyped_call) no_and
 
 abbrev pub basic_in : Piece → Basic
 basic_in (a_basic b) = b
-basic_in _ = paren no_or
+basic_in _ = test untyped_call
 
 abbrev pub comparable_in : Piece → Comparable
 comparable_in (a_comparable c) = c
-comparable_in _ = literal null
+comparable_in _ = called untyped_call
 
 abbrev pub call_in : Piece → Call
 call_in (a_call c) = c
-call_in _ = call [] no_arguments
+call_in _ = untyped_call
 
 abbrev pub argument_in : Piece → Argument
 argument_in (an_argument a) = a
-argument_in _ = literal_argument null
+argument_in _ = untyped_argument
 
 abbrev pub segments_in : List Piece → Segments
 segments_in [] = no_segments
@@ -151,7 +167,7 @@ comparable_of earlier (side.Literal l) = literal (literal_view l)
 comparable_of earlier (side.Singular part) = singular (query_in (piece_in earlier part.number))
 comparable_of earlier (side.Called part) = called (call_in (piece_in earlier part.number))
 
--- the literal that writes a text, a truth value or null; what no builder makes of one stands for a number that is not whole
+-- the literal that writes a text, a truth value or null; any other value, which no builder makes, stands in as a number that is not whole
 abbrev pub literal_of : Data → Literal
 literal_of (string t) = text t
 literal_of (boolean b) = truth b
@@ -187,6 +203,12 @@ pieces nodes = pieces_from [] nodes
 abbrev pub piece_at : List Node → ℕ → Piece
 piece_at nodes number = piece_in (pieces nodes) number
 
+abbrev pub segment_at : List Node → Part → Segment
+segment_at nodes part = segment_in (piece_at nodes part.number)
+
+abbrev pub selector_at : List Node → Part → Selector
+selector_at nodes part = selector_in (piece_at nodes part.number)
+
 abbrev pub or_at : List Node → Part → LogicalOr
 or_at nodes part = or_in (piece_at nodes part.number)
 
@@ -208,6 +230,10 @@ argument_at nodes part = argument_in (piece_at nodes part.number)
 -- the segments of so many parts
 abbrev pub segments_at : List Node → List Part → Segments
 segments_at nodes parts = segments_in (pieces_named (pieces nodes) parts)
+
+-- the selectors of so many parts
+abbrev pub selectors_at : List Node → List Part → Selectors
+selectors_at nodes parts = selectors_in (pieces_named (pieces nodes) parts)
 
 -- the query of a part
 abbrev pub part_query : List Node → Part → Query

@@ -8,7 +8,7 @@ pub mod Typing
 pub mod Depth
 -- the calls that a query makes
 pub mod Calls
--- the names that a query calls, each with the signature under which the query is well-typed
+-- the names that a query calls, each with the signature under which the query is well-typed; the limit of its depth
 pub mod Used
 -- the text in which a query is printed, as the bytes of its UTF-8
 pub mod Text

@@ -1,5 +1,5 @@
--- Well-typed queries (RFC 9535, section 2.4.3): each call names a declared function, has an argument for each parameter
--- of a form that it takes, and stands where its result may stand.
+-- Well-typed queries (RFC 9535, section 2.4.3): each call names a declared function, has one argument for each parameter,
+-- of a form that the parameter takes, and stands where its result may stand.
 use Rattle.std.specs.Prelude.{◌≡◌, ℕ, ℤ, pos, ◌*ℤ◌, List, [], ◌∷◌, ◌⊎◌, Option, Some, option_map}
 use Rattle.serde_json_path_syntax.specs.Tree.{Query, query, Segments, no_segments, segment, Segment, dot_name, dot_wildcard, long_hand, Selectors, no_selectors, selector, Selector, name, wildcard, index, slice, filter, LogicalOr, no_or, or, LogicalAnd, no_and, and, Basic, paren, not_paren, relation, exist, not_exist, test, not_test, Comparable, literal, singular, called, Call, call, Arguments, no_arguments, argument, Argument, literal_argument, query_argument, call_argument, logical_argument, Literal, text, number, truth, null, IsSingular}
 use Rattle.serde_json_path_functions.specs.Functions.{Kind, of_value, of_nodes, of_logical, Signature}
@@ -91,3 +91,7 @@ module _ (signature : List ℕ → Option Signature) where
     IsTypedArgument (call_argument c) kind = IsTypedCall c × TakesResult kind (result_kind c)
     IsTypedArgument (logical_argument e) of_logical = IsTypedOr e
     IsTypedArgument (logical_argument e) _ = ⊥
+
+-- the part is well-typed under some signatures, which is enough to know that it has no piece of the wrong kind
+abbrev pub UnderSome : {A : Type 0} → ((List ℕ → Option Signature) → A → Type 0) → A → Type 0
+UnderSome typed part = (signature : List ℕ → Option Signature) × typed signature part

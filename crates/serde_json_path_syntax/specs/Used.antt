@@ -1,4 +1,4 @@
--- The names that a query calls, each with the signature under which the query is well-typed.
+-- The names that a query calls, each with the signature under which the query is well-typed; the limit of its depth.
 use Rattle.std.specs.Prelude.{◌≡◌, ◌≢◌, ◌≤◌, ◌↔◌, ℕ, List, [], ◌∷◌, map, filter, not, Option, Some, None, if◌then◌else◌, bytes_eq}
 use Rattle.serde_json_path_syntax.specs.Tree.{Query, root, kind_of}
 use Rattle.serde_json_path_functions.specs.Functions.{Signature}
@@ -41,8 +41,8 @@ AreCalled used q = IsInOrder (λ (a b : List ℕ × Signature). a.0 ≢ b.0) use
 abbrev pub deepest : ℕ
 deepest = 128
 
--- A query from the root whose calls these are, each with its signature: a name always has the same one, and the query is
--- well-typed under them.
+-- A query from the root, no deeper than the limit, that calls the names of these calls and no other. A name always has the
+-- same signature, and the query is well-typed under these signatures.
 pub record MayFinish (calls : List (List ℕ × Signature)) (q : Query) : Type 0 where
   pub rooted : kind_of q ≡ root
   pub typed : IsTyped (signature_in calls) q

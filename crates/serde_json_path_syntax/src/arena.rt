@@ -18,7 +18,8 @@ impl Arena {
     ghost use Rattle.serde_json_path_functions.specs.Functions.{Signature};
     ghost use Rattle.serde_json_path_syntax.specs.Lists.{IsIn};
     ghost use Rattle.serde_json_path_syntax.specs.PartBounds.{parts_bound};
-    ghost use Rattle.serde_json_path_syntax.specs.Tree.{segments_of};
+    ghost use Rattle.serde_json_path_syntax.specs.Tree.{Query, segments_of};
+    ghost use Rattle.serde_json_path_syntax.specs.Piece.{a_query};
 
     /// No nodes. Takes no memory.
     pub(crate) fn new(alloc: Global) -> Arena
@@ -64,14 +65,15 @@ impl Arena {
 
     /// The segments of a query, in order.
     pub(crate) fn segments(&self, query: Part) -> &[Part]
-        requires { query.number < length self.now.nodes.items }
+        requires within { query.number < length self.now.nodes.items }
+        requires is { (q : Query) × (piece_at self.now.nodes.items query.number ≡ a_query q) }
         ensures tree { segments_at self.now.nodes.items result.now
             ≡ segments_of (part_query self.now.nodes.items query) }
         ensures below { parts_bound result.now ≤ query.number }
     {
         match self.node(query) {
             Node::Query { segments, .. } => segments.as_slice(),
-            _ => &[],
+            _ => unreachable!(),
         }
     }
 }

@@ -84,6 +84,7 @@ impl SyntaxBuilder {
     }
 
     /// A bracket segment of one selector or more, in order.
+    #[tactic(auto, using(crate::proofs::NamedParts::of_named_parts))]
     pub fn long_hand(&mut self, kind: SegmentKind, selectors: Parts) -> Result<Part, AllocError>
         requires { (sels : tree.Selectors) × AreSelectorsOf self.old (parts_in selectors) sels }
         ensures made { IfOk result (λ part.
@@ -146,6 +147,7 @@ impl SyntaxBuilder {
     }
 
     /// A logical expression: one operand of `||` or more, in order (RFC 9535, section 2.3.5.1).
+    #[tactic(auto, using(crate::proofs::NamedParts::of_named_parts))]
     pub fn logical_or(&mut self, parts: Parts) -> Result<Part, AllocError>
         requires { (e : tree.LogicalOr) × AreOrPartsOf self.old (parts_in parts) e }
         ensures made { IfOk result (λ part.
@@ -157,6 +159,7 @@ impl SyntaxBuilder {
     }
 
     /// An operand of `||`: one operand of `&&` or more, in order (RFC 9535, section 2.3.5.1).
+    #[tactic(auto, using(crate::proofs::NamedParts::of_named_parts))]
     pub fn logical_and(&mut self, parts: Parts) -> Result<Part, AllocError>
         requires { (e : tree.LogicalAnd) × AreAndPartsOf self.old (parts_in parts) e }
         ensures made { IfOk result (λ part.
@@ -287,8 +290,8 @@ impl SyntaxBuilder {
         self.push(Node::Basic(Basic::NotTest(call)))
     }
 
-    /// A call of a function by name, with the signature that the name has, and with its arguments in order (RFC 9535,
-    /// section 2.4).
+    /// A call of a function by name, which keeps that signature, with its arguments in order (RFC 9535, section 2.4).
+    #[tactic(auto, using(crate::proofs::NamedParts::of_named_parts))]
     pub fn call(
         &mut self,
         name: String,
@@ -359,6 +362,7 @@ impl SyntaxBuilder {
     }
 
     /// A query of these segments, in order.
+    #[tactic(auto, using(crate::proofs::NamedParts::of_named_parts))]
     pub fn query(&mut self, kind: QueryKind, segments: Parts) -> Result<Part, AllocError>
         requires { (segs : tree.Segments) × ArePartsOf self.old (parts_in segments) segs }
         ensures made { IfOk result (λ part.
@@ -371,9 +375,9 @@ impl SyntaxBuilder {
 
     /// The finished tree of a part. Takes no memory.
     ///
-    /// The query starts at the root, nests at most 128 filters, parentheses and calls, and makes each call that the
-    /// builder has made. A name always has the same signature, and the query is well-typed under them (RFC 9535, section
-    /// 2.4.3).
+    /// The query starts at the root, nests at most 128 filters, parentheses and calls, and calls exactly the names of the
+    /// calls that the builder has made. Each name always has the same signature, and the query is well-typed under these
+    /// signatures (RFC 9535, section 2.4.3).
     pub fn finish(self, part: Part) -> Checked
         requires { (q : tree.Query) × IsPart self part (a_query q) × MayFinish (calls_in self) q }
         ensures tree { (q : tree.Query) → IsPart self part (a_query q) → tree_of result ≡ q }

@@ -18,7 +18,8 @@ use std::alloc::Global;
 
 /// A well-typed query from the document's root.
 ///
-/// Contracts see it as its syntax tree and the signatures of the functions that it calls.
+/// Contracts see it as its syntax tree and the signatures of the functions that it calls. Those of its parts see the nodes
+/// of which the tree is made.
 #[derive(Drop)]
 pub struct Checked {
     arena: Arena,
@@ -38,9 +39,9 @@ impl Checked {
     ghost use Rattle.serde_json_path_functions.specs.Functions.{FunctionSet, Signature};
     ghost use Rattle.serde_json_path_functions.specs.Terms.{kind_view};
     ghost use Rattle.serde_json_path_syntax.specs.Calls.{arguments_of, name_of};
-    ghost use Rattle.serde_json_path_syntax.specs.Typing.{IsTypedCall};
+    ghost use Rattle.serde_json_path_syntax.specs.Typing.{AreTypedSelectors, IsTyped, IsTypedAnd, IsTypedCall, IsTypedOr, IsTypedSegment, IsTypedSelector, UnderSome};
     ghost use Rattle.serde_json_path_syntax.specs.Used.{MayFinish};
-    ghost use Rattle.serde_json_path_syntax.specs.Flat.{or_at, ors_in, and_at, ands_in, call_at, arguments_in, part_query, kind_view as query_kind_view, segment_kind_view, selector_in, selectors_in, piece_at, piece_of, pieces, pieces_named, segments_at, NamesBelow};
+    ghost use Rattle.serde_json_path_syntax.specs.Flat.{or_at, ors_in, and_at, ands_in, call_at, arguments_in, part_query, kind_view as query_kind_view, segment_kind_view, piece_at, piece_of, pieces, pieces_named, segment_at, segments_at, selector_at, selectors_at, NamesBelow};
     ghost use Rattle.serde_json_path_syntax.specs.Stages.{selectors_list};
     ghost use Rattle.serde_json_path_syntax.specs.Parts.{nodes_in, number_of, tree_of, signatures_of};
     ghost use Rattle.serde_json_path_syntax.specs.PartBounds.{parts_bound, selector_bound};
@@ -94,14 +95,11 @@ impl Checked {
         self.arena.node(part)
     }
 
-    /// Where the query begins.
+    /// Where the query begins: at the root.
     pub fn kind(&self) -> QueryKind
         ensures { query_kind_view result ≡ kind_of (tree_of self.now) }
     {
-        match self.query {
-            None => QueryKind::Root,
-            Some(part) => self.part_kind(part),
-        }
+        QueryKind::Root
     }
 
     /// The query's segments, in order.
@@ -115,20 +113,23 @@ impl Checked {
         }
     }
 
+    // Here and below: a node of the wrong kind stands for an ill-typed tree, so the other branch is never reached.
     /// Where a query begins.
     pub fn part_kind(&self, query: Part) -> QueryKind
-        requires { number_of query < length (nodes_in self.now) }
+        requires within { number_of query < length (nodes_in self.now) }
+        requires typed { UnderSome IsTyped (part_query (nodes_in self.now) query) }
         ensures { query_kind_view result ≡ kind_of (part_query (nodes_in self.now) query) }
     {
         match self.node(query) {
             Node::Query { kind, .. } => *kind,
-            _ => QueryKind::Root,
+            _ => unreachable!(),
         }
     }
 
     /// The segments of a query, in order.
     pub fn part_segments(&self, query: Part) -> &[Part]
-        requires { number_of query < length (nodes_in self.now) }
+        requires within { number_of query < length (nodes_in self.now) }
+        requires typed { UnderSome IsTyped (part_query (nodes_in self.now) query) }
         ensures tree { segments_at (nodes_in self.now) result.now
             ≡ segments_of (part_query (nodes_in self.now) query) }
         ensures below { parts_bound result.now ≤ number_of query }
@@ -138,44 +139,48 @@ impl Checked {
 
     /// The operands of `||` in a logical expression.
     pub fn or_parts(&self, expression: Part) -> &[Part]
-        requires { number_of expression < length (nodes_in self.now) }
+        requires within { number_of expression < length (nodes_in self.now) }
+        requires typed { UnderSome IsTypedOr (or_at (nodes_in self.now) expression) }
         ensures tree { or_at (nodes_in self.now) expression
             ≡ ors_in (pieces_named (pieces (nodes_in self.now)) result.now) }
         ensures below { parts_bound result.now ≤ number_of expression }
     {
         match self.node(expression) {
             Node::LogicalOr(parts) => parts.as_slice(),
-            _ => &[],
+            _ => unreachable!(),
         }
     }
 
     /// The operands of `&&` in an operand of `||`.
     pub fn and_parts(&self, expression: Part) -> &[Part]
-        requires { number_of expression < length (nodes_in self.now) }
+        requires within { number_of expression < length (nodes_in self.now) }
+        requires typed { UnderSome IsTypedAnd (and_at (nodes_in self.now) expression) }
         ensures tree { and_at (nodes_in self.now) expression
             ≡ ands_in (pieces_named (pieces (nodes_in self.now)) result.now) }
         ensures below { parts_bound result.now ≤ number_of expression }
     {
         match self.node(expression) {
             Node::LogicalAnd(parts) => parts.as_slice(),
-            _ => &[],
+            _ => unreachable!(),
         }
     }
 
     /// The name of the function that a call calls.
     pub fn called_name(&self, call: Part) -> &str
-        requires { number_of call < length (nodes_in self.now) }
+        requires within { number_of call < length (nodes_in self.now) }
+        requires typed { UnderSome IsTypedCall (call_at (nodes_in self.now) call) }
         ensures { result.now ≡ name_of (call_at (nodes_in self.now) call) }
     {
         match self.node(call) {
             Node::Call { name, .. } => name.as_str(),
-            _ => "",
+            _ => unreachable!(),
         }
     }
 
     /// The types of the parameters of the function that a call calls.
     pub fn parameters(&self, call: Part) -> &[FunctionArgType]
-        requires { number_of call < length (nodes_in self.now) }
+        requires within { number_of call < length (nodes_in self.now) }
+        requires typed { UnderSome IsTypedCall (call_at (nodes_in self.now) call) }
         ensures { (F : FunctionSet) (s : Signature) → Fits F (signatures_of self.now)
             → IsTypedCall F.signature (call_at (nodes_in self.now) call)
             → F.signature (name_of (call_at (nodes_in self.now) call)) ≡ Some s
@@ -183,39 +188,42 @@ impl Checked {
     {
         match self.node(call) {
             Node::Call { signature, .. } => signature.params(),
-            _ => &[],
+            _ => unreachable!(),
         }
     }
 
     /// The arguments of a call, in order.
     pub fn arguments(&self, call: Part) -> &[Part]
-        requires { number_of call < length (nodes_in self.now) }
+        requires within { number_of call < length (nodes_in self.now) }
+        requires typed { UnderSome IsTypedCall (call_at (nodes_in self.now) call) }
         ensures tree { arguments_of (call_at (nodes_in self.now) call)
             ≡ arguments_in (pieces_named (pieces (nodes_in self.now)) result.now) }
         ensures below { parts_bound result.now ≤ number_of call }
     {
         match self.node(call) {
             Node::Call { arguments, .. } => arguments.as_slice(),
-            _ => &[],
+            _ => unreachable!(),
         }
     }
 
     /// How far a segment goes down.
     pub fn segment_kind(&self, segment: Part) -> SegmentKind
-        requires { number_of segment < length (nodes_in self.now) }
+        requires within { number_of segment < length (nodes_in self.now) }
+        requires typed { UnderSome IsTypedSegment (segment_at (nodes_in self.now) segment) }
         ensures { segment_kind_view result ≡ (stage_at (nodes_in self.now) segment).kind }
     {
         match self.node(segment) {
             Node::Segment { kind, .. } => *kind,
-            _ => SegmentKind::Child,
+            _ => unreachable!(),
         }
     }
 
     /// A selector in brackets.
     fn selector(&self, part: Part) -> SelectorRef<'_>
-        requires { part.number < length (nodes_in self.now) }
+        requires within { part.number < length (nodes_in self.now) }
+        requires typed { UnderSome IsTypedSelector (selector_at (nodes_in self.now) part) }
         ensures selector_ref { selector_view (nodes_in self.now) result
-            ≡ selector_in (piece_at (nodes_in self.now) part.number) }
+            ≡ selector_at (nodes_in self.now) part }
         ensures below { selector_bound result ≤ part.number }
     {
         match self.node(part) {
@@ -226,18 +234,19 @@ impl Checked {
                 Selector::Slice(slice) => SelectorRef::Slice(*slice),
                 Selector::Filter(test) => SelectorRef::Filter(*test),
             },
-            _ => SelectorRef::Wildcard,
+            _ => unreachable!(),
         }
     }
 
     /// The selector at that index, from 0, among those in brackets.
     fn bracketed(&self, selectors: &[Part], number: usize) -> Option<SelectorRef<'_>>
-        requires { parts_bound selectors.now ≤ length (nodes_in self.now) }
+        requires within { parts_bound selectors.now ≤ length (nodes_in self.now) }
+        requires typed { UnderSome AreTypedSelectors (selectors_at (nodes_in self.now) selectors.now) }
         ensures more { IsSome result → number + 1 < 2 ^ 64 }
         ensures below { IfSome result (λ selector_ref.
             selector_bound selector_ref ≤ parts_bound selectors.now) }
         ensures selector_ref { option_map (selector_view (nodes_in self.now)) result
-            ≡ slice_get (selectors_list (selectors_in (pieces_named (pieces (nodes_in self.now)) selectors.now))) number }
+            ≡ slice_get (selectors_list (selectors_at (nodes_in self.now) selectors.now)) number }
     {
         match selectors.get(number) {
             Some(part) => Some(self.selector(*part)),
@@ -247,7 +256,8 @@ impl Checked {
 
     /// The selector at that index, from 0, in a segment.
     pub fn selector_ref(&self, segment: Part, number: usize) -> Option<SelectorRef<'_>>
-        requires { number_of segment < length (nodes_in self.now) }
+        requires within { number_of segment < length (nodes_in self.now) }
+        requires typed { UnderSome IsTypedSegment (segment_at (nodes_in self.now) segment) }
         ensures more { IsSome result → number + 1 < 2 ^ 64 }
         ensures below { IfSome result (λ selector_ref.
             selector_bound selector_ref ≤ number_of segment) }
@@ -260,7 +270,7 @@ impl Checked {
                 Segment::DotWildcard => only(SelectorRef::Wildcard, number),
                 Segment::LongHand(selectors) => self.bracketed(selectors.as_slice(), number),
             },
-            _ => None,
+            _ => unreachable!(),
         }
     }
 }

@@ -7,7 +7,7 @@ use crate::node::Part;
 use std::alloc::{AllocError, Global};
 use std::slice;
 
-/// The parts of a query, a bracket or an expression, in order. A single part takes no memory.
+/// The parts of a query, a bracket or an expression, in order. A single part that is pushed takes no memory.
 #[derive(Debug, Drop)]
 pub struct Parts {
     alloc: Global,

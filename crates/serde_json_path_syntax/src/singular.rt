@@ -1,8 +1,9 @@
 //! Singular queries (RFC 9535, section 2.3.5.1).
 
-ghost use Rattle.std.specs.Prelude.{◌<◌, ◌≤◌, ◌↔◌, IsTrue, [], ◌∷◌, length};
-ghost use Rattle.serde_json_path_syntax.specs.Flat.{part_query, piece_at, pieces, segment_parts, segment_of, segments_at, selector_in};
+ghost use Rattle.std.specs.Prelude.{◌≡◌, ◌<◌, ◌≤◌, ◌↔◌, IsTrue, [], ◌∷◌, length};
+ghost use Rattle.serde_json_path_syntax.specs.Flat.{part_query, piece_at, pieces, segment_parts, segment_of, segments_at, selector_at};
 ghost use Rattle.serde_json_path_syntax.specs.PartBounds.{parts_bound};
+ghost use Rattle.serde_json_path_syntax.specs.Piece.{a_query};
 ghost use Rattle.serde_json_path_syntax.specs.Tree as tree;
 
 use crate::arena::Arena;
@@ -10,7 +11,8 @@ use crate::node::{Node, Part, Segment, SegmentKind, Selector};
 
 /// Whether a query is singular.
 pub(crate) fn is_singular(arena: &Arena, query: Part) -> bool
-    requires { query.number < length arena.now.nodes.items }
+    requires within { query.number < length arena.now.nodes.items }
+    requires is { (q : tree.Query) × (piece_at arena.now.nodes.items query.number ≡ a_query q) }
     ensures { IsTrue result ↔ tree.IsSingular (part_query arena.now.nodes.items query) }
 {
     for segment in arena.segments(query) {
@@ -27,10 +29,10 @@ fn is_singular_segment(arena: &Arena, segment: Part) -> bool
     ensures { IsTrue result ↔ tree.AreSingular (segments_at arena.now.nodes.items (segment ∷ [])) }
 {
     match arena.node(segment) {
-        Node::Segment { kind, segment } => match kind {
-            SegmentKind::Child => selects_one(arena, segment),
-            SegmentKind::Descendant => false,
-        },
+        Node::Segment {
+            kind: SegmentKind::Child,
+            segment,
+        } => selects_one(arena, segment),
         _ => false,
     }
 }
@@ -55,10 +57,10 @@ fn selects_one(arena: &Arena, segment: &Segment) -> bool
 fn is_name_or_index(arena: &Arena, selector: Part) -> bool
     requires { selector.number < length arena.now.nodes.items }
     ensures { IsTrue result
-        ↔ tree.IsSingularSegment (tree.long_hand (tree.selector (selector_in (piece_at arena.now.nodes.items selector.number)) tree.no_selectors)) }
+        ↔ tree.IsSingularSegment (tree.long_hand (tree.selector (selector_at arena.now.nodes.items selector) tree.no_selectors)) }
 {
-    match arena.node(selector) {
-        Node::Selector(selector) => matches!(selector, Selector::Name(_) | Selector::Index(_)),
-        _ => false,
-    }
+    matches!(
+        arena.node(selector),
+        Node::Selector(Selector::Name(_) | Selector::Index(_))
+    )
 }

@@ -3,7 +3,7 @@
 /// The parts of a slice selector `start:end:step`, each of which may be missing (RFC 9535, section 2.3.4).
 #[derive(Clone, Copy, Debug)]
 pub struct Slice {
-    /// The first position; a negative one counts from the end.
+    /// The position where it begins; a negative one counts from the end.
     pub start: Option<i64>,
     /// The position before which it ends; a negative one counts from the end.
     pub end: Option<i64>,

@@ -1,4 +1,4 @@
-use Rattle.std.proofs.Common.{◌≡◌, ℕ, ◌+◌, ◌-◌, length, map, take, [], drop, option_map, refl, sym, subst, ap, ◌∙◌, arith, ◌∷◌, ◌++◌, ◌⊎◌, true, false, inl, inr, rules, filter as keep, append_assoc}
+use Rattle.std.proofs.Common.{◌≡◌, ℕ, ◌+◌, ◌-◌, length, map, take, [], drop, option_map, refl, sym, subst, ap, ◌∙◌, arith, ◌∷◌, ◌++◌, ◌⊎◌, inl, inr, rules, filter as keep, append_assoc}
 use Rattle.std.proofs.lemmas.List.{map-append}
 use Rattle.std.proofs.lemmas.Grind.{common_steps}
 use Rattle.std.proofs.Math.Logic.{∥∥₁_map}
@@ -13,7 +13,7 @@ use Rattle.serde_json_path_syntax.specs.Flat.{segment_kind_view, segment_in, seg
 use Rattle.serde_json_path_syntax.specs.Literals.{operator_view}
 use Rattle.serde_json_path_functions.specs.Terms.{term_view, kind_view}
 use Rattle.serde_json_path_core.specs.Clear.{StandsIn}
-use Rattle.serde_json_path_core.specs.Evaluates.{Advances, ComesTo, IsDone, Sound}
+use Rattle.serde_json_path_core.specs.Evaluates.{Sound}
 use Rattle.serde_json_path_syntax.specs.Typing.{IsTypedOr, IsTypedAnd, AreTypedArguments}
 use Rattle.serde_json_path_syntax.specs.Calls.{calls_in_or, calls_in_and, name_of, arguments_of}
 use Rattle.serde_json_path_core.specs.Scopes.{Clear, nodes_of, query_of, set_of, top_of}
@@ -23,10 +23,10 @@ use Rattle.serde_json_path_syntax.specs.Stages.{selector_view, stage_at, stages_
 use Rattle.serde_json_path_core.specs.Views.{child_view}
 use Rattle.serde_json_path_syntax.specs.Lists.{IsIn}
 use Rattle.serde_json_path_core.specs.Computed as computed
-use Rattle.serde_json_path_core.proofs.Answered.{given-all, answered, answered_kind, own_pattern}
+use Rattle.serde_json_path_core.proofs.Answered.{given-all, answered, own_pattern}
 use Rattle.serde_json_path_syntax.proofs.BoundedParts.{within_get, within_bound}
-use Rattle.serde_json_path_core.proofs.OperandLists.{or-step, and-step, keep-yes, keep-no, first-found}
-use Rattle.serde_json_path_core.proofs.FrameSteps.{ends-trans, passes-start, passes-over, comes-onward, comes-down, done, chooses-none, chooses-some}
+use Rattle.serde_json_path_core.proofs.OperandLists.{keep-no, first-found}
+use Rattle.serde_json_path_core.proofs.FrameSteps.{ends-trans, passes-over, comes-onward, comes-down, done, chooses-none, chooses-some}
 use Rattle.serde_json_path_core.proofs.Started.{begun-results}
 use Rattle.serde_json_path_core.proofs.InDocument.{left_stands, stack-inside, ends-stand, begun-inside}
 use Rattle.serde_json_path_core.proofs.SoundParts.{argument-calls, next-calls, side-calls, sound-segments, sound-segment, sound-selector, sound-and, sound-basic, typed-arguments, parameters-known}

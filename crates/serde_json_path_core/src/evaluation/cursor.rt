@@ -84,7 +84,7 @@ impl<'b> Cursor<'b> {
         }
     }
 
-    /// Copies the cursor, or fails for want of memory.
+    /// Copies the cursor; fails if memory is refused.
     pub(crate) fn try_clone(&self) -> Result<Cursor<'b>, AllocError>
         ensures { IfOk result (λ c. cursor_left c ≡ cursor_left self.now) }
     {

@@ -2,9 +2,11 @@
 
 ghost use Rattle.std.specs.Prelude.{◌≡◌, ◌+◌, ◌<◌, ◌≤◌, ◌^◌, None, Some, IfOk, IfErr, MatchOption, drop, length, option_map};
 ghost use Rattle.serde_json.specs.View.{view};
+ghost use Rattle.serde_json_path_syntax.specs.Flat.{segment_at, segments_at};
 ghost use Rattle.serde_json_path_syntax.specs.Parts.{nodes_in};
 ghost use Rattle.serde_json_path_syntax.specs.Tree.{filter};
 ghost use Rattle.serde_json_path_syntax.specs.PartBounds.{parts_bound, selector_bound};
+ghost use Rattle.serde_json_path_syntax.specs.Typing.{AreTypedSegments, IsTypedSegment, UnderSome};
 ghost use Rattle.serde_json_path_core.specs.Evaluates.{Advances, Chooses, ComesTo, IsDone, SoundOr, SoundSegment, SoundSelector};
 ghost use Rattle.serde_json_path_core.specs.Scopes.{WithoutPatterns, nodes_of, top_of};
 ghost use Rattle.serde_json_path_core.specs.Cursors.{cursor_left};
@@ -66,7 +68,8 @@ fn choose<'b>(query: &Checked, selector_ref: SelectorRef<'_>, value: &'b Value) 
 
 /// The children for one selector of a segment; after the last selector, those to go down to.
 fn open<'b>(query: &Checked, segment: Part, selector: usize, value: &'b Value) -> Cursor<'b>
-    requires { segment.number < length (nodes_in query.now) }
+    requires within { segment.number < length (nodes_in query.now) }
+    requires typed { UnderSome IsTypedSegment (segment_at (nodes_in query.now) segment) }
     ensures { cursor_left result
         ≡ opened (stage_at (nodes_in query.now) segment).kind (drop selector (stage_at (nodes_in query.now) segment).selectors) (view value.now) }
 {
@@ -81,7 +84,8 @@ fn open<'b>(query: &Checked, segment: Part, selector: usize, value: &'b Value) -
 
 /// The children with which a segment begins.
 fn begin<'b>(query: &Checked, segments: &[Part], number: usize, value: &'b Value) -> Cursor<'b>
-    requires { parts_bound segments.now ≤ length (nodes_in query.now) }
+    requires within { parts_bound segments.now ≤ length (nodes_in query.now) }
+    requires typed { UnderSome AreTypedSegments (segments_at (nodes_in query.now) segments.now) }
     ensures { cursor_left result
         ≡ begun (drop number (stages_at (nodes_in query.now) segments.now)) (view value.now) }
 {
@@ -94,7 +98,8 @@ fn begin<'b>(query: &Checked, segments: &[Part], number: usize, value: &'b Value
 impl<'b> Frame<'b> {
     /// The first frame of a walk.
     pub(crate) fn start(query: &Checked, segments: &[Part], value: &'b Value) -> Frame<'b>
-        requires { parts_bound segments.now ≤ length (nodes_in query.now) }
+        requires within { parts_bound segments.now ≤ length (nodes_in query.now) }
+        requires typed { UnderSome AreTypedSegments (segments_at (nodes_in query.now) segments.now) }
         ensures { frame_view result ≡ record {
           step = None;
           value = view value.now;
@@ -114,7 +119,8 @@ impl<'b> Frame<'b> {
 
     /// The frame that a task opens.
     pub(crate) fn of(query: &Checked, segments: &[Part], task: Task<'b>) -> Frame<'b>
-        requires { parts_bound segments.now ≤ length (nodes_in query.now) }
+        requires within { parts_bound segments.now ≤ length (nodes_in query.now) }
+        requires typed { UnderSome AreTypedSegments (segments_at (nodes_in query.now) segments.now) }
         ensures { let c = child_view task.entry.child in
             frame_view result ≡ record {
               step = Some c.0;
@@ -133,7 +139,7 @@ impl<'b> Frame<'b> {
         }
     }
 
-    /// Copies the frame, or fails for want of memory.
+    /// Copies the frame; fails if memory is refused.
     fn try_clone(&self) -> Result<Frame<'b>, QueryError>
         ensures same { IfOk result (λ frame. frame_view frame ≡ frame_view self.now) }
         ensures refused { IfErr result (λ e. e ≡ Memory) }

@@ -14,7 +14,7 @@ use serde_json_path_nodes::LocatedNode;
 /// The nodes that a query selects, one at a time, in order.
 ///
 /// A walk keeps no list of nodes, only one frame per level of the document that it is in. If a call of [`Walk::next`]
-/// fails, the remaining nodes stay as they were, and a later call goes on from there.
+/// fails, the remaining nodes of a clear query (`specs/Clear`) stay as they were.
 #[derive(Drop)]
 pub struct Walk<'q, 'b, F: Functions> {
     pub(crate) scope: Scope<'q, 'b, F>,
@@ -41,9 +41,9 @@ impl<'q, 'b, F: Functions> Walk<'q, 'b, F> {
 
     /// The next node with its location, or `None` after the last one.
     ///
-    /// A refusal leaves the remaining nodes as they were, and the next call tries the same step again. So it succeeds once
-    /// memory is there, whereas a refused pattern is refused again. The error is `Pattern` only if the query calls a
-    /// function that stands for `match` or `search`, under whatever name; otherwise it is `Memory`.
+    /// A refusal leaves the remaining nodes of a clear query (`specs/Clear`) as they were, and the next call tries the same
+    /// step again. The error is `Pattern` only if the query calls a function that stands for `match` or `search`, under
+    /// whatever name; otherwise it is `Memory`.
     pub fn next(&mut self) -> Result<Option<LocatedNode<'b>>, QueryError>
         ensures query { query_of self.new ≡ query_of self.old }
         ensures set { set_of self.new ≡ set_of self.old }

@@ -117,7 +117,7 @@ fn argument_as<'x, 'q: 'x, 'b: 'x, F: Functions>(
                 Ok(FunctionValue::Logical(LogicalType::from(holds)))
             }
         },
-        _ => Ok(FunctionValue::Value(ValueType::Value(Value::Null))),
+        _ => unreachable!(),
     }
 }
 

@@ -106,7 +106,7 @@ fn basic_true<'b, F: Functions>(
                 Ok(!answer_holds(&answer))
             }
         },
-        _ => Ok(false),
+        _ => unreachable!(),
     }
 }
 
@@ -142,7 +142,7 @@ fn compared<'x, 'q: 'x, 'b: 'x, F: Functions>(
                 Ok(compared_answer(answer))
             }
         },
-        _ => Ok(ComparedValue::Made(Value::Null)),
+        _ => unreachable!(),
     }
 }
 
@@ -152,7 +152,8 @@ fn first_frame<'b, F: Functions>(
     query: Part,
     value: &'b Value,
 ) -> Frame<'b>
-    requires { query.number < length (nodes_of scope.now) }
+    requires below { query.number < length (nodes_of scope.now) }
+    requires sound { SoundQuery scope.now query }
     ensures { frame_view result
         ≡ starting_frame (top_of scope.now) (part_query (nodes_of scope.now) query) (view value.now) }
 {

@@ -24,7 +24,7 @@ pub(crate) enum Side<'s> {
     Null,
     /// A truth value.
     Bool(bool),
-    /// A number in billionths, or `None` for a number that the document does not hold as an integer, which equals none.
+    /// A number in billionths, or `None` for a number that the document does not hold as an integer, which equals no number.
     Amount(Option<i128>),
     /// A text.
     Text(&'s str),

@@ -7,7 +7,7 @@ ghost use Rattle.serde_json_path_functions.specs.Functions.{Signature};
 ghost use Rattle.serde_json_path_functions.specs.Terms.{kind_view};
 ghost use Rattle.serde_json_path_parser.specs.Filters.{argument_at, logical_from, ended};
 ghost use Rattle.serde_json_path_parser.specs.Filters as filters;
-ghost use Rattle.serde_json_path_parser.specs.Giving.{MakesArgument, MakesArguments, MakesCall, IsArgumentOf, IsOperandOf, GivesEnd, MovesTo};
+ghost use Rattle.serde_json_path_parser.specs.Giving.{MakesArgument, MakesArguments, MakesCall, IsArgumentOf, GivesEnd, MovesTo};
 ghost use Rattle.serde_json_path_parser.specs.Levels.{at_level, signatures, deeper};
 ghost use Rattle.serde_json_path_parser.specs.Lexical.{begins};
 ghost use Rattle.serde_json_path_parser.specs.Operands as operands;
@@ -20,36 +20,19 @@ use crate::parser::operand::Operand;
 use crate::parser::reader::Reader;
 use crate::source::PathSource;
 use serde_json_path_functions::{FunctionArgType, Functions};
-use serde_json_path_syntax::{Literal, Part, SyntaxBuilder};
+use serde_json_path_syntax::{Part, SyntaxBuilder};
 use std::alloc::AllocError;
 
 /// An argument of a call, before its type is checked.
 #[derive(Drop)]
 pub(crate) enum Argument {
-    /// A text, a number, `true`, `false` or `null`.
-    Literal(Literal),
-    /// A query alone.
-    Query(Part),
-    /// A call alone, and the type of its result.
-    Call(Part, FunctionArgType),
+    /// An operand that stands alone.
+    Operand(Operand),
     /// Any other logical expression.
     Logical(Part),
 }
 
 impl Argument {
-    /// An operand that stands alone.
-    fn alone(operand: Operand) -> Argument
-        ensures { (signature : List ℕ → Option Signature) (builder : SyntaxBuilder)
-            → (x : operands.Operand) → IsOperandOf signature builder operand x
-            → IsArgumentOf signature builder result (filters.alone x) }
-    {
-        match operand {
-            Operand::Literal(literal) => Argument::Literal(literal),
-            Operand::Query(query) => Argument::Query(query),
-            Operand::Call(call, result) => Argument::Call(call, result),
-        }
-    }
-
     /// Whether a parameter of that type takes the argument (RFC 9535, section 2.4.3).
     fn fits(&self, builder: &SyntaxBuilder, kind: FunctionArgType) -> bool
         requires { (signature : List ℕ → Option Signature) × (x : tree.Argument)
@@ -59,15 +42,15 @@ impl Argument {
             → result ≡ operands.fits signature x (kind_view kind) }
     {
         match self {
-            Argument::Literal(literal) => match kind {
+            Argument::Operand(Operand::Literal(literal)) => match kind {
                 FunctionArgType::Value => literal.is_value(),
                 _ => false,
             },
-            Argument::Query(query) => match kind {
+            Argument::Operand(Operand::Query(query)) => match kind {
                 FunctionArgType::Value => builder.is_singular(*query),
                 _ => true,
             },
-            Argument::Call(_, result) => {
+            Argument::Operand(Operand::Call(_, result)) => {
                 kind == *result
                     || kind == FunctionArgType::Logical && *result == FunctionArgType::Nodelist
             }
@@ -85,9 +68,9 @@ impl Argument {
         ensures keeps { KeepsParts builder.old builder.new }
     {
         match self {
-            Argument::Literal(literal) => builder.literal_argument(literal),
-            Argument::Query(query) => builder.query_argument(query),
-            Argument::Call(call, _) => builder.call_argument(call),
+            Argument::Operand(Operand::Literal(literal)) => builder.literal_argument(literal),
+            Argument::Operand(Operand::Query(query)) => builder.query_argument(query),
+            Argument::Operand(Operand::Call(call, _)) => builder.call_argument(call),
             Argument::Logical(expression) => builder.logical_argument(expression),
         }
     }
@@ -232,7 +215,7 @@ impl<F: Functions> FilterParser<'_, F> {
         let start = reader.bytes_left();
         let operand = self.parse_operand(builder, reader)?;
         if reader.sees_end_of_argument() {
-            return Ok(Argument::alone(operand));
+            return Ok(Argument::Operand(operand));
         }
         let basic = self.parse_basic_from(builder, reader, start, operand)?;
         let and = self.parse_and_from(builder, reader, basic)?;

@@ -5,7 +5,7 @@ ghost use Rattle.std.specs.Str.{is_utf8, chars, IsAscii, encode_utf8_all as enco
 ghost use Rattle.serde_json_path_parser.specs.NameParts.{is_ascii_name_char, Gathered};
 ghost use Rattle.serde_json_path_parser.specs.Lexical.{is_digit, is_name_char};
 ghost use Rattle.serde_json_path_parser.specs.Looking.{LooksOn, up_to};
-ghost use Rattle.serde_json_path_parser.specs.Parsed.{front, behind};
+ghost use Rattle.serde_json_path_parser.specs.Parsed.{front, past};
 
 use crate::parser::decode::byte_at;
 use crate::source::PathSource;
@@ -96,8 +96,8 @@ pub(crate) fn push_name_part<S: PathSource>(
         (chars (drop result.0 (S.told source.old).text)))
         ≡ string_bytes text.old ++ encoded (front is_name_char
         (chars (drop index (S.told source.old).text)))) }
-    ensures rest { behind is_name_char (chars (drop result.0 (S.told source.old).text))
-        ≡ behind is_name_char (chars (drop index (S.told source.old).text)) }
+    ensures rest { past is_name_char (chars (drop result.0 (S.told source.old).text))
+        ≡ past is_name_char (chars (drop index (S.told source.old).text)) }
 {
     let most = index + (source.len() - index).min(128);
     let mut part = [first; 128];

@@ -3,7 +3,7 @@
 ghost use Rattle.std.specs.Prelude.{◌≡◌, false, IfErr};
 ghost use Rattle.serde_json_path_parser.specs.Filters.{path_at};
 ghost use Rattle.serde_json_path_parser.specs.Giving.{GivesQuery, MovesTo, IsRefused};
-ghost use Rattle.serde_json_path_parser.specs.Parsing.{opens_behind_root};
+ghost use Rattle.serde_json_path_parser.specs.Parsing.{opens_after_root};
 ghost use Rattle.serde_json_path_parser.specs.Reading.{left};
 
 use crate::error::{Context, Failure, ParseErrorKind, Refusal};
@@ -28,7 +28,7 @@ pub(crate) fn parse_path<S: PathSource, F: Functions>(
     ensures gives { GivesQuery (F.set functions.now) result
         (path_at (F.set functions.now).signature (left reader.old)) }
     ensures spares { IfErr result (λ stop.
-        opens_behind_root (left reader.old) ≡ false → IsRefused stop) }
+        opens_after_root (left reader.old) ≡ false → IsRefused stop) }
 {
     if !reader.sees(b'$') {
         return Err(reader.refuse(ParseErrorKind::ExpectedRoot, Context::Path));

@@ -6,7 +6,7 @@ ghost use Rattle.std.specs.Char.{IsScalar};
 ghost use Rattle.serde_json_path_parser.specs.Lexical.{begins, begins_both, is_blank, is_digit, is_name_first, is_name_char, is_small_letter, is_function_char};
 ghost use Rattle.serde_json_path_parser.specs.Ahead.{is_ascii, limit_of, IsAhead, IsSecond};
 ghost use Rattle.serde_json_path_parser.specs.Looking.{greatest_usize, up_to};
-ghost use Rattle.serde_json_path_parser.specs.Parsed.{front, behind};
+ghost use Rattle.serde_json_path_parser.specs.Parsed.{front, past};
 ghost use Rattle.serde_json_path_parser.specs.Numbers.{is_exponent};
 ghost use Rattle.serde_json_path_parser.specs.Strings.{is_hexadecimal, is_letter_escape, is_control, is_inside};
 
@@ -186,7 +186,7 @@ impl<'s, S: PathSource> Reader<'s, S> {
         }
     }
 
-    /// The byte after the next one, which is ASCII. It is looked at once.
+    /// The byte after the next one; the next one must be ASCII. It is looked at only once.
     fn peek_second(&mut self) -> Option<u8>
         requires { is_ascii self.old.next ≡ true }
         ensures moves { Moves self.old self.new }
@@ -316,7 +316,7 @@ impl<'s, S: PathSource> Reader<'s, S> {
         ensures moves { Moves self.old self.new }
         ensures text { IfOk result (λ u. string_bytes text.new
             ≡ string_bytes text.old ++ encode_utf8_all (front is_name_char (left self.old))) }
-        ensures rest { IfOk result (λ u. left self.new ≡ behind is_name_char (left self.old)) }
+        ensures rest { IfOk result (λ u. left self.new ≡ past is_name_char (left self.old)) }
     {
         if self.second.is_some() {
             if !self.sees_name_char() {
@@ -340,7 +340,7 @@ impl<'s, S: PathSource> Reader<'s, S> {
         ensures text { IfOk result (λ u.
             string_bytes text.new ++ encode_utf8_all (front is_name_char (left self.new))
             ≡ string_bytes text.old ++ encode_utf8_all (front is_name_char (left self.old))) }
-        ensures rest { behind is_name_char (left self.new) ≡ behind is_name_char (left self.old) }
+        ensures rest { past is_name_char (left self.new) ≡ past is_name_char (left self.old) }
     {
         let first = self.next.unwrap();
         // Many at a time only after a longer text, since a short name would gain nothing.
@@ -451,7 +451,7 @@ fn name_chars<S: PathSource>(
         ≡ string_bytes text.old ++ encoded (front is_name_char
         (chars (drop index (S.told source.old).text)))) }
     ensures rest { IfOk result.2 (λ u. chars (drop result.0 (S.told source.new).text)
-        ≡ behind is_name_char (chars (drop index (S.told source.old).text))) }
+        ≡ past is_name_char (chars (drop index (S.told source.old).text))) }
 {
     let mut reader = Reader::resume(source, index, next);
     let mut pushed = Ok(());

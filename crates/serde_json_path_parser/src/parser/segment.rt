@@ -9,7 +9,7 @@ ghost use Rattle.serde_json_path_parser.specs.Giving.{Makes, MakesSegments, Star
 ghost use Rattle.serde_json_path_parser.specs.Levels.{filter_at, signatures};
 ghost use Rattle.serde_json_path_parser.specs.Lexical.{begins};
 ghost use Rattle.serde_json_path_parser.specs.Parsed.{Parsed};
-ghost use Rattle.serde_json_path_parser.specs.Parsing.{bracket_at, behind_dot, dotted_at, descendant_at, of_kind, dot_at, segment_at, segments_at, opens, opens_next};
+ghost use Rattle.serde_json_path_parser.specs.Parsing.{bracket_at, after_dot, dotted_at, descendant_at, of_kind, dot_at, segment_at, segments_at, opens, opens_next};
 ghost use Rattle.serde_json_path_parser.specs.Reading.{left};
 
 use crate::error::{Context, Failure, ParseErrorKind};
@@ -75,7 +75,7 @@ fn parse_descendant<S: PathSource>(
 
 /// The context of a member name after one dot.
 fn after_one_dot(context: Context) -> Context
-    ensures { result ≡ behind_dot context }
+    ensures { result ≡ after_dot context }
 {
     match context {
         Context::Path => Context::DotMemberName,

@@ -63,7 +63,7 @@ fn parse_quoted<S: PathSource>(
     Ok(builder.name(text)?)
 }
 
-/// Parses a selector that is no filter, and the blanks after it (RFC 9535, section 2.3).
+/// Parses a selector other than a filter, and the blanks after it (RFC 9535, section 2.3).
 #[tactic(auto, unfolding(crate::specs::Parsing::selector_at))]
 fn parse_plain_selector<S: PathSource>(
     alloc: Global,

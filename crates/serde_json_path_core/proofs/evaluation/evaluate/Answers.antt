@@ -1,12 +1,12 @@
-use Rattle.std.proofs.Common.{[], ◌∷◌, ◌++◌, map, sym, subst, ap, ◌∙◌, append_assoc, rules}
-use Rattle.std.proofs.lemmas.List.{append-nil, map-append}
+use Rattle.std.proofs.Common.{[], ◌∷◌, ◌++◌, map, sym, subst, ap, ◌∙◌, append_assoc}
+use Rattle.std.proofs.lemmas.List.{map-append}
 use Rattle.serde_json.specs.View.{view}
 use Rattle.serde_json_path_nodes.specs.Location.{Located}
 use Rattle.serde_json_path_nodes.specs.Views.{node_value}
 use Rattle.serde_json_path_core.specs.Meaning.{IsResult}
 use Rattle.serde_json_path_syntax.specs.Parts.{tree_of}
 use Rattle.serde_json_path_core.specs.Walks.{rest}
-use Rattle.serde_json_path_core.proofs.KnownCases.{found-none, found-some}
+use Rattle.serde_json_path_core.proofs.KnownCases.{found-some}
 use Rattle.serde_json_path_core.proofs.evaluation.evaluate.Goals as goal
 
 pub values-preserved : goal.values-preserved

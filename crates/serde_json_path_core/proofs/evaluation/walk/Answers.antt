@@ -9,6 +9,7 @@ use Rattle.serde_json_path_syntax.specs.Stages.{stages, stages_at}
 use Rattle.serde_json_path_core.specs.Meaning.{IsResult}
 use Rattle.serde_json_path_core.proofs.Chains.{stack-started}
 use Rattle.serde_json_path_core.proofs.Derived.{computed_result}
+use Rattle.serde_json_path_core.proofs.SoundParts.{sound-segments}
 use Rattle.serde_json_path_core.proofs.Started.{begun-frame, begun-results}
 use Rattle.serde_json_path_core.proofs.WholeQueries.{whole-sound}
 use Rattle.serde_json_path_core.proofs.evaluation.walk.Goals as goal
@@ -36,3 +37,10 @@ returns-clause-selects g c =
     λ clear.
     subst (IsResult F top tree top) (sym begun ∙ ap (λ segs. rest_of F top (stages segs) (frames_view frames)) c.segments.ensures.tree)
     (computed_result F top tree top (whole-sound F (signatures_of q) tree ∣ c.requires ∣₁ q.typed).0)
+
+pub start-requires-clause-typed : goal.start-requires-clause-typed
+start-requires-clause-typed g c =
+    let F = g.F.Functions.set c.args.functions in
+    let q = c.args.query.now in
+    let whole = whole-sound F (signatures_of q) (tree_of q) ∣ c.requires ∣₁ q.typed in
+    (F.signature, (sound-segments F (tree_of q) (tree_of q) (segments_at (nodes_in q) c.segments.result.now) c.segments.ensures.tree whole).0)

@@ -1,7 +1,7 @@
 use Rattle.std.proofs.Common.{◌≡◌, ◌-◌, ◌^◌, ◌<◌, length, sym, ap, subst, ◌∙◌, arith, false}
 use Rattle.serde_json_path_parser.specs.Filters.{path_at}
 use Rattle.serde_json_path_parser.specs.Giving.{Fails, IsRefused}
-use Rattle.serde_json_path_parser.specs.Parsing.{opens_behind_root}
+use Rattle.serde_json_path_parser.specs.Parsing.{opens_after_root}
 use Rattle.serde_json_path_parser.proofs.Parses.{too_long, parsed, refused, within}
 use Rattle.serde_json_path_parser.proofs.parser.parse.Goals as goal
 
@@ -36,4 +36,4 @@ returns-in-Err-clause-parse g c =
     rw c.in_text-in-Err.ensures
     (refused signature text c.len.ensures.utf8 short c.in-Err.stop c.len-total.result total
     (subst (λ cs. Fails c.in-Err.stop (path_at signature cs)) c.new-reader.ensures.left c.in-Err.ensures.gives)
-    (subst (λ cs. opens_behind_root cs ≡ false → IsRefused c.in-Err.stop) c.new-reader.ensures.left c.in-Err.ensures.spares))
+    (subst (λ cs. opens_after_root cs ≡ false → IsRefused c.in-Err.stop) c.new-reader.ensures.left c.in-Err.ensures.spares))

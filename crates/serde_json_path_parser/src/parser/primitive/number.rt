@@ -3,7 +3,7 @@
 ghost use Rattle.std.specs.Prelude.{◌≡◌, ◌≤◌, ◌<◌, ℕ, List, length, IfOk};
 ghost use Rattle.serde_json_path_syntax.specs.Literals.{number_amount};
 ghost use Rattle.serde_json_path_parser.specs.Giving.{Gives, MovesTo};
-ghost use Rattle.serde_json_path_parser.specs.Numbers.{whole_at, digits_behind_point_at, fraction_at, amount_at, number_at, capped};
+ghost use Rattle.serde_json_path_parser.specs.Numbers.{whole_at, digits_after_point_at, fraction_at, amount_at, number_at, capped};
 ghost use Rattle.serde_json_path_parser.specs.Reading.{left};
 
 use crate::error::{Failure, ParseErrorKind};
@@ -38,14 +38,14 @@ fn parse_whole<S: PathSource>(reader: &mut Reader<'_, S>, start: usize) -> Resul
 }
 
 /// Parses the digits after a point, which are read whole: their billionths.
-#[tactic(auto, unfolding(crate::specs::Numbers::digits_behind_point_at))]
+#[tactic(auto, unfolding(crate::specs::Numbers::digits_after_point_at))]
 fn parse_fraction_digits<S: PathSource>(
     reader: &mut Reader<'_, S>,
     start: usize,
 ) -> Result<u128, Failure>
     ensures moves { MovesTo result reader.old reader.new }
     ensures gives { Gives (λ n. n) result reader.new
-        (digits_behind_point_at start (left reader.old)) }
+        (digits_after_point_at start (left reader.old)) }
 {
     if !reader.sees_digit() {
         return Err(Failure::in_long_hand(ParseErrorKind::ExponentOrEmptyFraction, start));

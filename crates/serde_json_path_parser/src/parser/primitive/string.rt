@@ -49,7 +49,7 @@ fn parse_hex4<S: PathSource>(reader: &mut Reader<'_, S>, start: usize) -> Result
     Ok(4096 * a + 256 * b + 16 * c + d)
 }
 
-/// Parses the low one of a pair of surrogates, after the high one: the character of the pair.
+/// Parses the low surrogate after the high one, and returns the pair's character.
 #[tactic(auto, unfolding(crate::specs::Strings::low_at))]
 fn parse_low_surrogate<S: PathSource>(
     reader: &mut Reader<'_, S>,
@@ -136,7 +136,7 @@ fn parse_piece<S: PathSource>(reader: &mut Reader<'_, S>, quote: u8) -> Result<c
     Ok(reader.take_char())
 }
 
-/// Parses a string (RFC 9535, section 2.3.1.1) after its opening quote, up to and with the ending one.
+/// Parses a string (RFC 9535, section 2.3.1.1) after its opening quote, up to and including the closing one.
 #[tactic(auto, unfolding(crate::specs::Strings::string_at))]
 pub(crate) fn parse_string<S: PathSource>(
     alloc: Global,

@@ -2,7 +2,7 @@
 
 ghost use Rattle.std.specs.Prelude.{◌≡◌, true, List, ℕ, length, drop, IfOk, string_bytes, ◌++◌, option_map};
 ghost use Rattle.serde_json_path_syntax.specs.Literals.{literal_view};
-ghost use Rattle.serde_json_path_parser.specs.Filters.{word, behind_word};
+ghost use Rattle.serde_json_path_parser.specs.Filters.{word, past_word};
 ghost use Rattle.serde_json_path_parser.specs.Lexical.{begins, is_small_letter, is_function_char, AllPass};
 ghost use Rattle.serde_json_path_parser.specs.Reading.{left, Moves};
 ghost use Rattle.serde_json_path_parser.specs.Words.{common, literal_word, IsWord, IsKnownOrOther};
@@ -70,7 +70,7 @@ fn take_word<S: PathSource>(reader: &mut Reader<'_, S>, text: &mut String) -> Re
     ensures moves { Moves reader.old reader.new }
     ensures text { IfOk result (λ u.
         string_bytes text.new ≡ string_bytes text.old ++ word (left reader.old)) }
-    ensures rest { IfOk result (λ u. left reader.new ≡ behind_word (left reader.old)) }
+    ensures rest { IfOk result (λ u. left reader.new ≡ past_word (left reader.old)) }
 {
     while reader.sees_function_char() {
         text.push(reader.take_char())?;
@@ -88,7 +88,7 @@ fn known_or_other<S: PathSource>(
     requires { AllPass is_function_char known.now }
     ensures moves { Moves reader.old reader.new }
     ensures word { IfOk result (λ w. IsKnownOrOther known.now literal (word (left reader.old)) w) }
-    ensures rest { IfOk result (λ w. left reader.new ≡ behind_word (left reader.old)) }
+    ensures rest { IfOk result (λ w. left reader.new ≡ past_word (left reader.old)) }
 {
     let count = take_common(reader, known);
     if count == known.len() && !reader.sees_function_char() {
@@ -99,8 +99,8 @@ fn known_or_other<S: PathSource>(
     Ok(Word::Other(text))
 }
 
-/// Reads the word that is next (RFC 9535, sections 2.3.5.1 and 2.4). Memory is asked for only where it is no
-/// literal's word.
+/// Reads the word that is next (RFC 9535, sections 2.3.5.1 and 2.4). Memory is asked for only where it is not
+/// a literal's word.
 pub(crate) fn read_word<S: PathSource>(
     alloc: Global,
     reader: &mut Reader<'_, S>,
@@ -108,7 +108,7 @@ pub(crate) fn read_word<S: PathSource>(
     requires { begins is_small_letter (left reader.old) ≡ true }
     ensures moves { Moves reader.old reader.new }
     ensures word { IfOk result (λ w. IsWord w (word (left reader.old))) }
-    ensures rest { IfOk result (λ w. left reader.new ≡ behind_word (left reader.old)) }
+    ensures rest { IfOk result (λ w. left reader.new ≡ past_word (left reader.old)) }
 {
     if reader.sees(b't') {
         return known_or_other(alloc, reader, "true", Word::True);

@@ -1,6 +1,6 @@
 use Rattle.std.proofs.Common.{◌<◌, length, refl, arith}
 use Rattle.std.proofs.lemmas.Option.{slice_get_within}
-use Rattle.serde_json_path_parser.proofs.NameParts.{first_gathered, all_ascii, behind_part, pushed_part}
+use Rattle.serde_json_path_parser.proofs.NameParts.{first_gathered, past_part, pushed_part}
 use Rattle.serde_json_path_parser.proofs.parser.name_part.push_name_part.Goals as goal
 
 pub gather-end-requires-clause-first : goal.gather-end-requires-clause-first
@@ -23,9 +23,6 @@ gather-end-requires-clause-within g c =
     let m = c.min.ensures in
     omega (arith, within, l, m)
 
-pub push_ascii-pushed-requires : goal.push_ascii-pushed-requires
-push_ascii-pushed-requires g c = all_ascii _ c.gather-end.ensures.gathered.each
-
 pub returns-clause-text : goal.returns-clause-text
 returns-clause-text g c =
     let gathered = c.gather-end.ensures.gathered in
@@ -34,4 +31,4 @@ returns-clause-text g c =
 pub returns-clause-rest : goal.returns-clause-rest
 returns-clause-rest g c =
     let gathered = c.gather-end.ensures.gathered in
-    behind_part _ _ _ gathered.each gathered.taken
+    past_part _ _ _ gathered.each gathered.taken

@@ -20,14 +20,14 @@ use Rattle.serde_json_path_parser.proofs.parser.query.parse_path.Goals as goal
 pub returns-then-is_empty-clause-gives : goal.returns-then-is_empty-clause-gives
 returns-then-is_empty-clause-gives g c =
     let F = g.F.Functions.set c.args.functions.now in
-    let behind = left c.take_char.new.self in
+    let after = left c.take_char.new.self in
     let gives = c.in_ok-parts.ensures.gives in
-    let read = subst (λ d. segments_at (filters.filter_at F.signature (filters.level F.signature d)) context.Path behind ≡ Ok (gives.0, gives.1)) c.outermost.ensures.depth
-    (subst (λ fs. segments_at (filters.filter_at (g.F.Functions.set fs).signature (filters.level (g.F.Functions.set fs).signature c.outermost.result.depth)) context.Path behind ≡ Ok (gives.0, gives.1)) c.outermost.ensures.functions gives.5) in
+    let read = subst (λ d. segments_at (filters.filter_at F.signature (filters.level F.signature d)) context.Path after ≡ Ok (gives.0, gives.1)) c.outermost.ensures.depth
+    (subst (λ fs. segments_at (filters.filter_at (g.F.Functions.set fs).signature (filters.level (g.F.Functions.set fs).signature c.outermost.result.depth)) context.Path after ≡ Ok (gives.0, gives.1)) c.outermost.ensures.functions gives.5) in
     let rooted = sym c.sees.ensures ∙ c.if-not-sees.false in
     let none = c.is_empty.ensures.0 c.if-is_empty.true in
     let ended = all_read gives.1 c.in_ok-parts.rest gives.3 (omega (arith, c.if-rest-ne0.false)) in
-    let whole = path_ends F.signature (left c.args.reader.now) behind gives.1 c.take_char.result gives.0 rooted c.take_char.ensures.value read ended in
+    let whole = path_ends F.signature (left c.args.reader.now) after gives.1 c.take_char.result gives.0 rooted c.take_char.ensures.value read ended in
     let empty = no_part c.parse_segments.new.builder (parts_in c.in_ok-parts.parts) gives.0 gives.2 none in (
       segment_list gives.0,
       c.new.ensures.tree ∙ ap (λ ss. query root (segment_list ss)) (sym empty),
@@ -39,27 +39,27 @@ returns-then-is_empty-clause-gives g c =
 pub returns-in_err-part-clause-spares : goal.returns-in_err-part-clause-spares
 returns-in_err-part-clause-spares g c =
     let F = g.F.Functions.set c.args.functions.now in
-    let behind = left c.take_char.new.self in
+    let after = left c.take_char.new.self in
     let p = err_from_is_err_and c.from_residual-in_err-part.result c.from_residual-in_err-part.ensures.1 in
     let gives = c.in_ok-parts.ensures.gives in
-    let read = subst (λ d. segments_at (filters.filter_at F.signature (filters.level F.signature d)) context.Path behind ≡ Ok (gives.0, gives.1)) c.outermost.ensures.depth
-    (subst (λ fs. segments_at (filters.filter_at (g.F.Functions.set fs).signature (filters.level (g.F.Functions.set fs).signature c.outermost.result.depth)) context.Path behind ≡ Ok (gives.0, gives.1)) c.outermost.ensures.functions gives.5) in
+    let read = subst (λ d. segments_at (filters.filter_at F.signature (filters.level F.signature d)) context.Path after ≡ Ok (gives.0, gives.1)) c.outermost.ensures.depth
+    (subst (λ fs. segments_at (filters.filter_at (g.F.Functions.set fs).signature (filters.level (g.F.Functions.set fs).signature c.outermost.result.depth)) context.Path after ≡ Ok (gives.0, gives.1)) c.outermost.ensures.functions gives.5) in
     let rooted = sym c.sees.ensures ∙ c.if-not-sees.false in
     rw (p.1) (λ closed.
-    let none = none_read F.signature (left c.args.reader.now) behind gives.1 c.take_char.result gives.0 rooted c.take_char.ensures.value read closed in
+    let none = none_read F.signature (left c.args.reader.now) after gives.1 c.take_char.result gives.0 rooted c.take_char.ensures.value read closed in
     let empty = c.is_empty.ensures.1 (no_segment c.parse_segments.new.builder (parts_in c.in_ok-parts.parts) gives.0 gives.2 none) in
     absurd (true≢false (sym empty ∙ c.if-is_empty.false)))
 
 pub finish-requires : goal.finish-requires
 finish-requires g c =
     let F = g.F.Functions.set c.args.functions.now in
-    let behind = left c.take_char.new.self in
+    let after = left c.take_char.new.self in
     let gives = c.in_ok-parts.ensures.gives in
-    let read = subst (λ d. segments_at (filters.filter_at F.signature (filters.level F.signature d)) context.Path behind ≡ Ok (gives.0, gives.1)) c.outermost.ensures.depth
-    (subst (λ fs. segments_at (filters.filter_at (g.F.Functions.set fs).signature (filters.level (g.F.Functions.set fs).signature c.outermost.result.depth)) context.Path behind ≡ Ok (gives.0, gives.1)) c.outermost.ensures.functions gives.5) in
+    let read = subst (λ d. segments_at (filters.filter_at F.signature (filters.level F.signature d)) context.Path after ≡ Ok (gives.0, gives.1)) c.outermost.ensures.depth
+    (subst (λ fs. segments_at (filters.filter_at (g.F.Functions.set fs).signature (filters.level (g.F.Functions.set fs).signature c.outermost.result.depth)) context.Path after ≡ Ok (gives.0, gives.1)) c.outermost.ensures.functions gives.5) in
     let rooted = sym c.sees.ensures ∙ c.if-not-sees.false in
     let ended = all_read gives.1 c.in_ok-parts.rest gives.3 (omega (arith, c.if-rest-ne0.false)) in
-    let whole = path_ends F.signature (left c.args.reader.now) behind gives.1 c.take_char.result gives.0 rooted c.take_char.ensures.value read ended in
+    let whole = path_ends F.signature (left c.args.reader.now) after gives.1 c.take_char.result gives.0 rooted c.take_char.ensures.value read ended in
     let grown = subst (λ fs. Grows (g.F.Functions.set fs).signature c.new-builder.result c.parse_segments.new.builder (calls_in_segments (segment_list gives.0))) c.outermost.ensures.functions gives.6 in
     let sound = path_sound F.signature (left c.args.reader.now) (segment_list gives.0) whole in
     let is = c.in_ok-part.ensures.made (segment_list gives.0) gives.2 in
@@ -68,13 +68,13 @@ finish-requires g c =
 pub returns-clause-gives : goal.returns-clause-gives
 returns-clause-gives g c =
     let F = g.F.Functions.set c.args.functions.now in
-    let behind = left c.take_char.new.self in
+    let after = left c.take_char.new.self in
     let gives = c.in_ok-parts.ensures.gives in
-    let read = subst (λ d. segments_at (filters.filter_at F.signature (filters.level F.signature d)) context.Path behind ≡ Ok (gives.0, gives.1)) c.outermost.ensures.depth
-    (subst (λ fs. segments_at (filters.filter_at (g.F.Functions.set fs).signature (filters.level (g.F.Functions.set fs).signature c.outermost.result.depth)) context.Path behind ≡ Ok (gives.0, gives.1)) c.outermost.ensures.functions gives.5) in
+    let read = subst (λ d. segments_at (filters.filter_at F.signature (filters.level F.signature d)) context.Path after ≡ Ok (gives.0, gives.1)) c.outermost.ensures.depth
+    (subst (λ fs. segments_at (filters.filter_at (g.F.Functions.set fs).signature (filters.level (g.F.Functions.set fs).signature c.outermost.result.depth)) context.Path after ≡ Ok (gives.0, gives.1)) c.outermost.ensures.functions gives.5) in
     let rooted = sym c.sees.ensures ∙ c.if-not-sees.false in
     let ended = all_read gives.1 c.in_ok-parts.rest gives.3 (omega (arith, c.if-rest-ne0.false)) in
-    let whole = path_ends F.signature (left c.args.reader.now) behind gives.1 c.take_char.result gives.0 rooted c.take_char.ensures.value read ended in
+    let whole = path_ends F.signature (left c.args.reader.now) after gives.1 c.take_char.result gives.0 rooted c.take_char.ensures.value read ended in
     let is = c.in_ok-part.ensures.made (segment_list gives.0) gives.2 in
     let q = query root (segment_list gives.0) in
     let grown = subst (λ fs. Grows (g.F.Functions.set fs).signature c.new-builder.result c.parse_segments.new.builder (calls_in_segments (segment_list gives.0))) c.outermost.ensures.functions gives.6 in

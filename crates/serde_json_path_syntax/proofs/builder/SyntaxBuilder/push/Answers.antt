@@ -1,4 +1,4 @@
-use Rattle.serde_json_path_syntax.proofs.Growing.{push_made, push_keeps, push_calls, push_silent}
+use Rattle.serde_json_path_syntax.proofs.Growing.{push_made, push_keeps, push_silent}
 use Rattle.serde_json_path_syntax.proofs.builder.SyntaxBuilder.push.Goals as goal
 
 pub returns-clause-made : goal.returns-clause-made
@@ -12,6 +12,3 @@ returns-clause-keeps c = λ silent. record {
 
 pub returns-clause-trees : goal.returns-clause-trees
 returns-clause-trees c = λ part piece h. push_keeps c.push.result c.args.self.now.arena.nodes.items _ _ c.push.ensures.nodes part.number piece h
-
-pub returns-clause-calls : goal.returns-clause-calls
-returns-clause-calls c = push_calls c.push.result c.args.self.now.arena.nodes.items _ _ c.push.ensures.nodes

@@ -3,6 +3,7 @@ use Rattle.std.proofs.lemmas.Option.{slice_get_read, slice_get_past}
 use Rattle.serde_json_path_syntax.specs.declared.node.Part.{Part}
 use Rattle.serde_json_path_syntax.specs.Flat.{pieces, piece_in, selector_in}
 use Rattle.serde_json_path_syntax.proofs.NamedParts.{selectors_get}
+use Rattle.serde_json_path_syntax.proofs.TypedParts.{typed_selector}
 use Rattle.serde_json_path_syntax.proofs.BoundedParts.{within_bound}
 use Rattle.serde_json_path_syntax.proofs.Bounds.{below_length, past_length}
 use Rattle.serde_json_path_syntax.proofs.checked.Checked.bracketed.Goals as goal
@@ -22,8 +23,14 @@ returns-in-None-clause-selector_ref c =
     sym (selectors_get ps c.args.selectors.now c.args.number
     ∙ ap (option_map (λ (part : Part). selector_in (piece_in ps part.number))) (slice_get_past c.args.selectors.now c.args.number (past_length _ _ look.0)))
 
-pub selector-requires : goal.selector-requires
-selector-requires c =
+pub selector-requires-clause-typed : goal.selector-requires-clause-typed
+selector-requires-clause-typed c =
+    let look = c.in-Some.ensures.lookup in
+    let signature = c.requires.typed.0 in
+    (signature, typed_selector signature (pieces c.args.self.now.arena.nodes.items) c.args.selectors.now c.args.number c.in-Some.part.now (below_length _ _ look.0) look.1 c.requires.typed.1)
+
+pub selector-requires-clause-within : goal.selector-requires-clause-within
+selector-requires-clause-within c =
     let look = c.in-Some.ensures.lookup in
     let below = within_bound c.args.selectors.now c.args.number c.in-Some.part.now (below_length _ _ look.0) look.1 in
     omega arith

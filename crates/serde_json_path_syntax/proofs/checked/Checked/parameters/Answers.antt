@@ -9,8 +9,8 @@ use Rattle.serde_json_path_syntax.specs.Parts.{nodes_in}
 use Rattle.serde_json_path_syntax.proofs.Once.{fits_each, once_fits}
 use Rattle.serde_json_path_syntax.proofs.checked.Checked.parameters.Goals as goal
 
-pub returns-in-Call : goal.returns-in-Call
-returns-in-Call c = λ F s fits typed declared.
+pub returns : goal.returns
+returns c = λ F s fits typed declared.
     let nodes = nodes_in c.args.self.now in
     let f = string_bytes c.in-Call.name in
     let kept = signature_view c.in-Call.signature in

@@ -12,7 +12,7 @@ use Rattle.serde_json_path_core.proofs.SoundParts.{sound-segments}
 use Rattle.serde_json_path_core.proofs.InDocument.{root_stands}
 use Rattle.serde_json_path_core.proofs.WholeQueries.{whole-sound}
 use Rattle.serde_json_path_core.proofs.KnownCases.{found-none, found-some, if-err}
-use Rattle.serde_json_path_core.proofs.LastFrameDone.{has-last, rest-ends, stack-dropped, work-ends}
+use Rattle.serde_json_path_core.proofs.LastFrameDone.{rest-ends, stack-dropped, work-ends}
 use Rattle.serde_json_path_core.proofs.evaluation.walks.Walk.next.Goals as goal
 
 pub find_next-requires : goal.find_next-requires

@@ -11,7 +11,7 @@ use Rattle.serde_json_path_core.proofs.SoundParts.{sound-segments}
 use Rattle.serde_json_path_core.proofs.InDocument.{root_stands}
 use Rattle.serde_json_path_core.proofs.WholeQueries.{whole-sound}
 use Rattle.serde_json_path_core.proofs.KnownCases.{found-none, found-some}
-use Rattle.serde_json_path_core.proofs.LastFrameDone.{has-last, rest-ends, stack-dropped, work-ends}
+use Rattle.serde_json_path_core.proofs.LastFrameDone.{rest-ends, stack-dropped, work-ends}
 use Rattle.serde_json_path_core.proofs.Stacks.{located}
 use Rattle.serde_json_path_core.proofs.evaluation.walks.Walk.next_value.Goals as goal
 

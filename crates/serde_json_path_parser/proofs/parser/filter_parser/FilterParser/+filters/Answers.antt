@@ -9,7 +9,7 @@ use Rattle.serde_json_path_syntax.specs.Parts.{AreArgumentsOf, ArePartsOf, AreSe
 use Rattle.serde_json_path_syntax.specs.Piece.{an_or, an_and, a_basic, a_comparable}
 use Rattle.serde_json_path_syntax.specs.Tree.{logical_argument, call, number}
 use Rattle.serde_json_path_functions.specs.Terms.{kind_view, signature_view}
-use Rattle.serde_json_path_parser.specs.Filters.{basic_at, or_at, and_at, word, ended, arguments_at, parameters_at, level, and_list, or_list, named_at}
+use Rattle.serde_json_path_parser.specs.Filters.{alone, basic_at, or_at, and_at, word, ended, arguments_at, parameters_at, level, and_list, or_list, named_at}
 use Rattle.serde_json_path_parser.specs.Giving.{MakesOperand, MakesArguments, StartsSegment, Makes, MakesFrom, segment_piece}
 use Rattle.serde_json_path_parser.specs.Levels.{signatures, deeper, at_level, filter_at}
 use Rattle.serde_json_path_parser.specs.Lexical.{is_at, are_at, begins}
@@ -17,6 +17,7 @@ use Rattle.serde_json_path_parser.specs.Operands.{a_literal, a_query, a_call, ca
 use Rattle.serde_json_path_parser.specs.Parsed.{byte_count, past_blanks}
 use Rattle.serde_json_path_parser.specs.Reading.{left}
 use Rattle.serde_json_path_parser.proofs.ArgumentSteps as of_arguments
+use Rattle.serde_json_path_parser.proofs.OperandSteps.{alone_is, alone_calls}
 use Rattle.serde_json_path_parser.proofs.CalledSteps as of_calls
 use Rattle.serde_json_path_parser.proofs.Levels.{level_laws}
 use Rattle.serde_json_path_parser.proofs.parser.filter_parser.FilterParser.+filters.Goals.{parse_argument-then-sees-via-then-sees, parse_argument-then-sees-via-else-sees+then-sees-2}
@@ -31,7 +32,7 @@ use Rattle.serde_json_path_parser.proofs.FilterSteps.{filter_reads, filter_fails
 use Rattle.serde_json_path_parser.proofs.LevelSteps.{selector_takes, segment_takes, segment_shorter}
 use Rattle.serde_json_path_parser.proofs.PartLists.{segment_pushed, first_selector, selector_pushed, selectors_kept, first_or, or_pushed, first_and, and_pushed}
 use Rattle.serde_json_path_parser.proofs.SegmentSteps.{selectors_begin, next_selector_reads, next_selector_fails, bracket_reads, next_reads, next_fails}
-use Rattle.serde_json_path_parser.proofs.LogicalSteps.{behind_one, behind_two, read_more, row_shorter, row_goes_on, row_fails, row_done, ands, ors, too_deep, inside_is, no_operator_read, relation_read, call_is, paren_read, not_paren_read, no_current_read, no_root_read, negated_is_name, name_fails, no_call_read, value_refused, not_test_read}
+use Rattle.serde_json_path_parser.proofs.LogicalSteps.{blanks_past_one, blanks_past_two, read_more, row_shorter, row_goes_on, row_fails, row_done, ands, ors, too_deep, inside_is, no_operator_read, relation_read, call_is, paren_read, not_paren_read, no_current_read, no_root_read, negated_is_name, name_fails, no_call_read, value_refused, not_test_read}
 use Rattle.serde_json_path_parser.proofs.Many.{with_front}
 use Rattle.serde_json_path_parser.proofs.parser.filter_parser.FilterParser.+filters.Goals as goal
 use Rattle.serde_json_path_syntax.specs.Tree as tree
@@ -48,20 +49,20 @@ parse_and_from-returns-in_err-part-clause-gives g t c = λ x is.
     let p = err_from_is_err_and c.from_residual-in_err-part.result c.from_residual-in_err-part.ensures.1 in
     let so_far = c.parts.invariant.so_far x is in
     let sign : are_at "&&" (left c.parts.reader) ≡ true = sym c.sees_both.ensures.value ∙ c.parts-test.true in
-    let behind = behind_two _ _ _ _ c.sees_both.ensures.stays c.take_two.ensures.left c.skip_blanks.ensures.left in
-    rw (p.1, p.2) (row_fails (ands (signatures g.F.Functions.set c.args.self.now) c.args.self.now.depth) c.in_err-part.field-0.0 x so_far.0 _ _ _ sign behind c.in_err-part.ensures.gives so_far.2)
+    let after = blanks_past_two _ _ _ _ c.sees_both.ensures.stays c.take_two.ensures.left c.skip_blanks.ensures.left in
+    rw (p.1, p.2) (row_fails (ands (signatures g.F.Functions.set c.args.self.now) c.args.self.now.depth) c.in_err-part.field-0.0 x so_far.0 _ _ _ sign after c.in_err-part.ensures.gives so_far.2)
 
 pub parse_and_from-parts-smaller : goal.parse_and_from-parts-smaller
 parse_and_from-parts-smaller g t c =
     let sign : are_at "&&" (left c.parts.reader) ≡ true = sym c.sees_both.ensures.value ∙ c.parts-test.true in
-    let behind = behind_two _ _ _ _ c.sees_both.ensures.stays c.take_two.ensures.left c.skip_blanks.ensures.left in
-    row_shorter (ands (signatures g.F.Functions.set c.args.self.now) c.args.self.now.depth) _ _ _ c.in_ok-part.ensures.gives.0 sign behind c.in_ok-part.ensures.gives.2
+    let after = blanks_past_two _ _ _ _ c.sees_both.ensures.stays c.take_two.ensures.left c.skip_blanks.ensures.left in
+    row_shorter (ands (signatures g.F.Functions.set c.args.self.now) c.args.self.now.depth) _ _ _ c.in_ok-part.ensures.gives.0 sign after c.in_ok-part.ensures.gives.2
 
 pub parse_and_from-parts-preserved : goal.parse_and_from-parts-preserved
 parse_and_from-parts-preserved g t c =
     let signature = signatures g.F.Functions.set c.args.self.now in
     let sign : are_at "&&" (left c.parts.reader) ≡ true = sym c.sees_both.ensures.value ∙ c.parts-test.true in
-    let behind = behind_two _ _ _ _ c.sees_both.ensures.stays c.take_two.ensures.left c.skip_blanks.ensures.left in
+    let after = blanks_past_two _ _ _ _ c.sees_both.ensures.stays c.take_two.ensures.left c.skip_blanks.ensures.left in
     let one = c.in_ok-part.ensures.gives in
     record {
       moves = grind (arith, common_steps);
@@ -70,7 +71,7 @@ parse_and_from-parts-preserved g t c =
           let total = with_front (x ∷ []) (read_more (ands signature c.args.self.now.depth) (left c.args.reader.now)) in (
             so_far.0 ++ one.0 ∷ [],
             and_pushed c.parts.builder c.parse_basic.new.builder (parts_in c.parts.parts) (parts_in c.push-in-parts.new.self) so_far.0 _ one.0 one.3.trees so_far.1 one.1 c.in_ok-push-2.ensures.items,
-            row_goes_on (ands signature c.args.self.now.depth) so_far.0 _ _ _ one.0 total sign behind one.2 so_far.2,
+            row_goes_on (ands signature c.args.self.now.depth) so_far.0 _ _ _ one.0 total sign after one.2 so_far.2,
             λ before grown. grows_same (more_ands so_far.0 one.0) (grows_then (so_far.3 before grown) one.3),
           );
     }
@@ -97,6 +98,12 @@ parse_argument-returns-then-sees-clause-gives g t c =
     ] in
     let e = c.in_ok-expression.ensures.gives in
     (logical_argument e.0, e.1, of_arguments.expression_argument (signatures g.F.Functions.set c.args.self.now) (deeper g.F.Functions.set c.args.self.now) (left c.args.reader.now) opened e.0 (left c.parse_logical_or.new.reader) e.2, e.3)
+
+pub parse_argument-returns-then-sees_end_of_argument-clause-gives : goal.parse_argument-returns-then-sees_end_of_argument-clause-gives
+parse_argument-returns-then-sees_end_of_argument-clause-gives g t c =
+    let o = c.in_ok-operand.ensures.gives in
+    let ends = sym c.sees_end_of_argument.ensures ∙ c.if-sees_end_of_argument.true in
+    (alone o.0, alone_is (signatures g.F.Functions.set c.args.self.now) c.parse_operand.new.builder c.in_ok-operand.operand o.0 o.1, of_arguments.alone_argument (signatures g.F.Functions.set c.args.self.now) (deeper g.F.Functions.set c.args.self.now) (left c.args.reader.now) (sym c.sees.ensures ∙ c.if-sees.false) (sym c.sees-else-sees.ensures ∙ c.if-sees-2.false) o.0 (left c.parse_operand.new.reader) o.2 ends, grows_same (alone_calls o.0) o.3)
 
 pub parse_argument-returns-clause-gives : goal.parse_argument-returns-clause-gives
 parse_argument-returns-clause-gives g t c =
@@ -142,12 +149,12 @@ parse_arguments-returns-then-sees-clause-gives g t c = λ fuel enough.
     let fitting = sym (c.fits.ensures signature a.0 a.1) ∙ c.if-not-fits.false in
     let comma = sym c.sees.ensures ∙ c.if-sees.true in
     let further : left c.skip_blanks.new.self ≡ past_blanks (drop 1 (left c.parse_argument.new.reader)) = c.skip_blanks.ensures.left ∙ ap past_blanks (sym (ap (drop 1) c.take_char.ensures.value)) in
-    let less = of_arguments.fuel_behind signature below c.args.start (map kind_view c.args.kinds.now) fuel (left c.args.reader.now) enough a.0 (left c.parse_argument.new.reader) a.2 (sym c.sees_end_of_argument.ensures ∙ c.if-not-sees_end_of_argument.false) kind more first fitting in
-    let enough_there = of_arguments.enough_behind signature below c.args.start (map kind_view c.args.kinds.now) fuel (left c.args.reader.now) enough a.0 (left c.parse_argument.new.reader) a.2 (sym c.sees_end_of_argument.ensures ∙ c.if-not-sees_end_of_argument.false) kind more first fitting c.args.self.now.depth (level_laws signature c.args.self.now.depth) comma in
+    let less = of_arguments.fuel_after signature below c.args.start (map kind_view c.args.kinds.now) fuel (left c.args.reader.now) enough a.0 (left c.parse_argument.new.reader) a.2 (sym c.sees_end_of_argument.ensures ∙ c.if-not-sees_end_of_argument.false) kind more first fitting in
+    let enough_there = of_arguments.enough_after signature below c.args.start (map kind_view c.args.kinds.now) fuel (left c.args.reader.now) enough a.0 (left c.parse_argument.new.reader) a.2 (sym c.sees_end_of_argument.ensures ∙ c.if-not-sees_end_of_argument.false) kind more first fitting c.args.self.now.depth (level_laws signature c.args.self.now.depth) comma in
     let rests = subst (λ l. length l ≤ less → MakesArguments signature c.part.new.builder c.parse_arguments.new.builder c.push.new.self.items c.parse_arguments.new.parts.items c.parse_arguments.result c.parse_arguments.new.reader (arguments_at signature below less c.args.start more l)) further (c.parse_arguments.ensures.gives less) enough_there in
     of_arguments.more_made signature c.args.parts.now.items c.parse_arguments.result c.parse_arguments.new.reader (arguments_at signature below less c.args.start more (past_blanks (drop 1 (left c.parse_argument.new.reader)))) (arguments_at signature below fuel c.args.start (map kind_view c.args.kinds.now) (left c.args.reader.now)) c.args.builder.now c.part.new.builder c.push.new.self.items c.in_ok-part.part a.0 c.in_ok-push.ensures.items
     (c.in_ok-part.ensures.made signature a.0 a.1) (grows_kept a.3 c.part.ensures.keeps)
-    (λ args behind h. of_arguments.more_read signature below c.args.start (map kind_view c.args.kinds.now) fuel (left c.args.reader.now) enough a.0 (left c.parse_argument.new.reader) a.2 (sym c.sees_end_of_argument.ensures ∙ c.if-not-sees_end_of_argument.false) kind more first fitting args behind comma h) (λ s h. of_arguments.more_fail signature below c.args.start (map kind_view c.args.kinds.now) fuel (left c.args.reader.now) enough a.0 (left c.parse_argument.new.reader) a.2 (sym c.sees_end_of_argument.ensures ∙ c.if-not-sees_end_of_argument.false) kind more first fitting s comma h) c.parse_arguments.new.builder c.parse_arguments.new.parts.items rests
+    (λ args after h. of_arguments.more_read signature below c.args.start (map kind_view c.args.kinds.now) fuel (left c.args.reader.now) enough a.0 (left c.parse_argument.new.reader) a.2 (sym c.sees_end_of_argument.ensures ∙ c.if-not-sees_end_of_argument.false) kind more first fitting args after comma h) (λ s h. of_arguments.more_fail signature below c.args.start (map kind_view c.args.kinds.now) fuel (left c.args.reader.now) enough a.0 (left c.parse_argument.new.reader) a.2 (sym c.sees_end_of_argument.ensures ∙ c.if-not-sees_end_of_argument.false) kind more first fitting s comma h) c.parse_arguments.new.builder c.parse_arguments.new.parts.items rests
 
 pub parse_arguments-returns-clause-gives : goal.parse_arguments-returns-clause-gives
 parse_arguments-returns-clause-gives g t c = λ fuel enough.
@@ -160,7 +167,7 @@ parse_arguments-returns-clause-gives g t c = λ fuel enough.
     let fitting = sym (c.fits.ensures signature a.0 a.1) ∙ c.if-not-fits.false in
     let no_comma = sym c.sees.ensures ∙ c.if-sees.false in
     of_arguments.last_made signature c.args.parts.now.items c.parse_end.result c.parse_end.new.reader (ended c.args.start more (drop 1 (left c.parse_argument.new.reader))) (arguments_at signature below fuel c.args.start (map kind_view c.args.kinds.now) (left c.args.reader.now)) c.args.builder.now c.part.new.builder c.push.new.self.items c.in_ok-part.part a.0 c.in_ok-push.ensures.items (c.in_ok-part.ensures.made signature a.0 a.1) (grows_kept a.3 c.part.ensures.keeps)
-    (λ args behind h. of_arguments.last signature below c.args.start (map kind_view c.args.kinds.now) fuel (left c.args.reader.now) enough a.0 (left c.parse_argument.new.reader) a.2 (sym c.sees_end_of_argument.ensures ∙ c.if-not-sees_end_of_argument.false) kind more first fitting args behind no_comma h) (λ s h. of_arguments.last_fails signature below c.args.start (map kind_view c.args.kinds.now) fuel (left c.args.reader.now) enough a.0 (left c.parse_argument.new.reader) a.2 (sym c.sees_end_of_argument.ensures ∙ c.if-not-sees_end_of_argument.false) kind more first fitting s no_comma h) c.parse_end.ensures.gives
+    (λ args after h. of_arguments.last signature below c.args.start (map kind_view c.args.kinds.now) fuel (left c.args.reader.now) enough a.0 (left c.parse_argument.new.reader) a.2 (sym c.sees_end_of_argument.ensures ∙ c.if-not-sees_end_of_argument.false) kind more first fitting args after no_comma h) (λ s h. of_arguments.last_fails signature below c.args.start (map kind_view c.args.kinds.now) fuel (left c.args.reader.now) enough a.0 (left c.parse_argument.new.reader) a.2 (sym c.sees_end_of_argument.ensures ∙ c.if-not-sees_end_of_argument.false) kind more first fitting s no_comma h) c.parse_end.ensures.gives
 
 pub parse_basic-returns-then-sees-clause-gives : goal.parse_basic-returns-then-sees-clause-gives
 parse_basic-returns-then-sees-clause-gives g t c =
@@ -256,10 +263,10 @@ parse_inside-returns-then-self-eq0-clause-gives g t c =
 pub parse_inside-returns-clause-gives : goal.parse_inside-returns-clause-gives
 parse_inside-returns-clause-gives g t c =
     let some : 0 < c.args.self.now.depth = omega (arith, c.if-self-eq0.false) in
-    let behind = behind_one _ _ _ _ c.take_char.ensures.value c.skip_blanks.ensures.left in
+    let after = blanks_past_one _ _ _ _ c.take_char.ensures.value c.skip_blanks.ensures.left in
     let same = ap (λ f. (g.F.Functions.set f).signature) c.deeper.ensures.functions in
     subst (Makes (signatures g.F.Functions.set c.args.self.now) an_or c.args.builder.now c.parse_logical_or.new.builder c.parse_logical_or.result c.parse_logical_or.new.reader)
-    (sym (inside_is _ _ _ _ _ _ _ some same c.deeper.ensures.depth behind))
+    (sym (inside_is _ _ _ _ _ _ _ some same c.deeper.ensures.depth after))
     (subst (λ signature. Makes signature an_or c.args.builder.now c.parse_logical_or.new.builder c.parse_logical_or.result c.parse_logical_or.new.reader
     (at_level g.F.Functions.set c.deeper.result or_at (left c.skip_blanks.new.self))) same
     c.parse_logical_or.ensures.gives)
@@ -372,20 +379,20 @@ parse_or_from-returns-in_err-part-clause-gives g t c = λ x is.
     let p = err_from_is_err_and c.from_residual-in_err-part.result c.from_residual-in_err-part.ensures.1 in
     let so_far = c.parts.invariant.so_far x is in
     let sign : are_at "||" (left c.parts.reader) ≡ true = sym c.sees_both.ensures.value ∙ c.parts-test.true in
-    let behind = behind_two _ _ _ _ c.sees_both.ensures.stays c.take_two.ensures.left c.skip_blanks.ensures.left in
-    rw (p.1, p.2) (row_fails (ors (signatures g.F.Functions.set c.args.self.now) c.args.self.now.depth) c.in_err-part.field-0.0 x so_far.0 _ _ _ sign behind c.in_err-part.ensures.gives so_far.2)
+    let after = blanks_past_two _ _ _ _ c.sees_both.ensures.stays c.take_two.ensures.left c.skip_blanks.ensures.left in
+    rw (p.1, p.2) (row_fails (ors (signatures g.F.Functions.set c.args.self.now) c.args.self.now.depth) c.in_err-part.field-0.0 x so_far.0 _ _ _ sign after c.in_err-part.ensures.gives so_far.2)
 
 pub parse_or_from-parts-smaller : goal.parse_or_from-parts-smaller
 parse_or_from-parts-smaller g t c =
     let sign : are_at "||" (left c.parts.reader) ≡ true = sym c.sees_both.ensures.value ∙ c.parts-test.true in
-    let behind = behind_two _ _ _ _ c.sees_both.ensures.stays c.take_two.ensures.left c.skip_blanks.ensures.left in
-    row_shorter (ors (signatures g.F.Functions.set c.args.self.now) c.args.self.now.depth) _ _ _ c.in_ok-part.ensures.gives.0 sign behind c.in_ok-part.ensures.gives.2
+    let after = blanks_past_two _ _ _ _ c.sees_both.ensures.stays c.take_two.ensures.left c.skip_blanks.ensures.left in
+    row_shorter (ors (signatures g.F.Functions.set c.args.self.now) c.args.self.now.depth) _ _ _ c.in_ok-part.ensures.gives.0 sign after c.in_ok-part.ensures.gives.2
 
 pub parse_or_from-parts-preserved : goal.parse_or_from-parts-preserved
 parse_or_from-parts-preserved g t c =
     let signature = signatures g.F.Functions.set c.args.self.now in
     let sign : are_at "||" (left c.parts.reader) ≡ true = sym c.sees_both.ensures.value ∙ c.parts-test.true in
-    let behind = behind_two _ _ _ _ c.sees_both.ensures.stays c.take_two.ensures.left c.skip_blanks.ensures.left in
+    let after = blanks_past_two _ _ _ _ c.sees_both.ensures.stays c.take_two.ensures.left c.skip_blanks.ensures.left in
     let one = c.in_ok-part.ensures.gives in
     record {
       moves = grind (arith, common_steps);
@@ -394,7 +401,7 @@ parse_or_from-parts-preserved g t c =
           let total = with_front (x ∷ []) (read_more (ors signature c.args.self.now.depth) (left c.args.reader.now)) in (
             so_far.0 ++ one.0 ∷ [],
             or_pushed c.parts.builder c.parse_logical_and.new.builder (parts_in c.parts.parts) (parts_in c.push-in-parts.new.self) so_far.0 _ one.0 one.3.trees so_far.1 one.1 c.in_ok-push-2.ensures.items,
-            row_goes_on (ors signature c.args.self.now.depth) so_far.0 _ _ _ one.0 total sign behind one.2 so_far.2,
+            row_goes_on (ors signature c.args.self.now.depth) so_far.0 _ _ _ one.0 total sign after one.2 so_far.2,
             λ before grown. grows_same (more_ors so_far.0 one.0) (grows_then (so_far.3 before grown) one.3),
           );
     }

@@ -1,9 +1,8 @@
-use Rattle.std.proofs.Common.{◌≡◌, ℕ, List, sym, ap, ◌∙◌, true, false, min, ◌-◌, ◌^◌, arith}
+use Rattle.std.proofs.Common.{◌≡◌, sym, ◌∙◌, true, ◌-◌, ◌^◌, arith}
 use Rattle.std.proofs.lemmas.Grind.{common_steps}
 use Rattle.serde_json_path_parser.specs.Reading.{left}
-use Rattle.serde_json_path_parser.specs.Lexical.{begins, is_digit, value_from}
-use Rattle.serde_json_path_parser.specs.Parsed.{front}
-use Rattle.serde_json_path_parser.proofs.Runs.{digit_taken, behind_more, front_end}
+use Rattle.serde_json_path_parser.specs.Lexical.{begins, is_digit}
+use Rattle.serde_json_path_parser.proofs.Runs.{digit_taken, past_more}
 use Rattle.serde_json_path_parser.proofs.parser.primitive.decimal.parse_decimal.Goals as goal
 
 pub loop-reader-preserved : goal.loop-reader-preserved
@@ -15,12 +14,5 @@ loop-reader-preserved g c =
       moves = grind (arith, common_steps);
       value = digit_taken (left c.loop-reader.reader) (left t.new.self) t.result c.loop-reader.n c.saturating_add-n.result (2 ^ 128 - 1) _ e seen (omega (arith, c.saturating_mul.ensures, c.saturating_add-n.ensures)) c.loop-reader.invariant.value;
       bound = omega (arith, c.saturating_add-n.ensures);
-      rest = sym (behind_more is_digit (left c.loop-reader.reader) (left t.new.self) t.result e seen) ∙ c.loop-reader.invariant.rest;
+      rest = sym (past_more is_digit (left c.loop-reader.reader) (left t.new.self) t.result e seen) ∙ c.loop-reader.invariant.rest;
     }
-
-pub returns-clause-value : goal.returns-clause-value
-returns-clause-value g c =
-    let seen : begins is_digit (left c.loop-reader.reader) ≡ false = sym c.sees_digit.ensures ∙ c.loop-reader-test.false in
-    let failures : min c.loop-reader.n (2 ^ 128 - 1) ≡ min (value_from 0 (front is_digit (left c.args.reader.now))) (2 ^ 128 - 1) =
-    ap (λ (l : List ℕ). min (value_from c.loop-reader.n l) (2 ^ 128 - 1)) (sym (front_end is_digit (left c.loop-reader.reader) seen)) ∙ c.loop-reader.invariant.value in
-    omega (arith, failures, c.loop-reader.invariant.bound)

@@ -1,6 +1,6 @@
 use Rattle.std.proofs.Common.{◌≡◌, ◌≤◌, ◌^◌, ◌-◌, min, length}
 use Rattle.serde_json_path_parser.specs.Lexical.{is_digit, value_from}
-use Rattle.serde_json_path_parser.specs.Parsed.{front, behind}
+use Rattle.serde_json_path_parser.specs.Parsed.{front, past}
 use Rattle.serde_json_path_parser.specs.Reading.{left, Moves}
 use Rattle.serde_json_path_parser.proofs.parser.primitive.decimal.parse_decimal.Given as goal
 
@@ -9,7 +9,7 @@ invariant-loop-reader g l = record {
   moves : Moves l.fn.reader l.reader;
   value : min (value_from l.n (front is_digit (left l.reader))) (2 ^ 128 - 1) ≡ min (value_from 0 (front is_digit (left l.fn.reader))) (2 ^ 128 - 1);
   bound : l.n ≤ 2 ^ 128 - 1;
-  rest : behind is_digit (left l.reader) ≡ behind is_digit (left l.fn.reader);
+  rest : past is_digit (left l.reader) ≡ past is_digit (left l.fn.reader);
 }
 
 abbrev pub decreases-loop-reader : goal.decreases-loop-reader

@@ -1,7 +1,7 @@
 use Rattle.std.proofs.Common.{◌≡◌, ◌-◌, ◌<◌, ◌≤◌, true, false, length, sym, ap, ◌∙◌, arith}
 use Rattle.serde_json_path_parser.specs.Lexical.{begins, is_digit}
 use Rattle.serde_json_path_parser.specs.Numbers.{is_exponent}
-use Rattle.serde_json_path_parser.specs.Parsed.{front, behind}
+use Rattle.serde_json_path_parser.specs.Parsed.{front, past}
 use Rattle.serde_json_path_parser.specs.Reading.{left}
 use Rattle.serde_json_path_parser.proofs.Numbers.{counted, fraction_below, fraction_is, too_long, reads}
 use Rattle.serde_json_path_parser.proofs.Runs.{front_each}
@@ -17,7 +17,7 @@ returns-then-count-gt-FRACTION_DIGITS-clause-gives g c =
     let cs = left c.args.reader.now in
     let read = counted cs (left c.parse_decimal-value.new.reader) c.bytes_left-before.result c.bytes_left.result c.parse_decimal-value.ensures.rest c.bytes_left-before.ensures.value c.bytes_left.ensures.value in
     let some : begins is_digit cs ≡ true = sym c.sees_digit.ensures ∙ c.if-not-sees_digit.false in
-    let plain : begins is_exponent (behind is_digit cs) ≡ false = ap (begins is_exponent) (sym c.parse_decimal-value.ensures.rest) ∙ sym c.sees_exponent.ensures ∙ c.if-sees_exponent.false in
+    let plain : begins is_exponent (past is_digit cs) ≡ false = ap (begins is_exponent) (sym c.parse_decimal-value.ensures.rest) ∙ sym c.sees_exponent.ensures ∙ c.if-sees_exponent.false in
     let many : 9 < length (front is_digit cs) = omega (arith, read, c.if-count-gt-FRACTION_DIGITS.true) in
     rw c.in_long_hand-then-count-gt-FRACTION_DIGITS.ensures (too_long c.args.start cs some plain many)
 
@@ -34,7 +34,7 @@ returns-clause-gives g c =
     let cs = left c.args.reader.now in
     let read = counted cs (left c.parse_decimal-value.new.reader) c.bytes_left-before.result c.bytes_left.result c.parse_decimal-value.ensures.rest c.bytes_left-before.ensures.value c.bytes_left.ensures.value in
     let some : begins is_digit cs ≡ true = sym c.sees_digit.ensures ∙ c.if-not-sees_digit.false in
-    let plain : begins is_exponent (behind is_digit cs) ≡ false = ap (begins is_exponent) (sym c.parse_decimal-value.ensures.rest) ∙ sym c.sees_exponent.ensures ∙ c.if-sees_exponent.false in
+    let plain : begins is_exponent (past is_digit cs) ≡ false = ap (begins is_exponent) (sym c.parse_decimal-value.ensures.rest) ∙ sym c.sees_exponent.ensures ∙ c.if-sees_exponent.false in
     let few : length (front is_digit cs) ≤ 9 = omega (arith, read, c.if-count-gt-FRACTION_DIGITS.false) in
     let is = fraction_is (front is_digit cs) c.parse_decimal-value.result c.pow.result (c.bytes_left-before.result - c.bytes_left.result) (front_each is_digit cs) (omega (arith, read)) c.if-count-gt-FRACTION_DIGITS.false c.parse_decimal-value.ensures.value c.pow.ensures in
     rw (is, c.parse_decimal-value.ensures.rest) (reads c.args.start cs some plain few)

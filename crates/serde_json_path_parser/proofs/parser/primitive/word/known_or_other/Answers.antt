@@ -3,8 +3,8 @@ use Rattle.std.specs.List.{slice_range}
 use Rattle.serde_json_path_parser.specs.Lexical.{begins, is_function_char}
 use Rattle.serde_json_path_parser.specs.Filters.{word}
 use Rattle.serde_json_path_parser.specs.Reading.{left}
-use Rattle.serde_json_path_parser.proofs.WordTexts.{ascii_at, common_fits, front_on, behind_on, front_known, front_other}
-use Rattle.serde_json_path_parser.proofs.Runs.{behind_end}
+use Rattle.serde_json_path_parser.proofs.WordTexts.{ascii_at, common_fits, front_on, past_on, front_known, front_other}
+use Rattle.serde_json_path_parser.proofs.Runs.{past_end}
 use Rattle.serde_json_path_parser.proofs.parser.primitive.word.known_or_other.Goals as goal
 use Rattle.serde_json_path_parser.proofs.parser.primitive.word.known_or_other.Goals.{else-count-known-via-then-count-known+else-not-sees_function_char, else-count-known-via-else-count-known}
 
@@ -19,7 +19,7 @@ returns-then-not-sees_function_char-clause-rest g c =
     let read = c.take_common-count.ensures in
     let ds = left c.take_common-count.new.reader in
     let ends : begins is_function_char ds ≡ false = sym c.sees_function_char.ensures ∙ c.if-not-sees_function_char.true in
-    sym (behind_on is_function_char c.args.known.now (left c.args.reader.now) ds _ c.requires read.value read.rest ∙ behind_end is_function_char ds ends)
+    sym (past_on is_function_char c.args.known.now (left c.args.reader.now) ds _ c.requires read.value read.rest ∙ past_end is_function_char ds ends)
 
 pub range-requires-clause-end_boundary : goal.range-requires-clause-end_boundary
 range-requires-clause-end_boundary g c =
@@ -46,4 +46,4 @@ returns-clause-word g c =
 pub returns-clause-rest : goal.returns-clause-rest
 returns-clause-rest g c =
     let read = c.take_common-count.ensures in
-    c.in_ok-take_word.ensures.rest ∙ sym (behind_on is_function_char c.args.known.now (left c.args.reader.now) _ _ c.requires read.value read.rest)
+    c.in_ok-take_word.ensures.rest ∙ sym (past_on is_function_char c.args.known.now (left c.args.reader.now) _ _ c.requires read.value read.rest)

@@ -1,6 +1,6 @@
 use Rattle.std.proofs.Common.{◌≡◌, ◌++◌, length}
 use Rattle.std.specs.Prelude.{string_bytes}
-use Rattle.serde_json_path_parser.specs.Filters.{word, behind_word}
+use Rattle.serde_json_path_parser.specs.Filters.{word, past_word}
 use Rattle.serde_json_path_parser.specs.Reading.{left, Moves}
 use Rattle.serde_json_path_parser.proofs.parser.primitive.word.take_word.Given as goal
 
@@ -8,7 +8,7 @@ abbrev pub invariant-loop-text : goal.invariant-loop-text
 invariant-loop-text g l = record {
   moves : Moves l.fn.reader l.reader;
   text : string_bytes l.text ++ word (left l.reader) ≡ string_bytes l.fn.text ++ word (left l.fn.reader);
-  rest : behind_word (left l.reader) ≡ behind_word (left l.fn.reader);
+  rest : past_word (left l.reader) ≡ past_word (left l.fn.reader);
 }
 
 abbrev pub decreases-loop-text : goal.decreases-loop-text

@@ -1,8 +1,0 @@
-use Rattle.serde_json_path_syntax.specs.Tree as tree
-use Rattle.serde_json_path_syntax.specs.Piece.{a_call, an_argument}
-use Rattle.serde_json_path_syntax.specs.Flat.{call_in}
-use Rattle.serde_json_path_syntax.proofs.NamedParts.{made_of_part}
-use Rattle.serde_json_path_syntax.proofs.builder.SyntaxBuilder.call_argument.Goals as goal
-
-pub returns-clause-made : goal.returns-clause-made
-returns-clause-made c = made_of_part c.args.self.now c.push.new.self c.args.call a_call (λ piece. an_argument (tree.call_argument (call_in piece))) c.push.result c.push.ensures.made

@@ -1,8 +1,0 @@
-use Rattle.serde_json_path_syntax.specs.Tree as tree
-use Rattle.serde_json_path_syntax.specs.Piece.{a_basic, a_query}
-use Rattle.serde_json_path_syntax.specs.Flat.{query_in}
-use Rattle.serde_json_path_syntax.proofs.NamedParts.{made_of_part}
-use Rattle.serde_json_path_syntax.proofs.builder.SyntaxBuilder.not_exist.Goals as goal
-
-pub returns-clause-made : goal.returns-clause-made
-returns-clause-made c = made_of_part c.args.self.now c.push.new.self c.args.query a_query (λ piece. a_basic (tree.not_exist (query_in piece))) c.push.result c.push.ensures.made
