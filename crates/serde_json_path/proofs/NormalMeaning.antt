@@ -12,16 +12,8 @@ use Rattle.serde_json_path_core.specs.Meaning.{IsResult}
 use Rattle.serde_json_path_core.specs.Computed.{chosen, itself, placed, results_from}
 use Rattle.serde_json_path_core.proofs.Derived.{computed_result}
 use Rattle.serde_json_path_functions.specs.Functions.{Signature, FunctionSet}
-
--- the selector that admits a step alone
-abbrev pub selector_to : Step → Selector
-selector_to (by_name k) = name k
-selector_to (by_position p) = index (pos p)
-
--- a bracket with one selector for each step
-abbrev pub segments_to : List Step → Segments
-segments_to [] = no_segments
-segments_to (s ∷ steps) = segment child (long_hand (selector (selector_to s) no_selectors)) (segments_to steps)
+use Rattle.serde_json_path_syntax.specs.Calls.{calls_in_segments}
+use Rattle.serde_json_path.specs.Laws.{selector_to, segments_to}
 
 -- ---- what the tree is
 
@@ -34,6 +26,11 @@ pub segments_shallow : (steps : List Step) → segments_depth (segments_to steps
 segments_shallow [] = refl
 segments_shallow (by_name k ∷ steps) = rw (segments_shallow steps) refl
 segments_shallow (by_position p ∷ steps) = rw (segments_shallow steps) refl
+
+pub segments_silent : (steps : List Step) → calls_in_segments (segments_to steps) ≡ []
+segments_silent [] = refl
+segments_silent (by_name k ∷ steps) = segments_silent steps
+segments_silent (by_position p ∷ steps) = segments_silent steps
 
 -- ---- what it selects
 

@@ -17,9 +17,9 @@ use Rattle.serde_json_path_functions.specs.Functions.{Signature}
 use Rattle.serde_json_path_parser.specs.Lexical.{begins, is_digit, AllPass, value_from, IsDecimal, IsInt, hexadecimal_of, IsHex4, is_plain, IsPiece, plain, quote_escape, letter_escape, hex_escape, ArePieces, IsString}
 use Rattle.serde_json_path_parser.specs.Grammar.{ReadSegments, ReadsSegment, ReadsSelector}
 use Rattle.serde_json_path_parser.specs.Accepted.{IsAccepted}
-use Rattle.serde_json_path.specs.Laws.{ArePositionsWritten}
+use Rattle.serde_json_path.specs.Laws.{ArePositionsWritten, selector_to, segments_to}
 use Rattle.serde_json_path_parser.proofs.IntTexts.{zero_is}
-use Rattle.serde_json_path.proofs.NormalMeaning.{selector_to, segments_to, segments_typed, segments_shallow}
+use Rattle.serde_json_path.proofs.NormalMeaning.{segments_typed, segments_shallow}
 
 -- ---- bytes and characters
 

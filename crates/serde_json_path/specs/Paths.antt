@@ -14,8 +14,6 @@ path_tree path = tree_of path.checked
 abbrev pub path_signatures : JsonPath → List (List ℕ × Signature)
 path_signatures path = signatures_of path.checked
 
--- the answer of the parser that a path was made of
-
 -- a path as its tree and these signatures
 abbrev pub path_view : JsonPath → ParsedQuery
 path_view path = record { tree = path_tree path; signatures = path_signatures path }

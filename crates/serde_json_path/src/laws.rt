@@ -1,11 +1,12 @@
 //! A law of the typed grammar and of its meaning, the contract of a function with an empty body.
 
-ghost use Rattle.serde_json_path.specs.Laws.{PrintedPathSelectsItsNode};
+ghost use Rattle.serde_json_path.specs.Laws.{Normal};
 
-/// The normalised path that a location prints is accepted and selects the location's node alone (RFC 9535, section 2.7).
+/// The normalised path that a location prints is accepted, with one tree alone, and selects the location's node alone (RFC
+/// 9535, section 2.7). The tree has a bracket of one name or one index for each step, and calls nothing.
 ///
 /// It holds where names are Unicode text, as every borrowed name is, and where indexes can be written, up to 2 ^ 53 - 1;
 /// for every function set and document.
-pub fn law_printed_path_selects_its_node()
-    ensures { PrintedPathSelectsItsNode }
+pub fn law_normal()
+    ensures { Normal }
 {}

@@ -45,19 +45,24 @@
 //!
 //! Contracts cite relations in the terms of the RFC: the grammar is in `specs/` of `serde_json_path_parser`, trees and their
 //! typing in those of `serde_json_path_syntax`, what a query selects in those of `serde_json_path_core`. `Paths` here is
-//! what contracts see of a path, `Laws` the law that joins grammar and meaning.
+//! what contracts see of a path, `FromJson` what reading one from a JSON value answers, `Laws` the law that joins grammar and
+//! meaning.
 #![tactic(auto)]
 
+mod ext;
+mod json;
 mod laws;
 mod path;
 mod source;
 
-pub use laws::law_printed_path_selects_its_node;
+pub use ext::JsonPathExt;
+pub use json::FromJsonError;
+pub use laws::law_normal;
 pub use path::JsonPath;
 pub use serde_json_path_core::{QueryError, Walk, functions};
 pub use serde_json_path_nodes::{
     AtMostOneError, ExactlyOneError, LocatedNode, LocatedNodeList, LocatedNodes, Locations,
-    NodeList, Nodes, NormalizedPath, PathElement, PathElements,
+    NodeList, Nodes, NormalizedPath, PathElement, PathElements, law_texts_tell_locations,
 };
 pub use serde_json_path_parser::{
     ParseError, ParseErrorKind, PathSource, TextSource, law_one_tree_at_most,

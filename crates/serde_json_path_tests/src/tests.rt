@@ -9,6 +9,7 @@ mod cuts;
 mod descendants;
 mod filter_refusals;
 mod filters;
+mod json_form;
 mod lists;
 mod literals;
 mod long_texts;

@@ -1,0 +1,14 @@
+use Rattle.serde_json_path_parser.proofs.Parses.{one_tree_at_most}
+use Rattle.serde_json_path.specs.Laws.{tree_to}
+use Rattle.serde_json_path.proofs.NormalMeaning.{segments_silent, segments_shallow, node_selected}
+use Rattle.serde_json_path.proofs.NormalTexts.{normal_accepted}
+use Rattle.serde_json_path.proofs.laws.law_normal.Goals as goal
+
+pub returns : goal.returns
+returns c = λ location proper written. record {
+  accepted = λ signature. normal_accepted signature location proper written;
+  only = λ signature q read. one_tree_at_most signature _ q (tree_to location) read (normal_accepted signature location proper written);
+  silent = segments_silent location;
+  flat = segments_shallow location;
+  selects = λ F top v there. node_selected F top (record { location = location; value = v }) there;
+}

@@ -1,0 +1,46 @@
+//! Paths as strings of JSON documents.
+
+ghost use Rattle.std.specs.Prelude.{IfOk};
+ghost use Rattle.serde_json.specs.View.{view};
+ghost use Rattle.serde_json_path_functions.specs.Functions.{Fits};
+ghost use Rattle.serde_json_path_functions.specs.Patterns.{builtin_functions};
+ghost use Rattle.serde_json_path_parser.specs.declared.error.ParseError as path_error;
+
+use crate::path::JsonPath;
+use serde_json::Value;
+use serde_json_path_parser::ParseError;
+use std::alloc::Global;
+use thiserror::Error;
+
+/// Why a JSON value is not read as a path.
+#[derive(Clone, Copy, Debug, PartialEq, Eq, Error)]
+pub enum FromJsonError {
+    /// The value is not a string.
+    #[error("not a string")]
+    NotAString,
+    /// The string is refused as a path.
+    #[error("{0}")]
+    Path(ParseError),
+}
+
+impl JsonPath {
+    ghost use Rattle.serde_json_path.specs.FromJson.{IsReadFrom};
+    ghost use Rattle.serde_json_path.specs.Paths.{path_signatures};
+
+    /// Reads a path from a JSON string, whose text is parsed as `parse` does (RFC 9535, section 2.1).
+    ///
+    /// The error is `NotAString` for every other value, and else `Path` with what the parse refuses.
+    ///
+    /// ```text
+    /// let path = JsonPath::from_json(alloc, &config["path"])?;
+    /// ```
+    pub fn from_json(alloc: Global, value: &Value) -> Result<JsonPath, FromJsonError>
+        ensures read { IsReadFrom (view value.now) result }
+        ensures fits { IfOk result (λ path. Fits builtin_functions (path_signatures path)) }
+    {
+        match value.as_str() {
+            Some(text) => JsonPath::parse(alloc, text).map_err(FromJsonError::Path),
+            None => Err(FromJsonError::NotAString),
+        }
+    }
+}
