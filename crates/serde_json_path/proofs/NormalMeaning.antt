@@ -1,11 +1,10 @@
 -- A tree that goes down the steps of a location selects the node there alone.
 use Rattle.std.proofs.Common.{◌≡◌, ℕ, List, [], ◌∷◌, ◌++◌, map, flat_map, Option, Some, option_map, option_to_list, refl, sym, ap, subst, ◌∙◌, append_assoc}
-use Rattle.std.specs.Prelude.{pos}
 use Rattle.std.proofs.lemmas.List.{append-nil}
 use Rattle.std.proofs.lemmas.Option.{none-some, option_and_then_some, same_Some}
 use Rattle.serde_json.specs.Data.{Data, array}
 use Rattle.serde_json_path_nodes.specs.Location.{Step, by_name, by_position, child_at, at, Located}
-use Rattle.serde_json_path_syntax.specs.Tree.{query, root, Segments, no_segments, segment, child, long_hand, no_selectors, selector, Selector, name, index}
+use Rattle.serde_json_path_syntax.specs.Tree.{query, root, long_hand, no_selectors, selector}
 use Rattle.serde_json_path_syntax.specs.Typing.{AreTypedSegments}
 use Rattle.serde_json_path_syntax.specs.Depth.{segments_depth}
 use Rattle.serde_json_path_core.specs.Meaning.{IsResult}

@@ -1,5 +1,5 @@
--- The law that joins the typed grammar and its meaning.
-use Rattle.std.specs.Prelude.{◌≡◌, ◌≤◌, ℕ, pos, List, [], ◌∷◌, Option, Some}
+-- Laws of paths: the one that joins the typed grammar and its meaning, and one of function sets.
+use Rattle.std.specs.Prelude.{◌≡◌, ◌≤◌, ◌↔◌, ℕ, pos, List, [], ◌∷◌, Option, Some}
 use Rattle.std.specs.Str.{chars}
 use Rattle.serde_json.specs.Data.{Data}
 use Rattle.serde_json_path_nodes.specs.Location.{Step, by_name, by_position, at, IsProper}
@@ -8,7 +8,7 @@ use Rattle.serde_json_path_syntax.specs.Tree.{Query, query, root, Segments, no_s
 use Rattle.serde_json_path_syntax.specs.Calls.{calls_of}
 use Rattle.serde_json_path_syntax.specs.Depth.{depth}
 use Rattle.serde_json_path_core.specs.Meaning.{IsResult}
-use Rattle.serde_json_path_functions.specs.Functions.{FunctionSet, Signature}
+use Rattle.serde_json_path_functions.specs.Functions.{FunctionSet, Signature, Fits, both}
 use Rattle.serde_json_path_parser.specs.Accepted.{IsAccepted}
 
 -- each index can be written
@@ -46,3 +46,7 @@ pub record IsNormal (location : List Step) : Type 0 where
 -- so is that of each location whose names are Unicode text, and whose indexes can be written
 abbrev pub Normal : Type 0
 Normal = (location : List Step) → IsProper location → ArePositionsWritten location → IsNormal location
+
+-- a set before itself fits what it fits alone
+abbrev pub SetBeforeItself : Type 0
+SetBeforeItself = (F : FunctionSet) (used : List (List ℕ × Signature)) → Fits (both F F) used ↔ Fits F used

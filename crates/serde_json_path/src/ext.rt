@@ -30,7 +30,8 @@ pub trait JsonPathExt {
     fn json_path<'b>(&'b self, alloc: Global, path: &JsonPath) -> Result<NodeList<'b>, QueryError>
         requires { Fits builtin_functions (path_signatures path.now) }
         ensures selects { IfOk result (λ list.
-            SelectsValues builtin_functions (path_tree path.now) (document self.now) (node_values list)) }
+            SelectsValues builtin_functions (path_tree path.now) (document self.now)
+            (node_values list)) }
         ensures refused { OnlyMemory builtin_functions (path_tree path.now) result };
 }
 

@@ -1,6 +1,6 @@
-//! A law of the typed grammar and of its meaning, the contract of a function with an empty body.
+//! Laws of paths, the contracts of functions with empty bodies.
 
-ghost use Rattle.serde_json_path.specs.Laws.{Normal};
+ghost use Rattle.serde_json_path.specs.Laws.{Normal, SetBeforeItself};
 
 /// The normalised path that a location prints is accepted, with one tree alone, and selects the location's node alone (RFC
 /// 9535, section 2.7). The tree has a bracket of one name or one index for each step, and calls nothing.
@@ -9,4 +9,11 @@ ghost use Rattle.serde_json_path.specs.Laws.{Normal};
 /// for every function set and document.
 pub fn law_normal()
     ensures { Normal }
+{}
+
+/// A function set before itself fits what it fits alone.
+///
+/// So a path for which `fits(&Builtin)` is true may be asked by `query`.
+pub fn law_set_before_itself()
+    ensures { SetBeforeItself }
 {}

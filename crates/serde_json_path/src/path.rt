@@ -1,6 +1,6 @@
 //! Paths.
 
-ghost use Rattle.std.specs.Prelude.{◌≡◌, IfOk, IfErr, IsTrue, ◌↔◌};
+ghost use Rattle.std.specs.Prelude.{◌≡◌, [], IfOk, IfErr, IsTrue, ◌↔◌};
 ghost use Rattle.serde_json.specs.View.{view};
 ghost use Rattle.serde_json_path_nodes.specs.Views.{located_nodes, node_values};
 ghost use Rattle.serde_json_path_syntax.specs.Tree.{query, root, no_segments};
@@ -35,9 +35,10 @@ impl JsonPath {
     ghost use Rattle.serde_json_path_parser.specs.Parse.{IsParseOf};
     ghost use Rattle.serde_json_path.specs.Paths.{path_tree, path_signatures, path_view};
 
-    /// The path `$`, which selects the document itself. It allocates nothing.
+    /// The path `$`, which selects the document itself. It calls nothing, so it fits every function set. It allocates nothing.
     pub fn new(alloc: Global) -> JsonPath
         ensures tree { path_tree result ≡ query root no_segments }
+        ensures silent { path_signatures result ≡ [] }
         ensures fits { Fits builtin_functions (path_signatures result) }
     {
         JsonPath {

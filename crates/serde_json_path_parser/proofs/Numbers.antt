@@ -9,7 +9,7 @@ use Rattle.serde_json_path_parser.specs.declared.error.Refusal.{Refusal}
 use Rattle.serde_json_path_parser.specs.Lexical.{is_at, AllPass, begins, is_digit, value_from, fraction_of, IsDecimal, IsFraction, IsAmount, IsNumber}
 use Rattle.serde_json_path_parser.specs.Parsed.{Parsed, ◌>>=◌, refusal, front, past, byte_count, refusal_at}
 use Rattle.serde_json_path_parser.specs.Parsing.{is_first_digit, begins_int}
-use Rattle.serde_json_path_parser.specs.Numbers.{is_exponent, whole_at, digits_after_point_at, fraction_at, amount_at, number_at}
+use Rattle.serde_json_path_parser.specs.Numbers.{is_exponent, whole_at, digits_after_point_at, fraction_at, amount_at, greatest_amount, number_at}
 use Rattle.serde_json_path_parser.proofs.IntTexts.{decimal_read, digit_begins, zero_is, first_digit}
 use Rattle.serde_json_path_parser.proofs.Runs.{some_begun, begins_front, begins_where, differs, begins_differs, front_begins, front_each, whole, front_all, past_run}
 use Rattle.serde_json_path_parser.proofs.Steps.{Read, bind_ok, chosen, guard, done, ok_is, after_one}
@@ -86,7 +86,7 @@ amount_sound start cs x e =
 negative_in_range : (n : ℕ) → n ≤ 2 ^ 63 * 1000000000 → IsLiteralAmount (pos 0 -ℤ pos n)
 negative_in_range n most = (omega (arith, ints, most), omega (arith, ints, most))
 
-positive_in_range : (n : ℕ) → n ≤ (2 ^ 64 - 1) * 1000000000 → IsLiteralAmount (pos n)
+positive_in_range : (n : ℕ) → n ≤ greatest_amount → IsLiteralAmount (pos n)
 positive_in_range n most = (omega (arith, ints, most), omega (arith, ints, most))
 
 pub number_sound : (cs : List ℕ) (x : ℤ × List ℕ) → number_at cs ≡ Ok x → Read IsNumber cs x
@@ -94,7 +94,7 @@ unfolding number_at
 number_sound cs x e =
     let wrong = refusal NumberOutOfRange context.LongHand cs in
     let below : ℕ × List ℕ → Parsed ℤ = λ n. cond (nat_le n.0 (2 ^ 63 * 1000000000)) (Ok (pos 0 -ℤ pos n.0, n.1)) (Err wrong) in
-    let above : ℕ × List ℕ → Parsed ℤ = λ n. cond (nat_le n.0 ((2 ^ 64 - 1) * 1000000000)) (Ok (pos n.0, n.1)) (Err wrong) in
+    let above : ℕ × List ℕ → Parsed ℤ = λ n. cond (nat_le n.0 greatest_amount) (Ok (pos n.0, n.1)) (Err wrong) in
     elim (chosen (is_at "-" cs) (amount_at (byte_count cs) (drop 1 cs) >>= below) (amount_at (byte_count cs) cs >>= above) (Ok x) e) [
       | inl a ↦
           let n = bind_ok (amount_at (byte_count cs) (drop 1 cs)) below x a.1 in
@@ -109,8 +109,8 @@ number_sound cs x e =
       | inr a ↦
           let n = bind_ok (amount_at (byte_count cs) cs) above x a.1 in
           let r = amount_sound cs cs n.0 n.1 in
-          let g = guard (nat_le n.0.0 ((2 ^ 64 - 1) * 1000000000)) wrong (done (pos n.0.0, n.0.1)) x n.2 in
-          let most : n.0.0 ≤ (2 ^ 64 - 1) * 1000000000 = grind (arith, g.0) in
+          let g = guard (nat_le n.0.0 greatest_amount) wrong (done (pos n.0.0, n.0.1)) x n.2 in
+          let most : n.0.0 ≤ greatest_amount = grind (arith, g.0) in
           subst (Read IsNumber cs) (ok_is (pos n.0.0, n.0.1) x g.1) (record {
             text = r.text;
             is_so = ((n.0.0, inl (r.is_so, refl)), positive_in_range n.0.0 most);
@@ -190,10 +190,10 @@ negative_again t n rest is most e =
     let in_range : nat_le n (2 ^ 63 * 1000000000) ≡ true = grind (arith, most) in
     rw (amount_again (45 ∷ (t ++ rest)) t n rest is e, in_range) refl
 
-positive_again : (t : List ℕ) (n : ℕ) (rest : List ℕ) → IsAmount t n → n ≤ (2 ^ 64 - 1) * 1000000000 → begins goes_on rest ≡ false → number_at (t ++ rest) ≡ Ok (pos n, rest)
+positive_again : (t : List ℕ) (n : ℕ) (rest : List ℕ) → IsAmount t n → n ≤ greatest_amount → begins goes_on rest ≡ false → number_at (t ++ rest) ≡ Ok (pos n, rest)
 unfolding number_at
 positive_again t n rest is most e =
-    let in_range : nat_le n ((2 ^ 64 - 1) * 1000000000) ≡ true = grind (arith, most) in
+    let in_range : nat_le n greatest_amount ≡ true = grind (arith, most) in
     let no_sign = amount_first (λ c. c == 45) false t n rest (λ c d. differs is_digit 45 c refl d) is in
     rw (no_sign, amount_again (t ++ rest) t n rest is e, in_range) refl
 
@@ -202,7 +202,7 @@ number_again t amount rest is e =
     let n = is.0.0 in
     elim is.0.1 [
       | inl above ↦
-          let most : n ≤ (2 ^ 64 - 1) * 1000000000 = let within = is.1.1 in let same = above.1 in omega (arith, ints, within, same) in
+          let most : n ≤ greatest_amount = let within = is.1.1 in let same = above.1 in omega (arith, ints, within, same) in
           positive_again t n rest above.0 most e ∙ ap (λ (i : ℤ). Ok (i, rest)) (sym above.1)
       | inr below ↦
           let most : n ≤ 2 ^ 63 * 1000000000 = let within = is.1.0 in let same = below.3 in omega (arith, ints, within, same) in
@@ -266,7 +266,7 @@ number_stands cs r e = elim (chosen (is_at "-" cs) _ _ (Err r) e) [
       guard_stands cs (nat_le n.0 (2 ^ 63 * 1000000000)) _ NumberOutOfRange context.LongHand r refl (no_refusal cs _ r) f) a.1
   | inr a ↦
       bind_stands cs (amount_at (byte_count cs) cs) _ r (amount_stands cs cs) (λ n s f.
-      guard_stands cs (nat_le n.0 ((2 ^ 64 - 1) * 1000000000)) _ NumberOutOfRange context.LongHand r refl (no_refusal cs _ r) f) a.1
+      guard_stands cs (nat_le n.0 greatest_amount) _ NumberOutOfRange context.LongHand r refl (no_refusal cs _ r) f) a.1
 ]
 
 -- ---- the digits after a point, as the code counts them

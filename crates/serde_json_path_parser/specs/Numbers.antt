@@ -38,6 +38,10 @@ fraction_at start cs =
 unfoldable pub amount_at : ℕ → List ℕ → Parsed ℕ
 amount_at start cs = whole_at start cs >>= λ whole. fraction_at start whole.1 >>= λ fraction. Ok ((whole.0 * 1000000000) + fraction.0, fraction.1)
 
+-- 2 ^ 64 - 1 in billionths
+abbrev pub greatest_amount : ℕ
+greatest_amount = (2 ^ 64 - 1) * 1000000000
+
 -- -2 ^ 63 to 2 ^ 64 - 1
 unfoldable pub number_at : List ℕ → Parsed ℤ
 number_at cs =
@@ -45,7 +49,7 @@ number_at cs =
     (amount_at (byte_count cs) (drop 1 cs) >>= λ n.
     if nat_le n.0 (2 ^ 63 * 1000000000) then Ok (pos 0 -ℤ pos n.0, n.1) else Err (refusal NumberOutOfRange context.LongHand cs))
     else (amount_at (byte_count cs) cs >>= λ n.
-    if nat_le n.0 ((2 ^ 64 - 1) * 1000000000) then Ok (pos n.0, n.1) else Err (refusal NumberOutOfRange context.LongHand cs))
+    if nat_le n.0 greatest_amount then Ok (pos n.0, n.1) else Err (refusal NumberOutOfRange context.LongHand cs))
 
 -- what is read, as a number that stops at the greatest u128
 abbrev pub capped : Parsed ℕ → Parsed ℕ

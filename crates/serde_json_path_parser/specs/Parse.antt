@@ -1,5 +1,5 @@
 -- What a parse answers, whatever way it is asked.
-use Rattle.std.specs.Prelude.{◌≡◌, ◌≢◌, ◌==◌, ℕ, ◌-◌, ◌^◌, ◌<◌, ◌≤◌, ◌⊎◌, ◌↔◌, Bool, false, List, ◌∷◌, ◌++◌, length, take, drop, Option, Result, IfOk, IfErr, IsErrAnd}
+use Rattle.std.specs.Prelude.{◌≡◌, ◌≢◌, ◌==◌, ℕ, ◌-◌, ◌<◌, ◌≤◌, ◌⊎◌, ◌↔◌, Bool, false, List, ◌∷◌, ◌++◌, length, take, drop, Option, Result, IfOk, IfErr, IsErrAnd}
 use Rattle.std.specs.Result.{result_map_both}
 use Rattle.std.specs.Str.{chars, IsCharBoundary}
 use Rattle.serde_json_path_syntax.specs.declared.checked.Checked.{Checked}
@@ -12,6 +12,7 @@ use Rattle.serde_json_path_parser.specs.declared.error.ParseError.{ParseError}
 use Rattle.serde_json_path_parser.specs.Lexical.{begins, is_blank, IsBlank}
 use Rattle.serde_json_path_parser.specs.Accepted.{IsAccepted}
 use Rattle.serde_json_path_parser.specs.Errors.{kind_of, position_of}
+use Rattle.serde_json_path_parser.specs.Looking.{greatest_usize}
 use Rattle.serde_json_path_parser.specs.Operands.{IsUndeclared}
 use Rattle.serde_json_path_parser.specs.Parsing.{opens}
 
@@ -40,7 +41,7 @@ pub record Answers (signature : List ℕ → Option Signature) (text : List ℕ)
   -- a refusal, unless memory was refused, means that the text is accepted with no tree
   pub refused : IfErr answer (λ e. kind_of e ≢ NoMemory → (q : Query) → IsAccepted signature (chars text) q → ⊥)
   -- a missing root is reported exactly where a text whose end has a position does not begin with `$`
-  pub missing_root : IsErrAnd answer (λ e. kind_of e ≡ ExpectedRoot) ↔ ((length text < 2 ^ 64 - 1) × (begins is_dollar (chars text) ≡ false))
+  pub missing_root : IsErrAnd answer (λ e. kind_of e ≡ ExpectedRoot) ↔ ((length text < greatest_usize) × (begins is_dollar (chars text) ≡ false))
   -- text after the path is reported only where the bytes before the position are an accepted text
   pub text_after : IfErr answer (λ e. kind_of e ≡ TextAfterPath → (q : Query) × IsAccepted signature (chars (take (position_of e - 1) text)) q)
   -- an undefined function is reported only where a name that is not declared stands, with `(` at once after it
@@ -50,9 +51,9 @@ pub record Answers (signature : List ℕ → Option Signature) (text : List ℕ)
   -- `NoMemory` is reported at position 1,
   pub memory_position : IfErr answer (λ e. kind_of e ≡ NoMemory → position_of e ≡ 1)
   -- and never where there is nothing to store,
-  pub spares_memory : length text < 2 ^ 64 - 1 → NeedsNoMemory (chars text) → IfErr answer (λ e. kind_of e ≢ NoMemory)
+  pub spares_memory : length text < greatest_usize → NeedsNoMemory (chars text) → IfErr answer (λ e. kind_of e ≢ NoMemory)
   -- except for a text so long that its end has no position
-  pub too_long : length text ≡ 2 ^ 64 - 1 → IsErrAnd answer (λ e. kind_of e ≡ NoMemory)
+  pub too_long : length text ≡ greatest_usize → IsErrAnd answer (λ e. kind_of e ≡ NoMemory)
 
 -- the same of a result that is seen as a tree and its signatures
 abbrev pub IsParseOf : {A : Type 0} → (A → ParsedQuery) → (List ℕ → Option Signature) → List ℕ → Result A ParseError → Type 0

@@ -16,6 +16,7 @@ mod slice;
 ghost use Rattle.std.specs.Prelude.{◌≡◌, ◌+◌, ◌-◌, ◌*◌, ◌^◌, ◌≤◌, max, true, length, IfOk, IfErr};
 ghost use Rattle.serde_json_path_syntax.specs.Parts.{signatures_of};
 ghost use Rattle.serde_json_path_functions.specs.Functions.{Fits};
+ghost use Rattle.serde_json_path_parser.specs.Looking.{greatest_usize};
 ghost use Rattle.serde_json_path_parser.specs.Errors.{kind_of, position_of, is_told_at_next};
 ghost use Rattle.serde_json_path_parser.specs.Parse.{IsParseOf, checked_view};
 
@@ -57,7 +58,7 @@ pub fn parse<S: PathSource, F: Functions>(
     // For four kinds of refusal, nothing past the byte after the position was looked at.
     ensures farthest { IfErr result (λ e. is_told_at_next (kind_of e) ≡ true
         → (S.told source.new).farthest ≤ max (S.told source.old).farthest (position_of e + 1)) }
-    ensures unseen { length (S.told source.old).text ≡ 2 ^ 64 - 1
+    ensures unseen { length (S.told source.old).text ≡ greatest_usize
         → S.told source.new ≡ S.told source.old }
 {
     if source.len() == usize::MAX {

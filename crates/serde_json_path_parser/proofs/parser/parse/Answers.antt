@@ -1,4 +1,5 @@
-use Rattle.std.proofs.Common.{◌≡◌, ◌-◌, ◌^◌, ◌<◌, length, sym, ap, subst, ◌∙◌, arith, false}
+use Rattle.std.proofs.Common.{◌≡◌, ◌<◌, length, sym, ap, subst, ◌∙◌, arith, false}
+use Rattle.serde_json_path_parser.specs.Looking.{greatest_usize}
 use Rattle.serde_json_path_parser.specs.Filters.{path_at}
 use Rattle.serde_json_path_parser.specs.Giving.{Fails, IsRefused}
 use Rattle.serde_json_path_parser.specs.Parsing.{opens_after_root}
@@ -8,7 +9,7 @@ use Rattle.serde_json_path_parser.proofs.parser.parse.Goals as goal
 pub returns-then-len-eq18446744073709551615-clause-parse : goal.returns-then-len-eq18446744073709551615-clause-parse
 returns-then-len-eq18446744073709551615-clause-parse g c =
     let text = (g.S.PathSource.told c.args.source.now).text in
-    let long : length text ≡ 2 ^ 64 - 1 = sym c.len.ensures.bytes ∙ c.if-len-eq18446744073709551615.true in
+    let long : length text ≡ greatest_usize = sym c.len.ensures.bytes ∙ c.if-len-eq18446744073709551615.true in
     rw c.in_text.ensures (too_long (g.F.Functions.set c.args.functions.now).signature text c.len.ensures.utf8 long)
 
 pub in_text-requires-in-Err-clause-within : goal.in_text-requires-in-Err-clause-within
@@ -23,7 +24,7 @@ pub returns-in-Ok-clause-parse : goal.returns-in-Ok-clause-parse
 returns-in-Ok-clause-parse g c =
     let text = (g.S.PathSource.told c.args.source.now).text in
     let signature = (g.F.Functions.set c.args.functions.now).signature in
-    let short : length text < 2 ^ 64 - 1 = omega arith in
+    let short : length text < greatest_usize = omega arith in
     let read = c.in-Ok.ensures.gives in
     parsed signature text c.len.ensures.utf8 short read.0 c.in-Ok.checked read.1 read.3 (ap (path_at signature) (sym c.new-reader.ensures.left) ∙ read.2)
 
@@ -31,7 +32,7 @@ pub returns-in-Err-clause-parse : goal.returns-in-Err-clause-parse
 returns-in-Err-clause-parse g c =
     let text = (g.S.PathSource.told c.args.source.now).text in
     let signature = (g.F.Functions.set c.args.functions.now).signature in
-    let short : length text < 2 ^ 64 - 1 = omega arith in
+    let short : length text < greatest_usize = omega arith in
     let total : c.len-total.result ≡ length text = c.len-total.ensures ∙ ap length (c.parse_path-read.ensures.moves.moves.same_text ∙ c.new-reader.ensures.same_text) in
     rw c.in_text-in-Err.ensures
     (refused signature text c.len.ensures.utf8 short c.in-Err.stop c.len-total.result total

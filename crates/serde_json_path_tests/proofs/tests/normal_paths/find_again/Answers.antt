@@ -1,0 +1,35 @@
+use Rattle.std.proofs.Common.{◌≡◌, [], ◌∷◌, sym, subst, ◌∙◌, rules}
+use Rattle.std.specs.Str.{chars}
+use Rattle.serde_json.specs.View.{view}
+use Rattle.serde_json_path_nodes.specs.Text.{normal}
+use Rattle.serde_json_path_functions.specs.Patterns.{builtin_functions}
+use Rattle.serde_json_path_syntax.specs.Calls.{OfEach}
+use Rattle.serde_json_path_core.specs.Clear.{IsClear, IsClearCall}
+use Rattle.serde_json_path_core.specs.Meaning.{IsResult}
+use Rattle.serde_json_path_parser.specs.Accepted.{IsAccepted}
+use Rattle.serde_json_path.specs.Laws.{tree_to}
+use Rattle.serde_json_path.specs.Paths.{path_tree}
+use Rattle.serde_json_path_tests.proofs.tests.normal_paths.find_again.Goals as goal
+
+pub unreachable-requires : goal.unreachable-requires
+unreachable-requires c =
+    let location = c.args.location.now in
+    let text : c.as_str.result.now ≡ normal location = search rules in
+    let law = c.law_normal.ensures location c.requires.proper c.requires.written in
+    c.in-Err.ensures.parse.refused (λ e. c.in_default.not-NoMemory (c.kind.ensures ∙ e)) (tree_to location)
+    (subst (λ t. IsAccepted builtin_functions.signature (chars t) (tree_to location)) (sym text) (law.accepted builtin_functions.signature))
+
+pub returns-in-Ok-query_located : goal.returns-in-Ok-query_located
+returns-in-Ok-query_located c = λ v there.
+    let location = c.args.location.now in
+    let top = view c.args.document.now in
+    let tree = path_tree c.in-Ok.path in
+    let text : c.as_str.result.now ≡ normal location = search rules in
+    let law = c.law_normal.ensures location c.requires.proper c.requires.written in
+    let same : tree ≡ tree_to location =
+    law.only builtin_functions.signature tree (subst (λ t. IsAccepted builtin_functions.signature (chars t) tree) text c.in-Ok.ensures.parse.accepted) in
+    let clear : IsClear builtin_functions (tree_to location) top =
+    subst (OfEach (IsClearCall builtin_functions top)) (sym law.silent) (λ call none. absurd none) in
+    c.law_result_is_unique.ensures builtin_functions top tree top _ _
+    (c.in-Ok-query_located.ensures.selects (subst (λ q. IsClear builtin_functions q top) (sym same) clear))
+    (subst (λ q. IsResult builtin_functions top q top (record { location = location; value = v } ∷ [])) (sym same) (law.selects builtin_functions top v there))

@@ -1,0 +1,65 @@
+//! Asking whether a path fits a set, and then querying by it.
+
+ghost use Rattle.std.specs.Prelude.{◌≡◌, [], Some, IfOk, IfErr, IfSome, IsTrue, ◌↔◌};
+ghost use Rattle.serde_json.specs.View.{view};
+ghost use Rattle.serde_json_path_nodes.specs.Views.{node_values};
+ghost use Rattle.serde_json_path_core.specs.Selects.{OnlyMemory, SelectsValues};
+ghost use Rattle.serde_json_path_functions.specs.Patterns.{before_builtin, builtin_functions};
+ghost use Rattle.serde_json_path.specs.Paths.{path_tree};
+
+use crate::tests::rows::values;
+use serde_json::Value;
+use serde_json_path::functions::{Builtin, Functions};
+use serde_json_path::{JsonPath, NodeList, QueryError, law_set_before_itself};
+use std::alloc::Global;
+use std::test::Fail;
+
+/// The nodes that a path selects, if it fits the built-in functions.
+fn query_if_it_fits<'b>(
+    alloc: Global,
+    path: &JsonPath,
+    document: &'b Value,
+) -> Result<Option<NodeList<'b>>, QueryError>
+    ensures { IfOk result (λ found. IfSome found (λ list.
+        SelectsValues builtin_functions (path_tree path.now) (view document.now) (node_values list))) }
+{
+    law_set_before_itself();
+    if !path.fits(&Builtin) {
+        return Ok(None);
+    }
+    let nodes = path.query(alloc, document)?;
+    Ok(Some(nodes))
+}
+
+/// The nodes that a path selects under a set, if it fits.
+fn query_with_if_it_fits<'b, F: Functions>(
+    alloc: Global,
+    path: &JsonPath,
+    document: &'b Value,
+    functions: &F,
+) -> Result<Option<NodeList<'b>>, QueryError>
+    ensures { IfOk result (λ found. IfSome found (λ list.
+        SelectsValues (before_builtin (F.set functions.now)) (path_tree path.now) (view document.now) (node_values list))) }
+{
+    if !path.fits(functions) {
+        return Ok(None);
+    }
+    let nodes = path.query_with(alloc, document, functions)?;
+    Ok(Some(nodes))
+}
+
+#[test]
+fn queries_where_the_path_fits(rt: HostRuntime) -> Result<(), Fail> {
+    let alloc = rt.alloc();
+    let document = Value::from_str(alloc, r#"[[1,2],[3]]"#)?;
+    let path = JsonPath::parse(alloc, "$[?length(@) == 2]")?;
+    match query_if_it_fits(alloc, &path, &document)? {
+        Some(nodes) => assert_eq!(rt; values(alloc, nodes.iter())?.as_str(), "[1,2]"),
+        None => assert!(rt; false, "does not fit"),
+    }
+    match query_with_if_it_fits(alloc, &path, &document, &Builtin)? {
+        Some(nodes) => assert_eq!(rt; values(alloc, nodes.iter())?.as_str(), "[1,2]"),
+        None => assert!(rt; false, "does not fit the set"),
+    }
+    Ok(())
+}
