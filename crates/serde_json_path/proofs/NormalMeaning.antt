@@ -9,7 +9,7 @@ use Rattle.serde_json_path_syntax.specs.Typing.{AreTypedSegments}
 use Rattle.serde_json_path_syntax.specs.Depth.{segments_depth}
 use Rattle.serde_json_path_core.specs.Meaning.{IsResult}
 use Rattle.serde_json_path_core.specs.Computed.{chosen, itself, placed, results_from}
-use Rattle.serde_json_path_core.proofs.Derived.{computed_result}
+use Rattle.serde_json_path_core.proofs.Meaning.Derived.{computed_result}
 use Rattle.serde_json_path_functions.specs.Functions.{Signature, FunctionSet}
 use Rattle.serde_json_path_syntax.specs.Calls.{calls_in_segments}
 use Rattle.serde_json_path.specs.Laws.{selector_to, segments_to}

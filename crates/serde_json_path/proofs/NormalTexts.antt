@@ -18,7 +18,7 @@ use Rattle.serde_json_path_parser.specs.Lexical.{begins, is_digit, AllPass, valu
 use Rattle.serde_json_path_parser.specs.Grammar.{ReadSegments, ReadsSegment, ReadsSelector}
 use Rattle.serde_json_path_parser.specs.Accepted.{IsAccepted}
 use Rattle.serde_json_path.specs.Laws.{ArePositionsWritten, selector_to, segments_to}
-use Rattle.serde_json_path_parser.proofs.IntTexts.{zero_is}
+use Rattle.serde_json_path_parser.proofs.Grammar.Integers.{zero_is}
 use Rattle.serde_json_path.proofs.NormalMeaning.{segments_typed, segments_shallow}
 
 -- ---- bytes and characters

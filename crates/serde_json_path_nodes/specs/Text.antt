@@ -1,5 +1,6 @@
 -- The texts of locations: normalised paths (RFC 9535, section 2.7) and JSON pointers (RFC 6901, section 3).
-use Rattle.std.specs.Prelude.{ℕ, zero, ◌+◌, ◌%◌, ◌/◌, List, [], ◌∷◌, ◌++◌, map, Option, Some, None, ◌==◌, nat_lt, unwrap_or, if◌then◌else◌, codes}
+use Prim.Native.String.{String}
+use Rattle.std.specs.Prelude.{ℕ, zero, ◌+◌, ◌%◌, ◌/◌, List, [], ◌∷◌, ◌++◌, map, Option, Some, None, ◌==◌, nat_lt, slice_index, unwrap_or, if◌then◌else◌, codes}
 use Rattle.std.specs.List.{flat_map}
 use Rattle.std.specs.Str.{chars}
 use Rattle.std.specs.Char.{encode_utf8, digit_char}
@@ -9,6 +10,10 @@ use Rattle.serde_json_path_nodes.specs.Location.{Step, by_name, by_position}
 use Rattle.serde_json_path_nodes.specs.declared.error.ExactlyOneError.{ExactlyOneError}
 use Rattle.serde_json_path_nodes.specs.declared.error.ExactlyOneError.TheVariants.{Empty, MoreThanOne}
 
+-- the one character of a text, as in `code "/"`
+abbrev pub code : String → ℕ
+code sign = slice_index (codes sign) 0
+
 -- `\u00` and two hexadecimal digits in lower case
 abbrev pub hexadecimal_escape : ℕ → List ℕ
 hexadecimal_escape c = codes "\\u00" ++ digit_char (c / 16) ∷ digit_char (c % 16) ∷ []
@@ -16,14 +21,14 @@ hexadecimal_escape c = codes "\\u00" ++ digit_char (c / 16) ∷ digit_char (c % 
 -- the escape of a character that is not printed as it is between single quotes
 abbrev pub escape_of : ℕ → Option (List ℕ)
 escape_of c =
-    if c == 39 then Some (codes "\\'")
-    else if c == 92 then Some (codes "\\\\")
-    else if c == 8 then Some (codes "\\b")
-    else if c == 9 then Some (codes "\\t")
-    else if c == 10 then Some (codes "\\n")
-    else if c == 12 then Some (codes "\\f")
-    else if c == 13 then Some (codes "\\r")
-    else if nat_lt c 32 then Some (hexadecimal_escape c)
+    if c == code "'" then Some (codes "\\'")
+    else if c == code "\\" then Some (codes "\\\\")
+    else if c == 0x08 then Some (codes "\\b")
+    else if c == 0x09 then Some (codes "\\t")
+    else if c == 0x0a then Some (codes "\\n")
+    else if c == 0x0c then Some (codes "\\f")
+    else if c == 0x0d then Some (codes "\\r")
+    else if nat_lt c 0x20 then Some (hexadecimal_escape c)
     else None
 
 -- a character as it is printed between single quotes: its escape, or itself
@@ -37,7 +42,7 @@ quoted text = codes "'" ++ flat_map in_quotes (chars text) ++ codes "'"
 -- a number in decimal: `0`, or its digits from the highest on, however many (std's `decimal` ends at 64)
 unfoldable pub in_decimal : ℕ → List ℕ
 in_decimal zero = codes "0"
-in_decimal n = map (λ digit. 48 + digit) (digits_of 10 n)
+in_decimal n = map (λ digit. code "0" + digit) (digits_of 10 n)
 
 -- a step of a normalised path
 abbrev pub normal_step : Step → List ℕ
@@ -50,7 +55,7 @@ normal location = codes "$" ++ flat_map normal_step location
 
 -- a byte of a name in a pointer: `~` is `~0` and `/` is `~1`
 abbrev pub in_pointer : ℕ → List ℕ
-in_pointer b = if b == 126 then codes "~0" else if b == 47 then codes "~1" else b ∷ []
+in_pointer b = if b == code "~" then codes "~0" else if b == code "/" then codes "~1" else b ∷ []
 
 -- a step of a pointer
 abbrev pub pointer_step : Step → List ℕ

@@ -6,10 +6,11 @@ use Rattle.serde_json_path_syntax.specs.Tree.{QueryKind, root, current, Query, q
 use Rattle.serde_json_path_syntax.specs.Typing.{result_kind}
 use Rattle.serde_json_path_syntax.specs.Used.{deepest}
 use Rattle.serde_json_path_functions.specs.Functions.{Kind, of_value, Signature}
+use Rattle.serde_json_path_nodes.specs.Text.{code}
 use Rattle.serde_json_path_parser.specs.declared.error.ParseErrorKind.TheVariants.{ExpectedRoot, ExpectedExpression, ExpectedClosingParenthesis, ExpectedComparisonOperator, NonSingularQuery, UndefinedFunction, WrongNumberOfArguments, WrongArgumentType, WrongReturnType, NestedTooDeep, TextAfterPath}
 use Rattle.serde_json_path_parser.specs.declared.error.Context.TheVariants as context
 use Rattle.serde_json_path_parser.specs.declared.error.Refusal.{Refusal}
-use Rattle.serde_json_path_parser.specs.Lexical.{is_at, are_at, begins, is_small_letter, is_function_char}
+use Rattle.serde_json_path_parser.specs.Lexical.{◌∈◌, is_at, are_at, begins, is_small_letter, is_function_char}
 use Rattle.serde_json_path_parser.specs.Parsed.{Parsed, ◌>>=◌, refusal, front, past, past_blanks, many, refusal_at, byte_count}
 use Rattle.serde_json_path_parser.specs.Strings.{string_at}
 use Rattle.serde_json_path_parser.specs.Numbers.{number_at}
@@ -73,7 +74,7 @@ alone (a_query q) = query_argument q
 alone (a_call c) = call_argument c
 
 abbrev pub ends_argument : ℕ → Bool
-ends_argument c = c == 44 || c == 41
+ends_argument c = c ∈ ",)"
 
 -- after the last argument
 unfoldable pub ended : ℕ → List Kind → List ℕ → Parsed Arguments
@@ -109,8 +110,8 @@ module _ (signature : List ℕ → Option Signature) (deeper : Deeper) where
 
   unfoldable pub operand_at : List ℕ → Parsed Operand
   operand_at cs =
-      if is_at "'" cs then text_at 39 cs
-      else if is_at "\"" cs then text_at 34 cs
+      if is_at "'" cs then text_at (code "'") cs
+      else if is_at "\"" cs then text_at (code "\"") cs
       else if is_at "@" cs then (query_at current cs >>= λ q. Ok (a_query q.0, q.1))
       else if is_at "$" cs then (query_at root cs >>= λ q. Ok (a_query q.0, q.1))
       else if begins_call cs then (named_call_at cs >>= λ c. Ok (a_call c.0, c.1))
@@ -203,7 +204,7 @@ module _ (signature : List ℕ → Option Signature) (deeper : Deeper) where
 
   unfoldable pub argument_at : List ℕ → Parsed Argument
   argument_at cs =
-      if begins (λ c. c == 40 || c == 33) cs then (or_at cs >>= λ e. Ok (logical_argument e.0, e.1))
+      if begins (λ c. c ∈ "(!") cs then (or_at cs >>= λ e. Ok (logical_argument e.0, e.1))
       else (operand_at cs >>= λ o. if begins ends_argument o.1 then Ok (alone o.0, o.1) else logical_from (byte_count cs) o.0 o.1)
 
   -- an argument that begins at begin is judged, and gives the types of the parameters after it

@@ -4,6 +4,7 @@ use Rattle.std.specs.Prelude.{◌≡◌, ◌==◌, ℕ, suc, ◌+◌, ◌-◌, �
 use Rattle.std.specs.List.{AllByRecursion}
 use Prim.Native.String.{String}
 use Rattle.std.specs.Str.{encode_utf8_all}
+use Rattle.serde_json_path_nodes.specs.Text.{code}
 use Rattle.serde_json_path_syntax.specs.Tree.{IsInteger}
 use Rattle.serde_json_path_syntax.specs.WellFormed.{IsLiteralAmount}
 
@@ -21,21 +22,35 @@ abbrev pub begins : (ℕ → Bool) → List ℕ → Bool
 begins p [] = false
 begins p (c ∷ cs) = p c
 
+-- the character is one of these, as in `c ∈ ".["`
+abbrev pub is_among : ℕ → List ℕ → Bool
+is_among c [] = false
+is_among c (d ∷ []) = c == d
+is_among c (d ∷ e ∷ rest) = c == d || is_among c (e ∷ rest)
+
+infix 60 ◌∈◌
+abbrev pub ◌∈◌ : ℕ → String → Bool
+c ∈ signs = is_among c (codes signs)
+
+-- the character is one of those from the first to the last, as in `between "0" "9" c`
+abbrev pub between : String → String → ℕ → Bool
+between first last c = nat_le (code first) c && nat_le c (code last)
+
 -- the text begins with these two characters
 abbrev pub begins_both : ℕ → ℕ → List ℕ → Bool
 begins_both a b cs = begins (λ c. c == a) cs && begins (λ c. c == b) (drop 1 cs)
 
 -- the text begins with this character, as in `is_at "."`, and with these two, as in `are_at "&&"`
 abbrev pub is_at : String → List ℕ → Bool
-is_at sign cs = begins (λ c. c == slice_index (codes sign) 0) cs
+is_at sign cs = begins (λ c. c == code sign) cs
 
 abbrev pub are_at : String → List ℕ → Bool
-are_at signs cs = begins_both (slice_index (codes signs) 0) (slice_index (codes signs) 1) cs
+are_at signs cs = begins_both (code signs) (slice_index (codes signs) 1) cs
 
 -- ---- blanks (section 2.1.1): space, tab, line feed and carriage return
 
 abbrev pub is_blank : ℕ → Bool
-is_blank c = c == 32 || c == 9 || c == 10 || c == 13
+is_blank c = c ∈ " \t\n\r"
 
 abbrev pub IsBlank : List ℕ → Type 0
 IsBlank text = AllPass is_blank text
@@ -43,11 +58,11 @@ IsBlank text = AllPass is_blank text
 -- ---- member names (section 2.5.1.1)
 
 abbrev pub is_digit : ℕ → Bool
-is_digit c = nat_le 48 c && nat_le c 57
+is_digit c = between "0" "9" c
 
 -- a letter, `_` or a character beyond ASCII
 abbrev pub is_name_first : ℕ → Bool
-is_name_first c = (nat_le 65 c && nat_le c 90) || (nat_le 97 c && nat_le c 122) || c == 95 || nat_le 128 c
+is_name_first c = between "A" "Z" c || between "a" "z" c || c ∈ "_" || nat_le 128 c
 
 abbrev pub is_name_char : ℕ → Bool
 is_name_char c = is_name_first c || is_digit c
@@ -61,10 +76,10 @@ pub record IsName (text bytes : List ℕ) : Type 0 where
 -- ---- function names (section 2.4)
 
 abbrev pub is_small_letter : ℕ → Bool
-is_small_letter c = nat_le 97 c && nat_le c 122
+is_small_letter c = between "a" "z" c
 
 abbrev pub is_function_char : ℕ → Bool
-is_function_char c = is_small_letter c || c == 95 || is_digit c
+is_function_char c = is_small_letter c || c ∈ "_" || is_digit c
 
 pub record IsFunctionName (text bytes : List ℕ) : Type 0 where
   pub first : begins is_small_letter text ≡ true
@@ -76,13 +91,13 @@ pub record IsFunctionName (text bytes : List ℕ) : Type 0 where
 -- the number that these digits write after the digits of n
 abbrev pub value_from : ℕ → List ℕ → ℕ
 value_from n [] = n
-value_from n (d ∷ ds) = value_from ((n * 10) + (d - 48)) ds
+value_from n (d ∷ ds) = value_from ((n * 10) + (d - code "0")) ds
 
 -- `0`, or digits that do not begin with it
 pub record IsDecimal (text : List ℕ) (n : ℕ) : Type 0 where
   pub first : begins is_digit text ≡ true
   pub each : AllPass is_digit text
-  pub plain : (text ≡ 48 ∷ []) ⊎ (is_at "0" text ≡ false)
+  pub plain : (text ≡ codes "0") ⊎ (is_at "0" text ≡ false)
   pub value_of : n ≡ value_from 0 text
 
 -- an `int`: a decimal number, or `-` and one that is not 0
@@ -124,9 +139,9 @@ IsNumber text amount =
 -- the value of a hexadecimal digit of either case
 abbrev pub hexadecimal_of : ℕ → Option ℕ
 hexadecimal_of c =
-    if is_digit c then Some (c - 48)
-    else if nat_le 65 c && nat_le c 70 then Some (c - 55)
-    else if nat_le 97 c && nat_le c 102 then Some (c - 87)
+    if is_digit c then Some (c - code "0")
+    else if between "A" "F" c then Some (c - (code "A" - 10))
+    else if between "a" "f" c then Some (c - (code "a" - 10))
     else None
 
 -- four hexadecimal digits
@@ -150,24 +165,24 @@ pair_of high low = (0x10000 + (0x400 * (high - 0xd800))) + (low - 0xdc00)
 -- what stands after a backslash for one character, but for `u` and the quote
 abbrev pub escaped_by : ℕ → Option ℕ
 escaped_by c =
-    if c == 98 then Some 8
-    else if c == 102 then Some 12
-    else if c == 110 then Some 10
-    else if c == 114 then Some 13
-    else if c == 116 then Some 9
-    else if c == 47 then Some 47
-    else if c == 92 then Some 92
+    if c ∈ "b" then Some 0x08
+    else if c ∈ "f" then Some 0x0c
+    else if c ∈ "n" then Some 0x0a
+    else if c ∈ "r" then Some 0x0d
+    else if c ∈ "t" then Some 0x09
+    else if c ∈ "/" then Some (code "/")
+    else if c ∈ "\\" then Some (code "\\")
     else None
 
 -- a character that stands for itself: from U+0020 on, but for the backslash and the quote round the string
 abbrev pub is_plain : ℕ → ℕ → Bool
-is_plain quote c = nat_le 32 c && not (c == 92) && not (c == quote)
+is_plain quote c = nat_le 0x20 c && not (c ∈ "\\") && not (c == quote)
 
 -- a piece of a string in these quotes, and the one character that it stands for
 pub data IsPiece (quote : ℕ) : List ℕ → ℕ → Type 0 where
   plain : (c : ℕ) → is_plain quote c ≡ true → IsPiece quote (c ∷ []) c
-  quote_escape : IsPiece quote (92 ∷ quote ∷ []) quote
-  letter_escape : (letter c : ℕ) → escaped_by letter ≡ Some c → IsPiece quote (92 ∷ letter ∷ []) c
+  quote_escape : IsPiece quote (codes "\\" ++ quote ∷ []) quote
+  letter_escape : (letter c : ℕ) → escaped_by letter ≡ Some c → IsPiece quote (codes "\\" ++ letter ∷ []) c
   hex_escape : (digits : List ℕ) (c : ℕ) → IsHex4 digits c → (c < 0xd800) ⊎ (0xdfff < c) → IsPiece quote (codes "\\u" ++ digits) c
   pair_escape : (a b : List ℕ) (high low : ℕ) → IsHex4 a high → IsHex4 b low → IsHighSurrogate high → IsLowSurrogate low → IsPiece quote ((codes "\\u" ++ a) ++ (codes "\\u" ++ b)) (pair_of high low)
 
@@ -176,7 +191,7 @@ abbrev pub ArePieces : ℕ → List ℕ → List ℕ → Type 0
 ArePieces quote text characters = Joined (IsPiece quote) text characters
 
 abbrev pub IsQuote : ℕ → Type 0
-IsQuote quote = (quote ≡ 39) ⊎ (quote ≡ 34)
+IsQuote quote = (quote ≡ code "'") ⊎ (quote ≡ code "\"")
 
 -- a string in single or double quotes of these bytes
 abbrev pub IsString : List ℕ → List ℕ → Type 0

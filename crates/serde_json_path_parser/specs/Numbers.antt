@@ -4,12 +4,12 @@
 use Rattle.std.specs.Prelude.{ℕ, ◌+◌, ◌-◌, ◌*◌, ◌^◌, ◌==◌, ◌||◌, min, nat_le, ℤ, pos, ◌-ℤ◌, Bool, List, length, drop, Ok, Err, if◌then◌else◌}
 use Rattle.serde_json_path_parser.specs.declared.error.ParseErrorKind.TheVariants.{ExpectedExpression, ExponentOrEmptyFraction, FractionTooLong, NumberOutOfRange}
 use Rattle.serde_json_path_parser.specs.declared.error.Context.TheVariants as context
-use Rattle.serde_json_path_parser.specs.Lexical.{is_at, begins, is_digit, value_from, fraction_of}
+use Rattle.serde_json_path_parser.specs.Lexical.{◌∈◌, is_at, begins, is_digit, value_from, fraction_of}
 use Rattle.serde_json_path_parser.specs.Parsed.{Parsed, ◌>>=◌, refusal, front, past, refusal_at, byte_count}
 use Rattle.serde_json_path_parser.specs.Parsing.{is_first_digit}
 
 abbrev pub is_exponent : ℕ → Bool
-is_exponent c = c == 101 || c == 69
+is_exponent c = c ∈ "eE"
 
 -- `0`, or digits that do not begin with it
 unfoldable pub whole_at : ℕ → List ℕ → Parsed ℕ

@@ -1,5 +1,5 @@
 -- What a parse answers, whatever way it is asked.
-use Rattle.std.specs.Prelude.{◌≡◌, ◌≢◌, ◌==◌, ℕ, ◌-◌, ◌<◌, ◌≤◌, ◌⊎◌, ◌↔◌, Bool, false, List, ◌∷◌, ◌++◌, length, take, drop, Option, Result, IfOk, IfErr, IsErrAnd}
+use Rattle.std.specs.Prelude.{◌≡◌, ◌≢◌, ◌==◌, ℕ, ◌-◌, ◌<◌, ◌≤◌, ◌⊎◌, ◌↔◌, Bool, false, List, ◌∷◌, ◌++◌, length, take, drop, codes, Option, Result, IfOk, IfErr, IsErrAnd}
 use Rattle.std.specs.Result.{result_map_both}
 use Rattle.std.specs.Str.{chars, IsCharBoundary}
 use Rattle.serde_json_path_syntax.specs.declared.checked.Checked.{Checked}
@@ -9,7 +9,7 @@ use Rattle.serde_json_path_syntax.specs.Used.{AreCalled}
 use Rattle.serde_json_path_functions.specs.Functions.{Signature}
 use Rattle.serde_json_path_parser.specs.declared.error.ParseErrorKind.TheVariants.{ExpectedRoot, UndefinedFunction, TextAfterPath, NoMemory}
 use Rattle.serde_json_path_parser.specs.declared.error.ParseError.{ParseError}
-use Rattle.serde_json_path_parser.specs.Lexical.{begins, is_blank, IsBlank}
+use Rattle.serde_json_path_parser.specs.Lexical.{◌∈◌, begins, is_blank, IsBlank}
 use Rattle.serde_json_path_parser.specs.Accepted.{IsAccepted}
 use Rattle.serde_json_path_parser.specs.Errors.{kind_of, position_of}
 use Rattle.serde_json_path_parser.specs.Looking.{greatest_usize}
@@ -17,13 +17,13 @@ use Rattle.serde_json_path_parser.specs.Operands.{IsUndeclared}
 use Rattle.serde_json_path_parser.specs.Parsing.{opens}
 
 abbrev pub is_dollar : ℕ → Bool
-is_dollar c = c == 36
+is_dollar c = c ∈ "$"
 
 -- there is no `$` at the start, or after it and blanks neither `.` nor `[`
 abbrev pub NeedsNoMemory : List ℕ → Type 0
 NeedsNoMemory text =
     (begins is_dollar text ≡ false)
-    ⊎ ((blanks rest : List ℕ) × (text ≡ 36 ∷ (blanks ++ rest)) × IsBlank blanks × (begins is_blank rest ≡ false) × (begins opens rest ≡ false))
+    ⊎ ((blanks rest : List ℕ) × (text ≡ codes "$" ++ (blanks ++ rest)) × IsBlank blanks × (begins is_blank rest ≡ false) × (begins opens rest ≡ false))
 
 -- a tree, and the names that it calls, each with its signature
 pub record ParsedQuery : Type 0 where

@@ -2,10 +2,11 @@
 use Rattle.std.specs.Prelude.{ℕ, zero, suc, ℤ, pos, negsuc, ◌==◌, ◌||◌, ◌&&◌, Bool, List, [], ◌∷◌, drop, Option, Some, None, Ok, Err, nat_le, if◌then◌else◌}
 use Rattle.std.specs.Str.{encode_utf8_all}
 use Rattle.serde_json_path_syntax.specs.Tree.{largest, SegmentKind, child, descendant, Segments, no_segments, segment, Segment, dot_name, dot_wildcard, long_hand, Selectors, selector, no_selectors, Selector, name, wildcard, index, slice, Slice}
+use Rattle.serde_json_path_nodes.specs.Text.{code}
 use Rattle.serde_json_path_parser.specs.declared.error.ParseErrorKind.TheVariants.{BadMemberName, ExpectedClosingBracket, ExpectedSelector, IntegerOutOfRange}
 use Rattle.serde_json_path_parser.specs.declared.error.Context as declared
 use Rattle.serde_json_path_parser.specs.declared.error.Context.TheVariants as context
-use Rattle.serde_json_path_parser.specs.Lexical.{is_at, begins, is_digit, is_name_first, is_name_char, value_from}
+use Rattle.serde_json_path_parser.specs.Lexical.{◌∈◌, between, is_at, begins, is_digit, is_name_first, is_name_char, value_from}
 use Rattle.serde_json_path_parser.specs.Parsed.{Parsed, ◌>>=◌, refusal, front, past, past_blanks, many, refusal_at, byte_count}
 use Rattle.serde_json_path_parser.specs.Strings.{string_at}
 
@@ -18,7 +19,7 @@ name_at here cs =
 
 -- a digit that may stand first, after `-` too
 abbrev pub is_first_digit : ℕ → Bool
-is_first_digit c = nat_le 49 c && nat_le c 57
+is_first_digit c = between "1" "9" c
 
 -- the digits of an integer, at whose first character start bytes are left; they are read whole before their range is judged
 unfoldable pub digits_at : ℕ → List ℕ → Parsed ℕ
@@ -42,7 +43,7 @@ int_at cs =
 -- ---- slices and selectors, each with the blanks after it
 
 abbrev pub begins_int : ℕ → Bool
-begins_int c = c == 45 || is_digit c
+begins_int c = c ∈ "-" || is_digit c
 
 -- a part of a slice, or nothing
 unfoldable pub bound_at : List ℕ → Parsed (Option ℤ)
@@ -68,7 +69,7 @@ unfoldable pub quoted_at : ℕ → List ℕ → Parsed Selector
 quoted_at quote cs = string_at quote cs >>= λ text. Ok (name text.0, past_blanks text.1)
 
 abbrev pub opens : ℕ → Bool
-opens c = c == 46 || c == 91
+opens c = c ∈ ".["
 
 -- a segment begins after blanks
 abbrev pub opens_next : List ℕ → Bool
@@ -100,8 +101,8 @@ dotted_at here cs =
 module _ (filter_at : List ℕ → Parsed Selector) where
   unfoldable pub selector_at : List ℕ → Parsed Selector
   selector_at cs =
-      if is_at "'" cs then quoted_at 39 (drop 1 cs)
-      else if is_at "\"" cs then quoted_at 34 (drop 1 cs)
+      if is_at "'" cs then quoted_at (code "'") (drop 1 cs)
+      else if is_at "\"" cs then quoted_at (code "\"") (drop 1 cs)
       else if is_at "*" cs then Ok (wildcard, past_blanks (drop 1 cs))
       else if is_at ":" cs then (slice_at None (drop 1 cs) >>= λ s. Ok (slice s.0, s.1))
       else if is_at "?" cs then filter_at cs

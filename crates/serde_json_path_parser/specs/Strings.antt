@@ -2,18 +2,20 @@
 -- is reported at its backslash: `start` bytes are left there.
 use Rattle.std.specs.Prelude.{ℕ, ◌+◌, ◌-◌, ◌*◌, ◌==◌, ◌||◌, ◌&&◌, nat_le, not, Bool, List, [], ◌∷◌, drop, Ok, Err, if◌then◌else◌}
 use Rattle.std.specs.Str.{encode_utf8_all}
+use Rattle.serde_json_path_nodes.specs.Text.{code}
 use Rattle.serde_json_path_parser.specs.declared.error.ParseErrorKind.TheVariants.{ExpectedEndingQuote, BadEscape, ControlCharacter}
 use Rattle.serde_json_path_parser.specs.declared.error.Context.TheVariants as context
-use Rattle.serde_json_path_parser.specs.Lexical.{is_at, begins, is_digit, pair_of}
+use Rattle.serde_json_path_parser.specs.Lexical.{◌∈◌, between, is_at, begins, is_digit, pair_of}
 use Rattle.serde_json_path_parser.specs.Parsed.{Parsed, ◌>>=◌, refusal, many, refusal_at, byte_count}
 
 -- ---- hexadecimal digits
 
 abbrev pub is_hexadecimal : ℕ → Bool
-is_hexadecimal c = is_digit c || (nat_le 65 c && nat_le c 70) || (nat_le 97 c && nat_le c 102)
+is_hexadecimal c = is_digit c || between "A" "F" c || between "a" "f" c
 
 abbrev pub hexadecimal_value : ℕ → ℕ
-hexadecimal_value c = if nat_le c 57 then c - 48 else (if nat_le c 70 then c - 55 else c - 87)
+hexadecimal_value c =
+    if nat_le c (code "9") then c - code "0" else (if nat_le c (code "F") then c - (code "A" - 10) else c - (code "a" - 10))
 
 abbrev pub head : List ℕ → ℕ
 head [] = 0
@@ -57,10 +59,13 @@ unicode_at start cs = hex4_at start cs >>= λ h.
 
 -- what stands after a backslash for one character, but for `u`
 abbrev pub is_letter_escape : ℕ → ℕ → Bool
-is_letter_escape quote c = c == 98 || c == 102 || c == 110 || c == 114 || c == 116 || c == 47 || c == 92 || c == quote
+is_letter_escape quote c =
+    c ∈ "b" || c ∈ "f" || c ∈ "n" || c ∈ "r" || c ∈ "t" || c ∈ "/" || c ∈ "\\" || c == quote
 
 abbrev pub letter_value : ℕ → ℕ
-letter_value c = if c == 98 then 8 else (if c == 102 then 12 else (if c == 110 then 10 else (if c == 114 then 13 else (if c == 116 then 9 else c))))
+letter_value c =
+    if c ∈ "b" then 0x08
+    else (if c ∈ "f" then 0x0c else (if c ∈ "n" then 0x0a else (if c ∈ "r" then 0x0d else (if c ∈ "t" then 0x09 else c))))
 
 -- at a backslash
 unfoldable pub escape_at : ℕ → List ℕ → Parsed ℕ
@@ -69,7 +74,7 @@ escape_at quote cs =
     else (if begins (is_letter_escape quote) (drop 1 cs) then Ok (letter_value (head (drop 1 cs)), drop 1 (drop 1 cs)) else Err (refusal BadEscape context.LongHand cs))
 
 abbrev pub is_control : ℕ → Bool
-is_control c = nat_le c 31
+is_control c = nat_le c 0x1f
 
 unfoldable pub piece_at : ℕ → List ℕ → Parsed ℕ
 piece_at quote cs =

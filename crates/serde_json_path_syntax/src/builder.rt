@@ -84,7 +84,7 @@ impl SyntaxBuilder {
     }
 
     /// A bracket segment of one selector or more, in order.
-    #[tactic(auto, using(crate::proofs::NamedParts::of_named_parts))]
+    #[tactic(auto, using(crate::proofs::Tree::NamedParts::of_named_parts))]
     pub fn long_hand(&mut self, kind: SegmentKind, selectors: Parts) -> Result<Part, AllocError>
         requires { (sels : tree.Selectors) × AreSelectorsOf self.old (parts_in selectors) sels }
         ensures made { IfOk result (λ part.
@@ -147,7 +147,7 @@ impl SyntaxBuilder {
     }
 
     /// A logical expression: one operand of `||` or more, in order (RFC 9535, section 2.3.5.1).
-    #[tactic(auto, using(crate::proofs::NamedParts::of_named_parts))]
+    #[tactic(auto, using(crate::proofs::Tree::NamedParts::of_named_parts))]
     pub fn logical_or(&mut self, parts: Parts) -> Result<Part, AllocError>
         requires { (e : tree.LogicalOr) × AreOrPartsOf self.old (parts_in parts) e }
         ensures made { IfOk result (λ part.
@@ -159,7 +159,7 @@ impl SyntaxBuilder {
     }
 
     /// An operand of `||`: one operand of `&&` or more, in order (RFC 9535, section 2.3.5.1).
-    #[tactic(auto, using(crate::proofs::NamedParts::of_named_parts))]
+    #[tactic(auto, using(crate::proofs::Tree::NamedParts::of_named_parts))]
     pub fn logical_and(&mut self, parts: Parts) -> Result<Part, AllocError>
         requires { (e : tree.LogicalAnd) × AreAndPartsOf self.old (parts_in parts) e }
         ensures made { IfOk result (λ part.
@@ -291,7 +291,7 @@ impl SyntaxBuilder {
     }
 
     /// A call of a function by name, which keeps that signature, with its arguments in order (RFC 9535, section 2.4).
-    #[tactic(auto, using(crate::proofs::NamedParts::of_named_parts))]
+    #[tactic(auto, using(crate::proofs::Tree::NamedParts::of_named_parts))]
     pub fn call(
         &mut self,
         name: String,
@@ -362,7 +362,7 @@ impl SyntaxBuilder {
     }
 
     /// A query of these segments, in order.
-    #[tactic(auto, using(crate::proofs::NamedParts::of_named_parts))]
+    #[tactic(auto, using(crate::proofs::Tree::NamedParts::of_named_parts))]
     pub fn query(&mut self, kind: QueryKind, segments: Parts) -> Result<Part, AllocError>
         requires { (segs : tree.Segments) × ArePartsOf self.old (parts_in segments) segs }
         ensures made { IfOk result (λ part.

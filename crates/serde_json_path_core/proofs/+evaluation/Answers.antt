@@ -23,19 +23,19 @@ use Rattle.serde_json_path_syntax.specs.Stages.{selector_view, stage_at, stages_
 use Rattle.serde_json_path_core.specs.Views.{child_view}
 use Rattle.serde_json_path_syntax.specs.Lists.{IsIn}
 use Rattle.serde_json_path_core.specs.Computed as computed
-use Rattle.serde_json_path_core.proofs.Answered.{given-all, answered, own_pattern}
-use Rattle.serde_json_path_syntax.proofs.BoundedParts.{within_get, within_bound}
-use Rattle.serde_json_path_core.proofs.OperandLists.{keep-no, first-found}
-use Rattle.serde_json_path_core.proofs.FrameSteps.{ends-trans, passes-over, comes-onward, comes-down, done, chooses-none, chooses-some}
-use Rattle.serde_json_path_core.proofs.Started.{begun-results}
-use Rattle.serde_json_path_core.proofs.InDocument.{left_stands, stack-inside, ends-stand, begun-inside}
-use Rattle.serde_json_path_core.proofs.SoundParts.{argument-calls, next-calls, side-calls, sound-segments, sound-segment, sound-selector, sound-and, sound-basic, typed-arguments, parameters-known}
-use Rattle.serde_json_path_syntax.proofs.Bounds.{below_length, past_length}
-use Rattle.serde_json_path_core.proofs.Chains.{IsTurn, turn-dropped, turn-moved}
-use Rattle.serde_json_path_core.proofs.KnownCases.{found-none, found-some}
-use Rattle.serde_json_path_core.proofs.LastFrames.{ends_with, sees_last, sees_last_two}
-use Rattle.serde_json_path_core.proofs.LastFrameDone.{rest-ends, stack-dropped, work-ends}
-use Rattle.serde_json_path_core.proofs.StageLists.{drop-some, drop-none, get-within, missing, stages-from, stages-past}
+use Rattle.serde_json_path_core.proofs.Steps.Answered.{given-all, answered, own_pattern}
+use Rattle.serde_json_path_syntax.proofs.Tree.BoundedParts.{within_get, within_bound}
+use Rattle.serde_json_path_core.proofs.Steps.OperandLists.{keep-no, first-found}
+use Rattle.serde_json_path_core.proofs.Walks.FrameSteps.{ends-trans, passes-over, comes-onward, comes-down, done, chooses-none, chooses-some}
+use Rattle.serde_json_path_core.proofs.Walks.Started.{begun-results}
+use Rattle.serde_json_path_core.proofs.Walks.InDocument.{left_stands, stack-inside, ends-stand, begun-inside}
+use Rattle.serde_json_path_core.proofs.Sound.Parts.{argument-calls, next-calls, side-calls, sound-segments, sound-segment, sound-selector, sound-and, sound-basic, typed-arguments, parameters-known}
+use Rattle.serde_json_path_syntax.proofs.Tree.Bounds.{below_length, past_length}
+use Rattle.serde_json_path_core.proofs.Walks.Chains.{IsTurn, turn-dropped, turn-moved}
+use Rattle.serde_json_path_core.proofs.Steps.KnownCases.{found-none, found-some}
+use Rattle.serde_json_path_core.proofs.Walks.LastFrames.{ends_with, sees_last, sees_last_two}
+use Rattle.serde_json_path_core.proofs.Walks.LastFrameDone.{rest-ends, stack-dropped, work-ends}
+use Rattle.serde_json_path_core.proofs.Walks.StageLists.{drop-some, drop-none, get-within, missing, stages-from, stages-past}
 use Rattle.serde_json_path_syntax.specs.Parts.{signatures_of}
 use Rattle.serde_json_path_core.specs.Meaning.{params_of}
 use Rattle.serde_json_path_core.proofs.+evaluation.Goals as goal

@@ -6,7 +6,7 @@ use Rattle.serde_json_path_nodes.specs.Views.{node_value}
 use Rattle.serde_json_path_core.specs.Meaning.{IsResult}
 use Rattle.serde_json_path_syntax.specs.Parts.{tree_of}
 use Rattle.serde_json_path_core.specs.Walks.{rest}
-use Rattle.serde_json_path_core.proofs.KnownCases.{found-some}
+use Rattle.serde_json_path_core.proofs.Steps.KnownCases.{found-some}
 use Rattle.serde_json_path_core.proofs.evaluation.evaluate.Goals as goal
 
 pub values-preserved : goal.values-preserved

@@ -7,11 +7,11 @@ use Rattle.serde_json_path_core.specs.Frames.{frame_view, frames_view}
 use Rattle.serde_json_path_core.specs.Rest.{rest_of, IsStack}
 use Rattle.serde_json_path_syntax.specs.Stages.{stages, stages_at}
 use Rattle.serde_json_path_core.specs.Meaning.{IsResult}
-use Rattle.serde_json_path_core.proofs.Chains.{stack-started}
-use Rattle.serde_json_path_core.proofs.Derived.{computed_result}
-use Rattle.serde_json_path_core.proofs.SoundParts.{sound-segments}
-use Rattle.serde_json_path_core.proofs.Started.{begun-frame, begun-results}
-use Rattle.serde_json_path_core.proofs.WholeQueries.{whole-sound}
+use Rattle.serde_json_path_core.proofs.Walks.Chains.{stack-started}
+use Rattle.serde_json_path_core.proofs.Meaning.Derived.{computed_result}
+use Rattle.serde_json_path_core.proofs.Sound.Parts.{sound-segments}
+use Rattle.serde_json_path_core.proofs.Walks.Started.{begun-frame, begun-results}
+use Rattle.serde_json_path_core.proofs.Sound.WholeQueries.{whole-sound}
 use Rattle.serde_json_path_core.proofs.evaluation.walk.Goals as goal
 
 pub invariant_of-result : goal.invariant_of-result

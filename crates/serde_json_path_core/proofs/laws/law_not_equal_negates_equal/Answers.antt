@@ -6,8 +6,8 @@ use Rattle.serde_json_path_functions.specs.Functions.{FunctionSet, KeepsTypes}
 use Rattle.serde_json_path_core.specs.Compared.{Compared, AreEqual}
 use Rattle.serde_json_path_core.specs.Meaning.{HoldsBasic, IsComparedAs}
 use Rattle.serde_json_path_syntax.specs.Typing.{IsTypedComparable}
-use Rattle.serde_json_path_core.proofs.AnswerKinds.{compared_there}
-use Rattle.serde_json_path_core.proofs.Derived.{compared_right}
+use Rattle.serde_json_path_core.proofs.Meaning.AnswerKinds.{compared_there}
+use Rattle.serde_json_path_core.proofs.Meaning.Derived.{compared_right}
 use Rattle.serde_json_path_core.proofs.laws.law_not_equal_negates_equal.Goals as goal
 
 -- a side of a comparison stands for one thing at most

@@ -1,4 +1,4 @@
-use Rattle.serde_json_path_core.proofs.Order.{result_once}
+use Rattle.serde_json_path_core.proofs.Meaning.Order.{result_once}
 use Rattle.serde_json_path_core.proofs.laws.law_result_is_unique.Goals as goal
 
 pub returns : goal.returns

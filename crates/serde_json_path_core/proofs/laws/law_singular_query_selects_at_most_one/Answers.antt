@@ -10,7 +10,7 @@ use Rattle.serde_json_path_core.specs.Derivation.{start_of}
 use Rattle.serde_json_path_core.specs.Meaning.{IsResult}
 use Rattle.serde_json_path_core.specs.Selected.{child_by, item_at}
 use Rattle.serde_json_path_core.specs.Computed.{chosen, itself, placed, results_from}
-use Rattle.serde_json_path_core.proofs.Derived.{computed_only}
+use Rattle.serde_json_path_core.proofs.Meaning.Derived.{computed_only}
 use Rattle.serde_json_path_core.proofs.laws.law_singular_query_selects_at_most_one.Goals as goal
 
 -- ---- singular segments are well-typed

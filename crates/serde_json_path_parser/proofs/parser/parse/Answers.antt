@@ -3,7 +3,7 @@ use Rattle.serde_json_path_parser.specs.Looking.{greatest_usize}
 use Rattle.serde_json_path_parser.specs.Filters.{path_at}
 use Rattle.serde_json_path_parser.specs.Giving.{Fails, IsRefused}
 use Rattle.serde_json_path_parser.specs.Parsing.{opens_after_root}
-use Rattle.serde_json_path_parser.proofs.Parses.{too_long, parsed, refused, within}
+use Rattle.serde_json_path_parser.proofs.Grammar.Parses.{too_long, parsed, refused, within}
 use Rattle.serde_json_path_parser.proofs.parser.parse.Goals as goal
 
 pub returns-then-len-eq18446744073709551615-clause-parse : goal.returns-then-len-eq18446744073709551615-clause-parse

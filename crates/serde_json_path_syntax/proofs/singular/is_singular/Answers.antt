@@ -1,5 +1,5 @@
 use Rattle.std.proofs.Common.{arith}
-use Rattle.serde_json_path_syntax.proofs.BoundedParts.{within_get}
+use Rattle.serde_json_path_syntax.proofs.Tree.BoundedParts.{within_get}
 use Rattle.serde_json_path_syntax.proofs.singular.is_singular.Goals as goal
 
 pub is_singular_segment-requires : goal.is_singular_segment-requires

@@ -1,7 +1,7 @@
 use Rattle.std.proofs.Common.{◌≤◌, length, sym, subst, true≢false}
 use Rattle.serde_json_path_syntax.specs.Tree.{IsSingularSegment}
 use Rattle.serde_json_path_syntax.specs.Flat.{pieces, parts_in, segment_of}
-use Rattle.serde_json_path_syntax.proofs.SingularParts.{two_selectors}
+use Rattle.serde_json_path_syntax.proofs.Tree.SingularParts.{two_selectors}
 use Rattle.serde_json_path_syntax.proofs.singular.selects_one.Goals as goal
 
 pub returns-in-len2-up : goal.returns-in-len2-up

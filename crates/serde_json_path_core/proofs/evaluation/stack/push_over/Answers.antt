@@ -1,5 +1,5 @@
 use Rattle.std.proofs.Common.{◌-◌, ap, ◌∙◌}
-use Rattle.serde_json_path_core.proofs.LastFrames.{over}
+use Rattle.serde_json_path_core.proofs.Walks.LastFrames.{over}
 use Rattle.serde_json_path_core.proofs.evaluation.stack.push_over.Goals as goal
 
 pub returns-clause-ok : goal.returns-clause-ok

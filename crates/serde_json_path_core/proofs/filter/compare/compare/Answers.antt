@@ -1,5 +1,5 @@
 use Rattle.std.proofs.Common.{not, ap}
-use Rattle.serde_json_path_core.proofs.ComparedSides.{same_from_sides, less_from_sides, less_or_same_from_sides}
+use Rattle.serde_json_path_core.proofs.Steps.ComparedSides.{same_from_sides, less_from_sides, less_or_same_from_sides}
 use Rattle.serde_json_path_core.proofs.filter.compare.compare.Goals as goal
 
 pub returns-in-EqualTo : goal.returns-in-EqualTo

@@ -1,6 +1,6 @@
 use Rattle.serde_json_path_syntax.specs.Flat.{part_query, segments_at}
 use Rattle.serde_json_path_core.specs.Scopes.{nodes_of, query_of, set_of}
-use Rattle.serde_json_path_core.proofs.SoundParts.{sound-segments}
+use Rattle.serde_json_path_core.proofs.Sound.Parts.{sound-segments}
 use Rattle.serde_json_path_core.proofs.filter.logic.first_frame.Goals as goal
 
 pub start-requires-clause-typed : goal.start-requires-clause-typed

@@ -4,7 +4,7 @@ use Rattle.std.proofs.lemmas.List.{length-set}
 use Rattle.std.proofs.lemmas.Option.{slice_get-get_or}
 use Rattle.serde_json_path_parser.specs.Source.{Told}
 use Rattle.serde_json_path_parser.specs.NameParts.{Gathered}
-use Rattle.serde_json_path_parser.proofs.NameParts.{more_gathered, looked_on}
+use Rattle.serde_json_path_parser.proofs.Texts.NameParts.{more_gathered, looked_on}
 use Rattle.serde_json_path_parser.proofs.parser.name_part.gather.Goals as goal
 
 pub loop-at-preserved : goal.loop-at-preserved

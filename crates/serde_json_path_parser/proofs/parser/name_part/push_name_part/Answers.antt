@@ -1,6 +1,6 @@
 use Rattle.std.proofs.Common.{◌<◌, length, refl, arith}
 use Rattle.std.proofs.lemmas.Option.{slice_get_within}
-use Rattle.serde_json_path_parser.proofs.NameParts.{first_gathered, past_part, pushed_part}
+use Rattle.serde_json_path_parser.proofs.Texts.NameParts.{first_gathered, past_part, pushed_part}
 use Rattle.serde_json_path_parser.proofs.parser.name_part.push_name_part.Goals as goal
 
 pub gather-end-requires-clause-first : goal.gather-end-requires-clause-first

@@ -3,8 +3,8 @@ use Rattle.std.specs.Prelude.{string_bytes}
 use Rattle.serde_json_path_syntax.specs.Flat.{segment_kind_view}
 use Rattle.serde_json_path_syntax.specs.Tree as tree
 use Rattle.serde_json_path_parser.specs.Reading.{left}
-use Rattle.serde_json_path_parser.proofs.Growth.{grows_leaf}
-use Rattle.serde_json_path_parser.proofs.SegmentSteps.{wildcard_reads, name_reads}
+use Rattle.serde_json_path_parser.proofs.Steps.Growth.{grows_leaf}
+use Rattle.serde_json_path_parser.proofs.Steps.Segments.{wildcard_reads, name_reads}
 use Rattle.serde_json_path_parser.proofs.parser.segment.parse_dotted.Goals as goal
 
 pub returns-then-sees-clause-gives : goal.returns-then-sees-clause-gives

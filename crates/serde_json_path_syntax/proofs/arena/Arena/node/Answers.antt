@@ -1,5 +1,5 @@
 use Rattle.std.proofs.Common.{refl}
-use Rattle.serde_json_path_syntax.proofs.Growing.{called_among, piece_at-node}
+use Rattle.serde_json_path_syntax.proofs.Tree.Growing.{called_among, piece_at-node}
 use Rattle.serde_json_path_syntax.proofs.arena.Arena.node.Goals as goal
 
 pub returns-clause-piece : goal.returns-clause-piece

@@ -1,4 +1,4 @@
-use Rattle.serde_json_path_syntax.proofs.Growing.{push_made, push_keeps, push_silent}
+use Rattle.serde_json_path_syntax.proofs.Tree.Growing.{push_made, push_keeps, push_silent}
 use Rattle.serde_json_path_syntax.proofs.builder.SyntaxBuilder.push.Goals as goal
 
 pub returns-clause-made : goal.returns-clause-made

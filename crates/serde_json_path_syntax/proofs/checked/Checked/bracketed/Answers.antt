@@ -2,10 +2,10 @@ use Rattle.std.proofs.Common.{arith, refl, Some, ap, sym, ◌∙◌, option_map}
 use Rattle.std.proofs.lemmas.Option.{slice_get_read, slice_get_past}
 use Rattle.serde_json_path_syntax.specs.declared.node.Part.{Part}
 use Rattle.serde_json_path_syntax.specs.Flat.{pieces, piece_in, selector_in}
-use Rattle.serde_json_path_syntax.proofs.NamedParts.{selectors_get}
-use Rattle.serde_json_path_syntax.proofs.TypedParts.{typed_selector}
-use Rattle.serde_json_path_syntax.proofs.BoundedParts.{within_bound}
-use Rattle.serde_json_path_syntax.proofs.Bounds.{below_length, past_length}
+use Rattle.serde_json_path_syntax.proofs.Tree.NamedParts.{selectors_get}
+use Rattle.serde_json_path_syntax.proofs.Typing.TypedParts.{typed_selector}
+use Rattle.serde_json_path_syntax.proofs.Tree.BoundedParts.{within_bound}
+use Rattle.serde_json_path_syntax.proofs.Tree.Bounds.{below_length, past_length}
 use Rattle.serde_json_path_syntax.proofs.checked.Checked.bracketed.Goals as goal
 
 pub returns-in-Some-clause-selector_ref : goal.returns-in-Some-clause-selector_ref

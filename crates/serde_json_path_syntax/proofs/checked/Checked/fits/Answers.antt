@@ -2,8 +2,8 @@ use Rattle.std.proofs.Common.{◌∙◌, arith, refl, sym, subst, true≢false}
 use Rattle.std.proofs.lemmas.List.{drop_all}
 use Rattle.serde_json_path_functions.specs.Functions.{Fits}
 use Rattle.serde_json_path_syntax.specs.Flat.{called_by, calls_among}
-use Rattle.serde_json_path_syntax.proofs.Growing.{fits_from}
-use Rattle.serde_json_path_syntax.proofs.Once.{fits_once, once_fits}
+use Rattle.serde_json_path_syntax.proofs.Tree.Growing.{fits_from}
+use Rattle.serde_json_path_syntax.proofs.Names.Once.{fits_once, once_fits}
 use Rattle.serde_json_path_syntax.proofs.checked.Checked.fits.Goals as goal
 
 pub returns-then-not-declares : goal.returns-then-not-declares

@@ -1,6 +1,6 @@
 use Rattle.serde_json_path_syntax.specs.Flat.{calls_among, part_query}
-use Rattle.serde_json_path_syntax.proofs.Finishing.{typed_once}
-use Rattle.serde_json_path_syntax.proofs.Once.{called_once}
+use Rattle.serde_json_path_syntax.proofs.Names.Finishing.{typed_once}
+use Rattle.serde_json_path_syntax.proofs.Names.Once.{called_once}
 use Rattle.serde_json_path_syntax.proofs.checked.Checked.of.Goals as goal
 
 pub invariant_of-result-clause-typed : goal.invariant_of-result-clause-typed

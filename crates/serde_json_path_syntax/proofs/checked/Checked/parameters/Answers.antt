@@ -6,7 +6,7 @@ use Rattle.serde_json_path_syntax.specs.Calls.{name_of}
 use Rattle.serde_json_path_syntax.specs.Lists.{IsIn}
 use Rattle.serde_json_path_syntax.specs.Flat.{call_in, called_by, calls_among, piece_of, pieces}
 use Rattle.serde_json_path_syntax.specs.Parts.{nodes_in}
-use Rattle.serde_json_path_syntax.proofs.Once.{fits_each, once_fits}
+use Rattle.serde_json_path_syntax.proofs.Names.Once.{fits_each, once_fits}
 use Rattle.serde_json_path_syntax.proofs.checked.Checked.parameters.Goals as goal
 
 pub returns : goal.returns

@@ -3,7 +3,7 @@ use Rattle.std.specs.Int.{w128}
 use Rattle.serde_json_path_syntax.specs.Tree.{number}
 use Rattle.serde_json_path_syntax.specs.Typing.{IsValueLiteral}
 use Rattle.serde_json_path_syntax.specs.Literals.{literal_view}
-use Rattle.serde_json_path_syntax.proofs.Typings.{whole_by_bits}
+use Rattle.serde_json_path_syntax.proofs.Typing.Typings.{whole_by_bits}
 use Rattle.serde_json_path_syntax.proofs.literal.Literal.is_value.Goals as goal
 
 pub returns-in-Number : goal.returns-in-Number

@@ -1,7 +1,7 @@
 use Rattle.std.proofs.Common.{◌≡◌, ap, sym, ◌∙◌, rules}
 use Rattle.serde_json.specs.View.{members_view}
 use Rattle.serde_json_path_core.specs.Computed.{members_all}
-use Rattle.serde_json_path_core.proofs.MapOrder.{in_order-members_view}
+use Rattle.serde_json_path_core.proofs.Steps.MapOrder.{in_order-members_view}
 use Rattle.serde_json_path_core.proofs.evaluation.cursor.Cursor.members.Goals as goal
 
 pub returns : goal.returns

@@ -2,7 +2,7 @@ use Rattle.std.proofs.Common.{◌≡◌, ◌-◌, ◌^◌, ◌<◌, ◌∷◌, l
 use Rattle.serde_json.specs.View.{view, items_view}
 use Rattle.serde_json_path_nodes.specs.Location.{by_position}
 use Rattle.serde_json_path_core.specs.Computed.{strided, next_position}
-use Rattle.serde_json_path_core.proofs.PositionSteps.{strided-none, strided-first, strided-up, strided-down}
+use Rattle.serde_json_path_core.proofs.Steps.Positions.{strided-none, strided-first, strided-up, strided-down}
 use Rattle.serde_json_path_core.proofs.evaluation.slice_positions.SlicePositions.advance.Goals as goal
 use Rattle.serde_json_path_core.proofs.evaluation.slice_positions.SlicePositions.advance.Goals.{then-self, else-self}
 

@@ -7,12 +7,12 @@ use Rattle.serde_json_path_core.specs.Walks.{set_of, query_of, document_of}
 use Rattle.serde_json_path_core.specs.Rest.{IsStackIn, rest_of, stack_path}
 use Rattle.serde_json_path_syntax.specs.Stages.{stages_at}
 use Rattle.serde_json_path_core.specs.Frames.{frames_view}
-use Rattle.serde_json_path_core.proofs.SoundParts.{sound-segments}
-use Rattle.serde_json_path_core.proofs.InDocument.{root_stands}
-use Rattle.serde_json_path_core.proofs.WholeQueries.{whole-sound}
-use Rattle.serde_json_path_core.proofs.KnownCases.{found-none, found-some}
-use Rattle.serde_json_path_core.proofs.LastFrameDone.{rest-ends, stack-dropped, work-ends}
-use Rattle.serde_json_path_core.proofs.Stacks.{located}
+use Rattle.serde_json_path_core.proofs.Sound.Parts.{sound-segments}
+use Rattle.serde_json_path_core.proofs.Walks.InDocument.{root_stands}
+use Rattle.serde_json_path_core.proofs.Sound.WholeQueries.{whole-sound}
+use Rattle.serde_json_path_core.proofs.Steps.KnownCases.{found-none, found-some}
+use Rattle.serde_json_path_core.proofs.Walks.LastFrameDone.{rest-ends, stack-dropped, work-ends}
+use Rattle.serde_json_path_core.proofs.Walks.Stacks.{located}
 use Rattle.serde_json_path_core.proofs.evaluation.walks.Walk.next_value.Goals as goal
 
 pub find_next-requires : goal.find_next-requires

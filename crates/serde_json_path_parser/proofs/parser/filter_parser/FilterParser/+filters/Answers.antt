@@ -1,4 +1,4 @@
-use Rattle.serde_json_path_parser.proofs.Steps.{same_fails}
+use Rattle.serde_json_path_parser.proofs.Reading.Steps.{same_fails}
 use Rattle.std.proofs.Common.{rules, ◌≡◌, ◌∙◌, ◌∷◌, [], true, false, Some, Ok, Err, ◌++◌, ◌≤◌, ◌<◌, length, refl, sym, ap, subst, map, drop, option_map, arith, true≢false}
 use Rattle.std.specs.Prelude.{◌||◌, string_bytes}
 use Rattle.std.proofs.lemmas.List.{nil_from_length, append-nil}
@@ -16,27 +16,27 @@ use Rattle.serde_json_path_parser.specs.Lexical.{is_at, are_at, begins}
 use Rattle.serde_json_path_parser.specs.Operands.{a_literal, a_query, a_call, calls_in_operand}
 use Rattle.serde_json_path_parser.specs.Parsed.{byte_count, past_blanks}
 use Rattle.serde_json_path_parser.specs.Reading.{left}
-use Rattle.serde_json_path_parser.proofs.ArgumentSteps as of_arguments
-use Rattle.serde_json_path_parser.proofs.OperandSteps.{alone_is, alone_calls}
-use Rattle.serde_json_path_parser.proofs.CalledSteps as of_calls
-use Rattle.serde_json_path_parser.proofs.Levels.{level_laws}
+use Rattle.serde_json_path_parser.proofs.Steps.Arguments as of_arguments
+use Rattle.serde_json_path_parser.proofs.Steps.Operands.{alone_is, alone_calls}
+use Rattle.serde_json_path_parser.proofs.Steps.CalledNames as of_calls
+use Rattle.serde_json_path_parser.proofs.Grammar.Levels.{level_laws}
 use Rattle.serde_json_path_parser.proofs.parser.filter_parser.FilterParser.+filters.Goals.{parse_argument-then-sees-via-then-sees, parse_argument-then-sees-via-else-sees+then-sees-2}
 use Rattle.std.proofs.lemmas.Grind.{common_steps}
 use Rattle.serde_json_path_syntax.specs.Flat.{parts_in, segment_kind_view, kind_view as query_kind_view}
-use Rattle.serde_json_path_syntax.proofs.NamedParts.{parts_kept}
+use Rattle.serde_json_path_syntax.proofs.Tree.NamedParts.{parts_kept}
 use Rattle.serde_json_path_parser.specs.Parsing.{opens, opens_next, bracket_at, next_selector_at, selectors_at, selector_list, segment_at, next_segment_at, segments_at, segment_list}
-use Rattle.serde_json_path_parser.proofs.Texts.{no_longer}
-use Rattle.serde_json_path_parser.proofs.BracketTexts.{is_comma}
-use Rattle.serde_json_path_parser.proofs.Growth.{grows_none, grows_kept, grows_same, grows_then, grows_call, from_first, made_from, made_then, made_after, more_segments, more_selectors, more_ors, more_ands}
-use Rattle.serde_json_path_parser.proofs.FilterSteps.{filter_reads, filter_fails, query_reads}
-use Rattle.serde_json_path_parser.proofs.LevelSteps.{selector_takes, segment_takes, segment_shorter}
-use Rattle.serde_json_path_parser.proofs.PartLists.{segment_pushed, first_selector, selector_pushed, selectors_kept, first_or, or_pushed, first_and, and_pushed}
-use Rattle.serde_json_path_parser.proofs.SegmentSteps.{selectors_begin, next_selector_reads, next_selector_fails, bracket_reads, next_reads, next_fails}
-use Rattle.serde_json_path_parser.proofs.LogicalSteps.{blanks_past_one, blanks_past_two, read_more, row_shorter, row_goes_on, row_fails, row_done, ands, ors, too_deep, inside_is, no_operator_read, relation_read, call_is, paren_read, not_paren_read, no_current_read, no_root_read, negated_is_name, name_fails, no_call_read, value_refused, not_test_read}
-use Rattle.serde_json_path_parser.proofs.Many.{with_front}
+use Rattle.serde_json_path_parser.proofs.Reading.Regrouped.{no_longer}
+use Rattle.serde_json_path_parser.proofs.Grammar.Brackets.{is_comma}
+use Rattle.serde_json_path_parser.proofs.Steps.Growth.{grows_none, grows_kept, grows_same, grows_then, grows_call, from_first, made_from, made_then, made_after, more_segments, more_selectors, more_ors, more_ands}
+use Rattle.serde_json_path_parser.proofs.Steps.Filters.{filter_reads, filter_fails, query_reads}
+use Rattle.serde_json_path_parser.proofs.Steps.Levels.{selector_takes, segment_takes, segment_shorter}
+use Rattle.serde_json_path_parser.proofs.Steps.PartLists.{segment_pushed, first_selector, selector_pushed, selectors_kept, first_or, or_pushed, first_and, and_pushed}
+use Rattle.serde_json_path_parser.proofs.Steps.Segments.{selectors_begin, next_selector_reads, next_selector_fails, bracket_reads, next_reads, next_fails}
+use Rattle.serde_json_path_parser.proofs.Steps.LogicalExpressions.{blanks_past_one, blanks_past_two, read_more, row_shorter, row_goes_on, row_fails, row_done, ands, ors, too_deep, inside_is, no_operator_read, relation_read, call_is, paren_read, not_paren_read, no_current_read, no_root_read, negated_is_name, name_fails, no_call_read, value_refused, not_test_read}
+use Rattle.serde_json_path_parser.proofs.Reading.Many.{with_front}
 use Rattle.serde_json_path_parser.proofs.parser.filter_parser.FilterParser.+filters.Goals as goal
 use Rattle.serde_json_path_syntax.specs.Tree as tree
-use Rattle.serde_json_path_parser.proofs.Many as m
+use Rattle.serde_json_path_parser.proofs.Reading.Many as m
 
 pub parse_and_from-parts-init : goal.parse_and_from-parts-init
 parse_and_from-parts-init g t c = record {

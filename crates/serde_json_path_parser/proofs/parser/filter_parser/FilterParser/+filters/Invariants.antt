@@ -11,8 +11,8 @@ use Rattle.serde_json_path_parser.specs.Levels.{signatures, deeper, filter_at}
 use Rattle.serde_json_path_parser.specs.Parsed.{past_blanks, many, byte_count}
 use Rattle.serde_json_path_parser.specs.Parsing.{opens, opens_next, next_selector_at, selectors_at, selector_list, segments_at, segment_list}
 use Rattle.serde_json_path_parser.specs.Reading.{left, Moves}
-use Rattle.serde_json_path_parser.proofs.BracketTexts.{is_comma}
-use Rattle.serde_json_path_parser.proofs.Many.{with_front}
+use Rattle.serde_json_path_parser.proofs.Grammar.Brackets.{is_comma}
+use Rattle.serde_json_path_parser.proofs.Reading.Many.{with_front}
 use Rattle.serde_json_path_parser.proofs.parser.filter_parser.FilterParser.+filters.Given as goal
 
 -- ---- one level is above all that stands in it; at a level, what stands in another piece is below it

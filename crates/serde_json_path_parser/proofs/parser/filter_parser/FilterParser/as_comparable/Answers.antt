@@ -4,7 +4,7 @@ use Rattle.serde_json_path_parser.specs.Filters.{comparable_at}
 use Rattle.serde_json_path_parser.specs.Levels.{signatures, deeper}
 use Rattle.serde_json_path_parser.specs.Reading.{left}
 use Rattle.serde_json_path_parser.specs.Operands.{calls_in_operand}
-use Rattle.serde_json_path_parser.proofs.OperandSteps.{query_is, compared, not_compared}
+use Rattle.serde_json_path_parser.proofs.Steps.Operands.{query_is, compared, not_compared}
 use Rattle.serde_json_path_parser.proofs.parser.filter_parser.FilterParser.as_comparable.Goals as goal
 
 pub returns-then-not-is_singular-clause-gives : goal.returns-then-not-is_singular-clause-gives

@@ -2,7 +2,7 @@ use Rattle.std.proofs.Common.{◌≡◌, sym, ◌∙◌, true, ◌-◌, ◌^◌,
 use Rattle.std.proofs.lemmas.Grind.{common_steps}
 use Rattle.serde_json_path_parser.specs.Reading.{left}
 use Rattle.serde_json_path_parser.specs.Lexical.{begins, is_digit}
-use Rattle.serde_json_path_parser.proofs.Runs.{digit_taken, past_more}
+use Rattle.serde_json_path_parser.proofs.Reading.Runs.{digit_taken, past_more}
 use Rattle.serde_json_path_parser.proofs.parser.primitive.decimal.parse_decimal.Goals as goal
 
 pub loop-reader-preserved : goal.loop-reader-preserved

@@ -5,8 +5,8 @@ use Rattle.std.proofs.lemmas.Result.{err_from_is_err_and}
 use Rattle.serde_json_path_parser.specs.Lexical.{begins}
 use Rattle.serde_json_path_parser.specs.Reading.{left}
 use Rattle.serde_json_path_parser.specs.Strings.{is_inside, string_at}
-use Rattle.serde_json_path_parser.proofs.Strings.{piece_takes}
-use Rattle.serde_json_path_parser.proofs.Strings as t
+use Rattle.serde_json_path_parser.proofs.Grammar.Strings.{piece_takes}
+use Rattle.serde_json_path_parser.proofs.Grammar.Strings as t
 use Rattle.serde_json_path_parser.proofs.parser.primitive.string.parse_string.Goals as goal
 
 pub returns-in_err-c-clause-gives : goal.returns-in_err-c-clause-gives

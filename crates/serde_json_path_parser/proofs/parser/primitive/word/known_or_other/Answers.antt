@@ -3,8 +3,8 @@ use Rattle.std.specs.List.{slice_range}
 use Rattle.serde_json_path_parser.specs.Lexical.{begins, is_function_char}
 use Rattle.serde_json_path_parser.specs.Filters.{word}
 use Rattle.serde_json_path_parser.specs.Reading.{left}
-use Rattle.serde_json_path_parser.proofs.WordTexts.{ascii_at, common_fits, front_on, past_on, front_known, front_other}
-use Rattle.serde_json_path_parser.proofs.Runs.{past_end}
+use Rattle.serde_json_path_parser.proofs.Steps.Words.{ascii_at, common_fits, front_on, past_on, front_known, front_other}
+use Rattle.serde_json_path_parser.proofs.Reading.Runs.{past_end}
 use Rattle.serde_json_path_parser.proofs.parser.primitive.word.known_or_other.Goals as goal
 use Rattle.serde_json_path_parser.proofs.parser.primitive.word.known_or_other.Goals.{else-count-known-via-then-count-known+else-not-sees_function_char, else-count-known-via-else-count-known}
 

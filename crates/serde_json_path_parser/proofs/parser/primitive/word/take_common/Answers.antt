@@ -4,7 +4,7 @@ use Rattle.std.proofs.lemmas.List.{drop-drop}
 use Rattle.serde_json_path_parser.specs.Lexical.{begins}
 use Rattle.serde_json_path_parser.specs.Reading.{left}
 use Rattle.serde_json_path_parser.specs.Words.{common}
-use Rattle.serde_json_path_parser.proofs.WordTexts.{common_more}
+use Rattle.serde_json_path_parser.proofs.Steps.Words.{common_more}
 use Rattle.serde_json_path_parser.proofs.parser.primitive.word.take_common.Goals as goal
 
 pub loop-count-preserved : goal.loop-count-preserved

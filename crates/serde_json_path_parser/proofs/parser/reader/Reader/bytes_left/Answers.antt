@@ -1,7 +1,7 @@
 use Rattle.std.proofs.Common.{refl}
 use Rattle.std.proofs.lemmas.List.{length-drop}
 use Rattle.std.proofs.lemmas.Str.{encodes-chars}
-use Rattle.serde_json_path_parser.proofs.FirstByte.{utf8_of}
+use Rattle.serde_json_path_parser.proofs.Texts.FirstByte.{utf8_of}
 use Rattle.serde_json_path_parser.proofs.parser.reader.Reader.bytes_left.Goals as goal
 
 pub returns-clause-value : goal.returns-clause-value

@@ -1,9 +1,9 @@
 use Rattle.std.proofs.Common.{sym, ap, subst, ◌∙◌, refl}
 use Rattle.std.specs.Prelude.{IsSome}
 use Rattle.serde_json_path_parser.specs.Lexical.{begins, is_name_char}
-use Rattle.serde_json_path_parser.proofs.FirstByte.{is_there, is_some_at, step_one}
-use Rattle.serde_json_path_parser.proofs.NameParts.{fits_below_128}
-use Rattle.serde_json_path_parser.proofs.Runs.{some_begun}
+use Rattle.serde_json_path_parser.proofs.Texts.FirstByte.{is_there, is_some_at, step_one}
+use Rattle.serde_json_path_parser.proofs.Texts.NameParts.{fits_below_128}
+use Rattle.serde_json_path_parser.proofs.Reading.Runs.{some_begun}
 use Rattle.serde_json_path_parser.proofs.parser.reader.Reader.take_name_part.Goals as goal
 
 pub unwrap-first-requires : goal.unwrap-first-requires

@@ -1,0 +1,243 @@
+-- The computed children of a value are those that a step leads to, in document order.
+use Rattle.std.proofs.Common.{◌≡◌, ℕ, zero, suc, ◌+◌, ◌<◌, ℤ, List, Ordering, Less, Equal, Greater, nat_cmp, is_eq, Bool, true, false, bytes_eq, Option, Some, ◌↔◌, inl, inr, refl, sym, ap, subst, ◌∙◌, arith, true≢false, option_to_list, ◌-◌, pos, negsuc, None, option_map, option_and_then}
+use Rattle.std.specs.Cmp.Lexicographic.{slice_cmp}
+use Rattle.std.specs.Ordering.{ordering_reverse, match_ordering}
+use Rattle.std.proofs.lemmas.Cmp.{nat_list_cmp_total, tied_itself}
+use Rattle.std.proofs.lemmas.Map.Text.{is_eq-slice_cmp}
+use Rattle.std.proofs.lemmas.Option.{none-some, same_Some}
+use Rattle.std.proofs.lemmas.Slice.Eq.{bytes_eq-Decides}
+use Rattle.serde_json.specs.Data.{Data, array, object, Items, no_items, item, Members, no_members, member, put}
+use Rattle.serde_json.specs.Find.{get_item, get_member}
+use Rattle.serde_json.proofs.Views.{get_member-put, get_member-put_other}
+use Rattle.serde_json_path_nodes.specs.Location.{Step, by_name, by_position, child_at, StepBefore}
+use Rattle.serde_json_path_syntax.specs.Lists.{IsIn, IsInOrder}
+use Rattle.serde_json_path_core.specs.Meaning.{SelectsIndex, IsPositionOf}
+use Rattle.serde_json_path_core.specs.Selected.{child_by, item_at}
+use Rattle.serde_json_path_core.specs.Computed.{children, items_from, members_all, in_order}
+use Rattle.serde_json_path_syntax.proofs.Lists.InLists.{in_option}
+use Rattle.std.specs.Prelude.{◌<ℤ◌, ◌+ℤ◌, nat_lt, if◌then◌else◌}
+use Rattle.std.proofs.lemmas.Int.{ints}
+use Rattle.serde_json.specs.Events.{items_len}
+
+-- ---- the child at a step, and the item of an index
+
+-- the child at a step, with that step
+by_step : (v : Data) (s t : Step) (c : Data) → child_by v s ≡ Some (t, c) → (t ≡ s) × (child_at v s ≡ Some c)
+by_step v s t c e = split (child_at v s) refl
+  where
+    split : (o : Option Data) → child_at v s ≡ o → (t ≡ s) × (child_at v s ≡ Some c)
+    split None f = absurd (none-some (t, c) (sym (ap (option_map (λ d. (s, d))) f) ∙ e))
+    split (Some d) f =
+        let same = same_Some {A = Step × Data} (s, d) (t, c) (sym (ap (option_map (λ x. (s, x))) f) ∙ e) in
+        (sym (ap (λ (x : Step × Data). x.0) same), f ∙ ap (λ (x : Step × Data). Some x.1) same)
+
+-- and the other way round
+there_by : (v : Data) (s : Step) (c : Data) → child_at v s ≡ Some c → child_by v s ≡ Some (s, c)
+there_by v s c e = ap (option_map (λ d. (s, d))) e
+
+below_zero : (k : ℕ) → negsuc k <ℤ pos 0
+below_zero k = omega (arith, ints)
+
+counted : (n k : ℕ) → nat_lt k n ≡ true → pos (n - (k + 1)) ≡ (negsuc k +ℤ pos n)
+counted n k e = let less : k < n = grind (arith, e) in omega (arith, ints)
+
+-- the position that a negative index means
+counts_back : (n k q : ℕ) → pos q ≡ (negsuc k +ℤ pos n) → (nat_lt k n ≡ true) × (q ≡ n - (k + 1))
+counts_back n k q e = let less : k < n = omega (arith, ints) in (grind arith, omega (arith, ints))
+
+-- the item of an index is at a position that it selects
+item_sound : (items : Items) (i : ℤ) (s : Step) (c : Data) → item_at (array items) i ≡ Some (s, c) → IsPositionOf (SelectsIndex i) (array items) s × (child_at (array items) s ≡ Some c)
+item_sound items (pos p) s c e =
+    let b = by_step (array items) (by_position p) s c e in
+    ((items, refl, p, b.0, inl refl), ap (child_at (array items)) b.0 ∙ b.1)
+item_sound items (negsuc k) s c e = split (nat_lt k (items_len items)) refl
+  where
+    split : (b : Bool) → nat_lt k (items_len items) ≡ b → IsPositionOf (SelectsIndex (negsuc k)) (array items) s × (child_at (array items) s ≡ Some c)
+    split true f =
+        let p = items_len items - (k + 1) in
+        let g : child_by (array items) (by_position p) ≡ Some (s, c) =
+        sym (ap (λ b. option_and_then (λ q. child_by (array items) (by_position q)) (if b then Some p else None)) f) ∙ e in
+        let b = by_step (array items) (by_position p) s c g in
+        ((items, refl, p, b.0, inr (below_zero k, counted (items_len items) k f)), ap (child_at (array items)) b.0 ∙ b.1)
+    split false f =
+        absurd (none-some (s, c) (sym (ap (λ b. option_and_then (λ q. child_by (array items) (by_position q)) (if b then Some (items_len items - (k + 1)) else None)) f) ∙ e))
+
+-- a child at a position that an index selects is the item of the index
+item_complete : (v : Data) (i : ℤ) (s : Step) (c : Data) → IsPositionOf (SelectsIndex i) v s → child_at v s ≡ Some c → item_at v i ≡ Some (s, c)
+item_complete (array ds) (pos p) s c (items, e, q, t, inl f) g =
+    let p_is : p ≡ q = omega (arith, ints, f) in
+    let s_is : by_position p ≡ s = ap by_position p_is ∙ sym t in
+    ap (child_by (array ds)) s_is ∙ there_by (array ds) s c g
+item_complete (array ds) (pos p) s c (items, e, q, t, inr f) g = let h = f.0 in absurd (omega (arith, ints))
+item_complete (array ds) (negsuc k) s c (items, e, q, t, inl f) g = absurd (omega (arith, ints, f))
+item_complete (array ds) (negsuc k) s c (items, e, q, t, inr f) g =
+    let same : ds ≡ items = same_Some ds items e in
+    let back = counts_back (items_len ds) k q (f.1 ∙ ap (λ (xs : Items). negsuc k +ℤ pos (items_len xs)) (sym same)) in
+    ap (λ b. option_and_then (λ p. child_by (array ds) (by_position p)) (if b then Some (items_len ds - (k + 1)) else None)) back.0
+    ∙ ap (λ p. child_by (array ds) (by_position p)) (sym back.1) ∙ ap (child_by (array ds)) (sym t) ∙ there_by (array ds) s c g
+item_complete _ i s c h g = absurd (none-some h.0 h.1)
+
+-- ---- items
+
+in_items : (i : ℕ) (items : Items) (c : Step × Data) → IsIn c (items_from i items) → (p : ℕ) × (c.0 ≡ by_position (i + p)) × (get_item p items ≡ Some c.1)
+in_items i no_items c h = absurd h
+in_items i (item d more) c (inl e) = (0, ap (λ (x : Step × Data). x.0) e ∙ ap by_position (omega arith), ap (λ (x : Step × Data). Some x.1) (sym e))
+in_items i (item d more) c (inr h) = let k = in_items (i + 1) more c h in (suc k.0, k.1 ∙ ap by_position (omega arith), k.2)
+
+items_in : (i p : ℕ) (items : Items) (c : Data) → get_item p items ≡ Some c → IsIn {A = Step × Data} (by_position (i + p), c) (items_from i items)
+items_in i p no_items c e = absurd (none-some c e)
+items_in i zero (item d more) c e =
+    let f = same_Some d c e in let s : by_position (i + 0) ≡ by_position i = ap by_position (omega arith) in inl (λ j. (s j, sym f j))
+items_in i (suc p) (item d more) c e =
+    inr (subst (λ s. IsIn {A = Step × Data} (s, c) (items_from (i + 1) more)) (ap by_position (omega arith)) (items_in (i + 1) p more c e))
+
+items_ordered : (i : ℕ) (items : Items) → IsInOrder (λ (a b : Step × Data). StepBefore a.0 b.0) (items_from i items)
+items_ordered i no_items = tt
+items_ordered i (item d more) = (
+  λ c h. let k = in_items (i + 1) more c h in let less : i < (i + 1) + k.0 = omega arith in subst (StepBefore (by_position i)) (sym k.1) less,
+  items_ordered (i + 1) more,
+)
+
+-- ---- members in the order of their names
+
+found_here : (k : List ℕ) (d : Data) (ms : Members) → get_member k (member k d ms) ≡ Some d
+found_here k d ms = let e : slice_cmp nat_cmp k k ≡ Equal = tied_itself nat_list_cmp_total k in rw e
+
+either : (o : Ordering) (a b : Option Data) → is_eq o ≡ false → match_ordering o a b a ≡ a
+either Less a b e = refl
+either Equal a b e = absurd (true≢false e)
+either Greater a b e = refl
+
+found_later : (q k : List ℕ) (d : Data) (ms : Members) → bytes_eq q k ≡ false → get_member q (member k d ms) ≡ get_member q ms
+found_later q k d ms e = either (slice_cmp nat_cmp q k) _ _ (is_eq-slice_cmp q k ∙ e)
+
+apart : (q k : List ℕ) → bytes_eq q k ≡ false → q ≡ k → ⊥
+apart q k e s = true≢false (sym ((bytes_eq-Decides q k).1 s) ∙ e)
+
+unlike : (q k : List ℕ) → slice_cmp nat_cmp k q ≡ Less → bytes_eq q k ≡ false
+unlike q k h = sym (is_eq-slice_cmp q k) ∙ ap is_eq (nat_list_cmp_total.antisymm q k ∙ ap ordering_reverse h)
+
+-- a name finds the same among the members in order
+get_member-in_order : (q : List ℕ) (ms : Members) → get_member q (in_order ms) ≡ get_member q ms
+get_member-in_order q no_members = refl
+get_member-in_order q (member k d ms) = by (bytes_eq q k) refl (get_member-in_order q ms)
+  where
+    by : (b : Bool) → bytes_eq q k ≡ b → get_member q (in_order ms) ≡ get_member q ms → get_member q (put k d (in_order ms)) ≡ get_member q (member k d ms)
+    by true e later =
+        subst (λ x. get_member x (put k d (in_order ms)) ≡ get_member x (member k d ms)) (sym ((bytes_eq-Decides q k).0 e))
+        (get_member-put k d (in_order ms) ∙ sym (found_here k d ms))
+    by false e later = get_member-put_other q k d (in_order ms) (apart q k e) ∙ later ∙ sym (found_later q k d ms e)
+
+-- the name is before each of the members' names
+abbrev pub IsBelow : List ℕ → Members → Type 0
+IsBelow k no_members = Unit {0}
+IsBelow k (member l e ms) = (slice_cmp nat_cmp k l ≡ Less) × IsBelow k ms
+
+-- each name is before those that follow
+abbrev pub AreRising : Members → Type 0
+AreRising no_members = Unit {0}
+AreRising (member k d ms) = IsBelow k ms × AreRising ms
+
+below_found : (k q : List ℕ) (ms : Members) (c : Data) → IsBelow k ms → get_member q ms ≡ Some c → slice_cmp nat_cmp k q ≡ Less
+below_found k q no_members c a e = absurd (none-some c e)
+below_found k q (member l d ms) c a e = by (bytes_eq q l) refl (λ f. below_found k q ms c a.1 f)
+  where
+    by : (b : Bool) → bytes_eq q l ≡ b → (get_member q ms ≡ Some c → slice_cmp nat_cmp k q ≡ Less) → slice_cmp nat_cmp k q ≡ Less
+    by true f later = subst (λ x. slice_cmp nat_cmp k x ≡ Less) (sym ((bytes_eq-Decides q l).0 f)) a.0
+    by false f later = later (sym (found_later q l d ms f) ∙ e)
+
+in_members : (ms : Members) (c : Step × Data) → AreRising ms → IsIn c (members_all ms) → (k : List ℕ) × (c.0 ≡ by_name k) × (get_member k ms ≡ Some c.1)
+in_members no_members c r h = absurd h
+in_members (member k d ms) c r (inl e) = (k, ap (λ (x : Step × Data). x.0) e, found_here k d ms ∙ ap (λ (x : Step × Data). Some x.1) (sym e))
+in_members (member k d ms) c r (inr h) =
+    let g = in_members ms c r.1 h in (g.0, g.1, found_later g.0 k d ms (unlike g.0 k (below_found k g.0 ms c.1 r.0 g.2)) ∙ g.2)
+
+members_in : (ms : Members) (k : List ℕ) (c : Data) → get_member k ms ≡ Some c → IsIn {A = Step × Data} (by_name k, c) (members_all ms)
+members_in no_members k c e = absurd (none-some c e)
+members_in (member l d ms) k c e = by (bytes_eq k l) refl (members_in ms k c)
+  where
+    by : (b : Bool) → bytes_eq k l ≡ b → (get_member k ms ≡ Some c → IsIn {A = Step × Data} (by_name k, c) (members_all ms)) → IsIn {A = Step × Data} (by_name k, c) (members_all (member l d ms))
+    by true f later =
+        let s : k ≡ l = (bytes_eq-Decides k l).0 f in
+        let here : get_member k (member l d ms) ≡ Some d = subst (λ x. get_member x (member l d ms) ≡ Some d) (sym s) (found_here l d ms) in
+        let same = same_Some d c (sym here ∙ e) in
+        inl (λ j. (by_name (s j), sym same j))
+    by false f later = inr (later (sym (found_later k l d ms f) ∙ e))
+
+members_ordered : (ms : Members) → AreRising ms → IsInOrder (λ (a b : Step × Data). StepBefore a.0 b.0) (members_all ms)
+members_ordered no_members r = tt
+members_ordered (member k d ms) r =
+    (λ c h. let g = in_members ms c r.1 h in subst (StepBefore (by_name k)) (sym g.1) (below_found k g.0 ms c.1 r.0 g.2), members_ordered ms r.1)
+
+below_trans : (k l : List ℕ) (ms : Members) → slice_cmp nat_cmp k l ≡ Less → IsBelow l ms → IsBelow k ms
+below_trans k l no_members h a = tt
+below_trans k l (member m d ms) h a = (nat_list_cmp_total.trans k l m h a.0, below_trans k l ms h a.1)
+
+below-put : (l k : List ℕ) (d : Data) (ms : Members) → slice_cmp nat_cmp l k ≡ Less → IsBelow l ms → IsBelow l (put k d ms)
+below-put l k d no_members h a = (h, tt)
+below-put l k d (member m e ms) h a = by (slice_cmp nat_cmp k m) (below-put l k d ms h a.1)
+  where
+    by : (o : Ordering) → IsBelow l (put k d ms) → IsBelow l (match_ordering o (member k d (member m e ms)) (member m d ms) (member m e (put k d ms)))
+    by Less later = (h, a)
+    by Equal later = a
+    by Greater later = (a.0, later)
+
+rising-put : (k : List ℕ) (d : Data) (ms : Members) → AreRising ms → AreRising (put k d ms)
+rising-put k d no_members r = (tt, tt)
+rising-put k d (member l e ms) r = by (slice_cmp nat_cmp k l) refl (rising-put k d ms r.1)
+  where
+    by : (o : Ordering) → slice_cmp nat_cmp k l ≡ o → AreRising (put k d ms) → AreRising (match_ordering o (member k d (member l e ms)) (member l d ms) (member l e (put k d ms)))
+    by Less is later = ((is, below_trans k l ms is r.0), r)
+    by Equal is later = r
+    by Greater is later = (below-put l k d ms (nat_list_cmp_total.antisymm l k ∙ ap ordering_reverse is) r.0, later)
+
+rising-in_order : (ms : Members) → AreRising (in_order ms)
+rising-in_order no_members = tt
+rising-in_order (member k d ms) = rising-put k d (in_order ms) (rising-in_order ms)
+
+put-below : (k : List ℕ) (d : Data) (ms : Members) → IsBelow k ms → put k d ms ≡ member k d ms
+put-below k d no_members h = refl
+put-below k d (member l e more) h = rw h.0
+
+-- members that stand in order stay as they are
+pub in_order-rising : (ms : Members) → AreRising ms → in_order ms ≡ ms
+in_order-rising no_members r = refl
+in_order-rising (member k d more) r = ap (put k d) (in_order-rising more r.1) ∙ put-below k d more r.0
+
+-- ---- children
+
+children_sound : (v : Data) (c : Step × Data) → IsIn c (children v) → child_at v c.0 ≡ Some c.1
+children_sound (array items) c h = let k = in_items 0 items c h in ap (child_at (array items)) (k.1 ∙ ap by_position (omega arith)) ∙ k.2
+children_sound (object ms) c h =
+    let k = in_members (in_order ms) c (rising-in_order ms) h in
+    ap (child_at (object ms)) k.1 ∙ sym (get_member-in_order k.0 ms) ∙ k.2
+children_sound _ c h = absurd h
+
+children_complete : (v : Data) (s : Step) (c : Data) → child_at v s ≡ Some c → IsIn {A = Step × Data} (s, c) (children v)
+children_complete (array items) (by_position p) c e =
+    subst (λ q. IsIn {A = Step × Data} (by_position q, c) (items_from 0 items)) (omega arith) (items_in 0 p items c e)
+children_complete (object ms) (by_name k) c e = members_in (in_order ms) k c (get_member-in_order k ms ∙ e)
+children_complete _ _ c e = absurd (none-some c e)
+
+-- the children are what the steps lead to
+pub in_children : (v : Data) (c : Step × Data) → IsIn c (children v) ↔ (child_at v c.0 ≡ Some c.1)
+in_children v c = (children_sound v c, children_complete v c.0 c.1)
+
+-- the children stand in document order
+pub children_ordered : (v : Data) → IsInOrder (λ (a b : Step × Data). StepBefore a.0 b.0) (children v)
+children_ordered (array items) = items_ordered 0 items
+children_ordered (object ms) = members_ordered (in_order ms) (rising-in_order ms)
+children_ordered _ = tt
+
+-- the one child at a step
+pub in_child_by : (v : Data) (s : Step) (c : Step × Data) → IsIn c (option_to_list (child_by v s)) ↔ ((c.0 ≡ s) × (child_at v c.0 ≡ Some c.1))
+in_child_by v s c =
+    let here = in_option c (child_by v s) in
+    (λ h. let b = by_step v s c.0 c.1 (here.0 h) in (b.0, ap (child_at v) b.0 ∙ b.1), λ h. here.1 (ap (child_by v) (sym h.0) ∙ there_by v c.0 c.1 h.1))
+
+-- the one child at an index
+pub in_item_at : (v : Data) (i : ℤ) (c : Step × Data) → IsIn c (option_to_list (item_at v i)) ↔ (IsPositionOf (SelectsIndex i) v c.0 × (child_at v c.0 ≡ Some c.1))
+in_item_at (array items) i c =
+    let here = in_option c (item_at (array items) i) in
+    (λ h. item_sound items i c.0 c.1 (here.0 h), λ h. here.1 (item_complete (array items) i c.0 c.1 h.0 h.1))
+in_item_at _ i c = (λ h. absurd h, λ h. absurd (none-some h.0.0 h.0.1))

@@ -1,0 +1,166 @@
+-- The computed values below a value are those at its locations, in document order.
+use Rattle.std.proofs.Common.{◌≡◌, ℕ, zero, suc, ◌+◌, List, [], ◌∷◌, ◌++◌, map, flat_map, Ordering, Less, Equal, Greater, nat_cmp, Option, Some, option_and_then, ◌↔◌, inl, inr, refl, sym, ap, subst, ◌∙◌}
+use Rattle.std.specs.BTreeMap.{insert_entry}
+use Rattle.std.specs.Cmp.Lexicographic.{slice_cmp}
+use Rattle.std.specs.Ordering.{match_ordering}
+use Rattle.std.proofs.lemmas.Option.{same_Some, none-some, option_and_then_some}
+use Rattle.serde_json.specs.Data.{Data, null, boolean, number, string, array, object, Items, no_items, item, Members, no_members, member, put}
+use Rattle.serde_json.specs.Find.{get_item, get_member}
+use Rattle.serde_json_path_nodes.specs.Location.{Step, by_name, by_position, child_at, at, Located, StepBefore, DescentBefore}
+use Rattle.serde_json_path_syntax.specs.Lists.{IsIn, IsInOrder}
+use Rattle.serde_json_path_core.specs.Selected.{beneath}
+use Rattle.serde_json_path_core.specs.Computed.{children, items_from, members_all, in_order, itself, below_member, descents, items_descents, members_descents}
+use Rattle.serde_json_path_syntax.proofs.Lists.InLists.{in_map, map_in, in_flat_map, weaker, in_order-map, in_order-flat_map}
+use Rattle.serde_json_path_core.proofs.Meaning.ChildSteps.{in_children, children_ordered}
+
+-- ---- child by child
+
+-- a child and all below it, as located from its parent
+abbrev pub below_child : Step × Data → List Located
+below_child c = map (beneath (c.0 ∷ [])) (descents c.1)
+
+items_descents-children : (position : ℕ) (items : Items) → items_descents position items ≡ flat_map below_child (items_from position items)
+items_descents-children position no_items = refl
+items_descents-children position (item d more) = ap (λ ns. below_child (by_position position, d) ++ ns) (items_descents-children (position + 1) more)
+
+-- each member's name with the member and all below it, as they stand
+abbrev blocks : Members → List (List ℕ × List Located)
+blocks no_members = []
+blocks (member k d more) = (k, descents d) ∷ blocks more
+
+blocks-match_ordering : (o : Ordering) (a b c : Members) → match_ordering o (blocks a) (blocks b) (blocks c) ≡ blocks (match_ordering o a b c)
+blocks-match_ordering Less a b c = refl
+blocks-match_ordering Equal a b c = refl
+blocks-match_ordering Greater a b c = refl
+
+blocks-put : (k : List ℕ) (d : Data) (ms : Members) → insert_entry (slice_cmp nat_cmp) (blocks ms) k (descents d) ≡ blocks (put k d ms)
+blocks-put k d no_members = refl
+blocks-put k d (member l e more) =
+    let first = blocks (member k d (member l e more)) in
+    ap (λ later. match_ordering (slice_cmp nat_cmp k l) first (blocks (member l d more)) ((l, descents e) ∷ later)) (blocks-put k d more)
+    ∙ blocks-match_ordering (slice_cmp nat_cmp k l) (member k d (member l e more)) (member l d more) (member l e (put k d more))
+
+members_descents-in_order : (ms : Members) → members_descents ms ≡ blocks (in_order ms)
+members_descents-in_order no_members = refl
+members_descents-in_order (member k d more) =
+    ap (λ later. insert_entry (slice_cmp nat_cmp) later k (descents d)) (members_descents-in_order more) ∙ blocks-put k d (in_order more)
+
+blocks-children : (ms : Members) → flat_map below_member (blocks ms) ≡ flat_map below_child (members_all ms)
+blocks-children no_members = refl
+blocks-children (member k d more) = ap (λ ns. below_child (by_name k, d) ++ ns) (blocks-children more)
+
+-- a value and all below it are the value, and each child and all below it
+pub descents_are : (v : Data) → descents v ≡ itself v ∷ flat_map below_child (children v)
+descents_are (array items) = ap (λ ns. itself (array items) ∷ ns) (items_descents-children 0 items)
+descents_are (object ms) =
+    ap (λ ns. itself (object ms) ∷ ns) (ap (flat_map below_member) (members_descents-in_order ms) ∙ blocks-children (in_order ms))
+descents_are _ = refl
+
+module _ (P : Data → Type 0) (step : (v : Data) → ((s : Step) (c : Data) → child_at v s ≡ Some c → P c) → P v) where
+  among : (o : Ordering) (a : Option Data) (d c : Data) → P d → (a ≡ Some c → P c) → match_ordering o a (Some d) a ≡ Some c → P c
+  among Less a d c here later e = later e
+  among Equal a d c here later e = subst P (same_Some d c e) here
+  among Greater a d c here later e = later e
+
+  of_array : (items : Items) → ((p : ℕ) (c : Data) → get_item p items ≡ Some c → P c) → (s : Step) (c : Data) → child_at (array items) s ≡ Some c → P c
+  of_array items each (by_position p) c e = each p c e
+  of_array items each (by_name k) c e = absurd (none-some c e)
+
+  of_object : (ms : Members) → ((k : List ℕ) (c : Data) → get_member k ms ≡ Some c → P c) → (s : Step) (c : Data) → child_at (object ms) s ≡ Some c → P c
+  of_object ms each (by_name k) c e = each k c e
+  of_object ms each (by_position p) c e = absurd (none-some c e)
+
+  mutual
+    -- what holds of a value wherever it holds of all its children holds of each value
+    pub by_children : (v : Data) → P v
+    by_children (array items) = step (array items) (of_array items (by_items items))
+    by_children (object ms) = step (object ms) (of_object ms (by_members ms))
+    by_children null = step null (λ s c e. absurd (none-some c e))
+    by_children (boolean b) = step (boolean b) (λ s c e. absurd (none-some c e))
+    by_children (number n) = step (number n) (λ s c e. absurd (none-some c e))
+    by_children (string t) = step (string t) (λ s c e. absurd (none-some c e))
+
+    by_items : (items : Items) (p : ℕ) (c : Data) → get_item p items ≡ Some c → P c
+    by_items no_items p c e = absurd (none-some c e)
+    by_items (item d more) zero c e = subst P (same_Some d c e) (by_children d)
+    by_items (item d more) (suc p) c e = by_items more p c e
+
+    by_members : (ms : Members) (k : List ℕ) (c : Data) → get_member k ms ≡ Some c → P c
+    by_members no_members k c e = absurd (none-some c e)
+    by_members (member l d more) k c e = among (slice_cmp nat_cmp k l) (get_member k more) d c (by_children d) (by_members more k c) e
+
+-- ---- membership
+
+-- the list has each value with its location
+located_in : (location : List Step) (v d : Data) → IsIn (record { location = location; value = d }) (itself v ∷ flat_map below_child (children v)) ↔ (at v location ≡ Some d)
+located_in [] v d = (
+  elim [ inl e ↦ ap (λ (n : Located). Some n.value) (sym e) | inr h ↦ absurd (nowhere h) ],
+  λ e. inl (ap itself (sym (same_Some v d e))),
+)
+  where
+    nowhere : IsIn (record { location = []; value = d }) (flat_map below_child (children v)) → ⊥
+    nowhere h =
+        let c = (in_flat_map below_child (record { location = []; value = d }) (children v)).0 h in
+        let m = (in_map (beneath (c.0.0 ∷ [])) (record { location = []; value = d }) (descents c.0.1)).0 c.2 in
+        let e : [] ≡ c.0.0 ∷ m.0.location = ap (λ (n : Located). n.location) m.2 in cc
+located_in (s ∷ location) v d = (forth (λ c. located_in location c d), back (λ c. located_in location c d))
+  where
+    forth : ((c : Data) → IsIn (record { location = location; value = d }) (itself c ∷ flat_map below_child (children c)) ↔ (at c location ≡ Some d))
+        → IsIn (record { location = s ∷ location; value = d }) (itself v ∷ flat_map below_child (children v)) → at v (s ∷ location) ≡ Some d
+    forth later (inl e) = let f : s ∷ location ≡ [] = ap (λ (n : Located). n.location) e in absurd cc
+    forth later (inr h) =
+        let c = (in_flat_map below_child (record { location = s ∷ location; value = d }) (children v)).0 h in
+        let m = (in_map (beneath (c.0.0 ∷ [])) (record { location = s ∷ location; value = d }) (descents c.0.1)).0 c.2 in
+        let l : s ∷ location ≡ c.0.0 ∷ m.0.location = ap (λ (n : Located). n.location) m.2 in
+        let step_is : s ≡ c.0.0 = cc in
+        let rest_is : location ≡ m.0.location = cc in
+        let value_is : d ≡ m.0.value = ap (λ (n : Located). n.value) m.2 in
+        let here : IsIn (record { location = location; value = d }) (descents c.0.1) =
+        subst (λ n. IsIn n (descents c.0.1)) (λ i. record { location = sym rest_is i; value = sym value_is i }) m.1 in
+        let there = (later c.0.1).0 (subst (IsIn (record { location = location; value = d })) (descents_are c.0.1) here) in
+        let first = ap (child_at v) step_is ∙ (in_children v c.0).0 c.1 in
+        ap (option_and_then (λ w. at w location)) first ∙ there
+
+    back : ((c : Data) → IsIn (record { location = location; value = d }) (itself c ∷ flat_map below_child (children c)) ↔ (at c location ≡ Some d))
+        → at v (s ∷ location) ≡ Some d → IsIn (record { location = s ∷ location; value = d }) (itself v ∷ flat_map below_child (children v))
+    back later e =
+        option_and_then_some (λ w. at w location) (child_at v s) d e
+        (λ c f g.
+        let here = subst (IsIn (record { location = location; value = d })) (sym (descents_are c)) ((later c).1 g) in
+        inr ((in_flat_map below_child (record { location = s ∷ location; value = d }) (children v)).1
+        ((s, c), (in_children v (s, c)).1 f, map_in (beneath (s ∷ [])) (record { location = location; value = d }) (descents c) here)))
+
+-- the values below a value are those at its locations
+pub in_descents : (v : Data) (n : Located) → IsIn n (descents v) ↔ (at v n.location ≡ Some n.value)
+in_descents v n =
+    let there = located_in n.location v n.value in
+    (λ h. there.0 (subst (IsIn n) (descents_are v) h), λ e. subst (IsIn n) (sym (descents_are v)) (there.1 e))
+
+-- ---- order
+
+-- the values below a value stand in document order
+pub descents_ordered : (v : Data) → IsInOrder (λ (m n : Located). DescentBefore m.location n.location) (descents v)
+descents_ordered = by_children (λ v. IsInOrder (λ (m n : Located). DescentBefore m.location n.location) (descents v))
+    (λ v below. subst (IsInOrder (λ (m n : Located). DescentBefore m.location n.location)) (sym (descents_are v)) (first v, rest v below))
+  where
+    first : (v : Data) (n : Located) → IsIn n (flat_map below_child (children v)) → DescentBefore [] n.location
+    first v n h =
+        let c = (in_flat_map below_child n (children v)).0 h in
+        let m = (in_map (beneath (c.0.0 ∷ [])) n (descents c.0.1)).0 c.2 in
+        subst (λ (k : Located). DescentBefore [] k.location) (sym m.2) tt
+
+    apart : (x y : Step × Data) (a b : Located) → StepBefore x.0 y.0 → IsIn a (below_child x) → IsIn b (below_child y) → DescentBefore a.location b.location
+    apart x y a b before h g =
+        let m = (in_map (beneath (x.0 ∷ [])) a (descents x.1)).0 h in
+        let n = (in_map (beneath (y.0 ∷ [])) b (descents y.1)).0 g in
+        subst (λ (k : Located). DescentBefore k.location b.location) (sym m.2)
+        (subst (λ (k : Located). DescentBefore (x.0 ∷ m.0.location) k.location) (sym n.2) (inl before))
+
+    rest : (v : Data) → ((s : Step) (c : Data) → child_at v s ≡ Some c → IsInOrder (λ (m n : Located). DescentBefore m.location n.location) (descents c))
+        → IsInOrder (λ (m n : Located). DescentBefore m.location n.location) (flat_map below_child (children v))
+    rest v below =
+        in_order-flat_map (λ (a b : Step × Data). StepBefore a.0 b.0) (λ (m n : Located). DescentBefore m.location n.location) below_child (children v) (children_ordered v)
+        (λ c h. in_order-map (λ (m n : Located). DescentBefore m.location n.location) (beneath (c.0 ∷ [])) (descents c.1)
+        (weaker (λ (m n : Located). DescentBefore m.location n.location) (λ m n. DescentBefore (c.0 ∷ m.location) (c.0 ∷ n.location)) (descents c.1)
+        (λ m n before. inr (refl, before)) (below c.0 c.1 ((in_children v c).0 h))))
+        apart

@@ -1,0 +1,108 @@
+-- What an evaluation stands on of a part, for the parts of that part.
+use Rattle.std.proofs.Common.{◌≡◌, ℕ, zero, suc, ◌<◌, List, [], ◌∷◌, ◌++◌, length, get_or, slice_get, Some, sym, subst, arith, ap, ◌∙◌}
+use Rattle.std.proofs.lemmas.Option.{none-some, same_Some}
+use Rattle.serde_json_path_syntax.specs.Tree.{Query, query, Segments, segments_of, Segment, dot_name, dot_wildcard, long_hand, Selectors, no_selectors, selector, Selector, name, wildcard, Operator, Basic, relation, Comparable, Call, call}
+use Rattle.serde_json_path_functions.specs.Functions.{FunctionSet, Signature, Kind, Fits}
+use Rattle.serde_json_path_syntax.specs.Typing.{IsTyped, AreTypedSegments, IsTypedSegment, AreTypedSelectors, IsTypedSelector, IsTypedOr, IsTypedAnd, IsTypedBasic, IsTypedCall, AreTypedArguments}
+use Rattle.serde_json_path_syntax.specs.Calls.{EachCall, arguments_of, calls_of, calls_in_segments, calls_in_segment, calls_in_selectors, calls_in_selector, calls_in_or, calls_in_and, calls_in_basic, calls_in_comparable, calls_from, calls_in_arguments, calls_in_argument, name_of}
+use Rattle.serde_json_path_syntax.specs.Lists.{IsIn}
+use Rattle.serde_json_path_syntax.specs.Piece.{Piece}
+use Rattle.serde_json_path_syntax.specs.Flat.{argument_in, arguments_in, piece_in, pieces_named, segment_in, segments_in, and_in, ors_in, basic_in, ands_in}
+use Rattle.serde_json_path_syntax.specs.Stages.{selectors_list, selectors_of}
+use Rattle.serde_json_path_syntax.proofs.Names.InCalls.{in_from, of_both}
+use Rattle.serde_json_path_core.specs.Meaning.{params_of}
+use Rattle.std.proofs.Math.Logic.{∥∥₁_elim}
+use mathlib.Core.List.{is_set}
+use mathlib.Core.Sum.{⊎_set}
+use Rattle.serde_json_path_core.specs.Sound.{AreCallsOf, IsSound}
+use Rattle.serde_json_path_syntax.specs.declared.node.Part.{Part}
+
+-- ---- calls of the query
+
+both-calls : (q : Query) (xs ys : List Call) → AreCallsOf q (xs ++ ys) → AreCallsOf q xs × AreCallsOf q ys
+unfolding AreCallsOf
+both-calls q xs ys each = of_both (λ c. IsIn c (calls_of q)) xs ys each
+
+pub all-calls : (q : Query) → AreCallsOf q (calls_of q)
+unfolding AreCallsOf
+all-calls q = λ c i. i
+
+-- what holds of each call of the query holds of a call whose calls are calls of it
+pub of-call : (Fact : Call → Type 0) (q : Query) (c : Call) → AreCallsOf q (calls_from c) → EachCall Fact q → Fact c
+unfolding AreCallsOf
+of-call Fact q c each facts = facts c (each c (in_from c))
+
+-- those in its arguments are, too
+pub argument-calls : (q : Query) (c : Call) → AreCallsOf q (calls_from c) → AreCallsOf q (calls_in_arguments (arguments_of c))
+argument-calls q (call f args) each = (both-calls q (calls_in_arguments args) (call f args ∷ []) each).0
+
+-- those of the first argument, and of the others
+pub next-calls : (q : Query) (ps : List Piece) (parts : List Part) (part : Part) (more : List Part) → parts ≡ part ∷ more → AreCallsOf q (calls_in_arguments (arguments_in (pieces_named ps parts)))
+    → AreCallsOf q (calls_in_argument (argument_in (piece_in ps part.number))) × AreCallsOf q (calls_in_arguments (arguments_in (pieces_named ps more)))
+next-calls q ps parts part more e each =
+    both-calls q (calls_in_argument (argument_in (piece_in ps part.number))) (calls_in_arguments (arguments_in (pieces_named ps more)))
+    (subst (λ list. AreCallsOf q (calls_in_arguments (arguments_in (pieces_named ps list)))) e each)
+
+-- those of the two sides of a comparison
+pub side-calls : (q : Query) (a : Comparable) (op : Operator) (b : Comparable) (e : Basic) → e ≡ relation a op b → AreCallsOf q (calls_in_basic e)
+    → AreCallsOf q (calls_in_comparable a) × AreCallsOf q (calls_in_comparable b)
+side-calls q a op b e is each = both-calls q (calls_in_comparable a) (calls_in_comparable b) (subst (λ x. AreCallsOf q (calls_in_basic x)) is each)
+
+-- ---- parts
+
+module _ (F : FunctionSet) (q : Query) where
+  -- the segments of a query
+  pub sound-segments : (p : Query) (segs : Segments) → segs ≡ segments_of p → IsSound F q IsTyped calls_of p → IsSound F q AreTypedSegments calls_in_segments segs
+  sound-segments (query kind below) segs e h = subst (IsSound F q AreTypedSegments calls_in_segments) (sym e) h
+
+  -- one of the parts
+  pub sound-segment : (ps : List Piece) (parts : List Part) (i : ℕ) (part : Part) → i < length parts → part ≡ get_or parts i part
+      → IsSound F q AreTypedSegments calls_in_segments (segments_in (pieces_named ps parts)) → IsSound F q IsTypedSegment calls_in_segment (segment_in (piece_in ps part.number))
+  sound-segment ps [] i part h e s = absurd (omega (arith, h))
+  sound-segment ps (p ∷ parts) zero part h e s =
+      subst (λ (x : Part). IsSound F q IsTypedSegment calls_in_segment (segment_in (piece_in ps x.number))) (sym e)
+      (s.0.0, (both-calls q _ _ s.1).0)
+  sound-segment ps (p ∷ parts) (suc i) part h e s = sound-segment ps parts i part (omega (arith, h)) e (s.0.1, (both-calls q _ _ s.1).1)
+
+  pub sound-and : (ps : List Piece) (parts : List Part) (i : ℕ) (d : Part) → i < length parts
+      → IsSound F q IsTypedOr calls_in_or (ors_in (pieces_named ps parts)) → IsSound F q IsTypedAnd calls_in_and (and_in (piece_in ps (get_or parts i d).number))
+  sound-and ps [] i d h s = absurd (omega (arith, h))
+  sound-and ps (p ∷ parts) zero d h s = (s.0.0, (both-calls q _ _ s.1).0)
+  sound-and ps (p ∷ parts) (suc i) d h s = sound-and ps parts i d (omega (arith, h)) (s.0.1, (both-calls q _ _ s.1).1)
+
+  pub sound-basic : (ps : List Piece) (parts : List Part) (i : ℕ) (d : Part) → i < length parts
+      → IsSound F q IsTypedAnd calls_in_and (ands_in (pieces_named ps parts)) → IsSound F q IsTypedBasic calls_in_basic (basic_in (piece_in ps (get_or parts i d).number))
+  sound-basic ps [] i d h s = absurd (omega (arith, h))
+  sound-basic ps (p ∷ parts) zero d h s = (s.0.0, (both-calls q _ _ s.1).0)
+  sound-basic ps (p ∷ parts) (suc i) d h s = sound-basic ps parts i d (omega (arith, h)) (s.0.1, (both-calls q _ _ s.1).1)
+
+  sound-bracketed : (sels : Selectors) (n : ℕ) (sel : Selector) → slice_get (selectors_list sels) n ≡ Some sel
+      → IsSound F q AreTypedSelectors calls_in_selectors sels → IsSound F q IsTypedSelector calls_in_selector sel
+  sound-bracketed no_selectors n sel e h = absurd (none-some sel e)
+  sound-bracketed (selector first more) zero sel e h =
+      subst (IsSound F q IsTypedSelector calls_in_selector) (same_Some first sel e) (h.0.0, (both-calls q _ _ h.1).0)
+  sound-bracketed (selector first more) (suc n) sel e h = sound-bracketed more n sel e (h.0.1, (both-calls q _ _ h.1).1)
+
+  -- the selector of that number
+  pub sound-selector : (seg : Segment) (n : ℕ) (sel : Selector) → slice_get (selectors_of seg) n ≡ Some sel
+      → IsSound F q IsTypedSegment calls_in_segment seg → IsSound F q IsTypedSelector calls_in_selector sel
+  sound-selector (dot_name k) zero sel e h = subst (IsSound F q IsTypedSelector calls_in_selector) (same_Some (name k) sel e) h
+  sound-selector (dot_name k) (suc n) sel e h = absurd (none-some sel e)
+  sound-selector dot_wildcard zero sel e h = subst (IsSound F q IsTypedSelector calls_in_selector) (same_Some wildcard sel e) h
+  sound-selector dot_wildcard (suc n) sel e h = absurd (none-some sel e)
+  sound-selector (long_hand sels) n sel e h = sound-bracketed sels n sel e h
+
+-- ---- calls
+
+-- the arguments of a well-typed call
+pub typed-arguments : (F : FunctionSet) (c : Call) → IsTypedCall F.signature c → AreTypedArguments F.signature (arguments_of c) (params_of (F.signature (name_of c)))
+typed-arguments F (call f args) h = subst (AreTypedArguments F.signature args) (sym (ap params_of h.1)) h.2
+
+-- the types of its parameters, where the set fits
+pub parameters-known : (F : FunctionSet) (used : List (List ℕ × Signature)) (c : Call) (kinds : List Kind) → ∥ Fits F used ∥₁ → IsTypedCall F.signature c
+    → ((G : FunctionSet) (s : Signature) → Fits G used → IsTypedCall G.signature c → G.signature (name_of c) ≡ Some s → kinds ≡ s.params)
+    → kinds ≡ params_of (F.signature (name_of c))
+parameters-known F used (call f args) kinds fits typed known =
+    let P : Type 0 = kinds ≡ typed.0.params in
+    let same : P = ∥∥₁_elim fits (hlevel (is_set, ⊎_set)) (λ h. known F typed.0 h typed typed.1) in
+    same ∙ sym (ap params_of typed.1)

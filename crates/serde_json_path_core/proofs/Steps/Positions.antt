@@ -1,0 +1,74 @@
+-- The positions of a slice by the bounds that the code computes, and how they go on by one.
+use Rattle.std.proofs.Common.{◌≡◌, ℕ, zero, suc, ◌+◌, ◌-◌, min, ◌<◌, ◌≤◌, ℤ, pos, nat_abs, List, [], ◌∷◌, length, get_or, Bool, true, false, Option, Some, None, ◌⊎◌, inl, inr, refl, sym, ap, ◌∙◌, arith, true≢false}
+use Rattle.std.specs.Prelude.{◌+ℤ◌, ◌-ℤ◌}
+use Rattle.std.proofs.lemmas.Bool.{cases_lt}
+use Rattle.std.proofs.lemmas.Int.{ints, clamps}
+use Rattle.serde_json.specs.View.{view, items_view}
+use Rattle.serde_json.specs.declared.value.Value.{Value}
+use Rattle.serde_json.proofs.Views.{get_item_within, get_item_past}
+use Rattle.serde_json_path_nodes.specs.Location.{by_position}
+use Rattle.serde_json_path_syntax.specs.Tree.{Slice}
+use Rattle.serde_json_path_core.specs.Slices.{bound_of}
+use Rattle.serde_json_path_core.specs.Computed.{SlicePositions, count_within, strided, falling, next_position}
+use Rattle.serde_json_path_core.proofs.Meaning.SlicePositions.{next_strided}
+
+-- ---- the positions of a slice
+
+-- where falling positions begin: so many items are up to there
+abbrev pub top_of : Option ℤ → ℕ → ℤ
+top_of start len = bound_of (pos len) start (pos len -ℤ pos 1) (pos 0 -ℤ pos 1) (pos len -ℤ pos 1) +ℤ pos 1
+
+-- where falling positions end
+abbrev pub bottom_of : Option ℤ → ℕ → ℤ
+bottom_of end len = bound_of (pos len) end ((pos 0 -ℤ pos len) -ℤ pos 1) (pos 0 -ℤ pos 1) (pos len -ℤ pos 1) +ℤ pos 1
+
+-- with no start given all items stand up to there
+pub top_of-none : (len : ℕ) → pos len ≡ top_of None len
+top_of-none len = grind (arith, ints, clamps)
+
+-- with no end given none do
+pub bottom_of-none : (len : ℕ) → pos 0 ≡ bottom_of None len
+bottom_of-none len = grind (arith, ints, clamps)
+
+-- falling positions by the numbers of items up to its start and up to its end
+pub falling-counted : (s : Slice) (len stride start end first count : ℕ) → pos start ≡ top_of s.start len → pos end ≡ bottom_of s.end len → first ≡ start - 1 → count ≡ count_within (start - end) stride
+    → ◌≡◌ {A = SlicePositions} (record { upwards = false; first = first; stride = stride; count = count }) (falling s len stride)
+falling-counted s len stride start end first count from upto f g =
+    let a : start ≡ nat_abs (top_of s.start len) = ap nat_abs from in
+    let b : end ≡ nat_abs (bottom_of s.end len) = ap nat_abs upto in
+    let i = f ∙ ap (λ n. n - 1) a in
+    let j = g ∙ ap (λ n. count_within (n - end) stride) a ∙ ap (λ n. count_within (nat_abs (top_of s.start len) - n) stride) b in
+    λ k. record { upwards = false; first = i k; stride = stride; count = j k }
+
+-- ---- one position more
+
+-- nothing is left where no position is, nor past the items
+pub strided-none : (items : List Value) (count : ℕ) (upwards : Bool) (first stride : ℕ) → (count ≡ 0) ⊎ (length items ≤ first) → strided count upwards first stride (items_view items) ≡ []
+strided-none items zero upwards first stride h = refl
+strided-none items (suc count) upwards first stride (inl none) = absurd (omega arith)
+strided-none items (suc count) upwards first stride (inr past) = next_strided count upwards first stride (items_view items) None (sym (get_item_past items first past))
+
+-- the item at the first position, and the others
+pub strided-first : (items : List Value) (count : ℕ) (upwards : Bool) (first stride : ℕ) (d : Value) → (count ≡ 0 → ⊥) → first < length items
+    → strided count upwards first stride (items_view items)
+    ≡ (by_position first, view (get_or items first d)) ∷ strided (count - 1) upwards (next_position upwards first stride) stride (items_view items)
+strided-first items zero upwards first stride d some within = absurd (some refl)
+strided-first items (suc count) upwards first stride d some within =
+    next_strided count upwards first stride (items_view items) (Some (view (get_or items first d))) (sym (get_item_within items first d within))
+    ∙ ap (λ n. (by_position first, view (get_or items first d)) ∷ strided n upwards (next_position upwards first stride) stride (items_view items)) (omega arith)
+
+-- upwards, a position that stops at some number past the items has no item, as the one that it stands for
+pub strided-up : (items : List Value) (count : ℕ) (upwards : Bool) (first stride next greatest : ℕ) → upwards ≡ true → next ≡ min (first + stride) greatest → length items ≤ greatest
+    → strided count upwards (next_position upwards first stride) stride (items_view items) ≡ strided count upwards next stride (items_view items)
+strided-up items count false first stride next greatest up is most = absurd (true≢false (sym up))
+strided-up items count true first stride next greatest up is most =
+    elim (cases_lt greatest (first + stride)) [
+      | inl beyond ↦ strided-none items count true (first + stride) stride (inr (omega arith)) ∙ sym (strided-none items count true next stride (inr (omega arith)))
+      | inr within ↦ ap (λ p. strided count true p stride (items_view items)) (omega arith)
+    ]
+
+-- downwards, a position stops at 0
+pub strided-down : (items : List Value) (count : ℕ) (upwards : Bool) (first stride next : ℕ) → upwards ≡ false → next ≡ first - stride
+    → strided count upwards (next_position upwards first stride) stride (items_view items) ≡ strided count upwards next stride (items_view items)
+strided-down items count true first stride next down is = absurd (true≢false down)
+strided-down items count false first stride next down is = ap (λ p. strided count false p stride (items_view items)) (sym is)

@@ -1,0 +1,107 @@
+-- The steps of a frame that moves on.
+use Rattle.std.proofs.Common.{◌≡◌, ℕ, ◌+◌, List, [], ◌∷◌, ◌++◌, map, drop, Option, Some, None, option_map, inl, inr, refl, sym, ap, subst, ◌∙◌, append_assoc}
+use Rattle.serde_json.specs.Data.{Data}
+use Rattle.serde_json_path_nodes.specs.Location.{Step, child_at}
+use Rattle.serde_json_path_functions.specs.Functions.{FunctionSet}
+use Rattle.serde_json_path_syntax.specs.Tree.{SegmentKind, child, descendant, Selector, name, wildcard, index, slice, filter}
+use Rattle.serde_json_path_syntax.specs.Stages.{Stage}
+use Rattle.serde_json_path_core.specs.Rest.{AreChildrenOf, Frame, candidates, admitted, unfiltered, opened, tasks, EndsIn}
+use Rattle.serde_json_path_core.specs.Advances.{Chooses, Passes, ComesTo, IsDone}
+use Rattle.serde_json_path_core.proofs.Meaning.ChildSteps.{in_children, in_child_by, in_item_at}
+use Rattle.serde_json_path_core.proofs.Meaning.SlicePositions.{in_sliced}
+use Rattle.serde_json_path_nodes.specs.Location.{by_name}
+use Rattle.serde_json_path_syntax.proofs.Lists.InLists.{in_append}
+use Rattle.serde_json_path_core.proofs.Walks.Tasks.{onward, gives_child, turns_over, goes_down, is_done}
+
+-- ---- ends of lists
+
+pub ends-trans : {A : Type 0} (xs ys zs : List A) → EndsIn xs ys → EndsIn ys zs → EndsIn xs zs
+ends-trans xs ys zs a b = (a.0 ++ b.0, a.1 ∙ ap (λ more. a.0 ++ more) b.1 ∙ sym (append_assoc a.0 b.0 zs))
+
+-- ---- children of the value
+
+end-of : (v : Data) (front cs : List (Step × Data)) → AreChildrenOf v (front ++ cs) → AreChildrenOf v cs
+unfolding AreChildrenOf
+end-of v front cs h = λ c i. h c ((in_append c front cs).1 (inr i))
+
+first-of : (v : Data) (c : Step × Data) (cs : List (Step × Data)) → AreChildrenOf v (c ∷ cs) → child_at v c.0 ≡ Some c.1
+unfolding AreChildrenOf
+first-of v c cs h = h c (inl refl)
+
+-- the children with which a selector begins are of the value
+candidates-of : (sel : Selector) (v : Data) → AreChildrenOf v (candidates sel v)
+unfolding AreChildrenOf
+candidates-of (name k) v = λ c h. ((in_child_by v (by_name k) c).0 h).1
+candidates-of wildcard v = λ c h. (in_children v c).0 h
+candidates-of (index i) v = λ c h. ((in_item_at v i c).0 h).1
+candidates-of (slice s) v = λ c h. ((in_sliced s v c).0 h).1
+candidates-of (filter e) v = λ c h. (in_children v c).0 h
+
+pub opened-of : (kind : SegmentKind) (sels : List Selector) (v : Data) → AreChildrenOf v (opened kind sels v)
+unfolding AreChildrenOf
+opened-of kind (sel ∷ more) v = candidates-of sel v
+opened-of child [] v = λ c h. absurd h
+opened-of descendant [] v = candidates-of wildcard v
+
+-- ---- frames
+
+-- a frame at the selector of that number, with these children left
+abbrev pub at_selector : Frame → ℕ → List (Step × Data) → Frame
+at_selector p number left = record { step = p.step; value = p.value; segment = p.segment; selector = number; left = left }
+
+module _ (Clear : Type 0) (F : FunctionSet) (top : Data) (stage : Stage) where
+  -- the selector at work admits no more of them, and the next one begins
+  pub passes-over : (old mid : Frame) (sel : Selector) (left : List (Step × Data)) → Passes Clear F top stage old mid
+      → drop mid.selector stage.selectors ≡ sel ∷ drop (mid.selector + 1) stage.selectors → (Clear → admitted F top sel mid.left ≡ [])
+      → left ≡ opened stage.kind (drop (mid.selector + 1) stage.selectors) mid.value
+      → Passes Clear F top stage old (at_selector mid (mid.selector + 1) left)
+  passes-over old mid sel left before here none is =
+      let more = drop (mid.selector + 1) stage.selectors in (
+        (before.0.0, before.0.1, before.0.2, λ h. subst (AreChildrenOf mid.value) (sym is) (opened-of stage.kind more mid.value)),
+        λ clear. before.1 clear ∙ turns_over (admitted F top) mid.segment stage.kind mid.value (drop mid.selector stage.selectors) sel more mid.left left here is
+            ∙ ap (λ cs. map (onward (admitted F top) mid.segment stage.kind mid.value) cs ++ tasks (admitted F top) mid.segment stage.kind more left mid.value) (none clear),
+        ends-trans _ _ _ before.2
+            (map (onward unfiltered mid.segment stage.kind mid.value) mid.left, turns_over unfiltered mid.segment stage.kind mid.value (drop mid.selector stage.selectors) sel more mid.left left here is),
+      )
+
+  -- the selector at work comes to a child
+  pub comes-onward : (old mid : Frame) (sel : Selector) (more : List Selector) (c : Step × Data) (left : List (Step × Data)) → Passes Clear F top stage old mid
+      → drop mid.selector stage.selectors ≡ sel ∷ more → (Clear → admitted F top sel mid.left ≡ c ∷ admitted F top sel left) → EndsIn mid.left (c ∷ left)
+      → ComesTo Clear F top stage old (mid.segment + 1, c) (at_selector mid mid.selector left)
+  comes-onward old mid sel more c left before here chosen ends = (
+    (before.0.0, before.0.1, before.0.2, λ h. end-of mid.value (c ∷ []) left (of_end (before.0.3 h))),
+    λ clear. before.1 clear ∙ gives_child (admitted F top) mid.segment stage.kind mid.value (drop mid.selector stage.selectors) sel more mid.left left [] c here (chosen clear),
+    ends-trans _ _ _ before.2
+        (map (onward unfiltered mid.segment stage.kind mid.value) ends.0, gives_child unfiltered mid.segment stage.kind mid.value (drop mid.selector stage.selectors) sel more mid.left left ends.0 c here ends.1),
+    λ h. subst (λ v. child_at v c.0 ≡ Some c.1) before.0.1 (first-of mid.value c left (of_end (before.0.3 h))),
+  )
+    where
+      of_end : AreChildrenOf mid.value mid.left → AreChildrenOf mid.value (c ∷ left)
+      of_end h = end-of mid.value ends.0 (c ∷ left) (subst (AreChildrenOf mid.value) ends.1 h)
+
+  -- after the last selector, the segment goes down to a child
+  pub comes-down : (old mid : Frame) (c : Step × Data) (left : List (Step × Data)) → Passes Clear F top stage old mid
+      → drop mid.selector stage.selectors ≡ [] → stage.kind ≡ descendant → mid.left ≡ c ∷ left
+      → ComesTo Clear F top stage old (mid.segment, c) (at_selector mid mid.selector left)
+  comes-down old mid c left before here kind is = (
+    (before.0.0, before.0.1, before.0.2, λ h. end-of mid.value (c ∷ []) left (of_left (before.0.3 h))),
+    λ clear. before.1 clear ∙ goes_down (admitted F top) mid.segment stage.kind mid.value (drop mid.selector stage.selectors) mid.left left c kind here is,
+    ends-trans _ _ _ before.2 ([], goes_down unfiltered mid.segment stage.kind mid.value (drop mid.selector stage.selectors) mid.left left c kind here is),
+    λ h. subst (λ v. child_at v c.0 ≡ Some c.1) before.0.1 (first-of mid.value c left (of_left (before.0.3 h))),
+  )
+    where
+      of_left : AreChildrenOf mid.value mid.left → AreChildrenOf mid.value (c ∷ left)
+      of_left h = subst (AreChildrenOf mid.value) is h
+
+  -- after the last selector there is nothing left to go down to
+  pub done : (old mid : Frame) → Passes Clear F top stage old mid → drop mid.selector stage.selectors ≡ [] → (stage.kind ≡ descendant → mid.left ≡ []) → IsDone Clear F top stage old
+  done old mid before here none = λ clear. before.1 clear ∙ is_done (admitted F top) mid.segment stage.kind mid.value (drop mid.selector stage.selectors) mid.left here none
+
+  -- what a choice of no child says, and of one
+  pub chooses-none : {A : Type 0} (see : A → Step × Data) (sel : Selector) (old new : List (Step × Data)) (found : Option A) → found ≡ None → Chooses Clear F top sel old (option_map see found) new
+      → Clear → admitted F top sel old ≡ []
+  chooses-none see sel old new found e h = subst (λ o. Chooses Clear F top sel old (option_map see o) new) e h
+
+  pub chooses-some : {A : Type 0} (see : A → Step × Data) (sel : Selector) (old new : List (Step × Data)) (found : Option A) (c : A) → found ≡ Some c → Chooses Clear F top sel old (option_map see found) new
+      → (Clear → admitted F top sel old ≡ see c ∷ admitted F top sel new) × EndsIn old (see c ∷ new)
+  chooses-some see sel old new found c e h = subst (λ o. Chooses Clear F top sel old (option_map see o) new) e h

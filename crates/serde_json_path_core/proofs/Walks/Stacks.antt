@@ -1,0 +1,186 @@
+-- What a stack of frames has left, when its last frame gives its node, is dropped, or moves on to a child.
+use Rattle.std.proofs.Common.{◌≡◌, ℕ, ◌+◌, List, [], ◌∷◌, ◌++◌, map, drop, flat_map, Option, Some, option_to_list, refl, ap, ◌∙◌, sym, append_assoc, ◌<◌, length, arith, length-append}
+use Rattle.std.proofs.lemmas.Grind.{flat_map-append}
+use Rattle.std.proofs.lemmas.List.{append-nil, drop-drop}
+use Rattle.std.proofs.lemmas.List.Folds.{flat_map-map}
+use Rattle.serde_json.specs.Data.{Data}
+use Rattle.serde_json_path_nodes.specs.Location.{Step, Located}
+use Rattle.serde_json_path_syntax.specs.Tree.{SegmentKind, child, descendant, Selector}
+use Rattle.serde_json_path_core.specs.Selected.{beneath}
+use Rattle.serde_json_path_core.specs.Computed.{children, descents, placed, reached}
+use Rattle.serde_json_path_syntax.specs.Stages.{Stage}
+use Rattle.serde_json_path_core.specs.Rest.{Frame, candidates, lower, begun, frame_tasks, here, stack_path, visit, visit_rest, visit_place, visit_stack, admitted, unfiltered, rest_of, work}
+use Rattle.serde_json_path_core.proofs.Meaning.Descents.{below_child, descents_are}
+use Rattle.serde_json_path_syntax.proofs.Lists.InLists.{flat_map-same, flat_map-flat_map}
+use Rattle.serde_json_path_core.proofs.Walks.Tasks.{next_opened}
+use Rattle.serde_json_path_functions.specs.Functions.{FunctionSet}
+
+abbrev pub located : List Step → Data → Located
+located above v = record { location = above; value = v }
+
+-- a frame where these stages begin, the first of them of that number
+abbrev pub entered : Option Step → ℕ → List Stage → Data → Frame
+entered step number stages v = record { step = step; value = v; segment = number; selector = 0; left = begun stages v }
+
+-- ---- a node and all below it, level by level
+
+module _ {A : Type 0} (make : Located → List A) where
+  beneath-beneath : (above : List Step) (s : Step) (n : Located) → make (beneath above (beneath (s ∷ []) n)) ≡ make (beneath (above ++ s ∷ []) n)
+  beneath-beneath above s n = ap (λ location. make (record { location = location; value = n.value })) (sym (append_assoc above (s ∷ []) n.location))
+
+  -- what is made of a child and all below it
+  below-placed : (n : Located) (c : Step × Data) → flat_map (λ m. make (beneath n.location m)) (below_child c) ≡ flat_map make (reached descendant (placed n.location c))
+  below-placed n c =
+      flat_map-map (λ m. make (beneath n.location m)) (beneath (c.0 ∷ [])) (descents c.1)
+      ∙ flat_map-same (λ m. make (beneath n.location (beneath (c.0 ∷ []) m))) (λ m. make (beneath (n.location ++ c.0 ∷ []) m)) (beneath-beneath n.location c.0) (descents c.1)
+      ∙ sym (flat_map-map make (beneath (n.location ++ c.0 ∷ [])) (descents c.1))
+
+  -- a node, and then its children with all below them
+  pub unrolled : (kind : SegmentKind) (n : Located) → flat_map make (reached kind n) ≡ make n ++ flat_map (λ c. flat_map make (reached kind (placed n.location c))) (lower kind n.value)
+  unrolled child n = refl
+  unrolled descendant n =
+      flat_map-map make (beneath n.location) (descents n.value)
+      ∙ ap (flat_map (λ m. make (beneath n.location m))) (descents_are n.value)
+      ∙ ap (λ location. make (located location n.value) ++ flat_map (λ m. make (beneath n.location m)) (flat_map below_child (children n.value))) (append-nil n.location)
+      ∙ ap (λ xs. make n ++ xs)
+      (flat_map-flat_map (λ m. make (beneath n.location m)) below_child (children n.value)
+      ∙ flat_map-same (λ c. flat_map (λ m. make (beneath n.location m)) (below_child c)) (λ c. flat_map make (reached descendant (placed n.location c))) (below-placed n) (children n.value))
+
+-- ---- stacks
+
+next_stage : (all : List Stage) (number : ℕ) (stage : Stage) (more : List Stage) → stage ∷ more ≡ drop number all → drop (number + 1) all ≡ more
+next_stage all number stage more e = sym (drop-drop 1 number all) ∙ ap (drop 1) (sym e)
+
+pub stack_path-last : (above : List Step) (ps : List Frame) (p : Frame) → stack_path above (ps ++ p ∷ []) ≡ here (stack_path above ps) p
+stack_path-last above [] p = refl
+stack_path-last above (q ∷ qs) p = stack_path-last (here above q) qs p
+
+module _ (admit : Selector → List (Step × Data) → List (Step × Data)) {A : Type 0} (before : List A) (leaf : Located → List A) (all : List Stage) where
+  abbrev made : List Stage → Located → List A
+  made = visit admit before leaf
+
+  abbrev of_task : List Step → ℕ × (Step × Data) → List A
+  of_task above x = made (drop x.0 all) (placed above x.1)
+
+  abbrev of_stack : List Frame → List A
+  of_stack = visit_stack admit before leaf all []
+
+  -- the children that the selectors of a stage admit
+  abbrev picks : List Selector → Data → List (Step × Data)
+  picks sels v = flat_map (λ s. admit s (candidates s v)) sels
+
+  -- where a segment begins
+  begins : (number : ℕ) (stage : Stage) (more : List Stage) (n : Located) → stage ∷ more ≡ drop number all
+      → made (stage ∷ more) n ≡ before ++ flat_map (of_task n.location) (map (λ c. (number + 1, c)) (picks stage.selectors n.value) ++ map (λ c. (number, c)) (lower stage.kind n.value))
+  begins number stage more n e =
+      let xs = picks stage.selectors n.value in
+      let ys = lower stage.kind n.value in
+      unrolled (λ m. before ++ flat_map (λ c. made more (placed m.location c)) (picks stage.selectors m.value)) stage.kind n
+      ∙ append_assoc before (flat_map (λ c. made more (placed n.location c)) xs) (flat_map (λ c. made (stage ∷ more) (placed n.location c)) ys)
+      ∙ ap (λ zs. before ++ zs) (
+      ap (λ s. flat_map (λ c. made s (placed n.location c)) xs ++ flat_map (λ c. made (stage ∷ more) (placed n.location c)) ys) (sym (next_stage all number stage more e))
+      ∙ ap (λ s. flat_map (λ c. made (drop (number + 1) all) (placed n.location c)) xs ++ flat_map (λ c. made s (placed n.location c)) ys) e
+      ∙ ap (λ zs. zs ++ flat_map (λ c. made (drop number all) (placed n.location c)) ys) (sym (flat_map-map (of_task n.location) (λ c. (number + 1, c)) xs))
+      ∙ ap (λ zs. flat_map (of_task n.location) (map (λ c. (number + 1, c)) xs) ++ zs) (sym (flat_map-map (of_task n.location) (λ c. (number, c)) ys))
+      ∙ sym (flat_map-append (of_task n.location) (map (λ c. (number + 1, c)) xs) (map (λ c. (number, c)) ys))
+      )
+
+  of_stack-last : (above : List Step) (ps : List Frame) (p : Frame)
+      → visit_stack admit before leaf all above (ps ++ p ∷ []) ≡ visit_place admit before leaf all (here (stack_path above ps) p) p ++ visit_stack admit before leaf all above ps
+  of_stack-last above [] p = sym (append-nil _)
+  of_stack-last above (q ∷ qs) p =
+      ap (λ xs. xs ++ visit_place admit before leaf all (here above q) q) (of_stack-last (here above q) qs p)
+      ∙ append_assoc (visit_place admit before leaf all (here (stack_path (here above q) qs) p) p) _ _
+
+  -- the last frame gives its node
+  pub gives : (ps : List Frame) (p : Frame) → drop p.segment all ≡ [] → of_stack (ps ++ p ∷ []) ≡ leaf (located (stack_path [] (ps ++ p ∷ [])) p.value) ++ of_stack ps
+  gives ps p d =
+      of_stack-last [] ps p
+      ∙ ap (λ s. visit_rest admit before leaf all s (here (stack_path [] ps) p) p ++ of_stack ps) d
+      ∙ ap (λ location. leaf (located location p.value) ++ of_stack ps) (sym (stack_path-last [] ps p))
+
+  -- the last frame has some tasks left, and then no more
+  pub drops : (ps : List Frame) (p : Frame) (stage : Stage) (more : List Stage) → drop p.segment all ≡ stage ∷ more
+      → of_stack (ps ++ p ∷ []) ≡ flat_map (of_task (here (stack_path [] ps) p)) (frame_tasks admit stage p) ++ of_stack ps
+  drops ps p stage more d = of_stack-last [] ps p ∙ ap (λ s. visit_rest admit before leaf all s (here (stack_path [] ps) p) p ++ of_stack ps) d
+
+  -- a frame where a task begins
+  pub enters : (step : Option Step) (number : ℕ) (stages : List Stage) (n : Located) → stages ≡ drop number all
+      → made stages n ≡ before ++ visit_rest admit before leaf all stages n.location (entered step number stages n.value)
+  enters step number [] n e = refl
+  enters step number (stage ∷ more) n e =
+      begins number stage more n e ∙ ap (λ ts. before ++ flat_map (of_task n.location) ts) (next_opened admit number stage.kind n.value stage.selectors)
+
+  -- the last frame moves on, past some tasks, to a child
+  pub moves : (ps : List Frame) (p m : Frame) (stage : Stage) (more : List Stage) (front : List (ℕ × (Step × Data))) (number : ℕ) (c : Step × Data)
+      → drop p.segment all ≡ stage ∷ more → frame_tasks admit stage p ≡ front ++ (number, c) ∷ frame_tasks admit stage m
+      → m.step ≡ p.step → m.segment ≡ p.segment
+      → of_stack (ps ++ p ∷ []) ≡ flat_map (of_task (here (stack_path [] ps) p)) front ++ (before ++ of_stack ((ps ++ m ∷ []) ++ entered (Some c.0) number (drop number all) c.1 ∷ []))
+  moves ps p m stage more front number c d t ms mk =
+      let q = entered (Some c.0) number (drop number all) c.1 in
+      let S = of_stack ps in
+      let L = here (stack_path [] ps) p in
+      let L' = here (stack_path [] ps) m in
+      let same : L ≡ L' = ap (λ o. stack_path [] ps ++ option_to_list o) (sym ms) in
+      let Q = visit_place admit before leaf all (L ++ c.0 ∷ []) q in
+      let M = visit_place admit before leaf all L m in
+      let dm : drop m.segment all ≡ stage ∷ more = ap (λ j. drop j all) mk ∙ d in
+      let begun_at : made (drop number all) (placed L c) ≡ before ++ Q = enters (Some c.0) number (drop number all) (placed L c) refl in
+      let left_is : flat_map (of_task L) (frame_tasks admit stage m) ≡ M = ap (λ s. visit_rest admit before leaf all s L m) (sym dm) in
+      let new_is : of_stack ((ps ++ m ∷ []) ++ q ∷ []) ≡ Q ++ (M ++ S) =
+      of_stack-last [] (ps ++ m ∷ []) q
+      ∙ ap (λ xs. visit_place admit before leaf all (here (stack_path [] (ps ++ m ∷ [])) q) q ++ xs) (of_stack-last [] ps m)
+      ∙ ap (λ l. visit_place admit before leaf all (here l q) q ++ (visit_place admit before leaf all L' m ++ S)) (stack_path-last [] ps m)
+      ∙ ap (λ l. visit_place admit before leaf all (l ++ c.0 ∷ []) q ++ (visit_place admit before leaf all l m ++ S)) (sym same) in
+      drops ps p stage more d
+      ∙ ap (λ ts. flat_map (of_task L) ts ++ S) t
+      ∙ ap (λ xs. xs ++ S) (flat_map-append (of_task L) front ((number, c) ∷ frame_tasks admit stage m))
+      ∙ ap (λ xs. (flat_map (of_task L) front ++ (made (drop number all) (placed L c) ++ xs)) ++ S) left_is
+      ∙ ap (λ xs. (flat_map (of_task L) front ++ (xs ++ M)) ++ S) begun_at
+      ∙ append_assoc (flat_map (of_task L) front) ((before ++ Q) ++ M) S
+      ∙ ap (λ xs. flat_map (of_task L) front ++ xs) (append_assoc (before ++ Q) M S ∙ append_assoc before Q (M ++ S))
+      ∙ ap (λ xs. flat_map (of_task L) front ++ (before ++ xs)) (sym new_is)
+
+-- ---- what remains, and how much work, after one step of a walk
+
+-- the last frame gives its node, and so there is less work
+pub work-given : (all : List Stage) (ps : List Frame) (p : Frame) → drop p.segment all ≡ [] → work all ps < work all (ps ++ p ∷ [])
+work-given all ps p d =
+    let left = visit_stack unfiltered {A = ℕ} (0 ∷ 0 ∷ []) (λ n. 0 ∷ []) all [] ps in
+    let marks : length (visit_stack unfiltered {A = ℕ} (0 ∷ 0 ∷ []) (λ n. 0 ∷ []) all [] (ps ++ p ∷ [])) ≡ 1 + length left =
+    ap length {y = 0 ∷ left} (gives unfiltered (0 ∷ 0 ∷ []) (λ n. 0 ∷ []) all ps p d) ∙ omega arith in
+    let frames : length (ps ++ p ∷ []) ≡ length ps + 1 = length-append ps (p ∷ []) in
+    omega arith
+
+-- the last frame has no task left, and is dropped
+pub rest-dropped : (F : FunctionSet) (top : Data) (all : List Stage) (ps : List Frame) (p : Frame) (stage : Stage) (more : List Stage) → drop p.segment all ≡ stage ∷ more
+    → frame_tasks (admitted F top) stage p ≡ [] → rest_of F top all (ps ++ p ∷ []) ≡ rest_of F top all ps
+rest-dropped F top all ps p stage more d t =
+    let of_task : ℕ × (Step × Data) → List Located = λ x. visit (admitted F top) [] (λ n. n ∷ []) (drop x.0 all) (record { location = here (stack_path [] ps) p ++ x.1.0 ∷ []; value = x.1.1 }) in
+    drops (admitted F top) [] (λ n. n ∷ []) all ps p stage more d ∙ ap (λ ts. flat_map of_task ts ++ rest_of F top all ps) t
+
+-- with a frame less there is less work
+pub work-dropped : (all : List Stage) (ps : List Frame) (p : Frame) (stage : Stage) (more : List Stage) → drop p.segment all ≡ stage ∷ more → work all ps < work all (ps ++ p ∷ [])
+work-dropped all ps p stage more d =
+    let of_task : ℕ × (Step × Data) → List ℕ = λ x. visit unfiltered (0 ∷ 0 ∷ []) (λ n. 0 ∷ []) (drop x.0 all) (record { location = here (stack_path [] ps) p ++ x.1.0 ∷ []; value = x.1.1 }) in
+    let tasks_of = flat_map of_task (frame_tasks unfiltered stage p) in
+    let left = visit_stack unfiltered {A = ℕ} (0 ∷ 0 ∷ []) (λ n. 0 ∷ []) all [] ps in
+    let marks : length (visit_stack unfiltered {A = ℕ} (0 ∷ 0 ∷ []) (λ n. 0 ∷ []) all [] (ps ++ p ∷ [])) ≡ length tasks_of + length left =
+    ap length {y = tasks_of ++ left} (drops unfiltered (0 ∷ 0 ∷ []) (λ n. 0 ∷ []) all ps p stage more d) ∙ length-append tasks_of left in
+    let frames : length (ps ++ p ∷ []) ≡ length ps + 1 = length-append ps (p ∷ []) in
+    omega arith
+
+-- a move is less work, whatever is passed over
+pub work-moved : (all : List Stage) (ps : List Frame) (p m : Frame) (stage : Stage) (more : List Stage) (front : List (ℕ × (Step × Data))) (number : ℕ) (c : Step × Data)
+    → drop p.segment all ≡ stage ∷ more → frame_tasks unfiltered stage p ≡ front ++ (number, c) ∷ frame_tasks unfiltered stage m
+    → m.step ≡ p.step → m.segment ≡ p.segment → work all ((ps ++ m ∷ []) ++ entered (Some c.0) number (drop number all) c.1 ∷ []) < work all (ps ++ p ∷ [])
+work-moved all ps p m stage more front number c d t ms mk =
+    let q = entered (Some c.0) number (drop number all) c.1 in
+    let of_task : ℕ × (Step × Data) → List ℕ = λ x. visit unfiltered (0 ∷ 0 ∷ []) (λ n. 0 ∷ []) (drop x.0 all) (record { location = here (stack_path [] ps) p ++ x.1.0 ∷ []; value = x.1.1 }) in
+    let passed = flat_map of_task front in
+    let left = visit_stack unfiltered {A = ℕ} (0 ∷ 0 ∷ []) (λ n. 0 ∷ []) all [] ((ps ++ m ∷ []) ++ q ∷ []) in
+    let marks : length (visit_stack unfiltered {A = ℕ} (0 ∷ 0 ∷ []) (λ n. 0 ∷ []) all [] (ps ++ p ∷ [])) ≡ length passed + (2 + length left) =
+    ap length {y = passed ++ (0 ∷ 0 ∷ left)} (moves unfiltered (0 ∷ 0 ∷ []) (λ n. 0 ∷ []) all ps p m stage more front number c d t ms mk) ∙ length-append passed (0 ∷ 0 ∷ left) ∙ omega arith in
+    let before : length (ps ++ p ∷ []) ≡ length ps + 1 = length-append ps (p ∷ []) in
+    let after : length ((ps ++ m ∷ []) ++ q ∷ []) ≡ length ps + 2 = length-append (ps ++ m ∷ []) (q ∷ []) ∙ ap (λ k. k + 1) (length-append ps (m ∷ [])) ∙ omega arith in
+    omega arith

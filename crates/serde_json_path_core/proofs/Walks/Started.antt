@@ -1,0 +1,56 @@
+-- What a walk that begins has left is the result of the segments.
+use Rattle.std.proofs.Common.{◌≡◌, [], ◌∷◌, ◌++◌, List, map, flat_map, None, refl, ap, ◌∙◌, sym}
+use Rattle.std.proofs.lemmas.List.{append-nil}
+use Rattle.std.proofs.lemmas.List.Folds.{flat_map-map}
+use Rattle.serde_json.specs.Data.{Data}
+use Rattle.serde_json_path_nodes.specs.Location.{Located}
+use Rattle.serde_json_path_functions.specs.Functions.{FunctionSet}
+use Rattle.serde_json_path_syntax.specs.Tree.{Query, query, kind_of, segments_of, Segments, no_segments, segment, Segment, dot_name, dot_wildcard, long_hand, Selectors, no_selectors, selector, Selector, filter}
+use Rattle.serde_json_path_core.specs.Derivation.{start_of}
+use Rattle.serde_json_path_core.specs.Computed.{results, placed, reached, results_from, chosen, chosen_by, selected}
+use Rattle.serde_json_path_core.specs.Rest.{Frame, candidates, admitted, begun, starting_frame, visit, rest_of}
+use Rattle.serde_json_path_syntax.specs.Stages.{selectors_of, selectors_list, stages}
+use Rattle.serde_json_path_syntax.proofs.Lists.InLists.{flat_map-same}
+use Rattle.serde_json_path_core.proofs.Walks.Stacks.{entered, enters, located}
+
+-- the frame of these segments at that start is where the query begins
+pub begun-frame : (top : Data) (q : Query) (here start : Data) (segs : Segments) (first : Frame) → segs ≡ segments_of q → start ≡ start_of (kind_of q) top here
+    → first ≡ record { step = None; value = start; segment = 0; selector = 0; left = begun (stages segs) start } → first ≡ starting_frame top q here
+begun-frame top (query kind more) here start segs first e v f =
+    f ∙ ap (λ ss. record { step = None; value = start; segment = 0; selector = 0; left = begun (stages ss) start }) e
+    ∙ ap (λ w. record { step = None; value = w; segment = 0; selector = 0; left = begun (stages more) w }) v
+
+module _ (F : FunctionSet) (top : Data) where
+  selected-admitted : (sel : Selector) (v : Data) → admitted F top sel (candidates sel v) ≡ selected F top sel v
+  selected-admitted (filter e) v = refl
+  selected-admitted _ v = refl
+
+  chosen_by-list : (sels : Selectors) (v : Data) → flat_map (λ s. admitted F top s (candidates s v)) (selectors_list sels) ≡ chosen_by F top sels v
+  chosen_by-list no_selectors v = refl
+  chosen_by-list (selector sel more) v =
+      ap (λ xs. xs ++ flat_map (λ s. admitted F top s (candidates s v)) (selectors_list more)) (selected-admitted sel v)
+      ∙ ap (λ xs. selected F top sel v ++ xs) (chosen_by-list more v)
+
+  chosen-list : (seg : Segment) (v : Data) → flat_map (λ s. admitted F top s (candidates s v)) (selectors_of seg) ≡ chosen F top seg v
+  chosen-list (dot_name k) v = append-nil _
+  chosen-list dot_wildcard v = append-nil _
+  chosen-list (long_hand sels) v = chosen_by-list sels v
+
+  visit-results : (segs : Segments) (n : Located) → visit (admitted F top) [] (λ m. m ∷ []) (stages segs) n ≡ results_from F top segs n
+  visit-results no_segments n = refl
+  visit-results (segment kind seg more) n =
+      flat_map-same (λ m. flat_map (λ c. visit (admitted F top) [] (λ l. l ∷ []) (stages more) (placed m.location c)) (flat_map (λ s. admitted F top s (candidates s m.value)) (selectors_of seg)))
+      (λ m. flat_map (results_from F top more) (map (placed m.location) (chosen F top seg m.value)))
+      (λ m. ap (flat_map (λ c. visit (admitted F top) [] (λ l. l ∷ []) (stages more) (placed m.location c))) (chosen-list seg m.value)
+      ∙ flat_map-same (λ c. visit (admitted F top) [] (λ l. l ∷ []) (stages more) (placed m.location c)) (λ c. results_from F top more (placed m.location c)) (λ c. visit-results more (placed m.location c)) (chosen F top seg m.value)
+      ∙ sym (flat_map-map (results_from F top more) (placed m.location) (chosen F top seg m.value)))
+      (reached kind n)
+
+  rest-started : (segs : Segments) (v : Data) → rest_of F top (stages segs) (entered None 0 (stages segs) v ∷ []) ≡ results_from F top segs (located [] v)
+  rest-started segs v = sym (enters (admitted F top) [] (λ m. m ∷ []) (stages segs) None 0 (stages segs) (located [] v) refl) ∙ visit-results segs (located [] v)
+
+  -- the frame of a walk that begins has the query's result left
+  pub begun-results : (q : Query) (here : Data) (segs : Segments) (ps : List Frame) (first : Frame) → segs ≡ segments_of q → ps ≡ first ∷ [] → first ≡ starting_frame top q here
+      → rest_of F top (stages segs) ps ≡ results F top q here
+  begun-results (query kind more) here segs ps first e p begins =
+      ap (λ ss. rest_of F top (stages ss) ps) e ∙ ap (rest_of F top (stages more)) (p ∙ ap (λ f. f ∷ []) begins) ∙ rest-started more (start_of kind top here)

@@ -1,0 +1,190 @@
+-- What is read as an integer is one, each integer is read, and where a refusal of one stands.
+use Rattle.std.proofs.Common.{◌≡◌, ℕ, zero, suc, ◌+◌, ◌-◌, ◌*◌, ◌≤◌, inl, inr, Bool, true, false, cond, List, [], ◌∷◌, ◌++◌, drop, Ok, Err, refl, sym, ap, subst, ◌∙◌, arith}
+use Rattle.std.specs.Prelude.{nat_le, ◌==◌, ℤ, pos, negsuc}
+use Rattle.std.proofs.lemmas.Bool.{and_parts}
+use Rattle.std.proofs.lemmas.Int.{ints}
+use Rattle.serde_json_path_syntax.specs.Tree.{largest}
+use Rattle.serde_json_path_parser.specs.declared.error.ParseErrorKind.TheVariants.{ExpectedSelector, IntegerOutOfRange}
+use Rattle.serde_json_path_parser.specs.declared.error.Context.TheVariants as context
+use Rattle.serde_json_path_parser.specs.declared.error.Refusal.{Refusal}
+use Rattle.serde_json_path_parser.specs.Lexical.{is_at, begins, is_blank, is_digit, value_from, IsDecimal, IsInt}
+use Rattle.serde_json_path_parser.specs.Parsed.{Parsed, ◌>>=◌, refusal, front, past, byte_count}
+use Rattle.serde_json_path_parser.specs.Parsing.{is_first_digit, digits_at, negative, int_at, begins_int}
+use Rattle.serde_json_path_parser.proofs.Reading.Runs.{begins_where, differs, begins_differs, no_blank, whole, front_each, front_begins, front_begins_not, front_all, past_run, value_least}
+use Rattle.serde_json_path_parser.proofs.Reading.Steps.{Read, bind_ok, chosen, guard, done, ok_is, after_one}
+use Rattle.serde_json_path_parser.proofs.Reading.Stands.{Plain, Stands, bind_stands, guard_stands, no_refusal}
+
+-- ---- first digits
+
+pub first_is_digit : (c : ℕ) → is_first_digit c ≡ true → is_digit c ≡ true
+first_is_digit c e =
+    let h = and_parts (nat_le 49 c) (nat_le c 57) e in
+    let from : nat_le 48 c ≡ true = grind (arith, h.0) in
+    rw (from, h.1) refl
+
+digit_is_first : (c : ℕ) → is_digit c ≡ true → (c == 48) ≡ false → is_first_digit c ≡ true
+digit_is_first c e z =
+    let h = and_parts (nat_le 48 c) (nat_le c 57) e in
+    let from : nat_le 49 c ≡ true = grind (arith, h.0, z) in
+    rw (from, h.1) refl
+
+some_value : (cs : List ℕ) → begins is_first_digit cs ≡ true → 1 ≤ value_from 0 (front is_digit cs)
+some_value [] e = absurd cc
+some_value (c ∷ cs) e =
+    let h = and_parts (nat_le 49 c) (nat_le c 57) e in
+    let one : 1 ≤ c - 48 = grind (arith, h.0) in
+    let least = value_least ((0 * 10) + (c - 48)) (front is_digit cs) in
+    let some : 1 ≤ value_from 0 (c ∷ front is_digit cs) = omega (arith, one, least) in
+    rw (first_is_digit c e) some
+
+-- ---- what is read is an integer
+
+-- digits that are read whole, the first of them not `0`
+pub decimal_read : (cs : List ℕ) → begins is_first_digit cs ≡ true → Read IsDecimal cs (value_from 0 (front is_digit cs), past is_digit cs)
+decimal_read cs first = record {
+  text = front is_digit cs;
+  is_so = record {
+    first = front_begins is_digit is_digit cs (λ c d. d) (begins_where is_first_digit is_digit true cs first_is_digit first);
+    each = front_each is_digit cs;
+    plain = inr (front_begins_not is_digit (λ c. c == 48) cs (begins_differs is_first_digit 48 cs refl first));
+    value_of = refl;
+  };
+  split = whole is_digit cs;
+}
+
+digits_sound : (start cs : List ℕ) (x : ℕ × List ℕ) → begins is_first_digit cs ≡ true → digits_at (byte_count start) cs ≡ Ok x → Read IsDecimal cs x × (1 ≤ x.0) × (x.0 ≤ largest)
+unfolding digits_at
+digits_sound start cs x first e =
+    let n = value_from 0 (front is_digit cs) in
+    let g = guard (nat_le n largest) (refusal IntegerOutOfRange context.LongHand start) (done (n, past is_digit cs)) x e in
+    let most : n ≤ largest = grind (arith, g.0) in
+    subst (λ (y : ℕ × List ℕ). Read IsDecimal cs y × (1 ≤ y.0) × (y.0 ≤ largest)) (ok_is (n, past is_digit cs) x g.1) (
+      decimal_read cs first,
+      some_value cs first,
+      most,
+    )
+
+negative_is : (text : List ℕ) (n : ℕ) → IsDecimal text n → 1 ≤ n → n ≤ largest → IsInt (45 ∷ text) (negative n)
+negative_is text zero d some most = absurd (omega (arith, some))
+negative_is text (suc n) d some most = ((text, d, refl), (omega (arith, ints, most), omega (arith, ints, most)))
+
+positive_is : (text : List ℕ) (n : ℕ) → IsDecimal text n → n ≤ largest → IsInt text (pos n)
+positive_is text n d most = (d, (omega (arith, ints, most), omega (arith, ints, most)))
+
+pub zero_is : IsDecimal (48 ∷ []) 0
+zero_is = record { first = refl; each = (refl, tt); plain = inl refl; value_of = refl }
+
+pub int_sound : (cs : List ℕ) (x : ℤ × List ℕ) → int_at cs ≡ Ok x → Read IsInt cs x
+unfolding int_at
+int_sound cs x e =
+    let wrong = refusal ExpectedSelector context.LongHand cs in
+    let below : Parsed ℤ = digits_at (byte_count cs) (drop 1 cs) >>= λ n. Ok (negative n.0, n.1) in
+    let above : Parsed ℤ = digits_at (byte_count cs) cs >>= λ n. Ok (pos n.0, n.1) in
+    elim (chosen (is_at "-" cs) (cond (begins is_first_digit (drop 1 cs)) below (Err wrong)) (cond (is_at "0" cs) (Ok (pos 0, drop 1 cs)) (cond (begins is_first_digit cs) above (Err wrong))) (Ok x) e) [
+      | inl a ↦
+          let g = guard (begins is_first_digit (drop 1 cs)) wrong below x a.1 in
+          let n = bind_ok (digits_at (byte_count cs) (drop 1 cs)) (λ n. Ok (negative n.0, n.1)) x g.1 in
+          let r = digits_sound cs (drop 1 cs) n.0 g.0 n.1 in
+          subst (Read IsInt cs) (ok_is (negative n.0.0, n.0.1) x n.2) (record {
+            text = 45 ∷ r.0.text;
+            is_so = negative_is r.0.text n.0.0 r.0.is_so r.1 r.2;
+            split = after_one 45 cs a.0 ∙ ap (λ (l : List ℕ). 45 ∷ l) r.0.split;
+          })
+      | inr a ↦ elim (chosen (is_at "0" cs) (done (pos 0, drop 1 cs)) (cond (begins is_first_digit cs) above (Err wrong)) (Ok x) a.1) [
+        | inl b ↦ subst (Read IsInt cs) (ok_is (pos 0, drop 1 cs) x b.1) (record {
+          text = 48 ∷ [];
+          is_so = positive_is (48 ∷ []) 0 zero_is (omega arith);
+          split = after_one 48 cs b.0;
+        })
+        | inr b ↦
+            let g = guard (begins is_first_digit cs) wrong above x b.1 in
+            let n = bind_ok (digits_at (byte_count cs) cs) (λ n. Ok (pos n.0, n.1)) x g.1 in
+            let r = digits_sound cs cs n.0 g.0 n.1 in
+            subst (Read IsInt cs) (ok_is (pos n.0.0, n.0.1) x n.2) (record {
+              text = r.0.text;
+              is_so = positive_is r.0.text n.0.0 r.0.is_so r.2;
+              split = r.0.split;
+            })
+      ]
+    ]
+
+-- ---- each integer is read
+
+digits_again : (start t : List ℕ) (n : ℕ) (rest : List ℕ) → IsDecimal t n → n ≤ largest → begins is_digit rest ≡ false → digits_at (byte_count start) (t ++ rest) ≡ Ok (n, rest)
+unfolding digits_at
+digits_again start t n rest d most e =
+    let in_range : nat_le (value_from 0 t) largest ≡ true = grind (arith, most, d.value_of) in
+    rw (front_all is_digit t rest d.each e, past_run is_digit t rest d.each e, in_range) (ap (λ (k : ℕ). Ok (k, rest)) (sym d.value_of))
+
+pub first_digit : (t rest : List ℕ) → begins is_digit t ≡ true → is_at "0" t ≡ false → begins is_first_digit (t ++ rest) ≡ true
+first_digit [] rest d z = absurd cc
+first_digit (c ∷ t) rest d z = digit_is_first c d z
+
+positive_again : (t : List ℕ) (n : ℕ) (rest : List ℕ) → IsDecimal t n → n ≤ largest → begins is_digit rest ≡ false → int_at (t ++ rest) ≡ Ok (pos n, rest)
+unfolding int_at
+positive_again t n rest d most e = elim d.plain [
+  | inl z ↦
+      let none : n ≡ 0 = d.value_of ∙ ap (value_from 0) z in
+      ap (λ (l : List ℕ). int_at (l ++ rest)) z ∙ ap (λ (k : ℕ). Ok (pos k, rest)) (sym none)
+  | inr z ↦
+      let first = first_digit t rest d.first z in
+      rw (begins_differs is_first_digit 45 (t ++ rest) refl first, begins_differs is_first_digit 48 (t ++ rest) refl first, first, digits_again (t ++ rest) t n rest d most e) refl
+]
+
+negative_again : (t : List ℕ) (n : ℕ) (rest : List ℕ) → IsDecimal t (suc n) → suc n ≤ largest → begins is_digit rest ≡ false → int_at (45 ∷ (t ++ rest)) ≡ Ok (negsuc n, rest)
+unfolding int_at
+negative_again t n rest d most e = elim d.plain [
+  | inl z ↦ absurd (let none : suc n ≡ 0 = d.value_of ∙ ap (value_from 0) z in omega (arith, none))
+  | inr z ↦ rw (first_digit t rest d.first z, digits_again (45 ∷ (t ++ rest)) t (suc n) rest d most e) refl
+]
+
+pub int_again : (t : List ℕ) (i : ℤ) (rest : List ℕ) → IsInt t i → begins is_digit rest ≡ false → int_at (t ++ rest) ≡ Ok (i, rest)
+int_again t (pos n) rest h e = positive_again t n rest h.0 (let most = h.1.1 in omega (arith, ints, most)) e
+int_again t (negsuc n) rest h e =
+    ap (λ (l : List ℕ). int_at (l ++ rest)) h.0.2 ∙ negative_again h.0.0 n rest h.0.1 (let least = h.1.0 in omega (arith, ints, least)) e
+
+-- ---- how an integer begins
+
+pub digit_begins : (c : ℕ) → is_digit c ≡ true → begins_int c ≡ true
+digit_begins c d = by_sign (c == 45) refl
+  where
+    by_sign : (s : Bool) → (c == 45) ≡ s → begins_int c ≡ true
+    by_sign true s = rw s refl
+    by_sign false s = rw (s, d) refl
+
+-- each character that may begin an integer answers so, and an integer with it
+pub int_first : (p : ℕ → Bool) (b : Bool) (t : List ℕ) (i : ℤ) (rest : List ℕ) → ((c : ℕ) → begins_int c ≡ true → p c ≡ b) → IsInt t i → begins p (t ++ rest) ≡ b
+int_first p b [] (pos n) rest h is = absurd (let first = is.0.first in cc)
+int_first p b (c ∷ t) (pos n) rest h is = h c (digit_begins c is.0.first)
+int_first p b t (negsuc n) rest h is = ap (λ (l : List ℕ). begins p (l ++ rest)) is.0.2 ∙ h 45 refl
+
+pub int_begins : (t : List ℕ) (i : ℤ) (rest : List ℕ) → IsInt t i → begins begins_int (t ++ rest) ≡ true
+int_begins t i rest is = int_first begins_int true t i rest (λ c e. e) is
+
+pub int_not : (k : ℕ) (t : List ℕ) (i : ℤ) (rest : List ℕ) → begins_int k ≡ false → IsInt t i → begins (λ c. c == k) (t ++ rest) ≡ false
+int_not k t i rest never is = int_first (λ c. c == k) false t i rest (λ c e. differs begins_int k c never e) is
+
+pub int_no_blank : (t : List ℕ) (i : ℤ) (rest : List ℕ) → IsInt t i → begins is_blank (t ++ rest) ≡ false
+int_no_blank t i rest is = int_first is_blank false t i rest (λ c e. no_blank begins_int c refl refl refl refl e) is
+
+-- ---- where a refusal stands
+
+digits_stands : (start cs : List ℕ) (r : Refusal) → digits_at (byte_count start) cs ≡ Err r → Stands Plain start r
+unfolding digits_at
+digits_stands start cs r e =
+    let n = value_from 0 (front is_digit cs) in
+    guard_stands start (nat_le n largest) (done (n, past is_digit cs)) IntegerOutOfRange context.LongHand r refl (no_refusal start _ r) e
+
+pub int_stands : (cs : List ℕ) (r : Refusal) → int_at cs ≡ Err r → Stands Plain cs r
+unfolding int_at
+int_stands cs r e = elim (chosen (is_at "-" cs) _ _ (Err r) e) [
+  | inl a ↦
+      guard_stands cs (begins is_first_digit (drop 1 cs)) _ ExpectedSelector context.LongHand r refl (λ f.
+      bind_stands cs (digits_at (byte_count cs) (drop 1 cs)) _ r (digits_stands cs (drop 1 cs)) (λ n s h. no_refusal cs _ r h) f) a.1
+  | inr a ↦ elim (chosen (is_at "0" cs) (done (pos 0, drop 1 cs)) _ (Err r) a.1) [
+    | inl b ↦ no_refusal cs _ r b.1
+    | inr b ↦
+        guard_stands cs (begins is_first_digit cs) _ ExpectedSelector context.LongHand r refl (λ f.
+        bind_stands cs (digits_at (byte_count cs) cs) _ r (digits_stands cs cs) (λ n s h. no_refusal cs _ r h) f) b.1
+  ]
+]

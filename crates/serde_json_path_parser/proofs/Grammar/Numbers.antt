@@ -1,0 +1,345 @@
+-- Number literals: what is read is one, each is read, where a refusal stands, and the digits of a fraction.
+use Rattle.std.proofs.Common.{◌≡◌, ℕ, ◌+◌, ◌-◌, ◌*◌, ◌^◌, ◌≤◌, inl, inr, Bool, true, false, cond, List, [], ◌∷◌, ◌++◌, length, drop, Ok, Err, refl, sym, ap, subst, ◌∙◌, append_assoc, arith, suc, ◌<◌, min}
+use Rattle.std.specs.Prelude.{nat_le, ◌==◌, ◌||◌, ℤ, pos, ◌-ℤ◌, encode_utf8}
+use Rattle.std.proofs.lemmas.Int.{ints}
+use Rattle.serde_json_path_syntax.specs.WellFormed.{IsLiteralAmount}
+use Rattle.serde_json_path_parser.specs.declared.error.ParseErrorKind.TheVariants.{ExpectedExpression, ExponentOrEmptyFraction, FractionTooLong, NumberOutOfRange}
+use Rattle.serde_json_path_parser.specs.declared.error.Context.TheVariants as context
+use Rattle.serde_json_path_parser.specs.declared.error.Refusal.{Refusal}
+use Rattle.serde_json_path_parser.specs.Lexical.{is_at, AllPass, begins, is_digit, value_from, fraction_of, IsDecimal, IsFraction, IsAmount, IsNumber}
+use Rattle.serde_json_path_parser.specs.Parsed.{Parsed, ◌>>=◌, refusal, front, past, byte_count, refusal_at}
+use Rattle.serde_json_path_parser.specs.Parsing.{is_first_digit, begins_int}
+use Rattle.serde_json_path_parser.specs.Numbers.{is_exponent, whole_at, digits_after_point_at, fraction_at, amount_at, greatest_amount, number_at}
+use Rattle.serde_json_path_parser.proofs.Grammar.Integers.{decimal_read, digit_begins, zero_is, first_digit}
+use Rattle.serde_json_path_parser.proofs.Reading.Runs.{some_begun, begins_front, begins_where, differs, begins_differs, front_begins, front_each, whole, front_all, past_run}
+use Rattle.serde_json_path_parser.proofs.Reading.Steps.{Read, bind_ok, chosen, guard, done, ok_is, after_one}
+use Rattle.serde_json_path_parser.proofs.Reading.Stands.{Plain, Stands, here, bind_stands, guard_stands, no_refusal}
+use Rattle.std.proofs.Math.Nat.{mul-le-mul_right, mul-lt-mul_of_pos_right, le-mul_of_pos_right, one-le-pow, pow-succ'}
+use Rattle.std.proofs.lemmas.Bool.{and_parts}
+use Rattle.std.proofs.lemmas.List.{length-append}
+use Rattle.std.proofs.lemmas.Nat.{pow-add}
+use Rattle.std.proofs.lemmas.Str.{encode_ascii}
+use Rattle.std.specs.Str.{encode_utf8_all}
+
+-- ---- what is read is a number
+
+whole_sound : (start cs : List ℕ) (x : ℕ × List ℕ) → whole_at (byte_count start) cs ≡ Ok x → Read IsDecimal cs x
+unfolding whole_at
+whole_sound start cs x e =
+    let wrong = refusal ExpectedExpression context.LongHand start in
+    let digits : Parsed ℕ = Ok (value_from 0 (front is_digit cs), past is_digit cs) in
+    elim (chosen (is_at "0" cs) (done (0, drop 1 cs)) (cond (begins is_first_digit cs) digits (Err wrong)) (Ok x) e) [
+      | inl a ↦ subst (Read IsDecimal cs) (ok_is (0, drop 1 cs) x a.1) (record { text = 48 ∷ []; is_so = zero_is; split = after_one 48 cs a.0 })
+      | inr a ↦
+          let g = guard (begins is_first_digit cs) wrong digits x a.1 in
+          subst (Read IsDecimal cs) (ok_is (value_from 0 (front is_digit cs), past is_digit cs) x g.1) (decimal_read cs g.0)
+    ]
+
+-- after a point
+digits_sound : (start cs ds : List ℕ) (x : ℕ × List ℕ) → cs ≡ 46 ∷ ds → digits_after_point_at (byte_count start) ds ≡ Ok x → Read IsFraction cs x
+unfolding digits_after_point_at
+digits_sound start cs ds x point e =
+    let digits = front is_digit ds in
+    let rest = past is_digit ds in
+    let wrong = refusal ExponentOrEmptyFraction context.LongHand start in
+    let long = refusal FractionTooLong context.LongHand start in
+    let judged : Parsed ℕ = cond (nat_le (length digits) 9) (Ok (fraction_of digits, rest)) (Err long) in
+    let g = guard (begins is_digit ds) wrong (cond (begins is_exponent rest) (Err wrong) judged) x e in
+    elim (chosen (begins is_exponent rest) (Err wrong) judged (Ok x) g.1) [
+      | inl a ↦ absurd (let no = a.1 in cc)
+      | inr a ↦
+          let k = guard (nat_le (length digits) 9) long (done (fraction_of digits, rest)) x a.1 in
+          let some : 1 ≤ length digits = some_begun is_digit digits (front_begins is_digit is_digit ds (λ c d. d) g.0) in
+          let few : length digits ≤ 9 = grind (arith, k.0) in
+          subst (Read IsFraction cs) (ok_is (fraction_of digits, rest) x k.1) (record {
+            text = 46 ∷ digits;
+            is_so = inr (digits, refl, front_each is_digit ds, some, few, refl);
+            split = point ∙ ap (λ (l : List ℕ). 46 ∷ l) (whole is_digit ds);
+          })
+    ]
+
+fraction_sound : (start cs : List ℕ) (x : ℕ × List ℕ) → fraction_at (byte_count start) cs ≡ Ok x → Read IsFraction cs x
+unfolding fraction_at
+fraction_sound start cs x e =
+    let wrong = refusal ExponentOrEmptyFraction context.LongHand start in
+    elim (chosen (is_at "." cs) (digits_after_point_at (byte_count start) (drop 1 cs)) (cond (begins is_exponent cs) (Err wrong) (done (0, cs))) (Ok x) e) [
+      | inl a ↦ digits_sound start cs (drop 1 cs) x (after_one 46 cs a.0) a.1
+      | inr a ↦ elim (chosen (begins is_exponent cs) (Err wrong) (done (0, cs)) (Ok x) a.1) [
+        | inl b ↦ absurd (let no = b.1 in cc)
+        | inr b ↦ subst (Read IsFraction cs) (ok_is (0, cs) x b.1) (record { text = []; is_so = inl (refl, refl); split = refl })
+      ]
+    ]
+
+amount_sound : (start cs : List ℕ) (x : ℕ × List ℕ) → amount_at (byte_count start) cs ≡ Ok x → Read IsAmount cs x
+unfolding amount_at
+amount_sound start cs x e =
+    let w = bind_ok (whole_at (byte_count start) cs) (λ whole. fraction_at (byte_count start) whole.1 >>= λ fraction. Ok ((whole.0 * 1000000000) + fraction.0, fraction.1)) x e in
+    let f = bind_ok (fraction_at (byte_count start) w.0.1) (λ fraction. Ok ((w.0.0 * 1000000000) + fraction.0, fraction.1)) x w.2 in
+    let a = whole_sound start cs w.0 w.1 in
+    let b = fraction_sound start w.0.1 f.0 f.1 in
+    subst (Read IsAmount cs) (ok_is ((w.0.0 * 1000000000) + f.0.0, f.0.1) x f.2) (record {
+      text = a.text ++ b.text;
+      is_so = (a.text, b.text, w.0.0, f.0.0, a.is_so, b.is_so, refl, refl);
+      split = a.split ∙ ap (λ (l : List ℕ). a.text ++ l) b.split ∙ sym (append_assoc a.text b.text f.0.1);
+    })
+
+negative_in_range : (n : ℕ) → n ≤ 2 ^ 63 * 1000000000 → IsLiteralAmount (pos 0 -ℤ pos n)
+negative_in_range n most = (omega (arith, ints, most), omega (arith, ints, most))
+
+positive_in_range : (n : ℕ) → n ≤ greatest_amount → IsLiteralAmount (pos n)
+positive_in_range n most = (omega (arith, ints, most), omega (arith, ints, most))
+
+pub number_sound : (cs : List ℕ) (x : ℤ × List ℕ) → number_at cs ≡ Ok x → Read IsNumber cs x
+unfolding number_at
+number_sound cs x e =
+    let wrong = refusal NumberOutOfRange context.LongHand cs in
+    let below : ℕ × List ℕ → Parsed ℤ = λ n. cond (nat_le n.0 (2 ^ 63 * 1000000000)) (Ok (pos 0 -ℤ pos n.0, n.1)) (Err wrong) in
+    let above : ℕ × List ℕ → Parsed ℤ = λ n. cond (nat_le n.0 greatest_amount) (Ok (pos n.0, n.1)) (Err wrong) in
+    elim (chosen (is_at "-" cs) (amount_at (byte_count cs) (drop 1 cs) >>= below) (amount_at (byte_count cs) cs >>= above) (Ok x) e) [
+      | inl a ↦
+          let n = bind_ok (amount_at (byte_count cs) (drop 1 cs)) below x a.1 in
+          let r = amount_sound cs (drop 1 cs) n.0 n.1 in
+          let g = guard (nat_le n.0.0 (2 ^ 63 * 1000000000)) wrong (done (pos 0 -ℤ pos n.0.0, n.0.1)) x n.2 in
+          let most : n.0.0 ≤ 2 ^ 63 * 1000000000 = grind (arith, g.0) in
+          subst (Read IsNumber cs) (ok_is (pos 0 -ℤ pos n.0.0, n.0.1) x g.1) (record {
+            text = 45 ∷ r.text;
+            is_so = ((n.0.0, inr (r.text, r.is_so, refl, refl)), negative_in_range n.0.0 most);
+            split = after_one 45 cs a.0 ∙ ap (λ (l : List ℕ). 45 ∷ l) r.split;
+          })
+      | inr a ↦
+          let n = bind_ok (amount_at (byte_count cs) cs) above x a.1 in
+          let r = amount_sound cs cs n.0 n.1 in
+          let g = guard (nat_le n.0.0 greatest_amount) wrong (done (pos n.0.0, n.0.1)) x n.2 in
+          let most : n.0.0 ≤ greatest_amount = grind (arith, g.0) in
+          subst (Read IsNumber cs) (ok_is (pos n.0.0, n.0.1) x g.1) (record {
+            text = r.text;
+            is_so = ((n.0.0, inl (r.is_so, refl)), positive_in_range n.0.0 most);
+            split = r.split;
+          })
+    ]
+
+-- ---- each number is read
+
+-- a character that is read as a part of the number before it, or refused there, after some number
+abbrev pub goes_on : ℕ → Bool
+goes_on c = is_digit c || c == 46 || is_exponent c
+
+-- a list that begins with no such character begins with none of a part of them
+begins_less : (p q : ℕ → Bool) (cs : List ℕ) → ((c : ℕ) → p c ≡ false → q c ≡ false) → begins p cs ≡ false → begins q cs ≡ false
+begins_less p q [] h e = refl
+begins_less p q (c ∷ cs) h e = h c e
+
+whole_again : (start t : List ℕ) (n : ℕ) (rest : List ℕ) → IsDecimal t n → begins is_digit rest ≡ false → whole_at (byte_count start) (t ++ rest) ≡ Ok (n, rest)
+unfolding whole_at
+whole_again start t n rest d e = elim d.plain [
+  | inl z ↦
+      let none : n ≡ 0 = d.value_of ∙ ap (value_from 0) z in
+      ap (λ (l : List ℕ). whole_at (byte_count start) (l ++ rest)) z ∙ ap (λ (k : ℕ). Ok (k, rest)) (sym none)
+  | inr z ↦
+      let first = first_digit t rest d.first z in
+      rw (begins_differs is_first_digit 48 (t ++ rest) refl first, first, front_all is_digit t rest d.each e, past_run is_digit t rest d.each e) (ap (λ (k : ℕ). Ok (k, rest)) (sym d.value_of))
+]
+
+no_digit : (cs : List ℕ) → begins goes_on cs ≡ false → begins is_digit cs ≡ false
+no_digit cs e = begins_less goes_on is_digit cs (λ c n. grind (arith, n)) e
+
+no_point : (cs : List ℕ) → begins goes_on cs ≡ false → is_at "." cs ≡ false
+no_point cs e = begins_less goes_on (λ c. c == 46) cs (λ c n. grind (arith, n)) e
+
+no_exponent : (cs : List ℕ) → begins goes_on cs ≡ false → begins is_exponent cs ≡ false
+no_exponent cs e = begins_less goes_on is_exponent cs (λ c n. grind (arith, n)) e
+
+digits_begin : (digits rest : List ℕ) → 1 ≤ length digits → AllPass is_digit digits → begins is_digit (digits ++ rest) ≡ true
+digits_begin [] rest some each = absurd (omega (arith, some))
+digits_begin (c ∷ digits) rest some each = each.0
+
+fraction_again : (start t : List ℕ) (n : ℕ) (rest : List ℕ) → IsFraction t n → begins goes_on rest ≡ false → fraction_at (byte_count start) (t ++ rest) ≡ Ok (n, rest)
+unfolding fraction_at digits_after_point_at
+fraction_again start t n rest is e = elim is [
+  | inl none ↦ ap (λ (l : List ℕ). fraction_at (byte_count start) (l ++ rest)) none.0 ∙ rw (no_point rest e, no_exponent rest e) (ap (λ (k : ℕ). Ok (k, rest)) (sym none.1))
+  | inr some ↦
+      let few : nat_le (length some.0) 9 ≡ true = let most = some.4 in grind (arith, most) in
+      ap (λ (l : List ℕ). fraction_at (byte_count start) (l ++ rest)) some.1
+      ∙ rw (digits_begin some.0 rest some.3 some.2, front_all is_digit some.0 rest some.2 (no_digit rest e), past_run is_digit some.0 rest some.2 (no_digit rest e), no_exponent rest e, few)
+      (ap (λ (k : ℕ). Ok (k, rest)) (sym some.5))
+]
+
+-- no digit stands after a whole number, with a fraction or without
+failures : (t : List ℕ) (n : ℕ) (rest : List ℕ) → IsFraction t n → begins is_digit rest ≡ false → begins is_digit (t ++ rest) ≡ false
+failures t n rest is e = elim is [
+  | inl none ↦ ap (λ (l : List ℕ). begins is_digit (l ++ rest)) none.0 ∙ e
+  | inr some ↦ ap (λ (l : List ℕ). begins is_digit (l ++ rest)) some.1
+]
+
+amount_again : (start t : List ℕ) (n : ℕ) (rest : List ℕ) → IsAmount t n → begins goes_on rest ≡ false → amount_at (byte_count start) (t ++ rest) ≡ Ok (n, rest)
+unfolding amount_at
+amount_again start t n rest is e =
+    let regrouped : t ++ rest ≡ is.0 ++ (is.1 ++ rest) = ap (λ (l : List ℕ). l ++ rest) is.6 ∙ append_assoc is.0 is.1 rest in
+    let read = whole_again start is.0 is.2 (is.1 ++ rest) is.4 (failures is.1 is.3 rest is.5 (no_digit rest e)) in
+    ap (amount_at (byte_count start)) regrouped ∙ rw (read, fraction_again start is.1 is.3 rest is.5 e) (ap (λ (k : ℕ). Ok (k, rest)) (sym is.7))
+
+amount_first : (p : ℕ → Bool) (b : Bool) (t : List ℕ) (n : ℕ) (rest : List ℕ) → ((c : ℕ) → is_digit c ≡ true → p c ≡ b) → IsAmount t n → begins p (t ++ rest) ≡ b
+amount_first p b t n rest h is =
+    let regrouped : t ++ rest ≡ is.0 ++ (is.1 ++ rest) = ap (λ (l : List ℕ). l ++ rest) is.6 ∙ append_assoc is.0 is.1 rest in
+    let first = begins_front is_digit true is.0 (is.1 ++ rest) (some_begun is_digit is.0 is.4.first) is.4.first in
+    ap (begins p) regrouped ∙ begins_where is_digit p b (is.0 ++ (is.1 ++ rest)) h first
+
+negative_again : (t : List ℕ) (n : ℕ) (rest : List ℕ) → IsAmount t n → n ≤ 2 ^ 63 * 1000000000 → begins goes_on rest ≡ false → number_at (45 ∷ (t ++ rest)) ≡ Ok (pos 0 -ℤ pos n, rest)
+unfolding number_at
+negative_again t n rest is most e =
+    let in_range : nat_le n (2 ^ 63 * 1000000000) ≡ true = grind (arith, most) in
+    rw (amount_again (45 ∷ (t ++ rest)) t n rest is e, in_range) refl
+
+positive_again : (t : List ℕ) (n : ℕ) (rest : List ℕ) → IsAmount t n → n ≤ greatest_amount → begins goes_on rest ≡ false → number_at (t ++ rest) ≡ Ok (pos n, rest)
+unfolding number_at
+positive_again t n rest is most e =
+    let in_range : nat_le n greatest_amount ≡ true = grind (arith, most) in
+    let no_sign = amount_first (λ c. c == 45) false t n rest (λ c d. differs is_digit 45 c refl d) is in
+    rw (no_sign, amount_again (t ++ rest) t n rest is e, in_range) refl
+
+pub number_again : (t : List ℕ) (amount : ℤ) (rest : List ℕ) → IsNumber t amount → begins goes_on rest ≡ false → number_at (t ++ rest) ≡ Ok (amount, rest)
+number_again t amount rest is e =
+    let n = is.0.0 in
+    elim is.0.1 [
+      | inl above ↦
+          let most : n ≤ greatest_amount = let within = is.1.1 in let same = above.1 in omega (arith, ints, within, same) in
+          positive_again t n rest above.0 most e ∙ ap (λ (i : ℤ). Ok (i, rest)) (sym above.1)
+      | inr below ↦
+          let most : n ≤ 2 ^ 63 * 1000000000 = let within = is.1.0 in let same = below.3 in omega (arith, ints, within, same) in
+          ap (λ (l : List ℕ). number_at (l ++ rest)) below.2 ∙ negative_again below.0 n rest below.1 most e ∙ ap (λ (i : ℤ). Ok (i, rest)) (sym below.3)
+    ]
+
+-- ---- how a number begins
+
+-- each character that may begin a number answers so, and a number with it
+pub number_first : (p : ℕ → Bool) (b : Bool) (t : List ℕ) (amount : ℤ) (rest : List ℕ) → ((c : ℕ) → begins_int c ≡ true → p c ≡ b) → IsNumber t amount → begins p (t ++ rest) ≡ b
+number_first p b t amount rest h is = elim is.0.1 [
+  | inl above ↦ amount_first p b t is.0.0 rest (λ c d. h c (digit_begins c d)) above.0
+  | inr below ↦ ap (λ (l : List ℕ). begins p (l ++ rest)) below.2 ∙ h 45 refl
+]
+
+-- ---- where a refusal stands
+
+whole_stands : (start cs : List ℕ) (r : Refusal) → whole_at (byte_count start) cs ≡ Err r → Stands Plain start r
+unfolding whole_at
+whole_stands start cs r e = elim (chosen (is_at "0" cs) (done (0, drop 1 cs)) _ (Err r) e) [
+  | inl a ↦ no_refusal start _ r a.1
+  | inr a ↦ guard_stands start (begins is_first_digit cs) _ ExpectedExpression context.LongHand r refl (no_refusal start _ r) a.1
+]
+
+digits_stand : (start cs : List ℕ) (r : Refusal) → digits_after_point_at (byte_count start) cs ≡ Err r → Stands Plain start r
+unfolding digits_after_point_at
+digits_stand start cs r e =
+    let refused : Parsed ℕ = Err (refusal ExponentOrEmptyFraction context.LongHand start) in
+    let digits = front is_digit cs in
+    let rest = past is_digit cs in
+    let judged : Parsed ℕ = cond (nat_le (length digits) 9) (Ok (fraction_of digits, rest)) (Err (refusal FractionTooLong context.LongHand start)) in
+    guard_stands start (begins is_digit cs) (cond (begins is_exponent rest) refused judged) ExponentOrEmptyFraction context.LongHand r refl (λ f.
+    elim (chosen (begins is_exponent rest) refused judged (Err r) f) [
+      | inl a ↦ here ExponentOrEmptyFraction context.LongHand start refused r refl refl a.1
+      | inr a ↦ guard_stands start (nat_le (length digits) 9) _ FractionTooLong context.LongHand r refl (no_refusal start _ r) a.1
+    ]) e
+
+fraction_stands : (start cs : List ℕ) (r : Refusal) → fraction_at (byte_count start) cs ≡ Err r → Stands Plain start r
+unfolding fraction_at
+fraction_stands start cs r e =
+    let refused : Parsed ℕ = Err (refusal ExponentOrEmptyFraction context.LongHand start) in
+    elim (chosen (is_at "." cs) (digits_after_point_at (byte_count start) (drop 1 cs)) (cond (begins is_exponent cs) refused (done (0, cs))) (Err r) e) [
+      | inl a ↦ digits_stand start (drop 1 cs) r a.1
+      | inr a ↦ elim (chosen (begins is_exponent cs) refused (done (0, cs)) (Err r) a.1) [
+        | inl b ↦ here ExponentOrEmptyFraction context.LongHand start refused r refl refl b.1
+        | inr b ↦ no_refusal start _ r b.1
+      ]
+    ]
+
+amount_stands : (start cs : List ℕ) (r : Refusal) → amount_at (byte_count start) cs ≡ Err r → Stands Plain start r
+unfolding amount_at
+amount_stands start cs r e =
+    bind_stands start (whole_at (byte_count start) cs) _ r (whole_stands start cs) (λ whole s f.
+    bind_stands start (fraction_at (byte_count start) whole.1) _ r (fraction_stands start whole.1) (λ fraction t h. no_refusal start _ r h) f) e
+
+pub number_stands : (cs : List ℕ) (r : Refusal) → number_at cs ≡ Err r → Stands Plain cs r
+unfolding number_at
+number_stands cs r e = elim (chosen (is_at "-" cs) _ _ (Err r) e) [
+  | inl a ↦
+      bind_stands cs (amount_at (byte_count cs) (drop 1 cs)) _ r (amount_stands cs (drop 1 cs)) (λ n s f.
+      guard_stands cs (nat_le n.0 (2 ^ 63 * 1000000000)) _ NumberOutOfRange context.LongHand r refl (no_refusal cs _ r) f) a.1
+  | inr a ↦
+      bind_stands cs (amount_at (byte_count cs) cs) _ r (amount_stands cs cs) (λ n s f.
+      guard_stands cs (nat_le n.0 greatest_amount) _ NumberOutOfRange context.LongHand r refl (no_refusal cs _ r) f) a.1
+]
+
+-- ---- the digits after a point, as the code counts them
+
+-- ---- bytes
+
+digit_byte : (c : ℕ) → is_digit c ≡ true → length (encode_utf8 c) ≡ 1
+digit_byte c d =
+    let most = (and_parts (nat_le 48 c) (nat_le c 57) d).1 in
+    let ascii : c < 128 = grind (arith, most) in
+    ap length (encode_ascii c ascii)
+
+-- a digit is one byte
+front_bytes : (cs : List ℕ) → length (encode_utf8_all cs) ≡ length (front is_digit cs) + length (encode_utf8_all (past is_digit cs))
+front_bytes [] = refl
+front_bytes (c ∷ cs) = by_test (is_digit c) refl (front_bytes cs)
+  where
+    by_test : (b : Bool) → is_digit c ≡ b → length (encode_utf8_all cs) ≡ length (front is_digit cs) + length (encode_utf8_all (past is_digit cs))
+        → length (encode_utf8_all (c ∷ cs)) ≡ length (front is_digit (c ∷ cs)) + length (encode_utf8_all (past is_digit (c ∷ cs)))
+    by_test true e h = rw e (omega (arith, length-append (encode_utf8 c) (encode_utf8_all cs), digit_byte c e, h))
+    by_test false e h = rw e (omega arith)
+
+-- the bytes of the digits, as the bytes that were left before them and after
+pub counted : (cs rest : List ℕ) (before after : ℕ) → rest ≡ past is_digit cs → before ≡ length (encode_utf8_all cs) → after ≡ length (encode_utf8_all rest) → before ≡ after + length (front is_digit cs)
+counted cs rest before after e b a =
+    let same : after ≡ length (encode_utf8_all (past is_digit cs)) = a ∙ ap (λ (l : List ℕ). length (encode_utf8_all l)) e in
+    omega (arith, front_bytes cs, b, same)
+
+-- ---- the number
+
+-- each digit is at most nine
+value_below : (n : ℕ) (ds : List ℕ) → AllPass is_digit ds → value_from n ds < (n + 1) * 10 ^ length ds
+value_below n [] each = omega arith
+value_below n (d ∷ ds) each =
+    let h = and_parts (nat_le 48 d) (nat_le d 57) each.0 in
+    let nine : d - 48 ≤ 9 = grind (arith, h.1) in
+    let next : n * 10 + (d - 48) + 1 ≤ (n + 1) * 10 = omega (arith, nine) in
+    let below = value_below (n * 10 + (d - 48)) ds each.1 in
+    let grown = mul-le-mul_right (10 ^ length ds) next in
+    let more : 10 ^ suc (length ds) ≡ 10 * 10 ^ length ds = pow-succ' 10 (length ds) in
+    rw more (omega (arith, below, grown))
+
+-- a fraction is less than one
+pub fraction_below : (ds : List ℕ) → AllPass is_digit ds → length ds ≤ 9 → fraction_of ds < 1000000000
+fraction_below ds each few =
+    let below = value_below 0 ds each in
+    let some : 0 < 10 ^ (9 - length ds) = one-le-pow (9 - length ds) 10 (omega arith) in
+    let grown : value_from 0 ds * 10 ^ (9 - length ds) < 10 ^ length ds * 10 ^ (9 - length ds) = mul-lt-mul_of_pos_right (omega (arith, below)) some in
+    let nine : length ds + (9 - length ds) ≡ 9 = omega (arith, few) in
+    let whole : 10 ^ length ds * 10 ^ (9 - length ds) ≡ 1000000000 = sym (pow-add 10 (length ds) (9 - length ds)) ∙ ap (λ (k : ℕ). 10 ^ k) nine in
+    omega (arith, grown, whole)
+
+value_few : (ds : List ℕ) → AllPass is_digit ds → length ds ≤ 9 → value_from 0 ds < 1000000000
+value_few ds each few =
+    let some : 0 < 10 ^ (9 - length ds) = one-le-pow (9 - length ds) 10 (omega arith) in
+    omega (arith, fraction_below ds each few, le-mul_of_pos_right (value_from 0 ds) some)
+
+-- a fraction by the number of its digits and by how many they are
+pub fraction_is : (ds : List ℕ) (value power count : ℕ) → AllPass is_digit ds → count ≡ length ds → count ≤ 9 → value ≡ min (value_from 0 ds) (2 ^ 128 - 1) → power ≡ 10 ^ (9 - count)
+    → value * power ≡ fraction_of ds
+fraction_is ds value power count each c few v p =
+    let within : length ds ≤ 9 = omega (arith, c, few) in
+    let same : value ≡ value_from 0 ds = omega (arith, v, value_few ds each within) in
+    let scale : power ≡ 10 ^ (9 - length ds) = p ∙ ap (λ (k : ℕ). 10 ^ (9 - k)) c in
+    rw (same, scale) refl
+
+-- ---- reading
+
+module _ (start : ℕ) (cs : List ℕ) (some : begins is_digit cs ≡ true) (plain : begins is_exponent (past is_digit cs) ≡ false) where
+  pub too_long : 9 < length (front is_digit cs) → digits_after_point_at start cs ≡ Err (refusal_at FractionTooLong context.LongHand start)
+  unfolding digits_after_point_at
+  too_long many = let judged : nat_le (length (front is_digit cs)) 9 ≡ false = grind (arith, many) in rw (some, plain, judged) refl
+
+  pub reads : length (front is_digit cs) ≤ 9 → digits_after_point_at start cs ≡ Ok (fraction_of (front is_digit cs), past is_digit cs)
+  unfolding digits_after_point_at
+  reads few = let judged : nat_le (length (front is_digit cs)) 9 ≡ true = grind (arith, few) in rw (some, plain, judged) refl

@@ -1,0 +1,227 @@
+-- What the whole reading says of a text: the promises of a parse.
+use Rattle.std.proofs.Common.{◌≡◌, ◌≢◌, ℕ, ◌+◌, ◌-◌, ◌<◌, ◌≤◌, inl, inr, ◌↔◌, Bool, true, false, true≢false, List, [], ◌∷◌, ◌++◌, length, take, drop, Option, Ok, Err, refl, sym, ap, subst, ◌∙◌, arith}
+use Rattle.std.specs.Prelude.{◌&&◌}
+use Rattle.std.specs.Str.{chars, IsUtf8, IsCharBoundary, encode_utf8_all, all_scalars}
+use Rattle.std.proofs.lemmas.List.{length-append}
+use Rattle.std.proofs.Math.Seq.{take-append_seam, drop-append_seam}
+use Rattle.std.proofs.lemmas.Str.{IsCharBoundary-start, chars-encodes, scalars-chars}
+use Rattle.serde_json_path_syntax.specs.Tree.{Query, query, root, current, Segments}
+use Rattle.serde_json_path_functions.specs.Functions.{Signature}
+use Rattle.serde_json_path_parser.specs.Looking.{greatest_usize}
+use Rattle.serde_json_path_parser.specs.declared.error.Refusal.{Refusal}
+use Rattle.serde_json_path_parser.specs.declared.error.Failure.{Failure}
+use Rattle.serde_json_path_parser.specs.declared.error.Failure.TheVariants as failures
+use Rattle.serde_json_path_parser.specs.declared.error.ParseErrorKind.{ParseErrorKind}
+use Rattle.serde_json_path_parser.specs.declared.error.ParseErrorKind.TheVariants.{ExpectedRoot, UndefinedFunction, TextAfterPath, NoMemory}
+use Rattle.serde_json_path_syntax.specs.declared.checked.Checked.{Checked}
+use Rattle.serde_json_path_syntax.specs.Parts.{tree_of, signatures_of}
+use Rattle.serde_json_path_parser.specs.Lexical.{begins}
+use Rattle.serde_json_path_parser.specs.Accepted.{IsAccepted}
+use Rattle.serde_json_path_parser.specs.Laws.{OneTreeAtMost}
+use Rattle.serde_json_path_syntax.specs.Used.{AreCalled}
+use Rattle.serde_json_path_parser.specs.Parsing.{opens, opens_next, opens_after_root}
+use Rattle.serde_json_path_parser.specs.Operands.{IsUndeclared}
+use Rattle.serde_json_path_parser.specs.Filters.{path_at}
+use Rattle.serde_json_path_parser.specs.Giving.{Fails, IsRefused, IsWithin, error_of}
+use Rattle.serde_json_path_parser.specs.Parse.{is_dollar, NeedsNoMemory, Answers, checked_view}
+use Rattle.serde_json_path_parser.proofs.Reading.Regrouped.{past_all}
+use Rattle.serde_json_path_parser.proofs.Grammar.Paths.{ArePathSegments, path_sound, path_again, NoRoot, TextAfter, SegmentRefused, path_refused, scalars_after, boundary}
+use Rattle.serde_json_path_parser.proofs.Reading.Stands.{is_plain, Inner}
+use Rattle.serde_json_path_parser.proofs.Reading.Steps.{ok_is}
+
+-- what is read is accepted
+accepted : (signature : List ℕ → Option Signature) (cs a : List ℕ) (segs : Segments) → cs ≡ 36 ∷ a → ArePathSegments signature a segs → IsAccepted signature cs (query root segs)
+accepted signature cs a segs e h = record { reads = (a, h.1, e); from_root = refl; typed = h.0.0; shallow = h.0.1 }
+
+-- an accepted tree is what is read
+accepted_read : (signature : List ℕ → Option Signature) (cs : List ℕ) (q : Query) → IsAccepted signature cs q
+    → (segs : Segments) × (q ≡ query root segs) × (path_at signature cs ≡ Ok segs)
+accepted_read signature cs (query current segs) h = let e : current ≡ root = h.from_root in absurd cc
+accepted_read signature cs (query root segs) h = let r = h.reads in (segs, refl, path_again signature cs r.0 segs ((h.typed, h.shallow), r.1) r.2)
+
+-- a text is accepted with one tree at most
+pub one_tree_at_most : OneTreeAtMost
+one_tree_at_most signature text p q h g =
+    let r = accepted_read signature text p h in
+    let s = accepted_read signature text q g in
+    r.1 ∙ ap (query root) (ok_is r.0 s.0 (sym r.2 ∙ s.2)) ∙ sym s.1
+
+-- ---- what needs no memory
+
+-- where nothing is to be kept no segment begins after `$`
+needs_none : (cs : List ℕ) → NeedsNoMemory cs → opens_after_root cs ≡ false
+needs_none cs (inl h) = ap (λ b. b && opens_next (drop 1 cs)) h
+needs_none cs (inr h) = ap opens_after_root h.2 ∙ ap (begins opens) (past_all h.0 h.1 h.3 h.4) ∙ h.5
+
+-- ---- the text before text that stands after a path
+
+path_before : (text path rest : List ℕ) (left : ℕ) → IsUtf8 text → chars text ≡ 36 ∷ (path ++ rest) → left ≡ length (encode_utf8_all rest)
+    → chars (take (length text - left) text) ≡ 36 ∷ path
+path_before text path rest left u split is =
+    let b = boundary text (36 ∷ path) rest left u split is in
+    let long : length text ≡ length (encode_utf8_all (36 ∷ path)) + left =
+    ap length b.2 ∙ length-append (encode_utf8_all (36 ∷ path)) (encode_utf8_all rest) ∙ ap (λ (n : ℕ). length (encode_utf8_all (36 ∷ path)) + n) (sym is) in
+    let cut : length text - left ≡ length (encode_utf8_all (36 ∷ path)) = omega (arith, long) in
+    let front : take (length text - left) text ≡ encode_utf8_all (36 ∷ path) =
+    ap (λ (n : ℕ). take n text) cut ∙ ap (take (length (encode_utf8_all (36 ∷ path)))) b.2 ∙ take-append_seam (encode_utf8_all (36 ∷ path)) (encode_utf8_all rest) in
+    ap chars front ∙ chars-encodes (36 ∷ path) (scalars_front (36 ∷ path) rest (ap all_scalars (sym split) ∙ scalars-chars text u))
+  where
+    both : (a b c : Bool) → (a && b) ≡ true → (b ≡ true → c ≡ true) → (a && c) ≡ true
+    both true b c e f = f e
+    both false b c e f = e
+
+    scalars_front : (xs ys : List ℕ) → all_scalars (xs ++ ys) ≡ true → all_scalars xs ≡ true
+    scalars_front [] ys e = refl
+    scalars_front (x ∷ xs) ys e = both _ (all_scalars (xs ++ ys)) (all_scalars xs) e (scalars_front xs ys)
+
+-- ---- the text from a refusal on
+
+text_from : (text before rest : List ℕ) (left : ℕ) → IsUtf8 text → chars text ≡ before ++ rest → left ≡ length (encode_utf8_all rest) → chars (drop (length text - left) text) ≡ rest
+text_from text before rest left u split is =
+    let b = boundary text before rest left u split is in
+    let long : length text ≡ length (encode_utf8_all before) + left =
+    ap length b.2 ∙ length-append (encode_utf8_all before) (encode_utf8_all rest) ∙ ap (λ (n : ℕ). length (encode_utf8_all before) + n) (sym is) in
+    let cut : length text - left ≡ length (encode_utf8_all before) = omega (arith, long) in
+    let after : drop (length text - left) text ≡ encode_utf8_all rest =
+    ap (λ (n : ℕ). drop n text) cut ∙ ap (drop (length (encode_utf8_all before))) b.2 ∙ drop-append_seam (encode_utf8_all before) (encode_utf8_all rest) in
+    ap chars after ∙ chars-encodes rest (scalars_after before rest (ap all_scalars (sym split) ∙ scalars-chars text u))
+
+-- ---- what a refusal tells
+
+-- what is reported of a segment is neither that the root is missing, nor text after the path, nor want of memory
+inner_differs : (signature : List ℕ → Option Signature) (kind other : ParseErrorKind) (rest : List ℕ) → is_plain other ≡ false → UndefinedFunction ≢ other → Inner signature kind rest → kind ≡ other → ⊥
+inner_differs signature kind other rest outer differs (inl plain) e = true≢false (sym plain ∙ ap is_plain e ∙ outer)
+inner_differs signature kind other rest outer differs (inr undefined) e = differs (sym undefined.0 ∙ e)
+
+undeclared_there : (signature : List ℕ → Option Signature) (kind : ParseErrorKind) (rest : List ℕ) → Inner signature kind rest → kind ≡ UndefinedFunction → IsUndeclared signature rest
+undeclared_there signature kind rest (inl plain) e = absurd (true≢false (sym plain ∙ ap is_plain e))
+undeclared_there signature kind rest (inr undefined) e = undefined.1
+
+record Told (signature : List ℕ → Option Signature) (text : List ℕ) (r : Refusal) : Type 0 where
+  no_memory : r.kind ≢ NoMemory
+  root_missing : (r.kind ≡ ExpectedRoot) ↔ (begins is_dollar (chars text) ≡ false)
+  after : r.kind ≡ TextAfterPath → (q : Query) × IsAccepted signature (chars (take (length text - r.left) text)) q
+  undefined : r.kind ≡ UndefinedFunction → IsUndeclared signature (chars (drop (length text - r.left) text))
+  placed : (r.left ≤ length text) × IsCharBoundary text (length text - r.left)
+
+module _ (signature : List ℕ → Option Signature) (text : List ℕ) (u : IsUtf8 text) where
+  of_kind : (r : Refusal) (kind other : ParseErrorKind) → kind ≡ r.kind → r.kind ≡ other → kind ≡ other
+  of_kind r kind other e f = e ∙ f
+
+  told_no_root : (r : Refusal) → NoRoot (chars text) r → Told signature text r
+  told_no_root r h =
+      let kind : ExpectedRoot ≡ r.kind = ap (λ (x : Refusal). x.kind) h.is in
+      let b = boundary text [] (chars text) r.left u refl (sym (ap (λ (x : Refusal). x.left) h.is)) in
+      record {
+        no_memory = λ e. let f = of_kind r ExpectedRoot NoMemory kind e in cc;
+        root_missing = ((λ e. h.begins_not), (λ e. sym kind));
+        after = λ e. absurd (let f = of_kind r ExpectedRoot TextAfterPath kind e in cc);
+        undefined = λ e. absurd (let f = of_kind r ExpectedRoot UndefinedFunction kind e in cc);
+        placed = (b.0, b.1);
+      }
+
+  told_text_after : (r : Refusal) → TextAfter signature (chars text) r → Told signature text r
+  told_text_after r h =
+      let kind : TextAfterPath ≡ r.kind = ap (λ (x : Refusal). x.kind) h.is in
+      let left : r.left ≡ length (encode_utf8_all h.rest) = sym (ap (λ (x : Refusal). x.left) h.is) in
+      let b = boundary text (36 ∷ h.path) h.rest r.left u h.split left in
+      record {
+        no_memory = λ e. let f = of_kind r TextAfterPath NoMemory kind e in cc;
+        root_missing = ((λ e. absurd (let f = of_kind r TextAfterPath ExpectedRoot kind e in cc)), (λ e. absurd (true≢false (sym (ap (begins is_dollar) h.split) ∙ e))));
+        after = λ e. (
+          query root h.segments,
+          subst (λ (cs : List ℕ). IsAccepted signature cs (query root h.segments)) (sym (path_before text h.path h.rest r.left u h.split left))
+              (accepted signature (36 ∷ h.path) h.path h.segments refl h.are),
+        );
+        undefined = λ e. absurd (let f = of_kind r TextAfterPath UndefinedFunction kind e in cc);
+        placed = (b.0, b.1);
+      }
+
+  told_segment : (r : Refusal) → SegmentRefused signature (chars text) r → Told signature text r
+  told_segment r h =
+      let b = boundary text h.stands.before h.stands.rest r.left u h.stands.split h.stands.left in
+      record {
+        no_memory = inner_differs signature r.kind NoMemory h.stands.rest refl (λ f. cc) h.stands.tells;
+        root_missing = ((λ e. absurd (inner_differs signature r.kind ExpectedRoot h.stands.rest refl (λ f. cc) h.stands.tells e)), (λ e. absurd (true≢false (sym h.rooted ∙ e))));
+        after = λ e. absurd (inner_differs signature r.kind TextAfterPath h.stands.rest refl (λ f. cc) h.stands.tells e);
+        undefined = λ e.
+            subst (IsUndeclared signature) (sym (text_from text h.stands.before h.stands.rest r.left u h.stands.split h.stands.left)) (undeclared_there signature r.kind h.stands.rest h.stands.tells e);
+        placed = (b.0, b.1);
+      }
+
+  told : (r : Refusal) → path_at signature (chars text) ≡ Err r → Told signature text r
+  told r e = elim (path_refused signature (chars text) r e) [
+    | inl h ↦ told_no_root r h
+    | inr h ↦ elim h [ inl g ↦ told_text_after r g | inr g ↦ told_segment r g ]
+  ]
+
+  -- where the refusal stands
+  pub within : (s : Failure) (total : ℕ) → total ≡ length text → Fails s (path_at signature (chars text)) → IsWithin s total
+  within failures.Memory total t h = tt
+  within (failures.Refused r) total t h = let k = (told r h).placed.0 in omega (arith, t, k)
+
+  -- ---- the three ends of a parse
+
+  pub too_long : length text ≡ greatest_usize → Answers signature text (Err (error_of failures.Memory 0))
+  too_long long = record {
+    accepted = tt;
+    kept = tt;
+    only = tt;
+    refused = λ other. absurd (other refl);
+    missing_root = ((λ e. absurd cc), (λ h. let less = h.0 in absurd (omega (arith, long))));
+    text_after = λ e. absurd cc;
+    undefined = λ e. absurd cc;
+    position = (omega arith, IsCharBoundary-start text u);
+    memory_position = λ e. refl;
+    spares_memory = λ less none. absurd (omega (arith, long));
+    too_long = λ e. refl;
+  }
+
+  pub parsed : (short : length text < greatest_usize) (segs : Segments) (checked : Checked) → tree_of checked ≡ query root segs → AreCalled (signatures_of checked) (query root segs) → path_at signature (chars text) ≡ Ok segs → Answers signature text (Ok (checked_view checked))
+  parsed short segs checked tree kept e =
+      let s = path_sound signature (chars text) segs e in
+      record {
+        accepted = subst (IsAccepted signature (chars text)) (sym tree) (accepted signature (chars text) s.0 segs s.2 s.1);
+        kept = subst (AreCalled (signatures_of checked)) (sym tree) kept;
+        only = λ q a. one_tree_at_most signature (chars text) q (tree_of checked) a (subst (IsAccepted signature (chars text)) (sym tree) (accepted signature (chars text) s.0 segs s.2 s.1));
+        refused = tt;
+        missing_root = ((λ h. absurd h), (λ h. true≢false (sym (ap (begins is_dollar) s.2) ∙ h.1)));
+        text_after = tt;
+        undefined = tt;
+        position = tt;
+        memory_position = tt;
+        spares_memory = λ less none. tt;
+        too_long = λ long. absurd (omega (arith, long));
+      }
+
+  pub refused : (short : length text < greatest_usize) (s : Failure) (total : ℕ) → total ≡ length text → Fails s (path_at signature (chars text)) → (opens_after_root (chars text) ≡ false → IsRefused s)
+      → Answers signature text (Err (error_of s total))
+  refused short failures.Memory total t h spares = record {
+    accepted = tt;
+    kept = tt;
+    only = tt;
+    refused = λ other. absurd (other refl);
+    missing_root = ((λ e. absurd cc), (λ g. absurd (spares (needs_none (chars text) (inl g.1)))));
+    text_after = λ e. absurd cc;
+    undefined = λ e. absurd cc;
+    position = (omega arith, IsCharBoundary-start text u);
+    memory_position = λ e. refl;
+    spares_memory = λ less none. absurd (spares (needs_none (chars text) none));
+    too_long = λ e. refl;
+  }
+  refused short (failures.Refused r) total t h spares =
+      let k = told r h in
+      let cut : (total - r.left + 1) - 1 ≡ length text - r.left = omega (arith, t) in
+      record {
+        accepted = tt;
+        kept = tt;
+        only = tt;
+        refused = λ other q a. let f = accepted_read signature (chars text) q a in let e : Ok f.0 ≡ Err r = sym f.2 ∙ h in cc;
+        missing_root = ((λ e. (short, k.root_missing.0 e)), (λ g. k.root_missing.1 g.1));
+        text_after = λ e. subst (λ (n : ℕ). (q : Query) × IsAccepted signature (chars (take n text)) q) (sym cut) (k.after e);
+        undefined = λ e. subst (λ (n : ℕ). IsUndeclared signature (chars (drop n text))) (sym cut) (k.undefined e);
+        position = (omega arith, subst (IsCharBoundary text) (sym cut) k.placed.1);
+        memory_position = λ e. absurd (k.no_memory e);
+        spares_memory = λ less none. k.no_memory;
+        too_long = λ long. absurd (omega (arith, long));
+      }

@@ -1,0 +1,112 @@
+-- Steps of reading: what an answer says of each, items one after another, and what stops where a step stops.
+use Rattle.std.proofs.Common.{◌≡◌, ℕ, zero, suc, ◌⊎◌, inl, inr, Bool, true, false, cond, List, [], ◌∷◌, ◌++◌, drop, Result, Ok, Err, refl, sym, ap, subst, ◌∙◌, append_assoc}
+use Rattle.std.specs.Prelude.{◌==◌}
+use Rattle.std.proofs.lemmas.Bool.{eqb-true}
+use Rattle.serde_json_path_parser.specs.declared.error.Refusal.{Refusal}
+use Rattle.serde_json_path_parser.specs.Lexical.{begins, IsBlank, Joined}
+use Rattle.serde_json_path_parser.specs.Parsed.{Parsed, ◌>>=◌, many_at, many}
+use Rattle.serde_json_path_parser.proofs.Reading.Many as m
+use Rattle.serde_json_path_parser.specs.declared.error.Failure.{Failure}
+use Rattle.serde_json_path_parser.specs.declared.error.Failure.TheVariants as failures
+use Rattle.serde_json_path_parser.specs.Giving.{Fails}
+
+-- ---- one step
+
+-- the value of a step that did not fail
+pub bind_ok : {A B : Type 0} (r : Result A Refusal) (f : A → Result B Refusal) (y : B) → (r >>= f) ≡ Ok y → (x : A) × (r ≡ Ok x) × (f x ≡ Ok y)
+bind_ok (Ok x) f y e = (x, refl, e)
+bind_ok (Err d) f y e = absurd cc
+
+-- which way a test went
+pub chosen : {A : Type 0} (b : Bool) (x y z : A) → cond b x y ≡ z → ((b ≡ true) × (x ≡ z)) ⊎ ((b ≡ false) × (y ≡ z))
+chosen true x y z e = inl (refl, e)
+chosen false x y z e = inr (refl, e)
+
+-- a test whose other branch is a refusal
+pub guard : {A : Type 0} (b : Bool) (d : Refusal) (x : Result A Refusal) (y : A) → cond b x (Err d) ≡ Ok y → (b ≡ true) × (x ≡ Ok y)
+guard true d x y e = (refl, e)
+guard false d x y e = absurd cc
+
+abbrev pub done : {A : Type 0} → A → Result A Refusal
+done x = Ok x
+
+pub ok_is : {A : Type 0} (x y : A) → done x ≡ done y → x ≡ y
+ok_is x y e = cc
+
+pub after_one : (k : ℕ) (cs : List ℕ) → begins (λ c. c == k) cs ≡ true → cs ≡ k ∷ drop 1 cs
+after_one k [] e = absurd cc
+after_one k (c ∷ cs) e = ap (λ (x : ℕ). x ∷ cs) (eqb-true c k e)
+
+-- ---- what was read
+
+-- the text of what was read, and what is after it
+pub record Read {A : Type 0} (is : List ℕ → A → Type 0) (cs : List ℕ) (x : A × List ℕ) : Type 0 where
+  pub text : List ℕ
+  pub is_so : is text x.0
+  pub split : cs ≡ text ++ x.1
+
+-- a text and the blanks after it
+abbrev pub Spaced : {A : Type 0} → (List ℕ → A → Type 0) → List ℕ → A → Type 0
+Spaced is t x = (a k : List ℕ) × is a x × IsBlank k × (t ≡ a ++ k)
+
+-- what was read is also something else, or made something else
+pub made_of : {A B : Type 0} (is : List ℕ → A → Type 0) (is_made : List ℕ → B → Type 0) (make : A → B) (cs : List ℕ) (x : A × List ℕ) → ((t : List ℕ) → is t x.0 → is_made t (make x.0))
+    → Read (Spaced is) cs x → Read (Spaced is_made) cs (make x.0, x.1)
+made_of is is_made make cs x good r = record { text = r.text; is_so = (r.is_so.0, r.is_so.1, good r.is_so.0 r.is_so.2, r.is_so.3, r.is_so.4); split = r.split }
+
+-- a step that makes something of what is read
+pub made_sound : {A B : Type 0} (is : List ℕ → A → Type 0) (is_made : List ℕ → B → Type 0) (make : A → B) (cs : List ℕ) (read : Parsed A) (x : B × List ℕ)
+    → ((t : List ℕ) (a : A) → is t a → is_made t (make a)) → ((a : A × List ℕ) → read ≡ Ok a → Read (Spaced is) cs a) → (read >>= λ a. Ok (make a.0, a.1)) ≡ Ok x → Read (Spaced is_made) cs x
+made_sound is is_made make cs read x good sound e =
+    let a = bind_ok read (λ a. Ok (make a.0, a.1)) x e in
+    subst (Read (Spaced is_made) cs) (ok_is (make a.0.0, a.0.1) x a.2) (made_of is is_made make cs a.0 (λ t h. good t a.0.0 h) (sound a.0 a.1))
+
+-- many items, one after the other
+module _ {A : Type 0} (is : List ℕ → A → Type 0) (more : List ℕ → Bool) (item : List ℕ → Parsed A) (sound : (cs : List ℕ) (x : A × List ℕ) → more cs ≡ true → item cs ≡ Ok x → Read is cs x) where
+  pub many_sound : (n : ℕ) (cs : List ℕ) (x : List A × List ℕ) → many_at more item n cs ≡ Ok x → Read (Joined is) cs x
+  unfolding many_at
+  many_sound zero cs x e = subst (Read (Joined is) cs) (ok_is ([], cs) x e) (record { text = []; is_so = refl; split = refl })
+  many_sound (suc n) cs x e = elim (chosen (more cs) (item cs >>= λ a. many_at more item n a.1 >>= λ b. Ok (a.0 ∷ b.0, b.1)) (done ([], cs)) (Ok x) e) [
+    | inr a ↦ subst (Read (Joined is) cs) (ok_is ([], cs) x a.1) (record { text = []; is_so = refl; split = refl })
+    | inl a ↦
+        let p = bind_ok (item cs) (λ a. many_at more item n a.1 >>= λ b. Ok (a.0 ∷ b.0, b.1)) x a.1 in
+        let q = bind_ok (many_at more item n p.0.1) (λ b. Ok (p.0.0 ∷ b.0, b.1)) x p.2 in
+        let r = sound cs p.0 a.0 p.1 in
+        let t = many_sound n p.0.1 q.0 q.1 in
+        subst (Read (Joined is) cs) (ok_is (p.0.0 ∷ q.0.0, q.0.1) x q.2) (record {
+          text = r.text ++ t.text;
+          is_so = (r.text, t.text, r.is_so, t.is_so, refl);
+          split = r.split ∙ ap (λ (l : List ℕ). r.text ++ l) t.split ∙ sym (append_assoc r.text t.text q.0.1);
+        })
+  ]
+
+-- What makes a list of items be read again: each is, where it stops; each begins as an item; and before each an item stops.
+pub record Again {A : Type 0} (is : List ℕ → A → Type 0) (more : List ℕ → Bool) (item : List ℕ → Parsed A) (Stops : List ℕ → Type 0) : Type 0 where
+  pub takes : m.Takes more item
+  pub again : (t : List ℕ) (x : A) (rest : List ℕ) → is t x → Stops rest → item (t ++ rest) ≡ Ok (x, rest)
+  pub starts : (t : List ℕ) (x : A) (rest : List ℕ) → is t x → more (t ++ rest) ≡ true
+  pub failures : (t : List ℕ) (x : A) (rest : List ℕ) → is t x → Stops (t ++ rest)
+
+module _ {A : Type 0} (is : List ℕ → A → Type 0) (more : List ℕ → Bool) (item : List ℕ → Parsed A) (Stops : List ℕ → Type 0) (law : Again is more item Stops) where
+  stops_at : (t : List ℕ) (xs : List A) (rest : List ℕ) → Joined is t xs → Stops rest → Stops (t ++ rest)
+  stops_at t [] rest h s = subst (λ (l : List ℕ). Stops (l ++ rest)) (sym h) s
+  stops_at t (x ∷ xs) rest h s = subst Stops (sym (ap (λ (l : List ℕ). l ++ rest) h.4 ∙ append_assoc h.0 h.1 rest)) (law.failures h.0 x (h.1 ++ rest) h.2)
+
+  pub many_again : (t : List ℕ) (xs : List A) (rest : List ℕ) → Joined is t xs → Stops rest → more rest ≡ false → many more item (t ++ rest) ≡ Ok (xs, rest)
+  many_again t [] rest h s e = ap (λ (l : List ℕ). many more item (l ++ rest)) h ∙ m.many_end more item rest e
+  many_again t (x ∷ xs) rest h s e =
+      let regrouped : t ++ rest ≡ h.0 ++ (h.1 ++ rest) = ap (λ (l : List ℕ). l ++ rest) h.4 ∙ append_assoc h.0 h.1 rest in
+      ap (many more item) regrouped
+      ∙ m.many_more more item law.takes (h.0 ++ (h.1 ++ rest)) (h.1 ++ rest) x (law.starts h.0 x (h.1 ++ rest) h.2) (law.again h.0 x (h.1 ++ rest) h.2 (stops_at h.1 xs rest h.3 s))
+      ∙ ap (m.with_front (x ∷ [])) (many_again h.1 xs rest h.3 s e)
+
+-- ---- what stops where a step stops
+
+-- reading that is the same step fails as it does
+pub same_fails : {A : Type 0} (s : Failure) (read whole : Result A Refusal) → whole ≡ read → Fails s read → Fails s whole
+same_fails s read whole e h = subst (Fails s) (sym e) h
+
+-- what goes on after a first step fails where that does
+pub first_fails : {A B : Type 0} (s : Failure) (read : Result A Refusal) (f : A → Result B Refusal) → Fails s read → Fails s (read >>= f)
+first_fails failures.Memory read f h = tt
+first_fails (failures.Refused r) read f h = ap (λ (x : Result _ Refusal). x >>= f) h

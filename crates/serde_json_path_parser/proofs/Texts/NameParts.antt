@@ -1,0 +1,108 @@
+-- The ASCII characters of a member name that are taken many at a time.
+use Rattle.std.proofs.Common.{◌≡◌, ℕ, zero, suc, ◌+◌, ◌-◌, ◌<◌, ◌≤◌, Bool, true, false, List, [], ◌∷◌, ◌++◌, length, take, drop, set, Some, Result, Ok, Err, is_ok, IfOk, if◌then◌else◌, refl, sym, ap, ◌∙◌, append_assoc, arith}
+use Rattle.std.specs.Prelude.{slice_get, nat_le, nat_lt, ◌^◌, max}
+use Rattle.std.specs.Str.{is_utf8, chars, IsAscii, encode_utf8_all}
+use Rattle.std.proofs.lemmas.Bool.{and_parts}
+use Rattle.std.proofs.lemmas.List.{take_more_set}
+use Rattle.std.proofs.lemmas.Str.{encodes-append, encodes-IsAscii}
+use Rattle.serde_json_path_parser.specs.Lexical.{AllPass, is_name_char}
+use Rattle.serde_json_path_parser.specs.Parsed.{front, past}
+use Rattle.serde_json_path_parser.specs.Source.{Told, one_more, looked}
+use Rattle.serde_json_path_parser.specs.Looking.{LooksOn}
+use Rattle.serde_json_path_parser.specs.NameParts.{is_ascii_name_char, Gathered}
+use Rattle.serde_json_path_parser.proofs.Texts.FirstByte.{step_one}
+use Rattle.serde_json_path_parser.proofs.Reading.Runs.{past_through}
+
+-- ---- an ASCII character of a name
+
+pub below_128 : (c : ℕ) → is_ascii_name_char c ≡ true → c < 128
+below_128 c e = let h = (and_parts (nat_le c 127) (is_name_char c) e).0 in grind arith
+
+in_name : (c : ℕ) → is_ascii_name_char c ≡ true → is_name_char c ≡ true
+in_name c e = (and_parts (nat_le c 127) (is_name_char c) e).1
+
+pub fits_below_128 : (c : ℕ) → c < 128 → is_name_char c ≡ true → is_ascii_name_char c ≡ true
+fits_below_128 c l e = let t : nat_le c 127 ≡ true = grind arith in rw (t, e) refl
+
+-- ---- lists of them
+
+pub all_ascii : (cs : List ℕ) → AllPass is_ascii_name_char cs → IsAscii cs
+all_ascii [] h i = omega arith
+all_ascii (c ∷ cs) h zero = below_128 c h.0
+all_ascii (c ∷ cs) h (suc i) = all_ascii cs h.1 i
+
+all_in_name : (cs : List ℕ) → AllPass is_ascii_name_char cs → AllPass is_name_char cs
+all_in_name [] h = tt
+all_in_name (c ∷ cs) h = (in_name c h.0, all_in_name cs h.1)
+
+all_more : (p : ℕ → Bool) (cs : List ℕ) (c : ℕ) → AllPass p cs → p c ≡ true → AllPass p (cs ++ c ∷ [])
+all_more p [] c h e = (e, tt)
+all_more p (d ∷ cs) c h e = (h.0, all_more p cs c h.1 e)
+
+front_past : (p : ℕ → Bool) (cs rest : List ℕ) → AllPass p cs → front p (cs ++ rest) ≡ cs ++ front p rest
+front_past p [] rest h = refl
+front_past p (c ∷ cs) rest h = rw h.0 (ap (λ (l : List ℕ). c ∷ l) (front_past p cs rest h.1))
+
+-- ---- looks
+
+at_most : (n : ℕ) → one_more n ≤ n + 1
+at_most n = by_test (nat_lt n (2 ^ 128 - 1)) refl
+  where
+    by_test : (b : Bool) → nat_lt n (2 ^ 128 - 1) ≡ b → one_more n ≤ n + 1
+    by_test true e = rw e (omega arith)
+    by_test false e = rw e (omega arith)
+
+-- one look more, at the next byte
+pub looked_on : (old mid now : Told) (count number at : ℕ) → LooksOn old mid count number → now ≡ looked mid at → number ≤ at + 1 → LooksOn old now (count + 1) (at + 1)
+looked_on old mid now count number at h e le =
+    let more : one_more mid.looks ≤ mid.looks + 1 = at_most mid.looks in
+    record {
+      same_text = ap (λ (t : Told). t.text) e ∙ h.same_text;
+      looks = let k = h.looks in let is : now.looks ≡ one_more mid.looks = ap (λ (t : Told). t.looks) e in omega (arith, k, is, more);
+      farthest = let k = h.farthest in let is : now.farthest ≡ max mid.farthest (at + 1) = ap (λ (t : Told). t.farthest) e in omega (arith, k, is, le);
+    }
+
+-- ---- a part of a name
+
+-- the first character alone
+pub first_gathered : (text : List ℕ) (index first : ℕ) (part : List ℕ) → index ≤ length text → is_utf8 (drop index text) ≡ true → slice_get text index ≡ Some first
+    → is_ascii_name_char first ≡ true → take 1 part ≡ first ∷ [] → Gathered text index (index + 1) part
+first_gathered text index first part l u is fits e =
+    let s = step_one text index first l u is (below_128 first fits) in
+    let one : (index + 1) - index ≡ 1 = omega arith in
+    record { within = s.within; utf8 = s.utf8; taken = rw (one, e) s.left; each = rw (one, e) (fits, tt) }
+
+-- one character more
+pub more_gathered : (text : List ℕ) (index at c : ℕ) (part : List ℕ) → index ≤ at → at - index < length part → slice_get text at ≡ Some c
+    → is_ascii_name_char c ≡ true → Gathered text index at part → Gathered text index (at + 1) (set part (at - index) c)
+more_gathered text index at c part le l is fits h =
+    let s = step_one text at c h.within h.utf8 is (below_128 c fits) in
+    let count : (at + 1) - index ≡ (at - index) + 1 = omega (arith, le) in
+    let e : take ((at - index) + 1) (set part (at - index) c) ≡ take (at - index) part ++ c ∷ [] = take_more_set part (at - index) c l in
+    record {
+      within = s.within;
+      utf8 = s.utf8;
+      taken = rw count (h.taken ∙ ap (λ (r : List ℕ). take (at - index) part ++ r) s.left ∙ sym (append_assoc (take (at - index) part) (c ∷ []) _) ∙ ap (λ (r : List ℕ). r ++ chars (drop (at + 1) text)) (sym e));
+      each = rw (count, e) (all_more is_ascii_name_char (take (at - index) part) c h.each fits);
+    }
+
+-- what is after a name stays as a part of it is taken
+pub past_part : (cs part rest : List ℕ) → AllPass is_ascii_name_char part → cs ≡ part ++ rest → past is_name_char rest ≡ past is_name_char cs
+past_part cs part rest h e = sym (ap (past is_name_char) e ∙ past_through is_name_char part rest (all_in_name part h))
+
+-- a text with a part after it, and then the rest of the name
+pub front_part : (cs part rest text : List ℕ) → AllPass is_ascii_name_char part → cs ≡ part ++ rest
+    → (text ++ part) ++ encode_utf8_all (front is_name_char rest) ≡ text ++ encode_utf8_all (front is_name_char cs)
+front_part cs part rest text h e =
+    let inside : encode_utf8_all (front is_name_char cs) ≡ part ++ encode_utf8_all (front is_name_char rest) =
+    ap (λ (l : List ℕ). encode_utf8_all (front is_name_char l)) e
+    ∙ ap encode_utf8_all (front_past is_name_char part rest (all_in_name part h))
+    ∙ encodes-append part (front is_name_char rest)
+    ∙ ap (λ (l : List ℕ). l ++ encode_utf8_all (front is_name_char rest)) (encodes-IsAscii part (all_ascii part h)) in
+    append_assoc text part _ ∙ ap (λ (l : List ℕ). text ++ l) (sym inside)
+
+-- the same where the part is put after the text, unless memory is out
+pub pushed_part : {E : Type 0} (r : Result Unit E) (cs part rest old new : List ℕ) → AllPass is_ascii_name_char part → cs ≡ part ++ rest → new ≡ (if is_ok r then old ++ part else old)
+    → IfOk r (λ u. new ++ encode_utf8_all (front is_name_char rest) ≡ old ++ encode_utf8_all (front is_name_char cs))
+pushed_part (Ok u) cs part rest old new h e is = ap (λ (l : List ℕ). l ++ encode_utf8_all (front is_name_char rest)) is ∙ front_part cs part rest old h e
+pushed_part (Err x) cs part rest old new h e is = tt

@@ -1,0 +1,26 @@
+-- When the calls of a builder let a query be finished.
+use Rattle.std.proofs.Common.{◌≡◌, ◌≤◌, ℕ, List, Option, sym, subst, ◌∙◌}
+use Rattle.serde_json_path_functions.specs.Functions.{Signature}
+use Rattle.serde_json_path_syntax.specs.Tree.{Query, root, kind_of}
+use Rattle.serde_json_path_syntax.specs.Typing.{IsTyped}
+use Rattle.serde_json_path_syntax.specs.Depth.{depth}
+use Rattle.serde_json_path_syntax.specs.Calls.{calls_of, names_of}
+use Rattle.serde_json_path_syntax.specs.Lists.{IsIn}
+use Rattle.serde_json_path_syntax.specs.Used.{AreDeclared, MayFinish, deepest, each_once, names_in, signature_in}
+use Rattle.serde_json_path_syntax.proofs.Names.Once.{declared_agree, declared_known, signature-once}
+use Rattle.serde_json_path_syntax.proofs.Typing.TypedByNames.{typed_by_names}
+
+-- a query that is well-typed under some signatures, whose calls are the builder's, each declared by them
+pub may_finish : (signature : List ℕ → Option Signature) (calls : List (List ℕ × Signature)) (q : Query) → kind_of q ≡ root → IsTyped signature q → depth q ≤ deepest
+    → names_in calls ≡ names_of (calls_of q) → AreDeclared signature calls → MayFinish calls q
+may_finish signature calls q rooted typed shallow names declared = record {
+  rooted = rooted;
+  typed = typed_by_names signature (signature_in calls) q (λ f i s e. declared_known signature calls declared f s (subst (IsIn f) (sym names) i) e) typed;
+  shallow = shallow;
+  called = λ f. (λ i. subst (IsIn f) names i, λ i. subst (IsIn f) (sym names) i);
+  agreed = declared_agree signature calls declared;
+}
+
+-- it is well-typed too under the signatures of each name once
+pub typed_once : (calls : List (List ℕ × Signature)) (q : Query) → IsTyped (signature_in calls) q → IsTyped (signature_in (each_once calls)) q
+typed_once calls q typed = typed_by_names (signature_in calls) (signature_in (each_once calls)) q (λ f i s e. signature-once calls f ∙ e) typed

@@ -1,0 +1,137 @@
+-- A list of names with their signatures, and the same with each name at its first place alone.
+use Rattle.std.proofs.Common.{◌≡◌, ◌≢◌, ◌↔◌, ℕ, List, [], ◌∷◌, ◌++◌, filter, not, inl, inr, Bool, true, false, Option, Some, bytes_eq, if◌then◌else◌, refl, sym, ap, subst, ◌∙◌, true≢false}
+use Rattle.std.proofs.lemmas.Option.{none-some, same_Some}
+use Rattle.std.proofs.lemmas.Slice.Eq.{bytes_eq-Decides}
+use Rattle.serde_json_path_functions.specs.Functions.{Signature, FunctionSet, Fits}
+use Rattle.serde_json_path_syntax.specs.Tree.{Query}
+use Rattle.serde_json_path_syntax.specs.Lists.{IsIn, IsInOrder}
+use Rattle.serde_json_path_syntax.specs.Used.{AreCalled, AreDeclared, AreNamesOf, each_once, names_in, signature_in}
+use Rattle.serde_json_path_syntax.proofs.Lists.InLists.{in_keep, in_map, in_order-keep, map_in}
+
+abbrev Named : Type 0
+Named = List ℕ × Signature
+
+-- the pair has another name than f
+abbrev is_other : List ℕ → Named → Bool
+is_other f u = not (bytes_eq u.0 f)
+
+differs : (u : Named) (f : List ℕ) → is_other f u ≡ true → u.0 ≢ f
+differs u f h same = true≢false (sym h ∙ ap not ((bytes_eq-Decides u.0 f).1 same))
+
+-- ---- what the two lists have in common
+
+-- what is in the shorter list is in the longer one
+pub once_in : (used : List Named) (u : Named) → IsIn u (each_once used) → IsIn u used
+once_in [] u i = i
+once_in (v ∷ used) u (inl e) = inl e
+once_in (v ∷ used) u (inr i) = inr (once_in used u ((in_keep (is_other v.0) u (each_once used)).0 i).0)
+
+-- each name is in both
+named_once : (used : List Named) (f : List ℕ) → IsIn f (names_in used) → IsIn f (names_in (each_once used))
+named_once [] f i = i
+named_once (v ∷ used) f (inl e) = inl e
+named_once (v ∷ used) f (inr i) = found ((in_map (λ (u : Named). u.0) f (each_once used)).0 (named_once used f i))
+  where
+    found : (u : Named) × IsIn u (each_once used) × (f ≡ u.0) → IsIn f (names_in (each_once (v ∷ used)))
+    found h = by (bytes_eq h.0.0 v.0) refl
+      where
+        by : (b : Bool) → bytes_eq h.0.0 v.0 ≡ b → IsIn f (names_in (each_once (v ∷ used)))
+        by true same = inl (h.2 ∙ (bytes_eq-Decides h.0.0 v.0).0 same)
+        by false other =
+            inr (subst (λ g. IsIn g (names_in (filter (is_other v.0) (each_once used)))) (sym h.2)
+            (map_in (λ (u : Named). u.0) h.0 (filter (is_other v.0) (each_once used)) ((in_keep (is_other v.0) h.0 (each_once used)).1 (h.1, ap not other))))
+
+-- another name keeps its signature where those of one name are left out
+signature-without : (used : List Named) (g f : List ℕ) → bytes_eq g f ≡ false → signature_in (filter (is_other g) used) f ≡ signature_in used f
+signature-without [] g f other = refl
+signature-without (u ∷ used) g f other = by (bytes_eq u.0 g) refl (signature-without used g f other)
+  where
+    by : (b : Bool) → bytes_eq u.0 g ≡ b → signature_in (filter (is_other g) used) f ≡ signature_in used f → signature_in (if not b then u ∷ filter (is_other g) used else filter (is_other g) used) f ≡ signature_in (u ∷ used) f
+    by true same later = later ∙ ap (λ b. if b then Some u.1 else signature_in used f) (sym (ap (λ k. bytes_eq k f) ((bytes_eq-Decides u.0 g).0 same) ∙ other))
+    by false differ later = ap (λ s. if bytes_eq u.0 f then Some u.1 else s) later
+
+-- and the signature of a name is the same in both
+pub signature-once : (used : List Named) (f : List ℕ) → signature_in (each_once used) f ≡ signature_in used f
+signature-once [] f = refl
+signature-once (u ∷ used) f = by (bytes_eq u.0 f) refl (signature-once used f)
+  where
+    by : (b : Bool) → bytes_eq u.0 f ≡ b → signature_in (each_once used) f ≡ signature_in used f
+        → (if b then Some u.1 else signature_in (filter (is_other u.0) (each_once used)) f) ≡ (if b then Some u.1 else signature_in used f)
+    by true same later = refl
+    by false other later = signature-without (each_once used) u.0 f other ∙ later
+
+-- ---- each name once
+
+once_apart : (used : List Named) → IsInOrder (λ (a b : Named). a.0 ≢ b.0) (each_once used)
+once_apart [] = tt
+once_apart (u ∷ used) = (
+  λ v i e. differs v u.0 ((in_keep (is_other u.0) v (each_once used)).0 i).1 (sym e),
+  in_order-keep (λ (a b : Named). a.0 ≢ b.0) (is_other u.0) (each_once used) (once_apart used),
+)
+
+-- the names that a query calls, each once
+pub called_once : (used : List Named) (q : Query) → AreNamesOf used q → AreCalled (each_once used) q
+called_once used q names = (
+  once_apart used,
+  λ f. (
+    λ i. let h = (in_map (λ (u : Named). u.0) f (each_once used)).0 i in (names f).0 (subst (λ g. IsIn g (names_in used)) (sym h.2) (map_in (λ (u : Named). u.0) h.0 used (once_in used h.0 h.1))),
+    λ i. named_once used f ((names f).1 i),
+  ),
+)
+
+-- ---- signatures
+
+-- the name and signature that are found are in the list
+pub found_in : (used : List Named) (f : List ℕ) (s : Signature) → signature_in used f ≡ Some s → IsIn (f, s) used
+found_in [] f s e = absurd (none-some s e)
+found_in (u ∷ used) f s e = by (bytes_eq u.0 f) refl e (found_in used f s)
+  where
+    by : (b : Bool) → bytes_eq u.0 f ≡ b → (if b then Some u.1 else signature_in used f) ≡ Some s → (signature_in used f ≡ Some s → IsIn (f, s) used) → IsIn (f, s) (u ∷ used)
+    by true same e later = inl (subst (λ g. (g, s) ≡ u) ((bytes_eq-Decides u.0 f).0 same) (subst (λ t. (u.0, t) ≡ u) (same_Some u.1 s e) refl))
+    by false other e later = inr (later e)
+
+-- a name of the list has a signature there
+pub named_known : (used : List Named) (f : List ℕ) → IsIn f (names_in used) → (s : Signature) × (signature_in used f ≡ Some s)
+named_known [] f i = absurd i
+named_known (u ∷ used) f i = by (bytes_eq u.0 f) refl i (named_known used f)
+  where
+    by : (b : Bool) → bytes_eq u.0 f ≡ b → IsIn f (names_in (u ∷ used)) → (IsIn f (names_in used) → (s : Signature) × (signature_in used f ≡ Some s))
+        → (s : Signature) × ((if b then Some u.1 else signature_in used f) ≡ Some s)
+    by true same i later = (u.1, refl)
+    by false other (inl e) later = absurd (true≢false (sym ((bytes_eq-Decides u.0 f).1 (sym e)) ∙ other))
+    by false other (inr i) later = later i
+
+-- where each name of the list is declared, the list has for a name what is declared
+pub declared_known : (signature : List ℕ → Option Signature) (used : List Named) → AreDeclared signature used → (f : List ℕ) (s : Signature) → IsIn f (names_in used) → signature f ≡ Some s
+    → signature_in used f ≡ Some s
+declared_known signature used declared f s i e =
+    let known = named_known used f i in
+    known.1 ∙ sym (declared (f, known.0) (found_in used f known.0 known.1)) ∙ e
+
+-- so the same name never has two signatures
+pub declared_agree : (signature : List ℕ → Option Signature) (used : List Named) → AreDeclared signature used → AreDeclared (signature_in used) used
+declared_agree signature used declared u i = declared_known signature used declared u.0 u.1 (map_in (λ (v : Named). v.0) u used i) (declared u i)
+
+-- ---- what fits
+
+pub fits_each : (F : FunctionSet) (used : List Named) → Fits F used → AreDeclared F.signature used
+fits_each F [] h u i = absurd i
+fits_each F (v ∷ used) h u (inl e) = ap (λ (w : Named). F.signature w.0) e ∙ h.0 ∙ ap (λ (w : Named). Some w.1) (sym e)
+fits_each F (v ∷ used) h u (inr i) = fits_each F used h.1 u i
+
+pub each_fits : (F : FunctionSet) (used : List Named) → AreDeclared F.signature used → Fits F used
+each_fits F [] declared = tt
+each_fits F (u ∷ used) declared = (declared u (inl refl), each_fits F used (λ v i. declared v (inr i)))
+
+pub fits_append : (F : FunctionSet) (xs ys : List Named) → Fits F (xs ++ ys) ↔ (Fits F xs × Fits F ys)
+fits_append F [] ys = (λ h. (tt, h), λ h. h.1)
+fits_append F (x ∷ xs) ys = let later = fits_append F xs ys in (λ h. ((h.0, (later.0 h.1).0), (later.0 h.1).1), λ h. (h.0.0, later.1 (h.0.1, h.1)))
+
+-- a set that fits all fits each name once
+pub fits_once : (F : FunctionSet) (used : List Named) → Fits F used → Fits F (each_once used)
+fits_once F used h = each_fits F (each_once used) (λ u i. fits_each F used h u (once_in used u i))
+
+-- and the other way round, where the same name never has two signatures
+pub once_fits : (F : FunctionSet) (used : List Named) → AreDeclared (signature_in used) used → Fits F (each_once used) → Fits F used
+once_fits F used agreed h = each_fits F used (λ u i.
+    fits_each F (each_once used) h u (found_in (each_once used) u.0 u.1 (signature-once used u.0 ∙ agreed u i)))

@@ -1,0 +1,4 @@
+-- Printed texts.
+
+-- worked cases of printed texts
+pub mod WorkedTexts

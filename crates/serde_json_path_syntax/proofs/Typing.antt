@@ -1,0 +1,8 @@
+-- Typing.
+
+-- well-typedness is decided, so that it can be recovered from its truncation
+pub mod Typings
+-- well-typedness rests on the signatures of the called names alone
+pub mod TypedByNames
+-- one of several parts that are well-typed is well-typed
+pub mod TypedParts
