@@ -1,6 +1,7 @@
 //! Paths as strings of JSON documents.
 
-ghost use Rattle.std.specs.Prelude.{IfOk};
+ghost use Rattle.std.specs.Prelude.{◌≡◌, IfOk};
+ghost use Rattle.serde_json.specs.Data.{string};
 ghost use Rattle.serde_json.specs.View.{view};
 ghost use Rattle.serde_json_path_functions.specs.Functions.{Fits};
 ghost use Rattle.serde_json_path_functions.specs.Patterns.{builtin_functions};
@@ -9,7 +10,7 @@ ghost use Rattle.serde_json_path_parser.specs.declared.error.ParseError as path_
 use crate::path::JsonPath;
 use serde_json::Value;
 use serde_json_path_parser::ParseError;
-use std::alloc::Global;
+use std::alloc::{AllocError, Global};
 use thiserror::Error;
 
 /// Why a JSON value is not read as a path.
@@ -25,7 +26,8 @@ pub enum FromJsonError {
 
 impl JsonPath {
     ghost use Rattle.serde_json_path.specs.FromJson.{IsReadFrom};
-    ghost use Rattle.serde_json_path.specs.Paths.{path_signatures};
+    ghost use Rattle.serde_json_path.specs.Paths.{path_signatures, path_tree};
+    ghost use Rattle.serde_json_path_syntax.specs.Text.{query_text};
 
     /// Reads a path from a JSON string, whose text is parsed as `parse` does (RFC 9535, section 2.1).
     ///
@@ -42,5 +44,14 @@ impl JsonPath {
             Some(text) => JsonPath::parse(alloc, text).map_err(FromJsonError::Path),
             None => Err(FromJsonError::NotAString),
         }
+    }
+
+    /// The path's text as a JSON string, from which `from_json` reads the path again.
+    ///
+    /// An error comes only where memory is refused.
+    pub fn to_json(&self, alloc: Global) -> Result<Value, AllocError>
+        ensures { IfOk result (λ value. view value ≡ string (query_text (path_tree self.now))) }
+    {
+        Ok(Value::String(self.to_text(alloc)?))
     }
 }

@@ -49,10 +49,12 @@
 //! meaning.
 #![tactic(auto)]
 
+mod equal;
 mod ext;
 mod json;
 mod laws;
 mod path;
+mod print;
 mod source;
 
 pub use ext::JsonPathExt;
@@ -65,6 +67,6 @@ pub use serde_json_path_nodes::{
     NodeList, Nodes, NormalizedPath, PathElement, PathElements, law_texts_tell_locations,
 };
 pub use serde_json_path_parser::{
-    ParseError, ParseErrorKind, PathSource, TextSource, law_one_tree_at_most,
+    ParseError, ParseErrorKind, PathSource, TextSource, law_one_tree_at_most, law_print,
 };
 pub use source::parse_source;

@@ -16,7 +16,7 @@ use serde_json_path_core::functions::{Both, Builtin, Functions};
 use serde_json_path_core::{Checked, QueryError, Walk, evaluate, evaluate_located, walk};
 use serde_json_path_nodes::{LocatedNodeList, NodeList};
 use serde_json_path_parser::{ParseError, TextSource, parse};
-use std::alloc::Global;
+use std::alloc::{AllocError, Global};
 
 /// A JSONPath (RFC 9535).
 ///
@@ -88,6 +88,18 @@ impl JsonPath {
     {
         let mut source = TextSource::new(path_str);
         parse_source(alloc, &mut source, functions)
+    }
+
+    /// A copy of the path, with the signatures that it keeps, so it fits the same function sets.
+    ///
+    /// An error comes only where memory is refused.
+    pub fn try_clone(&self, alloc: Global) -> Result<JsonPath, AllocError>
+        ensures tree { IfOk result (λ copy. path_tree copy ≡ path_tree self.now) }
+        ensures used { IfOk result (λ copy. path_signatures copy ≡ path_signatures self.now) }
+    {
+        Ok(JsonPath {
+            checked: self.checked.try_clone(alloc)?,
+        })
     }
 
     /// Whether every function that the path calls is declared, by the set or else by the built-in functions, with the
@@ -167,7 +179,7 @@ impl JsonPath {
     }
 
     /// A walk over the nodes that the path selects from a document, one at a time. The path must fit the set combined with
-    /// the built-in functions (see `fits`). Making the walk fails only if memory is refused, and calls no function yet.
+    /// the built-in functions (see `fits`). Making the walk fails only if memory is refused.
     ///
     /// ```text
     /// let mut walk = path.walk(alloc, &document, &functions)?;

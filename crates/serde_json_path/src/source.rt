@@ -13,13 +13,13 @@ use serde_json_path_core::functions::{Both, Builtin, Functions};
 use serde_json_path_parser::{ParseError, PathSource, parse};
 use std::alloc::Global;
 
-/// Parses the path of a source's text, from left to right by its `byte` alone, and reports the first refusal.
+/// Parses the path of a source's text, which is read from left to right by its `byte` alone.
 ///
 /// Filters call functions of the set, before the built-in ones; the path fits these. A text of n bytes is looked at no more
 /// than 32(n + 1) times. Where a root, a name, a selector or a closing bracket is missing, nothing was looked at beyond the
 /// byte after the one that does not fit.
 ///
-/// An error says why and where ([`ParseError`]). Unless it is `NoMemory`, the text is no path. A text of `usize::MAX` bytes,
+/// An error says why and where ([`ParseError`]). Unless it is `NoMemory`, the text is not a path. A text of `usize::MAX` bytes,
 /// whose end would have no position, is refused as `NoMemory` before any look.
 ///
 /// ```text

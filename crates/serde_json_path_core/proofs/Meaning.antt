@@ -12,6 +12,8 @@ pub mod Comparisons
 pub mod AnswerKinds
 -- the ends of a query's derivations, computed
 pub mod DerivationEnds
+-- what segments select from a node is what they select from its value, below its location
+pub mod Beneath
 -- derivations are in an order
 pub mod Order
 -- the computed ends are those of the derivations, and the computed tests hold where the defined ones do

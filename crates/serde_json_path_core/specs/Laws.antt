@@ -1,12 +1,14 @@
 -- Laws of the definitions.
-use Rattle.std.specs.Prelude.{◌≡◌, ◌≤◌, List, [], ◌∷◌, ◌++◌, length, map, ◌⊎◌, ◌↔◌, Some}
+use Rattle.std.specs.Prelude.{◌≡◌, ◌≢◌, ◌≤◌, List, [], ◌∷◌, ◌++◌, length, map, ◌⊎◌, ◌↔◌, Some}
 use Rattle.serde_json.specs.Data.{Data}
 use Rattle.serde_json_path_nodes.specs.Location.{Step, child_at, StepBefore, Located}
-use Rattle.serde_json_path_syntax.specs.Tree.{Query, query, current, Segments, segment, child, descendant, Segment, relation, equal, not_equal, less, less_or_equal, Comparable, IsSingular}
+use Rattle.serde_json_path_syntax.specs.Tree.{QueryKind, Query, query, current, Segments, no_segments, segment, SegmentKind, child, descendant, Segment, relation, equal, not_equal, less, less_or_equal, Comparable, IsSingular}
 use Rattle.serde_json_path_functions.specs.Functions.{FunctionSet, KeepsTypes}
 use Rattle.serde_json_path_syntax.specs.Lists.{IsIn, IsInOrder}
 use Rattle.serde_json_path_core.specs.Selected.{beneath}
-use Rattle.serde_json_path_core.specs.Meaning.{HoldsBasic, IsResult}
+use Rattle.serde_json_path_core.specs.Computed.{placed}
+use Rattle.serde_json_path_core.specs.Derivation.{Triple, start_of, Before}
+use Rattle.serde_json_path_core.specs.Meaning.{Derives, HoldsBasic, IsResult}
 use Rattle.serde_json_path_syntax.specs.Typing.{IsTyped, IsTypedComparable}
 
 -- the result of a singular query has one node at most (RFC 9535, section 2.3.5.1)
@@ -30,11 +32,16 @@ LessOrEqualIsEither =
 abbrev pub AreChildren : Data → List (Step × Data) → Type 0
 AreChildren v cs = IsInOrder (λ (a b : Step × Data). StepBefore a.0 b.0) cs × ((c : Step × Data) → IsIn c cs ↔ (child_at v c.0 ≡ Some c.1))
 
--- the results of the query at each of these children, below the child's step, joined
+-- the results of the query at each of these nodes, below the node's location, joined
+abbrev pub AreResultsAt : FunctionSet → Data → Query → List Located → List Located → Type 0
+AreResultsAt F top q [] list = list ≡ []
+AreResultsAt F top q (n ∷ nodes) list =
+    (first later : List Located) × IsResult F top q n.value first × AreResultsAt F top q nodes later
+    × (list ≡ map (beneath n.location) first ++ later)
+
+-- the same at each of these children
 abbrev pub AreSubtreeResults : FunctionSet → Data → Query → List (Step × Data) → List Located → Type 0
-AreSubtreeResults F top q [] ns = ns ≡ []
-AreSubtreeResults F top q (c ∷ cs) ns =
-    (first later : List Located) × IsResult F top q c.1 first × AreSubtreeResults F top q cs later × (ns ≡ map (beneath (c.0 ∷ [])) first ++ later)
+AreSubtreeResults F top q cs list = AreResultsAt F top q (map (placed []) cs) list
 
 -- a descendant segment gives the child segment's results at the node, then those of each child's subtree (section 2.5.2.2)
 abbrev pub DescendantsInDocumentOrder : Type 0
@@ -45,3 +52,32 @@ DescendantsInDocumentOrder =
     → IsResult F top (query current (segment child seg more)) v here
     → AreChildren v cs → AreSubtreeResults F top (query current (segment descendant seg more)) cs below
     → list ≡ here ++ below
+
+-- every well-typed query has a result at every node (section 2.1.2)
+abbrev pub EveryQueryHasAResult : Type 0
+EveryQueryHasAResult =
+    (F : FunctionSet) (top : Data) (q : Query) (node : Data) → IsTyped F.signature q → (list : List Located) × IsResult F top q node list
+
+-- one of the two holds, and not both
+abbrev pub ExactlyOne : Type 0 → Type 0 → Type 0
+ExactlyOne P Q = (P ⊎ Q) × (P → Q → ⊥)
+
+-- of two different derivations of a well-typed query at one node, exactly one comes before the other
+abbrev pub OrderIsTotal : Type 0
+OrderIsTotal =
+    (F : FunctionSet) (top : Data) (kind : QueryKind) (segs : Segments) (node : Data) (xs ys : List Triple) → IsTyped F.signature (query kind segs)
+    → Derives F top segs (start_of kind top node) xs → Derives F top segs (start_of kind top node) ys → xs ≢ ys
+    → ExactlyOne (Before segs xs ys) (Before segs ys xs)
+
+-- the segments, and one more after them
+abbrev pub with_segment : Segments → SegmentKind → Segment → Segments
+with_segment no_segments reach seg = segment reach seg no_segments
+with_segment (segment kind first more) reach seg = segment kind first (with_segment more reach seg)
+
+-- a query with one more segment selects what that segment selects at each node of the shorter one, in order (section 2.1.2)
+abbrev pub LastSegmentSelectsAtEach : Type 0
+LastSegmentSelectsAtEach =
+    (F : FunctionSet) (top : Data) (kind : QueryKind) (segs : Segments) (reach : SegmentKind) (seg : Segment) (node : Data) (shorter longer : List Located)
+    → IsTyped F.signature (query kind (with_segment segs reach seg))
+    → IsResult F top (query kind segs) node shorter → IsResult F top (query kind (with_segment segs reach seg)) node longer
+    → AreResultsAt F top (query current (segment reach seg no_segments)) shorter longer

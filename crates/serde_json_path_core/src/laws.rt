@@ -9,12 +9,24 @@ ghost use Rattle.serde_json_path_syntax.specs.Calls.{EachCall};
 ghost use Rattle.serde_json_path_core.specs.Clear.{GoesWithoutPattern, IsClear};
 ghost use Rattle.serde_json_path_core.specs.Derivation.{Triple, Before};
 ghost use Rattle.serde_json_path_core.specs.Meaning.{IsResult};
-ghost use Rattle.serde_json_path_core.specs.Laws.{SingularQuerySelectsAtMostOne, NotEqualNegatesEqual, LessOrEqualIsEither, DescendantsInDocumentOrder};
+ghost use Rattle.serde_json_path_core.specs.Laws.{DescendantsInDocumentOrder, EveryQueryHasAResult, LastSegmentSelectsAtEach, LessOrEqualIsEither, NotEqualNegatesEqual, OrderIsTotal, SingularQuerySelectsAtMostOne};
 
 /// Of two derivations of one query, at most one comes before the other (RFC 9535, sections 2.5.1.2 and 2.5.2.2).
 pub fn law_before_is_asymmetric()
     ensures { (q : Query) (xs ys : List Triple) → Before (segments_of q) xs ys
         → Before (segments_of q) ys xs → ⊥ }
+{}
+
+/// Of two different derivations of a well-typed query at one node, exactly one comes before the other (RFC 9535, sections
+/// 2.5.1.2 and 2.5.2.2).
+pub fn law_order_is_total()
+    ensures { OrderIsTotal }
+{}
+
+/// Every well-typed query has a result at every node, whatever the function set and the document. With
+/// [`law_result_is_unique`] a result is a function of them.
+pub fn law_result_exists()
+    ensures { EveryQueryHasAResult }
 {}
 
 /// A query has one result at most, whatever the function set and the document.
@@ -52,6 +64,14 @@ pub fn law_less_or_equal_is_either()
 /// The RFC leaves the order of an object's members open; here it is that of the bytes of their names.
 pub fn law_descendants_in_document_order()
     ensures { DescendantsInDocumentOrder }
+{}
+
+/// The result of a query with one more segment is, for each node of the shorter query's result in order, what that segment
+/// selects at the node, below the node's location (RFC 9535, section 2.1.2).
+///
+/// The longer query is well-typed, and both have the same root.
+pub fn law_append()
+    ensures { LastSegmentSelectsAtEach }
 {}
 
 /// A query is clear if no function that it calls stands for `match` or `search`.

@@ -36,6 +36,7 @@ pub use located_node_list::LocatedNodeList;
 pub use node_list::NodeList;
 pub use normalized_path::NormalizedPath;
 pub use path_element::PathElement;
+pub use quoted::Quoted;
 
 #[cfg(test)]
 mod tests;

@@ -1,4 +1,4 @@
-//! Names as a normalised path writes them.
+//! Texts as paths write them.
 
 ghost use Rattle.std.specs.Prelude.{Some};
 ghost use Rattle.serde_json_path_nodes.specs.Text.{quoted};
@@ -6,9 +6,9 @@ ghost use Rattle.serde_json_path_nodes.specs.Text.{quoted};
 use crate::escape::escaped;
 use std::fmt;
 
-/// A name in single quotes, with the escapes of `escaped`.
+/// A text that prints itself in single quotes, with the escapes of [`escaped`].
 #[derive(Clone, Copy)]
-pub(crate) struct Quoted<'b>(pub(crate) &'b str);
+pub struct Quoted<'b>(pub &'b str);
 
 impl<'b> fmt::Display for Quoted<'b> {
     ghost output = { λ q. Some (quoted q.0.now) };

@@ -6,3 +6,5 @@ pub mod Reading
 pub mod Grammar
 -- steps of the code
 pub mod Steps
+-- printed texts read back
+pub mod Printing

@@ -1,6 +1,6 @@
 -- What a filter compares or tests: a literal, a query or a call, which is read before its use is known; and what decides
 -- how it may be used.
-use Rattle.std.specs.Prelude.{◌≡◌, ℕ, ◌+◌, ◌%◌, ◌==◌, ◌&&◌, ◌||◌, Bool, true, false, ℤ, pos, negsuc, List, [], ◌∷◌, ◌++◌, Option, Some, None, codes}
+use Rattle.std.specs.Prelude.{◌≡◌, ℕ, ◌+◌, ◌%◌, ◌==◌, ◌&&◌, ◌||◌, Bool, true, false, ℤ, pos, negsuc, List, [], ◌++◌, Option, Some, None, codes}
 use Rattle.serde_json_path_syntax.specs.Calls.{calls_of, calls_from}
 use Rattle.serde_json_path_syntax.specs.Tree.{Query, query, Segments, no_segments, segment, child, descendant, Segment, dot_name, long_hand, selector, no_selectors, name, index, Call, Argument, literal_argument, query_argument, call_argument, logical_argument, Literal, number}
 use Rattle.serde_json_path_syntax.specs.Typing.{result_kind}

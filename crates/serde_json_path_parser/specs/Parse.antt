@@ -1,5 +1,5 @@
 -- What a parse answers, whatever way it is asked.
-use Rattle.std.specs.Prelude.{◌≡◌, ◌≢◌, ◌==◌, ℕ, ◌-◌, ◌<◌, ◌≤◌, ◌⊎◌, ◌↔◌, Bool, false, List, ◌∷◌, ◌++◌, length, take, drop, codes, Option, Result, IfOk, IfErr, IsErrAnd}
+use Rattle.std.specs.Prelude.{◌≡◌, ◌≢◌, ℕ, ◌-◌, ◌<◌, ◌≤◌, ◌⊎◌, ◌↔◌, Bool, false, List, ◌++◌, length, take, drop, codes, Option, Result, IfOk, IfErr, IsErrAnd}
 use Rattle.std.specs.Result.{result_map_both}
 use Rattle.std.specs.Str.{chars, IsCharBoundary}
 use Rattle.serde_json_path_syntax.specs.declared.checked.Checked.{Checked}

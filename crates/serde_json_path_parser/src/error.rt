@@ -8,7 +8,8 @@ use std::fmt;
 
 /// What is wrong with a text that is refused as a path.
 ///
-/// The kinds from `ExpectedClosingBracket` to `NestedTooDeep`, and `FractionTooLong`, stand inside a bracket.
+/// The messages of the kinds from `ExpectedClosingBracket` to `NestedTooDeep`, and of `FractionTooLong`, begin with
+/// `in long-hand segment, `.
 #[derive(Clone, Copy, Debug, PartialEq, Eq)]
 pub enum ParseErrorKind {
     /// There is no `$` at the start.

@@ -1,10 +1,17 @@
-//! A law of the typed grammar, the contract of a function with an empty body.
+//! Laws of the grammar and of the typed grammar, each the contract of a function with an empty body.
 
-ghost use Rattle.serde_json_path_parser.specs.Laws.{OneTreeAtMost};
+ghost use Rattle.serde_json_path_parser.specs.Laws.{OneTreeAtMost, PrintedTextReadsBack};
 
 /// A text is accepted with one tree at most, whatever functions are declared.
 ///
 /// It reads as at most one tree from the root that is well-typed under the signatures and nested at most 128 deep.
 pub fn law_one_tree_at_most()
     ensures { OneTreeAtMost }
+{}
+
+/// A tree that some text reads as is printed as a text that reads as it.
+///
+/// The printed text may differ from the one that was read, as in blanks, quotes and escapes.
+pub fn law_print()
+    ensures { PrintedTextReadsBack }
 {}

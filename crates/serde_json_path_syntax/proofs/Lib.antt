@@ -8,3 +8,5 @@ pub mod Names
 pub mod Lists
 -- printed texts
 pub mod Printing
+-- equality
+pub mod Equality

@@ -1,4 +1,8 @@
 -- Printed texts.
 
+-- texts that are printed one after another
+pub mod Joined
+-- the digits of a fraction, one after another
+pub mod Fractions
 -- worked cases of printed texts
 pub mod WorkedTexts

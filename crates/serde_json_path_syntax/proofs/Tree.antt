@@ -10,3 +10,5 @@ pub mod Bounds
 pub mod BoundedParts
 -- a bracket with two selectors or more is not singular
 pub mod SingularParts
+-- nodes that are copies one by one
+pub mod Copies

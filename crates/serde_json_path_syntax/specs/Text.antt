@@ -1,7 +1,7 @@
 -- The text in which a query is printed, as the bytes of its UTF-8.
 use Rattle.std.specs.Prelude.{ℕ, zero, suc, ◌*◌, ◌/◌, ◌%◌, ◌==◌, ℤ, pos, negsuc, List, [], ◌∷◌, ◌++◌, true, false, Option, Some, None, codes, if◌then◌else◌}
+use Rattle.std.specs.List.{flat_map}
 use Rattle.std.specs.Fmt.{decimal, signed_decimal}
-use Rattle.std.specs.Char.{digit_char}
 use Rattle.serde_json_path_nodes.specs.Text.{quoted}
 use Rattle.serde_json_path_syntax.specs.Tree.{Query, query, QueryKind, root, current, Segments, no_segments, segment, SegmentKind, child, descendant, Segment, dot_name, dot_wildcard, long_hand, Selectors, no_selectors, selector, Selector, name, wildcard, index, slice, filter, Slice, LogicalOr, no_or, or, LogicalAnd, no_and, and, Basic, paren, not_paren, relation, exist, not_exist, test, not_test, Comparable, literal, singular, called, Call, call, Arguments, no_arguments, argument, Argument, literal_argument, query_argument, call_argument, logical_argument, Operator, equal, not_equal, less, less_or_equal, greater, greater_or_equal, Literal, text, number, truth, null}
 
@@ -9,7 +9,7 @@ use Rattle.serde_json_path_syntax.specs.Tree.{Query, query, QueryKind, root, cur
 abbrev pub fraction_digits : ℕ → ℕ → List ℕ
 fraction_digits zero rest = []
 fraction_digits (suc places) rest =
-    if rest == 0 then [] else (digit_char (rest / 100000000) ∷ fraction_digits places ((rest % 100000000) * 10))
+    if rest == 0 then [] else (decimal (rest / 100000000) ++ fraction_digits places ((rest % 100000000) * 10))
 
 -- a point and the fraction's digits, unless it is 0
 abbrev pub fraction_text : ℕ → List ℕ
@@ -63,6 +63,11 @@ abbrev pub bracket_dots_of : SegmentKind → List ℕ
 bracket_dots_of child = []
 bracket_dots_of descendant = codes ".."
 
+-- texts, with a separator between each two
+abbrev pub joined : List ℕ → List (List ℕ) → List ℕ
+joined separator [] = []
+joined separator (first ∷ more) = first ++ flat_map (λ t. separator ++ t) more
+
 abbrev mutual
   pub query_text : Query → List ℕ
   query_text (query kind segs) = query_kind_text kind ++ segments_text segs
@@ -74,16 +79,11 @@ abbrev mutual
   pub segment_text : Segment → SegmentKind → List ℕ
   segment_text (dot_name k) kind = dots_of kind ++ k
   segment_text dot_wildcard kind = dots_of kind ++ codes "*"
-  segment_text (long_hand sels) kind = ((bracket_dots_of kind ++ codes "[") ++ selectors_text sels) ++ codes "]"
+  segment_text (long_hand sels) kind = ((bracket_dots_of kind ++ codes "[") ++ joined (codes ", ") (selector_texts sels)) ++ codes "]"
 
-  -- parts are joined by `, `, ` || ` and ` && `
-  pub selectors_text : Selectors → List ℕ
-  selectors_text no_selectors = []
-  selectors_text (selector sel more) = selector_text sel ++ more_selectors_text more
-
-  pub more_selectors_text : Selectors → List ℕ
-  more_selectors_text no_selectors = []
-  more_selectors_text (selector sel more) = (codes ", " ++ selector_text sel) ++ more_selectors_text more
+  pub selector_texts : Selectors → List (List ℕ)
+  selector_texts no_selectors = []
+  selector_texts (selector sel more) = selector_text sel ∷ selector_texts more
 
   pub selector_text : Selector → List ℕ
   selector_text (name k) = quoted k
@@ -94,19 +94,19 @@ abbrev mutual
 
   pub or_text : LogicalOr → List ℕ
   or_text no_or = []
-  or_text (or a more) = and_text a ++ more_or_text more
+  or_text (or a more) = joined (codes " || ") (and_text a ∷ and_texts more)
 
-  pub more_or_text : LogicalOr → List ℕ
-  more_or_text no_or = []
-  more_or_text (or a more) = (codes " || " ++ and_text a) ++ more_or_text more
+  pub and_texts : LogicalOr → List (List ℕ)
+  and_texts no_or = []
+  and_texts (or a more) = and_text a ∷ and_texts more
 
   pub and_text : LogicalAnd → List ℕ
   and_text no_and = []
-  and_text (and b more) = basic_text b ++ more_and_text more
+  and_text (and b more) = joined (codes " && ") (basic_text b ∷ basic_texts more)
 
-  pub more_and_text : LogicalAnd → List ℕ
-  more_and_text no_and = []
-  more_and_text (and b more) = (codes " && " ++ basic_text b) ++ more_and_text more
+  pub basic_texts : LogicalAnd → List (List ℕ)
+  basic_texts no_and = []
+  basic_texts (and b more) = basic_text b ∷ basic_texts more
 
   pub basic_text : Basic → List ℕ
   basic_text (paren e) = (codes "(" ++ or_text e) ++ codes ")"
@@ -123,15 +123,11 @@ abbrev mutual
   comparable_text (called c) = call_text c
 
   pub call_text : Call → List ℕ
-  call_text (call f args) = ((f ++ codes "(") ++ arguments_text args) ++ codes ")"
+  call_text (call f args) = ((f ++ codes "(") ++ joined (codes ", ") (argument_texts args)) ++ codes ")"
 
-  pub arguments_text : Arguments → List ℕ
-  arguments_text no_arguments = []
-  arguments_text (argument a more) = argument_text a ++ more_arguments_text more
-
-  pub more_arguments_text : Arguments → List ℕ
-  more_arguments_text no_arguments = []
-  more_arguments_text (argument a more) = (codes ", " ++ argument_text a) ++ more_arguments_text more
+  pub argument_texts : Arguments → List (List ℕ)
+  argument_texts no_arguments = []
+  argument_texts (argument a more) = argument_text a ∷ argument_texts more
 
   pub argument_text : Argument → List ℕ
   argument_text (literal_argument l) = literal_text l

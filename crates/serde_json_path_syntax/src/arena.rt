@@ -2,6 +2,7 @@
 
 ghost use Rattle.serde_json_path_syntax.specs.Flat.{IsGrown};
 
+use crate::copies::copies_of;
 use crate::node::{Node, Part};
 use std::alloc::{AllocError, Global};
 
@@ -42,6 +43,19 @@ impl Arena {
         let number = self.nodes.len();
         self.nodes.push(node)?;
         Ok(Part { number })
+    }
+
+    /// A copy of the nodes. An error comes only where memory is refused.
+    pub(crate) fn try_clone(&self, alloc: Global) -> Result<Arena, AllocError>
+        ensures pieces { IfOk result (λ copy.
+            pieces copy.nodes.items ≡ pieces self.now.nodes.items) }
+        ensures calls { IfOk result (λ copy.
+            calls_among copy.nodes.items ≡ calls_among self.now.nodes.items) }
+        ensures length { IfOk result (λ copy.
+            length copy.nodes.items ≡ length self.now.nodes.items) }
+    {
+        let nodes = copies_of(self.nodes.as_slice(), alloc)?;
+        Ok(Arena { nodes })
     }
 
     /// The nodes, in order.

@@ -14,7 +14,7 @@ use crate::arena::Arena;
 use crate::node::{Node, Part, QueryKind, Segment, SegmentKind, Selector};
 use crate::selector_ref::SelectorRef;
 use serde_json_path_functions::{FunctionArgType, Functions};
-use std::alloc::Global;
+use std::alloc::{AllocError, Global};
 
 /// A well-typed query from the document's root.
 ///
@@ -33,7 +33,7 @@ pub struct Checked {
 }
 
 impl Checked {
-    ghost use Rattle.std.specs.Prelude.{ℕ, List, map, Some};
+    ghost use Rattle.std.specs.Prelude.{ℕ, List, map, Some, IfOk, string_bytes};
     ghost use Rattle.serde_json_path_syntax.specs.Lists.{IsIn};
     ghost use Rattle.serde_json_path_syntax.specs.Tree.{query, no_segments, segments_of};
     ghost use Rattle.serde_json_path_functions.specs.Functions.{FunctionSet, Signature};
@@ -43,6 +43,7 @@ impl Checked {
     ghost use Rattle.serde_json_path_syntax.specs.Used.{MayFinish};
     ghost use Rattle.serde_json_path_syntax.specs.Flat.{or_at, ors_in, and_at, ands_in, call_at, arguments_in, part_query, kind_view as query_kind_view, segment_kind_view, piece_at, piece_of, pieces, pieces_named, segment_at, segments_at, selector_at, selectors_at, NamesBelow};
     ghost use Rattle.serde_json_path_syntax.specs.Stages.{selectors_list};
+    ghost use Rattle.serde_json_path_syntax.specs.Text.{query_text};
     ghost use Rattle.serde_json_path_syntax.specs.Parts.{nodes_in, number_of, tree_of, signatures_of};
     ghost use Rattle.serde_json_path_syntax.specs.PartBounds.{parts_bound, selector_bound};
 
@@ -68,6 +69,29 @@ impl Checked {
             arena,
             query: Some(part),
         }
+    }
+
+    /// A copy of the query, with the signatures that it keeps.
+    ///
+    /// An error comes only where memory is refused.
+    pub fn try_clone(&self, alloc: Global) -> Result<Checked, AllocError>
+        ensures tree { IfOk result (λ copy. tree_of copy ≡ tree_of self.now) }
+        ensures used { IfOk result (λ copy. signatures_of copy ≡ signatures_of self.now) }
+    {
+        let arena = self.arena.try_clone(alloc)?;
+        Ok(Checked {
+            arena,
+            query: self.query,
+        })
+    }
+
+    /// The path as text, as Display prints it, in one growing text.
+    ///
+    /// An error comes only where memory is refused.
+    pub fn to_text(&self, alloc: Global) -> Result<String, AllocError>
+        ensures { IfOk result (λ text. string_bytes text ≡ query_text (tree_of self.now)) }
+    {
+        self.to_string(alloc)
     }
 
     /// Whether the set declares each function that the query calls, with the signature under which the query is
@@ -219,7 +243,7 @@ impl Checked {
     }
 
     /// A selector in brackets.
-    fn selector(&self, part: Part) -> SelectorRef<'_>
+    pub(crate) fn selector(&self, part: Part) -> SelectorRef<'_>
         requires within { part.number < length (nodes_in self.now) }
         requires typed { UnderSome IsTypedSelector (selector_at (nodes_in self.now) part) }
         ensures selector_ref { selector_view (nodes_in self.now) result

@@ -11,16 +11,20 @@
 //! ```
 //!
 //! Definitions are in `specs/`: `Tree` has the trees, `WellFormed` the range of their numbers, `Typing` which are
-//! well-typed, `Depth` how deep they nest, `Calls` what they call, `Text` how they print.
+//! well-typed, `Depth` how deep they nest, `Calls` what they call, `Text` how they print,
+//! `SameTree` when they are the same.
 #![tactic(auto)]
 
 mod arena;
 mod builder;
 mod checked;
+mod copies;
+mod equal;
 mod literal;
 mod node;
 mod operator;
 mod parts;
+mod print;
 mod selector_ref;
 mod singular;
 mod slice;

@@ -3,9 +3,10 @@
 ghost use Rattle.serde_json_path_syntax.specs.WellFormed.{IsLiteralAmount};
 
 use serde_json::Value;
+use std::alloc::{AllocError, Global};
 
 /// One, in billionths.
-const ONE: i128 = 1_000_000_000;
+pub(crate) const ONE: i128 = 1_000_000_000;
 
 /// The least number of a literal, -2^63, in billionths.
 const LEAST: i128 = -(1 << 63) * ONE;
@@ -73,7 +74,7 @@ pub enum Literal {
 }
 
 impl Literal {
-    ghost use Rattle.std.specs.Prelude.{◌↔◌, IsTrue};
+    ghost use Rattle.std.specs.Prelude.{◌≡◌, ◌↔◌, IfOk, IsTrue};
     ghost use Rattle.serde_json_path_syntax.specs.Literals.{literal_view};
     ghost use Rattle.serde_json_path_syntax.specs.Typing.{IsValueLiteral};
 
@@ -85,6 +86,18 @@ impl Literal {
         match self {
             Literal::Number(number) => number.billionths % ONE == 0,
             Literal::String(_) | Literal::Bool(_) | Literal::Null => true,
+        }
+    }
+
+    /// A copy of the literal. An error comes only where memory is refused.
+    pub(crate) fn try_clone(&self, alloc: Global) -> Result<Literal, AllocError>
+        ensures { IfOk result (λ copy. literal_view copy ≡ literal_view self.now) }
+    {
+        match self {
+            Literal::String(text) => Ok(Literal::String(String::from_str(alloc, text.as_str())?)),
+            Literal::Number(number) => Ok(Literal::Number(*number)),
+            Literal::Bool(truth) => Ok(Literal::Bool(*truth)),
+            Literal::Null => Ok(Literal::Null),
         }
     }
 }

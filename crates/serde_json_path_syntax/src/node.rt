@@ -58,7 +58,7 @@ pub enum Selector {
 }
 
 /// An operand of `&&`; the negated forms have `!` before them.
-#[derive(Drop)]
+#[derive(Clone, Copy)]
 pub enum Basic {
     /// A logical expression in parentheses.
     Paren(Part),

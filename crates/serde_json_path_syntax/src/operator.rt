@@ -1,5 +1,9 @@
 //! Comparison operators (RFC 9535, section 2.3.5.1).
 
+ghost use Rattle.std.specs.Prelude.{◌≡◌};
+ghost use Rattle.serde_json_path_syntax.specs.Literals.{operator_view};
+ghost use Rattle.serde_json_path_syntax.specs.Text.{operator_text};
+
 /// How the two sides of a comparison are compared.
 #[derive(Clone, Copy, Debug, PartialEq, Eq)]
 pub enum ComparisonOperator {
@@ -15,4 +19,20 @@ pub enum ComparisonOperator {
     GreaterThan,
     /// `>=`.
     GreaterThanEqualTo,
+}
+
+impl ComparisonOperator {
+    /// The operator as it is written, as `==`.
+    pub fn sign(self) -> &'static str
+        ensures { result.now ≡ operator_text (operator_view self) }
+    {
+        match self {
+            ComparisonOperator::EqualTo => "==",
+            ComparisonOperator::NotEqualTo => "!=",
+            ComparisonOperator::LessThan => "<",
+            ComparisonOperator::LessThanEqualTo => "<=",
+            ComparisonOperator::GreaterThan => ">",
+            ComparisonOperator::GreaterThanEqualTo => ">=",
+        }
+    }
 }

@@ -21,6 +21,7 @@ mod normal_paths;
 mod numbers;
 mod operators;
 mod paths;
+mod printed;
 mod refusals;
 mod rows;
 mod sets;

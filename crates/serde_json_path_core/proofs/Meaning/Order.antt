@@ -1,5 +1,5 @@
 -- Derivations are in an order: never do two stand before each other, and a list in that order is fixed by its members.
-use Rattle.std.proofs.Common.{◌≡◌, ℕ, zero, suc, List, [], ◌∷◌, inl, inr, Less, Greater, refl, sym, ap, subst, ◌∙◌, arith, Some}
+use Rattle.std.proofs.Common.{◌≡◌, ℕ, zero, suc, List, [], ◌∷◌, ◌⊎◌, inl, inr, Less, Greater, refl, sym, ap, subst, ◌∙◌, arith, Some}
 use Rattle.std.specs.List.{AllZip}
 use Rattle.std.specs.Ordering.{ordering_reverse}
 use Rattle.std.proofs.lemmas.Cmp.{nat_list_cmp_total}
@@ -89,6 +89,14 @@ in_order_once R once (x ∷ xs) (y ∷ ys) o p f g =
     let t = in_order_once R once xs ys o.1 p.1
     (λ z h. in_rest R once x y z xs ys e o h (f z (inr h))) (λ z h. in_rest R once y x z ys xs (sym e) p h (g z (inr h))) in
     ap (λ w. w ∷ xs) e ∙ ap (λ ws. y ∷ ws) t
+
+-- of two members of a list in order, one comes before the other unless they are the same
+pub in_order_total : {A : Type 0} (R : A → A → Type 0) (xs : List A) (x y : A) → IsInOrder R xs → IsIn x xs → IsIn y xs → (x ≡ y) ⊎ (R x y ⊎ R y x)
+in_order_total R [] x y o h g = elim h [ ]
+in_order_total R (z ∷ zs) x y o (inl e) (inl f) = inl (e ∙ sym f)
+in_order_total R (z ∷ zs) x y o (inl e) (inr g) = inr (inl (subst (λ w. R w y) (sym e) (o.0 y g)))
+in_order_total R (z ∷ zs) x y o (inr h) (inl f) = inr (inr (subst (λ w. R w x) (sym f) (o.0 x h)))
+in_order_total R (z ∷ zs) x y o (inr h) (inr g) = in_order_total R zs x y o.1 h g
 
 -- ---- results
 

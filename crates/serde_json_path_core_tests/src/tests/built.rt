@@ -1,11 +1,14 @@
 //! Queries out of parts that are made one by one.
 
-ghost use Rattle.std.specs.Prelude.{◌≡◌, [], IfOk};
-ghost use Rattle.serde_json_path_syntax.specs.Parts.{signatures_of};
+ghost use Rattle.std.specs.Prelude.{◌≡◌, ℕ, List, [], IfOk};
+ghost use Rattle.serde_json_path_syntax.specs.Parts.{IsPart, calls_in, signatures_of};
+ghost use Rattle.serde_json_path_syntax.specs.Piece.{a_selector};
+ghost use Rattle.serde_json_path_syntax.specs.Tree.{name};
 
 use serde_json::Value;
 use serde_json_path_core::{
-    Checked, Parts, QueryKind, SegmentKind, Slice, SyntaxBuilder, evaluate, evaluate_located, walk,
+    Checked, Part, Parts, QueryKind, SegmentKind, Slice, SyntaxBuilder, evaluate, evaluate_located,
+    walk,
 };
 use serde_json_path_functions::Builtin;
 use serde_json_path_nodes::LocatedNodeList;
@@ -27,18 +30,43 @@ fn first_of_member(alloc: Global) -> Result<Checked, Fail>
     Ok(builder.finish(query))
 }
 
-/// The query `$['a','b']`, for which the part of `'b'` is made first.
+/// The query of one bracket with two names, whose parts are there.
+fn two_names(
+    alloc: Global,
+    mut builder: SyntaxBuilder,
+    first: Part,
+    second: Part,
+) -> Result<Checked, Fail>
+    requires first { (k : List ℕ) × IsPart builder first (a_selector (name k)) }
+    requires second { (k : List ℕ) × IsPart builder second (a_selector (name k)) }
+    requires silent { calls_in builder ≡ [] }
+    ensures { IfOk result (λ query. signatures_of query ≡ []) }
+{
+    let selectors = Parts::from(vec![in alloc; first, second]?);
+    let bracket = builder.long_hand(SegmentKind::Child, selectors)?;
+    let segments = Parts::from(vec![in alloc; bracket]?);
+    let query = builder.query(QueryKind::Root, segments)?;
+    Ok(builder.finish(query))
+}
+
+/// The query `$['a', 'b']`, its parts made in order.
+fn made_in_order(alloc: Global) -> Result<Checked, Fail>
+    ensures { IfOk result (λ query. signatures_of query ≡ []) }
+{
+    let mut builder = SyntaxBuilder::new(alloc);
+    let first = builder.name(String::from_str(alloc, "a")?)?;
+    let second = builder.name(String::from_str(alloc, "b")?)?;
+    two_names(alloc, builder, first, second)
+}
+
+/// The query `$['a', 'b']`, for which the part of `'b'` is made first.
 fn made_from_the_end(alloc: Global) -> Result<Checked, Fail>
     ensures { IfOk result (λ query. signatures_of query ≡ []) }
 {
     let mut builder = SyntaxBuilder::new(alloc);
     let second = builder.name(String::from_str(alloc, "b")?)?;
     let first = builder.name(String::from_str(alloc, "a")?)?;
-    let selectors = Parts::from(vec![in alloc; first, second]?);
-    let bracket = builder.long_hand(SegmentKind::Child, selectors)?;
-    let segments = Parts::from(vec![in alloc; bracket]?);
-    let query = builder.query(QueryKind::Root, segments)?;
-    Ok(builder.finish(query))
+    two_names(alloc, builder, first, second)
 }
 
 /// The query `$..*[*,1:]`.
@@ -127,5 +155,18 @@ fn tells_a_singular_query(rt: HostRuntime) -> Result<(), Fail> {
     let mut builder = SyntaxBuilder::new(rt.alloc());
     let query = builder.query(QueryKind::Root, Parts::new(rt.alloc()))?;
     assert!(rt; builder.is_singular(query));
+    Ok(())
+}
+
+#[test]
+fn prints_and_copies_by_the_tree(rt: HostRuntime) -> Result<(), Fail> {
+    let alloc = rt.alloc();
+    let query = made_in_order(alloc)?;
+    let other = made_from_the_end(alloc)?;
+    assert_eq!(rt; query.to_text(alloc)?.as_str(), "$['a', 'b']");
+    assert_eq!(rt; other.to_string(alloc)?.as_str(), "$['a', 'b']");
+    assert!(rt; query == other);
+    assert!(rt; query.try_clone(alloc)? == query);
+    assert!(rt; query != first_of_member(alloc)?);
     Ok(())
 }

@@ -1,7 +1,7 @@
 -- What the whole reading says of a text: the promises of a parse.
-use Rattle.std.proofs.Common.{◌≡◌, ◌≢◌, ℕ, ◌+◌, ◌-◌, ◌<◌, ◌≤◌, inl, inr, ◌↔◌, Bool, true, false, true≢false, List, [], ◌∷◌, ◌++◌, length, take, drop, Option, Ok, Err, refl, sym, ap, subst, ◌∙◌, arith}
+use Rattle.std.proofs.Common.{◌≡◌, ◌≢◌, ℕ, ◌+◌, ◌-◌, ◌<◌, ◌≤◌, inl, inr, ◌↔◌, false, true≢false, List, [], ◌∷◌, ◌++◌, length, take, drop, Option, Ok, Err, refl, sym, ap, subst, ◌∙◌, arith}
 use Rattle.std.specs.Prelude.{◌&&◌}
-use Rattle.std.specs.Str.{chars, IsUtf8, IsCharBoundary, encode_utf8_all, all_scalars}
+use Rattle.std.specs.Str.{chars, IsUtf8, IsCharBoundary, encode_utf8_all}
 use Rattle.std.proofs.lemmas.List.{length-append}
 use Rattle.std.proofs.Math.Seq.{take-append_seam, drop-append_seam}
 use Rattle.std.proofs.lemmas.Str.{IsCharBoundary-start, chars-encodes, scalars-chars}
@@ -25,7 +25,8 @@ use Rattle.serde_json_path_parser.specs.Filters.{path_at}
 use Rattle.serde_json_path_parser.specs.Giving.{Fails, IsRefused, IsWithin, error_of}
 use Rattle.serde_json_path_parser.specs.Parse.{is_dollar, NeedsNoMemory, Answers, checked_view}
 use Rattle.serde_json_path_parser.proofs.Reading.Regrouped.{past_all}
-use Rattle.serde_json_path_parser.proofs.Grammar.Paths.{ArePathSegments, path_sound, path_again, NoRoot, TextAfter, SegmentRefused, path_refused, scalars_after, boundary}
+use Rattle.serde_json_path_parser.proofs.Grammar.Paths.{ArePathSegments, path_sound, path_again, NoRoot, TextAfter, SegmentRefused, path_refused, boundary}
+use Rattle.serde_json_path_parser.proofs.Printing.Spelling.{scalars_of}
 use Rattle.serde_json_path_parser.proofs.Reading.Stands.{is_plain, Inner}
 use Rattle.serde_json_path_parser.proofs.Reading.Steps.{ok_is}
 
@@ -64,15 +65,7 @@ path_before text path rest left u split is =
     let cut : length text - left ≡ length (encode_utf8_all (36 ∷ path)) = omega (arith, long) in
     let front : take (length text - left) text ≡ encode_utf8_all (36 ∷ path) =
     ap (λ (n : ℕ). take n text) cut ∙ ap (take (length (encode_utf8_all (36 ∷ path)))) b.2 ∙ take-append_seam (encode_utf8_all (36 ∷ path)) (encode_utf8_all rest) in
-    ap chars front ∙ chars-encodes (36 ∷ path) (scalars_front (36 ∷ path) rest (ap all_scalars (sym split) ∙ scalars-chars text u))
-  where
-    both : (a b c : Bool) → (a && b) ≡ true → (b ≡ true → c ≡ true) → (a && c) ≡ true
-    both true b c e f = f e
-    both false b c e f = e
-
-    scalars_front : (xs ys : List ℕ) → all_scalars (xs ++ ys) ≡ true → all_scalars xs ≡ true
-    scalars_front [] ys e = refl
-    scalars_front (x ∷ xs) ys e = both _ (all_scalars (xs ++ ys)) (all_scalars xs) e (scalars_front xs ys)
+    ap chars front ∙ chars-encodes (36 ∷ path) (scalars_of (chars text) (36 ∷ path) rest (scalars-chars text u) split).0
 
 -- ---- the text from a refusal on
 
@@ -84,7 +77,7 @@ text_from text before rest left u split is =
     let cut : length text - left ≡ length (encode_utf8_all before) = omega (arith, long) in
     let after : drop (length text - left) text ≡ encode_utf8_all rest =
     ap (λ (n : ℕ). drop n text) cut ∙ ap (drop (length (encode_utf8_all before))) b.2 ∙ drop-append_seam (encode_utf8_all before) (encode_utf8_all rest) in
-    ap chars after ∙ chars-encodes rest (scalars_after before rest (ap all_scalars (sym split) ∙ scalars-chars text u))
+    ap chars after ∙ chars-encodes rest (scalars_of (chars text) before rest (scalars-chars text u) split).1
 
 -- ---- what a refusal tells
 

@@ -3,7 +3,7 @@ use Rattle.std.proofs.Common.{◌≡◌, ℕ, ◌≤◌, true, false, cond, List
 use Rattle.std.specs.Prelude.{◌==◌, encode_utf8}
 use Rattle.std.specs.Str.{encode_utf8_all, all_scalars, chars, IsUtf8, IsCharBoundary}
 use Rattle.std.proofs.lemmas.List.{append-nil, length-append, nil_from_length}
-use Rattle.std.proofs.lemmas.Bool.{eqb-true, and_parts}
+use Rattle.std.proofs.lemmas.Bool.{eqb-true}
 use Rattle.serde_json_path_syntax.specs.Tree.{SegmentKind, Segments, Segment}
 use Rattle.serde_json_path_syntax.specs.Typing.{AreTypedSegments}
 use Rattle.serde_json_path_syntax.specs.Depth.{segments_depth}
@@ -23,6 +23,7 @@ use Rattle.serde_json_path_parser.proofs.Grammar.Filters.{filter_laws, filters_s
 use Rattle.serde_json_path_parser.proofs.Grammar.Levels.{level_laws}
 use Rattle.serde_json_path_parser.proofs.Grammar.LogicalForms.{IsGoodInside, good_segments, segments_good}
 use Rattle.serde_json_path_parser.proofs.Grammar.Segments.{segments_sound, segments_again, same_segments, no_segments_read, segments_stand}
+use Rattle.serde_json_path_parser.proofs.Printing.Spelling.{scalars_of}
 use Rattle.serde_json_path_parser.proofs.Reading.Steps.{bind_ok, guard, done, ok_is, after_one, chosen}
 use Rattle.std.proofs.lemmas.Str.{encodes-chars, encodes-append, scalars-chars, IsCharBoundary-at_seam}
 use Rattle.serde_json_path_parser.proofs.Reading.Stands.{Inner, Stands, err_is, drop_one}
@@ -159,16 +160,12 @@ module _ (signature : List ℕ → Option Signature) where
 
 -- ---- the place in bytes
 
-pub scalars_after : (xs ys : List ℕ) → all_scalars (xs ++ ys) ≡ true → all_scalars ys ≡ true
-scalars_after [] ys e = e
-scalars_after (x ∷ xs) ys e = scalars_after xs ys (and_parts _ _ e).1
-
 -- where so many bytes are left a character begins
 pub boundary : (text before rest : List ℕ) (left : ℕ) → IsUtf8 text → chars text ≡ before ++ rest → left ≡ length (encode_utf8_all rest)
     → (left ≤ length text) × IsCharBoundary text (length text - left) × (text ≡ encode_utf8_all before ++ encode_utf8_all rest)
 boundary text before rest left u split is =
     let whole : text ≡ encode_utf8_all before ++ encode_utf8_all rest = sym (encodes-chars text u) ∙ ap encode_utf8_all split ∙ encodes-append before rest in
-    let scalars : all_scalars rest ≡ true = scalars_after before rest (ap all_scalars (sym split) ∙ scalars-chars text u) in
+    let scalars : all_scalars rest ≡ true = (scalars_of (chars text) before rest (scalars-chars text u) split).1 in
     let seam : IsCharBoundary text (length (encode_utf8_all before)) = IsCharBoundary-at_seam text (encode_utf8_all before) (encode_utf8_all rest) whole (rest, (scalars, refl)) in
     let sum : length text ≡ length (encode_utf8_all before) + left = ap length whole ∙ length-append (encode_utf8_all before) (encode_utf8_all rest) ∙ ap (λ (n : ℕ). length (encode_utf8_all before) + n) (sym is) in
     (omega (arith, sum), subst (IsCharBoundary text) (omega (arith, sum)) seam, whole)

@@ -1,6 +1,7 @@
 //! The tables of rows, and what is held of each row.
 
 use crate::tests::cuts::cut;
+use crate::tests::printed::prints_again;
 use crate::tests::rows::{fields, parses, selects};
 use crate::tests::{
     blanks, bookstore, calls, comparisons, descendants, filter_refusals, filters, literals, names,
@@ -84,6 +85,15 @@ fn cut_rows(rt: &impl Abort, alloc: Global, rows: &[&str]) -> Result<(), Fail> {
     Ok(())
 }
 
+/// Prints the path of each row, and reads it from that text again.
+fn print_rows(rt: &impl Abort, alloc: Global, rows: &[&str]) -> Result<(), Fail> {
+    for &row in rows {
+        let (text, _) = fields(row)?;
+        prints_again(rt, alloc, text)?;
+    }
+    Ok(())
+}
+
 #[test]
 fn selects_as_rows_tell(rt: HostRuntime) -> Result<(), Fail> {
     for &rows in PATHS {
@@ -125,6 +135,17 @@ fn cuts_paths(rt: HostRuntime) -> Result<(), Fail> {
     }
     for &(_, rows) in OF_DOCUMENTS {
         cut_rows(&rt, rt.alloc(), rows)?;
+    }
+    Ok(())
+}
+
+#[test]
+fn prints_the_paths_of_rows(rt: HostRuntime) -> Result<(), Fail> {
+    for &rows in PATHS {
+        print_rows(&rt, rt.alloc(), rows)?;
+    }
+    for &(_, rows) in OF_DOCUMENTS {
+        print_rows(&rt, rt.alloc(), rows)?;
     }
     Ok(())
 }

@@ -13,6 +13,7 @@ use Rattle.serde_json_path_core.specs.Selected.{beneath}
 use Rattle.serde_json_path_core.specs.Computed.{itself, children, descents, placed, results, results_from, chosen}
 use Rattle.serde_json_path_core.specs.Laws.{AreChildren, AreSubtreeResults}
 use Rattle.serde_json_path_core.proofs.Meaning.ChildSteps.{in_children, children_ordered}
+use Rattle.serde_json_path_core.proofs.Meaning.Beneath.{results_beneath}
 use Rattle.serde_json_path_core.proofs.Meaning.Descents.{below_child, descents_are}
 use Rattle.serde_json_path_core.proofs.Meaning.DerivationEnds.{node_at, ends, results-ends}
 use Rattle.serde_json_path_syntax.proofs.Lists.InLists.{flat_map-same, flat_map-flat_map, map-flat_map}
@@ -27,12 +28,6 @@ children_are v cs h =
     (λ c k. (in_children v c).1 ((h.1 c).0 k)) (λ c k. (h.1 c).1 ((in_children v c).0 k))
 
 module _ (F : FunctionSet) (top : Data) where
-  -- what segments select from a node is what they select from its value, below its location
-  results_beneath : (segs : Segments) (n : Located) → results_from F top segs n ≡ map (beneath n.location) (results_from F top segs (itself n.value))
-  results_beneath segs n =
-      results-ends F top segs n ∙ sym (map-map (beneath n.location) (node_at (itself n.value)) (ends F top segs n.value))
-      ∙ ap (map (beneath n.location)) (sym (results-ends F top segs (itself n.value)))
-
   -- the results at each of the children, below its step, joined
   abbrev subtrees : Query → List (Step × Data) → List Located
   subtrees q cs = flat_map (λ (c : Step × Data). map (beneath (c.0 ∷ [])) (results F top q c.1)) cs
@@ -53,7 +48,7 @@ module _ (F : FunctionSet) (top : Data) where
     each_node v =
         let select : Located → List Located = λ m. flat_map (results_from F top more) (map (placed m.location) (chosen F top seg m.value)) in
         ap (flat_map select) (map-id (descents v))
-        ∙ flat_map-same select at_node (λ m. sym (append-nil (select m)) ∙ results_beneath (segment child seg more) m) (descents v)
+        ∙ flat_map-same select at_node (λ m. sym (append-nil (select m)) ∙ results_beneath F top (segment child seg more) m) (descents v)
 
     -- those below a child are its subtree's
     in_subtree : (c : Step × Data) → flat_map at_node (below_child c) ≡ map (beneath (c.0 ∷ [])) (results F top (query current (segment descendant seg more)) c.1)

@@ -1,39 +1,9 @@
-use Rattle.std.proofs.Common.{refl, ◌∙◌, arith, string_bytes}
+use Rattle.std.proofs.Common.{string_bytes}
 use Rattle.serde_json_path_syntax.specs.Tree as tree
 use Rattle.serde_json_path_syntax.specs.Piece.{a_selector}
-use Rattle.serde_json_path_syntax.specs.Parts.{calls_in}
-use Rattle.serde_json_path_core_tests.proofs.Trees.{two_selectors, one_segment, finished_without_calls}
 use Rattle.serde_json_path_core_tests.proofs.tests.built.made_from_the_end.Goals as goal
 
-pub long_hand-requires : goal.long_hand-requires
-long_hand-requires c =
-    let a = tree.name (string_bytes c.in_ok-from_str-2.field-0) in
-    let b = tree.name (string_bytes c.in_ok-from_str.field-0) in
-    let is_b = c.name-2.ensures.keeps.trees c.in_ok-second.second (a_selector b) c.in_ok-second.ensures.made in (
-      tree.selector a (tree.selector b tree.no_selectors),
-      two_selectors c.name-2.new.self _ c.in_ok-first.first c.in_ok-second.second a b (c.from-selectors.ensures ∙ c.in_ok-vec.ensures.items) c.in_ok-first.ensures.made is_b,
-    )
-
-pub query-requires : goal.query-requires
-query-requires c =
-    let a = tree.name (string_bytes c.in_ok-from_str-2.field-0) in
-    let b = tree.name (string_bytes c.in_ok-from_str.field-0) in
-    let is_b = c.name-2.ensures.keeps.trees c.in_ok-second.second (a_selector b) c.in_ok-second.ensures.made in
-    let both = tree.selector a (tree.selector b tree.no_selectors) in
-    let named = two_selectors c.name-2.new.self _ c.in_ok-first.first c.in_ok-second.second a b (c.from-selectors.ensures ∙ c.in_ok-vec.ensures.items) c.in_ok-first.ensures.made is_b in (
-      tree.segment tree.child (tree.long_hand both) tree.no_segments,
-      one_segment c.long_hand.new.self _ c.in_ok-bracket.bracket tree.child (tree.long_hand both) (c.from-segments.ensures ∙ c.in_ok-vec-2.ensures.items) (c.in_ok-bracket.ensures.made both named),
-    )
-
-pub finish-requires : goal.finish-requires
-finish-requires c =
-    let a = tree.name (string_bytes c.in_ok-from_str-2.field-0) in
-    let b = tree.name (string_bytes c.in_ok-from_str.field-0) in
-    let is_b = c.name-2.ensures.keeps.trees c.in_ok-second.second (a_selector b) c.in_ok-second.ensures.made in
-    let both = tree.selector a (tree.selector b tree.no_selectors) in
-    let named = two_selectors c.name-2.new.self _ c.in_ok-first.first c.in_ok-second.second a b (c.from-selectors.ensures ∙ c.in_ok-vec.ensures.items) c.in_ok-first.ensures.made is_b in
-    let segs = tree.segment tree.child (tree.long_hand both) tree.no_segments in (
-      tree.query tree.root segs,
-      c.in_ok-query.ensures.made segs (one_segment c.long_hand.new.self _ c.in_ok-bracket.bracket tree.child (tree.long_hand both) (c.from-segments.ensures ∙ c.in_ok-vec-2.ensures.items) (c.in_ok-bracket.ensures.made both named)),
-      finished_without_calls (calls_in c.query.new.self) segs (c.query.ensures.keeps.calls ∙ c.long_hand.ensures.keeps.calls ∙ c.name-2.ensures.keeps.calls ∙ c.name.ensures.keeps.calls ∙ c.new-builder.ensures.silent) (λ s. ((tt, (tt, tt)), tt)) refl (omega arith),
-    )
+pub two_names-requires-clause-second : goal.two_names-requires-clause-second
+two_names-requires-clause-second c =
+    let bytes = string_bytes c.in_ok-from_str.field-0 in
+    (bytes, c.name-2.ensures.keeps.trees c.in_ok-second.second (a_selector (tree.name bytes)) c.in_ok-second.ensures.made)

@@ -1,0 +1,9 @@
+use Rattle.std.proofs.Common.{string_bytes}
+use Rattle.serde_json_path_syntax.specs.Tree as tree
+use Rattle.serde_json_path_syntax.specs.Piece.{a_selector}
+use Rattle.serde_json_path_core_tests.proofs.tests.built.made_in_order.Goals as goal
+
+pub two_names-requires-clause-first : goal.two_names-requires-clause-first
+two_names-requires-clause-first c =
+    let bytes = string_bytes c.in_ok-from_str.field-0 in
+    (bytes, c.name-2.ensures.keeps.trees c.in_ok-first.first (a_selector (tree.name bytes)) c.in_ok-first.ensures.made)

@@ -1,0 +1,213 @@
+-- Integers and number literals, as they are printed, read as themselves.
+use Rattle.std.proofs.Common.{◌≡◌, ◌≤◌, ◌<◌, ◌+◌, ◌-◌, ◌*◌, ◌/◌, ◌%◌, ◌^◌, ◌==◌, ℕ, zero, suc, inl, inr, Bool, true, false, if◌then◌else◌, List, [], ◌∷◌, length, map, get_or, refl, sym, ap, subst, ◌∙◌, arith}
+use Rattle.std.specs.Prelude.{nat_le, ℤ, pos, negsuc, ◌-ℤ◌}
+use Rattle.std.specs.Fmt.{decimal, signed_decimal}
+use Rattle.std.specs.List.{AllByRecursion}
+use Rattle.std.specs.Int.Digits.{digits_of, number_from_digits_after, AllBelowBase}
+use Rattle.std.proofs.Math.Nat.{pow-succ', mul-sub, mul_comm, mul_assoc}
+use Rattle.std.proofs.lemmas.Bool.Decides.{nat_tests, eqb_tells}
+use Rattle.std.proofs.lemmas.Fmt.{decimal_digit, decimal-digits_of}
+use Rattle.std.proofs.lemmas.Int.{ints}
+use Rattle.std.proofs.lemmas.Int.Digits.{all_below_base_digits_of, first_digits_of, number_digits_of}
+use Rattle.std.proofs.lemmas.Nat.{pow-add}
+use Rattle.serde_json_path_nodes.specs.Text.{in_decimal}
+use Rattle.serde_json_path_syntax.specs.Tree.{largest}
+use Rattle.serde_json_path_syntax.specs.Text.{fraction_digits, fraction_text, amount_text, number_text}
+use Rattle.serde_json_path_parser.specs.Lexical.{begins, is_digit, AllPass, value_from, IsDecimal, IsInt, fraction_of, IsFraction, IsAmount, IsNumber}
+use Rattle.serde_json_path_parser.proofs.Grammar.Integers.{zero_is}
+use Rattle.serde_json_path_parser.proofs.Printing.Spelling.{Spells, Spelt, spell_nothing, spell_both, spell_ascii}
+
+-- ---- digits
+
+digit_is : (d : ℕ) → d < 10 → is_digit (48 + d) ≡ true
+digit_is d small =
+    let from : nat_le 48 (48 + d) ≡ true = grind arith in
+    let to : nat_le (48 + d) 57 ≡ true = grind arith in
+    rw (from, to) refl
+
+begins_digit : (digits : List ℕ) → AllBelowBase 10 digits → 0 < get_or digits 0 0
+    → (begins is_digit (map (λ digit. 48 + digit) digits) ≡ true) × (begins (λ c. c == 48) (map (λ digit. 48 + digit) digits) ≡ false)
+begins_digit [] h some = absurd (omega (arith, some))
+begins_digit (d ∷ ds) h some = (digit_is d h.0, grind (arith, nat_tests, some))
+
+each_digit : (digits : List ℕ) → AllBelowBase 10 digits → AllPass is_digit (map (λ digit. 48 + digit) digits) × AllByRecursion (λ c. c < 128) (map (λ digit. 48 + digit) digits)
+each_digit [] h = (tt, tt)
+each_digit (d ∷ ds) h = let rest = each_digit ds h.1 in ((digit_is d h.0, rest.0), (omega (arith, h.0), rest.1))
+
+-- the digits write their number
+digits_value : (n : ℕ) (digits : List ℕ) → value_from n (map (λ digit. 48 + digit) digits) ≡ number_from_digits_after 10 n digits
+digits_value n [] = refl
+digits_value n (d ∷ ds) =
+    let same : (n * 10) + ((48 + d) - 48) ≡ n * 10 + d = omega arith in
+    ap (λ (m : ℕ). value_from m (map (λ digit. 48 + digit) ds)) same ∙ digits_value (n * 10 + d) ds
+
+-- ---- natural numbers and integers
+
+-- the text is a decimal number of ASCII
+abbrev IsNumeral : ℕ → List ℕ → Type 0
+IsNumeral n t = IsDecimal t n × Spells t t
+
+zero_numeral : IsNumeral 0 (48 ∷ [])
+zero_numeral = (zero_is, spell_ascii (48 ∷ []) (omega arith, tt))
+
+digits_numeral : (n : ℕ) → 0 < n → IsNumeral n (map (λ digit. 48 + digit) (digits_of 10 n))
+digits_numeral n some =
+    let digits = digits_of 10 n in
+    let below = all_below_base_digits_of 10 n (omega arith) in
+    let first = begins_digit digits below (first_digits_of 10 n (omega arith) some) in
+    let each = each_digit digits below in
+    (record { first = first.0; each = each.0; plain = inr first.1; value_of = sym (digits_value 0 digits ∙ number_digits_of 10 n (omega arith)) }, spell_ascii _ each.1)
+
+-- a position as it is printed in a location
+in_decimal_is : (n : ℕ) → IsNumeral n (in_decimal n)
+unfolding in_decimal
+in_decimal_is zero = zero_numeral
+in_decimal_is (suc n) = digits_numeral (suc n) (omega arith)
+
+pub position_spelt : (n : ℕ) → n ≤ largest → Spelt (λ t. IsInt t (pos n)) (in_decimal n)
+position_spelt n most =
+    let d = in_decimal_is n in
+    record { characters = in_decimal n; spells = d.1; is_so = (d.0, (omega (arith, ints, most), omega (arith, ints, most))) }
+
+-- a number as std prints it
+decimal_is : (n : ℕ) → n < 2 ^ 64 → IsNumeral n (decimal n)
+decimal_is zero fits = subst (IsNumeral 0) (sym (decimal_digit 0 (omega arith))) zero_numeral
+decimal_is (suc n) fits = subst (IsNumeral (suc n)) (sym (decimal-digits_of (suc n) (omega arith) fits)) (digits_numeral (suc n) (omega arith))
+
+-- an integer is printed as it reads
+pub int_spelt : (t : List ℕ) (i : ℤ) → IsInt t i → Spelt (λ t. IsInt t i) (signed_decimal i)
+int_spelt t (pos n) is =
+    let fits : n < 2 ^ 64 = let most = is.1.1 in omega (arith, ints, most) in
+    let d = decimal_is n fits in
+    record { characters = decimal n; spells = d.1; is_so = (d.0, is.1) }
+int_spelt t (negsuc n) is =
+    let fits : suc n < 2 ^ 64 = let least = is.1.0 in omega (arith, ints, least) in
+    let d = decimal_is (suc n) fits in
+    record {
+      characters = 45 ∷ decimal (suc n);
+      spells = spell_both (45 ∷ []) (decimal (suc n)) (45 ∷ []) (decimal (suc n)) (spell_ascii (45 ∷ []) (omega arith, tt)) d.1;
+      is_so = ((decimal (suc n), d.0, refl), is.1);
+    }
+
+-- ---- fractions
+
+-- of a fraction in billionths so many places are left to print: it ends in zeros after them
+record Left (places rest : ℕ) : Type 0 where
+  in_range : rest < 1000000000
+  digits : ℕ
+  ends : rest ≡ digits * 10 ^ (9 - places)
+
+nothing_left : (rest : ℕ) → Left 0 rest → rest ≡ 0
+nothing_left rest h = omega (arith, h.in_range, h.ends)
+
+-- what the last places hold once the first digit is taken away
+tail : (digits high unit rest : ℕ) → high * unit ≡ 100000000 → rest ≡ digits * unit → (rest % 100000000) * 10 ≡ (digits - (rest / 100000000) * high) * (10 * unit)
+tail digits high unit rest whole ends =
+    let first = rest / 100000000 in
+    let n = digits - first * high in
+    let taken : unit * (first * high) ≡ first * 100000000 = mul_comm unit (first * high) ∙ mul_assoc first high unit ∙ ap (λ (k : ℕ). first * k) whole in
+    let there : unit * digits ≡ rest = mul_comm unit digits ∙ sym ends in
+    let product : n * (10 * unit) ≡ (n * unit) * 10 = ap (λ (k : ℕ). n * k) (mul_comm 10 unit) ∙ sym (mul_assoc n unit 10) in
+    let less : n * unit ≡ rest - first * 100000000 = mul_comm n unit ∙ mul-sub unit digits (first * high) ∙ rw (taken, there) refl in
+    omega (arith, less) ∙ sym product
+
+-- after one digit more
+one_less : (places rest : ℕ) → suc places ≤ 9 → Left (suc places) rest → Left places ((rest % 100000000) * 10)
+one_less places rest few h =
+    let unit = 10 ^ (9 - suc places) in
+    let eight : places + (9 - suc places) ≡ 8 = omega (arith, few) in
+    let whole : 10 ^ places * unit ≡ 100000000 = sym (pow-add 10 places (9 - suc places)) ∙ ap (λ (k : ℕ). 10 ^ k) eight in
+    let next : 9 - places ≡ suc (9 - suc places) = omega (arith, few) in
+    let ten : 10 ^ (9 - places) ≡ 10 * unit = ap (λ (k : ℕ). 10 ^ k) next ∙ pow-succ' 10 (9 - suc places) in
+    record {
+      in_range = omega arith;
+      digits = h.digits - (rest / 100000000) * 10 ^ places;
+      ends = rw ten (tail h.digits (10 ^ places) unit rest whole h.ends);
+    }
+
+-- the digits that are printed of it, and the number that they write after those of n
+record Writes (n places rest : ℕ) (digits : List ℕ) : Type 0 where
+  few : length digits ≤ places
+  each : AllPass is_digit digits
+  low : AllByRecursion (λ c. c < 128) digits
+  value : value_from n digits * 10 ^ (9 - length digits) ≡ n * 1000000000 + rest
+
+nothing_written : (n places rest : ℕ) → rest ≡ 0 → Writes n places rest []
+nothing_written n places rest none = record { few = omega arith; each = tt; low = tt; value = omega (arith, none) }
+
+shifted : (value power ten n rest : ℕ) → ten ≡ 10 * power → value * ten ≡ (n * 10 + rest / 100000000) * 1000000000 + (rest % 100000000) * 10
+    → value * power ≡ n * 1000000000 + rest
+shifted value power ten n rest e h =
+    let product : value * ten ≡ (value * power) * 10 = ap (λ (k : ℕ). value * k) (e ∙ mul_comm 10 power) ∙ sym (mul_assoc value power 10) in
+    omega (arith, product, h)
+
+one_written : (n places rest : ℕ) (digits : List ℕ) → suc places ≤ 9 → rest / 100000000 < 10 → Writes (n * 10 + rest / 100000000) places ((rest % 100000000) * 10) digits
+    → Writes n (suc places) rest ((48 + rest / 100000000) ∷ digits)
+one_written n places rest digits few small h =
+    let first = rest / 100000000 in
+    let same : (n * 10) + ((48 + first) - 48) ≡ n * 10 + first = omega arith in
+    let next : 9 - length digits ≡ suc (9 - suc (length digits)) = omega (arith, few, h.few) in
+    let ten : 10 ^ (9 - length digits) ≡ 10 * 10 ^ (9 - suc (length digits)) = ap (λ (k : ℕ). 10 ^ k) next ∙ pow-succ' 10 (9 - suc (length digits)) in
+    record {
+      few = omega (arith, h.few);
+      each = (digit_is first small, h.each);
+      low = (omega (arith, small), h.low);
+      value = rw same (shifted (value_from (n * 10 + first) digits) (10 ^ (9 - suc (length digits))) (10 ^ (9 - length digits)) n rest ten h.value);
+    }
+
+digits_written : (n places rest : ℕ) → places ≤ 9 → Left places rest → Writes n places rest (fraction_digits places rest)
+digits_written n zero rest few h = nothing_written n 0 rest (nothing_left rest h)
+digits_written n (suc places) rest few h = elim (eqb_tells rest 0) [
+  | inl none ↦ rw none.1 (nothing_written n (suc places) 0 refl)
+  | inr some ↦
+      let small : rest / 100000000 < 10 = let range = h.in_range in omega (arith, range) in
+      let more = digits_written (n * 10 + rest / 100000000) places ((rest % 100000000) * 10) (omega (arith, few)) (one_less places rest few h) in
+      rw (some.0, decimal_digit (rest / 100000000) small) (one_written n places rest _ few small more)
+]
+
+-- one digit is printed of a fraction that is not 0
+some_digit : (rest : ℕ) → (rest == 0) ≡ false → rest / 100000000 < 10 → 1 ≤ length (fraction_digits 9 rest)
+some_digit rest some small = rw (some, decimal_digit (rest / 100000000) small) (omega arith)
+
+unless : (test : Bool) (x y : List ℕ) → test ≡ false → (if test then x else y) ≡ y
+unless true x y e = absurd cc
+unless false x y e = refl
+
+fraction_is : (rest : ℕ) → rest < 1000000000 → IsFraction (fraction_text rest) rest × Spells (fraction_text rest) (fraction_text rest)
+fraction_is rest range = elim (eqb_tells rest 0) [
+  | inl none ↦ rw none.1 (inl (refl, refl), spell_nothing)
+  | inr some ↦
+      let w = digits_written 0 9 rest (omega arith) (record { in_range = range; digits = rest; ends = omega arith }) in
+      let digits = fraction_digits 9 rest in
+      let first : rest / 100000000 < 10 = omega (arith, range) in
+      let value : rest ≡ fraction_of digits = omega (arith, w.value) in
+      subst (λ t. IsFraction t rest × Spells t t) (sym (unless (rest == 0) [] (46 ∷ digits) some.0))
+      (inr (digits, refl, w.each, some_digit rest some.0 first, w.few, value), spell_ascii (46 ∷ digits) (omega arith, w.low))
+]
+
+-- ---- number literals
+
+amount_is : (n : ℕ) → n < 2 ^ 64 * 1000000000 → IsAmount (amount_text n) n × Spells (amount_text n) (amount_text n)
+amount_is n small =
+    let whole = decimal_is (n / 1000000000) (omega (arith, small)) in
+    let rest = n % 1000000000 in
+    let fraction = fraction_is rest (omega arith) in (
+      (decimal (n / 1000000000), fraction_text rest, n / 1000000000, rest, whole.0, fraction.0, refl, omega arith),
+      spell_both (decimal (n / 1000000000)) (fraction_text rest) (decimal (n / 1000000000)) (fraction_text rest) whole.1 fraction.1,
+    )
+
+-- a number in the range is printed as it reads
+pub number_spelt : (t : List ℕ) (amount : ℤ) → IsNumber t amount → Spelt (λ t. IsNumber t amount) (number_text amount)
+number_spelt t (pos n) is =
+    let small : n < 2 ^ 64 * 1000000000 = let most = is.1.1 in omega (arith, ints, most) in
+    let a = amount_is n small in
+    record { characters = amount_text n; spells = a.1; is_so = ((n, inl (a.0, refl)), is.1) }
+number_spelt t (negsuc n) is =
+    let small : suc n < 2 ^ 64 * 1000000000 = let least = is.1.0 in omega (arith, ints, least) in
+    let a = amount_is (suc n) small in
+    let less : negsuc n ≡ pos 0 -ℤ pos (suc n) = omega (arith, ints) in
+    record {
+      characters = 45 ∷ amount_text (suc n);
+      spells = spell_both (45 ∷ []) (amount_text (suc n)) (45 ∷ []) (amount_text (suc n)) (spell_ascii (45 ∷ []) (omega arith, tt)) a.1;
+      is_so = ((suc n, inr (amount_text (suc n), a.0, refl, less)), is.1);
+    }

@@ -1,0 +1,173 @@
+-- A text between single quotes, as it is printed, reads as a string of it.
+use Rattle.std.proofs.Common.{◌≡◌, ◌<◌, ◌+◌, ◌-◌, ◌/◌, ◌%◌, ◌==◌, ℕ, inl, inr, nat_lt, nat_le, Bool, true, false, if◌then◌else◌, List, [], ◌∷◌, ◌++◌, Option, Some, None, unwrap_or, encode_utf8, refl, sym, ap, subst, append-nil, arith, eqb-true, ltb-true, ltb-false, lt-ltb}
+use Rattle.std.specs.List.{flat_map, AllByRecursion}
+use Rattle.std.specs.Char.{IsScalar, digit_char}
+use Rattle.std.specs.Option.{IfSome}
+use Rattle.std.specs.Str.{chars, all_scalars, IsUtf8}
+use Rattle.std.proofs.lemmas.Bool.{cases_lt, le-ltb, and_parts}
+use Rattle.std.proofs.lemmas.Bool.Decides.{nat_tests}
+use Rattle.std.proofs.lemmas.Str.{encodes-chars, scalars-chars}
+use Rattle.serde_json_path_nodes.specs.Text.{hexadecimal_escape, escape_of, in_quotes, quoted}
+use Rattle.serde_json_path_parser.specs.Lexical.{is_digit, hexadecimal_of, IsHex4, pair_of, escaped_by, is_plain, IsPiece, plain, quote_escape, letter_escape, hex_escape, pair_escape, ArePieces, IsQuote, IsString, ◌∈◌, between}
+use Rattle.serde_json_path_parser.proofs.Printing.Spelling.{Spells, Spelt, spell_nothing, scalars_of, spell_both, spell_ascii, spell_between}
+
+-- ---- a character as it is printed
+
+-- its escape, or itself
+abbrev printed : ℕ → List ℕ
+printed c = unwrap_or (escape_of c) (c ∷ [])
+
+-- an escape is a piece of ASCII, and a character without one stands for itself
+abbrev IsPrinted : ℕ → Option (List ℕ) → Type 0
+IsPrinted c None = is_plain 39 c ≡ true
+IsPrinted c (Some escape) = IsPiece 39 escape c × AllByRecursion (λ d. d < 128) escape
+
+choice : (test : Bool) (c : ℕ) (x y : Option (List ℕ)) → (test ≡ true → IsPrinted c x) → (test ≡ false → IsPrinted c y) → IsPrinted c (if test then x else y)
+choice true c x y here further = here refl
+choice false c x y here further = further refl
+
+-- a backslash and a letter stand for a character
+letter_printed : (c d letter : ℕ) → (c == d) ≡ true → letter < 128 → IsPiece 39 (92 ∷ letter ∷ []) d → IsPrinted c (Some (92 ∷ letter ∷ []))
+letter_printed c d letter same low piece = (subst (IsPiece 39 (92 ∷ letter ∷ [])) (sym (eqb-true c d same)) piece, (omega arith, (low, tt)))
+
+-- a digit that is printed has its value
+hexadecimal_of-digit_char : (d : ℕ) → d < 16 → hexadecimal_of (digit_char d) ≡ Some d
+hexadecimal_of-digit_char d small = elim (cases_lt d 10) [
+  | inl digit ↦
+      let from : nat_le 48 (48 + d) ≡ true = grind arith in
+      let to : nat_le (48 + d) 57 ≡ true = grind arith in
+      let value : (48 + d) - 48 ≡ d = omega arith in
+      rw (lt-ltb d 10 digit, from, to) (ap (λ (n : ℕ). Some n) value)
+  | inr letter ↦
+      let past_digits : nat_le (87 + d) 57 ≡ false = grind arith in
+      let past_capitals : nat_le (87 + d) 70 ≡ false = grind arith in
+      let from_digits : nat_le 48 (87 + d) ≡ true = grind arith in
+      let from_capitals : nat_le 65 (87 + d) ≡ true = grind arith in
+      let from : nat_le 97 (87 + d) ≡ true = grind arith in
+      let to : nat_le (87 + d) 102 ≡ true = grind arith in
+      let value : (87 + d) - 87 ≡ d = omega arith in
+      rw (le-ltb d 10 letter, past_digits, past_capitals, from_digits, from_capitals, from, to) (ap (λ (n : ℕ). Some n) value)
+]
+
+digit_char_ascii : (d : ℕ) → d < 16 → digit_char d < 128
+digit_char_ascii d small = grind (arith, nat_tests)
+
+hexadecimal_printed : (c : ℕ) → nat_lt c 32 ≡ true → IsPrinted c (Some (hexadecimal_escape c))
+hexadecimal_printed c low =
+    let below : c < 32 = ltb-true c 32 low in
+    let high_digit : c / 16 < 16 = omega arith in
+    let low_digit : c % 16 < 16 = omega arith in
+    let digits : IsHex4 (48 ∷ 48 ∷ digit_char (c / 16) ∷ digit_char (c % 16) ∷ []) c =
+    (_, _, _, _, 0, 0, c / 16, c % 16, refl, refl, refl, hexadecimal_of-digit_char (c / 16) high_digit, hexadecimal_of-digit_char (c % 16) low_digit, omega arith) in
+    (hex_escape _ c digits (inl (omega arith)), (omega arith, (omega arith, (omega arith, (omega arith, (digit_char_ascii _ high_digit, (digit_char_ascii _ low_digit, tt)))))))
+
+escape_printed : (c : ℕ) → IsPrinted c (escape_of c)
+escape_printed c =
+    choice (c == 39) c _ _ (λ e. letter_printed c 39 39 e (omega arith) quote_escape) (λ quote.
+    choice (c == 92) c _ _ (λ e. letter_printed c 92 92 e (omega arith) (letter_escape 92 92 refl)) (λ slash.
+    choice (c == 8) c _ _ (λ e. letter_printed c 8 98 e (omega arith) (letter_escape 98 8 refl)) (λ not_8.
+    choice (c == 9) c _ _ (λ e. letter_printed c 9 116 e (omega arith) (letter_escape 116 9 refl)) (λ not_9.
+    choice (c == 10) c _ _ (λ e. letter_printed c 10 110 e (omega arith) (letter_escape 110 10 refl)) (λ not_10.
+    choice (c == 12) c _ _ (λ e. letter_printed c 12 102 e (omega arith) (letter_escape 102 12 refl)) (λ not_12.
+    choice (c == 13) c _ _ (λ e. letter_printed c 13 114 e (omega arith) (letter_escape 114 13 refl)) (λ not_13.
+    choice (nat_lt c 32) c _ _ (hexadecimal_printed c) (λ printable. let from : nat_le 32 c ≡ true = grind (arith, ltb-false c 32 printable) in rw (from, slash, quote) refl))))))))
+
+-- what is printed for a character is a piece that stands for it
+module _ (c : ℕ) where
+  printed_piece : (o : Option (List ℕ)) → IsPrinted c o → IsPiece 39 (unwrap_or o (c ∷ [])) c
+  printed_piece None h = plain c h
+  printed_piece (Some escape) h = h.0
+
+  printed_spells : (o : Option (List ℕ)) → IsPrinted c o → IsScalar c → Spells (unwrap_or o (encode_utf8 c)) (unwrap_or o (c ∷ []))
+  printed_spells None h s = record { scalars = rw s refl; encoded = append-nil (encode_utf8 c) }
+  printed_spells (Some escape) h s = spell_ascii escape h.1
+
+-- ---- a text in quotes
+
+-- the characters of a text as they are printed are pieces that stand for them
+text_pieces : (cs : List ℕ) → ArePieces 39 (flat_map printed cs) cs
+text_pieces [] = refl
+text_pieces (c ∷ cs) = (printed c, flat_map printed cs, printed_piece c (escape_of c) (escape_printed c), text_pieces cs, refl)
+
+-- and are encoded by the bytes that are printed
+text_spells : (cs : List ℕ) → all_scalars cs ≡ true → Spells (flat_map in_quotes cs) (flat_map printed cs)
+text_spells [] e = spell_nothing
+text_spells (c ∷ cs) e =
+    let h = and_parts _ (all_scalars cs) e in
+    spell_both (in_quotes c) (flat_map in_quotes cs) (printed c) (flat_map printed cs) (printed_spells c (escape_of c) (escape_printed c) h.0) (text_spells cs h.1)
+
+-- the bytes of a text are printed in quotes that read as a string of them
+pub quoted_spelt : (bytes : List ℕ) → IsUtf8 bytes → Spelt (λ t. IsString t bytes) (quoted bytes)
+quoted_spelt bytes utf8 =
+    let cs = chars bytes in
+    record {
+      characters = 39 ∷ (flat_map printed cs ++ 39 ∷ []);
+      spells = spell_between 39 39 _ _ (omega arith) (omega arith) (text_spells cs (scalars-chars bytes utf8));
+      is_so = (39, flat_map printed cs, cs, inl refl, text_pieces cs, refl, sym (encodes-chars bytes utf8));
+    }
+
+-- ---- a string's bytes are those of a text
+
+some_so : (P : ℕ → Type 0) (test : Bool) (x y : Option ℕ) → (test ≡ true → IfSome x P) → IfSome y P → IfSome (if test then x else y) P
+some_so P true x y here further = here refl
+some_so P false x y here further = further
+
+some_value : (P : ℕ → Type 0) (o : Option ℕ) (c : ℕ) → IfSome o P → o ≡ Some c → P c
+some_value P o c h e = subst (λ (x : Option ℕ). IfSome x P) e h
+
+hexadecimal_small : (c p : ℕ) → hexadecimal_of c ≡ Some p → p < 16
+hexadecimal_small c p e =
+    some_value (λ n. n < 16) (hexadecimal_of c) p (
+    some_so (λ n. n < 16) (is_digit c) _ _ (λ d. let most = (and_parts (nat_le 48 c) (nat_le c 57) d).1 in grind (arith, most))
+    (some_so (λ n. n < 16) (between "A" "F" c) _ _ (λ d. let most = (and_parts (nat_le 65 c) (nat_le c 70) d).1 in grind (arith, most))
+    (some_so (λ n. n < 16) (between "a" "f" c) _ _ (λ d. let most = (and_parts (nat_le 97 c) (nat_le c 102) d).1 in grind (arith, most)) tt))) e
+
+hex4_small : (text : List ℕ) (n : ℕ) → IsHex4 text n → n < 65536
+hex4_small text n (a, b, c, d, p, q, r, s, split, e, f, g, h, value) =
+    omega (arith, value, hexadecimal_small a p e, hexadecimal_small b q f, hexadecimal_small c r g, hexadecimal_small d s h)
+
+low_scalar : (c : ℕ) → c < 0xd800 → IsScalar c
+low_scalar c low = rw (lt-ltb c 0xd800 low) refl
+
+high_scalar : (c : ℕ) → 0xdfff < c → c < 0x110000 → IsScalar c
+high_scalar c low high =
+    let from : nat_le 0xe000 c ≡ true = grind (arith, low) in
+    rw (le-ltb c 0xd800 (omega (arith, low)), from, lt-ltb c 0x110000 high) refl
+
+letter_scalar : (letter c : ℕ) → escaped_by letter ≡ Some c → IsScalar c
+letter_scalar letter c e =
+    some_value IsScalar (escaped_by letter) c (
+    some_so IsScalar (letter ∈ "b") _ _ (λ h. refl)
+    (some_so IsScalar (letter ∈ "f") _ _ (λ h. refl)
+    (some_so IsScalar (letter ∈ "n") _ _ (λ h. refl)
+    (some_so IsScalar (letter ∈ "r") _ _ (λ h. refl)
+    (some_so IsScalar (letter ∈ "t") _ _ (λ h. refl)
+    (some_so IsScalar (letter ∈ "/") _ _ (λ h. refl)
+    (some_so IsScalar (letter ∈ "\\") _ _ (λ h. refl) tt))))))) e
+
+quote_scalar : (quote : ℕ) → IsQuote quote → IsScalar quote
+quote_scalar quote (inl e) = rw e refl
+quote_scalar quote (inr e) = rw e refl
+
+-- a piece stands for a scalar value, where its characters are such
+piece_scalar : (quote : ℕ) (text : List ℕ) (c : ℕ) → IsQuote quote → all_scalars text ≡ true → IsPiece quote text c → IsScalar c
+piece_scalar quote _ _ is e (plain c h) = (and_parts _ true e).0
+piece_scalar quote _ _ is e quote_escape = quote_scalar quote is
+piece_scalar quote _ _ is e (letter_escape letter c h) = letter_scalar letter c h
+piece_scalar quote _ _ is e (hex_escape digits c four (inl low)) = low_scalar c low
+piece_scalar quote _ _ is e (hex_escape digits c four (inr high)) = high_scalar c high (let small = hex4_small digits c four in omega (arith, small))
+piece_scalar quote _ _ is e (pair_escape a b high low h l is_high is_low) =
+    high_scalar (pair_of high low) (omega (arith, is_high.0)) (omega (arith, is_high.0, is_high.1, is_low.0, is_low.1))
+
+pieces_scalar : (quote : ℕ) (text characters : List ℕ) → IsQuote quote → all_scalars text ≡ true → ArePieces quote text characters → all_scalars characters ≡ true
+pieces_scalar quote text [] is e pieces = refl
+pieces_scalar quote text (c ∷ cs) is e (a, b, piece, more, split) =
+    let h = scalars_of text a b e split in
+    rw (piece_scalar quote a c is h.0 piece, pieces_scalar quote b cs is h.1 more) refl
+
+-- what reads as a string has its bytes printed in quotes that read so too
+pub string_spelt : (t bytes : List ℕ) → all_scalars t ≡ true → IsString t bytes → Spelt (λ t. IsString t bytes) (quoted bytes)
+string_spelt t bytes e (quote, inside, characters, is, pieces, split, bytes_of) =
+    let h = scalars_of t (quote ∷ []) (inside ++ quote ∷ []) e split in
+    let scalars = (scalars_of (inside ++ quote ∷ []) inside (quote ∷ []) h.1 refl).0 in
+    quoted_spelt bytes (characters, (pieces_scalar quote inside characters is scalars pieces, sym bytes_of))

@@ -1,0 +1,88 @@
+//! Literals as a path writes them.
+
+ghost use Rattle.std.specs.Prelude.{◌<◌, ◌/◌, ◌^◌, Some};
+ghost use Rattle.std.specs.Fmt.{WritesOnOk};
+ghost use Rattle.serde_json.specs.View.{view};
+ghost use Rattle.serde_json_path_syntax.specs.Flat.{literal_of};
+ghost use Rattle.serde_json_path_syntax.specs.Literals.{literal_view, number_amount};
+ghost use Rattle.serde_json_path_syntax.specs.Text.{amount_text, fraction_text, literal_text, number_text};
+ghost use Rattle.serde_json_path_syntax.specs.Typing.{IsValueLiteral};
+
+use crate::literal::{Literal, NumberLiteral, ONE};
+use serde_json::Value;
+use serde_json_path_nodes::Quoted;
+use std::fmt;
+use std::fmt::{Formatter, Write};
+
+/// The number in decimal, as `-0.5`; a fraction ends at its last digit that is not 0.
+impl fmt::Display for NumberLiteral {
+    ghost output = { λ literal. Some (number_text (number_amount literal)) };
+
+    fn fmt<W: Write>(&self, f: &mut Formatter<W>) -> fmt::Result {
+        if self.billionths < 0 {
+            f.write_str("-")?;
+        }
+        write_amount(f, self.billionths.unsigned_abs())
+    }
+}
+
+/// A number of billionths without a sign.
+fn write_amount<W: Write>(f: &mut Formatter<W>, amount: u128) -> fmt::Result
+    requires { amount / 1000000000 < 2 ^ 64 }
+    ensures { WritesOnOk W.write_str_gives f.old result (amount_text amount) f.new }
+{
+    let whole = (amount / ONE as u128) as u64;
+    write!(f, "{whole}")?;
+    write_fraction(f, (amount % ONE as u128) as u32)
+}
+
+/// The digits of a fraction in billionths.
+const PLACES: u32 = 9;
+
+/// A point and the digits of a fraction in billionths, unless it is 0.
+fn write_fraction<W: Write>(f: &mut Formatter<W>, fraction: u32) -> fmt::Result
+    ensures { WritesOnOk W.write_str_gives f.old result (fraction_text fraction) f.new }
+{
+    if fraction == 0 {
+        return Ok(());
+    }
+    f.write_str(".")?;
+    let mut rest = fraction;
+    for _ in 0..PLACES {
+        if rest == 0 {
+            return Ok(());
+        }
+        write!(f, "{}", rest / 100_000_000)?;
+        rest = rest % 100_000_000 * 10;
+    }
+    Ok(())
+}
+
+/// The literal as it is written in a path: a text in single quotes.
+impl fmt::Display for Literal {
+    ghost output = { λ literal. Some (literal_text (literal_view literal)) };
+
+    fn fmt<W: Write>(&self, f: &mut Formatter<W>) -> fmt::Result {
+        match self {
+            Literal::String(text) => write!(f, "{}", Quoted(text.as_str())),
+            Literal::Number(number) => write!(f, "{number}"),
+            Literal::Bool(true) => f.write_str("true"),
+            Literal::Bool(false) => f.write_str("false"),
+            Literal::Null => f.write_str("null"),
+        }
+    }
+}
+
+/// A value that stands for a literal.
+pub(crate) fn write_value<W: Write>(f: &mut Formatter<W>, value: &Value) -> fmt::Result
+    requires { IsValueLiteral (literal_of (view value.now)) }
+    ensures { WritesOnOk W.write_str_gives f.old result (literal_text (literal_of (view value.now))) f.new }
+{
+    match value {
+        Value::String(text) => write!(f, "{}", Quoted(text.as_str())),
+        Value::Bool(true) => f.write_str("true"),
+        Value::Bool(false) => f.write_str("false"),
+        Value::Null => f.write_str("null"),
+        _ => unreachable!(),
+    }
+}
