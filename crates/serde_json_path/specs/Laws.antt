@@ -1,7 +1,9 @@
--- Laws of paths: the one that joins the typed grammar and its meaning, and one of function sets.
+-- Laws of paths: the one that joins the typed grammar and its meaning, one of locations and one of function sets.
 use Rattle.std.specs.Prelude.{◌≡◌, ◌≤◌, ◌↔◌, ℕ, pos, List, [], ◌∷◌, Option, Some}
 use Rattle.std.specs.Str.{chars}
 use Rattle.serde_json.specs.Data.{Data}
+use Rattle.serde_json.specs.View.{view}
+use Rattle.serde_json.specs.declared.value.Value.{Value}
 use Rattle.serde_json_path_nodes.specs.Location.{Step, by_name, by_position, at, IsProper}
 use Rattle.serde_json_path_nodes.specs.Text.{normal}
 use Rattle.serde_json_path_syntax.specs.Tree.{Query, query, root, Segments, no_segments, segment, child, long_hand, no_selectors, selector, Selector, name, index, largest}
@@ -46,6 +48,10 @@ pub record IsNormal (location : List Step) : Type 0 where
 -- so is that of each location whose names are Unicode text, and whose indexes can be written
 abbrev pub Normal : Type 0
 Normal = (location : List Step) → IsProper location → ArePositionsWritten location → IsNormal location
+
+-- the names on the way to a value of a document are Unicode text
+abbrev pub LocationsAreProper : Type 0
+LocationsAreProper = (document : Value) (location : List Step) (v : Data) → at (view document) location ≡ Some v → IsProper location
 
 -- a set before itself fits what it fits alone
 abbrev pub SetBeforeItself : Type 0

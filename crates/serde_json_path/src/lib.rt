@@ -59,7 +59,7 @@ mod source;
 
 pub use ext::JsonPathExt;
 pub use json::FromJsonError;
-pub use laws::{law_normal, law_set_before_itself};
+pub use laws::{law_locations_are_proper, law_normal, law_set_before_itself};
 pub use path::JsonPath;
 pub use serde_json_path_core::{QueryError, Walk, functions};
 pub use serde_json_path_nodes::{

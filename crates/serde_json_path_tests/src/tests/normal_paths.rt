@@ -3,14 +3,15 @@
 ghost use Rattle.std.specs.Prelude.{◌≡◌, ◌∷◌, [], Some, IfOk};
 ghost use Rattle.serde_json.specs.Data.{Data};
 ghost use Rattle.serde_json.specs.View.{view};
-ghost use Rattle.serde_json_path_nodes.specs.Location.{at, IsProper};
+ghost use Rattle.serde_json_path_nodes.specs.Location.{at};
 ghost use Rattle.serde_json_path_nodes.specs.Views.{located_nodes};
 ghost use Rattle.serde_json_path.specs.Laws.{ArePositionsWritten};
 
 use crate::tests::rows::{locations, values};
 use serde_json::Value;
 use serde_json_path::{
-    JsonPath, LocatedNodeList, NormalizedPath, ParseErrorKind, PathElement, QueryError, law_normal,
+    JsonPath, LocatedNodeList, NormalizedPath, ParseErrorKind, PathElement, QueryError,
+    law_locations_are_proper, law_normal,
 };
 use serde_json_path_core::law_result_is_unique;
 use std::alloc::Global;
@@ -23,11 +24,11 @@ fn find_again<'b>(
     document: &'b Value,
 ) -> Result<LocatedNodeList<'b>, Fail>
     requires there { (v : Data) × (at (view document.now) location.now ≡ Some v) }
-    requires proper { IsProper location.now }
     requires written { ArePositionsWritten location.now }
     ensures { IfOk result (λ list. (v : Data) → at (view document.now) location.now ≡ Some v
         → located_nodes list ≡ record { location = location.now; value = v } ∷ []) }
 {
+    law_locations_are_proper();
     law_normal();
     law_result_is_unique();
     let text = location.to_text(alloc)?;

@@ -15,7 +15,7 @@ pub unreachable-requires : goal.unreachable-requires
 unreachable-requires c =
     let location = c.args.location.now in
     let text : c.as_str.result.now ≡ normal location = search rules in
-    let law = c.law_normal.ensures location c.requires.proper c.requires.written in
+    let law = c.law_normal.ensures location (c.law_locations_are_proper.ensures c.args.document.now location c.requires.there.0 c.requires.there.1) c.requires.written in
     c.in-Err.ensures.parse.refused (λ e. c.in_default.not-NoMemory (c.kind.ensures ∙ e)) (tree_to location)
     (subst (λ t. IsAccepted builtin_functions.signature (chars t) (tree_to location)) (sym text) (law.accepted builtin_functions.signature))
 
@@ -25,7 +25,7 @@ returns-in-Ok-query_located c = λ v there.
     let top = view c.args.document.now in
     let tree = path_tree c.in-Ok.path in
     let text : c.as_str.result.now ≡ normal location = search rules in
-    let law = c.law_normal.ensures location c.requires.proper c.requires.written in
+    let law = c.law_normal.ensures location (c.law_locations_are_proper.ensures c.args.document.now location c.requires.there.0 c.requires.there.1) c.requires.written in
     let same : tree ≡ tree_to location =
     law.only builtin_functions.signature tree (subst (λ t. IsAccepted builtin_functions.signature (chars t) tree) text c.in-Ok.ensures.parse.accepted) in
     let clear : IsClear builtin_functions (tree_to location) top =

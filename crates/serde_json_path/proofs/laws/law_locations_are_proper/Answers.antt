@@ -1,0 +1,65 @@
+use Rattle.std.proofs.Common.{◌≡◌, ℕ, zero, suc, List, [], ◌∷◌, Option, Some, None, Ordering, Less, Equal, Greater, nat_cmp, option_and_then, refl, sym, subst, ap, ◌∙◌}
+use Rattle.std.specs.Ordering.{match_ordering}
+use Rattle.std.specs.Prelude.{String, string_bytes}
+use Rattle.std.specs.Cmp.Lexicographic.{slice_cmp}
+use Rattle.std.specs.Str.{IsUtf8}
+use Rattle.std.specs.declared.alloc.Global.{Global}
+use Rattle.std.proofs.lemmas.Map.Lookups.{exact_bytes}
+use Rattle.std.proofs.lemmas.Option.{none-some, same_Some}
+use Rattle.std.proofs.lemmas.Str.{IsUtf8-string_bytes}
+use Rattle.serde_json.specs.Data.{Data, Members}
+use Rattle.serde_json.specs.Find.{get_item, get_member}
+use Rattle.serde_json.specs.View.{view, view_step, items_view, members_view}
+use Rattle.serde_json.specs.declared.value.Value.{Value, map-Value, out-Value, fold_out-Value}
+use Rattle.serde_json.specs.declared.value.Value.TheOpen.{Value-F}
+use Rattle.serde_json_path_nodes.specs.Location.{Step, by_name, by_position, child_at, at, IsProper}
+use Rattle.serde_json_path.proofs.laws.law_locations_are_proper.Goals as goal
+
+-- the data is that of a value
+abbrev IsOfValue : Data → Type 0
+IsOfValue d = (v : Value) × (view v ≡ d)
+
+-- the name of a member is a text, and the member is a value's
+member_here : (e : String Global × Value) (ms : Members) (name : List ℕ) (d : Data) (o : Ordering) → slice_cmp nat_cmp name (string_bytes e.0) ≡ o
+    → (get_member name ms ≡ Some d → IsUtf8 name × IsOfValue d)
+    → match_ordering o (get_member name ms) (Some (view e.1)) (get_member name ms) ≡ Some d → IsUtf8 name × IsOfValue d
+member_here e ms name d Less is later found = later found
+member_here e ms name d Equal is later found = (subst IsUtf8 (sym (exact_bytes name (string_bytes e.0) is)) (IsUtf8-string_bytes e.0), (e.1, same_Some (view e.1) d found))
+member_here e ms name d Greater is later found = later found
+
+member_found : (es : List (String Global × Value)) (name : List ℕ) (d : Data) → get_member name (members_view es) ≡ Some d → IsUtf8 name × IsOfValue d
+member_found [] name d h = absurd (none-some d h)
+member_found (e ∷ es) name d h = member_here e (members_view es) name d (slice_cmp nat_cmp name (string_bytes e.0)) refl (member_found es name d) h
+
+item_found : (vs : List Value) (n : ℕ) (d : Data) → get_item n (items_view vs) ≡ Some d → IsOfValue d
+item_found [] n d h = absurd (none-some d h)
+item_found (v ∷ vs) zero d h = (v, same_Some (view v) d h)
+item_found (v ∷ vs) (suc n) d h = item_found vs n d h
+
+-- a step to a child is proper, and the child is a value's
+child_of : (layer : Value-F Value) (s : Step) (d : Data) → child_at (view_step (map-Value Value Data view layer)) s ≡ Some d → IsProper (s ∷ []) × IsOfValue d
+child_of (Value-F.Object members) (by_name name) d h = let found = member_found members.entries name d h in ((found.0, tt), found.1)
+child_of (Value-F.Array items) (by_position p) d h = (tt, item_found items.items p d h)
+child_of _ s d h = absurd (none-some d h)
+
+child_proper : (v : Value) (s : Step) (d : Data) → child_at (view v) s ≡ Some d → IsProper (s ∷ []) × IsOfValue d
+child_proper v s d h = child_of (out-Value v) s d (sym (ap (λ top. child_at top s) (fold_out-Value Data view_step v)) ∙ h)
+
+-- a proper step before proper steps
+step_first : (s : Step) (steps : List Step) → IsProper (s ∷ []) → IsProper steps → IsProper (s ∷ steps)
+step_first (by_name name) steps one rest = (one.0, rest)
+step_first (by_position p) steps one rest = rest
+
+steps_proper : (v : Value) (s : Step) (steps : List Step) (d : Data) (o : Option Data) → child_at (view v) s ≡ o
+    → ((w : Value) → at (view w) steps ≡ Some d → IsProper steps) → option_and_then (λ child. at child steps) o ≡ Some d → IsProper (s ∷ steps)
+steps_proper v s steps d None is later h = absurd (none-some d h)
+steps_proper v s steps d (Some child) is later h =
+    let (first, (w, same)) = child_proper v s child is in
+    step_first s steps first (later w (ap (λ c. at c steps) same ∙ h))
+
+proper : (location : List Step) (v : Value) (d : Data) → at (view v) location ≡ Some d → IsProper location
+proper [] v d h = tt
+proper (s ∷ steps) v d h = steps_proper v s steps d (child_at (view v) s) refl (λ w. proper steps w d) h
+
+pub returns : goal.returns
+returns c = λ document location v h. proper location document v h
