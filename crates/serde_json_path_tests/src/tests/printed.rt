@@ -2,6 +2,7 @@
 
 ghost use Rattle.std.specs.Prelude.{IfOk, IsTrue};
 
+use crate::tests::nesting::{calls, filters, parentheses};
 use crate::tests::rows::fields;
 use serde_json::Value;
 use serde_json_path::functions::{Builtin, Functions};
@@ -12,7 +13,11 @@ use std::test::Fail;
 
 /// Whether a path that is parsed, printed and parsed again under one function set is equal to the first: always, by the
 /// contracts of these calls. The second parse is refused for nothing but memory.
-fn comes_back<F: Functions>(alloc: Global, text: &str, functions: &F) -> Result<bool, Fail>
+pub(crate) fn comes_back<F: Functions>(
+    alloc: Global,
+    text: &str,
+    functions: &F,
+) -> Result<bool, Fail>
     ensures { IfOk result IsTrue }
 {
     law_print();
@@ -109,6 +114,14 @@ fn prints_paths(rt: HostRuntime) -> Result<(), Fail> {
         prints_again(&rt, alloc, path)?;
     }
     prints(&rt, alloc, &JsonPath::new(alloc), "$")
+}
+
+#[test]
+fn prints_nested_paths(rt: HostRuntime) -> Result<(), Fail> {
+    let alloc = rt.alloc();
+    prints_again(&rt, alloc, filters(alloc, 128)?.as_str())?;
+    prints_again(&rt, alloc, parentheses(alloc, 127)?.as_str())?;
+    prints_again(&rt, alloc, calls(alloc, 127)?.as_str())
 }
 
 #[test]

@@ -4,6 +4,7 @@ ghost use Rattle.serde_json_path_tests.specs.TestSets.{kids_functions, odd_funct
 
 use crate::tests::cuts::cut_rows_with;
 use crate::tests::nesting::nested;
+use crate::tests::printed::comes_back;
 use crate::tests::rows::{fields, locations, selected, told, values};
 use crate::tests::walks::gives_each;
 use serde_json::Value;
@@ -151,7 +152,8 @@ impl Functions for Pairs {
     }
 }
 
-/// Each row has a path, a document, and the locations and the values of what the path selects there under the set.
+/// Each row has a path, a document, and the locations and the values of what the path selects there under the set. What
+/// the path prints is read back under the set.
 fn selects_each_with<F: Functions>(
     rt: &impl Abort,
     alloc: Global,
@@ -162,6 +164,7 @@ fn selects_each_with<F: Functions>(
         let (text, rest) = fields(row)?;
         let (document, end) = fields(rest)?;
         let (places, wanted) = selected(end)?;
+        assert!(rt; comes_back(alloc, text, functions)?, "of {text:?}");
         let path = JsonPath::parse_with(alloc, text, functions)?;
         let document = Value::from_str(alloc, document)?;
         let located = path.query_located_with(alloc, &document, functions)?;
