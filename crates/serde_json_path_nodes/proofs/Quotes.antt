@@ -1,34 +1,69 @@
--- A text in quotes, written character by character.
-use Rattle.std.proofs.Common.{◌≡◌, ℕ, List, [], ◌∷◌, ◌++◌, Some, None, length, unwrap_or, codes, encode_utf8, encode_utf8_all, sym, ap, ◌∙◌, append_assoc, append-nil}
+-- A text in quotes, written in stretches of characters that print themselves.
+use Rattle.std.proofs.Common.{◌≡◌, ℕ, ◌≤◌, Bool, true, false, List, [], ◌∷◌, ◌++◌, Option, Some, None, is_some, take, drop, unwrap_or, encode_utf8, encode_utf8_all, nat_lt, refl, sym, ap, subst, ◌∙◌, append_assoc, arith}
 use Rattle.std.specs.List.{flat_map}
-use Rattle.std.specs.Str.{IsUtf8, chars}
-use Rattle.std.proofs.lemmas.List.{flat_map_more, nil_from_length}
-use Rattle.std.proofs.lemmas.Str.{encodes-append, chars_from_encodes}
-use Rattle.serde_json_path_nodes.specs.Text.{escape_of, in_quotes, quoted}
+use Rattle.std.specs.Str.{IsCharBoundary, IsUtf8, NonePass, chars}
+use Rattle.std.proofs.lemmas.Bool.Decides.{nat_tests}
+use Rattle.std.proofs.lemmas.Grind.{flat_map-append}
+use Rattle.std.proofs.lemmas.List.{take-append-drop}
+use Rattle.std.proofs.lemmas.Str.{chars-append, chars_past_char, encode_ascii, encodes-chars, IsUtf8-take}
+use Rattle.serde_json_path_nodes.specs.Text.{escape_of, in_quotes, is_escaped}
 
--- one character further
-pub encodes_more : (seen rest rest' text : List ℕ) (c : ℕ) → encode_utf8_all seen ++ rest ≡ text → rest ≡ encode_utf8 c ++ rest'
-    → encode_utf8_all (seen ++ c ∷ []) ++ rest' ≡ text
-encodes_more seen rest rest' text c whole step =
-    rw (encodes-append, append-nil, append_assoc, ← step) whole
+-- ---- what prints itself
 
--- the text once the characters up to here are written
-abbrev pub begun : List ℕ → List ℕ
-begun seen = codes "'" ++ flat_map in_quotes seen
+none_of : {A : Type 0} (o : Option A) → is_some o ≡ false → o ≡ None
+none_of None e = refl
+none_of (Some x) e = absurd cc
 
--- a character that has an escape
-pub begun-escape : (seen : List ℕ) (c : ℕ) (escape : List ℕ) → Some escape ≡ escape_of c → begun seen ++ escape ≡ begun (seen ++ c ∷ [])
-begun-escape seen c escape e =
-    ap (λ o. begun seen ++ unwrap_or o (encode_utf8 c)) e ∙ flat_map_more in_quotes (codes "'") seen c
+-- a character beyond U+007F has no escape
+no_escape : (c : ℕ) → 128 ≤ c → escape_of c ≡ None
+no_escape c high = grind (arith, nat_tests)
 
--- a character that prints itself
-pub begun-itself : (seen : List ℕ) (c : ℕ) → None ≡ escape_of c → begun seen ++ encode_utf8 c ≡ begun (seen ++ c ∷ [])
-begun-itself seen c e =
-    ap (λ o. begun seen ++ unwrap_or o (encode_utf8 c)) e ∙ flat_map_more in_quotes (codes "'") seen c
+-- a character whose bytes are plain has no escape
+plain_char : (c : ℕ) (rest : List ℕ) → NonePass is_escaped (encode_utf8 c ++ rest) → escape_of c ≡ None
+plain_char c rest plain = by_test (nat_lt c 128) refl
+  where
+    by_test : (b : Bool) → nat_lt c 128 ≡ b → escape_of c ≡ None
+    by_test true low =
+        let ascii : encode_utf8 c ≡ c ∷ [] = encode_ascii c (grind (arith, nat_tests)) in
+        none_of (escape_of c) (subst (λ bs. NonePass is_escaped (bs ++ rest)) ascii plain).0
+    by_test false high = no_escape c (grind (arith, nat_tests))
 
--- the text once no character is left
-pub begun-whole : (seen rest text : List ℕ) → IsUtf8 text → encode_utf8_all seen ++ rest ≡ text → length rest ≡ 0
-    → begun seen ++ codes "'" ≡ quoted text
-begun-whole seen rest text utf8 whole none =
-    let read : seen ≡ chars text = chars_from_encodes seen text utf8 (sym (append-nil _) ∙ rw (nil_from_length rest none) at whole) in
-    rw read
+plain_after : (xs ys : List ℕ) → NonePass is_escaped (xs ++ ys) → NonePass is_escaped ys
+plain_after [] ys h = h
+plain_after (x ∷ xs) ys h = plain_after xs ys h.1
+
+plain_chars : (cs : List ℕ) → NonePass is_escaped (encode_utf8_all cs) → flat_map in_quotes cs ≡ encode_utf8_all cs
+plain_chars [] h = refl
+plain_chars (c ∷ cs) h =
+    ap (λ o. unwrap_or o (encode_utf8 c) ++ flat_map in_quotes cs) (plain_char c (encode_utf8_all cs) h)
+    ∙ ap (λ bs. encode_utf8 c ++ bs) (plain_chars cs (plain_after (encode_utf8 c) (encode_utf8_all cs) h))
+
+-- a text whose bytes are plain prints itself
+plain_text : (text : List ℕ) → IsUtf8 text → NonePass is_escaped text → flat_map in_quotes (chars text) ≡ text
+plain_text text utf8 plain =
+    let spelled : encode_utf8_all (chars text) ≡ text = encodes-chars text utf8 in
+    plain_chars (chars text) (subst (NonePass is_escaped) (sym spelled) plain) ∙ spelled
+
+-- one byte more
+pub none_more : (bs : List ℕ) (b : ℕ) → NonePass is_escaped bs → is_escaped b ≡ false → NonePass is_escaped (bs ++ b ∷ [])
+none_more [] b h e = (e, tt)
+none_more (c ∷ bs) b h e = (h.0, none_more bs b h.1 e)
+
+-- ---- one stretch more
+
+-- a plain front, and what is after it
+pub front_written : (text front back done whole : List ℕ) (n : ℕ) → IsUtf8 text → IsCharBoundary text n → NonePass is_escaped (take n text) → front ≡ take n text → back ≡ drop n text
+    → done ++ flat_map in_quotes (chars text) ≡ whole → (done ++ front) ++ flat_map in_quotes (chars back) ≡ whole
+front_written text front back done whole n utf8 boundary plain is_front is_back all =
+    let utf8_front : IsUtf8 (take n text) = IsUtf8-take text n utf8 boundary in
+    let parted : chars text ≡ chars (take n text) ++ chars (drop n text) = ap chars (sym (take-append-drop n text)) ∙ chars-append (take n text) (drop n text) utf8_front in
+    let printed : flat_map in_quotes (chars text) ≡ take n text ++ flat_map in_quotes (chars (drop n text)) =
+    ap (flat_map in_quotes) parted ∙ flat_map-append in_quotes (chars (take n text)) (chars (drop n text)) ∙ ap (λ bs. bs ++ flat_map in_quotes (chars (drop n text))) (plain_text (take n text) utf8_front plain) in
+    rw (is_front, is_back) (append_assoc done (take n text) (flat_map in_quotes (chars (drop n text))) ∙ ap (λ bs. done ++ bs) (sym printed) ∙ all)
+
+-- the character after it
+pub char_written : (text rest done whole : List ℕ) (c : ℕ) → IsUtf8 text → text ≡ encode_utf8 c ++ rest
+    → done ++ flat_map in_quotes (chars text) ≡ whole → (done ++ in_quotes c) ++ flat_map in_quotes (chars rest) ≡ whole
+char_written text rest done whole c utf8 step all =
+    append_assoc done (in_quotes c) (flat_map in_quotes (chars rest))
+    ∙ ap (λ cs. done ++ flat_map in_quotes cs) (sym (chars_past_char text rest c utf8 step)) ∙ all

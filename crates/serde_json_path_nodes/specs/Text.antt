@@ -1,6 +1,6 @@
 -- The texts of locations: normalised paths (RFC 9535, section 2.7) and JSON pointers (RFC 6901, section 3).
 use Prim.Native.String.{String}
-use Rattle.std.specs.Prelude.{ℕ, zero, ◌+◌, ◌%◌, ◌/◌, List, [], ◌∷◌, ◌++◌, map, Option, Some, None, ◌==◌, nat_lt, slice_index, unwrap_or, if◌then◌else◌, codes}
+use Rattle.std.specs.Prelude.{ℕ, zero, ◌+◌, ◌%◌, ◌/◌, Bool, List, [], ◌∷◌, ◌++◌, map, Option, Some, None, is_some, ◌==◌, nat_lt, slice_index, unwrap_or, if◌then◌else◌, codes}
 use Rattle.std.specs.List.{flat_map}
 use Rattle.std.specs.Str.{chars}
 use Rattle.std.specs.Char.{encode_utf8, digit_char}
@@ -34,6 +34,10 @@ escape_of c =
 -- a character as it is printed between single quotes: its escape, or itself
 abbrev pub in_quotes : ℕ → List ℕ
 in_quotes c = unwrap_or (escape_of c) (encode_utf8 c)
+
+-- a character, or a byte of one, that has an escape
+abbrev pub is_escaped : ℕ → Bool
+is_escaped b = is_some (escape_of b)
 
 -- a text in single quotes
 abbrev pub quoted : List ℕ → List ℕ

@@ -1,10 +1,14 @@
 //! Texts as paths write them.
 
-ghost use Rattle.std.specs.Prelude.{Some};
-ghost use Rattle.serde_json_path_nodes.specs.Text.{quoted};
+ghost use Rattle.std.specs.Prelude.{◌≡◌, Some, take};
+ghost use Rattle.std.specs.Fmt.{WritesOnOk};
+ghost use Rattle.std.specs.List.{flat_map};
+ghost use Rattle.std.specs.Str.{chars, IsCharBoundary, NonePass};
+ghost use Rattle.serde_json_path_nodes.specs.Text.{in_quotes, is_escaped, quoted};
 
 use crate::escape::escaped;
 use std::fmt;
+use std::fmt::{Formatter, Write};
 
 /// A text that prints itself in single quotes, with the escapes of [`escaped`].
 #[derive(Clone, Copy)]
@@ -13,14 +17,57 @@ pub struct Quoted<'b>(pub &'b str);
 impl<'b> fmt::Display for Quoted<'b> {
     ghost output = { λ q. Some (quoted q.0.now) };
 
-    fn fmt<W: fmt::Write>(&self, f: &mut fmt::Formatter<W>) -> fmt::Result {
-        write!(f, "'")?;
-        for c in self.0.chars() {
-            match escaped(c) {
-                Some(escape) => write!(f, "{escape}")?,
-                None => write!(f, "{c}")?,
-            }
-        }
-        write!(f, "'")
+    fn fmt<W: Write>(&self, f: &mut Formatter<W>) -> fmt::Result {
+        f.write_str("'")?;
+        write_inside(f, self.0)?;
+        f.write_str("'")
     }
+}
+
+/// Writes what stands between the quotes. Characters without an escape are written many at a time.
+fn write_inside<W: Write>(f: &mut Formatter<W>, text: &str) -> fmt::Result
+    ensures { WritesOnOk W.write_str_gives f.old result (flat_map in_quotes (chars text.now)) f.new }
+{
+    let mut rest = text;
+    'stretches: loop {
+        let (plain, others) = rest.split_at(plain_len(rest));
+        f.write_str(plain)?;
+        let mut others = others.chars();
+        let Some(c) = others.next() else {
+            return Ok(());
+        };
+        write_char(f, c)?;
+        rest = others.as_str();
+    }
+}
+
+/// Writes a character: its escape, or itself.
+fn write_char<W: Write>(f: &mut Formatter<W>, c: char) -> fmt::Result
+    ensures { WritesOnOk W.write_str_gives f.old result (in_quotes c) f.new }
+{
+    match escaped(c) {
+        Some(escape) => f.write_str(escape),
+        None => f.write_char(c),
+    }
+}
+
+/// How many bytes from the start on are of characters that print themselves.
+fn plain_len(text: &str) -> usize
+    ensures boundary { IsCharBoundary text.now result }
+    ensures plain { NonePass is_escaped (take result text.now) }
+{
+    let bytes = text.as_bytes();
+    for (index, byte) in bytes.iter().enumerate() {
+        if is_escaped(*byte) {
+            return index;
+        }
+    }
+    bytes.len()
+}
+
+/// Whether a byte is a character that has an escape.
+fn is_escaped(byte: u8) -> bool
+    ensures { result ≡ is_escaped byte }
+{
+    byte < b' ' || byte == b'\'' || byte == b'\\'
 }

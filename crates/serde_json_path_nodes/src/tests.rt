@@ -69,7 +69,10 @@ fn characters_print_as_the_rfc_says(rt: HostRuntime) {
 #[test]
 fn locations_print_and_point(rt: HostRuntime) -> Result<(), Fail> {
     let alloc = rt.alloc();
-    let document = Value::from_str(alloc, "{\"a/~\":[1],\"a'b\\\\\\u000b\":2,\"é\":{\"\":3}}")?;
+    let document = Value::from_str(
+        alloc,
+        "{\"a/~\":[1],\"a'b\\\\\\u000b\":2,\"é\":{\"\":3},\"plain é'\\n😀 text\\\\\":4}",
+    )?;
     let root: [PathElement<'_>; 0] = [];
     for (steps, normal, pointer, value) in [
         (root.as_slice(), "$", "", None),
@@ -91,6 +94,12 @@ fn locations_print_and_point(rt: HostRuntime) -> Result<(), Fail> {
             "$['é']['']",
             "/é/",
             Some(3),
+        ),
+        (
+            &[PathElement::Name("plain é'\n😀 text\\")],
+            "$['plain é\\'\\n😀 text\\\\']",
+            "/plain é'\n😀 text\\",
+            Some(4),
         ),
     ] {
         let location = location(alloc, steps)?;

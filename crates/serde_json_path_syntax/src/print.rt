@@ -1,6 +1,6 @@
 //! Printed paths: a query as the text that is read back as it.
 
-ghost use Rattle.std.specs.Prelude.{◌≡◌, ◌<◌, ◌≤◌, Some, codes, length};
+ghost use Rattle.std.specs.Prelude.{◌≡◌, ◌<◌, ◌≤◌, ◌++◌, Some, codes, length};
 ghost use Rattle.std.specs.Fmt.{WritesOnOk};
 ghost use Rattle.serde_json_path_syntax.specs.Flat.{and_at, argument_at, basic_at, call_at, comparable_at, or_at, part_query, segment_at, segments_at, selector_at, selectors_at, kind_view as query_kind_view, segment_kind_view, piece_at, segment_kind_in};
 ghost use Rattle.serde_json_path_syntax.specs.Calls.{arguments_of};
@@ -82,8 +82,7 @@ fn write_segment<W: Write>(f: &mut Formatter<W>, tree: &Checked, segment: Part) 
                 f.write_str("*")
             }
             Segment::LongHand(selectors) => {
-                f.write_str(bracket_dots(*kind))?;
-                f.write_str("[")?;
+                f.write_str(opening(*kind))?;
                 write_selectors(f, tree, selectors.as_slice())?;
                 f.write_str("]")
             }
@@ -102,14 +101,24 @@ fn dots(kind: SegmentKind) -> &'static str
     }
 }
 
-/// What is before a bracket.
-fn bracket_dots(kind: SegmentKind) -> &'static str
-    ensures { result.now ≡ bracket_dots_of (segment_kind_view kind) }
+/// An opening bracket, and what is before it.
+fn opening(kind: SegmentKind) -> &'static str
+    ensures { result.now ≡ bracket_dots_of (segment_kind_view kind) ++ codes "[" }
 {
     match kind {
-        SegmentKind::Child => "",
-        SegmentKind::Descendant => "..",
+        SegmentKind::Child => "[",
+        SegmentKind::Descendant => "..[",
     }
+}
+
+/// Writes a separator, which is empty before the first of the parts.
+fn write_separator<W: Write>(f: &mut Formatter<W>, separator: &str) -> fmt::Result
+    ensures { WritesOnOk W.write_str_gives f.old result separator.now f.new }
+{
+    if separator.is_empty() {
+        return Ok(());
+    }
+    f.write_str(separator)
 }
 
 #[cycle(printing)]
@@ -125,7 +134,7 @@ fn write_selectors<W: Write>(
 {
     let mut separator = "";
     for selector in selectors {
-        f.write_str(separator)?;
+        write_separator(f, separator)?;
         write_selector(f, tree, *selector)?;
         separator = ", ";
     }
@@ -160,7 +169,7 @@ fn write_or<W: Write>(f: &mut Formatter<W>, tree: &Checked, expression: Part) ->
 {
     let mut separator = "";
     for operand in tree.or_parts(expression) {
-        f.write_str(separator)?;
+        write_separator(f, separator)?;
         write_and(f, tree, *operand)?;
         separator = " || ";
     }
@@ -176,7 +185,7 @@ fn write_and<W: Write>(f: &mut Formatter<W>, tree: &Checked, expression: Part) -
 {
     let mut separator = "";
     for operand in tree.and_parts(expression) {
-        f.write_str(separator)?;
+        write_separator(f, separator)?;
         write_basic(f, tree, *operand)?;
         separator = " && ";
     }
@@ -268,7 +277,7 @@ fn write_arguments<W: Write>(f: &mut Formatter<W>, tree: &Checked, call: Part) -
 {
     let mut separator = "";
     for argument in tree.arguments(call) {
-        f.write_str(separator)?;
+        write_separator(f, separator)?;
         write_argument(f, tree, *argument)?;
         separator = ", ";
     }

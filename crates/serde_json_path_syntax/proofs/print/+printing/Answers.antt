@@ -36,7 +36,7 @@ write_or-loop-operand-preserved g t c =
       before_more (codes " || ") i,
       λ plain.
           let wrote = c.loop-operand.invariant.2 plain in
-          let one = c.write_str.ensures.writes wrote.plain (search rules) in
+          let one = c.write_separator.ensures wrote.plain (search rules) in
           let two = c.write_and.ensures one.plain (search rules) in
           has_written_of_eq _ _ _ _ _
           (ap (λ s. (begun (codes " || ") text parts i ++ s) ++ text (get_or parts i d)) c.loop-operand.invariant.1 ∙ begun_more (codes " || ") text parts i d c.loop-operand-test.true)
@@ -73,7 +73,7 @@ write_and-loop-operand-preserved g t c =
       before_more (codes " && ") i,
       λ plain.
           let wrote = c.loop-operand.invariant.2 plain in
-          let one = c.write_str.ensures.writes wrote.plain (search rules) in
+          let one = c.write_separator.ensures wrote.plain (search rules) in
           let two = c.write_basic.ensures one.plain (search rules) in
           has_written_of_eq _ _ _ _ _
           (ap (λ s. (begun (codes " && ") text parts i ++ s) ++ text (get_or parts i d)) c.loop-operand.invariant.1 ∙ begun_more (codes " && ") text parts i d c.loop-operand-test.true)
@@ -112,7 +112,7 @@ write_selectors-loop-selector-preserved g t c =
       before_more (codes ", ") i,
       λ plain.
           let wrote = c.loop-selector.invariant.2 plain in
-          let one = c.write_str.ensures.writes wrote.plain (search rules) in
+          let one = c.write_separator.ensures wrote.plain (search rules) in
           let two = c.write_selector.ensures one.plain (search rules) in
           has_written_of_eq _ _ _ _ _
           (ap (λ s. (begun (codes ", ") text parts i ++ s) ++ text (get_or parts i d)) c.loop-selector.invariant.1 ∙ begun_more (codes ", ") text parts i d c.loop-selector-test.true)
@@ -152,7 +152,7 @@ write_arguments-loop-argument-preserved g t c =
       before_more (codes ", ") i,
       λ plain.
           let wrote = c.loop-argument.invariant.2 plain in
-          let one = c.write_str.ensures.writes wrote.plain (search rules) in
+          let one = c.write_separator.ensures wrote.plain (search rules) in
           let two = c.write_argument.ensures one.plain (search rules) in
           has_written_of_eq _ _ _ _ _
           (ap (λ s. (begun (codes ", ") text parts i ++ s) ++ text (get_or parts i d)) c.loop-argument.invariant.1 ∙ begun_more (codes ", ") text parts i d c.loop-argument-test.true)

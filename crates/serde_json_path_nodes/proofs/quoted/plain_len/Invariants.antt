@@ -1,0 +1,8 @@
+use Rattle.std.proofs.Common.{take}
+use Rattle.std.specs.Str.{NonePass}
+use Rattle.serde_json_path_nodes.specs.Text.{is_escaped}
+use Rattle.serde_json_path_nodes.proofs.quoted.plain_len.Given as goal
+
+-- none of the bytes so far is escaped
+abbrev pub invariant-loop-index : goal.invariant-loop-index
+invariant-loop-index l = NonePass is_escaped (take l.index l.bytes)

@@ -1,0 +1,17 @@
+use Rattle.std.proofs.Common.{◌≡◌, ℕ, List, ◌++◌, length}
+use denote.Shadow.{shadow}
+use denote.Text.{Utf8}
+use Rattle.std.specs.Fmt.{HasWritten, IsPlainFormatter}
+use Rattle.std.specs.List.{flat_map}
+use Rattle.std.specs.Str.{chars}
+use Rattle.serde_json_path_nodes.specs.Text.{in_quotes}
+use Rattle.serde_json_path_nodes.proofs.quoted.write_inside.Given as goal
+
+-- what is written of the text, and what is left of it
+abbrev pub invariant-stretches : goal.invariant-stretches
+invariant-stretches g l =
+    shadow (Utf8 l.rest) × (done : List ℕ) × (done ++ flat_map in_quotes (chars l.rest) ≡ flat_map in_quotes (chars l.fn.text))
+    × (IsPlainFormatter l.fn.f → HasWritten g.W.Write.write_str_gives l.fn.f done l.f)
+
+abbrev pub decreases-stretches : goal.decreases-stretches
+decreases-stretches g l = length l.rest
