@@ -1,5 +1,5 @@
 -- What the whole reading says of a text: the promises of a parse.
-use Rattle.std.proofs.Common.{◌≡◌, ◌≢◌, ℕ, ◌+◌, ◌-◌, ◌<◌, ◌≤◌, inl, inr, ◌↔◌, false, true≢false, List, [], ◌∷◌, ◌++◌, length, take, drop, Option, Ok, Err, refl, sym, ap, subst, ◌∙◌, arith}
+use Rattle.std.proofs.Common.{◌≡◌, ◌≢◌, ℕ, ◌+◌, ◌-◌, ◌<◌, ◌≤◌, inl, inr, ◌↔◌, false, true≢false, List, [], ◌∷◌, ◌++◌, length, take, drop, Option, Some, Ok, Err, refl, sym, ap, subst, ◌∙◌, arith}
 use Rattle.std.specs.Prelude.{◌&&◌}
 use Rattle.std.specs.Str.{chars, IsUtf8, IsCharBoundary, encode_utf8_all}
 use Rattle.std.proofs.lemmas.List.{length-append}
@@ -23,7 +23,7 @@ use Rattle.serde_json_path_parser.specs.Parsing.{opens, opens_next, opens_after_
 use Rattle.serde_json_path_parser.specs.Operands.{IsUndeclared}
 use Rattle.serde_json_path_parser.specs.Filters.{path_at}
 use Rattle.serde_json_path_parser.specs.Giving.{Fails, IsRefused, IsWithin, error_of}
-use Rattle.serde_json_path_parser.specs.Parse.{is_dollar, NeedsNoMemory, Answers, checked_view}
+use Rattle.serde_json_path_parser.specs.Parse.{is_dollar, NeedsNoMemory, Answers, checked_view, reported}
 use Rattle.serde_json_path_parser.proofs.Reading.Regrouped.{past_all}
 use Rattle.serde_json_path_parser.proofs.Grammar.Paths.{ArePathSegments, path_sound, path_again, NoRoot, TextAfter, SegmentRefused, path_refused, boundary}
 use Rattle.serde_json_path_parser.proofs.Printing.Spelling.{scalars_of}
@@ -161,6 +161,7 @@ module _ (signature : List ℕ → Option Signature) (text : List ℕ) (u : IsUt
     kept = tt;
     only = tt;
     refused = λ other. absurd (other refl);
+    told = λ other. absurd (other refl);
     missing_root = ((λ e. absurd cc), (λ h. let less = h.0 in absurd (omega (arith, long))));
     text_after = λ e. absurd cc;
     undefined = λ e. absurd cc;
@@ -178,6 +179,7 @@ module _ (signature : List ℕ → Option Signature) (text : List ℕ) (u : IsUt
         kept = subst (AreCalled (signatures_of checked)) (sym tree) kept;
         only = λ q a. one_tree_at_most signature (chars text) q (tree_of checked) a (subst (IsAccepted signature (chars text)) (sym tree) (accepted signature (chars text) s.0 segs s.2 s.1));
         refused = tt;
+        told = tt;
         missing_root = ((λ h. absurd h), (λ h. true≢false (sym (ap (begins is_dollar) s.2) ∙ h.1)));
         text_after = tt;
         undefined = tt;
@@ -194,6 +196,7 @@ module _ (signature : List ℕ → Option Signature) (text : List ℕ) (u : IsUt
     kept = tt;
     only = tt;
     refused = λ other. absurd (other refl);
+    told = λ other. absurd (other refl);
     missing_root = ((λ e. absurd cc), (λ g. absurd (spares (needs_none (chars text) (inl g.1)))));
     text_after = λ e. absurd cc;
     undefined = λ e. absurd cc;
@@ -210,6 +213,7 @@ module _ (signature : List ℕ → Option Signature) (text : List ℕ) (u : IsUt
         kept = tt;
         only = tt;
         refused = λ other q a. let f = accepted_read signature (chars text) q a in let e : Ok f.0 ≡ Err r = sym f.2 ∙ h in cc;
+        told = λ other. ap (reported (length text)) h ∙ ap (λ (n : ℕ). Some (record { kind = r.kind; context = r.context; position = n - r.left + 1 })) (sym t);
         missing_root = ((λ e. (short, k.root_missing.0 e)), (λ g. k.root_missing.1 g.1));
         text_after = λ e. subst (λ (n : ℕ). (q : Query) × IsAccepted signature (chars (take n text)) q) (sym cut) (k.after e);
         undefined = λ e. subst (λ (n : ℕ). IsUndeclared signature (chars (drop n text))) (sym cut) (k.undefined e);
