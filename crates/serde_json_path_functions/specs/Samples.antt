@@ -1,9 +1,10 @@
--- A function set of the tests: what its names mean, and that it keeps types.
-use Rattle.std.proofs.Common.{◌≤◌, ℕ, List, [], ◌∷◌, length, Bool, true, false, ◌||◌, Option, Some, None, bytes_eq, codes, if◌then◌else◌, ap, subst, arith}
+-- A function set of the tests: what its names mean, and that it keeps types and patterns.
+use Rattle.std.proofs.Common.{◌≤◌, ℕ, List, [], ◌∷◌, length, Bool, true, false, ◌||◌, Option, Some, None, bytes_eq, codes, if◌then◌else◌, refl, ap, subst, arith}
 use Rattle.std.proofs.lemmas.Option.{same_Some}
 use Rattle.serde_json.specs.Data.{boolean}
 use Rattle.serde_json_path_functions.specs.BothTypes.{Keeps}
 use Rattle.serde_json_path_functions.specs.Functions.{of_value, of_nodes, Signature, value, FunctionSet, KeepsTypes}
+use Rattle.serde_json_path_functions.specs.Patterns.{KeepsPatterns, keeps_no_patterns}
 
 -- `match(Nodes) -> Value` and `own(Nodes) -> Value`
 abbrev pub own_signature : List ℕ → Option Signature
@@ -21,3 +22,6 @@ own_kept false s e = absurd cc
 
 pub own_keeps_types : KeepsTypes own_functions
 own_keeps_types name = own_kept (bytes_eq name (codes "match") || bytes_eq name (codes "own"))
+
+pub own_keeps_patterns : KeepsPatterns own_functions
+own_keeps_patterns = keeps_no_patterns own_functions (λ name. refl)
