@@ -29,11 +29,11 @@ value_typed (nodes ds ∷ t ∷ ts) = refl
 value_typed (value v ∷ ts) = refl
 value_typed (logical b ∷ ts) = refl
 
-pattern_typed : (matching : Matching) (ts : List Term) → kind_of_term (pattern_meaning matching ts) ≡ of_logical
+pub pattern_typed : (matching : Matching) (ts : List Term) → kind_of_term (pattern_meaning matching ts) ≡ of_logical
 pattern_typed matching (value (Some (string text)) ∷ value (Some (string pattern)) ∷ []) = refl
 pattern_typed matching _ = refl
 
-declared_keeps : (declared : Signature) (meaning : List Term → Term) → length declared.params ≤ 8
+pub declared_keeps : (declared : Signature) (meaning : List Term → Term) → length declared.params ≤ 8
     → ((ts : List Term) → kind_of_term (meaning ts) ≡ declared.result) → Keeps (Some declared) meaning
 declared_keeps declared meaning few typed s e =
     let same = same_Some declared s e in (subst (λ x. length x.params ≤ 8) same few, λ ts h. typed ts ∙ ap (λ x. x.result) same)
@@ -91,7 +91,7 @@ builtin_keeps_types name =
 
 -- ---- patterns
 
-pattern_kept : (matching : Matching) (plain : List Term → Term)
+pub pattern_kept : (matching : Matching) (plain : List Term → Term)
     → KeepsPattern (Some matching_signature) (Some matching) (λ ts. meaning_by (Some matching) (plain ts) ts)
 pattern_kept matching plain other same = (refl, λ ts h. ap (λ m. pattern_meaning m ts) (same_Some matching other same))
 

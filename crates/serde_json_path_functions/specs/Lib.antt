@@ -4,7 +4,7 @@
 -- Terms: what contracts see of arguments, answers and signatures.
 -- Errors: the texts of errors.
 -- BothTypes, BuiltinTypes: one set before another, and the built-in one, keep their types and patterns.
--- Samples: a function set of the tests.
+-- Samples: the function sets of the tests.
 pub mod Functions
 pub mod BothTypes
 pub mod BuiltinTypes
