@@ -1,9 +1,10 @@
--- A function set as an example: what its names mean, and that it keeps types.
+-- A function set as an example: what its names mean, and that it keeps types and patterns.
 use Rattle.std.proofs.Common.{◌≡◌, ◌≤◌, ◌&&◌, ℕ, List, [], ◌∷◌, length, Bool, true, false, Option, Some, None, bytes_eq, codes, if◌then◌else◌, refl, ap, ◌∙◌, subst, arith, slice_get}
 use Rattle.std.proofs.lemmas.Option.{same_Some}
 use Rattle.serde_json.specs.Data.{Data}
 use Rattle.serde_json_path_functions.specs.BothTypes.{Keeps}
 use Rattle.serde_json_path_functions.specs.Functions.{of_value, of_nodes, of_logical, Signature, Term, value, nodes, logical, kind_of_term, FunctionSet, KeepsTypes}
+use Rattle.serde_json_path_functions.specs.Patterns.{KeepsPatterns, keeps_no_patterns}
 
 -- `first(Nodes) -> Value`, `both(Logical, Logical) -> Logical` and `none() -> Value`
 abbrev pub samples_signature : List ℕ → Option Signature
@@ -52,3 +53,8 @@ by_name false false false = λ s e. absurd cc
 
 pub samples_keep_types : KeepsTypes samples
 samples_keep_types name = by_name (bytes_eq name (codes "first")) (bytes_eq name (codes "both")) (bytes_eq name (codes "none"))
+
+-- ---- patterns
+
+pub samples_keep_patterns : KeepsPatterns samples
+samples_keep_patterns = keeps_no_patterns samples (λ name. refl)

@@ -18,11 +18,13 @@ use std::alloc::Global;
 pub struct Samples;
 
 impl Functions for Samples {
-    ghost use Rattle.jsonpath.specs.Samples.{samples, samples_keep_types};
+    ghost use Rattle.jsonpath.specs.Samples.{samples, samples_keep_types, samples_keep_patterns};
 
     ghost set = { λ _. samples };
 
     ghost typed = { λ _. samples_keep_types };
+
+    ghost patterned = { λ _. samples_keep_patterns };
 
     fn signature(&self, name: &str) -> Option<Signature> {
         match name {

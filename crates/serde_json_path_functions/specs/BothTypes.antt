@@ -1,6 +1,7 @@
--- One set before another keeps its types where both do.
+-- One set before another keeps its types where both do, and its patterns.
 use Rattle.std.specs.Prelude.{◌≡◌, ◌≤◌, List, length, map, Option, None, Some}
-use Rattle.serde_json_path_functions.specs.Functions.{Signature, Term, FunctionSet, kind_of_term, KeepsTypes, first_signature, of_first, both}
+use Rattle.serde_json_path_functions.specs.Functions.{Signature, Term, Matching, FunctionSet, kind_of_term, Takes, KeepsTypes, matching_signature, first_signature, of_first, both}
+use Rattle.serde_json_path_functions.specs.Patterns.{KeepsPatterns, pattern_meaning}
 
 -- a name of this signature, which may be none, has at most eight parameters, and its meaning is of the type that it gives
 abbrev pub Keeps : Option Signature → (List Term → Term) → Type 0
@@ -15,3 +16,21 @@ first_keeps (Some s) p first second h k = h
 
 pub both_keeps_types : (A B : FunctionSet) → KeepsTypes A → KeepsTypes B → KeepsTypes (both A B)
 both_keeps_types A B h k name = first_keeps (A.signature name) (B.signature name) (A.meaning name) (B.meaning name) (h name) (k name)
+
+-- A name has this signature and meaning, and stands for `match`, for `search` or for neither. If it stands for one, then the
+-- signature is theirs, and the meaning is what `regex` finds.
+abbrev pub KeepsPattern : Option Signature → Option Matching → (List Term → Term) → Type 0
+KeepsPattern declared standing meaning =
+    (matching : Matching) → standing ≡ Some matching
+    → (declared ≡ Some matching_signature)
+    × ((ts : List Term) → Takes (Some matching_signature) ts → meaning ts ≡ pattern_meaning matching ts)
+
+first_keeps_pattern : (o p : Option Signature) (q r : Option Matching) (first second : List Term → Term)
+    → KeepsPattern o q first → KeepsPattern p r second
+    → KeepsPattern (first_signature o p) (of_first o q r) (λ ts. of_first o (first ts) (second ts))
+first_keeps_pattern None p q r first second h k = k
+first_keeps_pattern (Some s) p q r first second h k = h
+
+pub both_keeps_patterns : (A B : FunctionSet) → KeepsPatterns A → KeepsPatterns B → KeepsPatterns (both A B)
+both_keeps_patterns A B h k name =
+    first_keeps_pattern (A.signature name) (B.signature name) (A.by_regex name) (B.by_regex name) (A.meaning name) (B.meaning name) (h name) (k name)

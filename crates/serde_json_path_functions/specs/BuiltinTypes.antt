@@ -1,12 +1,12 @@
--- The built-in functions keep their types.
+-- The built-in functions keep their types, and their patterns.
 use Rattle.std.proofs.Common.{◌≡◌, ℕ, ◌≤◌, List, [], ◌∷◌, length, Bool, true, false, true≢false, Option, Some, None, IsSome, bytes_eq, codes, if◌then◌else◌, inl, inr, refl, sym, ap, ◌∙◌, subst, arith}
 use Rattle.std.proofs.lemmas.Bool.{cases_Bool}
 use Rattle.std.proofs.lemmas.Option.{same_Some}
 use Rattle.std.proofs.lemmas.Slice.Eq.{bytes_eq-Decides}
 use Rattle.serde_json.specs.Data.{string}
-use Rattle.serde_json_path_functions.specs.BothTypes.{Keeps}
-use Rattle.serde_json_path_functions.specs.Functions.{of_value, of_nodes, of_logical, Signature, Term, value, nodes, logical, kind_of_term, Matching, whole_text, any_part, KeepsTypes, first_signature, length_meaning, count_meaning, value_meaning, plain_meaning, plain_signature, pattern_signature, builtin_by_regex}
-use Rattle.serde_json_path_functions.specs.Patterns.{pattern_meaning, meaning_by, builtin_functions}
+use Rattle.serde_json_path_functions.specs.BothTypes.{Keeps, KeepsPattern}
+use Rattle.serde_json_path_functions.specs.Functions.{of_value, of_nodes, of_logical, Signature, Term, value, nodes, logical, kind_of_term, Matching, whole_text, any_part, KeepsTypes, matching_signature, first_signature, length_meaning, count_meaning, value_meaning, plain_meaning, plain_signature, pattern_signature, builtin_by_regex}
+use Rattle.serde_json_path_functions.specs.Patterns.{pattern_meaning, KeepsPatterns, meaning_by, builtin_functions}
 
 length_typed : (ts : List Term) → kind_of_term (length_meaning ts) ≡ of_value
 length_typed [] = refl
@@ -29,11 +29,11 @@ value_typed (nodes ds ∷ t ∷ ts) = refl
 value_typed (value v ∷ ts) = refl
 value_typed (logical b ∷ ts) = refl
 
-pattern_typed : (matching : Matching) (ts : List Term) → kind_of_term (pattern_meaning matching ts) ≡ of_logical
+pub pattern_typed : (matching : Matching) (ts : List Term) → kind_of_term (pattern_meaning matching ts) ≡ of_logical
 pattern_typed matching (value (Some (string text)) ∷ value (Some (string pattern)) ∷ []) = refl
 pattern_typed matching _ = refl
 
-declared_keeps : (declared : Signature) (meaning : List Term → Term) → length declared.params ≤ 8
+pub declared_keeps : (declared : Signature) (meaning : List Term → Term) → length declared.params ≤ 8
     → ((ts : List Term) → kind_of_term (meaning ts) ≡ declared.result) → Keeps (Some declared) meaning
 declared_keeps declared meaning few typed s e =
     let same = same_Some declared s e in (subst (λ x. length x.params ≤ 8) same few, λ ts h. typed ts ∙ ap (λ x. x.result) same)
@@ -53,8 +53,8 @@ plain_keeps false false false = λ s e. absurd cc
 
 abbrev pattern_by : Bool → Bool → Option Signature
 pattern_by d e =
-    if d then Some (record { params = of_value ∷ of_value ∷ []; result = of_logical })
-    else if e then Some (record { params = of_value ∷ of_value ∷ []; result = of_logical })
+    if d then Some matching_signature
+    else if e then Some matching_signature
     else None
 
 abbrev matching_by : Bool → Bool → Option Matching
@@ -87,4 +87,28 @@ builtin_keeps_types name =
     either_keeps (plain_signature name) (pattern_signature name) (builtin_by_regex name) (plain_meaning name)
     (plain_keeps (bytes_eq name (codes "length")) (bytes_eq name (codes "count")) (bytes_eq name (codes "value")))
     (pattern_keeps (bytes_eq name (codes "match")) (bytes_eq name (codes "search")) (plain_meaning name))
+    (plain_without_regex name)
+
+-- ---- patterns
+
+pub pattern_kept : (matching : Matching) (plain : List Term → Term)
+    → KeepsPattern (Some matching_signature) (Some matching) (λ ts. meaning_by (Some matching) (plain ts) ts)
+pattern_kept matching plain other same = (refl, λ ts h. ap (λ m. pattern_meaning m ts) (same_Some matching other same))
+
+patterns_kept : (d e : Bool) (plain : List Term → Term)
+    → KeepsPattern (pattern_by d e) (matching_by d e) (λ ts. meaning_by (matching_by d e) (plain ts) ts)
+patterns_kept true e plain = pattern_kept whole_text plain
+patterns_kept false true plain = pattern_kept any_part plain
+patterns_kept false false plain = λ matching same. absurd cc
+
+either_keeps_pattern : (o p : Option Signature) (r : Option Matching) (meaning : List Term → Term) → KeepsPattern p r meaning
+    → (IsSome o → r ≡ None) → KeepsPattern (first_signature o p) r meaning
+either_keeps_pattern None p r meaning second apart = second
+either_keeps_pattern (Some q) p r meaning second apart = λ matching same. let none : r ≡ None = apart refl in absurd cc
+
+pub builtin_keeps_patterns : KeepsPatterns builtin_functions
+builtin_keeps_patterns name =
+    either_keeps_pattern (plain_signature name) (pattern_signature name) (builtin_by_regex name)
+    (λ ts. meaning_by (builtin_by_regex name) (plain_meaning name ts) ts)
+    (patterns_kept (bytes_eq name (codes "match")) (bytes_eq name (codes "search")) (plain_meaning name))
     (plain_without_regex name)

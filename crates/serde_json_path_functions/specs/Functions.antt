@@ -88,11 +88,15 @@ plain_signature name =
     else if bytes_eq name (codes "value") then Some (record { params = of_nodes ∷ []; result = of_value })
     else None
 
+-- the signature of a name that stands for `match` or `search`: two values and a truth value
+abbrev pub matching_signature : Signature
+matching_signature = record { params = of_value ∷ of_value ∷ []; result = of_logical }
+
 -- `match(Value, Value) -> Logical` and `search(Value, Value) -> Logical` (sections 2.4.6 and 2.4.7)
 abbrev pub pattern_signature : List ℕ → Option Signature
 pattern_signature name =
-    if bytes_eq name (codes "match") then Some (record { params = of_value ∷ of_value ∷ []; result = of_logical })
-    else if bytes_eq name (codes "search") then Some (record { params = of_value ∷ of_value ∷ []; result = of_logical })
+    if bytes_eq name (codes "match") then Some matching_signature
+    else if bytes_eq name (codes "search") then Some matching_signature
     else None
 
 abbrev pub builtin_signature : List ℕ → Option Signature

@@ -1,9 +1,9 @@
 -- The patterns of `match` and `search`, as `regex` reads them (RFC 9535, sections 2.4.6 and 2.4.7).
-use Rattle.std.specs.Prelude.{ℕ, ◌≤◌, List, [], ◌∷◌, ◌++◌, Bool, false, Option, None, Some, IfSome, is_some, option_and_then, codes, chars}
+use Rattle.std.specs.Prelude.{◌≡◌, ℕ, ◌≤◌, List, [], ◌∷◌, ◌++◌, Bool, false, Option, None, Some, IfSome, is_some, option_and_then, codes, chars}
 use Rattle.regex_syntax.specs.Grammar.{read}
 use Rattle.regex.specs.Patterns.{default_config, find_str}
 use Rattle.serde_json.specs.Data.{string}
-use Rattle.serde_json_path_functions.specs.Functions.{Term, value, logical, Matching, whole_text, any_part, FunctionSet, builtin_signature, builtin_by_regex, plain_meaning, both}
+use Rattle.serde_json_path_functions.specs.Functions.{Term, value, logical, Matching, whole_text, any_part, FunctionSet, Takes, matching_signature, builtin_signature, builtin_by_regex, plain_meaning, both}
 
 -- the text that is built of a pattern
 abbrev pub built_text : Matching → List ℕ → List ℕ
@@ -27,6 +27,17 @@ is_found pattern text = is_some (option_and_then (λ (re, names). find_str re.va
 abbrev pub pattern_meaning : Matching → List Term → Term
 pattern_meaning matching (value (Some (string text)) ∷ value (Some (string pattern)) ∷ []) = logical (is_found (built_text matching pattern) text)
 pattern_meaning _ _ = logical false
+
+-- each name that stands for `match` or `search` has their signature, and means what `regex` finds
+abbrev pub KeepsPatterns : FunctionSet → Type 0
+KeepsPatterns F =
+    (name : List ℕ) (matching : Matching) → F.by_regex name ≡ Some matching
+    → (F.signature name ≡ Some matching_signature)
+    × ((terms : List Term) → Takes (Some matching_signature) terms → F.meaning name terms ≡ pattern_meaning matching terms)
+
+-- a set without such names does so
+pub keeps_no_patterns : (F : FunctionSet) → ((name : List ℕ) → F.by_regex name ≡ None) → KeepsPatterns F
+keeps_no_patterns F plain name matching stands = let none : F.by_regex name ≡ None = plain name in absurd cc
 
 -- the meaning of a name that uses `regex`, or of a plain one
 abbrev pub meaning_by : Option Matching → Term → List Term → Term

@@ -111,12 +111,14 @@ fn pattern_answer<'b>(
 }
 
 impl Functions for Builtin {
-    ghost use Rattle.serde_json_path_functions.specs.BuiltinTypes.{builtin_keeps_types};
+    ghost use Rattle.serde_json_path_functions.specs.BuiltinTypes.{builtin_keeps_types, builtin_keeps_patterns};
     ghost use Rattle.serde_json_path_functions.specs.Patterns.{builtin_functions};
 
     ghost set = { λ _. builtin_functions };
 
     ghost typed = { λ _. builtin_keeps_types };
+
+    ghost patterned = { λ _. builtin_keeps_patterns };
 
     fn signature(&self, name: &str) -> Option<Signature> {
         match name {

@@ -2,7 +2,7 @@
 
 ghost use Rattle.std.specs.Prelude.{◌≡◌, IfOk, IsSome, Err, map, option_map};
 ghost use Rattle.serde_json_path_functions.specs.Functions.{FunctionSet, Takes, Gives, KeepsTypes};
-ghost use Rattle.serde_json_path_functions.specs.Patterns.{IsPromised};
+ghost use Rattle.serde_json_path_functions.specs.Patterns.{IsPromised, KeepsPatterns};
 ghost use Rattle.serde_json_path_functions.specs.Terms.{term_view, signature_view};
 ghost use Rattle.serde_json_path_functions.specs.declared.error.QueryError.TheVariants.{Pattern};
 
@@ -23,6 +23,9 @@ pub trait Functions {
 
     /// Meanings have the declared types.
     ghost typed: { (functions : Self) → KeepsTypes (set functions) };
+
+    /// A name that stands for `match` or `search` has their signature and means what `regex` finds.
+    ghost patterned: { (functions : Self) → KeepsPatterns (set functions) };
 
     /// The signature of a name, or `None` for a name that the set does not declare.
     fn signature(&self, name: &str) -> Option<Signature>
@@ -50,6 +53,8 @@ impl<F: Functions> Functions for &F {
     ghost set = { λ functions. F.set functions.now };
 
     ghost typed = { λ functions. F.typed functions.now };
+
+    ghost patterned = { λ functions. F.patterned functions.now };
 
     fn signature(&self, name: &str) -> Option<Signature> {
         (**self).signature(name)

@@ -1,6 +1,7 @@
 //! Types of functions, what the built-in functions answer, sets of functions, and errors.
 
 mod both;
+mod errors;
 mod functions;
 mod patterns;
 

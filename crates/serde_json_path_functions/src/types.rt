@@ -28,10 +28,10 @@ pub enum LogicalType {
 }
 
 impl Default for LogicalType {
+    ghost is_default = { λ truth. truth_view truth ≡ false };
+
     /// False.
-    fn default() -> LogicalType
-        ensures { truth_view result ≡ false }
-    {
+    fn default() -> LogicalType {
         LogicalType::from(false)
     }
 }
@@ -73,10 +73,10 @@ impl<'b> ValueType<'b> {
 }
 
 impl<'b> Default for ValueType<'b> {
+    ghost is_default = { λ value. value_view value ≡ None };
+
     /// Nothing.
-    fn default() -> ValueType<'b>
-        ensures { value_view result ≡ None }
-    {
+    fn default() -> ValueType<'b> {
         ValueType::Nothing
     }
 }

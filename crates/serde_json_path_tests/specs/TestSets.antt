@@ -1,7 +1,8 @@
--- The function sets of the tests: what their names mean, and that they keep types.
+-- The function sets of the tests: what their names mean, and that they keep types and patterns.
 use Rattle.std.proofs.Common.{◌≡◌, ◌≤◌, ◌+◌, ◌&&◌, ℕ, List, [], ◌∷◌, length, map, Bool, true, false, Option, Some, None, bytes_eq, codes, if◌then◌else◌, refl, ap, ◌∙◌, subst, arith}
 use Rattle.std.proofs.lemmas.Option.{same_Some}
 use Rattle.serde_json_path_functions.specs.Functions.{Kind, of_value, of_nodes, of_logical, Signature, Term, value, nodes, logical, counted, kind_of_term, FunctionSet, KeepsTypes}
+use Rattle.serde_json_path_functions.specs.Patterns.{KeepsPatterns, keeps_no_patterns}
 
 -- the parameters of a declared name, and what it gives
 abbrev IsKept : Option Signature → (List Term → Term) → Type 0
@@ -42,6 +43,9 @@ kids_by_name false = none_kept kids_meaning
 pub kids_keeps_types : KeepsTypes kids_functions
 kids_keeps_types name s e = kids_by_name (bytes_eq name (codes "kids")) s e
 
+pub kids_keeps_patterns : KeepsPatterns kids_functions
+kids_keeps_patterns = keeps_no_patterns kids_functions (λ name. refl)
+
 -- ---- `length` takes nodes, and gives one more than there are
 
 abbrev pub odd_meaning : List Term → Term
@@ -67,6 +71,9 @@ odd_by_name false = none_kept odd_meaning
 
 pub odd_keeps_types : KeepsTypes odd_functions
 odd_keeps_types name s e = odd_by_name (bytes_eq name (codes "length")) s e
+
+pub odd_keeps_patterns : KeepsPatterns odd_functions
+odd_keeps_patterns = keeps_no_patterns odd_functions (λ name. refl)
 
 -- ---- `f`, `true` and `eight` are true, and `refuse` has no answer
 
@@ -97,6 +104,9 @@ strange_by_name false false false false = none_kept (λ ts. logical true)
 pub strange_keeps_types : KeepsTypes strange_functions
 strange_keeps_types name s e =
     strange_by_name (bytes_eq name (codes "f")) (bytes_eq name (codes "true")) (bytes_eq name (codes "refuse")) (bytes_eq name (codes "eight")) s e
+
+pub strange_keeps_patterns : KeepsPatterns strange_functions
+strange_keeps_patterns = keeps_no_patterns strange_functions (λ name. refl)
 
 -- ---- `both` gives whether both are true, and `none` gives Nothing
 
@@ -137,3 +147,6 @@ pair_by_name false false = none_kept (λ ts. value None)
 
 pub pair_keeps_types : KeepsTypes pair_functions
 pair_keeps_types name s e = pair_by_name (bytes_eq name (codes "both")) (bytes_eq name (codes "none")) s e
+
+pub pair_keeps_patterns : KeepsPatterns pair_functions
+pair_keeps_patterns = keeps_no_patterns pair_functions (λ name. refl)

@@ -17,11 +17,13 @@ use std::test::Fail;
 struct Own;
 
 impl Functions for Own {
-    ghost use Rattle.serde_json_path_functions.specs.Samples.{own_functions, own_keeps_types};
+    ghost use Rattle.serde_json_path_functions.specs.Samples.{own_functions, own_keeps_types, own_keeps_patterns};
 
     ghost set = { λ _. own_functions };
 
     ghost typed = { λ _. own_keeps_types };
+
+    ghost patterned = { λ _. own_keeps_patterns };
 
     fn signature(&self, name: &str) -> Option<Signature> {
         match name {

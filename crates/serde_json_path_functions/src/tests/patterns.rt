@@ -1,9 +1,10 @@
 //! What `match` and `search` answer.
 
-ghost use Rattle.std.specs.Prelude.{◌≡◌, [], ◌∷◌, Some};
-ghost use Rattle.serde_json_path_functions.specs.Functions.{of_value, of_logical, builtin_signature};
+ghost use Rattle.std.specs.Prelude.{◌≡◌, map, Some, IfOk};
+ghost use Rattle.serde_json_path_functions.specs.Functions.{Takes, matching_signature, builtin_signature};
+ghost use Rattle.serde_json_path_functions.specs.Terms.{term_view};
 
-use crate::{Builtin, FunctionValue, Functions, LogicalType, ValueType};
+use crate::{Builtin, FunctionValue, Functions, LogicalType, QueryError, ValueType};
 use serde_json::Value;
 use std::alloc::Global;
 use std::process::Abort;
@@ -17,17 +18,34 @@ fn value_of(alloc: Global, json: &str) -> Result<ValueType<'static>, Fail> {
     Ok(ValueType::Value(Value::from_str(alloc, json)?))
 }
 
-/// The answer of a function to two values, each a JSON text.
-fn answer_to(alloc: Global, name: &str, text: &str, pattern: &str) -> Result<bool, Fail>
-    requires { (builtin_signature name.now ≡ Some (record { params = of_value ∷ of_value ∷ []; result = of_logical })) }
+/// Two values as arguments, each a JSON text.
+fn arguments(alloc: Global, text: &str, pattern: &str) -> Result<Vec<FunctionValue<'static>>, Fail>
+    ensures { IfOk result (λ args. Takes (Some matching_signature) (map term_view args.items)) }
 {
     let mut args = Vec::new(alloc);
     args.push(FunctionValue::Value(value_of(alloc, text)?))?;
     args.push(FunctionValue::Value(value_of(alloc, pattern)?))?;
-    match Builtin.call(alloc, name, args)? {
+    Ok(args)
+}
+
+/// The answer of a function to two values, each a JSON text.
+fn answer_to(alloc: Global, name: &str, text: &str, pattern: &str) -> Result<bool, Fail>
+    requires { builtin_signature name.now ≡ Some matching_signature }
+{
+    match Builtin.call(alloc, name, arguments(alloc, text, pattern)?)? {
         FunctionValue::Logical(truth) => Ok(truth == LogicalType::True),
         _ => Err(Fail::from("another type")),
     }
+}
+
+/// Whether a function refuses a pattern, a JSON text, as one that is not built.
+fn is_refused(alloc: Global, name: &str, pattern: &str) -> Result<bool, Fail>
+    requires { builtin_signature name.now ≡ Some matching_signature }
+{
+    let refused = Builtin
+        .call(alloc, name, arguments(alloc, r#""a""#, pattern)?)
+        .err();
+    Ok(refused == Some(QueryError::Pattern))
 }
 
 /// Tries each row: a text, a pattern, and whether the name's answer to them is true.
@@ -37,7 +55,7 @@ fn rows_of(
     name: &str,
     rows: &[(&str, &str, bool)],
 ) -> Result<(), Fail>
-    requires { (builtin_signature name.now ≡ Some (record { params = of_value ∷ of_value ∷ []; result = of_logical })) }
+    requires { builtin_signature name.now ≡ Some matching_signature }
 {
     for (text, pattern, want) in rows {
         let answer = answer_to(alloc, name, text, pattern)?;
@@ -82,4 +100,15 @@ fn searches_in_the_text(rt: HostRuntime) -> Result<(), Fail> {
         (r#""Marge Simpson""#, r#""Flanders""#, false),
     ];
     rows_of(&rt, rt.alloc(), "search", &rows)
+}
+
+/// A pattern that would be too great is refused; one that `regex` cannot read is not found.
+#[test]
+fn refuses_patterns_that_are_too_great(rt: HostRuntime) -> Result<(), Fail> {
+    let alloc = rt.alloc();
+    assert!(rt; is_refused(alloc, "match", r#""a{1000}{1000}""#)?);
+    assert!(rt; is_refused(alloc, "search", r#""a{1000}{1000}""#)?);
+    assert!(rt; !answer_to(alloc, "match", r#""a""#, r#""a{1000}{1000""#)?);
+    assert!(rt; !answer_to(alloc, "search", r#""a""#, r#""a{1000}{1000""#)?);
+    Ok(())
 }

@@ -22,11 +22,13 @@ use std::test::Fail;
 struct Kids;
 
 impl Functions for Kids {
-    ghost use Rattle.serde_json_path_tests.specs.TestSets.{kids_keeps_types};
+    ghost use Rattle.serde_json_path_tests.specs.TestSets.{kids_keeps_types, kids_keeps_patterns};
 
     ghost set = { λ _. kids_functions };
 
     ghost typed = { λ _. kids_keeps_types };
+
+    ghost patterned = { λ _. kids_keeps_patterns };
 
     fn signature(&self, name: &str) -> Option<Signature> {
         match name {
@@ -53,11 +55,13 @@ impl Functions for Kids {
 struct Odd;
 
 impl Functions for Odd {
-    ghost use Rattle.serde_json_path_tests.specs.TestSets.{odd_keeps_types};
+    ghost use Rattle.serde_json_path_tests.specs.TestSets.{odd_keeps_types, odd_keeps_patterns};
 
     ghost set = { λ _. odd_functions };
 
     ghost typed = { λ _. odd_keeps_types };
+
+    ghost patterned = { λ _. odd_keeps_patterns };
 
     fn signature(&self, name: &str) -> Option<Signature> {
         match name {
@@ -87,11 +91,13 @@ impl Functions for Odd {
 struct Strange;
 
 impl Functions for Strange {
-    ghost use Rattle.serde_json_path_tests.specs.TestSets.{strange_keeps_types};
+    ghost use Rattle.serde_json_path_tests.specs.TestSets.{strange_keeps_types, strange_keeps_patterns};
 
     ghost set = { λ _. strange_functions };
 
     ghost typed = { λ _. strange_keeps_types };
+
+    ghost patterned = { λ _. strange_keeps_patterns };
 
     fn signature(&self, name: &str) -> Option<Signature> {
         match name {
@@ -119,11 +125,13 @@ impl Functions for Strange {
 struct Pairs;
 
 impl Functions for Pairs {
-    ghost use Rattle.serde_json_path_tests.specs.TestSets.{pair_keeps_types};
+    ghost use Rattle.serde_json_path_tests.specs.TestSets.{pair_keeps_types, pair_keeps_patterns};
 
     ghost set = { λ _. pair_functions };
 
     ghost typed = { λ _. pair_keeps_types };
+
+    ghost patterned = { λ _. pair_keeps_patterns };
 
     fn signature(&self, name: &str) -> Option<Signature> {
         match name {
