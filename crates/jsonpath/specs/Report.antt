@@ -7,7 +7,9 @@ use Rattle.serde_json.specs.Written.{has_float, compact_text}
 use Rattle.serde_json_path_nodes.specs.Location.{Located}
 use Rattle.serde_json_path_nodes.specs.Text.{normal}
 use Rattle.serde_json_path_syntax.specs.Tree.{Query}
-use Rattle.serde_json_path_functions.specs.Patterns.{builtin_functions}
+use Rattle.serde_json_path_syntax.specs.Calls.{EachCall}
+use Rattle.serde_json_path_functions.specs.Functions.{FunctionSet}
+use Rattle.serde_json_path_core.specs.Clear.{GoesWithoutPattern}
 use Rattle.serde_json_path_core.specs.Selects.{Selects}
 use Rattle.serde_json_path_parser.specs.Accepted.{IsAccepted}
 
@@ -26,13 +28,21 @@ abbrev pub AreLinesOf : List Located → List ℕ → Type 0
 AreLinesOf [] text = text ≡ []
 AreLinesOf (n ∷ ns) text = (line rest : List ℕ) × IsLineOf n line × AreLinesOf ns rest × (text ≡ line ++ rest)
 
--- The text is the lines of the path's result on the document, under the built-in functions, where no call of `match` or
--- `search` gets a pattern that is nested deeper than `regex` takes.
-pub record IsReportOf (path document text : List ℕ) : Type 0 where
+-- the text is no path under the set: it is accepted with no tree
+abbrev pub IsNoPath : FunctionSet → List ℕ → Type 0
+IsNoPath F path = (q : Query) → IsAccepted F.signature (chars path) q → ⊥
+
+-- the text is a path that calls a name of the set which stands for `match` or `search`
+abbrev pub CallsByPattern : FunctionSet → List ℕ → Type 0
+CallsByPattern F path = (q : Query) × IsAccepted F.signature (chars path) q × (EachCall (GoesWithoutPattern F) q → ⊥)
+
+-- The text is the lines of the path's result on the document, under the set's functions, where no call that goes by `regex`
+-- gets a pattern that is nested deeper than `regex` takes.
+pub record IsReportOf (F : FunctionSet) (path document text : List ℕ) : Type 0 where
   pub query : Query
   pub value : Data
   pub nodes : List Located
-  pub accepted : IsAccepted builtin_functions.signature (chars path) query
+  pub accepted : IsAccepted F.signature (chars path) query
   pub reads : ReadsAs document value
-  pub selects : Selects builtin_functions query value nodes
+  pub selects : Selects F query value nodes
   pub lines : AreLinesOf nodes text

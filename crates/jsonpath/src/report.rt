@@ -4,13 +4,14 @@ ghost use Rattle.std.specs.Prelude.{◌≡◌, ◌++◌, ℕ, List, IfOk, OnOk, 
 ghost use Rattle.serde_json.specs.Data.{Data};
 ghost use Rattle.serde_json.specs.View.{view};
 ghost use Rattle.serde_json_path_nodes.specs.Views.{located, located_nodes};
-ghost use Rattle.serde_json_path_functions.specs.Patterns.{builtin_functions};
+ghost use Rattle.serde_json_path_functions.specs.Patterns.{before_builtin};
 ghost use Rattle.serde_json_path.specs.Paths.{path_view};
 ghost use Rattle.serde_json_path_parser.specs.Parse.{IsParseOf};
 ghost use Rattle.serde_json_path_parser.specs.declared.error.ParseError as path_error;
-ghost use Rattle.jsonpath.specs.Report.{ReadsAs, IsLineOf, AreLinesOf, IsReportOf};
+ghost use Rattle.jsonpath.specs.Report.{ReadsAs, IsLineOf, AreLinesOf, IsNoPath, CallsByPattern, IsReportOf};
 
 use serde_json::Value;
+use serde_json_path::functions::Functions;
 use serde_json_path::{JsonPath, LocatedNode, LocatedNodeList, ParseError, QueryError};
 use std::alloc::{AllocError, Global};
 use thiserror::Error;
@@ -90,23 +91,37 @@ fn lines(alloc: Global, nodes: &LocatedNodeList<'_>) -> Result<String, AllocErro
 /// One line for each node of the document that the path selects, in order: its normalised path, a tab, its compact JSON
 /// and a line feed.
 ///
-/// The path is read first, then the document, and then the query runs. Filters call the built-in functions alone.
+/// The path is read first, then the document, and then the query runs. Filters may call the functions of a set as well as
+/// the built-in ones. If both define a name, the set's function is used.
 ///
 /// ```text
-/// report(alloc, "$.foo.bar[0]", b"{\"foo\":{\"bar\":[\"baz\",42]}}")
+/// report(alloc, "$.foo.bar[0]", b"{\"foo\":{\"bar\":[\"baz\",42]}}", &Builtin)
 /// gives $['foo']['bar'][0]<tab>"baz"
 /// ```
-pub fn report(alloc: Global, path: &str, document: &[u8]) -> Result<String, ReportError>
-    ensures lines { IfOk result (λ text. IsReportOf path.now document.now (string_bytes text)) }
+pub fn report<F: Functions>(
+    alloc: Global,
+    path: &str,
+    document: &[u8],
+    functions: &F,
+) -> Result<String, ReportError>
+    ensures lines { IfOk result (λ text.
+        IsReportOf (before_builtin (F.set functions.now)) path.now document.now (string_bytes text)) }
+
+    // A path is refused as the parse refuses it, and before the document is looked at.
     ensures path_refused { (e : path_error.ParseError) → result ≡ Err (ReportError.Path e)
-        → IsParseOf path_view builtin_functions.signature path.now (Err e) }
+        → IsParseOf path_view (before_builtin (F.set functions.now)).signature path.now (Err e) }
+    ensures path_first { IsNoPath (before_builtin (F.set functions.now)) path.now
+        → (e : path_error.ParseError) × (result ≡ Err (ReportError.Path e)) }
+
     ensures not_json { result ≡ Err (ReportError.Document DocumentError.NotJson) → (d : Data)
         → ReadsAs document.now d → ⊥ }
+    ensures pattern_refused { result ≡ Err (ReportError.Query QueryError.Pattern)
+        → CallsByPattern (before_builtin (F.set functions.now)) path.now }
 {
-    let path = JsonPath::parse(alloc, path).map_err(ReportError::Path)?;
+    let path = JsonPath::parse_with(alloc, path, functions).map_err(ReportError::Path)?;
     let value = self::document(alloc, document).map_err(ReportError::Document)?;
     let nodes = path
-        .query_located(alloc, &value)
+        .query_located_with(alloc, &value, functions)
         .map_err(ReportError::Query)?;
     Ok(lines(alloc, &nodes)?)
 }

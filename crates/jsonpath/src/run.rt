@@ -10,6 +10,7 @@ ghost use Rattle.jsonpath.specs.Report.{IsReportOf};
 ghost use Rattle.jsonpath.specs.Run.{status_of, IsOneWord};
 
 use crate::report::{ReportError, report};
+use serde_json_path::functions::Builtin;
 use std::alloc::Global;
 use std::io;
 use std::io::{Read, Write};
@@ -100,7 +101,7 @@ pub fn run<R: Read, W: Write, E: Write>(
     ensures read_whole { result ≡ 0 → IsAtEnd (R.remaining input.new) }
     ensures report_out { result ≡ 0
         → (document text path : List ℕ) × IsOneWord words.now path × IfSome (R.remaining input.old) (λ bytes. document ≡ bytes)
-        × IsReportOf path document text × Appends (W.contents out.old) (W.contents out.new) text }
+        × IsReportOf builtin_functions path document text × Appends (W.contents out.old) (W.contents out.new) text }
     ensures nothing_told { result ≡ 0 → err.new ≡ err.old }
 {
     let [path] = words else {
@@ -112,7 +113,7 @@ pub fn run<R: Read, W: Write, E: Write>(
         let _ = writeln!(err, "jsonpath: document: cannot be read");
         return DOCUMENT_REFUSED;
     }
-    match report(alloc, path.as_str(), document.as_slice()) {
+    match report(alloc, path.as_str(), document.as_slice(), &Builtin) {
         Ok(lines) => print(lines.as_str(), out, err),
         Err(e) => refuse(err, &e),
     }

@@ -2,6 +2,7 @@
 
 use crate::report::{DocumentError, ReportError, report};
 use crate::tests::reports::{BOOKSTORE, READINGS};
+use serde_json_path::functions::Builtin;
 use std::alloc::Global;
 use std::process::Abort;
 use std::test::Fail;
@@ -42,7 +43,7 @@ fn is_line(text: &str) -> bool {
 
 /// Asserts that the report of a document under `$` is one line, or that it is no JSON text.
 fn is_line_or_no_json(rt: &impl Abort, alloc: Global, document: &[u8]) {
-    match report(alloc, "$", document) {
+    match report(alloc, "$", document, &Builtin) {
         Ok(lines) => assert!(rt; is_line(lines.as_str()), "{lines:?}"),
         Err(ReportError::Document(DocumentError::NotJson)) => {}
         Err(e) => assert!(rt; false, "{e}"),

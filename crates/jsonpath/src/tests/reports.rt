@@ -1,6 +1,7 @@
 //! The lines of reports, and refusals of paths and documents.
 
 use crate::report::report;
+use serde_json_path::functions::Builtin;
 use std::alloc::{AllocError, Global};
 use std::process::Abort;
 use std::test::Fail;
@@ -75,7 +76,7 @@ const LINES: &[(&str, &str, &str)] = &[
 /// Compares the report of each row's path and document with its lines.
 fn reports_each(rt: &impl Abort, alloc: Global, rows: &[(&str, &str, &str)]) -> Result<(), Fail> {
     for &(path, document, lines) in rows {
-        let text = report(alloc, path, document.as_bytes())?;
+        let text = report(alloc, path, document.as_bytes(), &Builtin)?;
         assert_eq!(rt; text.as_str(), lines, "{path} on {document}");
     }
     Ok(())
@@ -113,7 +114,7 @@ fn refuses(
     document: &[u8],
     text: &str,
 ) -> Result<(), Fail> {
-    match report(alloc, path, document) {
+    match report(alloc, path, document, &Builtin) {
         Ok(_) => assert!(rt; false, "{path} is not refused"),
         Err(e) => assert_eq!(rt; e.to_string(alloc)?.as_str(), text, "of {path}"),
     }
@@ -153,7 +154,7 @@ fn nested(alloc: Global, depth: usize) -> Result<String, AllocError> {
 fn nested_arrays(rt: HostRuntime) -> Result<(), Fail> {
     let alloc = rt.alloc();
     let most = nested(alloc, 127)?;
-    let lines = report(alloc, "$", most.as_str().as_bytes())?;
+    let lines = report(alloc, "$", most.as_str().as_bytes(), &Builtin)?;
     assert_eq!(rt; lines.len(), 2 + 2 * 127 + 1);
     let more = nested(alloc, 128)?;
     refuses(&rt, alloc, "$", more.as_str().as_bytes(), "not JSON")

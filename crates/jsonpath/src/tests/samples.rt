@@ -1,5 +1,6 @@
 //! The sample functions, as filters call them.
 
+use crate::report::report;
 use crate::samples::Samples;
 use serde_json::Value;
 use serde_json_path::ParseErrorKind::{
@@ -65,6 +66,19 @@ fn filters_call_the_samples(rt: HostRuntime) -> Result<(), Fail> {
             write!(locations, " {location}")?;
         }
         assert_eq!(rt; locations.as_str(), wanted, "{text}");
+    }
+    Ok(())
+}
+
+#[test]
+fn reports_call_the_samples(rt: HostRuntime) -> Result<(), Fail> {
+    let document = b"[[4],[5,5],[5]]";
+    for (path, lines) in [
+        ("$[?first(@.*) == 4]", "$[0]\t[4]\n"),
+        ("$[?first(@.*) == 5 && length(@) == 1]", "$[2]\t[5]\n"),
+    ] {
+        let text = report(rt.alloc(), path, document, &Samples)?;
+        assert_eq!(rt; text.as_str(), lines, "{path}");
     }
     Ok(())
 }
