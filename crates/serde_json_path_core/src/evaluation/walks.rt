@@ -23,7 +23,7 @@ pub struct Walk<'q, 'b, F: Functions> {
 }
 
 impl<'q, 'b, F: Functions> Walk<'q, 'b, F> {
-    ghost use Rattle.std.specs.Prelude.{◌≡◌, ◌+◌, ◌<◌, ◌≤◌, [], ◌∷◌, IfOk, IfErr, IfSome, IfNone, MatchOption};
+    ghost use Rattle.std.specs.Prelude.{◌≡◌, ◌+◌, ◌<◌, ◌≤◌, [], ◌∷◌, None, Ok, IfOk, IfErr, IfSome, IfNone, MatchOption};
     ghost use Rattle.serde_json_path_nodes.specs.Views.{located};
     ghost use Rattle.serde_json_path_nodes.specs.Location.{Located};
     ghost use Rattle.serde_json_path_core.specs.Height.{height};
@@ -39,7 +39,8 @@ impl<'q, 'b, F: Functions> Walk<'q, 'b, F> {
         self.frames.len()
     }
 
-    /// The next node with its location, or `None` after the last one.
+    /// The next node with its location, or `None` after the last one. Once [`Walk::places`] is 0, each call gives `None`,
+    /// and none is refused.
     ///
     /// A refusal leaves the remaining nodes of a clear query (`specs/Clear`) as they were, and the next call tries the same
     /// step again. The error is `Pattern` only if the query calls a function that stands for `match` or `search`, under
@@ -52,6 +53,7 @@ impl<'q, 'b, F: Functions> Walk<'q, 'b, F> {
             ((rest self.old ≡ []) × (rest self.new ≡ []))
             (λ node. rest self.old ≡ located node ∷ rest self.new)) }
         ensures ended { IfOk result (λ next. IfNone next (places_of self.new ≡ 0)) }
+        ensures after_end { places_of self.old ≡ 0 → result ≡ Ok None }
         ensures nearer { IfOk result (λ next.
             IfSome next (λ node. steps_of self.new < steps_of self.old)) }
         ensures unchanged { IfErr result (λ e.
