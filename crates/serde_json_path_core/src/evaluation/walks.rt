@@ -61,7 +61,8 @@ impl<'q, 'b, F: Functions> Walk<'q, 'b, F> {
         ensures refused { OnlyMemory (set_of self.old) (query_of self.old) result }
     {
         let scope = &self.scope;
-        match find_next(scope, scope.query.segments(), &mut self.frames)? {
+        let segments = scope.query.segments();
+        match find_next(scope, segments, &mut self.frames)? {
             None => Ok(None),
             Some(value) => {
                 let node = located_at(self.scope.alloc, self.frames.as_slice(), value)?;
