@@ -54,6 +54,7 @@ impl<'q, 'b, F: Functions> Walk<'q, 'b, F> {
             (λ node. rest self.old ≡ located node ∷ rest self.new)) }
         ensures ended { IfOk result (λ next. IfNone next (places_of self.new ≡ 0)) }
         ensures after_end { places_of self.old ≡ 0 → result ≡ Ok None }
+        // Only that the number falls matters, whatever it counts: so a walk that is not refused ends.
         ensures nearer { IfOk result (λ next.
             IfSome next (λ node. steps_of self.new < steps_of self.old)) }
         ensures unchanged { IfErr result (λ e.
