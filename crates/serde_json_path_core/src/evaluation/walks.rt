@@ -30,7 +30,11 @@ impl<'q, 'b, F: Functions> Walk<'q, 'b, F> {
     ghost use Rattle.serde_json_path_core.specs.Selects.{OnlyMemory};
     ghost use Rattle.serde_json_path_core.specs.Walks.{query_of, set_of, document_of, rest, places_of, steps_of, IsClearWalk};
 
-    /// How many frames the walk keeps: at most the document's height plus one. With none, no node remains.
+    /// How many frames the walk's stack has: at most the document's height plus one. With none, no node remains.
+    ///
+    /// This bounds one query's stack, at every moment. Each query in a filter or in a call's argument that is being worked
+    /// on has a stack of its own, with the same bound, and at most 128 filters, parentheses and calls are within each
+    /// other. No clause adds these stacks up.
     pub fn places(&self) -> usize
         ensures count { result ≡ places_of self.now }
         ensures within { result ≤ height (document_of self.now) + 1 }
