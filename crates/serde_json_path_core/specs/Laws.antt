@@ -1,10 +1,11 @@
 -- Laws of the definitions.
 use Rattle.std.specs.Prelude.{◌≡◌, ◌≢◌, ◌≤◌, List, [], ◌∷◌, ◌++◌, length, map, ◌⊎◌, ◌↔◌, Some}
 use Rattle.serde_json.specs.Data.{Data}
-use Rattle.serde_json_path_nodes.specs.Location.{Step, child_at, StepBefore, Located}
+use Rattle.serde_json_path_nodes.specs.Location.{Step, child_at, at, StepBefore, Located}
 use Rattle.serde_json_path_syntax.specs.Tree.{QueryKind, Query, query, current, Segments, no_segments, segment, SegmentKind, child, descendant, Segment, relation, equal, not_equal, less, less_or_equal, Comparable, IsSingular}
 use Rattle.serde_json_path_functions.specs.Functions.{FunctionSet, KeepsTypes}
 use Rattle.serde_json_path_syntax.specs.Lists.{IsIn, IsInOrder}
+use Rattle.serde_json_path_core.specs.Height.{height}
 use Rattle.serde_json_path_core.specs.Selected.{beneath}
 use Rattle.serde_json_path_core.specs.Computed.{placed}
 use Rattle.serde_json_path_core.specs.Derivation.{Triple, start_of, Before}
@@ -81,3 +82,10 @@ LastSegmentSelectsAtEach =
     → IsTyped F.signature (query kind (with_segment segs reach seg))
     → IsResult F top (query kind segs) node shorter → IsResult F top (query kind (with_segment segs reach seg)) node longer
     → AreResultsAt F top (query current (segment reach seg no_segments)) shorter longer
+
+-- a location that leads to a value of the document is at most as long as the document is high, and some location is that long
+abbrev pub HeightIsTheLongestLocation : Type 0
+HeightIsTheLongestLocation =
+    (document : Data)
+    → ((location : List Step) (v : Data) → at document location ≡ Some v → length location ≤ height document)
+    × ((location : List Step) × (v : Data) × (at document location ≡ Some v) × (length location ≡ height document))

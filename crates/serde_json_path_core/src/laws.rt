@@ -9,7 +9,7 @@ ghost use Rattle.serde_json_path_syntax.specs.Calls.{EachCall};
 ghost use Rattle.serde_json_path_core.specs.Clear.{GoesWithoutPattern, IsClear};
 ghost use Rattle.serde_json_path_core.specs.Derivation.{Triple, Before};
 ghost use Rattle.serde_json_path_core.specs.Meaning.{IsResult};
-ghost use Rattle.serde_json_path_core.specs.Laws.{DescendantsInDocumentOrder, EveryQueryHasAResult, LastSegmentSelectsAtEach, LessOrEqualIsEither, NotEqualNegatesEqual, OrderIsTotal, SingularQuerySelectsAtMostOne};
+ghost use Rattle.serde_json_path_core.specs.Laws.{DescendantsInDocumentOrder, EveryQueryHasAResult, HeightIsTheLongestLocation, LastSegmentSelectsAtEach, LessOrEqualIsEither, NotEqualNegatesEqual, OrderIsTotal, SingularQuerySelectsAtMostOne};
 
 /// Of two derivations of one query, at most one comes before the other (RFC 9535, sections 2.5.1.2 and 2.5.2.2).
 pub fn law_before_is_asymmetric()
@@ -80,4 +80,13 @@ pub fn law_append()
 pub fn law_clear_without_patterns()
     ensures { (F : FunctionSet) (q : Query) (top : Data) → EachCall (GoesWithoutPattern F) q
         → IsClear F q top }
+{}
+
+/// A location that leads to a value of a document is at most as long as the document is high, and some location is that
+/// long.
+///
+/// The document may be any. So its height, by which the places of a walk are bounded, is the length of its longest
+/// location.
+pub fn law_height_is_the_longest_location()
+    ensures { HeightIsTheLongestLocation }
 {}

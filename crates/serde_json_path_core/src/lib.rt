@@ -24,9 +24,9 @@ pub use evaluation::walks::Walk;
 pub use evaluation::{evaluate, evaluate_located, walk};
 pub use laws::{
     law_append, law_before_is_asymmetric, law_clear_without_patterns,
-    law_descendants_in_document_order, law_less_or_equal_is_either, law_not_equal_negates_equal,
-    law_order_is_total, law_result_exists, law_result_is_unique,
-    law_singular_query_selects_at_most_one,
+    law_descendants_in_document_order, law_height_is_the_longest_location,
+    law_less_or_equal_is_either, law_not_equal_negates_equal, law_order_is_total,
+    law_result_exists, law_result_is_unique, law_singular_query_selects_at_most_one,
 };
 pub use serde_json_path_functions as functions;
 pub use serde_json_path_functions::QueryError;

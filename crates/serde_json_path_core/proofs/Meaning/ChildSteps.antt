@@ -100,7 +100,8 @@ items_ordered i (item d more) = (
 
 -- ---- members in the order of their names
 
-found_here : (k : List ℕ) (d : Data) (ms : Members) → get_member k (member k d ms) ≡ Some d
+-- a member is found among those that it stands first of
+pub found_here : (k : List ℕ) (d : Data) (ms : Members) → get_member k (member k d ms) ≡ Some d
 found_here k d ms = let e : slice_cmp nat_cmp k k ≡ Equal = tied_itself nat_list_cmp_total k in rw e
 
 either : (o : Ordering) (a b : Option Data) → is_eq o ≡ false → match_ordering o a b a ≡ a

@@ -1,6 +1,6 @@
 //! The stack of a walk's frames, and how it reaches the next node.
 
-ghost use Rattle.std.specs.Prelude.{◌≡◌, ◌-◌, ◌<◌, ◌≤◌, [], ◌∷◌, ◌++◌, IfOk, IfErr, OnOk, OnErr, MatchOption, length, take};
+ghost use Rattle.std.specs.Prelude.{◌≡◌, ◌-◌, ◌<◌, ◌≤◌, [], ◌∷◌, ◌++◌, None, Ok, IfOk, IfErr, OnOk, OnErr, MatchOption, length, take};
 ghost use Rattle.serde_json.specs.Data.{Data};
 ghost use Rattle.serde_json.specs.View.{view};
 ghost use Rattle.serde_json_path_nodes.specs.Views.{located};
@@ -67,6 +67,7 @@ fn push_over<'b>(
 }
 
 /// Goes on until the last frame is past the last segment, and gives that frame's value; `None` if no frame is left.
+/// Without a frame it looks at nothing, so no refusal comes.
 #[cycle(evaluation)]
 pub(crate) fn find_next<'b, F: Functions>(
     scope: &Scope<'_, 'b, F>,
@@ -83,6 +84,7 @@ pub(crate) fn find_next<'b, F: Functions>(
         ≤ work_left scope.now segments.now (frames_view frames.old.items) }
     ensures found { IfOk result (λ found. MatchOption found (frames.new.items ≡ [])
         (λ value. EndsAt (stages_at (nodes_of scope.now) segments.now) (frames_view frames.new.items) (view value.now))) }
+    ensures after_end { frames.old.items ≡ [] → result ≡ Ok None }
     ensures stack { (start : Data) → IsStack start (frames_view frames.old.items)
         → IsStack start (frames_view frames.new.items) }
     ensures refused { IfErr result (λ e. WithoutPatterns scope.now → e ≡ Memory) }

@@ -23,14 +23,18 @@ pub struct Walk<'q, 'b, F: Functions> {
 }
 
 impl<'q, 'b, F: Functions> Walk<'q, 'b, F> {
-    ghost use Rattle.std.specs.Prelude.{◌≡◌, ◌+◌, ◌<◌, ◌≤◌, [], ◌∷◌, IfOk, IfErr, IfSome, IfNone, MatchOption};
+    ghost use Rattle.std.specs.Prelude.{◌≡◌, ◌+◌, ◌<◌, ◌≤◌, [], ◌∷◌, None, Ok, IfOk, IfErr, IfSome, IfNone, MatchOption};
     ghost use Rattle.serde_json_path_nodes.specs.Views.{located};
     ghost use Rattle.serde_json_path_nodes.specs.Location.{Located};
     ghost use Rattle.serde_json_path_core.specs.Height.{height};
     ghost use Rattle.serde_json_path_core.specs.Selects.{OnlyMemory};
     ghost use Rattle.serde_json_path_core.specs.Walks.{query_of, set_of, document_of, rest, places_of, steps_of, IsClearWalk};
 
-    /// How many frames the walk keeps: at most the document's height plus one. With none, no node remains.
+    /// How many frames the walk's stack has: at most the document's height plus one. With none, no node remains.
+    ///
+    /// This bounds one query's stack, at every moment. Each query in a filter or in a call's argument that is being worked
+    /// on has a stack of its own, with the same bound, and at most 128 filters, parentheses and calls are within each
+    /// other. No clause adds these stacks up.
     pub fn places(&self) -> usize
         ensures count { result ≡ places_of self.now }
         ensures within { result ≤ height (document_of self.now) + 1 }
@@ -39,7 +43,8 @@ impl<'q, 'b, F: Functions> Walk<'q, 'b, F> {
         self.frames.len()
     }
 
-    /// The next node with its location, or `None` after the last one.
+    /// The next node with its location, or `None` after the last one. Once [`Walk::places`] is 0, each call gives `None`,
+    /// and none is refused.
     ///
     /// A refusal leaves the remaining nodes of a clear query (`specs/Clear`) as they were, and the next call tries the same
     /// step again. The error is `Pattern` only if the query calls a function that stands for `match` or `search`, under
@@ -52,6 +57,8 @@ impl<'q, 'b, F: Functions> Walk<'q, 'b, F> {
             ((rest self.old ≡ []) × (rest self.new ≡ []))
             (λ node. rest self.old ≡ located node ∷ rest self.new)) }
         ensures ended { IfOk result (λ next. IfNone next (places_of self.new ≡ 0)) }
+        ensures after_end { places_of self.old ≡ 0 → result ≡ Ok None }
+        // Only that the number falls matters, whatever it counts: so a walk that is not refused ends.
         ensures nearer { IfOk result (λ next.
             IfSome next (λ node. steps_of self.new < steps_of self.old)) }
         ensures unchanged { IfErr result (λ e.
@@ -59,7 +66,8 @@ impl<'q, 'b, F: Functions> Walk<'q, 'b, F> {
         ensures refused { OnlyMemory (set_of self.old) (query_of self.old) result }
     {
         let scope = &self.scope;
-        match find_next(scope, scope.query.segments(), &mut self.frames)? {
+        let segments = scope.query.segments();
+        match find_next(scope, segments, &mut self.frames)? {
             None => Ok(None),
             Some(value) => {
                 let node = located_at(self.scope.alloc, self.frames.as_slice(), value)?;

@@ -18,7 +18,7 @@ use Rattle.serde_json_path_core.proofs.evaluation.walks.Walk.next.Goals as goal
 pub find_next-requires : goal.find_next-requires
 find_next-requires g c =
     let w = c.args.self.now in
-    let sound = sound-segments (set_of w) (query_of w) (query_of w) (segments_at (nodes_in w.scope.query.now) c.segments.result.now) c.segments.ensures.tree
+    let sound = sound-segments (set_of w) (query_of w) (query_of w) (segments_at (nodes_in w.scope.query.now) c.segments-segments.result.now) c.segments-segments.ensures.tree
     (whole-sound (set_of w) (signatures_of w.scope.query.now) (query_of w) w.scope.fits w.scope.query.now.typed) in
     let inside : ∥ IsStackIn (document_of w) (frames_view w.frames.items) ∥₁ = ∥∥₁_map w.stack (λ h. (document_of w, root_stands (document_of w), h)) in
     search rules
@@ -35,35 +35,35 @@ invariant_of-self-in-Some g c =
     let ends = found-some _ _ c.in_ok-find_next.field-0 c.in-Some.value c.in-Some.is c.in_ok-find_next.ensures.found in
     record {
       stack = ∥∥₁_map w.stack (λ h.
-          stack-dropped (stages_at (nodes_in w.scope.query.now) c.segments.result.now) c.find_next.new.frames.items (view c.in-Some.value.now) ends (view w.scope.root.now) c.drop_last.new.frames.items c.drop_last.ensures
+          stack-dropped (stages_at (nodes_in w.scope.query.now) c.segments-segments.result.now) c.find_next.new.frames.items (view c.in-Some.value.now) ends (view w.scope.root.now) c.drop_last.new.frames.items c.drop_last.ensures
           (c.find_next.ensures.stack (view w.scope.root.now) h));
     }
 
 pub returns-in_err-find_next-clause-unchanged : goal.returns-in_err-find_next-clause-unchanged
 returns-in_err-find_next-clause-unchanged g c =
-    if-err _ c.from_residual.result (λ clear. rw (← c.segments.ensures.tree) (sym (c.find_next.ensures.rest clear)))
+    if-err _ c.from_residual.result (λ clear. rw (← c.segments-segments.ensures.tree) (sym (c.find_next.ensures.rest clear)))
 
 pub returns-in_err-node-in-Some-clause-unchanged : goal.returns-in_err-node-in-Some-clause-unchanged
 returns-in_err-node-in-Some-clause-unchanged g c =
-    if-err _ c.from_residual-in_err-node-in-Some.result (λ clear. rw (← c.segments.ensures.tree) (sym (c.find_next.ensures.rest clear)))
+    if-err _ c.from_residual-in_err-node-in-Some.result (λ clear. rw (← c.segments-segments.ensures.tree) (sym (c.find_next.ensures.rest clear)))
 
 pub returns-in-None-clause-given : goal.returns-in-None-clause-given
 returns-in-None-clause-given g c =
     let w = c.args.self.now in
     let none = ap frames_view (found-none _ _ c.in_ok-find_next.field-0 c.in-None.is c.in_ok-find_next.ensures.found) in
     λ clear. (
-      rw (← c.segments.ensures.tree) (c.find_next.ensures.rest clear ∙ ap (rest_of (set_of w) (document_of w) (stages_at (nodes_in w.scope.query.now) c.segments.result.now)) none),
+      rw (← c.segments-segments.ensures.tree) (c.find_next.ensures.rest clear ∙ ap (rest_of (set_of w) (document_of w) (stages_at (nodes_in w.scope.query.now) c.segments-segments.result.now)) none),
       ap (rest_of (set_of w) (document_of w) (stages (segments_of (query_of w)))) none,
     )
 
 pub returns-in_ok-node-in-Some-clause-given : goal.returns-in_ok-node-in-Some-clause-given
 returns-in_ok-node-in-Some-clause-given g c =
     let w = c.args.self.now in
-    let all = stages_at (nodes_in w.scope.query.now) c.segments.result.now in
+    let all = stages_at (nodes_in w.scope.query.now) c.segments-segments.result.now in
     let left = c.drop_last.new.frames.items in
     let ends = found-some _ _ c.in_ok-find_next.field-0 c.in-Some.value c.in-Some.is c.in_ok-find_next.ensures.found in
     let node = c.in_ok-node-in-Some.ensures.node ∙ ap (λ frames. record { location = stack_path [] (frames_view frames); value = view c.in-Some.value.now }) c.as_slice.ensures.value in
-    λ clear. rw (← c.segments.ensures.tree)
+    λ clear. rw (← c.segments-segments.ensures.tree)
     (c.find_next.ensures.rest clear ∙ rest-ends all c.find_next.new.frames.items (view c.in-Some.value.now) ends (set_of w) (document_of w) left c.drop_last.ensures
     ∙ ap (λ n. n ∷ rest_of (set_of w) (document_of w) all (frames_view left)) (sym node))
 
@@ -71,6 +71,6 @@ pub returns-in_ok-node-in-Some-clause-nearer : goal.returns-in_ok-node-in-Some-c
 returns-in_ok-node-in-Some-clause-nearer g c =
     let ends = found-some _ _ c.in_ok-find_next.field-0 c.in-Some.value c.in-Some.is c.in_ok-find_next.ensures.found in
     let fewer =
-    work-ends (stages_at (nodes_in c.args.self.now.scope.query.now) c.segments.result.now) c.find_next.new.frames.items (view c.in-Some.value.now) ends c.drop_last.new.frames.items c.drop_last.ensures in
+    work-ends (stages_at (nodes_in c.args.self.now.scope.query.now) c.segments-segments.result.now) c.find_next.new.frames.items (view c.in-Some.value.now) ends c.drop_last.new.frames.items c.drop_last.ensures in
     let less = c.find_next.ensures.less in
-    rw (← c.segments.ensures.tree) (omega arith)
+    rw (← c.segments-segments.ensures.tree) (omega arith)
