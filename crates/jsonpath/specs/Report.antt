@@ -1,8 +1,8 @@
 -- The lines of a report on a path and a document.
-use Rattle.std.specs.Prelude.{◌≡◌, ℕ, false, List, [], ◌∷◌, ◌++◌, Some, codes}
+use Rattle.std.specs.Prelude.{◌≡◌, ◌≤◌, ℕ, false, List, [], ◌∷◌, ◌++◌, Some, codes}
 use Rattle.std.specs.Str.{chars, IsUtf8}
-use Rattle.serde_json.specs.Data.{Data}
-use Rattle.serde_json.specs.Read.{read}
+use Rattle.serde_json.specs.Data.{Data, depth}
+use Rattle.serde_json.specs.Read.{read, max_depth}
 use Rattle.serde_json.specs.Written.{has_float, compact_text}
 use Rattle.serde_json_path_nodes.specs.Location.{Located}
 use Rattle.serde_json_path_nodes.specs.Text.{normal}
@@ -18,10 +18,12 @@ abbrev pub ReadsAs : List ℕ → Data → Type 0
 ReadsAs bytes d = IsUtf8 bytes × (read bytes ≡ Some d)
 
 -- the line of a node: its normalised path, a tab, its compact JSON and a line feed; what the JSON is, is said where every
--- number in the node is held as an integer
+-- number in the node is held as an integer, and that it reads back as the node, where the node nests no deeper than
+-- `serde_json` reads
 abbrev pub IsLineOf : Located → List ℕ → Type 0
 IsLineOf n line =
     (json : List ℕ) × (line ≡ normal n.location ++ (codes "\t" ++ (json ++ codes "\n"))) × (has_float n.value ≡ false → json ≡ compact_text n.value)
+    × (depth n.value ≤ max_depth → read json ≡ Some n.value)
 
 -- the text is a line for each node, in order, joined
 abbrev pub AreLinesOf : List Located → List ℕ → Type 0
