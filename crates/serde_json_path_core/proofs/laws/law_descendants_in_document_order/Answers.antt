@@ -10,12 +10,11 @@ use Rattle.serde_json_path_functions.specs.Functions.{FunctionSet}
 use Rattle.serde_json_path_core.specs.Meaning.{IsResult}
 use Rattle.serde_json_path_syntax.specs.Typing.{IsTyped}
 use Rattle.serde_json_path_core.specs.Selected.{beneath}
-use Rattle.serde_json_path_core.specs.Computed.{itself, children, descents, placed, results, results_from, chosen}
+use Rattle.serde_json_path_core.specs.Computed.{children, descents, placed, results, results_from, chosen}
 use Rattle.serde_json_path_core.specs.Laws.{AreChildren, AreSubtreeResults}
 use Rattle.serde_json_path_core.proofs.Meaning.ChildSteps.{in_children, children_ordered}
 use Rattle.serde_json_path_core.proofs.Meaning.Beneath.{results_beneath}
 use Rattle.serde_json_path_core.proofs.Meaning.Descents.{below_child, descents_are}
-use Rattle.serde_json_path_core.proofs.Meaning.DerivationEnds.{node_at, ends, results-ends}
 use Rattle.serde_json_path_syntax.proofs.Lists.InLists.{flat_map-same, flat_map-flat_map, map-flat_map}
 use Rattle.serde_json_path_core.proofs.Meaning.Derived.{computed_only}
 use Rattle.serde_json_path_core.proofs.Meaning.Order.{step_once, in_order_once}

@@ -1,9 +1,9 @@
-use Rattle.std.proofs.Common.{◌≡◌, ℕ, zero, suc, ◌+◌, ◌<◌, ◌≤◌, max, List, [], ◌∷◌, length, Option, Some, None, Ordering, Less, Equal, Greater, nat_cmp, option_and_then, inl, inr, refl, sym, ap, ◌∙◌, arith}
+use Rattle.std.proofs.Common.{◌≡◌, ℕ, suc, ◌+◌, ◌<◌, ◌≤◌, max, List, [], ◌∷◌, length, Option, Some, None, Ordering, Less, Equal, Greater, nat_cmp, option_and_then, inl, inr, refl, sym, ap, ◌∙◌, arith}
 use Rattle.std.specs.Prelude.{is_some, if◌then◌else◌}
 use Rattle.std.specs.Cmp.Lexicographic.{slice_cmp}
 use Rattle.std.specs.Ordering.{match_ordering}
 use Rattle.std.proofs.lemmas.Bool.{cases_lt}
-use Rattle.std.proofs.lemmas.Option.{none-some, same_Some}
+use Rattle.std.proofs.lemmas.Option.{none-some}
 use Rattle.serde_json.specs.Data.{Data, array, object, Items, no_items, item, Members, no_members, member}
 use Rattle.serde_json.specs.Find.{get_item, get_member}
 use Rattle.serde_json_path_nodes.specs.Location.{Step, by_name, by_position, child_at, at}
@@ -30,7 +30,7 @@ no_longer v (s ∷ steps) w e = by (child_at v s) refl (λ c. no_longer c steps 
 tallest_item : (items : Items) → 0 < items_height items → (p : ℕ) × (c : Data) × (get_item p items ≡ Some c) × (height c + 1 ≡ items_height items)
 tallest_item no_items h = absurd (omega arith)
 tallest_item (item d more) h = elim (cases_lt (height d + 1) (items_height more)) [
-  inl above ↦ let later = tallest_item more (omega arith) in (suc later.0, later.1, later.2, omega (arith, later.3))
+  | inl above ↦ let later = tallest_item more (omega arith) in (suc later.0, later.1, later.2, omega (arith, later.3))
   | inr here ↦ (0, d, refl, omega arith)
 ]
 
@@ -60,7 +60,7 @@ tallest_member before (member k d more) h =
         → Tallest before (member k d more) (max (if is_some o then 0 else (height d + 1)) rest)
     by (Some x) is rest later h = let (name, c, unseen, found, one) = later (omega arith) in (name, c, unseen, found, omega arith)
     by None is rest later h = elim (cases_lt (height d + 1) rest) [
-      inl above ↦ let (name, c, unseen, found, one) = later (omega arith) in (name, c, unseen, found, omega arith)
+      | inl above ↦ let (name, c, unseen, found, one) = later (omega arith) in (name, c, unseen, found, omega arith)
       | inr here ↦ (k, d, is, found_here k d more, omega arith)
     ]
 
@@ -73,7 +73,7 @@ tallest_child _ h = absurd (omega arith)
 as_long : (v : Data) → (location : List Step) × (w : Data) × (at v location ≡ Some w) × (length location ≡ height v)
 as_long = by_children (λ v. (location : List Step) × (w : Data) × (at v location ≡ Some w) × (length location ≡ height v))
     (λ v below. elim (cases_lt 0 (height v)) [
-      inl high ↦
+      | inl high ↦
           let (s, c, leads, one) = tallest_child v high in
           let (steps, w, there, long) = below s c leads in
           (s ∷ steps, w, ap (option_and_then (λ d. at d steps)) leads ∙ there, omega arith)
