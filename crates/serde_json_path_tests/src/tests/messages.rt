@@ -1,8 +1,12 @@
 //! The words of refusals.
 
+ghost use Rattle.std.specs.Prelude.{◌≡◌, ◌≢◌, IfSome};
+ghost use Rattle.serde_json_path_parser.specs.Errors.{kind_of};
+ghost use Rattle.serde_json_path_parser.specs.declared.error.ParseErrorKind.TheVariants.{NoMemory};
+
 use crate::tests::nesting::parentheses;
 use crate::tests::rows::fields;
-use serde_json_path::JsonPath;
+use serde_json_path::{JsonPath, ParseError};
 use std::alloc::Global;
 use std::process::Abort;
 use std::test::Fail;
@@ -35,11 +39,28 @@ const TOLD: &[&str] = &[
     "$[?length(@.author)] ~ at position 4, in long-hand segment, function with incorrect return type used",
 ];
 
+/// How two calls refuse a text: alike, by their contracts, but where memory is refused.
+fn refused_twice(alloc: Global, text: &str) -> Option<(ParseError, ParseError)>
+    ensures { IfSome result (λ refused. kind_of refused.0 ≢ NoMemory → kind_of refused.1 ≢ NoMemory
+        → refused.0 ≡ refused.1) }
+{
+    let Err(refused) = JsonPath::parse(alloc, text) else {
+        return None;
+    };
+    let Err(again) = JsonPath::from_str(alloc, text) else {
+        return None;
+    };
+    Some((refused, again))
+}
+
 /// Holds a text that is refused to the message.
 fn tells(rt: &impl Abort, alloc: Global, text: &str, told: &str) -> Result<(), Fail> {
-    match JsonPath::parse(alloc, text) {
-        Ok(_) => assert!(rt; false, "{text:?} is accepted"),
-        Err(e) => assert_eq!(rt; e.to_string(alloc)?.as_str(), told, "of {text:?}"),
+    match refused_twice(alloc, text) {
+        None => assert!(rt; false, "{text:?} is accepted"),
+        Some((refused, again)) => {
+            assert_eq!(rt; refused.to_string(alloc)?.as_str(), told, "of {text:?}");
+            assert_eq!(rt; again.to_string(alloc)?.as_str(), told, "of {text:?}");
+        }
     }
     Ok(())
 }
