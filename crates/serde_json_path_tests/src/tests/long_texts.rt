@@ -1,7 +1,7 @@
 //! Long texts, of paths and of documents.
 
 use crate::tests::nesting::{calls, filters, nested, parentheses};
-use crate::tests::rows::{parses, told};
+use crate::tests::rows::{fields, parses, selects, told};
 use serde_json::Value;
 use serde_json_path::functions::Builtin;
 use serde_json_path::{JsonPath, PathSource, TextSource, parse_source};
@@ -34,6 +34,66 @@ fn refuses_long_texts(rt: HostRuntime) -> Result<(), Fail> {
     parses(&rt, alloc, nines.as_str(), "NumberOutOfRange 9")?;
     let blanks = long(alloc, "$", " ", 10_000, "x")?;
     parses(&rt, alloc, blanks.as_str(), "TextAfterPath 2")
+}
+
+/// Holds a path, which prints itself, to the one node that it selects from a document.
+fn selects_one(
+    rt: &impl Abort,
+    alloc: Global,
+    text: &str,
+    document: &str,
+    (location, value): (&str, &str),
+) -> Result<(), Fail> {
+    let path = JsonPath::parse(alloc, text)?;
+    assert_eq!(rt; path.to_text(alloc)?.as_str(), text);
+    let row = format!(in alloc; "{location} ~ {value}")?;
+    selects(rt, alloc, &path, document, row.as_str())
+}
+
+#[test]
+fn selects_deep_nodes(rt: HostRuntime) -> Result<(), Fail> {
+    let alloc = rt.alloc();
+    let document = nested(alloc, ("", "[", 20), "0", ("]", 20, ""))?;
+    let path = long(alloc, "$", "[0]", 20, "")?;
+    let path = path.as_str();
+    selects_one(&rt, alloc, path, document.as_str(), (path, "0"))
+}
+
+/// Texts of which a thousand make a long name, each as it is in quotes of a path, and as it is in JSON.
+const REPEATED: &[&str] = &[
+    "a ~ a",
+    "é ~ é",
+    r"\' ~ '",
+    r#"\n ~ \n"#,
+    r#"" ~ \""#,
+    "😀 ~ 😀",
+];
+
+#[test]
+fn selects_by_long_names(rt: HostRuntime) -> Result<(), Fail> {
+    let alloc = rt.alloc();
+    for &row in REPEATED {
+        let (in_path, in_json) = fields(row)?;
+        let path = long(alloc, "$['", in_path, 1000, "']")?;
+        let document = long(alloc, "{\"", in_json, 1000, "\":1}")?;
+        let path = path.as_str();
+        selects_one(&rt, alloc, path, document.as_str(), (path, "1"))?;
+    }
+    Ok(())
+}
+
+#[test]
+fn compares_long_literals(rt: HostRuntime) -> Result<(), Fail> {
+    let alloc = rt.alloc();
+    for &row in REPEATED {
+        let (in_path, in_json) = fields(row)?;
+        let path = long(alloc, "$[?@ == '", in_path, 1000, "']")?;
+        let document = long(alloc, "[0,\"", in_json, 1000, "\"]")?;
+        let text = long(alloc, "\"", in_json, 1000, "\"")?;
+        let node = ("$[1]", text.as_str());
+        selects_one(&rt, alloc, path.as_str(), document.as_str(), node)?;
+    }
+    Ok(())
 }
 
 #[test]
