@@ -151,7 +151,7 @@ fn reports_refused_queries(rt: HostRuntime) -> Result<(), Fail> {
         (QueryError::Pattern, "jsonpath: query: pattern refused\n"),
     ] {
         let mut err = Vec::new(rt.alloc());
-        let status = refuse(&mut err, &ReportError::Query(error));
+        let status = refuse(rt.alloc(), &ReportError::Query(error), &mut err);
         assert_eq!(rt; status, 3);
         assert_eq!(rt; err.as_slice(), line.as_bytes());
     }
