@@ -1,7 +1,11 @@
 -- Lemmas; the folders have the proofs of functions.
+-- Drained: what an iterator gave, and what is left of it after the first item.
 -- Lines: the lines of some nodes, with the line of another node after them.
 -- Runs: what the steps of a run show of its words, its input and its refusals.
 -- Sets: a function set before itself is that set.
+-- Writing: what is left of a text after a write, and the beginnings of texts.
+pub mod Drained
 pub mod Lines
 pub mod Runs
 pub mod Sets
+pub mod Writing

@@ -1,10 +1,18 @@
--- What the steps of a run show of its words, its input and its refusals; and what an Ok after `map_err` was before it.
-use Rattle.std.proofs.Common.{◌≡◌, ℕ, ◌<◌, ◌≤◌, false, List, [], ◌∷◌, ◌++◌, length, get_or, Option, Some, None, Result, Ok, Err, String, string_bytes, Global, refl, sym, ap, subst, ◌∙◌, arith}
+-- What the steps of a run show of its words, its input, its refusals and their lines; and what an Ok after `map_err` was before it.
+use Rattle.std.proofs.Common.{◌≡◌, ℕ, ◌<◌, ◌≤◌, false, List, [], ◌∷◌, ◌++◌, length, get_or, codes, Option, Some, None, Result, Ok, Err, String, string_bytes, Global, refl, sym, ap, subst, ◌∙◌, arith}
 use Rattle.std.specs.Prelude.{IfSome, OnOk, MatchResult, IsErrAnd, is_err}
+use Rattle.std.specs.Fmt.{decimal, digits}
+use Rattle.serde_json_path_functions.specs.Patterns.{before_builtin, builtin_functions}
+use Rattle.serde_json_path_functions.specs.declared.error.QueryError.{QueryError}
+use Rattle.serde_json_path_parser.specs.Errors.{kind_of, position_of, message}
 use Rattle.serde_json_path_parser.specs.declared.error.ParseError.{ParseError}
+use Rattle.serde_json_path_parser.specs.declared.error.ParseErrorKind.TheVariants.{NoMemory}
+use Rattle.jsonpath.specs.declared.report.DocumentError.{DocumentError}
 use Rattle.jsonpath.specs.declared.report.ReportError.{ReportError}
 use Rattle.jsonpath.specs.declared.report.ReportError.TheVariants.{Path, Document, Query}
-use Rattle.jsonpath.specs.Run.{status_of, IsOneWord}
+use Rattle.jsonpath.specs.Report.{IsReportOf}
+use Rattle.jsonpath.specs.Run.{status_of, line_of, IsOneWord, IsReportOfRun}
+use Rattle.jsonpath.proofs.Sets.{before_itself}
 
 pub one_word : (words : List (String Global)) (word : String Global) (text : List ℕ) → 1 ≤ length words → length words < 2 → word ≡ get_or words 0 word → text ≡ string_bytes word → IsOneWord words text
 one_word [] word text low high is e = absurd (omega arith)
@@ -27,7 +35,30 @@ whole_read (Ok n) None old new document e h empty is = tt
 whole_read (Ok n) (Some bytes) old new document e h empty is = is ∙ h ∙ ap (λ (xs : List ℕ). xs ++ bytes) empty
 whole_read (Err x) known old new document e h empty is = absurd cc
 
-pub refused_path : (e : ReportError) (P : ParseError → Type 0) → status_of e ≡ 1 → ((p : ParseError) → e ≡ Path p → P p) → (p : ParseError) × P p
-refused_path (Path p) P s h = (p, h p refl)
-refused_path (Document d) P s h = absurd (omega arith)
-refused_path (Query q) P s h = absurd (omega arith)
+-- the report that was made is the one that the run asks for
+pub report_of_run : (words : List (String Global)) (input : Option (List ℕ)) (document path text written : List ℕ) → IsOneWord words path → IfSome input (λ bytes. document ≡ bytes)
+    → IsReportOf (before_builtin builtin_functions) path document text → written ≡ text → IsReportOfRun words input written
+report_of_run words input document path text written one known report same =
+    (document, path, one, known, subst (λ F. IsReportOf F path document written) (before_itself builtin_functions) (subst (IsReportOf (before_builtin builtin_functions) path document) (sym same) report))
+
+-- a refusal is of what its status says
+pub path_of : (e : ReportError) → status_of e ≡ 1 → (p : ParseError) × (e ≡ Path p)
+path_of (Path p) s = (p, refl)
+path_of (Document d) s = absurd (omega arith)
+path_of (Query q) s = absurd (omega arith)
+
+pub document_of : (e : ReportError) → status_of e ≡ 2 → (d : DocumentError) × (e ≡ Document d)
+document_of (Path p) s = absurd (omega arith)
+document_of (Document d) s = (d, refl)
+document_of (Query q) s = absurd (omega arith)
+
+pub query_of : (e : ReportError) → status_of e ≡ 3 → (q : QueryError) × (e ≡ Query q)
+query_of (Path p) s = absurd (omega arith)
+query_of (Document d) s = absurd (omega arith)
+query_of (Query q) s = (q, refl)
+
+-- the line of a path that was refused for memory
+pub no_memory_line : (e : ParseError) → kind_of e ≡ NoMemory → position_of e ≡ 1 → codes "jsonpath: path: at position 1, no memory\n" ≡ line_of (Path e)
+unfolding digits
+no_memory_line e kind position =
+    λ i. codes "jsonpath: path: at position " ++ (decimal ((sym position) i) ++ (codes ", " ++ (message ((sym kind) i) e.context ++ codes "\n")))

@@ -1,6 +1,15 @@
--- The statuses of the program.
-use Rattle.std.specs.Prelude.{◌≡◌, ℕ, List, [], ◌∷◌, map, String, string_bytes}
+-- The statuses of the program, its one word, and what it tells of a refusal.
+use Rattle.std.specs.Prelude.{◌≡◌, ◌⊎◌, ℕ, List, [], ◌∷◌, ◌++◌, map, codes, Option, IfSome, String, string_bytes}
+use Rattle.std.specs.Fmt.{decimal}
+use Rattle.std.specs.Io.KnownBytes.{Appends}
 use Rattle.std.specs.declared.alloc.Global.{Global}
+use Rattle.serde_json_path_functions.specs.Patterns.{builtin_functions}
+use Rattle.serde_json_path_functions.specs.declared.error.QueryError.{QueryError}
+use Rattle.serde_json_path_functions.specs.declared.error.QueryError.TheVariants as query_error
+use Rattle.serde_json_path_parser.specs.Errors.{position_of, message_of}
+use Rattle.jsonpath.specs.Report.{IsReportOf}
+use Rattle.jsonpath.specs.declared.report.DocumentError.{DocumentError}
+use Rattle.jsonpath.specs.declared.report.DocumentError.TheVariants as document_error
 use Rattle.jsonpath.specs.declared.report.ReportError.{ReportError}
 use Rattle.jsonpath.specs.declared.report.ReportError.TheVariants.{Path, Document, Query}
 
@@ -13,3 +22,28 @@ status_of (Query e) = 3
 -- there is exactly one word, of these bytes
 abbrev pub IsOneWord : List (String Global) → List ℕ → Type 0
 IsOneWord words word = map string_bytes words ≡ word ∷ []
+
+-- the text is the report that the one word asks for, on a document that is the input as far as it is known
+abbrev pub IsReportOfRun : List (String Global) → Option (List ℕ) → List ℕ → Type 0
+IsReportOfRun words input text =
+    (document path : List ℕ) × IsOneWord words path × IfSome input (λ bytes. document ≡ bytes) × IsReportOf builtin_functions path document text
+
+-- a beginning of the text was appended, of whatever length, and nothing else
+abbrev pub AppendsBeginning : Option (List ℕ) → Option (List ℕ) → List ℕ → Type 0
+AppendsBeginning old new text = (begun left : List ℕ) × (text ≡ begun ++ left) × Appends old new begun
+
+-- the line of a refusal
+abbrev pub line_of : ReportError → List ℕ
+line_of (Path e) = codes "jsonpath: path: at position " ++ (decimal (position_of e) ++ (codes ", " ++ (message_of e ++ codes "\n")))
+line_of (Document document_error.NotJson) = codes "jsonpath: document: not JSON\n"
+line_of (Document document_error.Memory) = codes "jsonpath: document: no memory\n"
+line_of (Query query_error.Memory) = codes "jsonpath: query: no memory\n"
+line_of (Query query_error.Pattern) = codes "jsonpath: query: pattern refused\n"
+
+-- a line of status 2: why the document is refused, or that the input cannot be read
+abbrev pub IsDocumentLine : List ℕ → Type 0
+IsDocumentLine line = ((e : DocumentError) × (line ≡ line_of (Document e))) ⊎ (line ≡ codes "jsonpath: document: cannot be read\n")
+
+-- a line of status 3: why the query is refused, or that the output failed
+abbrev pub IsQueryLine : List ℕ → Type 0
+IsQueryLine line = ((e : QueryError) × (line ≡ line_of (Query e))) ⊎ (line ≡ codes "jsonpath: output failed\n")

@@ -5,30 +5,26 @@
 //! $['foo']['bar'][0]<tab>"baz"
 //! ```
 //!
-//! `report` makes the lines, `run` reads and writes over any streams, and `main` hands in the standard ones. `samples` is
-//! a function set as an example for other programs. Definitions are in `specs/`: `Report` says what the lines are, `Run`
-//! what the statuses mean, `Samples` what the sample functions mean.
+//! `report` makes the lines, `run` reads and writes over any streams, and `main` hands in the words and the standard
+//! streams. `samples` is a function set as an example for other programs. Definitions are in `specs/`: `Report` says what
+//! the lines are, `Run` what the statuses mean and what is told, `Samples` what the sample functions mean.
 #![tactic(auto)]
 
+mod arguments;
 mod report;
 mod run;
 mod samples;
 
-use std::alloc::Global;
+use crate::arguments::words_after_first;
 use std::env;
 use std::process::ExitCode;
 
 /// The arguments after the program's name, or none if they cannot be read.
 fn words(rt: &HostRuntime) -> Vec<String> {
-    let mut words = Vec::new(rt.alloc());
-    if let Ok(args) = env::args(rt) {
-        for word in args.skip(1) {
-            if words.push(word).is_err() {
-                return Vec::new(rt.alloc());
-            }
-        }
+    match env::args(rt) {
+        Ok(args) => words_after_first(rt.alloc(), args).unwrap_or_else(|_| Vec::new(rt.alloc())),
+        Err(_) => Vec::new(rt.alloc()),
     }
-    words
 }
 
 fn main(rt: HostRuntime) -> ExitCode {

@@ -1,16 +1,17 @@
 //! The program over a reader and two writers.
 
-ghost use Rattle.std.specs.Prelude.{◌≡◌, ◌≢◌, ◌↔◌, ◌⊎◌, ℕ, List, length, IfSome, OnOk};
+ghost use Rattle.std.specs.Prelude.{◌≡◌, ◌≢◌, ◌↔◌, ◌⊎◌, ℕ, List, length, codes, OnOk};
 ghost use Rattle.std.specs.Io.KnownBytes.{Appends, IsAtEnd};
 ghost use Rattle.serde_json_path_functions.specs.Patterns.{builtin_functions};
 ghost use Rattle.serde_json_path.specs.Paths.{path_view};
+ghost use Rattle.serde_json_path_parser.specs.Errors.{kind_of, position_of};
 ghost use Rattle.serde_json_path_parser.specs.Parse.{IsParseOf};
-ghost use Rattle.serde_json_path_parser.specs.declared.error.ParseError.{ParseError};
-ghost use Rattle.jsonpath.specs.Report.{IsReportOf};
-ghost use Rattle.jsonpath.specs.Run.{status_of, IsOneWord};
+ghost use Rattle.serde_json_path_parser.specs.declared.error.ParseError as path_error;
+ghost use Rattle.jsonpath.specs.Run.{status_of, line_of, IsDocumentLine, IsQueryLine, IsOneWord, IsReportOfRun, AppendsBeginning};
 
-use crate::report::{ReportError, report};
+use crate::report::{DocumentError, ReportError, report};
 use serde_json_path::functions::Builtin;
+use serde_json_path::{ParseError, ParseErrorKind, QueryError};
 use std::alloc::Global;
 use std::io;
 use std::io::{Read, Write};
@@ -28,21 +29,81 @@ const OUTPUT_FAILED: u8 = 3;
 /// There is not exactly one word.
 const USAGE: u8 = 64;
 
-/// Reports a refusal in one line, and returns its status, even if the line cannot be written.
-pub(crate) fn refuse<E: Write>(err: &mut E, e: &ReportError) -> u8
-    ensures { result ≡ status_of e.now }
+/// Writes a text up to the first failure. An interrupted write is tried again.
+///
+/// `write_all` would not say that what it wrote before a failure is a beginning of the text.
+fn write_text<W: Write>(text: &str, to: &mut W) -> io::Result<()>
+    ensures whole { OnOk result (Appends (W.contents to.old) (W.contents to.new) text.now) }
+    ensures beginning { AppendsBeginning (W.contents to.old) (W.contents to.new) text.now }
+{
+    let mut rest = text.as_bytes();
+    for _ in 0..u64::MAX {
+        if rest.is_empty() {
+            return Ok(());
+        }
+        match to.write(rest) {
+            Ok(0) => return Err(io::Error::from(io::ErrorKind::WriteZero)),
+            Ok(n) => rest = &rest[n..],
+            Err(e) if e.kind() == io::ErrorKind::Interrupted => {}
+            Err(e) => return Err(e),
+        }
+    }
+    Err(io::Error::from(io::ErrorKind::TimedOut))
+}
+
+/// Tells why a path is refused. Where memory for the line is refused, only its beginning is told.
+fn tell_path<E: Write>(alloc: Global, e: &ParseError, err: &mut E)
+    requires { kind_of e.now ≡ ParseErrorKind.NoMemory → position_of e.now ≡ 1 }
+    ensures { AppendsBeginning (E.contents err.old) (E.contents err.new) (line_of (ReportError.Path e.now)) }
+{
+    if e.kind() == ParseErrorKind::NoMemory {
+        let _ = write_text("jsonpath: path: at position 1, no memory\n", err);
+        return;
+    }
+    let _ = match format!(in alloc; "jsonpath: path: {e}\n") {
+        Ok(line) => write_text(line.as_str(), err),
+        Err(_) => write_text("jsonpath: path: ", err),
+    };
+}
+
+/// The line of a refused document.
+fn document_line(e: &DocumentError) -> &'static str
+    ensures { result.now ≡ line_of (ReportError.Document e.now) }
+{
+    match e {
+        DocumentError::NotJson => "jsonpath: document: not JSON\n",
+        DocumentError::Memory => "jsonpath: document: no memory\n",
+    }
+}
+
+/// The line of a refused query.
+fn query_line(e: &QueryError) -> &'static str
+    ensures { result.now ≡ line_of (ReportError.Query e.now) }
+{
+    match e {
+        QueryError::Memory => "jsonpath: query: no memory\n",
+        QueryError::Pattern => "jsonpath: query: pattern refused\n",
+    }
+}
+
+/// Tells a refusal in one line, and returns its status, even if the line cannot be written.
+pub(crate) fn refuse<E: Write>(alloc: Global, e: &ReportError, err: &mut E) -> u8
+    requires { (path : path_error.ParseError) → e.now ≡ ReportError.Path path
+        → kind_of path ≡ ParseErrorKind.NoMemory → position_of path ≡ 1 }
+    ensures status { result ≡ status_of e.now }
+    ensures told { AppendsBeginning (E.contents err.old) (E.contents err.new) (line_of e.now) }
 {
     match e {
         ReportError::Path(e) => {
-            let _ = writeln!(err, "jsonpath: path: {e}");
+            tell_path(alloc, e, err);
             PATH_REFUSED
         }
         ReportError::Document(e) => {
-            let _ = writeln!(err, "jsonpath: document: {e}");
+            let _ = write_text(document_line(e), err);
             DOCUMENT_REFUSED
         }
         ReportError::Query(e) => {
-            let _ = writeln!(err, "jsonpath: query: {e}");
+            let _ = write_text(query_line(e), err);
             QUERY_REFUSED
         }
     }
@@ -50,22 +111,26 @@ pub(crate) fn refuse<E: Write>(err: &mut E, e: &ReportError) -> u8
 
 /// Writes the lines and flushes them.
 fn write_lines<W: Write>(lines: &str, out: &mut W) -> io::Result<()>
-    ensures { OnOk result (Appends (W.contents out.old) (W.contents out.new) lines.now) }
+    ensures whole { OnOk result (Appends (W.contents out.old) (W.contents out.new) lines.now) }
+    ensures beginning { AppendsBeginning (W.contents out.old) (W.contents out.new) lines.now }
 {
-    out.write_all(lines.as_bytes())?;
+    write_text(lines, out)?;
     out.flush()
 }
 
 /// Writes the lines, and returns the status.
 fn print<W: Write, E: Write>(lines: &str, out: &mut W, err: &mut E) -> u8
     ensures either { (result ≡ 0) ⊎ (result ≡ 3) }
-    ensures written { result ≡ 0 → Appends (W.contents out.old) (W.contents out.new) lines.now }
+    ensures whole { result ≡ 0 → Appends (W.contents out.old) (W.contents out.new) lines.now }
+    ensures beginning { AppendsBeginning (W.contents out.old) (W.contents out.new) lines.now }
     ensures silent { result ≡ 0 → err.new ≡ err.old }
+    ensures told { result ≡ 3
+        → AppendsBeginning (E.contents err.old) (E.contents err.new) (codes "jsonpath: output failed\n") }
 {
     if write_lines(lines, out).is_ok() {
         return DONE;
     }
-    let _ = writeln!(err, "jsonpath: output failed");
+    let _ = write_text("jsonpath: output failed\n", err);
     OUTPUT_FAILED
 }
 
@@ -91,30 +156,42 @@ pub fn run<R: Read, W: Write, E: Write>(
 ) -> u8
     ensures usage { (result ≡ 64) ↔ (length words.now ≢ 1) }
     ensures unread { length words.now ≢ 1 → input.new ≡ input.old }
-    // A path is refused only as the parse refuses it.
-    ensures path_refused { result ≡ 1
-        → (path : List ℕ) × IsOneWord words.now path × ((e : ParseError) × IsParseOf path_view builtin_functions.signature path (Err e)) }
-    // Nothing goes out but the lines of a run that is done, or a part of them where writing failed.
-    ensures nothing_out { result ≢ 0 → result ≢ 3 → out.new ≡ out.old }
+
     // When a run is done, over a reader and a writer that tell their bytes: the input was read to its end, its report went
     // out, and nothing else.
     ensures read_whole { result ≡ 0 → IsAtEnd (R.remaining input.new) }
-    ensures report_out { result ≡ 0
-        → (document text path : List ℕ) × IsOneWord words.now path × IfSome (R.remaining input.old) (λ bytes. document ≡ bytes)
-        × IsReportOf builtin_functions path document text × Appends (W.contents out.old) (W.contents out.new) text }
+    ensures report_out { result ≡ 0 → (text : List ℕ) × IsReportOfRun words.now (R.remaining input.old) text
+        × Appends (W.contents out.old) (W.contents out.new) text }
     ensures nothing_told { result ≡ 0 → err.new ≡ err.old }
+
+    // Nothing else goes out, but a part of the lines where writing failed.
+    ensures nothing_out { result ≢ 0 → result ≢ 3 → out.new ≡ out.old }
+    ensures part_out { result ≡ 3 → (out.new ≡ out.old)
+        ⊎ ((text : List ℕ) × IsReportOfRun words.now (R.remaining input.old) text
+        × AppendsBeginning (W.contents out.old) (W.contents out.new) text) }
+
+    // A fault is told in its line, as far as `err` takes it. A path is refused only as the parse refuses it.
+    ensures usage_told { result ≡ 64
+        → AppendsBeginning (E.contents err.old) (E.contents err.new) (codes "usage: jsonpath PATH\n") }
+    ensures path_told { result ≡ 1 → (path : List ℕ) × IsOneWord words.now path
+        × ((e : path_error.ParseError) × IsParseOf path_view builtin_functions.signature path (Err e)
+        × AppendsBeginning (E.contents err.old) (E.contents err.new) (line_of (ReportError.Path e))) }
+    ensures document_told { result ≡ 2 → (line : List ℕ) × IsDocumentLine line
+        × AppendsBeginning (E.contents err.old) (E.contents err.new) line }
+    ensures query_told { result ≡ 3 → (line : List ℕ) × IsQueryLine line
+        × AppendsBeginning (E.contents err.old) (E.contents err.new) line }
 {
     let [path] = words else {
-        let _ = writeln!(err, "usage: jsonpath PATH");
+        let _ = write_text("usage: jsonpath PATH\n", err);
         return USAGE;
     };
     let mut document = Vec::new(alloc);
     if input.read_to_end(&mut document).is_err() {
-        let _ = writeln!(err, "jsonpath: document: cannot be read");
+        let _ = write_text("jsonpath: document: cannot be read\n", err);
         return DOCUMENT_REFUSED;
     }
     match report(alloc, path.as_str(), document.as_slice(), &Builtin) {
         Ok(lines) => print(lines.as_str(), out, err),
-        Err(e) => refuse(err, &e),
+        Err(e) => refuse(alloc, &e, err),
     }
 }

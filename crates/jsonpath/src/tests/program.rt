@@ -1,5 +1,8 @@
 //! Runs of the program over a reader and writers in memory.
 
+ghost use Rattle.std.specs.Prelude.{◌≡◌, ◌++◌, [], Some, ℕ, List};
+ghost use Rattle.jsonpath.specs.Run.{IsReportOfRun};
+
 use crate::report::ReportError;
 use crate::run::{refuse, run};
 use serde_json_path::QueryError;
@@ -27,6 +30,8 @@ impl<'a> Input<'a> {
 }
 
 impl Read for Input<'_> {
+    ghost remaining = { λ input. Some input.left.now };
+
     fn read(&mut self, buf: &mut [u8]) -> io::Result<usize> {
         let read = self.reads;
         self.reads = read.saturating_add(1);
@@ -42,8 +47,58 @@ impl Read for Input<'_> {
 struct Broken;
 
 impl Write for Broken {
+    ghost contents = { λ _. Some [] };
+
     fn write(&mut self, _buf: &[u8]) -> io::Result<usize> {
         Err(io::Error::from(io::ErrorKind::BrokenPipe))
+    }
+
+    fn flush(&mut self) -> io::Result<()> {
+        Ok(())
+    }
+}
+
+/// A writer that takes all bytes, and fails to flush them.
+#[derive(Drop)]
+struct Unflushed {
+    taken: Vec<u8>,
+}
+
+impl Write for Unflushed {
+    ghost contents = { λ writer. Some writer.taken.items };
+
+    fn write(&mut self, buf: &[u8]) -> io::Result<usize> {
+        self.taken.write(buf)
+    }
+
+    fn flush(&mut self) -> io::Result<()> {
+        Err(io::Error::from(io::ErrorKind::BrokenPipe))
+    }
+}
+
+/// A writer that takes one byte at a time, is interrupted before each, and fails once it is full.
+#[derive(Drop)]
+struct Narrow {
+    taken: Vec<u8>,
+    room: usize,
+    is_interrupted: bool,
+}
+
+impl Write for Narrow {
+    ghost contents = { λ writer. Some writer.taken.items };
+
+    fn write(&mut self, buf: &[u8]) -> io::Result<usize> {
+        self.is_interrupted = !self.is_interrupted;
+        if self.is_interrupted {
+            return Err(io::Error::from(io::ErrorKind::Interrupted));
+        }
+        if self.taken.len() >= self.room {
+            return Err(io::Error::from(io::ErrorKind::StorageFull));
+        }
+        match buf.first() {
+            Some(&byte) => self.taken.write(&[byte]),
+            None => Ok(0),
+        }
     }
 
     fn flush(&mut self) -> io::Result<()> {
@@ -107,6 +162,71 @@ fn statuses_and_texts(rt: HostRuntime) -> Result<(), Fail> {
     Ok(())
 }
 
+/// Runs the program on the bytes of a document. What its contract says of readers and writers that tell their bytes is
+/// here said of a slice and of vectors.
+fn run_on_bytes(
+    alloc: Global,
+    words: &[String],
+    document: &[u8],
+    out: &mut Vec<u8>,
+    err: &mut Vec<u8>,
+) -> u8
+    ensures done { result ≡ 0 → (text : List ℕ) × IsReportOfRun words.now (Some document.now) text
+        × (out.new.items ≡ out.old.items ++ text) }
+    ensures refused { result ≡ 1 → out.new.items ≡ out.old.items }
+{
+    let mut input = document;
+    run(alloc, words, &mut input, out, err)
+}
+
+#[test]
+fn runs_on_bytes(rt: HostRuntime) -> Result<(), Fail> {
+    let mut out = Vec::new(rt.alloc());
+    let mut err = Vec::new(rt.alloc());
+    for (path, wanted) in [("$[0]", 0), ("$[1]", 0), ("x", 1)] {
+        let path = words(rt.alloc(), &[path])?;
+        let status = run_on_bytes(rt.alloc(), &path, b"[1.5,null]", &mut out, &mut err);
+        assert_eq!(rt; status, wanted);
+    }
+    assert_eq!(rt; out.as_slice(), b"$[0]\t1.5\n$[1]\tnull\n".as_slice());
+    assert_eq!(rt;
+        err.as_slice(),
+        b"jsonpath: path: at position 1, expected '$'\n".as_slice()
+    );
+    Ok(())
+}
+
+#[test]
+fn failing_flushes(rt: HostRuntime) -> Result<(), Fail> {
+    let root = words(rt.alloc(), &["$"])?;
+    let mut out = Unflushed {
+        taken: Vec::new(rt.alloc()),
+    };
+    let mut err = Vec::new(rt.alloc());
+    let status = run(rt.alloc(), &root, &mut Input::of(b"1"), &mut out, &mut err);
+    assert_eq!(rt; status, 3);
+    assert_eq!(rt; out.taken.as_slice(), b"$\t1\n".as_slice());
+    assert_eq!(rt; err.as_slice(), b"jsonpath: output failed\n".as_slice());
+    Ok(())
+}
+
+#[test]
+fn short_and_interrupted_writes(rt: HostRuntime) -> Result<(), Fail> {
+    let root = words(rt.alloc(), &["$"])?;
+    for (room, status, written) in [(9, 0, "$\t1\n"), (2, 3, "$\t"), (0, 3, "")] {
+        let mut out = Narrow {
+            taken: Vec::new(rt.alloc()),
+            room,
+            is_interrupted: false,
+        };
+        let mut err = Vec::new(rt.alloc());
+        let answer = run(rt.alloc(), &root, &mut Input::of(b"1"), &mut out, &mut err);
+        assert_eq!(rt; answer, status);
+        assert_eq!(rt; out.taken.as_slice(), written.as_bytes());
+    }
+    Ok(())
+}
+
 #[test]
 fn failing_reads_and_writes(rt: HostRuntime) -> Result<(), Fail> {
     let path = words(rt.alloc(), &["x"])?;
@@ -151,7 +271,7 @@ fn reports_refused_queries(rt: HostRuntime) -> Result<(), Fail> {
         (QueryError::Pattern, "jsonpath: query: pattern refused\n"),
     ] {
         let mut err = Vec::new(rt.alloc());
-        let status = refuse(&mut err, &ReportError::Query(error));
+        let status = refuse(rt.alloc(), &ReportError::Query(error), &mut err);
         assert_eq!(rt; status, 3);
         assert_eq!(rt; err.as_slice(), line.as_bytes());
     }

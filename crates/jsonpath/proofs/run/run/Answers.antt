@@ -1,31 +1,63 @@
-use Rattle.std.proofs.Common.{Err, sym, ap, subst, ◌∙◌}
-use Rattle.serde_json_path_functions.specs.Patterns.{before_builtin, builtin_functions}
+use Rattle.std.proofs.Common.{codes, Err, inl, inr, refl, sym, ap, subst, ◌∙◌}
+use Rattle.serde_json_path_functions.specs.Patterns.{builtin_functions}
 use Rattle.serde_json_path.specs.Paths.{path_view}
 use Rattle.serde_json_path_parser.specs.Parse.{IsParseOf}
-use Rattle.jsonpath.specs.Report.{IsReportOf}
-use Rattle.jsonpath.proofs.Runs.{one_word, whole_read, refused_path}
+use Rattle.jsonpath.specs.Run.{AppendsBeginning, line_of}
+use Rattle.jsonpath.specs.declared.report.ReportError.TheVariants.{Document, Query}
+use Rattle.jsonpath.proofs.Runs.{one_word, whole_read, report_of_run, path_of, document_of, query_of}
 use Rattle.jsonpath.proofs.Sets.{before_itself}
 use Rattle.jsonpath.proofs.run.run.Goals as goal
 
-pub returns-in-Ok-clause-report_out : goal.returns-in-Ok-clause-report_out
-returns-in-Ok-clause-report_out g c = λ done. (
-  c.as_slice.result.now,
-  c.as_str-in-Ok.result.now,
-  c.as_str.result.now,
-  one_word c.args.words.now c.path-item.result c.as_str.result.now c.in-len1.len_at_least c.in-len1.len_below c.path-item.is c.as_str.ensures.value,
-  whole_read c.read_to_end.result (g.R.Read.remaining c.args.input.now) c.new-document.result.items c.read_to_end.new.buf.items c.as_slice.result.now
-      (sym c.is_err.ensures.value ∙ c.if-is_err.false)
-      c.read_to_end.ensures.bytes c.new-document.ensures.items c.as_slice.ensures.value,
-  subst (λ F. IsReportOf F c.as_str.result.now c.as_slice.result.now c.as_str-in-Ok.result.now) (before_itself builtin_functions)
-      (subst (IsReportOf (before_builtin builtin_functions) c.as_str.result.now c.as_slice.result.now) (sym c.as_str-in-Ok.ensures.value) c.in-Ok.ensures.lines),
-  c.print.ensures.written done,
-)
+pub returns-then-is_err-clause-document_told : goal.returns-then-is_err-clause-document_told
+returns-then-is_err-clause-document_told g c = λ two. (codes "jsonpath: document: cannot be read\n", inr refl, c.write_text-then-is_err.ensures.beginning)
 
-pub returns-clause-path_refused : goal.returns-clause-path_refused
-returns-clause-path_refused g c = λ one. (
-  c.as_str.result.now,
-  one_word c.args.words.now c.path-item.result c.as_str.result.now c.in-len1.len_at_least c.in-len1.len_below c.path-item.is c.as_str.ensures.value,
-  refused_path c.in-Err.e (λ e. IsParseOf path_view builtin_functions.signature c.as_str.result.now (Err e)) (sym c.refuse.ensures ∙ one)
-      (λ p is. subst (λ F. IsParseOf path_view F.signature c.as_str.result.now (Err p)) (before_itself builtin_functions)
-      (c.report.ensures.path_refused p (c.in-Err.is ∙ ap Err is))),
-)
+pub returns-in-Ok-clause-report_out : goal.returns-in-Ok-clause-report_out
+returns-in-Ok-clause-report_out g c =
+    let one = one_word c.args.words.now c.path-item.result c.as_str.result.now c.in-len1.len_at_least c.in-len1.len_below c.path-item.is c.as_str.ensures.value in
+    let whole = whole_read c.read_to_end.result (g.R.Read.remaining c.args.input.now) c.new-document.result.items c.read_to_end.new.buf.items c.as_slice.result.now
+    (sym c.is_err.ensures.value ∙ c.if-is_err.false)
+    c.read_to_end.ensures.bytes c.new-document.ensures.items c.as_slice.ensures.value in
+    λ done. (c.as_str-in-Ok.result.now, report_of_run _ _ _ _ _ _ one whole c.in-Ok.ensures.lines c.as_str-in-Ok.ensures.value, c.print.ensures.whole done)
+
+pub returns-in-Ok-clause-part_out : goal.returns-in-Ok-clause-part_out
+returns-in-Ok-clause-part_out g c =
+    let one = one_word c.args.words.now c.path-item.result c.as_str.result.now c.in-len1.len_at_least c.in-len1.len_below c.path-item.is c.as_str.ensures.value in
+    let whole = whole_read c.read_to_end.result (g.R.Read.remaining c.args.input.now) c.new-document.result.items c.read_to_end.new.buf.items c.as_slice.result.now
+    (sym c.is_err.ensures.value ∙ c.if-is_err.false)
+    c.read_to_end.ensures.bytes c.new-document.ensures.items c.as_slice.ensures.value in
+    λ three. inr (c.as_str-in-Ok.result.now, report_of_run _ _ _ _ _ _ one whole c.in-Ok.ensures.lines c.as_str-in-Ok.ensures.value, c.print.ensures.beginning)
+
+pub returns-in-Ok-clause-query_told : goal.returns-in-Ok-clause-query_told
+returns-in-Ok-clause-query_told g c = λ three. (codes "jsonpath: output failed\n", inr refl, c.print.ensures.told three)
+
+pub refuse-requires : goal.refuse-requires
+refuse-requires g c = λ path is. (c.report.ensures.path_refused path (c.in-Err.is ∙ ap Err is)).memory_position
+
+pub returns-clause-path_told : goal.returns-clause-path_told
+returns-clause-path_told g c = λ one.
+    let (path, is) = path_of c.in-Err.e (sym c.refuse.ensures.status ∙ one) in (
+      c.as_str.result.now,
+      one_word c.args.words.now c.path-item.result c.as_str.result.now c.in-len1.len_at_least c.in-len1.len_below c.path-item.is c.as_str.ensures.value,
+      (
+        path,
+        subst (λ F. IsParseOf path_view F.signature c.as_str.result.now (Err path)) (before_itself builtin_functions)
+            (c.report.ensures.path_refused path (c.in-Err.is ∙ ap Err is)),
+        subst (λ e. AppendsBeginning (g.E.Write.contents c.args.err.now) (g.E.Write.contents c.refuse.new.err) (line_of e)) is c.refuse.ensures.told,
+      ),
+    )
+
+pub returns-clause-document_told : goal.returns-clause-document_told
+returns-clause-document_told g c = λ two.
+    let (document, is) = document_of c.in-Err.e (sym c.refuse.ensures.status ∙ two) in (
+      line_of (Document document),
+      inl (document, refl),
+      subst (λ e. AppendsBeginning (g.E.Write.contents c.args.err.now) (g.E.Write.contents c.refuse.new.err) (line_of e)) is c.refuse.ensures.told,
+    )
+
+pub returns-clause-query_told : goal.returns-clause-query_told
+returns-clause-query_told g c = λ three.
+    let (query, is) = query_of c.in-Err.e (sym c.refuse.ensures.status ∙ three) in (
+      line_of (Query query),
+      inl (query, refl),
+      subst (λ e. AppendsBeginning (g.E.Write.contents c.args.err.now) (g.E.Write.contents c.refuse.new.err) (line_of e)) is c.refuse.ensures.told,
+    )
