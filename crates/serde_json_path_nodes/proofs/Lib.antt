@@ -3,6 +3,7 @@
 -- Equal: the derived `==` of elements is the test of their steps.
 -- Escapes: a character is read back from its escape.
 -- Quotes: a text in quotes, written character by character.
+-- Steps: a location, written step by step.
 -- Pointers: a name in a pointer, written character by character.
 -- TextsApart: locations are read back from their normalised paths.
 -- Orders: the orders of steps and of locations are total.
@@ -16,4 +17,5 @@ mod KeptBySorting
 mod Orders
 mod Pointers
 mod Quotes
+mod Steps
 mod TextsApart

@@ -1,12 +1,12 @@
 //! Locations, as normalised paths.
 
-ghost use Rattle.std.specs.Prelude.{◌≡◌, ◌==◌, ◌↔◌, ◌++◌, length, map, slice_get, option_map, Some, IfOk, OnOk, IsTrue, string_bytes};
+ghost use Rattle.std.specs.Prelude.{◌≡◌, ◌==◌, ◌↔◌, ◌++◌, length, map, slice_get, option_map, Some, IfOk, OnOk, IsTrue, string_bytes, codes};
 ghost use Rattle.std.specs.List.{flat_map};
 ghost use Rattle.serde_json_path_nodes.specs.Text.{normal, pointer, in_pointer};
 
 use crate::iterators::PathElements;
 use crate::path_element::PathElement;
-use crate::quoted::Quoted;
+use crate::quoted::write_inside;
 use std::alloc::{AllocError, Global};
 use std::cmp::Ordering;
 use std::fmt;
@@ -140,17 +140,71 @@ impl<'b> fmt::Display for NormalizedPath<'b> {
     ghost output = { λ location. Some (normal location) };
 
     fn fmt<W: fmt::Write>(&self, f: &mut fmt::Formatter<W>) -> fmt::Result {
-        write!(f, "$")?;
+        // A bracket is closed by the write that opens the next one, since each write costs.
+        let mut last = Printed::Root;
         for element in &self.steps {
             match *element {
                 PathElement::Name(name) => {
-                    let name = Quoted(name);
-                    write!(f, "[{name}]")?
+                    f.write_str(last.before_name())?;
+                    write_inside(f, name)?;
+                    last = Printed::Name;
                 }
-                PathElement::Index(position) => write!(f, "[{position}]")?,
+                PathElement::Index(position) => {
+                    f.write_str(last.before_index())?;
+                    write!(f, "{position}")?;
+                    last = Printed::Index;
+                }
             }
         }
-        Ok(())
+        f.write_str(last.end())
+    }
+}
+
+/// What of a location was printed last. Its end is still to come.
+#[derive(Clone, Copy)]
+enum Printed {
+    /// No step.
+    Root,
+    /// A name, whose quote and bracket are open.
+    Name,
+    /// A position, whose bracket is open.
+    Index,
+}
+
+impl Printed {
+    ghost use Rattle.serde_json_path_nodes.specs.Views.{end_of};
+
+    /// The end of what was printed last.
+    fn end(self) -> &'static str
+        ensures { result.now ≡ end_of self }
+    {
+        match self {
+            Printed::Root => "$",
+            Printed::Name => "']",
+            Printed::Index => "]",
+        }
+    }
+
+    /// What is between that and a name.
+    fn before_name(self) -> &'static str
+        ensures { result.now ≡ end_of self ++ codes "['" }
+    {
+        match self {
+            Printed::Root => "$['",
+            Printed::Name => "']['",
+            Printed::Index => "]['",
+        }
+    }
+
+    /// What is between that and a position.
+    fn before_index(self) -> &'static str
+        ensures { result.now ≡ end_of self ++ codes "[" }
+    {
+        match self {
+            Printed::Root => "$[",
+            Printed::Name => "'][",
+            Printed::Index => "][",
+        }
     }
 }
 

@@ -25,13 +25,13 @@ impl<'b> fmt::Display for Quoted<'b> {
 }
 
 /// Writes what stands between the quotes. Characters without an escape are written many at a time.
-fn write_inside<W: Write>(f: &mut Formatter<W>, text: &str) -> fmt::Result
+pub(crate) fn write_inside<W: Write>(f: &mut Formatter<W>, text: &str) -> fmt::Result
     ensures { WritesOnOk W.write_str_gives f.old result (flat_map in_quotes (chars text.now)) f.new }
 {
     let mut rest = text;
     'stretches: loop {
         let (plain, others) = rest.split_at(plain_len(rest));
-        f.write_str(plain)?;
+        write_plain(f, plain)?;
         let mut others = others.chars();
         let Some(c) = others.next() else {
             return Ok(());
@@ -39,6 +39,16 @@ fn write_inside<W: Write>(f: &mut Formatter<W>, text: &str) -> fmt::Result
         write_char(f, c)?;
         rest = others.as_str();
     }
+}
+
+/// Writes a text as it is, in no write where it is empty.
+fn write_plain<W: Write>(f: &mut Formatter<W>, text: &str) -> fmt::Result
+    ensures { WritesOnOk W.write_str_gives f.old result text.now f.new }
+{
+    if text.is_empty() {
+        return Ok(());
+    }
+    f.write_str(text)
 }
 
 /// Writes a character: its escape, or itself.

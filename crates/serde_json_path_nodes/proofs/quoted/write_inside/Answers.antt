@@ -36,6 +36,6 @@ stretches-preserved g c =
       (before.1 ++ front) ++ in_quotes c.in-Some.c,
       char_written others rest (before.1 ++ front) _ c.in-Some.c utf8 step all,
       λ plain.
-          let first : HasWritten g.W.Write.write_str_gives c.args.f.now (before.1 ++ front) c.write_str.new.self = has_written_append _ _ _ _ front _ (before.3 plain) (search rules) in
+          let first : HasWritten g.W.Write.write_str_gives c.args.f.now (before.1 ++ front) c.write_plain.new.f = has_written_append _ _ _ _ front _ (before.3 plain) (search rules) in
           has_written_append _ _ _ _ (in_quotes c.in-Some.c) _ first (search rules),
     )

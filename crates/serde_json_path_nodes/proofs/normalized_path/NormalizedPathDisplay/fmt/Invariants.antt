@@ -1,9 +1,11 @@
-use Rattle.std.proofs.Common.{map, take}
+use Rattle.std.proofs.Common.{◌≡◌, ℕ, List, ◌++◌, map, take}
 use Rattle.std.specs.Fmt.{HasWritten, IsPlainFormatter}
 use Rattle.serde_json_path_nodes.specs.Text.{normal}
-use Rattle.serde_json_path_nodes.specs.Views.{step_view}
+use Rattle.serde_json_path_nodes.specs.Views.{end_of, step_view}
 use Rattle.serde_json_path_nodes.proofs.normalized_path.NormalizedPathDisplay.fmt.Given as goal
 
+-- what is written of the text of the steps so far: all but its end
 abbrev pub invariant-loop-element : goal.invariant-loop-element
 invariant-loop-element g l =
-    IsPlainFormatter l.fn.f → HasWritten g.W.Write.write_str_gives l.fn.f (normal (map step_view (take l.element-index l.element-items))) l.f
+    (done : List ℕ) × (done ++ end_of l.last ≡ normal (map step_view (take l.element-index l.element-items)))
+    × (IsPlainFormatter l.fn.f → HasWritten g.W.Write.write_str_gives l.fn.f done l.f)
