@@ -12,3 +12,5 @@ pub mod BoundedParts
 pub mod SingularParts
 -- nodes that are copies one by one
 pub mod Copies
+-- the parts after the first
+pub mod OtherParts

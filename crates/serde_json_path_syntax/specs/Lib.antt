@@ -12,6 +12,8 @@ pub mod Calls
 pub mod Used
 -- the text in which a query is printed, as the bytes of its UTF-8
 pub mod Text
+-- what is printed before a selector in brackets
+pub mod Openings
 -- whether two trees are the same, as a computed test
 pub mod SameTree
 -- the test of two trees is true exactly where they are equal, so it is an equivalence

@@ -54,6 +54,11 @@ abbrev pub query_kind_text : QueryKind → List ℕ
 query_kind_text root = codes "$"
 query_kind_text current = codes "@"
 
+-- the sign of the query that begins there, if one does
+abbrev pub sign_text : Option QueryKind → List ℕ
+sign_text None = []
+sign_text (Some kind) = query_kind_text kind
+
 -- what stands before a name or `*`, and what before a bracket
 abbrev pub dots_of : SegmentKind → List ℕ
 dots_of child = codes "."

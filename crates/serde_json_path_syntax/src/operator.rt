@@ -1,6 +1,6 @@
 //! Comparison operators (RFC 9535, section 2.3.5.1).
 
-ghost use Rattle.std.specs.Prelude.{◌≡◌};
+ghost use Rattle.std.specs.Prelude.{◌≡◌, ◌++◌, codes};
 ghost use Rattle.serde_json_path_syntax.specs.Literals.{operator_view};
 ghost use Rattle.serde_json_path_syntax.specs.Text.{operator_text};
 
@@ -33,6 +33,20 @@ impl ComparisonOperator {
             ComparisonOperator::LessThanEqualTo => "<=",
             ComparisonOperator::GreaterThan => ">",
             ComparisonOperator::GreaterThanEqualTo => ">=",
+        }
+    }
+
+    /// The same with a blank before it and one after it, for one write.
+    pub(crate) fn sign_in_blanks(self) -> &'static str
+        ensures { result.now ≡ codes " " ++ operator_text (operator_view self) ++ codes " " }
+    {
+        match self {
+            ComparisonOperator::EqualTo => " == ",
+            ComparisonOperator::NotEqualTo => " != ",
+            ComparisonOperator::LessThan => " < ",
+            ComparisonOperator::LessThanEqualTo => " <= ",
+            ComparisonOperator::GreaterThan => " > ",
+            ComparisonOperator::GreaterThanEqualTo => " >= ",
         }
     }
 }

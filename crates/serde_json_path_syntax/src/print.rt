@@ -1,20 +1,23 @@
 //! Printed paths: a query as the text that is read back as it.
 
-ghost use Rattle.std.specs.Prelude.{◌≡◌, ◌<◌, ◌≤◌, ◌++◌, Some, codes, length};
+ghost use Rattle.std.specs.Prelude.{◌<◌, ◌≤◌, ◌++◌, Some, codes, length, option_map};
 ghost use Rattle.std.specs.Fmt.{WritesOnOk};
 ghost use Rattle.serde_json_path_syntax.specs.Flat.{and_at, argument_at, basic_at, call_at, comparable_at, or_at, part_query, segment_at, segments_at, selector_at, selectors_at, kind_view as query_kind_view, segment_kind_view, piece_at, segment_kind_in};
 ghost use Rattle.serde_json_path_syntax.specs.Calls.{arguments_of};
 ghost use Rattle.serde_json_path_syntax.specs.PartBounds.{parts_bound};
 ghost use Rattle.serde_json_path_syntax.specs.Parts.{nodes_in, number_of, tree_of};
-ghost use Rattle.serde_json_path_syntax.specs.Text.{and_text, argument_text, argument_texts, basic_text, bracket_dots_of, call_text, comparable_text, dots_of, joined, or_text, query_kind_text, query_text, segment_text, segments_text, selector_text, selector_texts};
+ghost use Rattle.serde_json_path_syntax.specs.Text.{and_text, argument_text, argument_texts, basic_text, call_text, comparable_text, joined, or_text, query_kind_text, query_text, segment_text, segments_text, selector_text, selector_texts, sign_text};
+ghost use Rattle.serde_json_path_syntax.specs.Openings.{opening_text};
 ghost use Rattle.serde_json_path_syntax.specs.Typing.{AreTypedSegments, AreTypedSelectors, IsTyped, IsTypedAnd, IsTypedBasic, IsTypedCall, IsTypedComparable, IsTypedForSome, IsTypedOr, IsTypedSegment, IsTypedSelector, UnderSome};
 
 mod literals;
+mod openings;
 
 use crate::checked::Checked;
-use crate::node::{Argument, Basic, Comparable, Node, Part, QueryKind, Segment, SegmentKind};
+use crate::node::{Argument, Basic, Comparable, Node, Part, QueryKind, Segment};
 use crate::selector_ref::SelectorRef;
 use literals::write_value;
+use openings::{Opening, dots, sign};
 use serde_json_path_nodes::Quoted;
 use std::fmt;
 use std::fmt::{Formatter, Write};
@@ -25,18 +28,7 @@ impl fmt::Display for Checked {
     ghost output = { λ query. Some (query_text (tree_of query)) };
 
     fn fmt<W: Write>(&self, f: &mut Formatter<W>) -> fmt::Result {
-        f.write_str(sign(self.kind()))?;
-        write_segments(f, self, self.segments())
-    }
-}
-
-/// The sign of where a query begins.
-fn sign(kind: QueryKind) -> &'static str
-    ensures { result.now ≡ query_kind_text (query_kind_view kind) }
-{
-    match kind {
-        QueryKind::Root => "$",
-        QueryKind::Current => "@",
+        write_path(f, self, self.kind(), self.segments())
     }
 }
 
@@ -47,43 +39,63 @@ fn write_query<W: Write>(f: &mut Formatter<W>, tree: &Checked, query: Part) -> f
     ensures { WritesOnOk W.write_str_gives f.old result
         (query_text (part_query (nodes_in tree.now) query)) f.new }
 {
-    f.write_str(sign(tree.part_kind(query)))?;
-    write_segments(f, tree, tree.part_segments(query))
+    write_path(f, tree, tree.part_kind(query), tree.part_segments(query))
 }
 
+/// Writes the sign of a query, and its segments. The first segment takes the sign into its first write, since each
+/// write costs.
 #[cycle(printing)]
-fn write_segments<W: Write>(f: &mut Formatter<W>, tree: &Checked, segments: &[Part]) -> fmt::Result
+fn write_path<W: Write>(
+    f: &mut Formatter<W>,
+    tree: &Checked,
+    kind: QueryKind,
+    segments: &[Part],
+) -> fmt::Result
     requires within { parts_bound segments.now ≤ length (nodes_in tree.now) }
     requires typed { UnderSome AreTypedSegments (segments_at (nodes_in tree.now) segments.now) }
     ensures { WritesOnOk W.write_str_gives f.old result
-        (segments_text (segments_at (nodes_in tree.now) segments.now)) f.new }
+        (query_kind_text (query_kind_view kind)
+        ++ segments_text (segments_at (nodes_in tree.now) segments.now)) f.new }
 {
-    for segment in segments {
-        write_segment(f, tree, *segment)?;
+    let [first, others @ ..] = segments else {
+        return f.write_str(sign(kind));
+    };
+    write_segment(f, tree, *first, Some(kind))?;
+    for segment in others {
+        write_segment(f, tree, *segment, None)?;
     }
     Ok(())
 }
 
+/// Writes a segment, after the sign of its query where it is the first.
 #[cycle(printing)]
-fn write_segment<W: Write>(f: &mut Formatter<W>, tree: &Checked, segment: Part) -> fmt::Result
+#[inline(always)]
+fn write_segment<W: Write>(
+    f: &mut Formatter<W>,
+    tree: &Checked,
+    segment: Part,
+    start: Option<QueryKind>,
+) -> fmt::Result
     requires within { number_of segment < length (nodes_in tree.now) }
     requires typed { UnderSome IsTypedSegment (segment_at (nodes_in tree.now) segment) }
     ensures { WritesOnOk W.write_str_gives f.old result
-        (segment_text (segment_at (nodes_in tree.now) segment) (segment_kind_in (piece_at (nodes_in tree.now) (number_of segment)))) f.new }
+        (sign_text (option_map query_kind_view start)
+        ++ segment_text (segment_at (nodes_in tree.now) segment)
+        (segment_kind_in (piece_at (nodes_in tree.now) (number_of segment)))) f.new }
 {
     match tree.node(segment) {
         Node::Segment { kind, segment } => match segment {
             Segment::DotName(name) => {
-                f.write_str(dots(*kind))?;
+                f.write_str(dots(start, *kind))?;
                 f.write_str(name.as_str())
             }
             Segment::DotWildcard => {
-                f.write_str(dots(*kind))?;
+                f.write_str(dots(start, *kind))?;
                 f.write_str("*")
             }
             Segment::LongHand(selectors) => {
-                f.write_str(opening(*kind))?;
-                write_selectors(f, tree, selectors.as_slice())?;
+                let opening = Opening::Bracket(start, *kind);
+                write_selectors(f, tree, opening, selectors.as_slice())?;
                 f.write_str("]")
             }
         },
@@ -91,70 +103,63 @@ fn write_segment<W: Write>(f: &mut Formatter<W>, tree: &Checked, segment: Part) 
     }
 }
 
-/// What is before a name or `*`.
-fn dots(kind: SegmentKind) -> &'static str
-    ensures { result.now ≡ dots_of (segment_kind_view kind) }
-{
-    match kind {
-        SegmentKind::Child => ".",
-        SegmentKind::Descendant => "..",
-    }
-}
-
-/// An opening bracket, and what is before it.
-fn opening(kind: SegmentKind) -> &'static str
-    ensures { result.now ≡ bracket_dots_of (segment_kind_view kind) ++ codes "[" }
-{
-    match kind {
-        SegmentKind::Child => "[",
-        SegmentKind::Descendant => "..[",
-    }
-}
-
-/// Writes a separator, which is empty before the first of the parts.
-fn write_separator<W: Write>(f: &mut Formatter<W>, separator: &str) -> fmt::Result
-    ensures { WritesOnOk W.write_str_gives f.old result separator.now f.new }
-{
-    if separator.is_empty() {
-        return Ok(());
-    }
-    f.write_str(separator)
-}
-
+/// Writes an opening bracket and the selectors after it.
 #[cycle(printing)]
+#[inline(always)]
 fn write_selectors<W: Write>(
     f: &mut Formatter<W>,
     tree: &Checked,
+    opening: Opening,
     selectors: &[Part],
 ) -> fmt::Result
     requires within { parts_bound selectors.now ≤ length (nodes_in tree.now) }
     requires typed { UnderSome AreTypedSelectors (selectors_at (nodes_in tree.now) selectors.now) }
     ensures { WritesOnOk W.write_str_gives f.old result
-        (joined (codes ", ") (selector_texts (selectors_at (nodes_in tree.now) selectors.now))) f.new }
+        (opening_text opening ++ joined (codes ", ")
+        (selector_texts (selectors_at (nodes_in tree.now) selectors.now))) f.new }
 {
-    let mut separator = "";
-    for selector in selectors {
-        write_separator(f, separator)?;
-        write_selector(f, tree, *selector)?;
-        separator = ", ";
+    let [first, others @ ..] = selectors else {
+        return f.write_str(opening.text());
+    };
+    write_selector(f, tree, *first, opening)?;
+    for selector in others {
+        write_selector(f, tree, *selector, Opening::Comma)?;
     }
     Ok(())
 }
 
+/// Writes a selector after its opening.
 #[cycle(printing)]
-fn write_selector<W: Write>(f: &mut Formatter<W>, tree: &Checked, selector: Part) -> fmt::Result
+fn write_selector<W: Write>(
+    f: &mut Formatter<W>,
+    tree: &Checked,
+    selector: Part,
+    opening: Opening,
+) -> fmt::Result
     requires within { number_of selector < length (nodes_in tree.now) }
     requires typed { UnderSome IsTypedSelector (selector_at (nodes_in tree.now) selector) }
     ensures { WritesOnOk W.write_str_gives f.old result
-        (selector_text (selector_at (nodes_in tree.now) selector)) f.new }
+        (opening_text opening ++ selector_text (selector_at (nodes_in tree.now) selector)) f.new }
 {
     match tree.selector(selector) {
-        SelectorRef::Name(name) => write!(f, "{}", Quoted(name)),
-        SelectorRef::Wildcard => f.write_str("*"),
-        SelectorRef::Index(index) => write!(f, "{index}"),
-        SelectorRef::Slice(slice) => write!(f, "{slice}"),
+        SelectorRef::Name(name) => {
+            f.write_str(opening.text())?;
+            write!(f, "{}", Quoted(name))
+        }
+        SelectorRef::Wildcard => {
+            f.write_str(opening.text())?;
+            f.write_str("*")
+        }
+        SelectorRef::Index(index) => {
+            f.write_str(opening.text())?;
+            write!(f, "{index}")
+        }
+        SelectorRef::Slice(slice) => {
+            f.write_str(opening.text())?;
+            write!(f, "{slice}")
+        }
         SelectorRef::Filter(expression) => {
-            f.write_str("?")?;
+            f.write_str(opening.text_with_filter())?;
             write_or(f, tree, expression)
         }
     }
@@ -167,27 +172,32 @@ fn write_or<W: Write>(f: &mut Formatter<W>, tree: &Checked, expression: Part) ->
     ensures { WritesOnOk W.write_str_gives f.old result
         (or_text (or_at (nodes_in tree.now) expression)) f.new }
 {
-    let mut separator = "";
-    for operand in tree.or_parts(expression) {
-        write_separator(f, separator)?;
+    let [first, others @ ..] = tree.or_parts(expression) else {
+        return Ok(());
+    };
+    write_and(f, tree, *first)?;
+    for operand in others {
+        f.write_str(" || ")?;
         write_and(f, tree, *operand)?;
-        separator = " || ";
     }
     Ok(())
 }
 
 #[cycle(printing)]
+#[inline(always)]
 fn write_and<W: Write>(f: &mut Formatter<W>, tree: &Checked, expression: Part) -> fmt::Result
     requires within { number_of expression < length (nodes_in tree.now) }
     requires typed { UnderSome IsTypedAnd (and_at (nodes_in tree.now) expression) }
     ensures { WritesOnOk W.write_str_gives f.old result
         (and_text (and_at (nodes_in tree.now) expression)) f.new }
 {
-    let mut separator = "";
-    for operand in tree.and_parts(expression) {
-        write_separator(f, separator)?;
+    let [first, others @ ..] = tree.and_parts(expression) else {
+        return Ok(());
+    };
+    write_basic(f, tree, *first)?;
+    for operand in others {
+        f.write_str(" && ")?;
         write_basic(f, tree, *operand)?;
-        separator = " && ";
     }
     Ok(())
 }
@@ -217,9 +227,7 @@ fn write_basic<W: Write>(f: &mut Formatter<W>, tree: &Checked, expression: Part)
                 right,
             } => {
                 write_comparable(f, tree, *left)?;
-                f.write_str(" ")?;
-                f.write_str(operator.sign())?;
-                f.write_str(" ")?;
+                f.write_str(operator.sign_in_blanks())?;
                 write_comparable(f, tree, *right)
             }
             Basic::Exist(query) => write_query(f, tree, *query),
@@ -275,11 +283,13 @@ fn write_arguments<W: Write>(f: &mut Formatter<W>, tree: &Checked, call: Part) -
     ensures { WritesOnOk W.write_str_gives f.old result
         (joined (codes ", ") (argument_texts (arguments_of (call_at (nodes_in tree.now) call)))) f.new }
 {
-    let mut separator = "";
-    for argument in tree.arguments(call) {
-        write_separator(f, separator)?;
+    let [first, others @ ..] = tree.arguments(call) else {
+        return Ok(());
+    };
+    write_argument(f, tree, *first)?;
+    for argument in others {
+        f.write_str(", ")?;
         write_argument(f, tree, *argument)?;
-        separator = ", ";
     }
     Ok(())
 }

@@ -1,11 +1,9 @@
-use Rattle.std.proofs.Common.{◌≡◌, ◌+◌, ◌*◌, [], codes}
-use denote.Shadow.{shadow}
-use denote.Text.{Utf8}
+use Rattle.std.proofs.Common.{◌+◌, ◌*◌, [], codes}
 use Rattle.std.specs.Fmt.{HasWritten, IsPlainFormatter}
 use Rattle.serde_json_path_syntax.specs.Flat.{pieces}
 use Rattle.serde_json_path_syntax.specs.PartBounds.{parts_bound}
 use Rattle.serde_json_path_syntax.specs.Parts.{nodes_in}
-use Rattle.serde_json_path_syntax.proofs.Printing.Joined.{before, begun, and_part, argument_part, basic_part, segment_part, selector_part}
+use Rattle.serde_json_path_syntax.proofs.Printing.Joined.{begun, and_part, argument_part, basic_part, segment_part, selector_part}
 use Rattle.serde_json_path_syntax.proofs.print.+printing.Given as goal
 
 -- a function that writes a part goes to parts with lower numbers
@@ -13,8 +11,8 @@ use Rattle.serde_json_path_syntax.proofs.print.+printing.Given as goal
 abbrev pub decreases-write_query : goal.decreases-write_query
 decreases-write_query g l = 8 * l.query.number + 5
 
-abbrev pub decreases-write_segments : goal.decreases-write_segments
-decreases-write_segments g l = 8 * parts_bound l.segments.now + 4
+abbrev pub decreases-write_path : goal.decreases-write_path
+decreases-write_path g l = 8 * parts_bound l.segments.now + 4
 
 abbrev pub decreases-write_segment : goal.decreases-write_segment
 decreases-write_segment g l = 8 * l.segment.number + 5
@@ -46,28 +44,24 @@ decreases-write_arguments g l = 8 * l.call.number + 4
 abbrev pub decreases-write_argument : goal.decreases-write_argument
 decreases-write_argument g l = 8 * l.argument.number + 5
 
--- ---- what is printed of the first parts, and the separator before the next
+-- ---- what is printed of the parts after the first one, since that was printed
 
-abbrev pub invariant-write_segments-loop-segment : goal.invariant-write_segments-loop-segment
-invariant-write_segments-loop-segment g l =
-    IsPlainFormatter l.fn.f → HasWritten g.W.Write.write_str_gives l.fn.f (begun [] (segment_part (pieces (nodes_in l.fn.tree))) l.fn.segments l.segment-index) l.f
+abbrev pub invariant-write_path-loop-segment : goal.invariant-write_path-loop-segment
+invariant-write_path-loop-segment g l =
+    IsPlainFormatter l.initial.f → HasWritten g.W.Write.write_str_gives l.initial.f (begun [] (segment_part (pieces (nodes_in l.fn.tree))) l.others l.segment-index) l.f
 
 abbrev pub invariant-write_selectors-loop-selector : goal.invariant-write_selectors-loop-selector
 invariant-write_selectors-loop-selector g l =
-    shadow (Utf8 l.separator) × (l.separator ≡ before (codes ", ") l.selector-index)
-    × (IsPlainFormatter l.fn.f → HasWritten g.W.Write.write_str_gives l.fn.f (begun (codes ", ") (selector_part (pieces (nodes_in l.fn.tree))) l.fn.selectors l.selector-index) l.f)
+    IsPlainFormatter l.initial.f → HasWritten g.W.Write.write_str_gives l.initial.f (begun (codes ", ") (selector_part (pieces (nodes_in l.fn.tree))) l.others l.selector-index) l.f
 
 abbrev pub invariant-write_or-loop-operand : goal.invariant-write_or-loop-operand
 invariant-write_or-loop-operand g l =
-    shadow (Utf8 l.separator) × (l.separator ≡ before (codes " || ") l.operand-index)
-    × (IsPlainFormatter l.fn.f → HasWritten g.W.Write.write_str_gives l.fn.f (begun (codes " || ") (and_part (pieces (nodes_in l.fn.tree))) l.operand-items l.operand-index) l.f)
+    IsPlainFormatter l.initial.f → HasWritten g.W.Write.write_str_gives l.initial.f (begun (codes " || ") (and_part (pieces (nodes_in l.fn.tree))) l.others l.operand-index) l.f
 
 abbrev pub invariant-write_and-loop-operand : goal.invariant-write_and-loop-operand
 invariant-write_and-loop-operand g l =
-    shadow (Utf8 l.separator) × (l.separator ≡ before (codes " && ") l.operand-index)
-    × (IsPlainFormatter l.fn.f → HasWritten g.W.Write.write_str_gives l.fn.f (begun (codes " && ") (basic_part (pieces (nodes_in l.fn.tree))) l.operand-items l.operand-index) l.f)
+    IsPlainFormatter l.initial.f → HasWritten g.W.Write.write_str_gives l.initial.f (begun (codes " && ") (basic_part (pieces (nodes_in l.fn.tree))) l.others l.operand-index) l.f
 
 abbrev pub invariant-write_arguments-loop-argument : goal.invariant-write_arguments-loop-argument
 invariant-write_arguments-loop-argument g l =
-    shadow (Utf8 l.separator) × (l.separator ≡ before (codes ", ") l.argument-index)
-    × (IsPlainFormatter l.fn.f → HasWritten g.W.Write.write_str_gives l.fn.f (begun (codes ", ") (argument_part (pieces (nodes_in l.fn.tree))) l.argument-items l.argument-index) l.f)
+    IsPlainFormatter l.initial.f → HasWritten g.W.Write.write_str_gives l.initial.f (begun (codes ", ") (argument_part (pieces (nodes_in l.fn.tree))) l.others l.argument-index) l.f
