@@ -4,5 +4,5 @@
 pub mod Decoding
 -- what a reader's fields say of the characters that are left
 pub mod FirstByte
--- the ASCII characters of a member name that are taken many at a time
-pub mod NameParts
+-- the ASCII characters that are taken many at a time
+pub mod Stretches

@@ -15,7 +15,7 @@
 --   Filters: logical expressions, calls, and the whole path
 -- what contracts of private functions cite
 --   Looking, Ahead, Reading: looks at a source, the bytes ahead, and a reader of a text
---   NameParts, Words: a name's characters many at a time, and words
+--   Stretches, Words: characters many at a time, and words
 --   Levels: what is read at a level
 --   Giving: what a function of the parser returned is what reading gives
 pub mod Source
@@ -27,7 +27,7 @@ pub mod Laws
 pub mod Errors
 pub mod Looking
 pub mod Ahead
-pub mod NameParts
+pub mod Stretches
 pub mod Reading
 pub mod Parsed
 pub mod Strings

@@ -4,7 +4,6 @@ mod call;
 mod decode;
 mod filter_parser;
 mod logical;
-mod name_part;
 mod operand;
 pub(crate) mod primitive;
 mod query;
@@ -12,6 +11,7 @@ pub(crate) mod reader;
 mod segment;
 mod selector;
 mod slice;
+mod stretch;
 
 ghost use Rattle.std.specs.Prelude.{◌≡◌, ◌+◌, ◌-◌, ◌*◌, ◌^◌, ◌≤◌, max, true, length, IfOk, IfErr};
 ghost use Rattle.serde_json_path_syntax.specs.Parts.{signatures_of};

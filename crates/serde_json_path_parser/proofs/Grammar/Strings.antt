@@ -10,9 +10,12 @@ use Rattle.std.proofs.lemmas.List.{length-append, append-nil}
 use Rattle.std.proofs.lemmas.Option.{same_Some, none-some}
 use Rattle.serde_json_path_parser.specs.declared.error.ParseErrorKind.TheVariants.{ExpectedEndingQuote, BadEscape, ControlCharacter}
 use Rattle.serde_json_path_parser.specs.declared.error.Context.TheVariants as context
-use Rattle.serde_json_path_parser.specs.Lexical.{is_at, begins, is_digit, hexadecimal_of, IsHex4, IsHighSurrogate, IsLowSurrogate, pair_of, escaped_by, is_plain, IsPiece, plain, quote_escape, letter_escape, hex_escape, pair_escape, IsQuote, IsString}
+use Rattle.serde_json_path_parser.specs.Lexical.{◌∈◌, AllPass, is_at, begins, is_digit, hexadecimal_of, IsHex4, IsHighSurrogate, IsLowSurrogate, pair_of, escaped_by, is_plain, IsPiece, plain, quote_escape, letter_escape, hex_escape, pair_escape, IsQuote, IsString}
 use Rattle.serde_json_path_parser.specs.Parsed.{Parsed, ◌>>=◌, refusal, many, byte_count}
 use Rattle.serde_json_path_parser.specs.Strings.{is_hexadecimal, hexadecimal_value, head, hexadecimal_at, hex4_at, is_high, is_low, low_at, unicode_at, is_letter_escape, letter_value, escape_at, is_control, piece_at, is_inside, string_at}
+use Rattle.serde_json_path_parser.specs.Stretches.{is_ascii_plain, Stretched}
+use Rattle.serde_json_path_parser.proofs.Texts.Stretches.{plain_below_128, plain_of}
+use Rattle.std.proofs.lemmas.Str.{encode_ascii}
 use Rattle.serde_json_path_parser.proofs.Reading.Many as m
 use Rattle.serde_json_path_parser.proofs.Reading.Runs.{some_begun}
 use Rattle.serde_json_path_parser.proofs.Reading.Steps.{Read, bind_ok, chosen, guard, done, ok_is, after_one, many_sound, Again, many_again}
@@ -475,6 +478,23 @@ module _ (quote : ℕ) (is : IsQuote quote) where
       → with_text quote before (pieces cs) ≡ total → with_text quote (before ++ encode_utf8 x) (pieces rest) ≡ total
   goes_on before x cs rest total t e h =
       sym (ap (with_text quote before) (m.many_more (begins (is_inside quote)) (piece_at quote) (piece_takes quote is) cs rest x t e) ∙ joined quote before x (pieces rest)) ∙ h
+
+  -- the same over characters that stand for themselves
+  over_plain : (part before rest : List ℕ) (total : Parsed (List ℕ)) → AllPass (is_ascii_plain quote) part
+      → with_text quote before (pieces (part ++ rest)) ≡ total → with_text quote (before ++ part) (pieces rest) ≡ total
+  over_plain [] before rest total each h = ap (λ (l : List ℕ). with_text quote l (pieces rest)) (append-nil before) ∙ h
+  over_plain (c ∷ part) before rest total each h =
+      let is_one = plain_of quote c each.0 in
+      let inside : is_inside quote c ≡ true = (and_parts (nat_le 0x20 c && not (c ∈ "\\")) (is_inside quote c) is_one).1 in
+      let one = goes_on before c (c ∷ (part ++ rest)) (part ++ rest) total inside (piece_again quote is (c ∷ []) c (part ++ rest) (plain c is_one)) h in
+      let ascii : encode_utf8 c ≡ c ∷ [] = encode_ascii c (plain_below_128 quote c each.0) in
+      let more = over_plain part (before ++ c ∷ []) rest total each.1 (subst (λ (l : List ℕ). with_text quote (before ++ l) (pieces (part ++ rest)) ≡ total) ascii one) in
+      ap (λ (l : List ℕ). with_text quote l (pieces rest)) (sym (append_assoc before (c ∷ []) part)) ∙ more
+
+  pub goes_on_far : (before cs rest new : List ℕ) (total : Parsed (List ℕ)) (ok : Bool) → ok ≡ true → Stretched (is_ascii_plain quote) cs rest before new ok
+      → with_text quote before (pieces cs) ≡ total → with_text quote new (pieces rest) ≡ total
+  goes_on_far before cs rest new total ok done s h =
+      ap (λ (l : List ℕ). with_text quote l (pieces rest)) (s.text done) ∙ over_plain s.part before rest total s.each (sym (ap (λ (l : List ℕ). with_text quote before (pieces l)) s.taken) ∙ h)
 
   pub is_done : (before cs : List ℕ) (total : Parsed (List ℕ)) → begins (is_inside quote) cs ≡ false → with_text quote before (pieces cs) ≡ total
       → total ≡ cond (begins (λ c. c == quote) cs) (Ok (before, drop 1 cs)) (Err (refusal ExpectedEndingQuote context.LongHand cs))

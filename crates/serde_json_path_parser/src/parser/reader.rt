@@ -1,8 +1,9 @@
 //! A text that is read character by character, and each byte looked at once.
 
-ghost use Rattle.std.specs.Prelude.{◌≡◌, ◌==◌, ◌<◌, ◌≤◌, ◌+◌, ◌-◌, ◌^◌, ◌∷◌, ℕ, length, slice_get, drop, true, max, None, IfOk, string_bytes, ◌++◌};
+ghost use Rattle.std.specs.Prelude.{◌≡◌, ◌==◌, ◌<◌, ◌≤◌, ◌+◌, ◌-◌, ◌^◌, ◌∷◌, ℕ, length, slice_get, drop, true, max, None, IfOk, IsTrue, is_ok, string_bytes, ◌++◌};
 ghost use Rattle.std.specs.Str.{is_utf8, chars, encode_utf8_all as encoded};
 ghost use Rattle.std.specs.Char.{IsScalar};
+ghost use Rattle.serde_json_path_parser.specs.Stretches.{is_ascii_plain, Stretched};
 ghost use Rattle.serde_json_path_parser.specs.Lexical.{begins, begins_both, is_blank, is_digit, is_name_first, is_name_char, is_small_letter, is_function_char};
 ghost use Rattle.serde_json_path_parser.specs.Ahead.{is_ascii, limit_of, IsAhead, IsSecond};
 ghost use Rattle.serde_json_path_parser.specs.Looking.{greatest_usize, up_to};
@@ -12,7 +13,7 @@ ghost use Rattle.serde_json_path_parser.specs.Strings.{is_hexadecimal, is_letter
 
 use crate::error::{Context, Failure, ParseErrorKind, Refusal};
 use crate::parser::decode::{byte_at, byte_below, wide_character_at};
-use crate::parser::name_part::push_name_part;
+use crate::parser::stretch::{Class, NameChars, PlainChars, push_stretch};
 use crate::source::PathSource;
 use std::alloc::AllocError;
 
@@ -347,7 +348,43 @@ impl<'s, S: PathSource> Reader<'s, S> {
         if first >= 0x80 || text.len() < 32 {
             return text.push(self.take_char());
         }
-        let (index, next, pushed) = push_name_part(self.source, self.index, first, text);
+        let (index, next, pushed) = push_stretch(self.source, self.index, first, &NameChars, text);
+        self.index = index;
+        self.next = next;
+        pushed
+    }
+
+    /// Whether ASCII characters are next that are worth taking many at a time, since they stand for themselves in a
+    /// string of these quotes and so many bytes of it were taken.
+    pub(crate) fn sees_plain(&self, quote: u8, taken: usize) -> bool
+        requires { quote < 128 }
+        ensures begun { IsTrue result → begins (is_ascii_plain quote) (left self.now) ≡ true }
+        ensures second { IsTrue result → self.now.second ≡ None }
+    {
+        // Many at a time only after a longer text, since a short one would gain nothing.
+        if taken < 32 || self.second.is_some() {
+            return false;
+        }
+        match self.peek() {
+            Some(next) => PlainChars { quote }.holds(next),
+            None => false,
+        }
+    }
+
+    /// Takes one or more ASCII characters that stand for themselves in a string of these quotes, and appends them to a
+    /// text.
+    pub(crate) fn take_plain(&mut self, quote: u8, text: &mut String) -> Result<(), AllocError>
+        requires begun { begins (is_ascii_plain quote) (left self.old) ≡ true }
+        requires second { self.old.second ≡ None }
+        ensures moves { Moves self.old self.new }
+        ensures second { self.new.second ≡ None }
+        ensures less { length (left self.new) < length (left self.old) }
+        ensures taken { Stretched (is_ascii_plain quote) (left self.old) (left self.new)
+            (string_bytes text.old) (string_bytes text.new) (is_ok result) }
+    {
+        let first = self.next.unwrap();
+        let class = PlainChars { quote };
+        let (index, next, pushed) = push_stretch(self.source, self.index, first, &class, text);
         self.index = index;
         self.next = next;
         pushed

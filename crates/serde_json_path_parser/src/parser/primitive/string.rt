@@ -150,6 +150,10 @@ pub(crate) fn parse_string<S: PathSource>(
 {
     let mut text = String::new(alloc);
     'pieces: while reader.sees_inside(quote) {
+        if reader.sees_plain(quote, text.len()) {
+            reader.take_plain(quote, &mut text)?;
+            continue;
+        }
         let c = parse_piece(reader, quote)?;
         text.push(c)?;
     }

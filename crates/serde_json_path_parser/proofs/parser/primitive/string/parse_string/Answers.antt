@@ -1,4 +1,4 @@
-use Rattle.std.proofs.Common.{◌≡◌, true, false, drop, refl, sym, ap, ◌∙◌, arith}
+use Rattle.std.proofs.Common.{◌≡◌, true, false, drop, refl, sym, ap, ◌∙◌, arith, is_ok, rules}
 use Rattle.std.specs.Prelude.{string_bytes, ◌==◌}
 use Rattle.std.proofs.lemmas.Grind.{common_steps}
 use Rattle.std.proofs.lemmas.Result.{err_from_is_err_and}
@@ -11,7 +11,7 @@ use Rattle.serde_json_path_parser.proofs.parser.primitive.string.parse_string.Go
 
 pub returns-in_err-c-clause-gives : goal.returns-in_err-c-clause-gives
 returns-in_err-c-clause-gives g c =
-    let p = err_from_is_err_and c.from_residual.result c.from_residual.ensures.1 in
+    let p = err_from_is_err_and c.from_residual-in_err-c.result c.from_residual-in_err-c.ensures.1 in
     let s : begins (is_inside c.args.quote) (left c.pieces.reader) ≡ true = sym c.sees_inside.ensures ∙ c.pieces-test.true in
     rw (p.1, p.2) (t.fails c.args.quote c.requires c.in_err-c.field-0.0 (string_bytes c.pieces.text) (left c.pieces.reader) (string_at c.args.quote (left c.args.reader.now)) s c.in_err-c.ensures.gives c.pieces.invariant.so_far)
 
@@ -42,3 +42,9 @@ returns-clause-gives g c =
     let b : begins (λ d. d == c.args.quote) (left c.pieces.reader) ≡ true = sym c.sees.ensures ∙ c.if-not-sees.false in
     let v : drop 1 (left c.pieces.reader) ≡ left c.take_char.new.self = ap (drop 1) c.take_char.ensures.value in
     d ∙ rw (b, v) refl
+
+pub pieces-preserved-then-sees_plain : goal.pieces-preserved-then-sees_plain
+pieces-preserved-then-sees_plain g c = record {
+  moves = grind (arith, common_steps);
+  so_far = t.goes_on_far c.args.quote c.requires (string_bytes c.pieces.text) (left c.pieces.reader) _ _ _ (is_ok c.take_plain.result) (search rules) c.take_plain.ensures.taken c.pieces.invariant.so_far;
+}

@@ -1,14 +1,14 @@
 use Rattle.std.proofs.Common.{◌≡◌, ◌<◌, ◌≤◌, ◌+◌, ◌-◌, length}
-use Rattle.serde_json_path_parser.specs.NameParts.{Gathered}
+use Rattle.serde_json_path_parser.specs.Stretches.{Gathered}
 use Rattle.serde_json_path_parser.specs.Looking.{LooksOn}
-use Rattle.serde_json_path_parser.proofs.parser.name_part.gather.Given as goal
+use Rattle.serde_json_path_parser.proofs.parser.stretch.gather.Given as goal
 
 abbrev pub invariant-loop-at : goal.invariant-loop-at
 invariant-loop-at g l = record {
   some : l.index < l.at;
   most : l.at ≤ l.end;
   long : length l.part ≡ length l.initial.part;
-  gathered : Gathered (g.S.PathSource.told l.source).text l.index l.at l.part;
+  gathered : Gathered (g.C.Class.holds l.class) (g.S.PathSource.told l.source).text l.index l.at l.part;
   looks : LooksOn (g.S.PathSource.told l.initial.source) (g.S.PathSource.told l.source) (l.at - (l.index + 1)) l.at;
 }
 

@@ -1,15 +1,16 @@
--- The ASCII characters of a member name that are taken many at a time.
-use Rattle.std.proofs.Common.{◌≡◌, ℕ, zero, suc, ◌+◌, ◌-◌, ◌<◌, ◌≤◌, Bool, true, false, List, [], ◌∷◌, ◌++◌, length, take, drop, set, Some, Result, Ok, Err, is_ok, IfOk, if◌then◌else◌, refl, sym, ap, ◌∙◌, append_assoc, arith}
+-- ASCII characters that are taken many at a time.
+use Rattle.std.proofs.Common.{◌≡◌, ℕ, zero, suc, ◌+◌, ◌-◌, ◌<◌, ◌≤◌, Bool, true, false, List, [], ◌∷◌, ◌++◌, length, take, drop, set, Some, Result, Ok, Err, is_ok, IfOk, if◌then◌else◌, refl, sym, ap, ◌∙◌, inl, inr, append_assoc, arith}
 use Rattle.std.specs.Prelude.{slice_get, nat_le, nat_lt, ◌^◌, max}
 use Rattle.std.specs.Str.{is_utf8, chars, IsAscii, encode_utf8_all}
-use Rattle.std.proofs.lemmas.Bool.{and_parts}
-use Rattle.std.proofs.lemmas.List.{take_more_set}
+use Rattle.std.proofs.lemmas.Bool.{and_parts, cases_lt}
+use Rattle.std.proofs.lemmas.List.{length-take-le, take_more_set}
 use Rattle.std.proofs.lemmas.Str.{encodes-append, encodes-IsAscii}
-use Rattle.serde_json_path_parser.specs.Lexical.{AllPass, is_name_char}
+use Rattle.serde_json_path_parser.specs.Lexical.{AllPass, begins, is_name_char, is_plain}
+use Rattle.serde_json_path_parser.specs.Ahead.{IsAhead}
 use Rattle.serde_json_path_parser.specs.Parsed.{front, past}
 use Rattle.serde_json_path_parser.specs.Source.{Told, one_more, looked}
 use Rattle.serde_json_path_parser.specs.Looking.{LooksOn}
-use Rattle.serde_json_path_parser.specs.NameParts.{is_ascii_name_char, Gathered}
+use Rattle.serde_json_path_parser.specs.Stretches.{is_ascii_name_char, is_ascii_plain, Gathered, Stretched}
 use Rattle.serde_json_path_parser.proofs.Texts.FirstByte.{step_one}
 use Rattle.serde_json_path_parser.proofs.Reading.Runs.{past_through}
 
@@ -26,10 +27,10 @@ fits_below_128 c l e = let t : nat_le c 127 ≡ true = grind arith in rw (t, e) 
 
 -- ---- lists of them
 
-pub all_ascii : (cs : List ℕ) → AllPass is_ascii_name_char cs → IsAscii cs
-all_ascii [] h i = omega arith
-all_ascii (c ∷ cs) h zero = below_128 c h.0
-all_ascii (c ∷ cs) h (suc i) = all_ascii cs h.1 i
+pub all_ascii : (p : ℕ → Bool) → ((c : ℕ) → p c ≡ true → c < 128) → (cs : List ℕ) → AllPass p cs → IsAscii cs
+all_ascii p ascii [] h i = omega arith
+all_ascii p ascii (c ∷ cs) h zero = ascii c h.0
+all_ascii p ascii (c ∷ cs) h (suc i) = all_ascii p ascii cs h.1 i
 
 all_in_name : (cs : List ℕ) → AllPass is_ascii_name_char cs → AllPass is_name_char cs
 all_in_name [] h = tt
@@ -65,25 +66,25 @@ looked_on old mid now count number at h e le =
 -- ---- a part of a name
 
 -- the first character alone
-pub first_gathered : (text : List ℕ) (index first : ℕ) (part : List ℕ) → index ≤ length text → is_utf8 (drop index text) ≡ true → slice_get text index ≡ Some first
-    → is_ascii_name_char first ≡ true → take 1 part ≡ first ∷ [] → Gathered text index (index + 1) part
-first_gathered text index first part l u is fits e =
-    let s = step_one text index first l u is (below_128 first fits) in
+pub first_gathered : (p : ℕ → Bool) (text : List ℕ) (index first : ℕ) (part : List ℕ) → first < 128 → index ≤ length text → is_utf8 (drop index text) ≡ true → slice_get text index ≡ Some first
+    → p first ≡ true → take 1 part ≡ first ∷ [] → Gathered p text index (index + 1) part
+first_gathered p text index first part low l u is fits e =
+    let s = step_one text index first l u is low in
     let one : (index + 1) - index ≡ 1 = omega arith in
     record { within = s.within; utf8 = s.utf8; taken = rw (one, e) s.left; each = rw (one, e) (fits, tt) }
 
 -- one character more
-pub more_gathered : (text : List ℕ) (index at c : ℕ) (part : List ℕ) → index ≤ at → at - index < length part → slice_get text at ≡ Some c
-    → is_ascii_name_char c ≡ true → Gathered text index at part → Gathered text index (at + 1) (set part (at - index) c)
-more_gathered text index at c part le l is fits h =
-    let s = step_one text at c h.within h.utf8 is (below_128 c fits) in
+pub more_gathered : (p : ℕ → Bool) (text : List ℕ) (index at c : ℕ) (part : List ℕ) → c < 128 → index ≤ at → at - index < length part → slice_get text at ≡ Some c
+    → p c ≡ true → Gathered p text index at part → Gathered p text index (at + 1) (set part (at - index) c)
+more_gathered p text index at c part low le l is fits h =
+    let s = step_one text at c h.within h.utf8 is low in
     let count : (at + 1) - index ≡ (at - index) + 1 = omega (arith, le) in
     let e : take ((at - index) + 1) (set part (at - index) c) ≡ take (at - index) part ++ c ∷ [] = take_more_set part (at - index) c l in
     record {
       within = s.within;
       utf8 = s.utf8;
       taken = rw count (h.taken ∙ ap (λ (r : List ℕ). take (at - index) part ++ r) s.left ∙ sym (append_assoc (take (at - index) part) (c ∷ []) _) ∙ ap (λ (r : List ℕ). r ++ chars (drop (at + 1) text)) (sym e));
-      each = rw (count, e) (all_more is_ascii_name_char (take (at - index) part) c h.each fits);
+      each = rw (count, e) (all_more p (take (at - index) part) c h.each fits);
     }
 
 -- what is after a name stays as a part of it is taken
@@ -98,11 +99,40 @@ front_part cs part rest text h e =
     ap (λ (l : List ℕ). encode_utf8_all (front is_name_char l)) e
     ∙ ap encode_utf8_all (front_past is_name_char part rest (all_in_name part h))
     ∙ encodes-append part (front is_name_char rest)
-    ∙ ap (λ (l : List ℕ). l ++ encode_utf8_all (front is_name_char rest)) (encodes-IsAscii part (all_ascii part h)) in
+    ∙ ap (λ (l : List ℕ). l ++ encode_utf8_all (front is_name_char rest)) (encodes-IsAscii part (all_ascii is_ascii_name_char below_128 part h)) in
     append_assoc text part _ ∙ ap (λ (l : List ℕ). text ++ l) (sym inside)
 
--- the same where the part is put after the text, unless memory is out
-pub pushed_part : {E : Type 0} (r : Result Unit E) (cs part rest old new : List ℕ) → AllPass is_ascii_name_char part → cs ≡ part ++ rest → new ≡ (if is_ok r then old ++ part else old)
+-- the same of a stretch
+pub name_stretched : {E : Type 0} (r : Result Unit E) (cs rest old new : List ℕ) → Stretched is_ascii_name_char cs rest old new (is_ok r)
     → IfOk r (λ u. new ++ encode_utf8_all (front is_name_char rest) ≡ old ++ encode_utf8_all (front is_name_char cs))
-pushed_part (Ok u) cs part rest old new h e is = ap (λ (l : List ℕ). l ++ encode_utf8_all (front is_name_char rest)) is ∙ front_part cs part rest old h e
-pushed_part (Err x) cs part rest old new h e is = tt
+name_stretched (Ok u) cs rest old new s = ap (λ (l : List ℕ). l ++ encode_utf8_all (front is_name_char rest)) (s.text refl) ∙ front_part cs s.part rest old s.each s.taken
+name_stretched (Err x) cs rest old new s = tt
+
+pub past_stretched : (cs rest old new : List ℕ) (ok : Bool) → Stretched is_ascii_name_char cs rest old new ok → past is_name_char rest ≡ past is_name_char cs
+past_stretched cs rest old new ok s = past_part cs s.part rest s.each s.taken
+
+-- what is gathered is a stretch
+pub stretched : (p : ℕ → Bool) (text : List ℕ) (index end : ℕ) (part old new : List ℕ) (ok : Bool) → index < end → end - index ≤ length part → Gathered p text index end part
+    → new ≡ (if ok then old ++ take (end - index) part else old) → Stretched p (chars (drop index text)) (chars (drop end text)) old new ok
+stretched p text index end part old new ok some long h is = record {
+  part = take (end - index) part;
+  some = omega (arith, length-take-le (end - index) part long);
+  each = h.each;
+  taken = h.taken;
+  text = λ e. is ∙ ap (λ b. if b then old ++ take (end - index) part else old) e;
+}
+
+-- ---- characters of a string that stand for themselves
+
+pub plain_below_128 : (quote c : ℕ) → is_ascii_plain quote c ≡ true → c < 128
+plain_below_128 quote c e = let h = (and_parts (nat_le c 127) (is_plain quote c) e).0 in grind arith
+
+-- where the first character is one, so is its first byte
+pub plain_first : (quote b : ℕ) (cs : List ℕ) → IsAhead (Some b) cs → begins (is_ascii_plain quote) cs ≡ true → is_ascii_plain quote b ≡ true
+plain_first quote b cs a e =
+    let first : is_ascii_plain quote a.0 ≡ true = sym (ap (begins (is_ascii_plain quote)) a.1) ∙ e in
+    let low = plain_below_128 quote a.0 first in
+    elim (cases_lt b 128) [ inl k ↦ ap (is_ascii_plain quote) (sym (a.2 k)) ∙ first | inr k ↦ absurd (omega (arith, a.3 k, low)) ]
+
+pub plain_of : (quote c : ℕ) → is_ascii_plain quote c ≡ true → is_plain quote c ≡ true
+plain_of quote c e = (and_parts (nat_le c 127) (is_plain quote c) e).1

@@ -1,13 +1,13 @@
 use Rattle.std.proofs.Common.{◌<◌, length, refl, arith}
 use Rattle.std.proofs.lemmas.Option.{slice_get_within}
-use Rattle.serde_json_path_parser.proofs.Texts.NameParts.{first_gathered, past_part, pushed_part}
-use Rattle.serde_json_path_parser.proofs.parser.name_part.push_name_part.Goals as goal
+use Rattle.serde_json_path_parser.proofs.Texts.Stretches.{first_gathered, stretched}
+use Rattle.serde_json_path_parser.proofs.parser.stretch.push_stretch.Goals as goal
 
 pub gather-end-requires-clause-first : goal.gather-end-requires-clause-first
 gather-end-requires-clause-first g c =
     let text = (g.S.PathSource.told c.args.source.now).text in
     let within : c.args.index < length text = slice_get_within text c.args.index c.args.first c.requires.first_is in
-    first_gathered text c.args.index c.args.first _ (omega (arith, within)) c.requires.utf8 c.requires.first_is c.requires.fits refl
+    first_gathered (g.C.Class.holds c.args.class.now) text c.args.index c.args.first _ (c.requires.ascii c.args.first c.requires.fits) (omega (arith, within)) c.requires.utf8 c.requires.first_is c.requires.fits refl
 
 pub gather-end-requires-clause-some : goal.gather-end-requires-clause-some
 gather-end-requires-clause-some g c =
@@ -23,12 +23,9 @@ gather-end-requires-clause-within g c =
     let m = c.min.ensures in
     omega (arith, within, l, m)
 
-pub returns-clause-text : goal.returns-clause-text
-returns-clause-text g c =
-    let gathered = c.gather-end.ensures.gathered in
-    pushed_part c.push_ascii-pushed.result _ _ _ _ _ gathered.each gathered.taken c.push_ascii-pushed.ensures
-
-pub returns-clause-rest : goal.returns-clause-rest
-returns-clause-rest g c =
-    let gathered = c.gather-end.ensures.gathered in
-    past_part _ _ _ gathered.each gathered.taken
+pub returns-clause-taken : goal.returns-clause-taken
+returns-clause-taken g c =
+    let some = c.gather-end.ensures.some in
+    let most = c.gather-end.ensures.most in
+    let least = c.min.ensures in
+    stretched (g.C.Class.holds c.args.class.now) _ c.args.index c.gather-end.result.0 _ _ _ _ some (omega (arith, some, most, least, c.gather-end.ensures.long)) c.gather-end.ensures.gathered c.push_ascii-pushed.ensures

@@ -3,9 +3,9 @@ use Rattle.std.specs.Prelude.{slice_get}
 use Rattle.std.proofs.lemmas.List.{length-set}
 use Rattle.std.proofs.lemmas.Option.{slice_get-get_or}
 use Rattle.serde_json_path_parser.specs.Source.{Told}
-use Rattle.serde_json_path_parser.specs.NameParts.{Gathered}
-use Rattle.serde_json_path_parser.proofs.Texts.NameParts.{more_gathered, looked_on}
-use Rattle.serde_json_path_parser.proofs.parser.name_part.gather.Goals as goal
+use Rattle.serde_json_path_parser.specs.Stretches.{Gathered}
+use Rattle.serde_json_path_parser.proofs.Texts.Stretches.{more_gathered, looked_on}
+use Rattle.serde_json_path_parser.proofs.parser.stretch.gather.Goals as goal
 
 pub loop-at-preserved : goal.loop-at-preserved
 loop-at-preserved g c =
@@ -15,14 +15,14 @@ loop-at-preserved g c =
     let below : c.loop-at.at < length text =
     let w = c.requires.within in let t = c.loop-at-test.true in let same = ap length c.loop-at.invariant.looks.same_text in omega (arith, w, t, same) in
     let is : slice_get text at ≡ Some c.byte-next.result = slice_get-get_or text at 0 below ∙ ap Some (sym c.byte-next.ensures.value) in
-    let fits = sym c.is_ascii_name_char.ensures ∙ c.if-not-is_ascii_name_char.false in
+    let fits = sym c.holds.ensures ∙ c.if-not-holds.false in
     let one : (c.loop-at.at - (c.args.index + 1)) + 1 ≡ (c.loop-at.at + 1) - (c.args.index + 1) = let some = c.loop-at.invariant.some in omega (arith, some) in
     record {
       some = let some = c.loop-at.invariant.some in omega (arith, some);
       most = let t = c.loop-at-test.true in omega (arith, t);
       long = length-set c.loop-at.part (c.loop-at.at - c.args.index) c.byte-next.result ∙ kept.long;
-      gathered = subst (λ (t : List ℕ). Gathered t c.args.index (c.loop-at.at + 1) (set c.loop-at.part (c.loop-at.at - c.args.index) c.byte-next.result)) (sym (ap (λ (t : Told). t.text) c.byte-next.ensures.look))
-          (more_gathered text c.args.index at c.byte-next.result c.loop-at.part (let some = c.loop-at.invariant.some in omega (arith, some))
+      gathered = subst (λ (t : List ℕ). Gathered (g.C.Class.holds c.args.class.now) t c.args.index (c.loop-at.at + 1) (set c.loop-at.part (c.loop-at.at - c.args.index) c.byte-next.result)) (sym (ap (λ (t : Told). t.text) c.byte-next.ensures.look))
+          (more_gathered (g.C.Class.holds c.args.class.now) text c.args.index at c.byte-next.result c.loop-at.part (c.requires.ascii c.byte-next.result fits) (let some = c.loop-at.invariant.some in omega (arith, some))
           (let some = c.loop-at.invariant.some in let t = c.loop-at-test.true in let m = c.requires.most in let l = c.loop-at.invariant.long in omega (arith, some, t, m, l)) is fits kept.gathered);
       looks = rw (sym one) (looked_on _ _ _ (c.loop-at.at - (c.args.index + 1)) at at kept.looks c.byte-next.ensures.look (omega arith));
     }
