@@ -4,12 +4,15 @@ use Rattle.std.specs.Str.{chars}
 use Rattle.regex_syntax.specs.Brackets.{Nested}
 use Rattle.regex_syntax.specs.Grammar.{Names, group_count, read}
 use Rattle.regex_syntax.specs.declared.error.ErrorKind.{ErrorKind}
-use Rattle.regex_syntax.specs.declared.error.ErrorKind.TheVariants.{OutOfMemory}
+use Rattle.regex_syntax.specs.declared.error.ErrorKind.TheVariants as parser
+use Rattle.regex.specs.Failures.{IsRightKind}
 use Rattle.regex.specs.Patterns.{Re, SameCaptures, Reads, Refuses, default_config, find_str}
 use Rattle.regex.specs.Strings.{regex_pattern, regex_source, regex_config, IsReadFromSource}
+use Rattle.regex.specs.declared.error.Error.{Error}
+use Rattle.regex.specs.declared.error.Error.TheVariants.{Syntax, CompiledTooBig, Internal, OutOfMemory}
 use Rattle.regex.specs.declared.string.regex.Regex.{Regex}
 use Rattle.regex.proofs.ForCallers.{is_match_alike}
-use Rattle.serde_json_path_functions.specs.Patterns.{IsWithinNesting, is_found}
+use Rattle.serde_json_path_functions.specs.Patterns.{IsWithinNesting, IsReadable, is_found}
 
 found_alike : (o : Option (Nested Re × Names)) (most : ℕ) (a : Re) (names : Names) (text : List ℕ) → ((k : ℕ) → get_or text k 0 < 256) →
     IsSomeAnd o (λ (re, found). (re.depth ≤ most) × SameCaptures a re.value × (names ≡ found) × (group_count a ≤ length names)) →
@@ -32,9 +35,28 @@ none_found (Some found) most text within (inl none) = absurd cc
 none_found (Some found) most text within (inr deep) = absurd (omega arith)
 
 -- a text that the grammar refuses, and not as nested too deep, is found nowhere
-pub refused_is_not_found : (source text : List ℕ) (kind : ErrorKind) → Refuses default_config source kind → (kind ≡ OutOfMemory → ⊥) →
+pub refused_is_not_found : (source text : List ℕ) (kind : ErrorKind) → Refuses default_config source kind → (kind ≡ parser.OutOfMemory → ⊥) →
     IsWithinNesting source → false ≡ is_found source text
 unfolding Refuses
 refused_is_not_found source text kind (inl memory) other within = absurd (other memory)
 refused_is_not_found source text kind (inr refused) other within =
     none_found (read default_config (chars source)) default_config.nest_limit text within refused
+
+readable_nested : (o : Option (Nested Re × Names)) (most : ℕ) (a : Re) (names : Names) →
+    IsSomeAnd o (λ (re, found). (re.depth ≤ most) × SameCaptures a re.value × (names ≡ found) × (group_count a ≤ length names)) →
+    IsSomeAnd o (λ (re, names). re.depth ≤ most)
+readable_nested None most a names h = absurd h
+readable_nested (Some found) most a names h = h.0
+
+-- a text that `regex` refuses as too big, or by an internal check, is readable
+pub refused_is_readable : (source : List ℕ) (error : Error) → (error ≡ CompiledTooBig) ⊎ (error ≡ Internal) →
+    IsRightKind default_config source error → IsReadable source
+unfolding Reads
+refused_is_readable source CompiledTooBig refused (hir, names, is_read) =
+    readable_nested (read default_config (chars source)) default_config.nest_limit _ names is_read
+refused_is_readable source Internal refused (hir, names, is_read) =
+    readable_nested (read default_config (chars source)) default_config.nest_limit _ names is_read
+refused_is_readable source (Syntax e) (inl other) kind = absurd cc
+refused_is_readable source (Syntax e) (inr other) kind = absurd cc
+refused_is_readable source OutOfMemory (inl other) kind = absurd cc
+refused_is_readable source OutOfMemory (inr other) kind = absurd cc

@@ -1,5 +1,5 @@
 -- The patterns of `match` and `search`, as `regex` reads them (RFC 9535, sections 2.4.6 and 2.4.7).
-use Rattle.std.specs.Prelude.{◌≡◌, ℕ, ◌≤◌, List, [], ◌∷◌, ◌++◌, Bool, false, Option, None, Some, IfSome, is_some, option_and_then, codes, chars}
+use Rattle.std.specs.Prelude.{◌≡◌, ℕ, ◌≤◌, List, [], ◌∷◌, ◌++◌, Bool, false, Option, None, Some, IfSome, IsSomeAnd, is_some, option_and_then, codes, chars}
 use Rattle.regex_syntax.specs.Grammar.{read}
 use Rattle.regex.specs.Patterns.{default_config, find_str}
 use Rattle.serde_json.specs.Data.{string}
@@ -13,6 +13,15 @@ built_text any_part pattern = codes "(?R)(" ++ (pattern ++ codes ")")
 -- if the text is a pattern, then it is nested no deeper than `regex` takes
 abbrev pub IsWithinNesting : List ℕ → Type 0
 IsWithinNesting text = IfSome (read default_config (chars text)) (λ (re, names). re.depth ≤ default_config.nest_limit)
+
+-- the text is a pattern, nested no deeper than `regex` takes: `regex` refuses it only for its size, or for want of memory
+abbrev pub IsReadable : List ℕ → Type 0
+IsReadable text = IsSomeAnd (read default_config (chars text)) (λ (re, names). re.depth ≤ default_config.nest_limit)
+
+-- at these arguments a name may answer `Pattern`: both are texts, and the pattern is readable
+abbrev pub MayRefuse : Option Matching → List Term → Type 0
+MayRefuse (Some matching) (value (Some (string text)) ∷ value (Some (string pattern)) ∷ []) = IsReadable (built_text matching pattern)
+MayRefuse _ _ = ⊥
 
 -- at these arguments the meaning of a name is promised
 abbrev pub IsPromised : Option Matching → List Term → Type 0

@@ -1,9 +1,10 @@
 //! The patterns of `match` and `search` (RFC 9535, sections 2.4.6 and 2.4.7).
 
-ghost use Rattle.std.specs.Prelude.{◌≡◌, IfOk, string_bytes};
-ghost use Rattle.serde_json_path_functions.specs.Patterns.{IsWithinNesting};
+ghost use Rattle.std.specs.Prelude.{◌≡◌, IfOk, Err, string_bytes};
+ghost use Rattle.serde_json_path_functions.specs.Patterns.{IsWithinNesting, IsReadable};
 ghost use Rattle.serde_json_path_functions.specs.Patterns as spec;
 ghost use Rattle.serde_json_path_functions.specs.Terms.{matching_view};
+ghost use Rattle.serde_json_path_functions.specs.declared.error.QueryError.TheVariants.{Pattern};
 
 use crate::error::QueryError;
 use regex::{Error, Regex};
@@ -34,22 +35,26 @@ fn built_text(alloc: Global, matching: Matching, pattern: &str) -> Result<String
     Ok(text)
 }
 
-/// Whether a text matches a pattern; false where `regex` cannot read the pattern.
+/// Whether a text matches a pattern; false where `regex` cannot read the pattern, and `Pattern` only where it can.
 pub(crate) fn is_found(
     alloc: Global,
     matching: Matching,
     pattern: &str,
     text: &str,
 ) -> Result<bool, QueryError>
-    ensures { IfOk result (λ found.
+    ensures means { IfOk result (λ found.
         IsWithinNesting (spec.built_text (matching_view matching) pattern.now)
         → found ≡ spec.is_found (spec.built_text (matching_view matching) pattern.now) text.now) }
+    ensures refused { result ≡ Err Pattern
+        → IsReadable (spec.built_text (matching_view matching) pattern.now) }
 {
     let built = built_text(alloc, matching, pattern)?;
     match Regex::new(alloc, built.as_str()) {
         Ok(regex) => Ok(regex.matcher(alloc)?.is_match(text)),
-        Err(Error::Syntax(_)) => Ok(false),
-        Err(Error::OutOfMemory) => Err(QueryError::Memory),
-        Err(_) => Err(QueryError::Pattern),
+        Err(error) => match error {
+            Error::Syntax(_) => Ok(false),
+            Error::OutOfMemory => Err(QueryError::Memory),
+            Error::CompiledTooBig | Error::Internal => Err(QueryError::Pattern),
+        },
     }
 }

@@ -1,7 +1,9 @@
 //! A function set before the built-in one.
 
 ghost use Rattle.std.specs.Prelude.{◌≡◌, [], ◌∷◌, map, IfOk};
-ghost use Rattle.serde_json_path_functions.specs.Functions.{nodes};
+ghost use Rattle.serde_json_path_functions.specs.Functions.{nodes, Takes};
+ghost use Rattle.serde_json_path_functions.specs.Patterns.{before_builtin};
+ghost use Rattle.serde_json_path_functions.specs.Samples.{own_functions};
 ghost use Rattle.serde_json_path_functions.specs.Terms.{term_view};
 
 use crate::FunctionArgType::Nodelist;
@@ -17,7 +19,7 @@ use std::test::Fail;
 struct Own;
 
 impl Functions for Own {
-    ghost use Rattle.serde_json_path_functions.specs.Samples.{own_functions, own_keeps_types, own_keeps_patterns};
+    ghost use Rattle.serde_json_path_functions.specs.Samples.{own_keeps_types, own_keeps_patterns};
 
     ghost set = { λ _. own_functions };
 
@@ -51,32 +53,37 @@ fn no_nodes<'b>(alloc: Global) -> Result<Vec<FunctionValue<'b>>, Fail>
     Ok(args)
 }
 
-/// Whether an answer is this value.
-fn is_answer(answer: &FunctionValue, want: &Value) -> bool {
-    match answer {
-        FunctionValue::Value(value) => value.as_value().is_some_and(|value| value == want),
-        _ => false,
+/// Whether a name of `Own`, or else a built-in one, takes a list of nodes.
+fn takes_nodes(name: &str) -> bool {
+    match Both(&Own, Builtin).signature(name) {
+        Some(signature) => signature.params() == [Nodelist].as_slice(),
+        None => false,
+    }
+}
+
+/// Whether a name of `Own`, or else a built-in one, answers this value to no nodes.
+fn answers(alloc: Global, name: &str, wanted: &Value) -> Result<bool, Fail>
+    requires { Takes ((before_builtin own_functions).signature name.now) (nodes [] ∷ []) }
+{
+    match Both(&Own, Builtin).call(alloc, name, no_nodes(alloc)?)? {
+        FunctionValue::Value(value) => Ok(value.as_value() == Some(wanted)),
+        _ => Ok(false),
     }
 }
 
 #[test]
 fn own_functions_stand_first(rt: HostRuntime) -> Result<(), Fail> {
-    let functions = Both(&Own, Builtin);
-    for name in ["match", "own", "count"] {
-        let takes_nodes = functions
-            .signature(name)
-            .is_some_and(|signature| signature.params() == [Nodelist].as_slice());
-        assert!(rt; takes_nodes, "{name}");
-    }
-    assert!(rt; functions.signature("search").is_some());
-    assert!(rt; functions.signature("other").is_none());
-
     let alloc = rt.alloc();
-    let own = functions.call(alloc, "match", no_nodes(alloc)?)?;
-    assert!(rt; is_answer(&own, &Value::from(true)));
-    let own = functions.call(alloc, "own", no_nodes(alloc)?)?;
-    assert!(rt; is_answer(&own, &Value::from(true)));
-    let count = functions.call(alloc, "count", no_nodes(alloc)?)?;
-    assert!(rt; is_answer(&count, &Value::from(0u64)));
+    assert!(rt; answers(alloc, "match", &Value::from(true))?);
+    assert!(rt; answers(alloc, "own", &Value::from(true))?);
+    assert!(rt; answers(alloc, "count", &Value::from(0u64))?);
+    Ok(())
+}
+
+#[test]
+fn names_of_both_are_declared(rt: HostRuntime) -> Result<(), Fail> {
+    assert!(rt; takes_nodes("match") && takes_nodes("own") && takes_nodes("count"));
+    assert!(rt; Both(&Own, Builtin).signature("search").is_some());
+    assert!(rt; Both(&Own, Builtin).signature("other").is_none());
     Ok(())
 }

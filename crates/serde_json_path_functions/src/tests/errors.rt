@@ -1,7 +1,9 @@
 //! What a set refuses a call for comes through other sets.
 
-ghost use Rattle.serde_json_path_functions.specs.Functions.{Fits};
+ghost use Rattle.std.specs.Prelude.{map, Some, IfOk};
+ghost use Rattle.serde_json_path_functions.specs.Functions.{Fits, Takes, matching_signature};
 ghost use Rattle.serde_json_path_functions.specs.Samples.{refused_names};
+ghost use Rattle.serde_json_path_functions.specs.Terms.{term_view};
 
 use crate::FunctionArgType::Logical;
 use crate::{
@@ -47,18 +49,24 @@ impl Functions for Refusing {
     }
 }
 
+/// Two arguments of type Value.
+fn two_values<'b>(alloc: Global) -> Result<Vec<FunctionValue<'b>>, Fail>
+    ensures { IfOk result (λ args. Takes (Some matching_signature) (map term_view args.items)) }
+{
+    let mut args = Vec::new(alloc);
+    args.push(FunctionValue::Value(ValueType::Nothing))?;
+    args.push(FunctionValue::Value(ValueType::Nothing))?;
+    Ok(args)
+}
+
 /// Holds a set that has the names of `Refusing` to its errors.
 fn refuses_each<F: Functions>(rt: &impl Abort, alloc: Global, functions: &F) -> Result<(), Fail>
     requires { Fits (F.set functions.now) refused_names }
 {
     let memory = functions.call(alloc, "memory", Vec::new(alloc)).err();
-    assert_eq!(rt; memory, Some(QueryError::Memory));
-
-    let mut args = Vec::new(alloc);
-    args.push(FunctionValue::Value(ValueType::Nothing))?;
-    args.push(FunctionValue::Value(ValueType::Nothing))?;
-    let pattern = functions.call(alloc, "pattern", args).err();
-    assert_eq!(rt; pattern, Some(QueryError::Pattern));
+    assert!(rt; memory == Some(QueryError::Memory));
+    let pattern = functions.call(alloc, "pattern", two_values(alloc)?).err();
+    assert!(rt; pattern == Some(QueryError::Pattern));
     Ok(())
 }
 

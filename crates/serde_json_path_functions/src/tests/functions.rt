@@ -4,6 +4,7 @@ ghost use Rattle.std.specs.Prelude.{◌≡◌, [], ◌∷◌, Some};
 ghost use Rattle.serde_json_path_functions.specs.Functions.{of_nodes, of_value, plain_signature};
 
 use crate::FunctionArgType::{Logical, Nodelist};
+use crate::tests::holds;
 use crate::{
     Builtin, FunctionArgType, FunctionValue, Functions, LogicalType, NodesType, Signature,
     ValueType,
@@ -47,39 +48,48 @@ fn answer_to<'b>(
     printed_answer(alloc, &answer)
 }
 
+/// A value, and its length.
+const LENGTHS: &[(&str, &str)] = &[
+    (r#""""#, "0"),
+    (r#""a\u00e9\ud834\udd1e""#, "3"),
+    ("[]", "0"),
+    ("[1,[2,3]]", "2"),
+    (r#"{"a":1,"b":{"c":2}}"#, "2"),
+    ("12", "Nothing"),
+    ("true", "Nothing"),
+    ("null", "Nothing"),
+];
+
+/// The length of a value, printed.
+fn length_of(alloc: Global, value: &Value) -> Result<String, Fail> {
+    let mut args = Vec::new(alloc);
+    args.push(FunctionValue::Value(ValueType::Node(value)))?;
+    let answer = Builtin.call(alloc, "length", args)?;
+    printed_answer(alloc, &answer)
+}
+
 #[test]
 fn length_of_values(rt: HostRuntime) -> Result<(), Fail> {
     let alloc = rt.alloc();
-    let rows = [
-        (r#""""#, "0"),
-        (r#""a\u00e9\ud834\udd1e""#, "3"),
-        ("[]", "0"),
-        ("[1,[2,3]]", "2"),
-        (r#"{"a":1,"b":{"c":2}}"#, "2"),
-        ("12", "Nothing"),
-        ("true", "Nothing"),
-        ("null", "Nothing"),
-    ];
-    for (document, want) in rows {
+    for &(document, length) in LENGTHS {
         let value = Value::from_str(alloc, document)?;
-        let mut args = Vec::new(alloc);
-        args.push(FunctionValue::Value(ValueType::Node(&value)))?;
-        let answer = Builtin.call(alloc, "length", args)?;
-        let text = printed_answer(alloc, &answer)?;
-        assert_eq!(rt; text.as_str(), want, "of {document}");
+        let told = length_of(alloc, &value)?;
+        holds(&rt, document, told.as_str(), length);
     }
     Ok(())
 }
 
+/// A number of nodes, and what `count` and `value` answer to so many.
+const NODES: &[(usize, &str, &str)] = &[(0, "0", "Nothing"), (1, "1", "true"), (2, "2", "Nothing")];
+
 #[test]
 fn count_and_value_of_nodes(rt: HostRuntime) -> Result<(), Fail> {
-    let alloc = rt.alloc();
     let document = Value::from(true);
-    for (number, count, value) in [(0, "0", "Nothing"), (1, "1", "true"), (2, "2", "Nothing")] {
-        let counted = answer_to(alloc, "count", &document, number)?;
-        assert_eq!(rt; counted.as_str(), count);
-        let valued = answer_to(alloc, "value", &document, number)?;
-        assert_eq!(rt; valued.as_str(), value);
+    for &(number, count, value) in NODES {
+        let counted = answer_to(rt.alloc(), "count", &document, number)?;
+        holds(&rt, "count", counted.as_str(), count);
+        let valued = answer_to(rt.alloc(), "value", &document, number)?;
+        holds(&rt, "value", valued.as_str(), value);
     }
     Ok(())
 }
