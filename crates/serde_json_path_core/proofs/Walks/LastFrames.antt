@@ -11,11 +11,6 @@ last_is xs d h =
     let after : length xs ≤ n + 1 = omega arith in
     sym (take-append-drop n xs) ∙ ap (λ ys. take n xs ++ ys) (drop_more xs n d (omega (arith, h)) ∙ ap (λ ys. get_or xs n d ∷ ys) (drop_all (n + 1) xs after))
 
--- the list is what stands before its last element, and that element
-pub ends_with : {A : Type 0} (lent xs : List A) (x : A) → lent ≡ xs → 0 < length lent → x ≡ get_or lent (length lent - 1) x → (0 < length xs) × (xs ≡ take (length xs - 1) xs ++ x ∷ [])
-ends_with lent xs x same h e =
-    subst (λ ys. (0 < length ys) × (ys ≡ take (length ys - 1) ys ++ x ∷ [])) same (h, last_is lent x h ∙ ap (λ y. take (length lent - 1) lent ++ y ∷ []) (sym e))
-
 -- the last element is replaced, and another put after it
 pub over : {A : Type 0} (items next : List A) (n : ℕ) (moved new : A) → 0 < length items → next ≡ items ++ new ∷ [] → n ≡ length items - 1
     → set next n moved ≡ (take (length items - 1) items ++ moved ∷ []) ++ new ∷ []

@@ -194,7 +194,8 @@ fn next_admitted<'b, F: Functions>(
     requires inside { AllStandIn (top_of scope.now) (cursor_left cursor.old) }
     ensures skips { Skips scope.now selector_ref.entry (cursor_left cursor.old) (cursor_left cursor.new) }
     ensures found { IfOk result (λ found.
-        IsAtAdmitted scope.now selector_ref.entry (cursor_left cursor.new) (option_map child_view found)) }
+        IsAtAdmitted scope.now selector_ref.entry
+        (cursor_left cursor.new) (option_map child_view found)) }
     ensures refused { IfErr result (λ e. WithoutPatterns scope.now → e ≡ Memory) }
 {
     match selector_ref {
@@ -213,9 +214,11 @@ fn next_passing<'b, F: Functions>(
     requires below { test.number < length (nodes_of scope.now) }
     requires sound { SoundOr scope.now test }
     requires inside { AllStandIn (top_of scope.now) (cursor_left cursor.old) }
-    ensures skips { Skips scope.now (SelectorRef.Filter test) (cursor_left cursor.old) (cursor_left cursor.new) }
+    ensures skips { Skips scope.now (SelectorRef.Filter test)
+        (cursor_left cursor.old) (cursor_left cursor.new) }
     ensures found { IfOk result (λ found.
-        IsAtAdmitted scope.now (SelectorRef.Filter test) (cursor_left cursor.new) (option_map child_view found)) }
+        IsAtAdmitted scope.now (SelectorRef.Filter test)
+        (cursor_left cursor.new) (option_map child_view found)) }
     ensures refused { IfErr result (λ e. WithoutPatterns scope.now → e ≡ Memory) }
 {
     while let Some(child) = cursor.peek() {

@@ -71,7 +71,8 @@ fn only_selector(query: &Checked, segment: Part) -> Option<SingleSelector<'_>>
 
 /// The child that a selector selects, if there is one.
 fn select<'b>(single: SingleSelector<'_>, value: &'b Value) -> Option<Child<'b>>
-    ensures { option_to_list (option_map child_view result) ≡ candidates (single_view single.entry) (view value.now) }
+    ensures { option_to_list (option_map child_view result)
+        ≡ candidates (single_view single.entry) (view value.now) }
 {
     match single {
         SingleSelector::Name(name) => member(value, name),

@@ -96,7 +96,8 @@ fn enter<'b>(
     requires typed { UnderSome AreTypedSegments (segments_at (nodes_in query.now) segments.now) }
     requires some { 0 < length frames.old.items }
     ensures ok { OnOk result (frames_view frames.new.items
-        ≡ entering (stages_at (nodes_in query.now) segments.now) (frames_view frames.old.items) (task_view task.entry)) }
+        ≡ entering (stages_at (nodes_in query.now) segments.now)
+        (frames_view frames.old.items) (task_view task.entry)) }
     ensures unchanged { OnErr result (frames.new.items ≡ frames.old.items) }
     ensures refused { IfErr result (λ e. e ≡ Memory) }
 {
@@ -127,7 +128,8 @@ pub(crate) fn find_next<'b, F: Functions>(
     ensures less { work_left scope.now segments.now (frames_view frames.new.items)
         ≤ work_left scope.now segments.now (frames_view frames.old.items) }
     ensures found { IfOk result (λ found. MatchOption found (frames.new.items ≡ [])
-        (λ f. (0 < length frames.new.items) × IsAtNode scope.now segments.now (frames_view frames.new.items) (option_map step_view f.step) (view f.value.now))) }
+        (λ f. (0 < length frames.new.items) × IsAtNode scope.now segments.now
+        (frames_view frames.new.items) (option_map step_view f.step) (view f.value.now))) }
     ensures after_end { frames.old.items ≡ [] → result ≡ Ok None }
     ensures stack { (start : Data) → IsStack start (frames_view frames.old.items)
         → IsStack start (frames_view frames.new.items) }
