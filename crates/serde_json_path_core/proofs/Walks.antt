@@ -14,8 +14,12 @@ pub mod Heights
 pub mod FrameSteps
 -- the last of so many frames
 pub mod LastFrames
--- the rest of a walk whose last frame is where the segments end, and without that frame
-pub mod LastFrameDone
+-- one turn of a walk: what it gives, and what stays
+pub mod Turns
+-- what comes of the last of a walk's frames once its next task was looked for
+pub mod LastTurns
+-- a query goes down by segments that select one child at most
+pub mod SingleChildren
 -- what a walk that begins has left is the result of the segments
 pub mod Started
 -- values that stand in the document: those of a walk's frames, and their children

@@ -15,6 +15,7 @@ use Rattle.serde_json_path_core.specs.Compared.{Compared}
 use Rattle.serde_json_path_core.specs.Computed as computed
 use Rattle.serde_json_path_core.specs.Rest as rest
 use Rattle.serde_json_path_core.specs.Rest.{Frame}
+use Rattle.serde_json_path_core.specs.SingleChildren.{values_from}
 use Rattle.serde_json_path_core.specs.Scopes.{Clear, nodes_of, query_of, set_of, top_of}
 use Rattle.serde_json_path_core.specs.Sound.{IsSound}
 use Rattle.serde_json_path_core.specs.declared.evaluation.scope.Scope.{Scope}
@@ -86,6 +87,10 @@ results_at scope part v = computed.results (set_of scope) (top_of scope) (part_q
 abbrev pub values_at : {F : Type 0} {g : _} → Scope F g → Part → Data → List Data
 values_at scope part v = map (λ (n : Located). n.value) (results_at scope part v)
 
+-- the values of the nodes that segments select from a value
+abbrev pub values_of_segments : {F : Type 0} {g : _} → Scope F g → List Part → Data → List Data
+values_of_segments scope segments v = values_from (set_of scope) (top_of scope) (segments_at (nodes_of scope) segments) v
+
 -- ---- steps of a walk
 
 -- the nodes that remain of these frames
@@ -96,20 +101,22 @@ remaining scope segments frames = rest.rest_of (set_of scope) (top_of scope) (st
 abbrev pub work_left : {F : Type 0} {g : _} → Scope F g → List Part → List Frame → ℕ
 work_left scope segments frames = rest.work (stages_at (nodes_of scope) segments) frames
 
--- of these children the selector has come to the next one that it admits, if there is one
-abbrev pub Chooses : {F : Type 0} {g : _} → Scope F g → SelectorRef → List (Step × Data) → Option (Step × Data) → List (Step × Data) → Type 0
-Chooses scope selector old found new =
-    advances.Chooses (Clear scope) (set_of scope) (top_of scope) (selector_view (nodes_of scope) selector) old found new
+-- of these children some are passed, but none that the selector admits
+abbrev pub Skips : {F : Type 0} {g : _} → Scope F g → SelectorRef → List (Step × Data) → List (Step × Data) → Type 0
+Skips scope selector old new = advances.Skips (Clear scope) (set_of scope) (top_of scope) (selector_view (nodes_of scope) selector) old new
 
--- the frame has come to its next task, if there is one
-abbrev pub Advances : {F : Type 0} {g : _} → Scope F g → Part → Frame → Option (ℕ × (Step × Data)) → Frame → Type 0
-Advances scope segment old found new =
-    advances.Advances (Clear scope) (set_of scope) (top_of scope) (stage_at (nodes_of scope) segment) old found new
+-- the first of these children is the next one that the selector admits, if there is one
+abbrev pub IsAtAdmitted : {F : Type 0} {g : _} → Scope F g → SelectorRef → List (Step × Data) → Option (Step × Data) → Type 0
+IsAtAdmitted scope selector left found = advances.IsAtAdmitted (Clear scope) (set_of scope) (top_of scope) (selector_view (nodes_of scope) selector) left found
 
-abbrev pub ComesTo : {F : Type 0} {g : _} → Scope F g → Part → Frame → ℕ × (Step × Data) → Frame → Type 0
-ComesTo scope segment old task new =
-    advances.ComesTo (Clear scope) (set_of scope) (top_of scope) (stage_at (nodes_of scope) segment) old task new
+-- the frame has passed some children, but no task
+abbrev pub Passes : {F : Type 0} {g : _} → Scope F g → Part → Frame → Frame → Type 0
+Passes scope segment old new = advances.Passes (Clear scope) (set_of scope) (top_of scope) (stage_at (nodes_of scope) segment) old new
 
--- the frame has no task left
-abbrev pub IsDone : {F : Type 0} {g : _} → Scope F g → Part → Frame → Type 0
-IsDone scope segment old = advances.IsDone (Clear scope) (set_of scope) (top_of scope) (stage_at (nodes_of scope) segment) old
+-- the first child that is left at the frame is its next task, if there is one
+abbrev pub IsAtTask : {F : Type 0} {g : _} → Scope F g → Part → Frame → Option (ℕ × (Step × Data)) → Type 0
+IsAtTask scope segment p found = advances.IsAtTask (Clear scope) (set_of scope) (top_of scope) (stage_at (nodes_of scope) segment) p found
+
+-- the walk has come to a node, at that step from the last frame, with that value
+abbrev pub IsAtNode : {F : Type 0} {g : _} → Scope F g → List Part → List Frame → Option Step → Data → Type 0
+IsAtNode scope segments frames step v = advances.IsAtNode (Clear scope) (set_of scope) (top_of scope) (stages_at (nodes_of scope) segments) frames step v

@@ -1,6 +1,6 @@
 -- The nodes that remain of a walk, from the frames on its stack, the document and the query's segments alone.
-use Rattle.std.specs.Prelude.{◌≡◌, ℕ, ◌+◌, List, [], ◌∷◌, ◌++◌, length, map, drop, flat_map, filter as keep, Option, Some, None, option_to_list}
-use Rattle.serde_json.specs.Data.{Data}
+use Rattle.std.specs.Prelude.{◌≡◌, ℕ, ◌+◌, ◌-◌, List, [], ◌∷◌, ◌++◌, length, map, take, drop, flat_map, filter as keep, Option, Some, None, option_to_list, Bool, true, false, cond}
+use Rattle.serde_json.specs.Data.{Data, array, object}
 use Rattle.serde_json_path_nodes.specs.Location.{Step, by_name, child_at, Located}
 use Rattle.serde_json_path_syntax.specs.Tree.{Query, query, SegmentKind, child, descendant, Selector, name, wildcard, index, slice, filter}
 use Rattle.serde_json_path_syntax.specs.Stages.{Stage, stages}
@@ -59,10 +59,34 @@ pub record Frame : Type 0 where
   pub selector : ℕ
   pub left : List (Step × Data)
 
+-- a frame where these stages begin, the first of them of that number
+abbrev pub entered : Option Step → ℕ → List Stage → Data → Frame
+entered step number stages v = record { step = step; value = v; segment = number; selector = 0; left = begun stages v }
+
 -- the frame where a query begins, where `@` is v
 abbrev pub starting_frame : Data → Query → Data → Frame
 starting_frame top (query kind segs) v =
-    record { step = None; value = start_of kind top v; segment = 0; selector = 0; left = begun (stages segs) (start_of kind top v) }
+    entered None 0 (stages segs) (start_of kind top v)
+
+-- the frame once it has passed the first of the children that are left
+abbrev pub passed : Frame → Frame
+passed p = record { step = p.step; value = p.value; segment = p.segment; selector = p.selector; left = drop 1 p.left }
+
+-- the frames once the last one has passed a child
+abbrev pub last_passed : List Frame → List Frame
+last_passed [] = []
+last_passed (p ∷ []) = passed p ∷ []
+last_passed (p ∷ q ∷ ps) = p ∷ last_passed (q ∷ ps)
+
+-- the value is neither an array nor an object
+abbrev pub is_leaf : Data → Bool
+is_leaf (array items) = false
+is_leaf (object of) = false
+is_leaf _ = true
+
+-- the frames once the last one has passed a task: with a frame for it, unless it is at a leaf
+abbrev pub entering : List Stage → List Frame → ℕ × (Step × Data) → List Frame
+entering all ps task = last_passed ps ++ cond (is_leaf task.1.1) [] (entered (Some task.1.0) task.0 (drop task.0 all) task.1.1 ∷ [])
 
 -- the children to go down to, where these selectors are left
 abbrev pub lower_left : SegmentKind → List Selector → List (Step × Data) → Data → List (Step × Data)
@@ -78,6 +102,15 @@ here above p = above ++ option_to_list p.step
 abbrev pub stack_path : List Step → List Frame → List Step
 stack_path above [] = above
 stack_path above (p ∷ ps) = stack_path (here above p) ps
+
+-- a node at that step from the last frame, or of the last frame itself, with that value
+abbrev pub node_at : List Frame → Option Step → Data → Located
+node_at ps step v = record { location = stack_path [] ps ++ option_to_list step; value = v }
+
+-- the frames once that node is passed
+abbrev pub without_node : List Frame → Option Step → List Frame
+without_node ps None = take (length ps - 1) ps
+without_node ps (Some s) = last_passed ps
 
 -- what is left, where `admit` tells which children a selector admits
 module _ (admit : Selector → List (Step × Data) → List (Step × Data)) where
@@ -157,7 +190,3 @@ AllStandIn top cs = (c : Step × Data) → IsIn c cs → StandsIn top c.1
 -- the value stands in the document, and what is left at the frame are children of it
 abbrev pub IsInside : Data → Frame → Type 0
 IsInside top p = StandsIn top p.value × IsOfValue p
-
--- the last frame is where the stages end, at that value
-abbrev pub EndsAt : List Stage → List Frame → Data → Type 0
-EndsAt all ps v = (before : List Frame) × (last : Frame) × (ps ≡ before ++ last ∷ []) × (drop last.segment all ≡ []) × (last.value ≡ v)

@@ -3,6 +3,7 @@
 pub(crate) mod cursor;
 pub(crate) mod frame;
 pub(crate) mod scope;
+pub(crate) mod single_children;
 pub(crate) mod slice_positions;
 pub(crate) mod stack;
 pub(crate) mod walks;

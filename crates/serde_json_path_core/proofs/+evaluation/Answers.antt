@@ -1,85 +1,56 @@
-use Rattle.std.proofs.Common.{◌≡◌, ℕ, ◌+◌, ◌-◌, length, map, take, [], drop, option_map, refl, sym, subst, ap, ◌∙◌, arith, ◌∷◌, ◌++◌, ◌⊎◌, inl, inr, rules, filter as keep, append_assoc}
-use Rattle.std.proofs.lemmas.List.{map-append}
+use Rattle.std.proofs.Common.{◌≡◌, ◌+◌, length, map, take, [], drop, option_map, refl, sym, subst, ap, ◌∙◌, arith, ◌∷◌, ◌++◌, ◌⊎◌, inl, inr, rules, filter as keep, append_assoc, Option, set, List, Some, slice_get, ◌<◌}
+use Rattle.std.proofs.lemmas.List.{get_or_default, map-append}
 use Rattle.std.proofs.lemmas.Grind.{common_steps}
+use Rattle.std.specs.Option.{option_map_or}
+use Rattle.std.proofs.lemmas.List.{length-set}
+use Rattle.serde_json_path_core.specs.Advances.{IsAtTask, IsKept}
 use Rattle.std.proofs.Math.Logic.{∥∥₁_map}
 use Rattle.std.specs.Slice.Iter.{iter_rest}
 use Rattle.serde_json.specs.Data.{Data}
 use Rattle.serde_json.specs.View.{view}
 use Rattle.serde_json_path_nodes.specs.Location.{Step, Located}
-use Rattle.serde_json_path_nodes.specs.Views.{node_value}
+use Rattle.serde_json_path_nodes.specs.Views.{node_value, step_view}
 use Rattle.serde_json_path_syntax.specs.Tree.{child, descendant}
 use Rattle.serde_json_path_core.specs.Cursors.{cursor_left}
 use Rattle.serde_json_path_syntax.specs.Flat.{segment_kind_view, segment_in, segments_at, piece_at, basic_at, comparable_at, or_at, call_at, part_query, pieces}
 use Rattle.serde_json_path_syntax.specs.Literals.{operator_view}
 use Rattle.serde_json_path_functions.specs.Terms.{term_view, kind_view}
 use Rattle.serde_json_path_core.specs.Clear.{StandsIn}
-use Rattle.serde_json_path_core.specs.Evaluates.{Sound}
+use Rattle.serde_json_path_core.specs.Evaluates.{IsAtNode, Sound}
 use Rattle.serde_json_path_syntax.specs.Typing.{IsTypedOr, IsTypedAnd, AreTypedArguments}
 use Rattle.serde_json_path_syntax.specs.Calls.{calls_in_or, calls_in_and, name_of, arguments_of}
 use Rattle.serde_json_path_core.specs.Scopes.{Clear, nodes_of, query_of, set_of, top_of}
 use Rattle.serde_json_path_core.specs.Frames.{frame_view, frames_view, task_view}
-use Rattle.serde_json_path_core.specs.Rest.{rest_of, IsStack, IsStackIn, IsInside}
+use Rattle.serde_json_path_core.specs.Rest.{admitted, node_at, rest_of, work, IsStack, IsStackIn, IsInside}
 use Rattle.serde_json_path_syntax.specs.Stages.{selector_view, stage_at, stages_at}
 use Rattle.serde_json_path_core.specs.Views.{child_view}
+use Rattle.serde_json_path_core.specs.SingleChildren.{values_from}
+use Rattle.std.specs.Borrow.{Bor}
+use Rattle.serde_json.specs.declared.value.Value.{Value}
 use Rattle.serde_json_path_syntax.specs.Lists.{IsIn}
 use Rattle.serde_json_path_core.specs.Computed as computed
 use Rattle.serde_json_path_core.proofs.Steps.Answered.{given-all, answered, own_pattern}
 use Rattle.serde_json_path_syntax.proofs.Tree.BoundedParts.{within_get, within_bound}
-use Rattle.serde_json_path_core.proofs.Steps.OperandLists.{keep-no, first-found}
-use Rattle.serde_json_path_core.proofs.Walks.FrameSteps.{ends-trans, passes-over, comes-onward, comes-down, done, chooses-none, chooses-some}
-use Rattle.serde_json_path_core.proofs.Walks.Started.{begun-results}
-use Rattle.serde_json_path_core.proofs.Walks.InDocument.{left_stands, stack-inside, ends-stand, begun-inside}
-use Rattle.serde_json_path_core.proofs.Sound.Parts.{argument-calls, next-calls, side-calls, sound-segments, sound-segment, sound-selector, sound-and, sound-basic, typed-arguments, parameters-known}
+use Rattle.serde_json_path_core.proofs.Steps.OperandLists.{keep-no, keep-yes}
+use Rattle.serde_json_path_core.proofs.Walks.FrameSteps.{at_selector, ends-trans, passes-over, passes-skipped, at-onward, at-downward, done, at-none, at-some}
+use Rattle.serde_json_path_core.proofs.Walks.Started.{rest-started}
+use Rattle.serde_json_path_core.proofs.Walks.InDocument.{left_stands, entered-inside, stack-inside, ends-stand}
+use Rattle.serde_json_path_core.proofs.Sound.Parts.{argument-calls, next-calls, side-calls, sound-segment, sound-selector, sound-and, sound-basic, typed-arguments, parameters-known}
 use Rattle.serde_json_path_syntax.proofs.Tree.Bounds.{below_length, past_length}
-use Rattle.serde_json_path_core.proofs.Walks.Chains.{IsTurn, turn-dropped, turn-moved}
+use Rattle.serde_json_path_core.proofs.Walks.Turns.{kept-trans, turn-kept}
 use Rattle.serde_json_path_core.proofs.Steps.KnownCases.{found-none, found-some}
-use Rattle.serde_json_path_core.proofs.Walks.LastFrames.{ends_with, sees_last, sees_last_two}
-use Rattle.serde_json_path_core.proofs.Walks.LastFrameDone.{rest-ends, stack-dropped, work-ends}
-use Rattle.serde_json_path_core.proofs.Walks.StageLists.{drop-some, drop-none, get-within, missing, stages-from, stages-past}
+use Rattle.serde_json_path_core.proofs.Walks.LastFrames.{sees_replaced}
+use Rattle.serde_json_path_core.proofs.Walks.LastTurns.{Came, came-dropped, came-entered, came-kept, came-node, came-start}
+use Rattle.serde_json_path_core.proofs.Walks.SingleChildren.{first-of-values}
+use Rattle.serde_json_path_core.proofs.Walks.StageLists.{drop-some, drop-none, get-within, missing}
 use Rattle.serde_json_path_syntax.specs.Parts.{signatures_of}
 use Rattle.serde_json_path_core.specs.Meaning.{params_of}
 use Rattle.serde_json_path_core.proofs.+evaluation.Goals as goal
 
 -- ---- frames
 
-dropped : (g : _) (t : ℕ) (c : goal.evaluation::stack::find_next-After-drop_last g t)
-    → IsTurn (Clear c.args.scope.now) (set_of c.args.scope.now) (top_of c.args.scope.now) (stages_at (nodes_of c.args.scope.now) c.args.segments.now) (frames_view c.loop-last.frames.items) (frames_view c.drop_last.new.frames.items)
-dropped g t c =
-    let scope = c.args.scope.now in
-    let items = c.loop-last.frames.items in
-    let front = take (length items - 1) items in
-    let item = c.in-Some.ensures.item in
-    let last = c.in-Some.last.now in
-    let look = c.in-Some-get.ensures.lookup in
-    let segment = c.in-Some-get.segment.now in
-    let ends = ends_with c.deref.result.now items last c.deref.ensures.value item.3.0 item.1 in
-    turn-dropped (Clear scope) (set_of scope) (top_of scope) (stages_at (nodes_of scope) c.args.segments.now) (frames_view items) (frames_view c.drop_last.new.frames.items) (frames_view front) (frame_view last)
-    (stage_at (nodes_of scope) segment) _ (sees_last frame_view items front last ends.1) (ap frames_view c.drop_last.ensures)
-    (stages-from (nodes_of scope) c.args.segments.now last.segment segment (below_length _ _ look.0) look.1)
-    (found-none _ _ c.in_ok-peek-in-Some-get.field-0 c.in-None-2.is c.in_ok-peek-in-Some-get.ensures.peeked)
-
-moved : (g : _) (t : ℕ) (c : goal.evaluation::stack::find_next-In_ok-push_over-in-Some-2 g t)
-    → IsTurn (Clear c.args.scope.now) (set_of c.args.scope.now) (top_of c.args.scope.now) (stages_at (nodes_of c.args.scope.now) c.args.segments.now) (frames_view c.loop-last.frames.items) (frames_view c.push_over.new.frames.items)
-moved g t c =
-    let scope = c.args.scope.now in
-    let items = c.loop-last.frames.items in
-    let front = take (length items - 1) items in
-    let item = c.in-Some.ensures.item in
-    let last = c.in-Some.last.now in
-    let look = c.in-Some-get.ensures.lookup in
-    let segment = c.in-Some-get.segment.now in
-    let peeked = c.in-Some-2.peeked in
-    let task = task_view peeked.task in
-    let next = c.of-next.result in
-    let ends = ends_with c.deref.result.now items last c.deref.ensures.value item.3.0 item.1 in
-    turn-moved (Clear scope) (set_of scope) (top_of scope) (stages_at (nodes_of scope) c.args.segments.now) (frames_view items) (frames_view c.push_over.new.frames.items) (frames_view front) (frame_view last)
-    (frame_view peeked.frame) (frame_view next) (stage_at (nodes_of scope) segment) _
-    task.0 task.1 (sees_last frame_view items front last ends.1) (sees_last_two frame_view c.push_over.new.frames.items front peeked.frame next c.in_ok-push_over-in-Some-2.ensures.ok)
-    (stages-from (nodes_of scope) c.args.segments.now last.segment segment (below_length _ _ look.0) look.1)
-    (found-some _ _ c.in_ok-peek-in-Some-get.field-0 peeked c.in-Some-2.is c.in_ok-peek-in-Some-get.ensures.peeked) c.of-next.ensures
-
-pub evaluation::frame::Frame::advance-next_admitted-requires : goal.evaluation::frame::Frame::advance-next_admitted-requires
-evaluation::frame::Frame::advance-next_admitted-requires g t c =
+pub evaluation::frame::Frame::next_task-next_admitted-requires : goal.evaluation::frame::Frame::next_task-next_admitted-requires
+evaluation::frame::Frame::next_task-next_admitted-requires g t c =
     let scope = c.args.scope.now in
     let stage = stage_at (nodes_of scope) c.args.segment in
     let sel = selector_view (nodes_of scope) c.in-Some.selector_ref in
@@ -90,119 +61,527 @@ evaluation::frame::Frame::advance-next_admitted-requires g t c =
     let inside = left_stands (top_of scope) (frame_view c.loop-selector_ref.self) (∥∥₁_map c.requires.inside (λ h. (subst (StandsIn (top_of scope)) (sym same.1) h.0, same.3 h.1))) in
     search rules
 
-pub evaluation::frame::Frame::advance-loop-selector_ref-preserved : goal.evaluation::frame::Frame::advance-loop-selector_ref-preserved
-evaluation::frame::Frame::advance-loop-selector_ref-preserved g t c =
-    let stage = stage_at (nodes_of c.args.scope.now) c.args.segment in
-    let sel = selector_view (nodes_of c.args.scope.now) c.in-Some.selector_ref in
-    let mid = frame_view c.loop-selector_ref.self in
-    let here = drop-some stage.selectors c.loop-selector_ref.self.selector sel (sym (ap (option_map (selector_view (nodes_of c.args.scope.now))) (sym c.in-Some.is) ∙ c.selector_ref.ensures.selector_ref)) in (
-      c.loop-selector_ref.invariant.0,
-      passes-over (Clear c.args.scope.now) (set_of c.args.scope.now) (top_of c.args.scope.now) stage (frame_view c.args.self.now) mid sel (cursor_left c.open-self.result) (c.loop-selector_ref.invariant.1) here
-          (chooses-none (Clear c.args.scope.now) (set_of c.args.scope.now) (top_of c.args.scope.now) stage child_view sel mid.left (cursor_left c.next_admitted.new.cursor) c.in_ok-child.field-0 c.in-None.is (c.in_ok-child.ensures.chooses)) c.open-self.ensures,
-    )
-
-pub evaluation::frame::Frame::advance-loop-selector_ref-smaller : goal.evaluation::frame::Frame::advance-loop-selector_ref-smaller
-evaluation::frame::Frame::advance-loop-selector_ref-smaller g t c =
+pub evaluation::frame::Frame::next_task-loop-selector_ref-smaller : goal.evaluation::frame::Frame::next_task-loop-selector_ref-smaller
+evaluation::frame::Frame::next_task-loop-selector_ref-smaller g t c =
     let stage = stage_at (nodes_of c.args.scope.now) c.args.segment in
     let within = get-within stage.selectors c.loop-selector_ref.self.selector (selector_view (nodes_of c.args.scope.now) c.in-Some.selector_ref) (sym (ap (option_map (selector_view (nodes_of c.args.scope.now))) (sym c.in-Some.is) ∙ c.selector_ref.ensures.selector_ref)) in
     omega arith
 
-pub evaluation::frame::Frame::advance-returns-in-Some-2-clause-advances : goal.evaluation::frame::Frame::advance-returns-in-Some-2-clause-advances
-evaluation::frame::Frame::advance-returns-in-Some-2-clause-advances g t c =
-    let stage = stage_at (nodes_of c.args.scope.now) c.args.segment in
-    let sel = selector_view (nodes_of c.args.scope.now) c.in-Some.selector_ref in
+pub evaluation::frame::Frame::next_task-loop-selector_ref-preserved : goal.evaluation::frame::Frame::next_task-loop-selector_ref-preserved
+evaluation::frame::Frame::next_task-loop-selector_ref-preserved g t c =
+    let scope = c.args.scope.now in
+    let stage = stage_at (nodes_of scope) c.args.segment in
+    let sel = selector_view (nodes_of scope) c.in-Some.selector_ref in
     let mid = frame_view c.loop-selector_ref.self in
-    let here = drop-some stage.selectors c.loop-selector_ref.self.selector sel (sym (ap (option_map (selector_view (nodes_of c.args.scope.now))) (sym c.in-Some.is) ∙ c.selector_ref.ensures.selector_ref)) in
-    let chosen = chooses-some (Clear c.args.scope.now) (set_of c.args.scope.now) (top_of c.args.scope.now) stage child_view sel mid.left (cursor_left c.next_admitted.new.cursor) c.in_ok-child.field-0 c.in-Some-2.child c.in-Some-2.is (c.in_ok-child.ensures.chooses) in
-    comes-onward (Clear c.args.scope.now) (set_of c.args.scope.now) (top_of c.args.scope.now) stage (frame_view c.args.self.now) mid sel (drop (c.loop-selector_ref.self.selector + 1) stage.selectors) (child_view c.in-Some-2.child) (cursor_left c.next_admitted.new.cursor)
-    (c.loop-selector_ref.invariant.1) here chosen.0 chosen.1
+    let left = cursor_left c.next_admitted.new.cursor in
+    let here = drop-some stage.selectors mid.selector sel (sym (ap (option_map (selector_view (nodes_of scope))) (sym c.in-Some.is) ∙ c.selector_ref.ensures.selector_ref)) in
+    let none : Clear scope → admitted (set_of scope) (top_of scope) sel mid.left ≡ [] = λ clear. c.next_admitted.ensures.skips.0 clear ∙ at-none (Clear scope) (set_of scope) (top_of scope) stage child_view sel left c.in_ok-child.field-0 c.in-None.is c.in_ok-child.ensures.found clear in
+    (c.loop-selector_ref.invariant.0, passes-over (Clear scope) (set_of scope) (top_of scope) stage (frame_view c.args.self.now) mid sel (cursor_left c.open-self.result) c.loop-selector_ref.invariant.1 here none c.open-self.ensures)
 
-pub evaluation::frame::Frame::advance-returns-in-Child-clause-advances : goal.evaluation::frame::Frame::advance-returns-in-Child-clause-advances
-evaluation::frame::Frame::advance-returns-in-Child-clause-advances g t c =
-    let stage = stage_at (nodes_of c.args.scope.now) c.args.segment in
-    let here = drop-none stage.selectors c.loop-selector_ref.self.selector (missing (selector_view (nodes_of c.args.scope.now)) c.selector_ref.result _ c.in_default.not-Some c.selector_ref.ensures.selector_ref) in
-    done (Clear c.args.scope.now) (set_of c.args.scope.now) (top_of c.args.scope.now) stage (frame_view c.args.self.now) (frame_view c.loop-selector_ref.self) (c.loop-selector_ref.invariant.1) here
+pub evaluation::frame::Frame::next_task-returns-in_err-child-clause-passes : goal.evaluation::frame::Frame::next_task-returns-in_err-child-clause-passes
+evaluation::frame::Frame::next_task-returns-in_err-child-clause-passes g t c =
+    let scope = c.args.scope.now in
+    let stage = stage_at (nodes_of scope) c.args.segment in
+    let sel = selector_view (nodes_of scope) c.in-Some.selector_ref in
+    let mid = frame_view c.loop-selector_ref.self in
+    let left = cursor_left c.next_admitted.new.cursor in
+    let here = drop-some stage.selectors mid.selector sel (sym (ap (option_map (selector_view (nodes_of scope))) (sym c.in-Some.is) ∙ c.selector_ref.ensures.selector_ref)) in
+    passes-skipped (Clear scope) (set_of scope) (top_of scope) stage (frame_view c.args.self.now) mid sel (drop (mid.selector + 1) stage.selectors) left c.loop-selector_ref.invariant.1 here c.next_admitted.ensures.skips
+
+pub evaluation::frame::Frame::next_task-returns-in-Some-2-clause-passes : goal.evaluation::frame::Frame::next_task-returns-in-Some-2-clause-passes
+evaluation::frame::Frame::next_task-returns-in-Some-2-clause-passes g t c =
+    let scope = c.args.scope.now in
+    let stage = stage_at (nodes_of scope) c.args.segment in
+    let sel = selector_view (nodes_of scope) c.in-Some.selector_ref in
+    let mid = frame_view c.loop-selector_ref.self in
+    let left = cursor_left c.next_admitted.new.cursor in
+    let here = drop-some stage.selectors mid.selector sel (sym (ap (option_map (selector_view (nodes_of scope))) (sym c.in-Some.is) ∙ c.selector_ref.ensures.selector_ref)) in
+    passes-skipped (Clear scope) (set_of scope) (top_of scope) stage (frame_view c.args.self.now) mid sel (drop (mid.selector + 1) stage.selectors) left c.loop-selector_ref.invariant.1 here c.next_admitted.ensures.skips
+
+pub evaluation::frame::Frame::next_task-returns-in-Some-2-clause-found : goal.evaluation::frame::Frame::next_task-returns-in-Some-2-clause-found
+evaluation::frame::Frame::next_task-returns-in-Some-2-clause-found g t c =
+    let scope = c.args.scope.now in
+    let stage = stage_at (nodes_of scope) c.args.segment in
+    let sel = selector_view (nodes_of scope) c.in-Some.selector_ref in
+    let mid = frame_view c.loop-selector_ref.self in
+    let left = cursor_left c.next_admitted.new.cursor in
+    let here = drop-some stage.selectors mid.selector sel (sym (ap (option_map (selector_view (nodes_of scope))) (sym c.in-Some.is) ∙ c.selector_ref.ensures.selector_ref)) in
+    at-onward (Clear scope) (set_of scope) (top_of scope) stage (at_selector mid mid.selector left) sel (drop (mid.selector + 1) stage.selectors) (child_view c.in-Some-2.child) here
+    (at-some (Clear scope) (set_of scope) (top_of scope) stage child_view sel left c.in_ok-child.field-0 c.in-Some-2.child c.in-Some-2.is c.in_ok-child.ensures.found)
+
+pub evaluation::frame::Frame::next_task-returns-in-Child-clause-found : goal.evaluation::frame::Frame::next_task-returns-in-Child-clause-found
+evaluation::frame::Frame::next_task-returns-in-Child-clause-found g t c =
+    let scope = c.args.scope.now in
+    let stage = stage_at (nodes_of scope) c.args.segment in
+    let here = drop-none stage.selectors c.loop-selector_ref.self.selector (missing (selector_view (nodes_of scope)) c.selector_ref.result _ c.in_default.not-Some c.selector_ref.ensures.selector_ref) in
+    done (Clear scope) (set_of scope) (top_of scope) stage (frame_view c.loop-selector_ref.self) here
     (λ kind. let no : child ≡ descendant = sym (ap segment_kind_view c.in-Child.is) ∙ c.segment_kind.ensures ∙ kind in absurd cc)
 
-pub evaluation::frame::Frame::advance-returns-in-None-advance-clause-advances : goal.evaluation::frame::Frame::advance-returns-in-None-advance-clause-advances
-evaluation::frame::Frame::advance-returns-in-None-advance-clause-advances g t c =
-    let stage = stage_at (nodes_of c.args.scope.now) c.args.segment in
-    let here = drop-none stage.selectors c.loop-selector_ref.self.selector (missing (selector_view (nodes_of c.args.scope.now)) c.selector_ref.result _ c.in_default.not-Some c.selector_ref.ensures.selector_ref) in
-    done (Clear c.args.scope.now) (set_of c.args.scope.now) (top_of c.args.scope.now) stage (frame_view c.args.self.now) (frame_view c.loop-selector_ref.self) (c.loop-selector_ref.invariant.1) here (λ kind. c.in-None-advance.ensures.0)
+pub evaluation::frame::Frame::next_task-returns-in-None-peek-clause-found : goal.evaluation::frame::Frame::next_task-returns-in-None-peek-clause-found
+evaluation::frame::Frame::next_task-returns-in-None-peek-clause-found g t c =
+    let scope = c.args.scope.now in
+    let stage = stage_at (nodes_of scope) c.args.segment in
+    let here = drop-none stage.selectors c.loop-selector_ref.self.selector (missing (selector_view (nodes_of scope)) c.selector_ref.result _ c.in_default.not-Some c.selector_ref.ensures.selector_ref) in
+    done (Clear scope) (set_of scope) (top_of scope) stage (frame_view c.loop-selector_ref.self) here (λ kind. c.in-None-peek.ensures)
 
-pub evaluation::frame::Frame::advance-returns-in-Some-advance-clause-advances : goal.evaluation::frame::Frame::advance-returns-in-Some-advance-clause-advances
-evaluation::frame::Frame::advance-returns-in-Some-advance-clause-advances g t c =
-    let stage = stage_at (nodes_of c.args.scope.now) c.args.segment in
-    let here = drop-none stage.selectors c.loop-selector_ref.self.selector (missing (selector_view (nodes_of c.args.scope.now)) c.selector_ref.result _ c.in_default.not-Some c.selector_ref.ensures.selector_ref) in
-    comes-down (Clear c.args.scope.now) (set_of c.args.scope.now) (top_of c.args.scope.now) stage (frame_view c.args.self.now) (frame_view c.loop-selector_ref.self) (child_view c.in-Some-advance.child) (cursor_left c.advance.new.self)
-    (c.loop-selector_ref.invariant.1) here (sym c.segment_kind.ensures ∙ ap segment_kind_view c.in-Descendant.is) c.in-Some-advance.ensures
+pub evaluation::frame::Frame::next_task-returns-in-Some-peek-clause-found : goal.evaluation::frame::Frame::next_task-returns-in-Some-peek-clause-found
+evaluation::frame::Frame::next_task-returns-in-Some-peek-clause-found g t c =
+    let scope = c.args.scope.now in
+    let stage = stage_at (nodes_of scope) c.args.segment in
+    let here = drop-none stage.selectors c.loop-selector_ref.self.selector (missing (selector_view (nodes_of scope)) c.selector_ref.result _ c.in_default.not-Some c.selector_ref.ensures.selector_ref) in
+    at-downward (Clear scope) (set_of scope) (top_of scope) stage (frame_view c.loop-selector_ref.self) (child_view c.in-Some-peek.child) here (sym c.segment_kind.ensures ∙ ap segment_kind_view c.in-Descendant.is)
+    c.in-Some-peek.ensures
 
-pub evaluation::frame::Frame::peek-advance-requires : goal.evaluation::frame::Frame::peek-advance-requires
-evaluation::frame::Frame::peek-advance-requires g t c =
+pub evaluation::frame::next_passing-is_true-requires : goal.evaluation::frame::next_passing-is_true-requires
+evaluation::frame::next_passing-is_true-requires g t c =
     let top = top_of c.args.scope.now in
-    let inside : ∥ IsInside top (frame_view c.in_ok-frame.frame) ∥₁ = subst (λ p. ∥ IsInside top p ∥₁) (sym c.in_ok-frame.ensures.same) c.requires.inside in
+    let child = child_view c.in-Some.child in
+    let inside = ends-stand top (cursor_left c.args.cursor.now) (cursor_left c.loop-child.cursor) c.loop-child.invariant.1 c.requires.inside child (subst (IsIn child) (sym c.in-Some.ensures) (inl refl)) in
+    search rules
+
+pub evaluation::frame::next_passing-returns-then-branch-clause-found : goal.evaluation::frame::next_passing-returns-then-branch-clause-found
+evaluation::frame::next_passing-returns-then-branch-clause-found g t c =
+    let child = child_view c.in-Some.child in
+    let left = cursor_left c.loop-child.cursor in
+    let test = λ (x : Step × Data). computed.is_true (set_of c.args.scope.now) (top_of c.args.scope.now) (or_at (nodes_of c.args.scope.now) c.args.test) x.1 in
+    (c.in-Some.ensures, λ clear. ap (keep test) c.in-Some.ensures ∙ keep-yes test child (drop 1 left) (sym (c.in_ok-is_true.ensures.means clear) ∙ c.if-branch.true))
+
+pub evaluation::frame::next_passing-loop-child-smaller : goal.evaluation::frame::next_passing-loop-child-smaller
+evaluation::frame::next_passing-loop-child-smaller g t c =
+    let all = ap length c.in-Some.ensures in
+    let fewer = ap length c.pass.ensures in
+    omega arith
+
+pub evaluation::frame::next_passing-loop-child-preserved : goal.evaluation::frame::next_passing-loop-child-preserved
+evaluation::frame::next_passing-loop-child-preserved g t c =
+    let child = child_view c.in-Some.child in
+    let left = cursor_left c.loop-child.cursor in
+    let before = c.loop-child.invariant in
+    let test = λ (x : Step × Data). computed.is_true (set_of c.args.scope.now) (top_of c.args.scope.now) (or_at (nodes_of c.args.scope.now) c.args.test) x.1 in (
+      λ clear.
+          before.0 clear ∙ ap (keep test) c.in-Some.ensures ∙ keep-no test child (drop 1 left) (sym (c.in_ok-is_true.ensures.means clear) ∙ c.if-branch.false) ∙ ap (keep test) (sym c.pass.ensures),
+      ends-trans _ _ _ before.1 (child ∷ [], c.in-Some.ensures ∙ ap (λ cs. child ∷ cs) (sym c.pass.ensures)),
+    )
+
+-- ---- the stack
+
+pub evaluation::stack::find_next-next_task-requires : goal.evaluation::stack::find_next-next_task-requires
+evaluation::stack::find_next-next_task-requires g t c =
+    let scope = c.args.scope.now in
+    let nodes = nodes_of scope in
+    let frames = c.loop-last.frames in
+    let items = frames.items in
+    let n = c.in-Some.last in
+    let some = c.in-Some.ensures in
+    let len = c.len.ensures ∙ frames.ok.0 in
+    let long : length items ≡ n + 1 = omega arith in
+    let segment = c.in-Some-get.segment.now in
+    let look = c.in-Some-get.ensures.lookup in
+    let seen = c.index.result.now in
+    let old = c.index_mut.result.now in
+    let same : seen ≡ old = c.index.ensures ∙ get_or_default items n seen old (omega arith) ∙ sym c.index_mut.ensures.value in
+    let within = below_length _ _ look.0 in
+    let number = ap (λ f. (frame_view f).segment) same in
+    let below = within_bound c.args.segments.now seen.segment segment within look.1 in
+    let sound = sound-segment (set_of scope) (query_of scope) (pieces nodes) c.args.segments.now seen.segment segment within look.1 c.requires.sound in
+    let views = (sees_replaced items n old old long c.index_mut.ensures.value).0 in
+    let inside : ∥ IsInside (top_of scope) (frame_view old) ∥₁ =
+    ∥∥₁_map c.requires.inside (λ h. stack-inside (top_of scope) h.0 (frames_view (take n items)) (frame_view old) h.1 (subst (IsStack h.0) views (c.loop-last.invariant.2 h.0 h.2))) in
     search rules
 
 pub evaluation::stack::find_next-returns-in-None-clause-found : goal.evaluation::stack::find_next-returns-in-None-clause-found
 evaluation::stack::find_next-returns-in-None-clause-found g t c =
-    let items = c.loop-last.frames.items in
-    let item = c.in-Some.ensures.item in
-    let last = c.in-Some.last.now in
-    let ends = ends_with c.deref.result.now items last c.deref.ensures.value item.3.0 item.1 in (
-      frames_view (take (length items - 1) items),
-      frame_view last,
-      sees_last frame_view items (take (length items - 1) items) last ends.1,
-      stages-past (nodes_of c.args.scope.now) c.args.segments.now last.segment (past_length _ _ c.in-None.ensures.lookup.0),
-      refl,
+    let scope = c.args.scope.now in
+    let nodes = nodes_of scope in
+    let frames = c.loop-last.frames in
+    let items = frames.items in
+    let n = c.in-Some.last in
+    let some = c.in-Some.ensures in
+    let len = c.len.ensures ∙ frames.ok.0 in
+    let long : length items ≡ n + 1 = omega arith in (
+      omega arith,
+      came-start (Clear scope) (set_of scope) (top_of scope) nodes c.args.segments.now items n c.index.result.now _ long c.index.ensures (past_length _ _ c.in-None.ensures.lookup.0)
+          (ap (λ f. (frame_view f).value) (c.index.ensures ∙ get_or_default items n _ _ (omega arith) ∙ sym c.index-in-None.ensures)),
     )
 
-pub evaluation::stack::find_next-peek-requires : goal.evaluation::stack::find_next-peek-requires
-evaluation::stack::find_next-peek-requires g t c =
+pub evaluation::stack::find_next-returns-in_err-next_task-in-Some-get-clause-rest : goal.evaluation::stack::find_next-returns-in_err-next_task-in-Some-get-clause-rest
+evaluation::stack::find_next-returns-in_err-next_task-in-Some-get-clause-rest g t c =
     let scope = c.args.scope.now in
+    let nodes = nodes_of scope in
+    let frames = c.loop-last.frames in
+    let items = frames.items in
+    let n = c.in-Some.last in
+    let some = c.in-Some.ensures in
+    let len = c.len.ensures ∙ frames.ok.0 in
+    let long : length items ≡ n + 1 = omega arith in
     let segment = c.in-Some-get.segment.now in
     let look = c.in-Some-get.ensures.lookup in
-    let items = c.loop-last.frames.items in
-    let item = c.in-Some.ensures.item in
-    let last = c.in-Some.last.now in
-    let ends = ends_with c.deref.result.now items last c.deref.ensures.value item.3.0 item.1 in
-    let below = within_bound c.args.segments.now last.segment segment (below_length _ _ look.0) look.1 in
-    let sound =
-    sound-segment (set_of scope) (query_of scope) (pieces (nodes_of scope)) c.args.segments.now last.segment segment (below_length _ _ look.0) look.1 c.requires.sound in
-    let inside : ∥ IsInside (top_of scope) (frame_view last) ∥₁ =
-    ∥∥₁_map c.requires.inside (λ h.
-    stack-inside (top_of scope) h.0 (frames_view (take (length items - 1) items)) (frame_view last) h.1
-    (subst (IsStack h.0) (sees_last frame_view items (take (length items - 1) items) last ends.1) (c.loop-last.invariant.stack h.0 h.2))) in
-    search rules
+    let seen = c.index.result.now in
+    let old = c.index_mut.result.now in
+    let new = c.next_task.new.self in
+    let came : Came (Clear scope) (set_of scope) (top_of scope) nodes c.args.segments.now items n seen old new segment =
+    record { long = long; seen_is = c.index.ensures; old_is = c.index_mut.ensures.value; within = below_length _ _ look.0; at = look.1; passes = c.next_task.ensures.passes } in
+    λ clear. (kept-trans (Clear scope) (set_of scope) (top_of scope) (stages_at nodes c.args.segments.now) _ _ _ c.loop-last.invariant (came-kept (Clear scope) (set_of scope) (top_of scope) nodes c.args.segments.now items n seen old new segment came)).0 clear
+
+pub evaluation::stack::find_next-returns-in_err-next_task-in-Some-get-clause-less : goal.evaluation::stack::find_next-returns-in_err-next_task-in-Some-get-clause-less
+evaluation::stack::find_next-returns-in_err-next_task-in-Some-get-clause-less g t c =
+    let scope = c.args.scope.now in
+    let nodes = nodes_of scope in
+    let frames = c.loop-last.frames in
+    let items = frames.items in
+    let n = c.in-Some.last in
+    let some = c.in-Some.ensures in
+    let len = c.len.ensures ∙ frames.ok.0 in
+    let long : length items ≡ n + 1 = omega arith in
+    let segment = c.in-Some-get.segment.now in
+    let look = c.in-Some-get.ensures.lookup in
+    let seen = c.index.result.now in
+    let old = c.index_mut.result.now in
+    let new = c.next_task.new.self in
+    let came : Came (Clear scope) (set_of scope) (top_of scope) nodes c.args.segments.now items n seen old new segment =
+    record { long = long; seen_is = c.index.ensures; old_is = c.index_mut.ensures.value; within = below_length _ _ look.0; at = look.1; passes = c.next_task.ensures.passes } in
+    (kept-trans (Clear scope) (set_of scope) (top_of scope) (stages_at nodes c.args.segments.now) _ _ _ c.loop-last.invariant (came-kept (Clear scope) (set_of scope) (top_of scope) nodes c.args.segments.now items n seen old new segment came)).1
+
+pub evaluation::stack::find_next-returns-in_err-next_task-in-Some-get-clause-stack : goal.evaluation::stack::find_next-returns-in_err-next_task-in-Some-get-clause-stack
+evaluation::stack::find_next-returns-in_err-next_task-in-Some-get-clause-stack g t c =
+    let scope = c.args.scope.now in
+    let nodes = nodes_of scope in
+    let frames = c.loop-last.frames in
+    let items = frames.items in
+    let n = c.in-Some.last in
+    let some = c.in-Some.ensures in
+    let len = c.len.ensures ∙ frames.ok.0 in
+    let long : length items ≡ n + 1 = omega arith in
+    let segment = c.in-Some-get.segment.now in
+    let look = c.in-Some-get.ensures.lookup in
+    let seen = c.index.result.now in
+    let old = c.index_mut.result.now in
+    let new = c.next_task.new.self in
+    let came : Came (Clear scope) (set_of scope) (top_of scope) nodes c.args.segments.now items n seen old new segment =
+    record { long = long; seen_is = c.index.ensures; old_is = c.index_mut.ensures.value; within = below_length _ _ look.0; at = look.1; passes = c.next_task.ensures.passes } in
+    (kept-trans (Clear scope) (set_of scope) (top_of scope) (stages_at nodes c.args.segments.now) _ _ _ c.loop-last.invariant (came-kept (Clear scope) (set_of scope) (top_of scope) nodes c.args.segments.now items n seen old new segment came)).2
 
 pub evaluation::stack::find_next-loop-last-smaller-in-None-2 : goal.evaluation::stack::find_next-loop-last-smaller-in-None-2
-evaluation::stack::find_next-loop-last-smaller-in-None-2 g t c = (dropped g t c).1
+evaluation::stack::find_next-loop-last-smaller-in-None-2 g t c =
+    let scope = c.args.scope.now in
+    let nodes = nodes_of scope in
+    let frames = c.loop-last.frames in
+    let items = frames.items in
+    let n = c.in-Some.last in
+    let some = c.in-Some.ensures in
+    let len = c.len.ensures ∙ frames.ok.0 in
+    let long : length items ≡ n + 1 = omega arith in
+    let segment = c.in-Some-get.segment.now in
+    let look = c.in-Some-get.ensures.lookup in
+    let seen = c.index.result.now in
+    let old = c.index_mut.result.now in
+    let new = c.next_task.new.self in
+    let came : Came (Clear scope) (set_of scope) (top_of scope) nodes c.args.segments.now items n seen old new segment =
+    record { long = long; seen_is = c.index.ensures; old_is = c.index_mut.ensures.value; within = below_length _ _ look.0; at = look.1; passes = c.next_task.ensures.passes } in
+    (came-dropped (Clear scope) (set_of scope) (top_of scope) nodes c.args.segments.now items n seen old new segment came (subst (λ found. IsAtTask (Clear scope) (set_of scope) (top_of scope) (stage_at nodes segment) (frame_view new) (option_map task_view found)) c.in-None-2.is c.in_ok-next_task-in-Some-get.ensures.found) c.truncate.new.self.items c.truncate.ensures.items).1
 
 pub evaluation::stack::find_next-loop-last-preserved-in-None-2 : goal.evaluation::stack::find_next-loop-last-preserved-in-None-2
 evaluation::stack::find_next-loop-last-preserved-in-None-2 g t c =
-    let turn = dropped g t c in
-    record {
-      rest = λ clear. c.loop-last.invariant.rest clear ∙ turn.0 clear;
-      stack = λ start h. turn.2 start (c.loop-last.invariant.stack start h);
-      less = let before = c.loop-last.invariant.less in let now = turn.1 in omega arith;
-    }
+    let scope = c.args.scope.now in
+    let nodes = nodes_of scope in
+    let frames = c.loop-last.frames in
+    let items = frames.items in
+    let n = c.in-Some.last in
+    let some = c.in-Some.ensures in
+    let len = c.len.ensures ∙ frames.ok.0 in
+    let long : length items ≡ n + 1 = omega arith in
+    let segment = c.in-Some-get.segment.now in
+    let look = c.in-Some-get.ensures.lookup in
+    let seen = c.index.result.now in
+    let old = c.index_mut.result.now in
+    let new = c.next_task.new.self in
+    let came : Came (Clear scope) (set_of scope) (top_of scope) nodes c.args.segments.now items n seen old new segment =
+    record { long = long; seen_is = c.index.ensures; old_is = c.index_mut.ensures.value; within = below_length _ _ look.0; at = look.1; passes = c.next_task.ensures.passes } in
+    kept-trans (Clear scope) (set_of scope) (top_of scope) (stages_at nodes c.args.segments.now) _ _ _ c.loop-last.invariant (turn-kept (Clear scope) (set_of scope) (top_of scope) (stages_at nodes c.args.segments.now) _ _ (came-dropped (Clear scope) (set_of scope) (top_of scope) nodes c.args.segments.now items n seen old new segment came (subst (λ found. IsAtTask (Clear scope) (set_of scope) (top_of scope) (stage_at nodes segment) (frame_view new) (option_map task_view found)) c.in-None-2.is c.in_ok-next_task-in-Some-get.ensures.found) c.truncate.new.self.items c.truncate.ensures.items))
 
 pub evaluation::stack::find_next-loop-last-smaller : goal.evaluation::stack::find_next-loop-last-smaller
-evaluation::stack::find_next-loop-last-smaller g t c = (moved g t c).1
+evaluation::stack::find_next-loop-last-smaller g t c =
+    let scope = c.args.scope.now in
+    let nodes = nodes_of scope in
+    let frames = c.loop-last.frames in
+    let items = frames.items in
+    let n = c.in-Some.last in
+    let some = c.in-Some.ensures in
+    let len = c.len.ensures ∙ frames.ok.0 in
+    let long : length items ≡ n + 1 = omega arith in
+    let segment = c.in-Some-get.segment.now in
+    let look = c.in-Some-get.ensures.lookup in
+    let seen = c.index.result.now in
+    let old = c.index_mut.result.now in
+    let new = c.next_task.new.self in
+    let came : Came (Clear scope) (set_of scope) (top_of scope) nodes c.args.segments.now items n seen old new segment =
+    record { long = long; seen_is = c.index.ensures; old_is = c.index_mut.ensures.value; within = below_length _ _ look.0; at = look.1; passes = c.next_task.ensures.passes } in
+    let task = task_view c.in-Some-2.task in
+    (came-entered (Clear scope) (set_of scope) (top_of scope) nodes c.args.segments.now items n seen old new segment came task (subst (λ found. IsAtTask (Clear scope) (set_of scope) (top_of scope) (stage_at nodes segment) (frame_view new) (option_map task_view found)) c.in-Some-2.is c.in_ok-next_task-in-Some-get.ensures.found) (omega arith) (frames_view c.enter.new.frames.items) c.in_ok-enter-in-Some-2.ensures.ok).1
 
 pub evaluation::stack::find_next-loop-last-preserved : goal.evaluation::stack::find_next-loop-last-preserved
 evaluation::stack::find_next-loop-last-preserved g t c =
-    let turn = moved g t c in
+    let scope = c.args.scope.now in
+    let nodes = nodes_of scope in
+    let frames = c.loop-last.frames in
+    let items = frames.items in
+    let n = c.in-Some.last in
+    let some = c.in-Some.ensures in
+    let len = c.len.ensures ∙ frames.ok.0 in
+    let long : length items ≡ n + 1 = omega arith in
+    let segment = c.in-Some-get.segment.now in
+    let look = c.in-Some-get.ensures.lookup in
+    let seen = c.index.result.now in
+    let old = c.index_mut.result.now in
+    let new = c.next_task.new.self in
+    let came : Came (Clear scope) (set_of scope) (top_of scope) nodes c.args.segments.now items n seen old new segment =
+    record { long = long; seen_is = c.index.ensures; old_is = c.index_mut.ensures.value; within = below_length _ _ look.0; at = look.1; passes = c.next_task.ensures.passes } in
+    let task = task_view c.in-Some-2.task in
+    kept-trans (Clear scope) (set_of scope) (top_of scope) (stages_at nodes c.args.segments.now) _ _ _ c.loop-last.invariant (turn-kept (Clear scope) (set_of scope) (top_of scope) (stages_at nodes c.args.segments.now) _ _ (came-entered (Clear scope) (set_of scope) (top_of scope) nodes c.args.segments.now items n seen old new segment came task (subst (λ found. IsAtTask (Clear scope) (set_of scope) (top_of scope) (stage_at nodes segment) (frame_view new) (option_map task_view found)) c.in-Some-2.is c.in_ok-next_task-in-Some-get.ensures.found) (omega arith) (frames_view c.enter.new.frames.items) c.in_ok-enter-in-Some-2.ensures.ok))
+
+pub evaluation::stack::find_next-returns-in_err-enter-in-Some-2-clause-rest : goal.evaluation::stack::find_next-returns-in_err-enter-in-Some-2-clause-rest
+evaluation::stack::find_next-returns-in_err-enter-in-Some-2-clause-rest g t c =
+    let scope = c.args.scope.now in
+    let nodes = nodes_of scope in
+    let frames = c.loop-last.frames in
+    let items = frames.items in
+    let n = c.in-Some.last in
+    let some = c.in-Some.ensures in
+    let len = c.len.ensures ∙ frames.ok.0 in
+    let long : length items ≡ n + 1 = omega arith in
+    let segment = c.in-Some-get.segment.now in
+    let look = c.in-Some-get.ensures.lookup in
+    let seen = c.index.result.now in
+    let old = c.index_mut.result.now in
+    let new = c.next_task.new.self in
+    let came : Came (Clear scope) (set_of scope) (top_of scope) nodes c.args.segments.now items n seen old new segment =
+    record { long = long; seen_is = c.index.ensures; old_is = c.index_mut.ensures.value; within = below_length _ _ look.0; at = look.1; passes = c.next_task.ensures.passes } in
+    λ clear. (let kept = kept-trans (Clear scope) (set_of scope) (top_of scope) (stages_at nodes c.args.segments.now) _ _ _ c.loop-last.invariant (came-kept (Clear scope) (set_of scope) (top_of scope) nodes c.args.segments.now items n seen old new segment came) in subst (IsKept (Clear scope) (set_of scope) (top_of scope) (stages_at nodes c.args.segments.now) (frames_view c.args.frames.now.items)) (ap frames_view (sym c.in_err-enter-in-Some-2.ensures.unchanged)) kept).0 clear
+
+pub evaluation::stack::find_next-returns-in_err-enter-in-Some-2-clause-less : goal.evaluation::stack::find_next-returns-in_err-enter-in-Some-2-clause-less
+evaluation::stack::find_next-returns-in_err-enter-in-Some-2-clause-less g t c =
+    let scope = c.args.scope.now in
+    let nodes = nodes_of scope in
+    let frames = c.loop-last.frames in
+    let items = frames.items in
+    let n = c.in-Some.last in
+    let some = c.in-Some.ensures in
+    let len = c.len.ensures ∙ frames.ok.0 in
+    let long : length items ≡ n + 1 = omega arith in
+    let segment = c.in-Some-get.segment.now in
+    let look = c.in-Some-get.ensures.lookup in
+    let seen = c.index.result.now in
+    let old = c.index_mut.result.now in
+    let new = c.next_task.new.self in
+    let came : Came (Clear scope) (set_of scope) (top_of scope) nodes c.args.segments.now items n seen old new segment =
+    record { long = long; seen_is = c.index.ensures; old_is = c.index_mut.ensures.value; within = below_length _ _ look.0; at = look.1; passes = c.next_task.ensures.passes } in
+    (let kept = kept-trans (Clear scope) (set_of scope) (top_of scope) (stages_at nodes c.args.segments.now) _ _ _ c.loop-last.invariant (came-kept (Clear scope) (set_of scope) (top_of scope) nodes c.args.segments.now items n seen old new segment came) in subst (IsKept (Clear scope) (set_of scope) (top_of scope) (stages_at nodes c.args.segments.now) (frames_view c.args.frames.now.items)) (ap frames_view (sym c.in_err-enter-in-Some-2.ensures.unchanged)) kept).1
+
+pub evaluation::stack::find_next-returns-in_err-enter-in-Some-2-clause-stack : goal.evaluation::stack::find_next-returns-in_err-enter-in-Some-2-clause-stack
+evaluation::stack::find_next-returns-in_err-enter-in-Some-2-clause-stack g t c =
+    let scope = c.args.scope.now in
+    let nodes = nodes_of scope in
+    let frames = c.loop-last.frames in
+    let items = frames.items in
+    let n = c.in-Some.last in
+    let some = c.in-Some.ensures in
+    let len = c.len.ensures ∙ frames.ok.0 in
+    let long : length items ≡ n + 1 = omega arith in
+    let segment = c.in-Some-get.segment.now in
+    let look = c.in-Some-get.ensures.lookup in
+    let seen = c.index.result.now in
+    let old = c.index_mut.result.now in
+    let new = c.next_task.new.self in
+    let came : Came (Clear scope) (set_of scope) (top_of scope) nodes c.args.segments.now items n seen old new segment =
+    record { long = long; seen_is = c.index.ensures; old_is = c.index_mut.ensures.value; within = below_length _ _ look.0; at = look.1; passes = c.next_task.ensures.passes } in
+    (let kept = kept-trans (Clear scope) (set_of scope) (top_of scope) (stages_at nodes c.args.segments.now) _ _ _ c.loop-last.invariant (came-kept (Clear scope) (set_of scope) (top_of scope) nodes c.args.segments.now items n seen old new segment came) in subst (IsKept (Clear scope) (set_of scope) (top_of scope) (stages_at nodes c.args.segments.now) (frames_view c.args.frames.now.items)) (ap frames_view (sym c.in_err-enter-in-Some-2.ensures.unchanged)) kept).2
+
+pub evaluation::stack::find_next-returns-then-task-segments-clause-rest : goal.evaluation::stack::find_next-returns-then-task-segments-clause-rest
+evaluation::stack::find_next-returns-then-task-segments-clause-rest g t c =
+    let scope = c.args.scope.now in
+    let nodes = nodes_of scope in
+    let frames = c.loop-last.frames in
+    let items = frames.items in
+    let n = c.in-Some.last in
+    let some = c.in-Some.ensures in
+    let len = c.len.ensures ∙ frames.ok.0 in
+    let long : length items ≡ n + 1 = omega arith in
+    let segment = c.in-Some-get.segment.now in
+    let look = c.in-Some-get.ensures.lookup in
+    let seen = c.index.result.now in
+    let old = c.index_mut.result.now in
+    let new = c.next_task.new.self in
+    let came : Came (Clear scope) (set_of scope) (top_of scope) nodes c.args.segments.now items n seen old new segment =
+    record { long = long; seen_is = c.index.ensures; old_is = c.index_mut.ensures.value; within = below_length _ _ look.0; at = look.1; passes = c.next_task.ensures.passes } in
+    λ clear. (kept-trans (Clear scope) (set_of scope) (top_of scope) (stages_at nodes c.args.segments.now) _ _ _ c.loop-last.invariant (came-kept (Clear scope) (set_of scope) (top_of scope) nodes c.args.segments.now items n seen old new segment came)).0 clear
+
+pub evaluation::stack::find_next-returns-then-task-segments-clause-less : goal.evaluation::stack::find_next-returns-then-task-segments-clause-less
+evaluation::stack::find_next-returns-then-task-segments-clause-less g t c =
+    let scope = c.args.scope.now in
+    let nodes = nodes_of scope in
+    let frames = c.loop-last.frames in
+    let items = frames.items in
+    let n = c.in-Some.last in
+    let some = c.in-Some.ensures in
+    let len = c.len.ensures ∙ frames.ok.0 in
+    let long : length items ≡ n + 1 = omega arith in
+    let segment = c.in-Some-get.segment.now in
+    let look = c.in-Some-get.ensures.lookup in
+    let seen = c.index.result.now in
+    let old = c.index_mut.result.now in
+    let new = c.next_task.new.self in
+    let came : Came (Clear scope) (set_of scope) (top_of scope) nodes c.args.segments.now items n seen old new segment =
+    record { long = long; seen_is = c.index.ensures; old_is = c.index_mut.ensures.value; within = below_length _ _ look.0; at = look.1; passes = c.next_task.ensures.passes } in
+    (kept-trans (Clear scope) (set_of scope) (top_of scope) (stages_at nodes c.args.segments.now) _ _ _ c.loop-last.invariant (came-kept (Clear scope) (set_of scope) (top_of scope) nodes c.args.segments.now items n seen old new segment came)).1
+
+pub evaluation::stack::find_next-returns-then-task-segments-clause-stack : goal.evaluation::stack::find_next-returns-then-task-segments-clause-stack
+evaluation::stack::find_next-returns-then-task-segments-clause-stack g t c =
+    let scope = c.args.scope.now in
+    let nodes = nodes_of scope in
+    let frames = c.loop-last.frames in
+    let items = frames.items in
+    let n = c.in-Some.last in
+    let some = c.in-Some.ensures in
+    let len = c.len.ensures ∙ frames.ok.0 in
+    let long : length items ≡ n + 1 = omega arith in
+    let segment = c.in-Some-get.segment.now in
+    let look = c.in-Some-get.ensures.lookup in
+    let seen = c.index.result.now in
+    let old = c.index_mut.result.now in
+    let new = c.next_task.new.self in
+    let came : Came (Clear scope) (set_of scope) (top_of scope) nodes c.args.segments.now items n seen old new segment =
+    record { long = long; seen_is = c.index.ensures; old_is = c.index_mut.ensures.value; within = below_length _ _ look.0; at = look.1; passes = c.next_task.ensures.passes } in
+    (kept-trans (Clear scope) (set_of scope) (top_of scope) (stages_at nodes c.args.segments.now) _ _ _ c.loop-last.invariant (came-kept (Clear scope) (set_of scope) (top_of scope) nodes c.args.segments.now items n seen old new segment came)).2
+
+pub evaluation::stack::find_next-returns-then-task-segments-clause-found : goal.evaluation::stack::find_next-returns-then-task-segments-clause-found
+evaluation::stack::find_next-returns-then-task-segments-clause-found g t c =
+    let scope = c.args.scope.now in
+    let nodes = nodes_of scope in
+    let frames = c.loop-last.frames in
+    let items = frames.items in
+    let n = c.in-Some.last in
+    let some = c.in-Some.ensures in
+    let len = c.len.ensures ∙ frames.ok.0 in
+    let long : length items ≡ n + 1 = omega arith in
+    let segment = c.in-Some-get.segment.now in
+    let look = c.in-Some-get.ensures.lookup in
+    let seen = c.index.result.now in
+    let old = c.index_mut.result.now in
+    let new = c.next_task.new.self in
+    let came : Came (Clear scope) (set_of scope) (top_of scope) nodes c.args.segments.now items n seen old new segment =
+    record { long = long; seen_is = c.index.ensures; old_is = c.index_mut.ensures.value; within = below_length _ _ look.0; at = look.1; passes = c.next_task.ensures.passes } in
+    let task = task_view c.in-Some-2.task in
+    let at : IsAtNode scope c.args.segments.now (frames_view (set items n new)) (Some (step_view c.in-Some-2.task.child.step)) (view c.in-Some-2.task.child.value.now) =
+    came-node (Clear scope) (set_of scope) (top_of scope) nodes c.args.segments.now items n seen old new segment came task (subst (λ found. IsAtTask (Clear scope) (set_of scope) (top_of scope) (stage_at nodes segment) (frame_view new) (option_map task_view found)) c.in-Some-2.is c.in_ok-next_task-in-Some-get.ensures.found) (omega arith) in
+    (omega (arith, length-set items n new), at)
+
+-- ---- queries in expressions
+
+pub filter::logic::first_from-start-requires-clause-typed : goal.filter::logic::first_from-start-requires-clause-typed
+filter::logic::first_from-start-requires-clause-typed g t c =
+    ((set_of c.args.scope.now).signature, c.requires.sound.0)
+
+pub filter::logic::all_from-start-requires-clause-typed : goal.filter::logic::all_from-start-requires-clause-typed
+filter::logic::all_from-start-requires-clause-typed g t c =
+    ((set_of c.args.scope.now).signature, c.requires.sound.0)
+
+pub filter::logic::first_from-find_next-requires : goal.filter::logic::first_from-find_next-requires
+filter::logic::first_from-find_next-requires g t c =
+    let scope = c.args.scope.now in
+    let v = view c.args.value.now in
+    let all = stages_at (nodes_of scope) c.args.segments.now in
+    let items = ap frames_view (c.in_ok-push.ensures.items ∙ ap (λ frames. frames ++ c.start.result ∷ []) c.new-frames.ensures.items) in
+    let inside : ∥ IsStackIn (top_of scope) (frames_view c.push.new.self.items) ∥₁ =
+    ∣ entered-inside (top_of scope) v all (frames_view c.push.new.self.items) (frame_view c.start.result) c.requires.inside items c.start.ensures ∣₁ in
+    search rules
+
+pub filter::logic::first_from-returns-in-Some-clause-means : goal.filter::logic::first_from-returns-in-Some-clause-means
+filter::logic::first_from-returns-in-Some-clause-means g t c =
+    let scope = c.args.scope.now in
+    let v = view c.args.value.now in
+    let all = stages_at (nodes_of scope) c.args.segments.now in
+    let items = ap frames_view (c.in_ok-push.ensures.items ∙ ap (λ frames. frames ++ c.start.result ∷ []) c.new-frames.ensures.items) in
+    let begins = ap (rest_of (set_of scope) (top_of scope) all) (items ∙ ap (λ f. f ∷ []) c.start.ensures) ∙ rest-started (set_of scope) (top_of scope) (segments_at (nodes_of scope) c.args.segments.now) v in
+    let values = map (λ (n : Located). n.value) in
+    let found = c.in-Some.found in
+    let at = found-some _ _ c.in_ok-found.field-0 found c.in-Some.is c.in_ok-found.ensures.found in
+    λ clear. ap (λ ns. slice_get (values ns) 0) (sym (sym begins ∙ c.find_next.ensures.rest clear ∙ at.1.0 clear))
+
+pub filter::logic::first_from-returns-clause-means : goal.filter::logic::first_from-returns-clause-means
+filter::logic::first_from-returns-clause-means g t c =
+    let scope = c.args.scope.now in
+    let v = view c.args.value.now in
+    let all = stages_at (nodes_of scope) c.args.segments.now in
+    let items = ap frames_view (c.in_ok-push.ensures.items ∙ ap (λ frames. frames ++ c.start.result ∷ []) c.new-frames.ensures.items) in
+    let begins = ap (rest_of (set_of scope) (top_of scope) all) (items ∙ ap (λ f. f ∷ []) c.start.ensures) ∙ rest-started (set_of scope) (top_of scope) (segments_at (nodes_of scope) c.args.segments.now) v in
+    let values = map (λ (n : Located). n.value) in
+    let none = found-none _ _ c.in_ok-found.field-0 c.in-None.is c.in_ok-found.ensures.found in
+    λ clear. ap (λ ns. slice_get (values ns) 0)
+    (sym (sym begins ∙ c.find_next.ensures.rest clear ∙ ap (λ fs. rest_of (set_of scope) (top_of scope) all (frames_view fs)) none))
+
+pub filter::logic::all_from-values-init : goal.filter::logic::all_from-values-init
+filter::logic::all_from-values-init g t c =
+    let scope = c.args.scope.now in
+    let v = view c.args.value.now in
+    let all = stages_at (nodes_of scope) c.args.segments.now in
+    let items = ap frames_view (c.in_ok-push.ensures.items ∙ ap (λ frames. frames ++ c.start.result ∷ []) c.new-frames.ensures.items) in
+    let begins = ap (rest_of (set_of scope) (top_of scope) all) (items ∙ ap (λ f. f ∷ []) c.start.ensures) ∙ rest-started (set_of scope) (top_of scope) (segments_at (nodes_of scope) c.args.segments.now) v in
+    let values = map (λ (n : Located). n.value) in
     record {
-      rest = λ clear. c.loop-last.invariant.rest clear ∙ turn.0 clear;
-      stack = λ start h. turn.2 start (c.loop-last.invariant.stack start h);
-      less = let before = c.loop-last.invariant.less in let now = turn.1 in omega arith;
+      values = λ clear.
+          ap values (sym begins) ∙ ap (λ found. map node_value found ++ values (rest_of (set_of scope) (top_of scope) all (frames_view c.push.new.self.items))) (sym c.new-found.ensures.items);
+      inside = ∣ entered-inside (top_of scope) v all (frames_view c.push.new.self.items) (frame_view c.start.result) c.requires.inside items c.start.ensures ∣₁;
     }
 
-pub evaluation::stack::find_next-returns-in_err-push_over-in-Some-2-clause-stack : goal.evaluation::stack::find_next-returns-in_err-push_over-in-Some-2-clause-stack
-evaluation::stack::find_next-returns-in_err-push_over-in-Some-2-clause-stack g t c =
-    λ start h. subst (λ items. IsStack start (frames_view items)) (sym c.in_err-push_over-in-Some-2.ensures.unchanged) (c.loop-last.invariant.stack start h)
+pub filter::logic::all_from-pass_found-requires : goal.filter::logic::all_from-pass_found-requires
+filter::logic::all_from-pass_found-requires g t c =
+    let scope = c.args.scope.now in
+    let all = stages_at (nodes_of scope) c.args.segments.now in
+    let node = c.in-Some.node in
+    let at = found-some _ _ c.in_ok-node.field-0 node c.in-Some.is c.in_ok-node.ensures.found in
+    at.0
 
--- ---- logical expressions
+pub filter::logic::all_from-values-smaller : goal.filter::logic::all_from-values-smaller
+filter::logic::all_from-values-smaller g t c =
+    let scope = c.args.scope.now in
+    let all = stages_at (nodes_of scope) c.args.segments.now in
+    let node = c.in-Some.node in
+    let at = found-some _ _ c.in_ok-node.field-0 node c.in-Some.is c.in_ok-node.ensures.found in
+    let fewer = subst (λ left. work all left < work all (frames_view c.find_next.new.frames.items)) (sym c.pass_found.ensures) at.1.1 in
+    let less = c.find_next.ensures.less in
+    omega arith
+
+pub filter::logic::all_from-values-preserved : goal.filter::logic::all_from-values-preserved
+filter::logic::all_from-values-preserved g t c =
+    let scope = c.args.scope.now in
+    let all = stages_at (nodes_of scope) c.args.segments.now in
+    let node = c.in-Some.node in
+    let at = found-some _ _ c.in_ok-node.field-0 node c.in-Some.is c.in_ok-node.ensures.found in
+    let frames = c.find_next.new.frames.items in
+    let values = map (λ (n : Located). n.value) in
+    let rest = rest_of (set_of scope) (top_of scope) all in
+    let left = values (rest (frames_view c.pass_found.new.frames.items)) in
+    let found = map node_value c.values.found.items in
+    record {
+      values = λ clear.
+          c.values.invariant.values clear
+          ∙ ap (λ ns. found ++ values ns)
+          (c.find_next.ensures.rest clear ∙ at.1.0 clear ∙ ap (λ fs. node_at (frames_view frames) (option_map step_view node.step) (view node.value.now) ∷ rest fs) (sym c.pass_found.ensures))
+          ∙ sym (append_assoc found (view node.value.now ∷ []) left)
+          ∙ ap (λ xs. xs ++ left) (sym (ap (map node_value) c.in_ok-push-2.ensures.items ∙ map-append node_value c.values.found.items (node.value ∷ [])));
+      inside = ∥∥₁_map c.values.invariant.inside (λ h. (h.0, h.1, subst (IsStack h.0) (sym c.pass_found.ensures) (at.1.2 h.0 (c.find_next.ensures.stack h.0 h.2))));
+    }
+
+pub filter::logic::first-returns-in-None-clause-means : goal.filter::logic::first-returns-in-None-clause-means
+filter::logic::first-returns-in-None-clause-means g t c =
+    let scope = c.args.scope.now in
+    let reached = c.reached-reached.result in
+    let below : Option (Bor Value) → List Data = λ o. option_map_or (λ (v : Bor Value). values_from (set_of scope) (top_of scope) (segments_at (nodes_of scope) reached.segments.now) (view v.now)) o [] in
+    λ clear.
+    sym (first-of-values (computed.results (set_of scope) (top_of scope) (part_query (nodes_of scope) c.args.query) (view c.args.value.now))
+    ∙ ap (λ vs. slice_get vs 0) (c.reached-reached.ensures.selects ∙ ap below c.in-None.is))
+
+-- ---- logical expressions and calls
 
 pub filter::logic::is_true-all_true-requires : goal.filter::logic::is_true-all_true-requires
 filter::logic::is_true-all_true-requires g t c =
@@ -239,99 +618,6 @@ filter::logic::basic_true-compared-requires-in-Relation g t c =
     let sides = side-calls (query_of scope) (comparable_at (nodes_of scope) c.in-Relation.left) (operator_view c.in-Relation.operator) (comparable_at (nodes_of scope) c.in-Relation.right) (basic_at (nodes_of scope) c.args.expression)
     (search rules) c.requires.sound.1 in
     search rules
-
--- ---- queries in expressions
-
-pub filter::logic::first-find_next-requires : goal.filter::logic::first-find_next-requires
-filter::logic::first-find_next-requires g t c =
-    let scope = c.args.scope.now in
-    let q = part_query (nodes_of scope) c.args.query in
-    let segments = c.part_segments-segments.result.now in
-    let items = ap frames_view (c.in_ok-push.ensures.items ∙ ap (λ frames. frames ++ c.first_frame.result ∷ []) c.new-frames.ensures.items) in
-    let sound =
-    sound-segments (set_of scope) (query_of scope) q (segments_at (nodes_of scope) segments) c.part_segments-segments.ensures.tree c.requires.sound in
-    let inside : ∥ IsStackIn (top_of scope) (frames_view c.push.new.self.items) ∥₁ =
-    ∣ begun-inside (top_of scope) q (view c.args.value.now) (frames_view c.push.new.self.items) (frame_view c.first_frame.result) c.requires.inside items c.first_frame.ensures ∣₁ in
-    search rules
-
-pub filter::logic::first-returns-clause-means : goal.filter::logic::first-returns-clause-means
-filter::logic::first-returns-clause-means g t c =
-    let scope = c.args.scope.now in
-    let q = part_query (nodes_of scope) c.args.query in
-    let here = view c.args.value.now in
-    let segments = c.part_segments-segments.result.now in
-    let items = ap frames_view (c.in_ok-push.ensures.items ∙ ap (λ frames. frames ++ c.first_frame.result ∷ []) c.new-frames.ensures.items) in
-    let begins = begun-results (set_of scope) (top_of scope) q here (segments_at (nodes_of scope) segments) (frames_view c.push.new.self.items) (frame_view c.first_frame.result)
-    c.part_segments-segments.ensures.tree items c.first_frame.ensures in
-    first-found (Clear scope) (set_of scope) (top_of scope) (stages_at (nodes_of scope) segments) c.find_next.new.frames.items c.find_next.result (computed.results (set_of scope) (top_of scope) q here)
-    (λ clear. sym (c.find_next.ensures.rest clear) ∙ begins) c.find_next.ensures.found
-
--- ---- children that a filter admits
-
-pub evaluation::frame::next_passing-is_true-requires : goal.evaluation::frame::next_passing-is_true-requires
-evaluation::frame::next_passing-is_true-requires g t c =
-    let top = top_of c.args.scope.now in
-    let child = child_view c.in-Some.child in
-    let left = cursor_left c.advance.new.self in
-    let inside = ends-stand top (cursor_left c.args.cursor.now) (cursor_left c.loop-child.cursor) c.loop-child.invariant.1 c.requires.inside child (subst (IsIn child) (sym c.in-Some.ensures) (inl refl)) in
-    search rules
-
-pub evaluation::frame::next_passing-loop-child-preserved : goal.evaluation::frame::next_passing-loop-child-preserved
-evaluation::frame::next_passing-loop-child-preserved g t c =
-    let child = child_view c.in-Some.child in
-    let left = cursor_left c.advance.new.self in
-    let before = c.loop-child.invariant in
-    let test = λ (x : Step × Data). computed.is_true (set_of c.args.scope.now) (top_of c.args.scope.now) (or_at (nodes_of c.args.scope.now) c.args.test) x.1 in (
-      λ clear. before.0 clear ∙ ap (keep test) c.in-Some.ensures ∙ keep-no test child left (sym (c.in_ok-is_true.ensures.means clear) ∙ c.if-branch.false),
-      ends-trans _ _ _ before.1 (child ∷ [], c.in-Some.ensures),
-    )
-
-pub filter::logic::all_values-values-init : goal.filter::logic::all_values-values-init
-filter::logic::all_values-values-init g t c =
-    let scope = c.args.scope.now in
-    let q = part_query (nodes_of scope) c.args.query in
-    let here = view c.args.value.now in
-    let segments = c.part_segments-segments.result.now in
-    let frames = frames_view c.push.new.self.items in
-    let items = ap frames_view (c.in_ok-push.ensures.items ∙ ap (λ frames. frames ++ c.first_frame.result ∷ []) c.new-frames.ensures.items) in
-    let begins = begun-results (set_of scope) (top_of scope) q here (segments_at (nodes_of scope) segments) frames (frame_view c.first_frame.result) c.part_segments-segments.ensures.tree items c.first_frame.ensures in
-    let values = map (λ (n : Located). n.value) in
-    record {
-      values = λ clear.
-          ap values (sym begins) ∙ ap (λ found. map node_value found ++ values (rest_of (set_of scope) (top_of scope) (stages_at (nodes_of scope) segments) frames)) (sym c.new-found.ensures.items);
-      inside = ∣ begun-inside (top_of scope) q here frames (frame_view c.first_frame.result) c.requires.inside items c.first_frame.ensures ∣₁;
-    }
-
-pub filter::logic::all_values-values-smaller : goal.filter::logic::all_values-values-smaller
-filter::logic::all_values-values-smaller g t c =
-    let all = stages_at (nodes_of c.args.scope.now) c.part_segments-segments.result.now in
-    let ends = found-some _ _ c.in_ok-node.field-0 c.in-Some.node c.in-Some.is c.in_ok-node.ensures.found in
-    let fewer = work-ends all c.find_next.new.frames.items (view c.in-Some.node.now) ends c.drop_last.new.frames.items c.drop_last.ensures in
-    let less = c.find_next.ensures.less in
-    omega arith
-
-pub filter::logic::all_values-values-preserved : goal.filter::logic::all_values-values-preserved
-filter::logic::all_values-values-preserved g t c =
-    let scope = c.args.scope.now in
-    let all = stages_at (nodes_of scope) c.part_segments-segments.result.now in
-    let node = c.in-Some.node in
-    let frames = c.find_next.new.frames.items in
-    let front = c.drop_last.new.frames.items in
-    let ends = found-some _ _ c.in_ok-node.field-0 node c.in-Some.is c.in_ok-node.ensures.found in
-    let values = map (λ (n : Located). n.value) in
-    let left = values (rest_of (set_of scope) (top_of scope) all (frames_view front)) in
-    let found = map node_value c.values.found.items in
-    record {
-      values = λ clear.
-          c.values.invariant.values clear
-          ∙ ap (λ ns. found ++ values ns) (c.find_next.ensures.rest clear ∙ rest-ends all frames (view node.now) ends (set_of scope) (top_of scope) front c.drop_last.ensures)
-          ∙ sym (append_assoc found (view node.now ∷ []) left)
-          ∙ ap (λ xs. xs ++ left) (sym (ap (map node_value) c.in_ok-push-2.ensures.items ∙ map-append node_value c.values.found.items (node ∷ [])));
-      inside = ∥∥₁_map c.values.invariant.inside (λ h.
-          (h.0, h.1, stack-dropped all frames (view node.now) ends h.0 front c.drop_last.ensures (c.find_next.ensures.stack h.0 h.2)));
-    }
-
--- ---- calls
 
 pub filter::call::answer-loop-argument-init : goal.filter::call::answer-loop-argument-init
 filter::call::answer-loop-argument-init g t c =

@@ -11,11 +11,12 @@ use Rattle.serde_json_path_syntax.specs.Calls.{arguments_of, calls_in_arguments,
 use Rattle.serde_json_path_syntax.specs.Typing.{AreTypedArguments}
 use Rattle.serde_json_path_core.specs.Meaning.{params_of}
 use Rattle.serde_json_path_core.specs.Computed as computed
-use Rattle.serde_json_path_syntax.specs.Flat.{or_at, and_at, ors_in, ands_in, arguments_in, call_at, part_query, pieces, pieces_named}
+use Rattle.serde_json_path_syntax.specs.Flat.{or_at, and_at, ors_in, ands_in, arguments_in, call_at, pieces, pieces_named, segments_at}
 use Rattle.serde_json_path_syntax.specs.PartBounds.{parts_bound, selector_bound}
 use Rattle.serde_json_path_core.specs.Cursors.{cursor_left}
-use Rattle.serde_json_path_core.specs.Rest.{rest_of, work, EndsIn, IsStack, IsStackIn}
-use Rattle.serde_json_path_core.specs.Advances.{Passes}
+use Rattle.serde_json_path_core.specs.Rest.{rest_of, work, EndsIn, IsStackIn}
+use Rattle.serde_json_path_core.specs.Advances.{IsKept, Passes}
+use Rattle.serde_json_path_core.specs.SingleChildren.{values_from}
 use Rattle.serde_json_path_syntax.specs.Stages.{stage_at, stages_at}
 use Rattle.serde_json_path_core.specs.Evaluates.{Sound}
 use Rattle.serde_json_path_core.specs.Scopes.{Clear, nodes_of, set_of, top_of}
@@ -35,10 +36,16 @@ abbrev pub decreases-filter::logic::compared : goal.decreases-filter::logic::com
 decreases-filter::logic::compared g l = 8 * l.comparable.number + 5
 
 abbrev pub decreases-filter::logic::first : goal.decreases-filter::logic::first
-decreases-filter::logic::first g l = 8 * l.query.number + 5
+decreases-filter::logic::first g l = 8 * l.query.number + 6
+
+abbrev pub decreases-filter::logic::first_from : goal.decreases-filter::logic::first_from
+decreases-filter::logic::first_from g l = 8 * parts_bound l.segments.now + 5
+
+abbrev pub decreases-filter::logic::all_from : goal.decreases-filter::logic::all_from
+decreases-filter::logic::all_from g l = 8 * parts_bound l.segments.now + 5
 
 abbrev pub decreases-filter::logic::all_values : goal.decreases-filter::logic::all_values
-decreases-filter::logic::all_values g l = 8 * l.query.number + 5
+decreases-filter::logic::all_values g l = 8 * l.query.number + 6
 
 abbrev pub decreases-filter::call::answer : goal.decreases-filter::call::answer
 decreases-filter::call::answer g l = 8 * l.call.number + 5
@@ -47,16 +54,13 @@ abbrev pub decreases-filter::call::argument_as : goal.decreases-filter::call::ar
 decreases-filter::call::argument_as g l = 8 * l.argument.number + 5
 
 abbrev pub decreases-filter::call::result_as : goal.decreases-filter::call::result_as
-decreases-filter::call::result_as g l = 8 * l.query.number + 6
+decreases-filter::call::result_as g l = 8 * l.query.number + 7
 
 abbrev pub decreases-evaluation::stack::find_next : goal.decreases-evaluation::stack::find_next
 decreases-evaluation::stack::find_next g l = 8 * parts_bound l.segments.now + 4
 
-abbrev pub decreases-evaluation::frame::Frame::peek : goal.decreases-evaluation::frame::Frame::peek
-decreases-evaluation::frame::Frame::peek g l = 8 * l.segment.number + 7
-
-abbrev pub decreases-evaluation::frame::Frame::advance : goal.decreases-evaluation::frame::Frame::advance
-decreases-evaluation::frame::Frame::advance g l = 8 * l.segment.number + 6
+abbrev pub decreases-evaluation::frame::Frame::next_task : goal.decreases-evaluation::frame::Frame::next_task
+decreases-evaluation::frame::Frame::next_task g l = 8 * l.segment.number + 6
 
 abbrev pub decreases-evaluation::frame::next_admitted : goal.decreases-evaluation::frame::next_admitted
 decreases-evaluation::frame::next_admitted g l = 8 * selector_bound l.selector_ref + 3
@@ -74,12 +78,12 @@ invariant-filter::logic::all_true-loop-part g l =
     Clear l.scope → computed.all_true (set_of l.fn.scope) (top_of l.fn.scope) (and_at (nodes_of l.fn.scope) l.fn.expression) (view l.fn.value)
     ≡ computed.all_true (set_of l.scope) (top_of l.scope) (ands_in (pieces_named (pieces (nodes_of l.scope)) (drop l.part-index l.part-items))) (view l.value)
 
-abbrev pub invariant-evaluation::frame::Frame::advance-loop-selector_ref : goal.invariant-evaluation::frame::Frame::advance-loop-selector_ref
-invariant-evaluation::frame::Frame::advance-loop-selector_ref g l =
+abbrev pub invariant-evaluation::frame::Frame::next_task-loop-selector_ref : goal.invariant-evaluation::frame::Frame::next_task-loop-selector_ref
+invariant-evaluation::frame::Frame::next_task-loop-selector_ref g l =
     (l.self.segment ≡ l.fn.self.segment) × Passes (Clear l.scope) (set_of l.scope) (top_of l.scope) (stage_at (nodes_of l.scope) l.segment) (frame_view l.fn.self) (frame_view l.self)
 
-abbrev pub decreases-evaluation::frame::Frame::advance-loop-selector_ref : goal.decreases-evaluation::frame::Frame::advance-loop-selector_ref
-decreases-evaluation::frame::Frame::advance-loop-selector_ref g l = length (stage_at (nodes_of l.scope) l.segment).selectors - l.self.selector
+abbrev pub decreases-evaluation::frame::Frame::next_task-loop-selector_ref : goal.decreases-evaluation::frame::Frame::next_task-loop-selector_ref
+decreases-evaluation::frame::Frame::next_task-loop-selector_ref g l = length (stage_at (nodes_of l.scope) l.segment).selectors - l.self.selector
 
 abbrev pub invariant-evaluation::frame::next_passing-loop-child : goal.invariant-evaluation::frame::next_passing-loop-child
 invariant-evaluation::frame::next_passing-loop-child g l =
@@ -91,26 +95,22 @@ abbrev pub decreases-evaluation::frame::next_passing-loop-child : goal.decreases
 decreases-evaluation::frame::next_passing-loop-child g l = length (cursor_left l.cursor)
 
 abbrev pub invariant-evaluation::stack::find_next-loop-last : goal.invariant-evaluation::stack::find_next-loop-last
-invariant-evaluation::stack::find_next-loop-last g l = record {
-  rest : Clear l.scope
-      → rest_of (set_of l.scope) (top_of l.scope) (stages_at (nodes_of l.scope) l.segments) (frames_view l.fn.frames.items) ≡ rest_of (set_of l.scope) (top_of l.scope) (stages_at (nodes_of l.scope) l.segments) (frames_view l.frames.items);
-  stack : (start : Data) → IsStack start (frames_view l.fn.frames.items) → IsStack start (frames_view l.frames.items);
-  less : work (stages_at (nodes_of l.scope) l.segments) (frames_view l.frames.items) ≤ work (stages_at (nodes_of l.scope) l.segments) (frames_view l.fn.frames.items);
-}
+invariant-evaluation::stack::find_next-loop-last g l =
+    IsKept (Clear l.scope) (set_of l.scope) (top_of l.scope) (stages_at (nodes_of l.scope) l.segments) (frames_view l.fn.frames.items) (frames_view l.frames.items)
 
 abbrev pub decreases-evaluation::stack::find_next-loop-last : goal.decreases-evaluation::stack::find_next-loop-last
 decreases-evaluation::stack::find_next-loop-last g l = work (stages_at (nodes_of l.scope) l.segments) (frames_view l.frames.items)
 
-abbrev pub invariant-filter::logic::all_values-values : goal.invariant-filter::logic::all_values-values
-invariant-filter::logic::all_values-values g l = record {
+abbrev pub invariant-filter::logic::all_from-values : goal.invariant-filter::logic::all_from-values
+invariant-filter::logic::all_from-values g l = record {
   values : Clear l.scope
-      → map (λ (n : Located). n.value) (computed.results (set_of l.fn.scope) (top_of l.fn.scope) (part_query (nodes_of l.fn.scope) l.fn.query) (view l.fn.value))
+      → values_from (set_of l.fn.scope) (top_of l.fn.scope) (segments_at (nodes_of l.fn.scope) l.fn.segments) (view l.fn.value)
       ≡ map node_value l.found.items ++ map (λ (n : Located). n.value) (rest_of (set_of l.scope) (top_of l.scope) (stages_at (nodes_of l.scope) l.segments) (frames_view l.frames.items));
   inside : ∥ IsStackIn (top_of l.scope) (frames_view l.frames.items) ∥₁;
 }
 
-abbrev pub decreases-filter::logic::all_values-values : goal.decreases-filter::logic::all_values-values
-decreases-filter::logic::all_values-values g l = work (stages_at (nodes_of l.scope) l.segments) (frames_view l.frames.items)
+abbrev pub decreases-filter::logic::all_from-values : goal.decreases-filter::logic::all_from-values
+decreases-filter::logic::all_from-values g l = work (stages_at (nodes_of l.scope) l.segments) (frames_view l.frames.items)
 
 abbrev pub invariant-filter::call::answer-loop-argument : goal.invariant-filter::call::answer-loop-argument
 invariant-filter::call::answer-loop-argument g l =

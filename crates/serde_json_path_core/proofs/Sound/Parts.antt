@@ -1,11 +1,13 @@
 -- What an evaluation stands on of a part, for the parts of that part.
-use Rattle.std.proofs.Common.{◌≡◌, ℕ, zero, suc, ◌<◌, List, [], ◌∷◌, ◌++◌, length, get_or, slice_get, Some, sym, subst, arith, ap, ◌∙◌}
+use Rattle.std.proofs.Common.{◌≡◌, ℕ, zero, suc, ◌<◌, ◌≤◌, List, [], ◌∷◌, ◌++◌, length, get_or, slice_get, Some, sym, subst, arith, ap, ◌∙◌}
 use Rattle.std.proofs.lemmas.Option.{none-some, same_Some}
 use Rattle.serde_json_path_syntax.specs.Tree.{Query, query, Segments, segments_of, Segment, dot_name, dot_wildcard, long_hand, Selectors, no_selectors, selector, Selector, name, wildcard, Operator, Basic, relation, Comparable, Call, call}
 use Rattle.serde_json_path_functions.specs.Functions.{FunctionSet, Signature, Kind, Fits}
 use Rattle.serde_json_path_syntax.specs.Typing.{IsTyped, AreTypedSegments, IsTypedSegment, AreTypedSelectors, IsTypedSelector, IsTypedOr, IsTypedAnd, IsTypedBasic, IsTypedCall, AreTypedArguments}
 use Rattle.serde_json_path_syntax.specs.Calls.{EachCall, arguments_of, calls_of, calls_in_segments, calls_in_segment, calls_in_selectors, calls_in_selector, calls_in_or, calls_in_and, calls_in_basic, calls_in_comparable, calls_from, calls_in_arguments, calls_in_argument, name_of}
 use Rattle.serde_json_path_syntax.specs.Lists.{IsIn}
+use Rattle.serde_json_path_syntax.specs.PartBounds.{parts_bound}
+use Rattle.serde_json_path_core.specs.Rest.{EndsIn}
 use Rattle.serde_json_path_syntax.specs.Piece.{Piece}
 use Rattle.serde_json_path_syntax.specs.Flat.{argument_in, arguments_in, piece_in, pieces_named, segment_in, segments_in, and_in, ors_in, basic_in, ands_in}
 use Rattle.serde_json_path_syntax.specs.Stages.{selectors_list, selectors_of}
@@ -50,6 +52,14 @@ side-calls q a op b e is each = both-calls q (calls_in_comparable a) (calls_in_c
 
 -- ---- parts
 
+-- the last of some parts have no greater numbers
+pub bound-ends : (parts more : List Part) → EndsIn parts more → parts_bound more ≤ parts_bound parts
+bound-ends parts more ends = let all : parts_bound more ≤ parts_bound (ends.0 ++ more) = past ends.0 in subst (λ xs. parts_bound more ≤ parts_bound xs) (sym ends.1) all
+  where
+    past : (front : List Part) → parts_bound more ≤ parts_bound (front ++ more)
+    past [] = omega arith
+    past (p ∷ front) = let fewer = past front in omega arith
+
 module _ (F : FunctionSet) (q : Query) where
   -- the segments of a query
   pub sound-segments : (p : Query) (segs : Segments) → segs ≡ segments_of p → IsSound F q IsTyped calls_of p → IsSound F q AreTypedSegments calls_in_segments segs
@@ -63,6 +73,16 @@ module _ (F : FunctionSet) (q : Query) where
       subst (λ (x : Part). IsSound F q IsTypedSegment calls_in_segment (segment_in (piece_in ps x.number))) (sym e)
       (s.0.0, (both-calls q _ _ s.1).0)
   sound-segment ps (p ∷ parts) (suc i) part h e s = sound-segment ps parts i part (omega (arith, h)) e (s.0.1, (both-calls q _ _ s.1).1)
+
+  -- the last of so many
+  pub sound-ends : (ps : List Piece) (parts more : List Part) → EndsIn parts more → IsSound F q AreTypedSegments calls_in_segments (segments_in (pieces_named ps parts))
+      → IsSound F q AreTypedSegments calls_in_segments (segments_in (pieces_named ps more))
+  sound-ends ps parts more ends s = past ends.0 (subst (λ xs. IsSound F q AreTypedSegments calls_in_segments (segments_in (pieces_named ps xs))) ends.1 s)
+    where
+      past : (front : List Part) → IsSound F q AreTypedSegments calls_in_segments (segments_in (pieces_named ps (front ++ more)))
+          → IsSound F q AreTypedSegments calls_in_segments (segments_in (pieces_named ps more))
+      past [] h = h
+      past (p ∷ front) h = past front (h.0.1, (both-calls q _ _ h.1).1)
 
   pub sound-and : (ps : List Piece) (parts : List Part) (i : ℕ) (d : Part) → i < length parts
       → IsSound F q IsTypedOr calls_in_or (ors_in (pieces_named ps parts)) → IsSound F q IsTypedAnd calls_in_and (and_in (piece_in ps (get_or parts i d).number))

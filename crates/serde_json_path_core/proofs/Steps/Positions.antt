@@ -1,15 +1,17 @@
 -- The positions of a slice by the bounds that the code computes, and how they go on by one.
-use Rattle.std.proofs.Common.{◌≡◌, ℕ, zero, suc, ◌+◌, ◌-◌, min, ◌<◌, ◌≤◌, ℤ, pos, nat_abs, List, [], ◌∷◌, length, get_or, Bool, true, false, Option, Some, None, ◌⊎◌, inl, inr, refl, sym, ap, ◌∙◌, arith, true≢false}
+use Rattle.std.proofs.Common.{◌≡◌, ℕ, zero, suc, ◌+◌, ◌-◌, min, ◌<◌, ◌≤◌, ℤ, pos, nat_abs, List, [], ◌∷◌, drop, length, get_or, Bool, true, false, Option, Some, None, ◌⊎◌, inl, inr, refl, sym, ap, ◌∙◌, arith, true≢false}
 use Rattle.std.specs.Prelude.{◌+ℤ◌, ◌-ℤ◌}
 use Rattle.std.proofs.lemmas.Bool.{cases_lt}
+use Rattle.std.proofs.lemmas.List.{drop_more}
 use Rattle.std.proofs.lemmas.Int.{ints, clamps}
 use Rattle.serde_json.specs.View.{view, items_view}
 use Rattle.serde_json.specs.declared.value.Value.{Value}
+use Rattle.serde_json.specs.declared.value.Value.TheVariants.{Null}
 use Rattle.serde_json.proofs.Views.{get_item_within, get_item_past}
 use Rattle.serde_json_path_nodes.specs.Location.{by_position}
 use Rattle.serde_json_path_syntax.specs.Tree.{Slice}
 use Rattle.serde_json_path_core.specs.Slices.{bound_of}
-use Rattle.serde_json_path_core.specs.Computed.{SlicePositions, count_within, strided, falling, next_position}
+use Rattle.serde_json_path_core.specs.Computed.{SlicePositions, items_from, count_within, strided, falling, next_position}
 use Rattle.serde_json_path_core.proofs.Meaning.SlicePositions.{next_strided}
 
 -- ---- the positions of a slice
@@ -42,6 +44,9 @@ falling-counted s len stride start end first count from upto f g =
 
 -- ---- one position more
 
+pub first_is : {A : Type 0} {xs ys : List A} {x : A} → xs ≡ x ∷ ys → xs ≡ x ∷ drop 1 xs
+first_is {A} {xs} {ys} {x} e = e ∙ ap (λ zs. x ∷ drop 1 zs) (sym e)
+
 -- nothing is left where no position is, nor past the items
 pub strided-none : (items : List Value) (count : ℕ) (upwards : Bool) (first stride : ℕ) → (count ≡ 0) ⊎ (length items ≤ first) → strided count upwards first stride (items_view items) ≡ []
 strided-none items zero upwards first stride h = refl
@@ -72,3 +77,9 @@ pub strided-down : (items : List Value) (count : ℕ) (upwards : Bool) (first st
     → strided count upwards (next_position upwards first stride) stride (items_view items) ≡ strided count upwards next stride (items_view items)
 strided-down items count true first stride next down is = absurd (true≢false down)
 strided-down items count false first stride next down is = ap (λ p. strided count false p stride (items_view items)) (sym is)
+
+-- ---- items
+
+-- the items after one
+pub items-passed : (items : List Value) (n : ℕ) → n < length items → items_from (n + 1) (items_view (drop (n + 1) items)) ≡ drop 1 (items_from n (items_view (drop n items)))
+items-passed items n within = sym (ap (λ vs. drop 1 (items_from n (items_view vs))) (drop_more items n Null within))

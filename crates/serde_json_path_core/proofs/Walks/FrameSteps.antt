@@ -6,12 +6,12 @@ use Rattle.serde_json_path_functions.specs.Functions.{FunctionSet}
 use Rattle.serde_json_path_syntax.specs.Tree.{SegmentKind, child, descendant, Selector, name, wildcard, index, slice, filter}
 use Rattle.serde_json_path_syntax.specs.Stages.{Stage}
 use Rattle.serde_json_path_core.specs.Rest.{AreChildrenOf, Frame, candidates, admitted, unfiltered, opened, tasks, EndsIn}
-use Rattle.serde_json_path_core.specs.Advances.{Chooses, Passes, ComesTo, IsDone}
+use Rattle.serde_json_path_core.specs.Advances.{Skips, IsAtAdmitted, Passes, IsDone, IsAtTask}
 use Rattle.serde_json_path_core.proofs.Meaning.ChildSteps.{in_children, in_child_by, in_item_at}
 use Rattle.serde_json_path_core.proofs.Meaning.SlicePositions.{in_sliced}
 use Rattle.serde_json_path_nodes.specs.Location.{by_name}
 use Rattle.serde_json_path_syntax.proofs.Lists.InLists.{in_append}
-use Rattle.serde_json_path_core.proofs.Walks.Tasks.{onward, gives_child, turns_over, goes_down, is_done}
+use Rattle.serde_json_path_core.proofs.Walks.Tasks.{onward, gives_child, skips_over, turns_over, goes_down, is_done}
 
 -- ---- ends of lists
 
@@ -29,7 +29,7 @@ unfolding AreChildrenOf
 first-of v c cs h = h c (inl refl)
 
 -- the children with which a selector begins are of the value
-candidates-of : (sel : Selector) (v : Data) → AreChildrenOf v (candidates sel v)
+pub candidates-of : (sel : Selector) (v : Data) → AreChildrenOf v (candidates sel v)
 unfolding AreChildrenOf
 candidates-of (name k) v = λ c h. ((in_child_by v (by_name k) c).0 h).1
 candidates-of wildcard v = λ c h. (in_children v c).0 h
@@ -64,44 +64,45 @@ module _ (Clear : Type 0) (F : FunctionSet) (top : Data) (stage : Stage) where
             (map (onward unfiltered mid.segment stage.kind mid.value) mid.left, turns_over unfiltered mid.segment stage.kind mid.value (drop mid.selector stage.selectors) sel more mid.left left here is),
       )
 
-  -- the selector at work comes to a child
-  pub comes-onward : (old mid : Frame) (sel : Selector) (more : List Selector) (c : Step × Data) (left : List (Step × Data)) → Passes Clear F top stage old mid
-      → drop mid.selector stage.selectors ≡ sel ∷ more → (Clear → admitted F top sel mid.left ≡ c ∷ admitted F top sel left) → EndsIn mid.left (c ∷ left)
-      → ComesTo Clear F top stage old (mid.segment + 1, c) (at_selector mid mid.selector left)
-  comes-onward old mid sel more c left before here chosen ends = (
-    (before.0.0, before.0.1, before.0.2, λ h. end-of mid.value (c ∷ []) left (of_end (before.0.3 h))),
-    λ clear. before.1 clear ∙ gives_child (admitted F top) mid.segment stage.kind mid.value (drop mid.selector stage.selectors) sel more mid.left left [] c here (chosen clear),
+  -- the selector at work passes some children that it does not admit
+  pub passes-skipped : (old mid : Frame) (sel : Selector) (more : List Selector) (left : List (Step × Data)) → Passes Clear F top stage old mid
+      → drop mid.selector stage.selectors ≡ sel ∷ more → Skips Clear F top sel mid.left left → Passes Clear F top stage old (at_selector mid mid.selector left)
+  passes-skipped old mid sel more left before here skips = (
+    (before.0.0, before.0.1, before.0.2, λ h. end-of mid.value skips.1.0 left (subst (AreChildrenOf mid.value) skips.1.1 (before.0.3 h))),
+    λ clear. before.1 clear ∙ skips_over (admitted F top) mid.segment stage.kind mid.value (drop mid.selector stage.selectors) sel more mid.left left [] here (skips.0 clear),
     ends-trans _ _ _ before.2
-        (map (onward unfiltered mid.segment stage.kind mid.value) ends.0, gives_child unfiltered mid.segment stage.kind mid.value (drop mid.selector stage.selectors) sel more mid.left left ends.0 c here ends.1),
-    λ h. subst (λ v. child_at v c.0 ≡ Some c.1) before.0.1 (first-of mid.value c left (of_end (before.0.3 h))),
+        (map (onward unfiltered mid.segment stage.kind mid.value) skips.1.0, skips_over unfiltered mid.segment stage.kind mid.value (drop mid.selector stage.selectors) sel more mid.left left skips.1.0 here skips.1.1),
   )
-    where
-      of_end : AreChildrenOf mid.value mid.left → AreChildrenOf mid.value (c ∷ left)
-      of_end h = end-of mid.value ends.0 (c ∷ left) (subst (AreChildrenOf mid.value) ends.1 h)
 
-  -- after the last selector, the segment goes down to a child
-  pub comes-down : (old mid : Frame) (c : Step × Data) (left : List (Step × Data)) → Passes Clear F top stage old mid
-      → drop mid.selector stage.selectors ≡ [] → stage.kind ≡ descendant → mid.left ≡ c ∷ left
-      → ComesTo Clear F top stage old (mid.segment, c) (at_selector mid mid.selector left)
-  comes-down old mid c left before here kind is = (
-    (before.0.0, before.0.1, before.0.2, λ h. end-of mid.value (c ∷ []) left (of_left (before.0.3 h))),
-    λ clear. before.1 clear ∙ goes_down (admitted F top) mid.segment stage.kind mid.value (drop mid.selector stage.selectors) mid.left left c kind here is,
-    ends-trans _ _ _ before.2 ([], goes_down unfiltered mid.segment stage.kind mid.value (drop mid.selector stage.selectors) mid.left left c kind here is),
-    λ h. subst (λ v. child_at v c.0 ≡ Some c.1) before.0.1 (first-of mid.value c left (of_left (before.0.3 h))),
+  -- the first child that is left is one that the selector at work admits
+  pub at-onward : (p : Frame) (sel : Selector) (more : List Selector) (c : Step × Data)
+      → drop p.selector stage.selectors ≡ sel ∷ more → IsAtAdmitted Clear F top sel p.left (Some c) → IsAtTask Clear F top stage p (Some (p.segment + 1, c))
+  at-onward p sel more c here at = (
+    (refl, refl, refl, λ h. end-of p.value (c ∷ []) (drop 1 p.left) (subst (AreChildrenOf p.value) at.0 h)),
+    λ clear. gives_child (admitted F top) p.segment stage.kind p.value (drop p.selector stage.selectors) sel more p.left (drop 1 p.left) [] c here (at.1 clear),
+    ([], gives_child unfiltered p.segment stage.kind p.value (drop p.selector stage.selectors) sel more p.left (drop 1 p.left) [] c here at.0),
+    λ h. first-of p.value c (drop 1 p.left) (subst (AreChildrenOf p.value) at.0 h),
   )
-    where
-      of_left : AreChildrenOf mid.value mid.left → AreChildrenOf mid.value (c ∷ left)
-      of_left h = subst (AreChildrenOf mid.value) is h
+
+  -- after the last selector, the first child that is left is one to go down to
+  pub at-downward : (p : Frame) (c : Step × Data) → drop p.selector stage.selectors ≡ [] → stage.kind ≡ descendant → p.left ≡ c ∷ drop 1 p.left
+      → IsAtTask Clear F top stage p (Some (p.segment, c))
+  at-downward p c here kind is = (
+    (refl, refl, refl, λ h. end-of p.value (c ∷ []) (drop 1 p.left) (subst (AreChildrenOf p.value) is h)),
+    λ clear. goes_down (admitted F top) p.segment stage.kind p.value (drop p.selector stage.selectors) p.left (drop 1 p.left) c kind here is,
+    ([], goes_down unfiltered p.segment stage.kind p.value (drop p.selector stage.selectors) p.left (drop 1 p.left) c kind here is),
+    λ h. first-of p.value c (drop 1 p.left) (subst (AreChildrenOf p.value) is h),
+  )
 
   -- after the last selector there is nothing left to go down to
-  pub done : (old mid : Frame) → Passes Clear F top stage old mid → drop mid.selector stage.selectors ≡ [] → (stage.kind ≡ descendant → mid.left ≡ []) → IsDone Clear F top stage old
-  done old mid before here none = λ clear. before.1 clear ∙ is_done (admitted F top) mid.segment stage.kind mid.value (drop mid.selector stage.selectors) mid.left here none
+  pub done : (p : Frame) → drop p.selector stage.selectors ≡ [] → (stage.kind ≡ descendant → p.left ≡ []) → IsDone Clear F top stage p
+  done p here none = λ clear. is_done (admitted F top) p.segment stage.kind p.value (drop p.selector stage.selectors) p.left here none
 
-  -- what a choice of no child says, and of one
-  pub chooses-none : {A : Type 0} (see : A → Step × Data) (sel : Selector) (old new : List (Step × Data)) (found : Option A) → found ≡ None → Chooses Clear F top sel old (option_map see found) new
-      → Clear → admitted F top sel old ≡ []
-  chooses-none see sel old new found e h = subst (λ o. Chooses Clear F top sel old (option_map see o) new) e h
+  -- what a look for the next child says where there is none, and where there is one
+  pub at-none : {A : Type 0} (see : A → Step × Data) (sel : Selector) (left : List (Step × Data)) (found : Option A) → found ≡ None → IsAtAdmitted Clear F top sel left (option_map see found)
+      → Clear → admitted F top sel left ≡ []
+  at-none see sel left found e h = subst (λ o. IsAtAdmitted Clear F top sel left (option_map see o)) e h
 
-  pub chooses-some : {A : Type 0} (see : A → Step × Data) (sel : Selector) (old new : List (Step × Data)) (found : Option A) (c : A) → found ≡ Some c → Chooses Clear F top sel old (option_map see found) new
-      → (Clear → admitted F top sel old ≡ see c ∷ admitted F top sel new) × EndsIn old (see c ∷ new)
-  chooses-some see sel old new found c e h = subst (λ o. Chooses Clear F top sel old (option_map see o) new) e h
+  pub at-some : {A : Type 0} (see : A → Step × Data) (sel : Selector) (left : List (Step × Data)) (found : Option A) (c : A) → found ≡ Some c → IsAtAdmitted Clear F top sel left (option_map see found)
+      → IsAtAdmitted Clear F top sel left (Some (see c))
+  at-some see sel left found c e h = subst (λ o. IsAtAdmitted Clear F top sel left (option_map see o)) e h

@@ -1,7 +1,9 @@
 -- A child is lower than its value.
-use Rattle.std.proofs.Common.{◌≡◌, ℕ, zero, suc, ◌<◌, List, Some, None, Ordering, Less, Equal, Greater, nat_cmp, subst, ap, arith}
+use Rattle.std.proofs.Common.{◌≡◌, ℕ, zero, suc, ◌<◌, ◌≤◌, inl, inr, List, Some, None, Ordering, Less, Equal, Greater, nat_cmp, subst, ap, arith}
 use Rattle.std.specs.Cmp.Lexicographic.{slice_cmp}
 use Rattle.std.specs.Ordering.{match_ordering}
+use Rattle.std.proofs.lemmas.Bool.{cases_lt}
+use Rattle.std.proofs.lemmas.Grind.{not_there}
 use Rattle.std.proofs.lemmas.Map.Lookups.{exact_bytes}
 use Rattle.std.proofs.lemmas.Option.{none-some, same_Some}
 use Rattle.serde_json.specs.Data.{Data, array, object, Items, no_items, item, Members, no_members, member}
@@ -35,3 +37,7 @@ pub height-child_at : (v : Data) (s : Step) (c : Data) → child_at v s ≡ Some
 height-child_at (array items) (by_position position) c e = lower_item position items c e
 height-child_at (object ms) (by_name name) c e = lower_member name no_members ms c (λ i. None) e
 height-child_at _ _ c e = absurd (none-some c e)
+
+-- a number that a fact bounds is within the bound where the fact is known to hold, whatever its proof
+pub at_most : {A : Type 0} (m n : ℕ) → ∥ A ∥₁ → (A → m ≤ n) → m ≤ n
+at_most m n a so = elim (cases_lt n m) [ inl below ↦ absurd (not_there a (λ x. omega (arith, so x))) | inr above ↦ above ]

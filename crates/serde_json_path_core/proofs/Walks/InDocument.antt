@@ -1,14 +1,14 @@
 -- Values that stand in the document: those of a walk's frames, and their children.
-use Rattle.std.proofs.Common.{◌≡◌, List, [], ◌∷◌, ◌++◌, option_and_then, Some, inr, refl, sym, ap, subst, ◌∙◌}
+use Rattle.std.proofs.Common.{◌≡◌, List, [], ◌∷◌, ◌++◌, option_and_then, Some, None, inr, refl, sym, ap, subst, ◌∙◌}
 use Rattle.std.proofs.Math.Logic.{∥∥₁_map, ∥∥₁_elim, ∥∥₁_prop}
 use Rattle.serde_json.specs.Data.{Data}
 use Rattle.serde_json_path_nodes.specs.Location.{Step, child_at, at}
-use Rattle.serde_json_path_syntax.specs.Tree.{QueryKind, root, current, Query, query}
+use Rattle.serde_json_path_syntax.specs.Tree.{QueryKind, root, current}
 use Rattle.serde_json_path_syntax.specs.Lists.{IsIn}
 use Rattle.serde_json_path_core.specs.Derivation.{start_of}
 use Rattle.serde_json_path_core.specs.Clear.{StandsIn}
-use Rattle.serde_json_path_core.specs.Rest.{AreChildrenOf, Frame, starting_frame, EndsIn, IsChain, IsStack, IsStackIn, IsInside, AllStandIn}
-use Rattle.serde_json_path_syntax.specs.Stages.{stages}
+use Rattle.serde_json_path_core.specs.Rest.{AreChildrenOf, Frame, entered, EndsIn, IsChain, IsStack, IsStackIn, IsInside, AllStandIn}
+use Rattle.serde_json_path_syntax.specs.Stages.{Stage}
 use Rattle.serde_json_path_core.proofs.Walks.Chains.{stack-started}
 use Rattle.serde_json_path_core.proofs.Meaning.Derived.{at-append}
 use Rattle.serde_json_path_syntax.proofs.Lists.InLists.{in_append}
@@ -48,7 +48,6 @@ stack-inside top start (q ∷ qs) p stands h = chain-inside top q.value qs p (su
 pub ends-stand : (top : Data) (xs ys : List (Step × Data)) → EndsIn xs ys → AllStandIn top xs → AllStandIn top ys
 ends-stand top xs ys ends h = λ c i. h c (subst (IsIn c) (sym ends.1) ((in_append c ends.0 ys).1 (inr i)))
 
--- the frame of a walk that begins
-pub begun-inside : (top : Data) (q : Query) (here : Data) (ps : List Frame) (first : Frame) → StandsIn top here → ps ≡ first ∷ [] → first ≡ starting_frame top q here → IsStackIn top ps
-begun-inside top (query kind segs) here ps first stands p begins =
-    (start_of kind top here, start_stands kind top here stands, subst (IsStack (start_of kind top here)) (sym p) (stack-started (stages segs) (start_of kind top here) first begins))
+-- the frame where segments begin at a value
+pub entered-inside : (top v : Data) (all : List Stage) (ps : List Frame) (first : Frame) → StandsIn top v → ps ≡ first ∷ [] → first ≡ entered None 0 all v → IsStackIn top ps
+entered-inside top v all ps first stands p begins = (v, stands, subst (IsStack v) (sym p) (stack-started all v first begins))

@@ -1,15 +1,15 @@
 -- What a stack of frames has left, when its last frame gives its node, is dropped, or moves on to a child.
-use Rattle.std.proofs.Common.{◌≡◌, ℕ, ◌+◌, List, [], ◌∷◌, ◌++◌, map, drop, flat_map, Option, Some, option_to_list, refl, ap, ◌∙◌, sym, append_assoc, ◌<◌, length, arith, length-append}
+use Rattle.std.proofs.Common.{◌≡◌, ℕ, ◌+◌, List, [], ◌∷◌, ◌++◌, map, drop, flat_map, Option, Some, option_to_list, refl, ap, ◌∙◌, sym, append_assoc, ◌<◌, ◌≤◌, length, true, arith, length-append}
 use Rattle.std.proofs.lemmas.Grind.{flat_map-append}
 use Rattle.std.proofs.lemmas.List.{append-nil, drop-drop}
 use Rattle.std.proofs.lemmas.List.Folds.{flat_map-map}
-use Rattle.serde_json.specs.Data.{Data}
+use Rattle.serde_json.specs.Data.{Data, null as null_data, boolean, number as number_data, string, array, object}
 use Rattle.serde_json_path_nodes.specs.Location.{Step, Located}
-use Rattle.serde_json_path_syntax.specs.Tree.{SegmentKind, child, descendant, Selector}
+use Rattle.serde_json_path_syntax.specs.Tree.{SegmentKind, child, descendant, Selector, name, wildcard, index, slice, filter}
 use Rattle.serde_json_path_core.specs.Selected.{beneath}
 use Rattle.serde_json_path_core.specs.Computed.{children, descents, placed, reached}
 use Rattle.serde_json_path_syntax.specs.Stages.{Stage}
-use Rattle.serde_json_path_core.specs.Rest.{Frame, candidates, lower, begun, frame_tasks, here, stack_path, visit, visit_rest, visit_place, visit_stack, admitted, unfiltered, rest_of, work}
+use Rattle.serde_json_path_core.specs.Rest.{Frame, candidates, lower, entered, frame_tasks, is_leaf, here, stack_path, visit, visit_rest, visit_place, visit_stack, admitted, unfiltered, rest_of, work}
 use Rattle.serde_json_path_core.proofs.Meaning.Descents.{below_child, descents_are}
 use Rattle.serde_json_path_syntax.proofs.Lists.InLists.{flat_map-same, flat_map-flat_map}
 use Rattle.serde_json_path_core.proofs.Walks.Tasks.{next_opened}
@@ -17,10 +17,6 @@ use Rattle.serde_json_path_functions.specs.Functions.{FunctionSet}
 
 abbrev pub located : List Step → Data → Located
 located above v = record { location = above; value = v }
-
--- a frame where these stages begin, the first of them of that number
-abbrev pub entered : Option Step → ℕ → List Stage → Data → Frame
-entered step number stages v = record { step = step; value = v; segment = number; selector = 0; left = begun stages v }
 
 -- ---- a node and all below it, level by level
 
@@ -111,6 +107,23 @@ module _ (admit : Selector → List (Step × Data) → List (Step × Data)) {A :
   enters step number (stage ∷ more) n e =
       begins number stage more n e ∙ ap (λ ts. before ++ flat_map (of_task n.location) ts) (next_opened admit number stage.kind n.value stage.selectors)
 
+  -- the last frame passes some of its tasks
+  pub passes : (ps : List Frame) (p m : Frame) (stage : Stage) (more : List Stage) (front : List (ℕ × (Step × Data)))
+      → drop p.segment all ≡ stage ∷ more → frame_tasks admit stage p ≡ front ++ frame_tasks admit stage m
+      → m.step ≡ p.step → m.segment ≡ p.segment
+      → of_stack (ps ++ p ∷ []) ≡ flat_map (of_task (here (stack_path [] ps) p)) front ++ of_stack (ps ++ m ∷ [])
+  passes ps p m stage more front d t ms mk =
+      let S = of_stack ps in
+      let L = here (stack_path [] ps) p in
+      let same : L ≡ here (stack_path [] ps) m = ap (λ o. stack_path [] ps ++ option_to_list o) (sym ms) in
+      let dm : drop m.segment all ≡ stage ∷ more = ap (λ j. drop j all) mk ∙ d in
+      drops ps p stage more d
+      ∙ ap (λ ts. flat_map (of_task L) ts ++ S) t
+      ∙ ap (λ xs. xs ++ S) (flat_map-append (of_task L) front (frame_tasks admit stage m))
+      ∙ append_assoc (flat_map (of_task L) front) (flat_map (of_task L) (frame_tasks admit stage m)) S
+      ∙ ap (λ l. flat_map (of_task L) front ++ (flat_map (of_task l) (frame_tasks admit stage m) ++ S)) same
+      ∙ ap (λ xs. flat_map (of_task L) front ++ xs) (sym (drops ps m stage more dm))
+
   -- the last frame moves on, past some tasks, to a child
   pub moves : (ps : List Frame) (p m : Frame) (stage : Stage) (more : List Stage) (front : List (ℕ × (Step × Data))) (number : ℕ) (c : Step × Data)
       → drop p.segment all ≡ stage ∷ more → frame_tasks admit stage p ≡ front ++ (number, c) ∷ frame_tasks admit stage m
@@ -141,6 +154,57 @@ module _ (admit : Selector → List (Step × Data) → List (Step × Data)) {A :
       ∙ ap (λ xs. flat_map (of_task L) front ++ xs) (append_assoc (before ++ Q) M S ∙ append_assoc before Q (M ++ S))
       ∙ ap (λ xs. flat_map (of_task L) front ++ (before ++ xs)) (sym new_is)
 
+-- ---- leaves
+
+leaf-candidates : (sel : Selector) (v : Data) → is_leaf v ≡ true → candidates sel v ≡ []
+leaf-candidates (name k) null_data h = refl
+leaf-candidates (name k) (boolean b) h = refl
+leaf-candidates (name k) (number_data n) h = refl
+leaf-candidates (name k) (string t) h = refl
+leaf-candidates wildcard null_data h = refl
+leaf-candidates wildcard (boolean b) h = refl
+leaf-candidates wildcard (number_data n) h = refl
+leaf-candidates wildcard (string t) h = refl
+leaf-candidates (index i) null_data h = refl
+leaf-candidates (index i) (boolean b) h = refl
+leaf-candidates (index i) (number_data n) h = refl
+leaf-candidates (index i) (string t) h = refl
+leaf-candidates (slice s) null_data h = refl
+leaf-candidates (slice s) (boolean b) h = refl
+leaf-candidates (slice s) (number_data n) h = refl
+leaf-candidates (slice s) (string t) h = refl
+leaf-candidates (filter e) null_data h = refl
+leaf-candidates (filter e) (boolean b) h = refl
+leaf-candidates (filter e) (number_data n) h = refl
+leaf-candidates (filter e) (string t) h = refl
+leaf-candidates sel (array items) h = absurd cc
+leaf-candidates sel (object of) h = absurd cc
+
+admits-none : (F : FunctionSet) (top : Data) (sel : Selector) → admitted F top sel [] ≡ []
+admits-none F top (name k) = refl
+admits-none F top wildcard = refl
+admits-none F top (index i) = refl
+admits-none F top (slice s) = refl
+admits-none F top (filter e) = refl
+
+leaf-picks : (F : FunctionSet) (top : Data) (sels : List Selector) (v : Data) → is_leaf v ≡ true → flat_map (λ s. admitted F top s (candidates s v)) sels ≡ []
+leaf-picks F top [] v h = refl
+leaf-picks F top (sel ∷ more) v h =
+    ap (λ xs. xs ++ flat_map (λ s. admitted F top s (candidates s v)) more) (ap (admitted F top sel) (leaf-candidates sel v h) ∙ admits-none F top sel) ∙ leaf-picks F top more v h
+
+leaf-lower : (kind : SegmentKind) (v : Data) → is_leaf v ≡ true → lower kind v ≡ []
+leaf-lower child v h = refl
+leaf-lower descendant v h = leaf-candidates wildcard v h
+
+-- where a segment begins at a leaf, nothing is given
+leaf-visit : (F : FunctionSet) (top : Data) (stage : Stage) (more : List Stage) (n : Located) → is_leaf n.value ≡ true → visit (admitted F top) [] (λ m. m ∷ []) (stage ∷ more) n ≡ []
+leaf-visit F top stage more n h =
+    let make = visit (admitted F top) [] (λ m. m ∷ []) (stage ∷ more) in
+    let of_picks : Located → List Located = λ m. flat_map (λ c. visit (admitted F top) [] (λ l. l ∷ []) more (placed m.location c)) (flat_map (λ s. admitted F top s (candidates s m.value)) stage.selectors) in
+    unrolled of_picks stage.kind n
+    ∙ ap (λ cs. flat_map (λ c. visit (admitted F top) [] (λ l. l ∷ []) more (placed n.location c)) cs ++ flat_map (λ c. flat_map of_picks (reached stage.kind (placed n.location c))) (lower stage.kind n.value)) (leaf-picks F top stage.selectors n.value h)
+    ∙ ap (flat_map (λ c. flat_map of_picks (reached stage.kind (placed n.location c)))) (leaf-lower stage.kind n.value h)
+
 -- ---- what remains, and how much work, after one step of a walk
 
 -- the last frame gives its node, and so there is less work
@@ -150,6 +214,69 @@ work-given all ps p d =
     let marks : length (visit_stack unfiltered {A = ℕ} (0 ∷ 0 ∷ []) (λ n. 0 ∷ []) all [] (ps ++ p ∷ [])) ≡ 1 + length left =
     ap length {y = 0 ∷ left} (gives unfiltered (0 ∷ 0 ∷ []) (λ n. 0 ∷ []) all ps p d) ∙ omega arith in
     let frames : length (ps ++ p ∷ []) ≡ length ps + 1 = length-append ps (p ∷ []) in
+    omega arith
+
+-- the last frame passes no task: what remains stays
+pub rest-held : (F : FunctionSet) (top : Data) (all : List Stage) (ps : List Frame) (p m : Frame) (stage : Stage) (more : List Stage) → drop p.segment all ≡ stage ∷ more
+    → frame_tasks (admitted F top) stage p ≡ frame_tasks (admitted F top) stage m → m.step ≡ p.step → m.segment ≡ p.segment
+    → rest_of F top all (ps ++ p ∷ []) ≡ rest_of F top all (ps ++ m ∷ [])
+rest-held F top all ps p m stage more d t ms mk = passes (admitted F top) [] (λ n. n ∷ []) all ps p m stage more [] d t ms mk
+
+-- whatever it passes, there is no more work
+pub work-held : (all : List Stage) (ps : List Frame) (p m : Frame) (stage : Stage) (more : List Stage) (front : List (ℕ × (Step × Data))) → drop p.segment all ≡ stage ∷ more
+    → frame_tasks unfiltered stage p ≡ front ++ frame_tasks unfiltered stage m → m.step ≡ p.step → m.segment ≡ p.segment
+    → work all (ps ++ m ∷ []) ≤ work all (ps ++ p ∷ [])
+work-held all ps p m stage more front d t ms mk =
+    let of_task : ℕ × (Step × Data) → List ℕ = λ x. visit unfiltered (0 ∷ 0 ∷ []) (λ n. 0 ∷ []) (drop x.0 all) (record { location = here (stack_path [] ps) p ++ x.1.0 ∷ []; value = x.1.1 }) in
+    let left = visit_stack unfiltered {A = ℕ} (0 ∷ 0 ∷ []) (λ n. 0 ∷ []) all [] (ps ++ m ∷ []) in
+    let marks : length (visit_stack unfiltered {A = ℕ} (0 ∷ 0 ∷ []) (λ n. 0 ∷ []) all [] (ps ++ p ∷ [])) ≡ length (flat_map of_task front) + length left =
+    ap length {y = flat_map of_task front ++ left} (passes unfiltered (0 ∷ 0 ∷ []) (λ n. 0 ∷ []) all ps p m stage more front d t ms mk) ∙ length-append (flat_map of_task front) left in
+    let before : length (ps ++ p ∷ []) ≡ length ps + 1 = length-append ps (p ∷ []) in
+    let after : length (ps ++ m ∷ []) ≡ length ps + 1 = length-append ps (m ∷ []) in
+    omega arith
+
+-- the last frame passes a task at a leaf, where another segment begins: what remains stays
+pub rest-leaf : (F : FunctionSet) (top : Data) (all : List Stage) (ps : List Frame) (p m : Frame) (stage : Stage) (more : List Stage) (number : ℕ) (c : Step × Data) (next : Stage) (others : List Stage)
+    → drop p.segment all ≡ stage ∷ more → frame_tasks (admitted F top) stage p ≡ (number, c) ∷ frame_tasks (admitted F top) stage m → m.step ≡ p.step → m.segment ≡ p.segment
+    → drop number all ≡ next ∷ others → is_leaf c.1 ≡ true → rest_of F top all (ps ++ p ∷ []) ≡ rest_of F top all (ps ++ m ∷ [])
+rest-leaf F top all ps p m stage more number c next others d t ms mk n h =
+    let L = here (stack_path [] ps) p ++ c.0 ∷ [] in
+    let none : visit (admitted F top) [] (λ l. l ∷ []) (drop number all) (located L c.1) ≡ [] =
+    ap (λ stages. visit (admitted F top) [] (λ l. l ∷ []) stages (located L c.1)) n ∙ leaf-visit F top next others (located L c.1) h in
+    passes (admitted F top) [] (λ n. n ∷ []) all ps p m stage more ((number, c) ∷ []) d t ms mk
+    ∙ ap (λ xs. (xs ++ []) ++ rest_of F top all (ps ++ m ∷ [])) none
+
+-- the last frame passes a task where the segments end: that is the first node of what remains
+pub rest-node : (F : FunctionSet) (top : Data) (all : List Stage) (ps : List Frame) (p m : Frame) (stage : Stage) (more : List Stage) (number : ℕ) (c : Step × Data)
+    → drop p.segment all ≡ stage ∷ more → frame_tasks (admitted F top) stage p ≡ (number, c) ∷ frame_tasks (admitted F top) stage m → m.step ≡ p.step → m.segment ≡ p.segment
+    → drop number all ≡ [] → rest_of F top all (ps ++ p ∷ []) ≡ located (stack_path [] (ps ++ p ∷ []) ++ c.0 ∷ []) c.1 ∷ rest_of F top all (ps ++ m ∷ [])
+rest-node F top all ps p m stage more number c d t ms mk n =
+    let L = here (stack_path [] ps) p ++ c.0 ∷ [] in
+    passes (admitted F top) [] (λ n. n ∷ []) all ps p m stage more ((number, c) ∷ []) d t ms mk
+    ∙ ap (λ stages. (visit (admitted F top) [] (λ l. l ∷ []) stages (located L c.1) ++ []) ++ rest_of F top all (ps ++ m ∷ [])) n
+    ∙ ap (λ above. located (above ++ c.0 ∷ []) c.1 ∷ rest_of F top all (ps ++ m ∷ [])) (sym (stack_path-last [] ps p))
+
+-- the last frame passes a task, and maybe others: there is less work
+pub work-passed : (all : List Stage) (ps : List Frame) (p m : Frame) (stage : Stage) (more : List Stage) (front : List (ℕ × (Step × Data))) (number : ℕ) (c : Step × Data)
+    → drop p.segment all ≡ stage ∷ more → frame_tasks unfiltered stage p ≡ front ++ (number, c) ∷ frame_tasks unfiltered stage m
+    → m.step ≡ p.step → m.segment ≡ p.segment → work all (ps ++ m ∷ []) < work all (ps ++ p ∷ [])
+work-passed all ps p m stage more front number c d t ms mk =
+    let L = here (stack_path [] ps) p in
+    let of_task : ℕ × (Step × Data) → List ℕ = λ x. visit unfiltered (0 ∷ 0 ∷ []) (λ n. 0 ∷ []) (drop x.0 all) (record { location = L ++ x.1.0 ∷ []; value = x.1.1 }) in
+    let task : ℕ × (Step × Data) = (number, c) in
+    let left = visit_stack unfiltered {A = ℕ} (0 ∷ 0 ∷ []) (λ n. 0 ∷ []) all [] (ps ++ m ∷ []) in
+    let inside = visit_rest unfiltered {A = ℕ} (0 ∷ 0 ∷ []) (λ n. 0 ∷ []) all (drop number all) (L ++ c.0 ∷ []) (entered (Some c.0) number (drop number all) c.1) in
+    let opens : length (of_task task) ≡ 2 + length inside =
+    ap length {y = 0 ∷ 0 ∷ inside} (enters unfiltered (0 ∷ 0 ∷ []) (λ n. 0 ∷ []) all (Some c.0) number (drop number all) (located (L ++ c.0 ∷ []) c.1) refl) ∙ omega arith in
+    let tasks : frame_tasks unfiltered stage p ≡ (front ++ task ∷ []) ++ frame_tasks unfiltered stage m = t ∙ sym (append_assoc front (task ∷ []) (frame_tasks unfiltered stage m)) in
+    let passed = flat_map of_task (front ++ task ∷ []) in
+    let some : length passed ≡ length (flat_map of_task front) + length (of_task task ++ []) =
+    ap length (flat_map-append of_task front (task ∷ [])) ∙ length-append (flat_map of_task front) (of_task task ++ []) in
+    let alone : length (of_task task ++ []) ≡ length (of_task task) = ap length (append-nil (of_task task)) in
+    let marks : length (visit_stack unfiltered {A = ℕ} (0 ∷ 0 ∷ []) (λ n. 0 ∷ []) all [] (ps ++ p ∷ [])) ≡ length passed + length left =
+    ap length {y = passed ++ left} (passes unfiltered (0 ∷ 0 ∷ []) (λ n. 0 ∷ []) all ps p m stage more (front ++ task ∷ []) d tasks ms mk) ∙ length-append passed left in
+    let before : length (ps ++ p ∷ []) ≡ length ps + 1 = length-append ps (p ∷ []) in
+    let after : length (ps ++ m ∷ []) ≡ length ps + 1 = length-append ps (m ∷ []) in
     omega arith
 
 -- the last frame has no task left, and is dropped

@@ -8,10 +8,10 @@ use Rattle.serde_json_path_functions.specs.Functions.{FunctionSet}
 use Rattle.serde_json_path_syntax.specs.Tree.{Query, query, kind_of, segments_of, Segments, no_segments, segment, Segment, dot_name, dot_wildcard, long_hand, Selectors, no_selectors, selector, Selector, filter}
 use Rattle.serde_json_path_core.specs.Derivation.{start_of}
 use Rattle.serde_json_path_core.specs.Computed.{results, placed, reached, results_from, chosen, chosen_by, selected}
-use Rattle.serde_json_path_core.specs.Rest.{Frame, candidates, admitted, begun, starting_frame, visit, rest_of}
+use Rattle.serde_json_path_core.specs.Rest.{Frame, candidates, admitted, begun, entered, starting_frame, visit, rest_of}
 use Rattle.serde_json_path_syntax.specs.Stages.{selectors_of, selectors_list, stages}
 use Rattle.serde_json_path_syntax.proofs.Lists.InLists.{flat_map-same}
-use Rattle.serde_json_path_core.proofs.Walks.Stacks.{entered, enters, located}
+use Rattle.serde_json_path_core.proofs.Walks.Stacks.{enters, located}
 
 -- the frame of these segments at that start is where the query begins
 pub begun-frame : (top : Data) (q : Query) (here start : Data) (segs : Segments) (first : Frame) → segs ≡ segments_of q → start ≡ start_of (kind_of q) top here
@@ -31,7 +31,7 @@ module _ (F : FunctionSet) (top : Data) where
       ap (λ xs. xs ++ flat_map (λ s. admitted F top s (candidates s v)) (selectors_list more)) (selected-admitted sel v)
       ∙ ap (λ xs. selected F top sel v ++ xs) (chosen_by-list more v)
 
-  chosen-list : (seg : Segment) (v : Data) → flat_map (λ s. admitted F top s (candidates s v)) (selectors_of seg) ≡ chosen F top seg v
+  pub chosen-list : (seg : Segment) (v : Data) → flat_map (λ s. admitted F top s (candidates s v)) (selectors_of seg) ≡ chosen F top seg v
   chosen-list (dot_name k) v = append-nil _
   chosen-list dot_wildcard v = append-nil _
   chosen-list (long_hand sels) v = chosen_by-list sels v
@@ -46,7 +46,7 @@ module _ (F : FunctionSet) (top : Data) where
       ∙ sym (flat_map-map (results_from F top more) (placed m.location) (chosen F top seg m.value)))
       (reached kind n)
 
-  rest-started : (segs : Segments) (v : Data) → rest_of F top (stages segs) (entered None 0 (stages segs) v ∷ []) ≡ results_from F top segs (located [] v)
+  pub rest-started : (segs : Segments) (v : Data) → rest_of F top (stages segs) (entered None 0 (stages segs) v ∷ []) ≡ results_from F top segs (located [] v)
   rest-started segs v = sym (enters (admitted F top) [] (λ m. m ∷ []) (stages segs) None 0 (stages segs) (located [] v) refl) ∙ visit-results segs (located [] v)
 
   -- the frame of a walk that begins has the query's result left

@@ -46,6 +46,18 @@ module _ (admit : Selector → List (Step × Data) → List (Step × Data)) (num
       ∙ ap (λ xs. map onward front ++ onward c ∷ (map onward (admit sel ds ++ all_of more) ++ map downward xs)) (lower_left-same kind sel more cs ds v)
       ∙ ap (λ xs. map onward front ++ onward c ∷ tasks admit number kind xs ds v) (sym e)
 
+  -- the selector at work passes some that it admits
+  pub skips_over : (sels : List Selector) (sel : Selector) (more : List Selector) (cs ds front : List (Step × Data))
+      → sels ≡ sel ∷ more → admit sel cs ≡ front ++ admit sel ds → tasks admit number kind sels cs v ≡ map onward front ++ tasks admit number kind sels ds v
+  skips_over sels sel more cs ds front e a =
+      ap (λ xs. tasks admit number kind xs cs v) e
+      ∙ ap (λ xs. map onward (xs ++ all_of more) ++ map downward (lower_left kind (sel ∷ more) cs v)) a
+      ∙ ap (λ xs. map onward xs ++ map downward (lower_left kind (sel ∷ more) cs v)) (append_assoc front (admit sel ds) (all_of more))
+      ∙ ap (λ xs. xs ++ map downward (lower_left kind (sel ∷ more) cs v)) (map-append onward front (admit sel ds ++ all_of more))
+      ∙ append_assoc (map onward front) (map onward (admit sel ds ++ all_of more)) (map downward (lower_left kind (sel ∷ more) cs v))
+      ∙ ap (λ xs. map onward front ++ (map onward (admit sel ds ++ all_of more) ++ map downward xs)) (lower_left-same kind sel more cs ds v)
+      ∙ ap (λ xs. map onward front ++ tasks admit number kind xs ds v) (sym e)
+
   -- the next selector begins, past what this one still admits
   pub turns_over : (sels : List Selector) (sel : Selector) (more : List Selector) (cs ds : List (Step × Data))
       → sels ≡ sel ∷ more → ds ≡ opened kind more v → tasks admit number kind sels cs v ≡ map onward (admit sel cs) ++ tasks admit number kind more ds v

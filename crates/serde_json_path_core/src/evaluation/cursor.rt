@@ -1,10 +1,10 @@
 //! Cursors over the children of one value.
 
-ghost use Rattle.std.specs.Prelude.{◌≡◌, [], ◌∷◌, IfOk, MatchOption, option_map, option_to_list};
+ghost use Rattle.std.specs.Prelude.{◌≡◌, [], ◌∷◌, MatchOption, drop, option_map, option_to_list};
 ghost use Rattle.serde_json.specs.Data.{object};
 ghost use Rattle.serde_json.specs.View.{view, members_view};
-ghost use Rattle.serde_json_path_core.specs.Computed.{children, sliced};
-ghost use Rattle.serde_json_path_core.specs.Cursors.{cursor_left};
+ghost use Rattle.serde_json_path_core.specs.Computed.{children, members_all, sliced};
+ghost use Rattle.serde_json_path_core.specs.Cursors.{cursor_left, members_from, members_left};
 ghost use Rattle.serde_json_path_syntax.specs.SliceView.{slice_view};
 ghost use Rattle.serde_json_path_core.specs.Views.{child_view};
 
@@ -13,10 +13,9 @@ use crate::evaluation::slice_positions::SlicePositions;
 use serde_json::{Map, Value};
 use serde_json_path_nodes::PathElement;
 use serde_json_path_syntax::Slice;
-use std::alloc::AllocError;
 use std::collections::btree_map::Iter;
 
-/// The children of one value that remain, each with the step to it.
+/// The children of one value that remain, each with the step to it. The next one can be looked at before it is passed.
 #[derive(Drop)]
 pub(crate) enum Cursor<'b> {
     /// The items of an array, from a position on.
@@ -25,7 +24,7 @@ pub(crate) enum Cursor<'b> {
         next: usize,
     },
     /// Members of an object, in the order of their names.
-    Members(Iter<'b, String, Value>),
+    Members(MembersLeft<'b>),
     /// One child at most.
     One(Option<Child<'b>>),
     /// The items of an array at the positions of a slice.
@@ -33,6 +32,35 @@ pub(crate) enum Cursor<'b> {
         items: &'b [Value],
         positions: SlicePositions,
     },
+}
+
+/// Members of an object, in the order of their names.
+#[derive(Drop)]
+pub(crate) struct MembersLeft<'b> {
+    /// The next one.
+    next: Option<Child<'b>>,
+    /// Those after it.
+    after: Iter<'b, String, Value>,
+}
+
+impl<'b> MembersLeft<'b> {
+    /// All members of an object.
+    fn of(members: &'b Map<String, Value>) -> MembersLeft<'b>
+        ensures { members_left result ≡ children (object (members_view members.now.entries)) }
+    {
+        let mut after = members.iter();
+        let next = next_member(&mut after);
+        MembersLeft { next, after }
+    }
+
+    /// Passes the next member, if one is left.
+    fn pass(&mut self)
+        ensures { members_left self.new ≡ drop 1 (members_left self.old) }
+    {
+        if self.next.is_some() {
+            self.next = next_member(&mut self.after);
+        }
+    }
 }
 
 impl<'b> Cursor<'b> {
@@ -59,16 +87,9 @@ impl<'b> Cursor<'b> {
                 items: items.as_slice(),
                 next: 0,
             },
-            Value::Object(members) => Cursor::members(members),
+            Value::Object(members) => Cursor::Members(MembersLeft::of(members)),
             _ => Cursor::none(),
         }
-    }
-
-    /// A cursor over all members of an object.
-    fn members(members: &'b Map<String, Value>) -> Cursor<'b>
-        ensures { cursor_left result ≡ children (object (members_view members.now.entries)) }
-    {
-        Cursor::Members(members.iter())
     }
 
     /// A cursor over the children that a slice selects, in its order.
@@ -84,51 +105,52 @@ impl<'b> Cursor<'b> {
         }
     }
 
-    /// Copies the cursor; fails if memory is refused.
-    pub(crate) fn try_clone(&self) -> Result<Cursor<'b>, AllocError>
-        ensures { IfOk result (λ c. cursor_left c ≡ cursor_left self.now) }
-    {
-        match self {
-            Cursor::Items { items, next } => Ok(Cursor::Items {
-                items: *items,
-                next: *next,
-            }),
-            Cursor::Members(members) => Ok(Cursor::Members(members.clone()?)),
-            Cursor::One(child) => Ok(Cursor::One(*child)),
-            Cursor::Slice { items, positions } => Ok(Cursor::Slice {
-                items: *items,
-                positions: *positions,
-            }),
-        }
-    }
-
-    /// Takes the next child, if one is left.
-    pub(crate) fn advance(&mut self) -> Option<Child<'b>>
-        ensures { MatchOption result
-            ((cursor_left self.old ≡ []) × (cursor_left self.new ≡ []))
-            (λ c. cursor_left self.old ≡ child_view c ∷ cursor_left self.new) }
+    /// The next child, if one is left.
+    pub(crate) fn peek(&self) -> Option<Child<'b>>
+        ensures { MatchOption result (cursor_left self.now ≡ [])
+            (λ c. cursor_left self.now ≡ child_view c ∷ drop 1 (cursor_left self.now)) }
     {
         match self {
             Cursor::Items { items, next } => {
-                let position = *next;
-                if position >= items.len() {
+                if *next >= items.len() {
                     return None;
                 }
-                *next = position + 1;
                 Some(Child {
-                    step: PathElement::Index(position),
-                    value: &items[position],
+                    step: PathElement::Index(*next),
+                    value: &items[*next],
                 })
             }
-            Cursor::Members(members) => {
-                let (name, value) = members.next()?;
-                Some(Child {
-                    step: PathElement::Name(name.as_str()),
-                    value,
-                })
-            }
-            Cursor::One(child) => child.take(),
-            Cursor::Slice { items, positions } => positions.advance(items),
+            Cursor::Members(members) => members.next,
+            Cursor::One(child) => *child,
+            Cursor::Slice { items, positions } => positions.peek(items),
         }
     }
+
+    /// Passes the next child, if one is left.
+    pub(crate) fn pass(&mut self)
+        ensures { cursor_left self.new ≡ drop 1 (cursor_left self.old) }
+    {
+        match self {
+            Cursor::Items { items, next } => {
+                if *next < items.len() {
+                    *next += 1;
+                }
+            }
+            Cursor::Members(members) => members.pass(),
+            Cursor::One(child) => *child = None,
+            Cursor::Slice { items, positions } => positions.pass(items),
+        }
+    }
+}
+
+/// Takes the next member of an object, if one is left.
+fn next_member<'b>(members: &mut Iter<'b, String, Value>) -> Option<Child<'b>>
+    ensures { members_from (option_map child_view result) (members_all (members_view members.new))
+        ≡ members_all (members_view members.old) }
+{
+    let (name, value) = members.next()?;
+    Some(Child {
+        step: PathElement::Name(name.as_str()),
+        value,
+    })
 }

@@ -7,11 +7,11 @@ ghost use Rattle.serde_json_path_syntax.specs.Parts.{nodes_in};
 ghost use Rattle.serde_json_path_syntax.specs.Tree.{filter};
 ghost use Rattle.serde_json_path_syntax.specs.PartBounds.{parts_bound, selector_bound};
 ghost use Rattle.serde_json_path_syntax.specs.Typing.{AreTypedSegments, IsTypedSegment, UnderSome};
-ghost use Rattle.serde_json_path_core.specs.Evaluates.{Advances, Chooses, ComesTo, IsDone, SoundOr, SoundSegment, SoundSelector};
+ghost use Rattle.serde_json_path_core.specs.Evaluates.{IsAtAdmitted, IsAtTask, Passes, Skips, SoundOr, SoundSegment, SoundSelector};
 ghost use Rattle.serde_json_path_core.specs.Scopes.{WithoutPatterns, nodes_of, top_of};
 ghost use Rattle.serde_json_path_core.specs.Cursors.{cursor_left};
 ghost use Rattle.serde_json_path_core.specs.Views.{child_view};
-ghost use Rattle.serde_json_path_core.specs.Rest.{candidates, opened, begun, IsInside, AllStandIn};
+ghost use Rattle.serde_json_path_core.specs.Rest.{candidates, opened, begun, passed, IsInside, AllStandIn};
 ghost use Rattle.serde_json_path_syntax.specs.Stages.{selector_view, stage_at, stages_at};
 ghost use Rattle.serde_json_path_core.specs.Frames.{frame_view, task_view};
 ghost use Rattle.serde_json_path_functions.specs.declared.error.QueryError.TheVariants.{Memory};
@@ -43,13 +43,6 @@ pub(crate) struct Frame<'b> {
 pub(crate) struct Task<'b> {
     pub(crate) segment: usize,
     pub(crate) child: Child<'b>,
-}
-
-/// The next task of a frame, and the frame as it is after that task was taken.
-#[derive(Drop)]
-pub(crate) struct Peeked<'b> {
-    pub(crate) frame: Frame<'b>,
-    pub(crate) task: Task<'b>,
 }
 
 /// The children that a selector chooses from.
@@ -139,23 +132,9 @@ impl<'b> Frame<'b> {
         }
     }
 
-    /// Copies the frame; fails if memory is refused.
-    fn try_clone(&self) -> Result<Frame<'b>, QueryError>
-        ensures same { IfOk result (λ frame. frame_view frame ≡ frame_view self.now) }
-        ensures refused { IfErr result (λ e. e ≡ Memory) }
-    {
-        Ok(Frame {
-            step: self.step,
-            value: self.value,
-            segment: self.segment,
-            selector: self.selector,
-            cursor: self.cursor.try_clone()?,
-        })
-    }
-
-    /// Takes the next task, if one is left.
+    /// Comes to the next task, if one is left, and does not pass it. Whatever the answer, no task is passed.
     #[cycle(evaluation)]
-    fn advance<F: Functions>(
+    pub(crate) fn next_task<F: Functions>(
         &mut self,
         scope: &Scope<'_, 'b, F>,
         segment: Part,
@@ -164,8 +143,9 @@ impl<'b> Frame<'b> {
         requires number { self.old.segment + 1 < 2 ^ 64 }
         requires sound { SoundSegment scope.now segment }
         requires inside { ∥ IsInside (top_of scope.now) (frame_view self.old) ∥₁ }
-        ensures advances { IfOk result (λ found.
-            Advances scope.now segment (frame_view self.old) (option_map task_view found) (frame_view self.new)) }
+        ensures passes { Passes scope.now segment (frame_view self.old) (frame_view self.new) }
+        ensures found { IfOk result (λ found.
+            IsAtTask scope.now segment (frame_view self.new) (option_map task_view found)) }
         ensures refused { IfErr result (λ e. WithoutPatterns scope.now → e ≡ Memory) }
     {
         while let Some(selector_ref) = scope.query.selector_ref(segment, self.selector) {
@@ -184,7 +164,7 @@ impl<'b> Frame<'b> {
         }
         match scope.query.segment_kind(segment) {
             SegmentKind::Child => Ok(None),
-            SegmentKind::Descendant => match self.cursor.advance() {
+            SegmentKind::Descendant => match self.cursor.peek() {
                 None => Ok(None),
                 Some(child) => Ok(Some(Task {
                     segment: self.segment,
@@ -194,31 +174,15 @@ impl<'b> Frame<'b> {
         }
     }
 
-    /// Looks up the next task, if one is left, without changing this frame.
-    #[cycle(evaluation)]
-    pub(crate) fn peek<F: Functions>(
-        &self,
-        scope: &Scope<'_, 'b, F>,
-        segment: Part,
-    ) -> Result<Option<Peeked<'b>>, QueryError>
-        requires within { segment.number < length (nodes_of scope.now) }
-        requires number { self.now.segment + 1 < 2 ^ 64 }
-        requires sound { SoundSegment scope.now segment }
-        requires inside { ∥ IsInside (top_of scope.now) (frame_view self.now) ∥₁ }
-        ensures peeked { IfOk result (λ peeked. MatchOption peeked
-            (IsDone scope.now segment (frame_view self.now))
-            (λ a. ComesTo scope.now segment (frame_view self.now) (task_view a.task) (frame_view a.frame))) }
-        ensures refused { IfErr result (λ e. WithoutPatterns scope.now → e ≡ Memory) }
+    /// Passes the task that it has come to.
+    pub(crate) fn pass(&mut self)
+        ensures { frame_view self.new ≡ passed (frame_view self.old) }
     {
-        let mut frame = self.try_clone()?;
-        match frame.advance(scope, segment)? {
-            Some(task) => Ok(Some(Peeked { frame, task })),
-            None => Ok(None),
-        }
+        self.cursor.pass();
     }
 }
 
-/// Takes the next child that the selector admits, if one is left.
+/// Comes to the next child that the selector admits, if one is left. Whatever the answer, none that it admits is passed.
 #[cycle(evaluation)]
 fn next_admitted<'b, F: Functions>(
     scope: &Scope<'_, 'b, F>,
@@ -228,21 +192,19 @@ fn next_admitted<'b, F: Functions>(
     requires below { selector_bound selector_ref ≤ length (nodes_of scope.now) }
     requires sound { SoundSelector scope.now selector_ref }
     requires inside { AllStandIn (top_of scope.now) (cursor_left cursor.old) }
-    ensures chooses { IfOk result (λ found.
-        Chooses scope.now selector_ref.entry (cursor_left cursor.old)
-        (option_map child_view found) (cursor_left cursor.new)) }
+    ensures skips { Skips scope.now selector_ref.entry (cursor_left cursor.old) (cursor_left cursor.new) }
+    ensures found { IfOk result (λ found.
+        IsAtAdmitted scope.now selector_ref.entry
+        (cursor_left cursor.new) (option_map child_view found)) }
     ensures refused { IfErr result (λ e. WithoutPatterns scope.now → e ≡ Memory) }
 {
     match selector_ref {
         SelectorRef::Filter(test) => next_passing(scope, test, cursor),
-        SelectorRef::Name(_)
-        | SelectorRef::Wildcard
-        | SelectorRef::Index(_)
-        | SelectorRef::Slice(_) => { Ok(cursor.advance()) }
+        _ => Ok(cursor.peek()),
     }
 }
 
-/// Takes the next child for which a logical expression holds, if one is left.
+/// Comes to the next child for which a logical expression holds, if one is left.
 #[cycle(evaluation)]
 fn next_passing<'b, F: Functions>(
     scope: &Scope<'_, 'b, F>,
@@ -252,15 +214,18 @@ fn next_passing<'b, F: Functions>(
     requires below { test.number < length (nodes_of scope.now) }
     requires sound { SoundOr scope.now test }
     requires inside { AllStandIn (top_of scope.now) (cursor_left cursor.old) }
-    ensures chooses { IfOk result (λ found.
-        Chooses scope.now (SelectorRef.Filter test) (cursor_left cursor.old)
-        (option_map child_view found) (cursor_left cursor.new)) }
+    ensures skips { Skips scope.now (SelectorRef.Filter test)
+        (cursor_left cursor.old) (cursor_left cursor.new) }
+    ensures found { IfOk result (λ found.
+        IsAtAdmitted scope.now (SelectorRef.Filter test)
+        (cursor_left cursor.new) (option_map child_view found)) }
     ensures refused { IfErr result (λ e. WithoutPatterns scope.now → e ≡ Memory) }
 {
-    while let Some(child) = cursor.advance() {
+    while let Some(child) = cursor.peek() {
         if is_true(scope, test, child.value)? {
             return Ok(Some(child));
         }
+        cursor.pass();
     }
     Ok(None)
 }

@@ -1,6 +1,6 @@
 //! The positions that a slice selects, one after the other (RFC 9535, section 2.3.4.2).
 
-ghost use Rattle.std.specs.Prelude.{◌≡◌, ◌<◌, ◌+ℤ◌, ◌-ℤ◌, pos, [], ◌∷◌, Some, MatchOption};
+ghost use Rattle.std.specs.Prelude.{◌≡◌, ◌<◌, ◌+ℤ◌, ◌-ℤ◌, pos, [], ◌∷◌, Some, MatchOption, drop};
 ghost use Rattle.serde_json_path_core.specs.Slices.{bound_of, step_of};
 ghost use Rattle.serde_json_path_core.specs.Computed.{count_within, positions_by, falling, rising};
 ghost use Rattle.serde_json_path_core.specs.PositionViews.{positions_left, positions_view};
@@ -89,15 +89,29 @@ impl SlicePositions {
         }
     }
 
-    /// Takes the item at the next position, if one is left.
-    pub(crate) fn advance<'b>(&mut self, items: &'b [Value]) -> Option<Child<'b>>
-        ensures { MatchOption result
-            ((positions_left self.old items.now ≡ []) × (positions_left self.new items.now ≡ []))
-            (λ c. positions_left self.old items.now ≡ child_view c ∷ positions_left self.new items.now) }
+    /// The item at the next position, if one is left.
+    pub(crate) fn peek<'b>(&self, items: &'b [Value]) -> Option<Child<'b>>
+        ensures { MatchOption result (positions_left self.now items.now ≡ [])
+            (λ c. positions_left self.now items.now
+            ≡ child_view c ∷ drop 1 (positions_left self.now items.now)) }
     {
         let position = self.next;
         if self.left == 0 || position >= items.len() {
             return None;
+        }
+        Some(Child {
+            step: PathElement::Index(position),
+            value: &items[position],
+        })
+    }
+
+    /// Passes the item at the next position, if one is left.
+    pub(crate) fn pass(&mut self, items: &[Value])
+        ensures { positions_left self.new items.now ≡ drop 1 (positions_left self.old items.now) }
+    {
+        let position = self.next;
+        if self.left == 0 || position >= items.len() {
+            return;
         }
         self.left -= 1;
         // A saturated sum is past the last item too.
@@ -106,10 +120,6 @@ impl SlicePositions {
         } else {
             position.saturating_sub(self.stride)
         };
-        Some(Child {
-            step: PathElement::Index(position),
-            value: &items[position],
-        })
     }
 }
 

@@ -1,79 +1,124 @@
 //! The stack of a walk's frames, and how it reaches the next node.
 
-ghost use Rattle.std.specs.Prelude.{◌≡◌, ◌-◌, ◌<◌, ◌≤◌, [], ◌∷◌, ◌++◌, None, Ok, IfOk, IfErr, OnOk, OnErr, MatchOption, length, take};
+ghost use Rattle.std.specs.Prelude.{◌≡◌, ◌<◌, ◌≤◌, [], ◌++◌, None, Ok, IfOk, IfErr, OnOk, OnErr, MatchOption, length, option_map, option_to_list};
 ghost use Rattle.serde_json.specs.Data.{Data};
 ghost use Rattle.serde_json.specs.View.{view};
-ghost use Rattle.serde_json_path_nodes.specs.Views.{located};
+ghost use Rattle.serde_json_path_nodes.specs.Views.{located, step_view};
+ghost use Rattle.serde_json_path_syntax.specs.Parts.{nodes_in};
 ghost use Rattle.serde_json_path_syntax.specs.PartBounds.{parts_bound};
-ghost use Rattle.serde_json_path_core.specs.Evaluates.{SoundSegments, remaining, work_left};
+ghost use Rattle.serde_json_path_syntax.specs.Typing.{AreTypedSegments, UnderSome};
+ghost use Rattle.serde_json_path_core.specs.Evaluates.{IsAtNode, SoundSegments, remaining, work_left};
 ghost use Rattle.serde_json_path_core.specs.Scopes.{Clear, WithoutPatterns, nodes_of, top_of};
-ghost use Rattle.serde_json_path_core.specs.Rest.{stack_path, EndsAt, IsStack, IsStackIn};
+ghost use Rattle.serde_json_path_core.specs.Rest.{entering, is_leaf, last_passed, stack_path, without_node, IsStack, IsStackIn};
+ghost use Rattle.serde_json_path_syntax.specs.Flat.{segments_at};
 ghost use Rattle.serde_json_path_syntax.specs.Stages.{stages_at};
-ghost use Rattle.serde_json_path_core.specs.Frames.{frames_view};
+ghost use Rattle.serde_json_path_core.specs.Frames.{frames_view, task_view};
 ghost use Rattle.serde_json_path_functions.specs.declared.error.QueryError.TheVariants.{Memory};
 
-use crate::evaluation::frame::Frame;
+use crate::evaluation::frame::{Frame, Task};
 use crate::evaluation::scope::Scope;
 use serde_json::Value;
 use serde_json_path_functions::{Functions, QueryError};
-use serde_json_path_nodes::{LocatedNode, NormalizedPath};
-use serde_json_path_syntax::Part;
+use serde_json_path_nodes::{LocatedNode, NormalizedPath, PathElement};
+use serde_json_path_syntax::{Checked, Part};
 use std::alloc::Global;
 
-/// The value of the last frame, with its location.
+/// The node that a walk has come to, and has not passed.
+#[derive(Clone, Copy)]
+pub(crate) struct Found<'b> {
+    /// The step to it from the last frame; `None` if the last frame is at the node itself, as in a query without segments.
+    pub(crate) step: Option<PathElement<'b>>,
+    /// The node.
+    pub(crate) value: &'b Value,
+}
+
+/// The node that a walk has come to, with its location.
 pub(crate) fn located_at<'b>(
     alloc: Global,
     frames: &[Frame<'b>],
-    value: &'b Value,
+    found: Found<'b>,
 ) -> Result<LocatedNode<'b>, QueryError>
-    ensures node { IfOk result (λ node.
-        located node ≡ record { location = stack_path [] (frames_view frames.now); value = view value.now }) }
+    ensures node { IfOk result (λ node. located node ≡ record {
+      location = stack_path [] (frames_view frames.now) ++ option_to_list (option_map step_view found.entry.step);
+      value = view found.entry.value.now;
+    }) }
     ensures refused { IfErr result (λ e. e ≡ Memory) }
 {
-    let mut steps = Vec::new(alloc);
+    let mut steps = Vec::with_capacity(alloc, frames.len())?;
     for frame in frames {
         if let Some(step) = frame.step {
             steps.push(step)?;
         }
     }
-    Ok(LocatedNode::new(NormalizedPath::from_steps(steps), value))
+    if let Some(step) = found.step {
+        steps.push(step)?;
+    }
+    Ok(LocatedNode::new(NormalizedPath::from_steps(steps), found.value))
 }
 
-/// Removes the last frame.
-pub(crate) fn drop_last<'b>(frames: &mut Vec<Frame<'b>>)
+/// Passes the next task of the last frame.
+fn pass_last<'b>(frames: &mut Vec<Frame<'b>>)
     requires { 0 < length frames.old.items }
-    ensures { frames.new.items ≡ take (length frames.old.items - 1) frames.old.items }
+    ensures { frames_view frames.new.items ≡ last_passed (frames_view frames.old.items) }
 {
     let last = frames.len() - 1;
-    frames.truncate(last);
+    frames[last].pass();
 }
 
-/// Replaces the last frame and pushes another one; if memory is refused, nothing changes.
-fn push_over<'b>(
-    frames: &mut Vec<Frame<'b>>,
-    moved: Frame<'b>,
-    next: Frame<'b>,
-) -> Result<(), QueryError>
+/// Passes the node that a walk has come to.
+pub(crate) fn pass_found<'b>(frames: &mut Vec<Frame<'b>>, found: Found<'b>)
     requires { 0 < length frames.old.items }
-    ensures ok { OnOk result (frames.new.items
-        ≡ (take (length frames.old.items - 1) frames.old.items ++ moved.entry ∷ []) ++ next.entry ∷ []) }
+    ensures { frames_view frames.new.items
+        ≡ without_node (frames_view frames.old.items) (option_map step_view found.entry.step) }
+{
+    match found.step {
+        None => frames.truncate(frames.len() - 1),
+        Some(_) => pass_last(frames),
+    }
+}
+
+/// Whether a value is neither an array nor an object, so that it has no children.
+fn is_leaf(value: &Value) -> bool
+    ensures { result ≡ is_leaf (view value.now) }
+{
+    !matches!(value, Value::Array(_) | Value::Object(_))
+}
+
+/// Passes the task that the last frame has come to, with a frame for it unless nothing can come of it. If memory is
+/// refused, nothing changes.
+fn enter<'b>(
+    query: &Checked,
+    segments: &[Part],
+    frames: &mut Vec<Frame<'b>>,
+    task: Task<'b>,
+) -> Result<(), QueryError>
+    requires within { parts_bound segments.now ≤ length (nodes_in query.now) }
+    requires typed { UnderSome AreTypedSegments (segments_at (nodes_in query.now) segments.now) }
+    requires some { 0 < length frames.old.items }
+    ensures ok { OnOk result (frames_view frames.new.items
+        ≡ entering (stages_at (nodes_in query.now) segments.now)
+        (frames_view frames.old.items) (task_view task.entry)) }
     ensures unchanged { OnErr result (frames.new.items ≡ frames.old.items) }
     ensures refused { IfErr result (λ e. e ≡ Memory) }
 {
+    if is_leaf(task.child.value) {
+        pass_last(frames);
+        return Ok(());
+    }
     let last = frames.len() - 1;
-    frames.push(next)?;
-    frames[last] = moved;
+    frames.push(Frame::of(query, segments, task))?;
+    frames[last].pass();
     Ok(())
 }
 
-/// Goes on until the last frame is past the last segment, and gives that frame's value; `None` if no frame is left.
+/// Goes on until the next node, which is not passed, or until no frame is left. Whatever the answer, no node is passed.
 /// Without a frame it looks at nothing, so no refusal comes.
 #[cycle(evaluation)]
 pub(crate) fn find_next<'b, F: Functions>(
     scope: &Scope<'_, 'b, F>,
     segments: &[Part],
     frames: &mut Vec<Frame<'b>>,
-) -> Result<Option<&'b Value>, QueryError>
+) -> Result<Option<Found<'b>>, QueryError>
     requires below { parts_bound segments.now ≤ length (nodes_of scope.now) }
     requires sound { SoundSegments scope.now segments.now }
     requires inside { ∥ IsStackIn (top_of scope.now) (frames_view frames.old.items) ∥₁ }
@@ -83,20 +128,31 @@ pub(crate) fn find_next<'b, F: Functions>(
     ensures less { work_left scope.now segments.now (frames_view frames.new.items)
         ≤ work_left scope.now segments.now (frames_view frames.old.items) }
     ensures found { IfOk result (λ found. MatchOption found (frames.new.items ≡ [])
-        (λ value. EndsAt (stages_at (nodes_of scope.now) segments.now) (frames_view frames.new.items) (view value.now))) }
+        (λ f. (0 < length frames.new.items) × IsAtNode scope.now segments.now
+        (frames_view frames.new.items) (option_map step_view f.step) (view f.value.now))) }
     ensures after_end { frames.old.items ≡ [] → result ≡ Ok None }
     ensures stack { (start : Data) → IsStack start (frames_view frames.old.items)
         → IsStack start (frames_view frames.new.items) }
     ensures refused { IfErr result (λ e. WithoutPatterns scope.now → e ≡ Memory) }
 {
-    while let Some(last) = frames.last() {
-        match segments.get(last.segment) {
-            None => return Ok(Some(last.value)),
-            Some(segment) => match last.peek(scope, *segment)? {
-                None => drop_last(frames),
-                Some(peeked) => {
-                    let next = Frame::of(scope.query, segments, peeked.task);
-                    push_over(frames, peeked.frame, next)?;
+    while let Some(last) = frames.len().checked_sub(1) {
+        match segments.get(frames[last].segment) {
+            None => {
+                return Ok(Some(Found {
+                    step: None,
+                    value: frames[last].value,
+                }));
+            }
+            Some(segment) => match frames[last].next_task(scope, *segment)? {
+                None => frames.truncate(last),
+                Some(task) => {
+                    if task.segment >= segments.len() {
+                        return Ok(Some(Found {
+                            step: Some(task.child.step),
+                            value: task.child.value,
+                        }));
+                    }
+                    enter(scope.query, segments, frames, task)?;
                 }
             },
         }

@@ -6,7 +6,7 @@ ghost use Rattle.serde_json_path_core.specs.Frames.{frames_view};
 
 use crate::evaluation::frame::Frame;
 use crate::evaluation::scope::Scope;
-use crate::evaluation::stack::{drop_last, find_next, located_at};
+use crate::evaluation::stack::{find_next, located_at, pass_found};
 use serde_json::Value;
 use serde_json_path_functions::{Functions, QueryError};
 use serde_json_path_nodes::LocatedNode;
@@ -69,9 +69,9 @@ impl<'q, 'b, F: Functions> Walk<'q, 'b, F> {
         let segments = scope.query.segments();
         match find_next(scope, segments, &mut self.frames)? {
             None => Ok(None),
-            Some(value) => {
-                let node = located_at(self.scope.alloc, self.frames.as_slice(), value)?;
-                drop_last(&mut self.frames);
+            Some(found) => {
+                let node = located_at(self.scope.alloc, self.frames.as_slice(), found)?;
+                pass_found(&mut self.frames, found);
                 Ok(Some(node))
             }
         }
@@ -92,9 +92,9 @@ impl<'q, 'b, F: Functions> Walk<'q, 'b, F> {
         let scope = &self.scope;
         match find_next(scope, scope.query.segments(), &mut self.frames)? {
             None => Ok(None),
-            Some(value) => {
-                drop_last(&mut self.frames);
-                Ok(Some(value))
+            Some(found) => {
+                pass_found(&mut self.frames, found);
+                Ok(Some(found.value))
             }
         }
     }

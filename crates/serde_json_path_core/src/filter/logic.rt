@@ -1,21 +1,21 @@
 //! Logical expressions of filters, and the queries in them.
 
-ghost use Rattle.std.specs.Prelude.{◌≡◌, ◌<◌, Some, IfOk, IfErr, length, map, option_map};
+ghost use Rattle.std.specs.Prelude.{◌≡◌, ◌<◌, ◌≤◌, Some, IfOk, IfErr, IfSome, length, map, option_map, slice_get};
 ghost use Rattle.serde_json.specs.View.{view};
 ghost use Rattle.serde_json_path_nodes.specs.Views.{node_value};
-ghost use Rattle.serde_json_path_core.specs.Evaluates.{SoundAnd, SoundBasic, SoundComparable, SoundOr, SoundQuery, and_holds, basic_holds, compared_at, or_holds, results_at, values_at};
+ghost use Rattle.serde_json_path_core.specs.Evaluates.{SoundAnd, SoundBasic, SoundComparable, SoundOr, SoundQuery, SoundSegments, and_holds, basic_holds, compared_at, or_holds, results_at, values_at, values_of_segments};
 ghost use Rattle.serde_json_path_core.specs.Clear.{StandsIn};
 ghost use Rattle.serde_json_path_core.specs.Meaning.{first_value};
-ghost use Rattle.serde_json_path_syntax.specs.Flat.{part_query};
+ghost use Rattle.serde_json_path_syntax.specs.PartBounds.{parts_bound};
 ghost use Rattle.serde_json_path_core.specs.ComparedValues.{compared_view};
-ghost use Rattle.serde_json_path_core.specs.Frames.{frame_view};
-ghost use Rattle.serde_json_path_core.specs.Rest.{starting_frame};
-ghost use Rattle.serde_json_path_core.specs.Scopes.{Clear, WithoutPatterns, nodes_of, top_of};
+ghost use Rattle.serde_json_path_core.specs.SingleChildren.{values_reached};
+ghost use Rattle.serde_json_path_core.specs.Scopes.{Clear, WithoutPatterns, nodes_of, set_of, top_of};
 ghost use Rattle.serde_json_path_functions.specs.declared.error.QueryError.TheVariants.{Memory};
 
 use crate::evaluation::frame::Frame;
 use crate::evaluation::scope::Scope;
-use crate::evaluation::stack::{drop_last, find_next};
+use crate::evaluation::single_children::{Reached, go_down};
+use crate::evaluation::stack::{find_next, pass_found};
 use crate::evaluation::start;
 use crate::filter::call::{answer, answer_holds, compared_answer};
 use crate::filter::compare::compare;
@@ -146,22 +146,48 @@ fn compared<'x, 'q: 'x, 'b: 'x, F: Functions>(
     }
 }
 
-/// The first frame of a query.
-fn first_frame<'b, F: Functions>(
-    scope: &Scope<'_, 'b, F>,
+/// Where a query goes on from its start, after the segments that select one child at most.
+fn reached<'q, 'b, F: Functions>(
+    scope: &Scope<'q, 'b, F>,
     query: Part,
     value: &'b Value,
-) -> Frame<'b>
+) -> Reached<'q, 'b>
     requires below { query.number < length (nodes_of scope.now) }
     requires sound { SoundQuery scope.now query }
-    ensures { frame_view result
-        ≡ starting_frame (top_of scope.now) (part_query (nodes_of scope.now) query) (view value.now) }
+    requires inside { StandsIn (top_of scope.now) (view value.now) }
+    ensures selects { values_at scope.now query (view value.now)
+        ≡ values_reached (set_of scope.now) (top_of scope.now) (nodes_of scope.now) result }
+    ensures below { parts_bound result.segments.now ≤ query.number }
+    ensures sound { SoundSegments scope.now result.segments.now }
+    ensures inside { IfSome result.value (λ v. StandsIn (top_of scope.now) (view v.now)) }
 {
     let start = start(scope.query.part_kind(query), value, scope.root);
-    Frame::start(scope.query, scope.query.part_segments(query), start)
+    go_down(scope.query, scope.query.part_segments(query), start)
 }
 
-/// The value of the first node that a query selects, if there is one.
+/// The value of the first node that segments select from a value, if there is one.
+#[cycle(evaluation)]
+fn first_from<'b, F: Functions>(
+    scope: &Scope<'_, 'b, F>,
+    segments: &[Part],
+    value: &'b Value,
+) -> Result<Option<&'b Value>, QueryError>
+    requires below { parts_bound segments.now ≤ length (nodes_of scope.now) }
+    requires sound { SoundSegments scope.now segments.now }
+    requires inside { StandsIn (top_of scope.now) (view value.now) }
+    ensures means { IfOk result (λ found. Clear scope.now → option_map node_value found
+        ≡ slice_get (values_of_segments scope.now segments.now (view value.now)) 0) }
+    ensures refused { IfErr result (λ e. WithoutPatterns scope.now → e ≡ Memory) }
+{
+    let mut frames = Vec::new(scope.alloc);
+    frames.push(Frame::start(scope.query, segments, value))?;
+    match find_next(scope, segments, &mut frames)? {
+        Some(found) => Ok(Some(found.value)),
+        None => Ok(None),
+    }
+}
+
+/// The value of the first node that a query selects, if there is one. A singular query takes no memory.
 #[cycle(evaluation)]
 pub(crate) fn first<'b, F: Functions>(
     scope: &Scope<'_, 'b, F>,
@@ -175,10 +201,41 @@ pub(crate) fn first<'b, F: Functions>(
         Clear scope.now → option_map node_value found ≡ first_value (results_at scope.now query (view value.now))) }
     ensures refused { IfErr result (λ e. WithoutPatterns scope.now → e ≡ Memory) }
 {
-    let segments = scope.query.part_segments(query);
+    let reached = reached(scope, query, value);
+    match reached.value {
+        None => Ok(None),
+        Some(value) => {
+            if reached.segments.is_empty() {
+                return Ok(Some(value));
+            }
+            first_from(scope, reached.segments, value)
+        }
+    }
+}
+
+/// The values of all nodes that segments select from a value, in order.
+#[cycle(evaluation)]
+fn all_from<'x, 'q: 'x, 'b: 'x, F: Functions>(
+    scope: &Scope<'q, 'b, F>,
+    segments: &[Part],
+    value: &'b Value,
+) -> Result<Vec<&'x Value>, QueryError>
+    requires below { parts_bound segments.now ≤ length (nodes_of scope.now) }
+    requires sound { SoundSegments scope.now segments.now }
+    requires inside { StandsIn (top_of scope.now) (view value.now) }
+    ensures means { IfOk result (λ found. Clear scope.now → map node_value found.items
+        ≡ values_of_segments scope.now segments.now (view value.now)) }
+    ensures refused { IfErr result (λ e. WithoutPatterns scope.now → e ≡ Memory) }
+{
     let mut frames = Vec::new(scope.alloc);
-    frames.push(first_frame(scope, query, value))?;
-    find_next(scope, segments, &mut frames)
+    frames.push(Frame::start(scope.query, segments, value))?;
+    let mut found: Vec<&'x Value> = Vec::new(scope.alloc);
+    'values: while let Some(node) = find_next(scope, segments, &mut frames)? {
+        pass_found(&mut frames, node);
+        let value: &'x Value = node.value;
+        found.push(value)?;
+    }
+    Ok(found)
 }
 
 /// The values of all nodes that a query selects, in order.
@@ -195,14 +252,9 @@ pub(crate) fn all_values<'x, 'q: 'x, 'b: 'x, F: Functions>(
         Clear scope.now → map node_value found.items ≡ values_at scope.now query (view value.now)) }
     ensures refused { IfErr result (λ e. WithoutPatterns scope.now → e ≡ Memory) }
 {
-    let segments = scope.query.part_segments(query);
-    let mut frames = Vec::new(scope.alloc);
-    frames.push(first_frame(scope, query, value))?;
-    let mut found: Vec<&'x Value> = Vec::new(scope.alloc);
-    'values: while let Some(node) = find_next(scope, segments, &mut frames)? {
-        drop_last(&mut frames);
-        let node: &'x Value = node;
-        found.push(node)?;
+    let reached = reached(scope, query, value);
+    match reached.value {
+        None => Ok(Vec::new(scope.alloc)),
+        Some(value) => all_from(scope, reached.segments, value),
     }
-    Ok(found)
 }

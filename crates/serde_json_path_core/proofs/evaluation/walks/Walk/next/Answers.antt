@@ -1,18 +1,19 @@
-use Rattle.std.proofs.Common.{[], rules, arith, ◌∷◌, sym, ap, ◌∙◌}
+use Rattle.std.proofs.Common.{◌∷◌, rules, arith, sym, ap, subst, ◌∙◌, ◌<◌, option_map}
 use Rattle.std.proofs.Math.Logic.{∥∥₁_map}
 use Rattle.serde_json.specs.View.{view}
-use Rattle.serde_json_path_syntax.specs.Tree.{segments_of}
+use Rattle.serde_json_path_nodes.specs.Views.{step_view}
 use Rattle.serde_json_path_syntax.specs.Flat.{segments_at}
 use Rattle.serde_json_path_syntax.specs.Parts.{nodes_in, signatures_of}
 use Rattle.serde_json_path_core.specs.Walks.{set_of, query_of, document_of}
-use Rattle.serde_json_path_core.specs.Rest.{IsStackIn, rest_of, stack_path}
+use Rattle.serde_json_path_core.specs.Rest.{rest_of, IsStack, IsStackIn}
 use Rattle.serde_json_path_syntax.specs.Stages.{stages, stages_at}
 use Rattle.serde_json_path_core.specs.Frames.{frames_view}
 use Rattle.serde_json_path_core.proofs.Sound.Parts.{sound-segments}
 use Rattle.serde_json_path_core.proofs.Walks.InDocument.{root_stands}
 use Rattle.serde_json_path_core.proofs.Sound.WholeQueries.{whole-sound}
 use Rattle.serde_json_path_core.proofs.Steps.KnownCases.{found-none, found-some, if-err}
-use Rattle.serde_json_path_core.proofs.Walks.LastFrameDone.{rest-ends, stack-dropped, work-ends}
+use Rattle.serde_json_path_syntax.specs.Tree.{segments_of}
+use Rattle.serde_json_path_core.specs.Rest.{node_at, work}
 use Rattle.serde_json_path_core.proofs.evaluation.walks.Walk.next.Goals as goal
 
 pub find_next-requires : goal.find_next-requires
@@ -23,21 +24,21 @@ find_next-requires g c =
     let inside : ∥ IsStackIn (document_of w) (frames_view w.frames.items) ∥₁ = ∥∥₁_map w.stack (λ h. (document_of w, root_stands (document_of w), h)) in
     search rules
 
+pub pass_found-requires : goal.pass_found-requires
+pass_found-requires g c = (found-some _ _ c.in_ok-find_next.field-0 c.in-Some.found c.in-Some.is c.in_ok-find_next.ensures.found).0
+
 pub invariant_of-self : goal.invariant_of-self
 invariant_of-self g c = record { stack = ∥∥₁_map c.args.self.now.stack (c.find_next.ensures.stack (view c.args.self.now.scope.root.now)) }
-
-pub invariant_of-self-in-Break-branch-3 : goal.invariant_of-self-in-Break-branch-3
-invariant_of-self-in-Break-branch-3 g c = record { stack = ∥∥₁_map c.args.self.now.stack (c.find_next.ensures.stack (view c.args.self.now.scope.root.now)) }
 
 pub invariant_of-self-in-Some : goal.invariant_of-self-in-Some
 invariant_of-self-in-Some g c =
     let w = c.args.self.now in
-    let ends = found-some _ _ c.in_ok-find_next.field-0 c.in-Some.value c.in-Some.is c.in_ok-find_next.ensures.found in
-    record {
-      stack = ∥∥₁_map w.stack (λ h.
-          stack-dropped (stages_at (nodes_in w.scope.query.now) c.segments-segments.result.now) c.find_next.new.frames.items (view c.in-Some.value.now) ends (view w.scope.root.now) c.drop_last.new.frames.items c.drop_last.ensures
-          (c.find_next.ensures.stack (view w.scope.root.now) h));
-    }
+    let start = view w.scope.root.now in
+    let at = found-some _ _ c.in_ok-find_next.field-0 c.in-Some.found c.in-Some.is c.in_ok-find_next.ensures.found in
+    record { stack = ∥∥₁_map w.stack (λ h. subst (IsStack start) (sym c.pass_found.ensures) (at.1.2 start (c.find_next.ensures.stack start h))) }
+
+pub invariant_of-self-in-Break-branch-3 : goal.invariant_of-self-in-Break-branch-3
+invariant_of-self-in-Break-branch-3 g c = record { stack = ∥∥₁_map c.args.self.now.stack (c.find_next.ensures.stack (view c.args.self.now.scope.root.now)) }
 
 pub returns-in_err-find_next-clause-unchanged : goal.returns-in_err-find_next-clause-unchanged
 returns-in_err-find_next-clause-unchanged g c =
@@ -59,18 +60,20 @@ returns-in-None-clause-given g c =
 pub returns-in_ok-node-in-Some-clause-given : goal.returns-in_ok-node-in-Some-clause-given
 returns-in_ok-node-in-Some-clause-given g c =
     let w = c.args.self.now in
-    let all = stages_at (nodes_in w.scope.query.now) c.segments-segments.result.now in
-    let left = c.drop_last.new.frames.items in
-    let ends = found-some _ _ c.in_ok-find_next.field-0 c.in-Some.value c.in-Some.is c.in_ok-find_next.ensures.found in
-    let node = c.in_ok-node-in-Some.ensures.node ∙ ap (λ frames. record { location = stack_path [] (frames_view frames); value = view c.in-Some.value.now }) c.as_slice.ensures.value in
+    let rest = rest_of (set_of w) (document_of w) (stages_at (nodes_in w.scope.query.now) c.segments-segments.result.now) in
+    let found = c.in-Some.found in
+    let frames = c.find_next.new.frames.items in
+    let at = found-some _ _ c.in_ok-find_next.field-0 found c.in-Some.is c.in_ok-find_next.ensures.found in
+    let node = c.in_ok-node-in-Some.ensures.node ∙ ap (λ fs. node_at (frames_view fs) (option_map step_view found.step) (view found.value.now)) c.as_slice.ensures.value in
     λ clear. rw (← c.segments-segments.ensures.tree)
-    (c.find_next.ensures.rest clear ∙ rest-ends all c.find_next.new.frames.items (view c.in-Some.value.now) ends (set_of w) (document_of w) left c.drop_last.ensures
-    ∙ ap (λ n. n ∷ rest_of (set_of w) (document_of w) all (frames_view left)) (sym node))
+    (c.find_next.ensures.rest clear ∙ at.1.0 clear
+    ∙ ap (λ left. node_at (frames_view frames) (option_map step_view found.step) (view found.value.now) ∷ rest left) (sym c.pass_found.ensures)
+    ∙ ap (λ n. n ∷ rest (frames_view c.pass_found.new.frames.items)) (sym node))
 
 pub returns-in_ok-node-in-Some-clause-nearer : goal.returns-in_ok-node-in-Some-clause-nearer
 returns-in_ok-node-in-Some-clause-nearer g c =
-    let ends = found-some _ _ c.in_ok-find_next.field-0 c.in-Some.value c.in-Some.is c.in_ok-find_next.ensures.found in
-    let fewer =
-    work-ends (stages_at (nodes_in c.args.self.now.scope.query.now) c.segments-segments.result.now) c.find_next.new.frames.items (view c.in-Some.value.now) ends c.drop_last.new.frames.items c.drop_last.ensures in
+    let all = stages_at (nodes_in c.args.self.now.scope.query.now) c.segments-segments.result.now in
+    let at = found-some _ _ c.in_ok-find_next.field-0 c.in-Some.found c.in-Some.is c.in_ok-find_next.ensures.found in
+    let fewer = subst (λ left. work all left < work all (frames_view c.find_next.new.frames.items)) (sym c.pass_found.ensures) at.1.1 in
     let less = c.find_next.ensures.less in
     rw (← c.segments-segments.ensures.tree) (omega arith)

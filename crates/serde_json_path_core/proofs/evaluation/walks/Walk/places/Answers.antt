@@ -4,7 +4,7 @@ use Rattle.serde_json.specs.View.{view}
 use Rattle.serde_json_path_core.specs.Height.{height}
 use Rattle.serde_json_path_core.specs.Frames.{frame_view, frames_view}
 use Rattle.serde_json_path_core.proofs.Walks.Chains.{stack-height}
-use Rattle.serde_json_path_core.proofs.Walks.LastFrameDone.{at_most}
+use Rattle.serde_json_path_core.proofs.Walks.Heights.{at_most}
 use Rattle.serde_json_path_core.proofs.evaluation.walks.Walk.places.Goals as goal
 
 pub returns-clause-within : goal.returns-clause-within

@@ -1,0 +1,132 @@
+-- A query goes down by segments that select one child at most: the values that it selects stay.
+use Rattle.std.specs.Prelude.{IfSome}
+use Rattle.std.proofs.Common.{◌≡◌, ℕ, ◌+◌, ◌<◌, List, [], ◌∷◌, ◌++◌, ◌-◌, ◌≤◌, map, take, drop, flat_map, length, get_or, arith, subst, inl, Option, Some, None, option_to_list, slice_get, refl, sym, ap, ◌∙◌}
+use Rattle.std.proofs.lemmas.Option.{none-some, same_Some}
+use Rattle.std.proofs.lemmas.List.{append-nil, drop_more, length-drop, take-append-drop, take_all}
+use Rattle.std.proofs.lemmas.List.Folds.{flat_map-map}
+use Rattle.serde_json.specs.Data.{Data}
+use Rattle.serde_json_path_nodes.specs.Location.{Step, Located}
+use Rattle.serde_json_path_functions.specs.Functions.{FunctionSet}
+use Rattle.serde_json_path_syntax.specs.Tree.{Query, query, kind_of, segments_of, Segments, no_segments, segment, SegmentKind, child, descendant, Segment, Selector}
+use Rattle.serde_json_path_syntax.specs.Stages.{stage_at, stage_of, Stage}
+use Rattle.serde_json_path_syntax.specs.Flat.{piece_at, segment_in, segment_kind_in, segments_at}
+use Rattle.serde_json_path_syntax.specs.declared.node.Node.{Node}
+use Rattle.serde_json_path_syntax.specs.declared.node.Part.{Part}
+use Rattle.serde_json_path_syntax.proofs.Lists.InLists.{flat_map-same, map-flat_map}
+use Rattle.serde_json_path_core.specs.Computed.{chosen, descents, itself, placed, reached, results, results_from}
+use Rattle.serde_json_path_core.specs.Derivation.{start_of}
+use Rattle.serde_json_path_core.specs.Meaning.{first_value}
+use Rattle.serde_json_path_core.specs.Rest.{admitted, candidates, AreChildrenOf, EndsIn}
+use Rattle.serde_json_path_syntax.specs.Lists.{IsIn}
+use Rattle.serde_json_path_nodes.specs.Location.{child_at}
+use Rattle.serde_json_path_core.proofs.Walks.FrameSteps.{candidates-of}
+use Rattle.serde_json_path_core.specs.Selected.{beneath}
+use Rattle.serde_json_path_core.specs.SingleChildren.{single_view, values_from}
+use Rattle.serde_json_path_core.specs.declared.evaluation.single_children.SingleSelector.{SingleSelector}
+use Rattle.serde_json_path_core.specs.declared.evaluation.single_children.SingleSelector.TheVariants as single
+use Rattle.serde_json_path_core.proofs.Walks.Started.{chosen-list}
+
+abbrev value_of : Located → Data
+value_of n = n.value
+
+values-beneath : (above : List Step) (ns : List Located) → map value_of (map (beneath above) ns) ≡ map value_of ns
+values-beneath above [] = refl
+values-beneath above (n ∷ ns) = ap (λ more. n.value ∷ more) (values-beneath above ns)
+
+-- the values of a node, and of those below it that a segment goes down to, depend on its value alone
+values-reached : (kind : SegmentKind) (n : Located) → map value_of (reached kind (itself n.value)) ≡ map value_of (reached kind n)
+values-reached child n = refl
+values-reached descendant n = values-beneath [] (descents n.value) ∙ sym (values-beneath n.location (descents n.value))
+
+-- a list of one selector
+alone : (sels : List Selector) (sel : Selector) → slice_get sels 0 ≡ Some sel → slice_get sels 1 ≡ None → sels ≡ sel ∷ []
+alone [] sel some none = absurd (none-some sel some)
+alone (first ∷ []) sel some none = ap (λ s. s ∷ []) (same_Some first sel some)
+alone (first ∷ second ∷ more) sel some none = absurd (none-some second (sym none))
+
+-- some parts end with those from that one on
+pub ends-at : {A : Type 0} (xs : List A) (i : ℕ) → EndsIn xs (take (length xs - i) (drop i xs))
+ends-at xs i =
+    let long : length (drop i xs) ≤ length xs - i = let e = length-drop i xs in omega arith in
+    (take i xs, sym (take-append-drop i xs) ∙ ap (λ ys. take i xs ++ ys) (sym (take_all (length xs - i) (drop i xs) long)))
+
+-- the child that a selector selects is a child
+pub child-selected : (s : SingleSelector) (v : Data) (c : Step × Data) → c ∷ [] ≡ candidates (single_view s) v → child_at v c.0 ≡ Some c.1
+unfolding AreChildrenOf
+child-selected s v c e = candidates-of (single_view s) v c (subst (IsIn c) e (inl refl))
+
+-- a child segment of one selector is that of a name or an index, if this is the selector
+pub only_stage : (stage : Stage) (sel : Selector) (single : Option SingleSelector) → stage.kind ≡ child → slice_get stage.selectors 0 ≡ Some sel → slice_get stage.selectors 1 ≡ None
+    → IfSome single (λ s. sel ≡ single_view s) → IfSome single (λ s. stage ≡ record { kind = child; selectors = single_view s ∷ [] })
+only_stage stage sel None kind some none is = tt
+only_stage stage sel (Some s) kind some none is = let sels = alone stage.selectors sel some none ∙ ap (λ x. x ∷ []) is in λ i. record { kind = kind i; selectors = sels i }
+
+module _ (F : FunctionSet) (top : Data) where
+  -- the values that come of the children that a segment selects
+  abbrev of_children : Segment → Segments → Data → List Data
+  of_children seg more v = flat_map (λ (c : Step × Data). values_from F top more c.1) (chosen F top seg v)
+
+  from_node : (kind : SegmentKind) (seg : Segment) (more : Segments) → ((n : Located) → map value_of (results_from F top more n) ≡ values_from F top more n.value) → (n : Located)
+      → map value_of (results_from F top (segment kind seg more) n) ≡ flat_map (of_children seg more) (map value_of (reached kind n))
+  from_node kind seg more anywhere n =
+      map-flat_map value_of (λ m. flat_map (results_from F top more) (map (placed m.location) (chosen F top seg m.value))) (reached kind n)
+      ∙ flat_map-same (λ m. map value_of (flat_map (results_from F top more) (map (placed m.location) (chosen F top seg m.value)))) (λ m. of_children seg more m.value)
+      (λ m. map-flat_map value_of (results_from F top more) (map (placed m.location) (chosen F top seg m.value))
+      ∙ flat_map-map (λ x. map value_of (results_from F top more x)) (placed m.location) (chosen F top seg m.value)
+      ∙ flat_map-same (λ c. map value_of (results_from F top more (placed m.location c))) (λ c. values_from F top more c.1) (λ c. anywhere (placed m.location c)) (chosen F top seg m.value))
+      (reached kind n)
+      ∙ sym (flat_map-map (of_children seg more) value_of (reached kind n))
+
+  -- where a node is has no bearing on the values that segments select from it
+  pub values-anywhere : (segs : Segments) (n : Located) → map value_of (results_from F top segs n) ≡ values_from F top segs n.value
+  values-anywhere no_segments n = refl
+  values-anywhere (segment kind seg more) n =
+      from_node kind seg more (λ m. values-anywhere more m) n
+      ∙ ap (flat_map (of_children seg more)) (sym (values-reached kind n))
+      ∙ sym (from_node kind seg more (λ m. values-anywhere more m) (itself n.value))
+
+  -- the values that come of a child, if there is one
+  abbrev pub of_child : Segments → Option (Step × Data) → List Data
+  of_child more None = []
+  of_child more (Some c) = values_from F top more c.1
+
+  plain : (s : SingleSelector) (cs : List (Step × Data)) → admitted F top (single_view s) cs ≡ cs
+  plain (single.Name k) cs = refl
+  plain (single.Index i) cs = refl
+
+  child_only : (more : Segments) (found : Option (Step × Data)) → flat_map (λ (c : Step × Data). values_from F top more c.1) (option_to_list found) ≡ of_child more found
+  child_only more None = refl
+  child_only more (Some c) = append-nil (values_from F top more c.1)
+
+  -- a child segment of one name or one index
+  pub values-single : (kind : SegmentKind) (seg : Segment) (more : Segments) (v : Data) (s : SingleSelector) (found : Option (Step × Data))
+      → stage_of kind seg ≡ record { kind = child; selectors = single_view s ∷ [] } → option_to_list found ≡ candidates (single_view s) v
+      → values_from F top (segment kind seg more) v ≡ of_child more found
+  values-single kind seg more v s found is_single is =
+      from_node kind seg more (λ m. values-anywhere more m) (itself v)
+      ∙ ap (λ k. flat_map (of_children seg more) (map value_of (reached k (itself v)))) (ap (λ (stage : Stage). stage.kind) is_single)
+      ∙ append-nil (of_children seg more v)
+      ∙ ap (flat_map (λ (c : Step × Data). values_from F top more c.1))
+      (sym (chosen-list F top seg v)
+      ∙ ap (flat_map (λ sel. admitted F top sel (candidates sel v))) (ap (λ (stage : Stage). stage.selectors) is_single)
+      ∙ append-nil (admitted F top (single_view s) (candidates (single_view s) v))
+      ∙ plain s (candidates (single_view s) v)
+      ∙ sym is)
+      ∙ child_only more found
+
+  -- one part more of so many
+  pub goes_down : (nodes : List Node) (parts : List Part) (i : ℕ) (part : Part) (v : Data) (s : SingleSelector) (found : Option (Step × Data)) → i < length parts → part ≡ get_or parts i part
+      → stage_at nodes part ≡ record { kind = child; selectors = single_view s ∷ [] } → option_to_list found ≡ candidates (single_view s) v
+      → values_from F top (segments_at nodes (drop i parts)) v ≡ of_child (segments_at nodes (drop (i + 1) parts)) found
+  goes_down nodes parts i part v s found within is stage selects =
+      ap (λ ps. values_from F top (segments_at nodes ps) v) (drop_more parts i part within ∙ ap (λ p. p ∷ drop (i + 1) parts) (sym is))
+      ∙ values-single (segment_kind_in (piece_at nodes part.number)) (segment_in (piece_at nodes part.number)) (segments_at nodes (drop (i + 1) parts)) v s found stage selects
+
+  -- a query's values are those that its segments select from its start
+  pub values-query : (q : Query) (v start : Data) (segs : Segments) → segs ≡ segments_of q → start ≡ start_of (kind_of q) top v → map value_of (results F top q v) ≡ values_from F top segs start
+  values-query (query kind more) v start segs e s = sym (ap (λ x. values_from F top x start) e ∙ ap (values_from F top more) s)
+
+-- the first value of nodes is the first of their values
+pub first-of-values : (ns : List Located) → first_value ns ≡ slice_get (map value_of ns) 0
+first-of-values [] = refl
+first-of-values (n ∷ ns) = refl

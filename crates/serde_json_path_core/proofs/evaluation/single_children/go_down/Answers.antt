@@ -1,0 +1,62 @@
+use Rattle.std.proofs.Common.{get_or, None, Some, ◌∙◌, arith}
+use Rattle.std.proofs.lemmas.List.{get_or_default}
+use Rattle.serde_json.specs.View.{view}
+use Rattle.serde_json_path_syntax.specs.Flat.{pieces}
+use Rattle.serde_json_path_syntax.specs.Parts.{nodes_in}
+use Rattle.serde_json_path_syntax.specs.declared.node.Part.{Part}
+use Rattle.serde_json_path_syntax.proofs.Tree.BoundedParts.{within_get}
+use Rattle.serde_json_path_syntax.proofs.Typing.TypedParts.{typed_segment}
+use Rattle.serde_json_path_core.specs.Views.{child_view}
+use Rattle.serde_json_path_core.proofs.Walks.InDocument.{child_stands}
+use Rattle.serde_json_path_core.proofs.Walks.SingleChildren.{child-selected, ends-at, goes_down}
+use Rattle.serde_json_path_core.proofs.evaluation.single_children.go_down.Goals as goal
+
+pub only_selector-requires-clause-within : goal.only_selector-requires-clause-within
+only_selector-requires-clause-within c =
+    let below = within_get c.args.segments.now c.loop-passed.passed (record { number = 0 }) c.loop-passed-test.true in
+    let most = c.requires.within in
+    omega arith
+
+pub only_selector-requires-clause-typed : goal.only_selector-requires-clause-typed
+only_selector-requires-clause-typed c =
+    let parts = c.args.segments.now in
+    let i = c.loop-passed.passed in
+    let first : Part = record { number = 0 } in
+    let signature = c.requires.typed.0 in (
+      signature,
+      typed_segment signature (pieces (nodes_in c.args.query.now)) parts i (get_or parts i first) c.loop-passed-test.true
+          (get_or_default parts i first (get_or parts i first) c.loop-passed-test.true) c.requires.typed.1,
+    )
+
+pub returns-in_default-clause-ends : goal.returns-in_default-clause-ends
+returns-in_default-clause-ends c = ends-at c.args.segments.now c.loop-passed.passed
+
+pub returns-in-None-clause-ends : goal.returns-in-None-clause-ends
+returns-in-None-clause-ends c = ends-at c.args.segments.now c.loop-passed.passed
+
+pub returns-clause-ends : goal.returns-clause-ends
+returns-clause-ends c = ends-at _ _
+
+pub returns-in-None-clause-selects : goal.returns-in-None-clause-selects
+returns-in-None-clause-selects c = λ F top.
+    let parts = c.args.segments.now in
+    let i = c.loop-passed.passed in
+    let first : Part = record { number = 0 } in
+    c.loop-passed.invariant.selects F top
+    ∙ goes_down F top (nodes_in c.args.query.now) parts i (get_or parts i first) (view c.loop-passed.reached.now) c.in-Some.selector None c.loop-passed-test.true
+    (get_or_default parts i first (get_or parts i first) c.loop-passed-test.true) c.in-Some.ensures c.in-None.ensures
+
+pub loop-passed-preserved : goal.loop-passed-preserved
+loop-passed-preserved c =
+    let parts = c.args.segments.now in
+    let i = c.loop-passed.passed in
+    let first : Part = record { number = 0 } in
+    let child = child_view c.in-Some-select.child in
+    record {
+      selects = λ F top.
+          c.loop-passed.invariant.selects F top
+          ∙ goes_down F top (nodes_in c.args.query.now) parts i (get_or parts i first) (view c.loop-passed.reached.now) c.in-Some.selector (Some child) c.loop-passed-test.true
+          (get_or_default parts i first (get_or parts i first) c.loop-passed-test.true) c.in-Some.ensures c.in-Some-select.ensures;
+      inside = λ top stands.
+          child_stands top (view c.loop-passed.reached.now) child.0 child.1 (child-selected c.in-Some.selector (view c.loop-passed.reached.now) child c.in-Some-select.ensures) (c.loop-passed.invariant.inside top stands);
+    }

@@ -1,0 +1,18 @@
+use Rattle.std.proofs.Common.{◌-◌, ◌++◌, ◌∷◌, [], Bool, List, Some, drop, ap, sym, ◌∙◌, cond}
+use Rattle.serde_json_path_syntax.specs.Parts.{nodes_in}
+use Rattle.serde_json_path_syntax.specs.Stages.{stages_at}
+use Rattle.serde_json_path_core.specs.Frames.{frames_view, task_view}
+use Rattle.serde_json_path_core.specs.Rest.{entered, last_passed, Frame}
+use Rattle.serde_json_path_core.proofs.Walks.LastFrames.{sees_passed_below}
+use Rattle.serde_json_path_core.proofs.evaluation.stack.enter.Goals as goal
+
+pub returns-clause-ok : goal.returns-clause-ok
+returns-clause-ok c =
+    let frames = c.args.frames.now in
+    let front = last_passed (frames_view frames.items) in
+    let all = stages_at (nodes_in c.args.query.now) c.args.segments.now in
+    let task = task_view c.args.task in
+    let with_leaf : Bool → List Frame = λ leaf. front ++ cond leaf [] (entered (Some task.1.0) task.0 (drop task.0 all) task.1.1 ∷ []) in
+    sees_passed_below frames.items c.push.new.self.items (c.len-last.result - 1) c.index_mut.result.now c.pass.new.self c.of.result c.requires.some c.in_ok-push.ensures.items
+    (ap (λ n. n - 1) (c.len-last.ensures ∙ frames.ok.0)) c.index_mut.ensures.value c.pass.ensures
+    ∙ ap (λ q. front ++ q ∷ []) c.of.ensures ∙ ap with_leaf (sym c.if-is_leaf.false ∙ c.is_leaf.ensures)

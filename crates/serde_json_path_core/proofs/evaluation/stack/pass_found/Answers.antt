@@ -1,0 +1,15 @@
+use Rattle.std.proofs.Common.{◌-◌, take, option_map, ap, sym, ◌∙◌}
+use Rattle.std.proofs.lemmas.List.{length-map}
+use Rattle.std.specs.List.{take-map}
+use Rattle.serde_json_path_nodes.specs.Views.{step_view}
+use Rattle.serde_json_path_core.specs.Frames.{frame_view, frames_view}
+use Rattle.serde_json_path_core.specs.Rest.{without_node}
+use Rattle.serde_json_path_core.proofs.evaluation.stack.pass_found.Goals as goal
+
+pub returns-in-None : goal.returns-in-None
+returns-in-None c =
+    let frames = c.args.frames.now in
+    let seen = frames_view frames.items in
+    ap frames_view c.truncate.ensures.items ∙ sym (take-map frame_view (c.len.result - 1) frames.items)
+    ∙ ap (λ n. take (n - 1) seen) (c.len.ensures ∙ frames.ok.0 ∙ sym (length-map frames.items frame_view))
+    ∙ ap (λ step. without_node seen (option_map step_view step)) (sym c.in-None.is)

@@ -1,0 +1,8 @@
+use Rattle.std.proofs.Common.{◌-◌, ap, ◌∙◌}
+use Rattle.serde_json_path_core.proofs.Walks.LastFrames.{sees_passed}
+use Rattle.serde_json_path_core.proofs.evaluation.stack.pass_last.Goals as goal
+
+pub returns : goal.returns
+returns c =
+    let frames = c.args.frames.now in
+    sees_passed frames.items (c.len-last.result - 1) c.index_mut.result.now c.pass.new.self c.requires (ap (λ n. n - 1) (c.len-last.ensures ∙ frames.ok.0)) c.index_mut.ensures.value c.pass.ensures

@@ -1,0 +1,120 @@
+//! Going down by segments that select one child at most, without a frame.
+
+ghost use Rattle.std.specs.Prelude.{◌≡◌, ◌∷◌, [], ◌≤◌, ◌<◌, List, IfSome, length, option_map, option_to_list};
+ghost use Rattle.serde_json.specs.Data.{Data};
+ghost use Rattle.serde_json.specs.View.{view};
+ghost use Rattle.serde_json_path_functions.specs.Functions.{FunctionSet};
+ghost use Rattle.serde_json_path_syntax.specs.Flat.{segment_at, segments_at};
+ghost use Rattle.serde_json_path_syntax.specs.Parts.{nodes_in};
+ghost use Rattle.serde_json_path_syntax.specs.PartBounds.{parts_bound};
+ghost use Rattle.serde_json_path_syntax.specs.Stages.{selector_view, stage_at};
+ghost use Rattle.serde_json_path_syntax.specs.declared.node.Node.{Node};
+ghost use Rattle.serde_json_path_syntax.specs.Tree.{child};
+ghost use Rattle.serde_json_path_syntax.specs.Typing.{AreTypedSegments, IsTypedSegment, UnderSome};
+ghost use Rattle.serde_json_path_core.specs.Clear.{StandsIn};
+ghost use Rattle.serde_json_path_core.specs.Rest.{candidates, EndsIn};
+ghost use Rattle.serde_json_path_core.specs.SingleChildren.{single_view, values_from, values_reached};
+ghost use Rattle.serde_json_path_core.specs.Views.{child_view};
+
+use crate::child::{Child, item, member};
+use serde_json::Value;
+use serde_json_path_syntax::{Checked, Part, SegmentKind, SelectorRef};
+
+/// A selector of one child at most.
+#[derive(Clone, Copy)]
+pub(crate) enum SingleSelector<'q> {
+    /// The member of that name.
+    Name(&'q str),
+    /// The item at that index.
+    Index(i64),
+}
+
+/// Where a query goes on, after segments that select one child at most.
+#[derive(Clone, Copy)]
+pub(crate) struct Reached<'q, 'b> {
+    /// The segments that are left.
+    pub(crate) segments: &'q [Part],
+    /// The value at which they begin; `None` if a child is missing, so that nothing is selected.
+    pub(crate) value: Option<&'b Value>,
+}
+
+/// A name or an index; `None` for any other selector.
+fn name_or_index(selector_ref: SelectorRef<'_>) -> Option<SingleSelector<'_>>
+    ensures { (nodes : List Node) → IfSome result (λ single.
+        selector_view nodes selector_ref.entry ≡ single_view single) }
+{
+    match selector_ref {
+        SelectorRef::Name(name) => Some(SingleSelector::Name(name)),
+        SelectorRef::Index(index) => Some(SingleSelector::Index(index)),
+        SelectorRef::Wildcard | SelectorRef::Slice(_) | SelectorRef::Filter(_) => None,
+    }
+}
+
+/// The selector of a child segment that is one name or one index; `None` for any other segment.
+fn only_selector(query: &Checked, segment: Part) -> Option<SingleSelector<'_>>
+    requires within { segment.number < length (nodes_in query.now) }
+    requires typed { UnderSome IsTypedSegment (segment_at (nodes_in query.now) segment) }
+    ensures { IfSome result (λ single. stage_at (nodes_in query.now) segment
+        ≡ record { kind = child; selectors = single_view single ∷ [] }) }
+{
+    match query.segment_kind(segment) {
+        SegmentKind::Descendant => None,
+        SegmentKind::Child => match query.selector_ref(segment, 0) {
+            None => None,
+            Some(first) => match query.selector_ref(segment, 1) {
+                None => name_or_index(first),
+                Some(_) => None,
+            },
+        },
+    }
+}
+
+/// The child that a selector selects, if there is one.
+fn select<'b>(single: SingleSelector<'_>, value: &'b Value) -> Option<Child<'b>>
+    ensures { option_to_list (option_map child_view result)
+        ≡ candidates (single_view single.entry) (view value.now) }
+{
+    match single {
+        SingleSelector::Name(name) => member(value, name),
+        SingleSelector::Index(index) => item(value, index),
+    }
+}
+
+/// Goes down by the first of these segments, as long as each selects one child at most.
+pub(crate) fn go_down<'q, 'b>(
+    query: &Checked,
+    segments: &'q [Part],
+    value: &'b Value,
+) -> Reached<'q, 'b>
+    requires within { parts_bound segments.now ≤ length (nodes_in query.now) }
+    requires typed { UnderSome AreTypedSegments (segments_at (nodes_in query.now) segments.now) }
+    ensures selects { (F : FunctionSet) (top : Data)
+        → values_from F top (segments_at (nodes_in query.now) segments.now) (view value.now)
+        ≡ values_reached F top (nodes_in query.now) result }
+    ensures ends { EndsIn segments.now result.segments.now }
+    ensures inside { (top : Data) → StandsIn top (view value.now)
+        → IfSome result.value (λ v. StandsIn top (view v.now)) }
+{
+    let mut reached = value;
+    for (passed, segment) in segments.iter().enumerate() {
+        let Some(selector) = only_selector(query, *segment) else {
+            return Reached {
+                segments: &segments[passed..],
+                value: Some(reached),
+            };
+        };
+        match select(selector, reached) {
+            Some(child) => reached = child.value,
+            None => {
+                return Reached {
+                    segments: &segments[passed..],
+                    value: None,
+                };
+            }
+        }
+    }
+    Reached {
+        segments: &segments[segments.len()..],
+        value: Some(reached),
+    }
+}
