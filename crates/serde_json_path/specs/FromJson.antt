@@ -1,7 +1,9 @@
 -- What reading a path from a JSON value answers.
-use Rattle.std.specs.Prelude.{◌≡◌, Result, Ok, Err}
+use Rattle.std.specs.Prelude.{◌≡◌, ◌++◌, ℕ, List, Result, Ok, Err, codes}
+use Rattle.std.specs.Fmt.{decimal}
 use Rattle.serde_json.specs.Data.{Data, string}
 use Rattle.serde_json_path_functions.specs.Patterns.{builtin_functions}
+use Rattle.serde_json_path_parser.specs.Errors.{message_of, position_of}
 use Rattle.serde_json_path_parser.specs.Parse.{IsParseOf}
 use Rattle.serde_json_path.specs.Paths.{path_view}
 use Rattle.serde_json_path.specs.declared.path.JsonPath.{JsonPath}
@@ -14,3 +16,8 @@ IsReadFrom (string text) (Ok path) = IsParseOf path_view builtin_functions.signa
 IsReadFrom (string text) (Err (Path e)) = IsParseOf path_view builtin_functions.signature text (Err e)
 IsReadFrom (string text) (Err NotAString) = ⊥
 IsReadFrom value answer = answer ≡ Err NotAString
+
+-- what the error prints: that of the parse, where the string is refused
+abbrev pub from_json_error_text : FromJsonError → List ℕ
+from_json_error_text NotAString = codes "not a string"
+from_json_error_text (Path e) = codes "at position " ++ (decimal (position_of e) ++ (codes ", " ++ message_of e))

@@ -1,6 +1,6 @@
 //! Paths as strings of JSON documents.
 
-ghost use Rattle.std.specs.Prelude.{◌≡◌, IfOk};
+ghost use Rattle.std.specs.Prelude.{◌≡◌, Some, IfOk};
 ghost use Rattle.serde_json.specs.Data.{string};
 ghost use Rattle.serde_json.specs.View.{view};
 ghost use Rattle.serde_json_path_functions.specs.Functions.{Fits};
@@ -11,17 +11,29 @@ use crate::path::JsonPath;
 use serde_json::Value;
 use serde_json_path_parser::ParseError;
 use std::alloc::{AllocError, Global};
-use thiserror::Error;
+use std::fmt;
+use std::fmt::Write;
 
 /// Why a JSON value is not read as a path.
-#[derive(Clone, Copy, Debug, PartialEq, Eq, Error)]
+#[derive(Clone, Copy, Debug, PartialEq, Eq)]
 pub enum FromJsonError {
     /// The value is not a string.
-    #[error("not a string")]
     NotAString,
     /// The string is refused as a path.
-    #[error("{0}")]
     Path(ParseError),
+}
+
+impl fmt::Display for FromJsonError {
+    ghost use Rattle.serde_json_path.specs.FromJson.{from_json_error_text};
+
+    ghost output = { λ e. Some (from_json_error_text e) };
+
+    fn fmt<W: fmt::Write>(&self, f: &mut fmt::Formatter<W>) -> fmt::Result {
+        match self {
+            FromJsonError::NotAString => f.write_str("not a string"),
+            FromJsonError::Path(e) => write!(f, "{e}"),
+        }
+    }
 }
 
 impl JsonPath {

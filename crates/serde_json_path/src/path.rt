@@ -146,8 +146,8 @@ impl JsonPath {
         evaluate_located(alloc, &self.checked, value, Both(functions, Builtin))
     }
 
-    /// The nodes that the path selects from a document, in order, without their locations. It fails in the same
-    /// cases as `query_located`.
+    /// The nodes that the path selects from a document, in order, without their locations. Errors are as those of
+    /// `query_located`.
     ///
     /// ```text
     /// let path = JsonPath::parse(alloc, "$..book[-1:].title")?;
@@ -163,7 +163,7 @@ impl JsonPath {
     }
 
     /// The nodes that the path selects from a document, in order, without their locations. The path must fit the set
-    /// combined with the built-in functions (see `fits`). It fails in the same cases as `query_located_with`.
+    /// combined with the built-in functions (see `fits`). Errors are as those of `query_located_with`.
     pub fn query_with<'b, F: Functions>(
         &self,
         alloc: Global,

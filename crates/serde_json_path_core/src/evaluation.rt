@@ -43,7 +43,7 @@ pub(crate) fn start<'b>(kind: QueryKind, node: &'b Value, root: &'b Value) -> &'
 ///
 /// The nodes and the names of their locations borrow the document. An error comes only where memory is refused.
 ///
-/// At every moment the query's stack has at most one frame more than the document is high ([`Walk::places`]). Each query in
+/// Between calls the query's stack has at most one frame more than the document is high ([`Walk::places`]). Each query in
 /// a filter or in a call's argument that is being worked on has a stack of its own, with the same bound, and at most 128
 /// filters, parentheses and calls are within each other. No clause adds these stacks up.
 ///

@@ -32,7 +32,7 @@ impl<'q, 'b, F: Functions> Walk<'q, 'b, F> {
 
     /// How many frames the walk's stack has: at most the document's height plus one. With none, no node remains.
     ///
-    /// This bounds one query's stack, at every moment. Each query in a filter or in a call's argument that is being worked
+    /// This bounds one query's stack between calls. Each query in a filter or in a call's argument that is being worked
     /// on has a stack of its own, with the same bound, and at most 128 filters, parentheses and calls are within each
     /// other. No clause adds these stacks up.
     pub fn places(&self) -> usize
