@@ -114,8 +114,8 @@ fn lines<F: Functions + Drop>(
     mut walk: Walk<'_, '_, F>,
 ) -> Result<String, QueryError>
     ensures lines { IfOk result (λ text. (nodes : List Located) × AreLinesOf nodes (string_bytes text)
-        × (IsClearWalk walk → nodes ≡ rest walk)) }
-    ensures refused { OnlyMemory (set_of walk) (query_of walk) result }
+        × (IsClearWalk walk.entry → nodes ≡ rest walk.entry)) }
+    ensures refused { OnlyMemory (set_of walk.entry) (query_of walk.entry) result }
 {
     let mut text = String::new(alloc);
     'nodes: while let Some(node) = walk.next()? {

@@ -26,4 +26,12 @@ nodes-preserved g c =
     }
 
 pub returns-clause-lines : goal.returns-clause-lines
-returns-clause-lines g c = ?
+returns-clause-lines g c =
+    let before = c.nodes.invariant in
+    let done = before.written.0 in (
+      done,
+      before.written.1,
+      λ clear.
+          let ended = given_none c.in_ok-node.field-0 _ (rest c.next.new.self) c.in_default.is (c.in_ok-node.ensures.given (rw (before.set, before.query, before.document) clear)) in
+          sym (before.written.2 clear ∙ ap (λ more. done ++ more) ended ∙ append-nil done),
+    )

@@ -7,10 +7,10 @@ use Rattle.jsonpath.proofs.report.lines.Given as goal
 
 abbrev pub invariant-nodes : goal.invariant-nodes
 invariant-nodes g l = record {
-  set : set_of l.walk ≡ set_of l.fn.walk;
-  query : query_of l.walk ≡ query_of l.fn.walk;
-  document : document_of l.walk ≡ document_of l.fn.walk;
-  written : (done : List Located) × AreLinesOf done (string_bytes l.text) × (IsClearWalk l.fn.walk → rest l.fn.walk ≡ done ++ rest l.walk);
+  set : set_of l.walk ≡ set_of l.initial.walk;
+  query : query_of l.walk ≡ query_of l.initial.walk;
+  document : document_of l.walk ≡ document_of l.initial.walk;
+  written : (done : List Located) × AreLinesOf done (string_bytes l.text) × (IsClearWalk l.initial.walk → rest l.initial.walk ≡ done ++ rest l.walk);
 }
 
 abbrev pub decreases-nodes : goal.decreases-nodes
