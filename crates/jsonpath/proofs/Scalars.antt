@@ -1,16 +1,14 @@
 -- The texts of null, truth values and integers are their compact JSON, and read back.
-use Rattle.std.proofs.Common.{◌≡◌, ℕ, ◌^◌, ◌<◌, ◌≤◌, ℤ, pos, negsuc, List, [], ◌++◌, Bool, true, false, Option, Some, None, option_map, option_and_then, if◌then◌else◌, nat_lt, int_lt, SFits, w64, decimal, rules, refl, sym, ap, ◌∙◌, arith, append-nil}
+use Rattle.std.proofs.Common.{◌≡◌, ℕ, ◌^◌, ◌<◌, ◌≤◌, ℤ, pos, negsuc, List, [], Bool, true, false, Option, Some, None, option_map, option_and_then, if◌then◌else◌, nat_lt, int_lt, SFits, w64, decimal, rules, refl, sym, ap, ◌∙◌, arith, append-nil}
 use Rattle.std.specs.Fmt.{signed_decimal}
 use Rattle.json.specs.Token.{Token}
 use Rattle.json.specs.Json as json
-use Rattle.json.specs.Lex.{tokens}
-use Rattle.json.specs.Print.{print}
 use Rattle.json.specs.Tree.{json_tokens, HasNumbers}
 use Rattle.json.specs.Tree as tree
 use Rattle.json.proofs.Printed.Decimals.{IsNumber-decimal, IsNumber-signed_decimal}
 use Rattle.json.proofs.Printed.Tokens.{tokens-print}
 use Rattle.json.proofs.Printed.Trees.{value-json_tokens, ArePrintable-json_tokens}
-use Rattle.serde_json.specs.Data.{Data, Num, unsigned, negative, float, null, boolean, number, string, array, object}
+use Rattle.serde_json.specs.Data.{Data, unsigned, negative, float, null, boolean, number, string, array, object}
 use Rattle.serde_json.specs.Find.{as_number, as_u64, as_i64}
 use Rattle.serde_json.specs.Read.{read, of_json, max_depth}
 use Rattle.serde_json.specs.View.{view}
@@ -32,18 +30,20 @@ reads_back d numbers same shallow =
     ∙ same
 
 pub null_json : IsJsonOf null (compact_text null)
-null_json = (λ _. refl, λ _. reads_back null tt refl (omega arith))
+null_json = (λ _. refl, λ _. reads_back null tt refl (omega arith), λ float. absurd cc)
 
 pub boolean_json : (b : Bool) → IsJsonOf (boolean b) (compact_text (boolean b))
-boolean_json b = (λ _. refl, λ _. reads_back (boolean b) tt refl (omega arith))
+boolean_json b = (λ _. refl, λ _. reads_back (boolean b) tt refl (omega arith), λ float. absurd cc)
 
 unsigned_json : (n : ℕ) → n < 2 ^ 64 → IsJsonOf (number (unsigned n)) (decimal n)
-unsigned_json n h = (λ _. refl, λ _. reads_back (number (unsigned n)) (IsNumber-decimal n h) (ap (option_map number) (number_of-decimal n h)) (omega arith))
+unsigned_json n h =
+    (λ _. refl, λ _. reads_back (number (unsigned n)) (IsNumber-decimal n h) (ap (option_map number) (number_of-decimal n h)) (omega arith), λ float. absurd cc)
 
 negative_json : (n : ℕ) → n < 2 ^ 63 → IsJsonOf (number (negative (negsuc n))) (signed_decimal (negsuc n))
 negative_json n h = (
   λ _. refl,
   λ _. reads_back (number (negative (negsuc n))) (IsNumber-signed_decimal (negsuc n) h) (ap (option_map number) (number_of-negative n h)) (omega arith),
+  λ float. absurd cc,
 )
 
 not_unsigned : (small : Bool) (m n : ℕ) → (if small then Some (pos m) else None) ≡ Some (negsuc n) → ⊥

@@ -30,7 +30,7 @@ pub enum DocumentError {
     Memory,
 }
 
-/// Why there are no lines.
+/// Why there is no report.
 #[derive(Debug, Drop, Error)]
 pub enum ReportError {
     /// The path is refused.
@@ -153,6 +153,10 @@ pub fn report<F: Functions>(
         → ReadsAs document.now d → ⊥ }
     ensures pattern_refused { result ≡ Err (ReportError.Query QueryError.Pattern)
         → CallsByPattern (before_builtin (F.set functions.now)) path.now }
+
+    // A query is refused only where the document is read.
+    ensures query_last { (e : QueryError) → result ≡ Err (ReportError.Query e)
+        → (d : Data) × ReadsAs document.now d }
 {
     let path = JsonPath::parse_with(alloc, path, functions).map_err(ReportError::Path)?;
     let value = self::document(alloc, document).map_err(ReportError::Document)?;
