@@ -1,9 +1,11 @@
 -- The lines of a report on a path and a document.
-use Rattle.std.specs.Prelude.{◌≡◌, ◌≤◌, ℕ, false, List, [], ◌∷◌, ◌++◌, Some, codes}
+use Rattle.std.specs.Prelude.{◌≡◌, ◌≤◌, ℕ, false, true, List, [], ◌∷◌, ◌++◌, Some, codes}
 use Rattle.std.specs.Str.{chars, IsUtf8}
 use Rattle.serde_json.specs.Data.{Data, depth}
 use Rattle.serde_json.specs.Read.{read, max_depth}
-use Rattle.serde_json.specs.Written.{has_float, compact_text}
+use Rattle.json.specs.Lex.{tokens}
+use Rattle.json.specs.Print.{print}
+use Rattle.serde_json.specs.Written.{has_float, compact_text, IsInOrder}
 use Rattle.serde_json_path_nodes.specs.Location.{Located}
 use Rattle.serde_json_path_nodes.specs.Text.{normal}
 use Rattle.serde_json_path_syntax.specs.Tree.{Query}
@@ -17,13 +19,20 @@ use Rattle.serde_json_path_parser.specs.Accepted.{IsAccepted}
 abbrev pub ReadsAs : List ℕ → Data → Type 0
 ReadsAs bytes d = IsUtf8 bytes × (read bytes ≡ Some d)
 
--- the line of a node: its normalised path, a tab, its compact JSON and a line feed; what the JSON is, is said where every
--- number in the node is held as an integer, and that it reads back as the node, where the node nests no deeper than
--- `serde_json` reads
+-- a value's compact JSON: what it is, is said where every number in the value is held as an integer, and else that it is compact
+-- and in the value's order; that it reads back as the value, where the value nests no deeper than `serde_json` reads
+abbrev pub IsJsonOf : Data → List ℕ → Type 0
+IsJsonOf d json =
+    (has_float d ≡ false → json ≡ compact_text d) × (depth d ≤ max_depth → read json ≡ Some d)
+    × (has_float d ≡ true → (json ≡ print (tokens json)) × IsInOrder json d)
+
+-- the line of a node: its normalised path, a tab, its compact JSON and a line feed
 abbrev pub IsLineOf : Located → List ℕ → Type 0
-IsLineOf n line =
-    (json : List ℕ) × (line ≡ normal n.location ++ (codes "\t" ++ (json ++ codes "\n"))) × (has_float n.value ≡ false → json ≡ compact_text n.value)
-    × (depth n.value ≤ max_depth → read json ≡ Some n.value)
+IsLineOf n line = (json : List ℕ) × (line ≡ normal n.location ++ (codes "\t" ++ (json ++ codes "\n"))) × IsJsonOf n.value json
+
+-- what is appended to a text is a tab, the value's compact JSON and a line feed
+abbrev pub EndsLine : Data → List ℕ → List ℕ → Type 0
+EndsLine d old new = (json : List ℕ) × IsJsonOf d json × (new ≡ old ++ (codes "\t" ++ (json ++ codes "\n")))
 
 -- the text is a line for each node, in order, joined
 abbrev pub AreLinesOf : List Located → List ℕ → Type 0

@@ -1,13 +1,14 @@
 -- The statuses of the program, its one word, and what it tells of a refusal.
 use Rattle.std.specs.Prelude.{◌≡◌, ◌⊎◌, ℕ, List, [], ◌∷◌, ◌++◌, map, codes, Option, IfSome, String, string_bytes}
 use Rattle.std.specs.Fmt.{decimal}
+use Rattle.serde_json.specs.Data.{Data}
 use Rattle.std.specs.Io.KnownBytes.{Appends}
 use Rattle.std.specs.declared.alloc.Global.{Global}
 use Rattle.serde_json_path_functions.specs.Patterns.{builtin_functions}
 use Rattle.serde_json_path_functions.specs.declared.error.QueryError.{QueryError}
 use Rattle.serde_json_path_functions.specs.declared.error.QueryError.TheVariants as query_error
 use Rattle.serde_json_path_parser.specs.Errors.{position_of, message_of}
-use Rattle.jsonpath.specs.Report.{IsReportOf}
+use Rattle.jsonpath.specs.Report.{ReadsAs, CallsByPattern, IsReportOf}
 use Rattle.jsonpath.specs.declared.report.DocumentError.{DocumentError}
 use Rattle.jsonpath.specs.declared.report.DocumentError.TheVariants as document_error
 use Rattle.jsonpath.specs.declared.report.ReportError.{ReportError}
@@ -40,10 +41,16 @@ line_of (Document document_error.Memory) = codes "jsonpath: document: no memory\
 line_of (Query query_error.Memory) = codes "jsonpath: query: no memory\n"
 line_of (Query query_error.Pattern) = codes "jsonpath: query: pattern refused\n"
 
--- a line of status 2: why the document is refused, or that the input cannot be read
-abbrev pub IsDocumentLine : List ℕ → Type 0
-IsDocumentLine line = ((e : DocumentError) × (line ≡ line_of (Document e))) ⊎ (line ≡ codes "jsonpath: document: cannot be read\n")
+-- a line of status 2: why the document is refused, or that the input cannot be read; an input that is known to read as a
+-- document is not told to be no JSON
+abbrev pub IsDocumentLine : Option (List ℕ) → List ℕ → Type 0
+IsDocumentLine input line =
+    ((e : DocumentError) × (line ≡ line_of (Document e)) × (e ≡ document_error.NotJson → IfSome input (λ bytes. (d : Data) → ReadsAs bytes d → ⊥)))
+    ⊎ (line ≡ codes "jsonpath: document: cannot be read\n")
 
--- a line of status 3: why the query is refused, or that the output failed
-abbrev pub IsQueryLine : List ℕ → Type 0
-IsQueryLine line = ((e : QueryError) × (line ≡ line_of (Query e))) ⊎ (line ≡ codes "jsonpath: output failed\n")
+-- a line of status 3: why the query is refused, or that the output failed; a pattern is told to be refused only where the path
+-- calls by pattern
+abbrev pub IsQueryLine : List (String Global) → List ℕ → Type 0
+IsQueryLine words line =
+    ((e : QueryError) × (line ≡ line_of (Query e)) × (e ≡ query_error.Pattern → (path : List ℕ) × IsOneWord words path × CallsByPattern builtin_functions path))
+    ⊎ (line ≡ codes "jsonpath: output failed\n")

@@ -3,16 +3,19 @@
 ghost use Rattle.std.specs.Prelude.{◌≡◌, ◌++◌, ℕ, List, IfOk, OnOk, string_bytes};
 ghost use Rattle.serde_json.specs.Data.{Data};
 ghost use Rattle.serde_json.specs.View.{view};
-ghost use Rattle.serde_json_path_nodes.specs.Views.{located, located_nodes};
+ghost use Rattle.serde_json_path_nodes.specs.Location.{Located};
+ghost use Rattle.serde_json_path_nodes.specs.Views.{located};
 ghost use Rattle.serde_json_path_functions.specs.Patterns.{before_builtin};
+ghost use Rattle.serde_json_path_core.specs.Selects.{OnlyMemory};
+ghost use Rattle.serde_json_path_core.specs.Walks.{IsClearWalk, rest, query_of, set_of};
 ghost use Rattle.serde_json_path.specs.Paths.{path_view};
 ghost use Rattle.serde_json_path_parser.specs.Parse.{IsParseOf};
 ghost use Rattle.serde_json_path_parser.specs.declared.error.ParseError as path_error;
-ghost use Rattle.jsonpath.specs.Report.{ReadsAs, IsLineOf, AreLinesOf, IsNoPath, CallsByPattern, IsReportOf};
+ghost use Rattle.jsonpath.specs.Report.{ReadsAs, EndsLine, IsLineOf, AreLinesOf, IsNoPath, CallsByPattern, IsReportOf};
 
 use serde_json::Value;
 use serde_json_path::functions::Functions;
-use serde_json_path::{JsonPath, LocatedNode, LocatedNodeList, ParseError, QueryError};
+use serde_json_path::{JsonPath, LocatedNode, ParseError, QueryError, Walk};
 use std::alloc::{AllocError, Global};
 use thiserror::Error;
 
@@ -27,7 +30,7 @@ pub enum DocumentError {
     Memory,
 }
 
-/// Why there are no lines.
+/// Why there is no report.
 #[derive(Debug, Drop, Error)]
 pub enum ReportError {
     /// The path is refused.
@@ -39,17 +42,6 @@ pub enum ReportError {
     /// The query is refused, or memory for the lines.
     #[error("{0}")]
     Query(QueryError),
-}
-
-impl From<AllocError> for ReportError {
-    ghost use Rattle.serde_json_path_functions.specs.declared.error.QueryError.TheVariants.{Memory};
-    ghost use Rattle.jsonpath.specs.declared.report.ReportError.TheVariants.{Query};
-
-    ghost from_gives = { λ _ e. e ≡ Query Memory };
-
-    fn from(_e: AllocError) -> ReportError {
-        ReportError::Query(QueryError::Memory)
-    }
 }
 
 /// Reads a document from its bytes.
@@ -66,24 +58,68 @@ fn document(alloc: Global, bytes: &[u8]) -> Result<Value, DocumentError>
     })
 }
 
-/// Appends a node's line: its normalised path, a tab, its compact JSON and a line feed.
-fn push_line(alloc: Global, text: &mut String, node: &LocatedNode<'_>) -> Result<(), AllocError>
-    ensures { OnOk result ((line : List ℕ) × IsLineOf (located node.now) line × (string_bytes text.new ≡ string_bytes text.old ++ line)) }
+/// Appends a tab, the compact JSON of a value as `serde_json` writes it, and a line feed.
+fn push_printed(alloc: Global, text: &mut String, value: &Value) -> Result<(), AllocError>
+    ensures { OnOk result
+        (EndsLine (view value.now) (string_bytes text.old) (string_bytes text.new)) }
 {
-    write!(text, "{}\t", node.location())?;
-    let json = node.node().to_string(alloc)?;
+    let json = value.to_string(alloc)?;
+    text.push('\t')?;
     text.push_str(json.as_str())?;
-    text.push('\n')?;
-    Ok(())
+    text.push('\n')
 }
 
-/// One line for each node, in order.
-fn lines(alloc: Global, nodes: &LocatedNodeList<'_>) -> Result<String, AllocError>
-    ensures { IfOk result (λ text. AreLinesOf (located_nodes nodes.now) (string_bytes text)) }
+/// Appends a tab, the compact JSON of a value and a line feed, in one write where the value is held as an integer.
+fn push_number(alloc: Global, text: &mut String, value: &Value) -> Result<(), AllocError>
+    ensures { OnOk result
+        (EndsLine (view value.now) (string_bytes text.old) (string_bytes text.new)) }
+{
+    if let Some(n) = value.as_u64() {
+        return write!(text, "\t{n}\n");
+    }
+    if let Some(n) = value.as_i64() {
+        if n < 0 {
+            return write!(text, "\t{n}\n");
+        }
+    }
+    push_printed(alloc, text, value)
+}
+
+/// Appends a tab, the compact JSON of a value and a line feed.
+fn push_value(alloc: Global, text: &mut String, value: &Value) -> Result<(), AllocError>
+    ensures { OnOk result
+        (EndsLine (view value.now) (string_bytes text.old) (string_bytes text.new)) }
+{
+    match value {
+        Value::Null => text.push_str("\tnull\n"),
+        Value::Bool(true) => text.push_str("\ttrue\n"),
+        Value::Bool(false) => text.push_str("\tfalse\n"),
+        Value::Number(_) => push_number(alloc, text, value),
+        _ => push_printed(alloc, text, value),
+    }
+}
+
+/// Appends a node's line: its normalised path, a tab, its compact JSON and a line feed.
+fn push_line(alloc: Global, text: &mut String, node: &LocatedNode<'_>) -> Result<(), AllocError>
+    ensures { OnOk result ((line : List ℕ) × IsLineOf (located node.now) line
+        × (string_bytes text.new ≡ string_bytes text.old ++ line)) }
+{
+    write!(text, "{}", node.location())?;
+    push_value(alloc, text, node.node())
+}
+
+/// One line for each node that remains of a walk, in order.
+fn lines<F: Functions + Drop>(
+    alloc: Global,
+    mut walk: Walk<'_, '_, F>,
+) -> Result<String, QueryError>
+    ensures lines { IfOk result (λ text. (nodes : List Located) × AreLinesOf nodes (string_bytes text)
+        × (IsClearWalk walk.entry → nodes ≡ rest walk.entry)) }
+    ensures refused { OnlyMemory (set_of walk.entry) (query_of walk.entry) result }
 {
     let mut text = String::new(alloc);
-    for node in nodes.iter() {
-        push_line(alloc, &mut text, node)?;
+    'nodes: while let Some(node) = walk.next()? {
+        push_line(alloc, &mut text, &node)?;
     }
     Ok(text)
 }
@@ -117,11 +153,16 @@ pub fn report<F: Functions>(
         → ReadsAs document.now d → ⊥ }
     ensures pattern_refused { result ≡ Err (ReportError.Query QueryError.Pattern)
         → CallsByPattern (before_builtin (F.set functions.now)) path.now }
+
+    // A query is refused only where the document is read.
+    ensures query_last { (e : QueryError) → result ≡ Err (ReportError.Query e)
+        → (d : Data) × ReadsAs document.now d }
 {
     let path = JsonPath::parse_with(alloc, path, functions).map_err(ReportError::Path)?;
     let value = self::document(alloc, document).map_err(ReportError::Document)?;
-    let nodes = path
-        .query_located_with(alloc, &value, functions)
+    let walk = path
+        .walk(alloc, &value, functions)
         .map_err(ReportError::Query)?;
-    Ok(lines(alloc, &nodes)?)
+    let text = lines(alloc, walk).map_err(ReportError::Query)?;
+    Ok(text)
 }

@@ -7,6 +7,7 @@ ghost use Rattle.serde_json_path.specs.Paths.{path_view};
 ghost use Rattle.serde_json_path_parser.specs.Errors.{kind_of, position_of};
 ghost use Rattle.serde_json_path_parser.specs.Parse.{IsParseOf};
 ghost use Rattle.serde_json_path_parser.specs.declared.error.ParseError as path_error;
+ghost use Rattle.jsonpath.specs.Report.{IsNoPath};
 ghost use Rattle.jsonpath.specs.Run.{status_of, line_of, IsDocumentLine, IsQueryLine, IsOneWord, IsReportOfRun, AppendsBeginning};
 
 use crate::report::{DocumentError, ReportError, report};
@@ -176,9 +177,13 @@ pub fn run<R: Read, W: Write, E: Write>(
     ensures path_told { result ≡ 1 → (path : List ℕ) × IsOneWord words.now path
         × ((e : path_error.ParseError) × IsParseOf path_view builtin_functions.signature path (Err e)
         × AppendsBeginning (E.contents err.old) (E.contents err.new) (line_of (ReportError.Path e))) }
-    ensures document_told { result ≡ 2 → (line : List ℕ) × IsDocumentLine line
+    ensures path_first { (path : List ℕ) → IsOneWord words.now path → IsNoPath builtin_functions path
+        → (result ≡ 1) ⊎ ((result ≡ 2)
+        × AppendsBeginning (E.contents err.old) (E.contents err.new) (codes "jsonpath: document: cannot be read\n")) }
+    ensures document_told { result ≡ 2 → (line : List ℕ) × IsDocumentLine (R.remaining input.old) line
         × AppendsBeginning (E.contents err.old) (E.contents err.new) line }
-    ensures query_told { result ≡ 3 → (line : List ℕ) × IsQueryLine line
+    ensures query_told { result ≡ 3 → (line : List ℕ) × IsQueryLine words.now line
+        × ((line ≡ codes "jsonpath: output failed\n") ⊎ (out.new ≡ out.old))
         × AppendsBeginning (E.contents err.old) (E.contents err.new) line }
 {
     let [path] = words else {

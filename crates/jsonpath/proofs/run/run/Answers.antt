@@ -2,9 +2,10 @@ use Rattle.std.proofs.Common.{codes, Err, inl, inr, refl, sym, ap, subst, ◌∙
 use Rattle.serde_json_path_functions.specs.Patterns.{builtin_functions}
 use Rattle.serde_json_path.specs.Paths.{path_view}
 use Rattle.serde_json_path_parser.specs.Parse.{IsParseOf}
-use Rattle.jsonpath.specs.Run.{AppendsBeginning, line_of}
-use Rattle.jsonpath.specs.declared.report.ReportError.TheVariants.{Document, Query}
-use Rattle.jsonpath.proofs.Runs.{one_word, whole_read, report_of_run, path_of, document_of, query_of}
+use Rattle.jsonpath.specs.Report.{CallsByPattern, IsNoPath}
+use Rattle.jsonpath.specs.Run.{AppendsBeginning, line_of, status_of}
+use Rattle.jsonpath.specs.declared.report.ReportError.TheVariants.{Path, Document, Query}
+use Rattle.jsonpath.proofs.Runs.{one_word, same_word, not_json_known, not_both, same_error, whole_read, report_of_run, path_of, document_of, query_of}
 use Rattle.jsonpath.proofs.Sets.{before_itself}
 use Rattle.jsonpath.proofs.run.run.Goals as goal
 
@@ -28,7 +29,7 @@ returns-in-Ok-clause-part_out g c =
     λ three. inr (c.as_str-in-Ok.result.now, report_of_run _ _ _ _ _ _ one whole c.in-Ok.ensures.lines c.as_str-in-Ok.ensures.value, c.print.ensures.beginning)
 
 pub returns-in-Ok-clause-query_told : goal.returns-in-Ok-clause-query_told
-returns-in-Ok-clause-query_told g c = λ three. (codes "jsonpath: output failed\n", inr refl, c.print.ensures.told three)
+returns-in-Ok-clause-query_told g c = λ three. (codes "jsonpath: output failed\n", inr refl, inl refl, c.print.ensures.told three)
 
 pub refuse-requires : goal.refuse-requires
 refuse-requires g c = λ path is. (c.report.ensures.path_refused path (c.in-Err.is ∙ ap Err is)).memory_position
@@ -48,9 +49,16 @@ returns-clause-path_told g c = λ one.
 
 pub returns-clause-document_told : goal.returns-clause-document_told
 returns-clause-document_told g c = λ two.
-    let (document, is) = document_of c.in-Err.e (sym c.refuse.ensures.status ∙ two) in (
+    let (document, is) = document_of c.in-Err.e (sym c.refuse.ensures.status ∙ two) in
+    let read = whole_read c.read_to_end.result (g.R.Read.remaining c.args.input.now) c.new-document.result.items c.read_to_end.new.buf.items c.as_slice.result.now
+    (sym c.is_err.ensures.value ∙ c.if-is_err.false)
+    c.read_to_end.ensures.bytes c.new-document.ensures.items c.as_slice.ensures.value in (
       line_of (Document document),
-      inl (document, refl),
+      inl (
+        document,
+        refl,
+        λ not_json. not_json_known (g.R.Read.remaining c.args.input.now) c.as_slice.result.now read (c.report.ensures.not_json (c.in-Err.is ∙ ap Err (is ∙ ap Document not_json))),
+      ),
       subst (λ e. AppendsBeginning (g.E.Write.contents c.args.err.now) (g.E.Write.contents c.refuse.new.err) (line_of e)) is c.refuse.ensures.told,
     )
 
@@ -58,6 +66,32 @@ pub returns-clause-query_told : goal.returns-clause-query_told
 returns-clause-query_told g c = λ three.
     let (query, is) = query_of c.in-Err.e (sym c.refuse.ensures.status ∙ three) in (
       line_of (Query query),
-      inl (query, refl),
+      inl (
+        query,
+        refl,
+        λ pattern. (
+          c.as_str.result.now,
+          one_word c.args.words.now c.path-item.result c.as_str.result.now c.in-len1.len_at_least c.in-len1.len_below c.path-item.is c.as_str.ensures.value,
+          subst (λ F. CallsByPattern F c.as_str.result.now) (before_itself builtin_functions) (c.report.ensures.pattern_refused (c.in-Err.is ∙ ap Err (is ∙ ap Query pattern))),
+        ),
+      ),
+      inr refl,
       subst (λ e. AppendsBeginning (g.E.Write.contents c.args.err.now) (g.E.Write.contents c.refuse.new.err) (line_of e)) is c.refuse.ensures.told,
     )
+
+pub returns-then-is_err-clause-path_first : goal.returns-then-is_err-clause-path_first
+returns-then-is_err-clause-path_first g c = λ path one no_path. inr (refl, c.write_text-then-is_err.ensures.beginning)
+
+pub returns-in-Ok-clause-path_first : goal.returns-in-Ok-clause-path_first
+returns-in-Ok-clause-path_first g c = λ path is_word no_path.
+    let one = one_word c.args.words.now c.path-item.result c.as_str.result.now c.in-len1.len_at_least c.in-len1.len_below c.path-item.is c.as_str.ensures.value in
+    let same = same_word c.args.words.now path c.as_str.result.now is_word one in
+    let (e, refused) = c.report.ensures.path_first (subst (λ F. IsNoPath F c.as_str.result.now) (sym (before_itself builtin_functions)) (subst (IsNoPath builtin_functions) same no_path)) in
+    absurd (not_both c.report.result c.in-Ok.lines (Path e) c.in-Ok.is refused)
+
+pub returns-clause-path_first : goal.returns-clause-path_first
+returns-clause-path_first g c = λ path is_word no_path.
+    let one = one_word c.args.words.now c.path-item.result c.as_str.result.now c.in-len1.len_at_least c.in-len1.len_below c.path-item.is c.as_str.ensures.value in
+    let same = same_word c.args.words.now path c.as_str.result.now is_word one in
+    let (e, refused) = c.report.ensures.path_first (subst (λ F. IsNoPath F c.as_str.result.now) (sym (before_itself builtin_functions)) (subst (IsNoPath builtin_functions) same no_path)) in
+    inl (c.refuse.ensures.status ∙ ap status_of (same_error c.report.result c.in-Err.e (Path e) c.in-Err.is refused))
