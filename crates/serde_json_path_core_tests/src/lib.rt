@@ -1,4 +1,5 @@
-//! Tests of syntax trees, of what they select and of their walks, by their public calls alone.
+//! Tests of the lower crates by their public calls alone: lists and locations, functions, syntax trees, what these select,
+//! and walks.
 #![tactic(auto)]
 
 #[cfg(test)]

@@ -4,11 +4,9 @@
 -- Terms: what contracts see of arguments, answers and signatures.
 -- Errors: the texts of errors.
 -- BothTypes, BuiltinTypes: one set before another, and the built-in one, keep their types and patterns.
--- Samples: the function sets of the tests.
 pub mod Functions
 pub mod BothTypes
 pub mod BuiltinTypes
 pub mod Patterns
-pub mod Samples
 pub mod Terms
 pub mod Errors

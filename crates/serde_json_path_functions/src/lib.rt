@@ -22,8 +22,6 @@ mod error;
 mod patterns;
 mod set;
 mod signature;
-#[cfg(test)]
-mod tests;
 mod types;
 
 pub use both::Both;

@@ -37,6 +37,3 @@ pub use node_list::NodeList;
 pub use normalized_path::NormalizedPath;
 pub use path_element::PathElement;
 pub use quoted::Quoted;
-
-#[cfg(test)]
-mod tests;

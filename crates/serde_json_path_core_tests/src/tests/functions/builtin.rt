@@ -3,13 +3,13 @@
 ghost use Rattle.std.specs.Prelude.{◌≡◌, [], ◌∷◌, Some};
 ghost use Rattle.serde_json_path_functions.specs.Functions.{of_nodes, of_value, plain_signature};
 
-use crate::FunctionArgType::{Logical, Nodelist};
-use crate::tests::holds;
-use crate::{
+use crate::tests::functions::holds;
+use serde_json::Value;
+use serde_json_path_functions::FunctionArgType::{Logical, Nodelist};
+use serde_json_path_functions::{
     Builtin, FunctionArgType, FunctionValue, Functions, LogicalType, NodesType, Signature,
     ValueType,
 };
-use serde_json::Value;
 use std::alloc::Global;
 use std::test::Fail;
 

@@ -3,15 +3,15 @@
 ghost use Rattle.std.specs.Prelude.{◌≡◌, [], ◌∷◌, map, IfOk};
 ghost use Rattle.serde_json_path_functions.specs.Functions.{nodes, Takes};
 ghost use Rattle.serde_json_path_functions.specs.Patterns.{before_builtin};
-ghost use Rattle.serde_json_path_functions.specs.Samples.{own_functions};
+ghost use Rattle.serde_json_path_core_tests.specs.Samples.{own_functions};
 ghost use Rattle.serde_json_path_functions.specs.Terms.{term_view};
 
-use crate::FunctionArgType::Nodelist;
-use crate::{
+use serde_json::Value;
+use serde_json_path_functions::FunctionArgType::Nodelist;
+use serde_json_path_functions::{
     Both, Builtin, FunctionArgType, FunctionValue, Functions, NodesType, QueryError, Signature,
     ValueType,
 };
-use serde_json::Value;
 use std::alloc::Global;
 use std::test::Fail;
 
@@ -19,7 +19,7 @@ use std::test::Fail;
 struct Own;
 
 impl Functions for Own {
-    ghost use Rattle.serde_json_path_functions.specs.Samples.{own_keeps_types, own_keeps_patterns};
+    ghost use Rattle.serde_json_path_core_tests.specs.Samples.{own_keeps_types, own_keeps_patterns};
 
     ghost set = { λ _. own_functions };
 

@@ -1,10 +1,10 @@
-//! What no clause says: that calls succeed, and the texts that readers of the RFC expect.
+//! Lists and locations: that calls succeed, and the texts that readers of the RFC expect.
 
-use crate::{
+use serde_json::Value;
+use serde_json_path_nodes::{
     ExactlyOneError, LocatedNode, LocatedNodeList, NodeList, NormalizedPath, PathElement, escaped,
     law_texts_tell_locations,
 };
-use serde_json::Value;
 use std::alloc::{AllocError, Global};
 use std::process::Abort;
 use std::test::Fail;

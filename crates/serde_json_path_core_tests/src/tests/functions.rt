@@ -1,11 +1,11 @@
 //! Types of functions, what the built-in functions answer, sets of functions, and errors.
 
 mod both;
+mod builtin;
 mod errors;
-mod functions;
 mod patterns;
 
-use crate::QueryError;
+use serde_json_path_functions::QueryError;
 use std::process::Abort;
 use std::test::Fail;
 

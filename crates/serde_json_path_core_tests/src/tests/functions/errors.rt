@@ -2,11 +2,11 @@
 
 ghost use Rattle.std.specs.Prelude.{map, Some, IfOk};
 ghost use Rattle.serde_json_path_functions.specs.Functions.{Fits, Takes, matching_signature};
-ghost use Rattle.serde_json_path_functions.specs.Samples.{refused_names};
+ghost use Rattle.serde_json_path_core_tests.specs.Samples.{refused_names};
 ghost use Rattle.serde_json_path_functions.specs.Terms.{term_view};
 
-use crate::FunctionArgType::Logical;
-use crate::{
+use serde_json_path_functions::FunctionArgType::Logical;
+use serde_json_path_functions::{
     Both, Builtin, FunctionArgType, FunctionValue, Functions, QueryError, Signature, ValueType,
 };
 use std::alloc::Global;
@@ -18,7 +18,7 @@ use std::test::Fail;
 struct Refusing;
 
 impl Functions for Refusing {
-    ghost use Rattle.serde_json_path_functions.specs.Samples.{refusing_functions, refusing_keeps_types, refusing_keeps_patterns};
+    ghost use Rattle.serde_json_path_core_tests.specs.Samples.{refusing_functions, refusing_keeps_types, refusing_keeps_patterns};
 
     ghost set = { λ _. refusing_functions };
 

@@ -4,8 +4,10 @@ ghost use Rattle.std.specs.Prelude.{◌≡◌, map, Some, IfOk};
 ghost use Rattle.serde_json_path_functions.specs.Functions.{Takes, matching_signature, builtin_signature};
 ghost use Rattle.serde_json_path_functions.specs.Terms.{term_view};
 
-use crate::{Builtin, FunctionValue, Functions, LogicalType, QueryError, ValueType};
 use serde_json::Value;
+use serde_json_path_functions::{
+    Builtin, FunctionValue, Functions, LogicalType, QueryError, ValueType,
+};
 use std::alloc::Global;
 use std::process::Abort;
 use std::test::Fail;

@@ -1,0 +1,2 @@
+-- Samples: the function sets of the tests.
+pub mod Samples
