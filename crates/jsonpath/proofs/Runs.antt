@@ -13,7 +13,7 @@ use Rattle.jsonpath.specs.declared.report.ReportError.{ReportError}
 use Rattle.jsonpath.specs.declared.report.ReportError.TheVariants.{Path, Document, Query}
 use Rattle.serde_json.specs.Data.{Data}
 use Rattle.jsonpath.specs.Report.{IsReportOf, ReadsAs}
-use Rattle.jsonpath.specs.Run.{status_of, line_of, IsOneWord, IsReportOfRun}
+use Rattle.jsonpath.specs.Run.{status_of, line_of, IsOneWord, IsReportOfRun, MayBeDocument}
 use Rattle.jsonpath.proofs.Sets.{before_itself}
 
 pub one_word : (words : List (String Global)) (word : String Global) (text : List ℕ) → 1 ≤ length words → length words < 2 → word ≡ get_or words 0 word → text ≡ string_bytes word → IsOneWord words text
@@ -64,6 +64,11 @@ pub not_json_known : (known : Option (List ℕ)) (document : List ℕ) → IfSom
     → IfSome known (λ bytes. (d : Data) → ReadsAs bytes d → ⊥)
 not_json_known None document is none_read = tt
 not_json_known (Some bytes) document is none_read = subst (λ (bs : List ℕ). (d : Data) → ReadsAs bs d → ⊥) is none_read
+
+-- what is known of the input reads as a document where the bytes that were read do
+pub document_known : (known : Option (List ℕ)) (document : List ℕ) (d : Data) → IfSome known (λ bytes. document ≡ bytes) → ReadsAs document d → MayBeDocument known
+document_known None document d is reads = tt
+document_known (Some bytes) document d is reads = (d, subst (λ (bs : List ℕ). ReadsAs bs d) is reads)
 
 -- the report that was made is the one that the run asks for
 pub report_of_run : (words : List (String Global)) (input : Option (List ℕ)) (document path text written : List ℕ) → IsOneWord words path → IfSome input (λ bytes. document ≡ bytes)

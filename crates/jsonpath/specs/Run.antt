@@ -14,6 +14,10 @@ use Rattle.jsonpath.specs.declared.report.DocumentError.TheVariants as document_
 use Rattle.jsonpath.specs.declared.report.ReportError.{ReportError}
 use Rattle.jsonpath.specs.declared.report.ReportError.TheVariants.{Path, Document, Query}
 
+-- a status of the program: done; the path, the document or the query refused, or the output failed; not one word
+abbrev pub IsStatus : ℕ → Type 0
+IsStatus status = (status ≡ 0) ⊎ (status ≡ 1) ⊎ (status ≡ 2) ⊎ (status ≡ 3) ⊎ (status ≡ 64)
+
 -- the status of a refusal
 abbrev pub status_of : ReportError → ℕ
 status_of (Path e) = 1
@@ -47,6 +51,10 @@ abbrev pub IsDocumentLine : Option (List ℕ) → List ℕ → Type 0
 IsDocumentLine input line =
     ((e : DocumentError) × (line ≡ line_of (Document e)) × (e ≡ document_error.NotJson → IfSome input (λ bytes. (d : Data) → ReadsAs bytes d → ⊥)))
     ⊎ (line ≡ codes "jsonpath: document: cannot be read\n")
+
+-- the input, as far as it is known, reads as a document
+abbrev pub MayBeDocument : Option (List ℕ) → Type 0
+MayBeDocument input = IfSome input (λ bytes. (d : Data) × ReadsAs bytes d)
 
 -- a line of status 3: why the query is refused, or that the output failed; a pattern is told to be refused only where the path
 -- calls by pattern

@@ -8,7 +8,7 @@ ghost use Rattle.serde_json_path_parser.specs.Errors.{kind_of, position_of};
 ghost use Rattle.serde_json_path_parser.specs.Parse.{IsParseOf};
 ghost use Rattle.serde_json_path_parser.specs.declared.error.ParseError as path_error;
 ghost use Rattle.jsonpath.specs.Report.{IsNoPath};
-ghost use Rattle.jsonpath.specs.Run.{status_of, line_of, IsDocumentLine, IsQueryLine, IsOneWord, IsReportOfRun, AppendsBeginning};
+ghost use Rattle.jsonpath.specs.Run.{status_of, line_of, IsStatus, IsDocumentLine, IsQueryLine, IsOneWord, IsReportOfRun, MayBeDocument, AppendsBeginning};
 
 use crate::report::{DocumentError, ReportError, report};
 use serde_json_path::functions::Builtin;
@@ -155,12 +155,14 @@ pub fn run<R: Read, W: Write, E: Write>(
     out: &mut W,
     err: &mut E,
 ) -> u8
+    ensures statuses { IsStatus result }
     ensures usage { (result ≡ 64) ↔ (length words.now ≢ 1) }
-    ensures unread { length words.now ≢ 1 → input.new ≡ input.old }
 
-    // When a run is done, over a reader and a writer that tell their bytes: the input was read to its end, its report went
-    // out, and nothing else.
-    ensures read_whole { result ≡ 0 → IsAtEnd (R.remaining input.new) }
+    // The input is read to its end, unless it is not read at all or cannot be.
+    ensures unread { length words.now ≢ 1 → input.new ≡ input.old }
+    ensures read_whole { result ≢ 2 → result ≢ 64 → IsAtEnd (R.remaining input.new) }
+
+    // When a run is done, over a reader and a writer that tell their bytes: its report went out, and nothing else.
     ensures report_out { result ≡ 0 → (text : List ℕ) × IsReportOfRun words.now (R.remaining input.old) text
         × Appends (W.contents out.old) (W.contents out.new) text }
     ensures nothing_told { result ≡ 0 → err.new ≡ err.old }
@@ -182,6 +184,7 @@ pub fn run<R: Read, W: Write, E: Write>(
         × AppendsBeginning (E.contents err.old) (E.contents err.new) (codes "jsonpath: document: cannot be read\n")) }
     ensures document_told { result ≡ 2 → (line : List ℕ) × IsDocumentLine (R.remaining input.old) line
         × AppendsBeginning (E.contents err.old) (E.contents err.new) line }
+    ensures query_last { result ≡ 3 → MayBeDocument (R.remaining input.old) }
     ensures query_told { result ≡ 3 → (line : List ℕ) × IsQueryLine words.now line
         × ((line ≡ codes "jsonpath: output failed\n") ⊎ (out.new ≡ out.old))
         × AppendsBeginning (E.contents err.old) (E.contents err.new) line }

@@ -5,7 +5,7 @@ use Rattle.serde_json_path_parser.specs.Parse.{IsParseOf}
 use Rattle.jsonpath.specs.Report.{CallsByPattern, IsNoPath}
 use Rattle.jsonpath.specs.Run.{AppendsBeginning, line_of, status_of}
 use Rattle.jsonpath.specs.declared.report.ReportError.TheVariants.{Path, Document, Query}
-use Rattle.jsonpath.proofs.Runs.{one_word, same_word, not_json_known, not_both, same_error, whole_read, report_of_run, path_of, document_of, query_of}
+use Rattle.jsonpath.proofs.Runs.{one_word, same_word, not_json_known, document_known, not_both, same_error, whole_read, report_of_run, path_of, document_of, query_of}
 use Rattle.jsonpath.proofs.Sets.{before_itself}
 use Rattle.jsonpath.proofs.run.run.Goals as goal
 
@@ -30,6 +30,13 @@ returns-in-Ok-clause-part_out g c =
 
 pub returns-in-Ok-clause-query_told : goal.returns-in-Ok-clause-query_told
 returns-in-Ok-clause-query_told g c = λ three. (codes "jsonpath: output failed\n", inr refl, inl refl, c.print.ensures.told three)
+
+pub returns-in-Ok-clause-query_last : goal.returns-in-Ok-clause-query_last
+returns-in-Ok-clause-query_last g c =
+    let whole = whole_read c.read_to_end.result (g.R.Read.remaining c.args.input.now) c.new-document.result.items c.read_to_end.new.buf.items c.as_slice.result.now
+    (sym c.is_err.ensures.value ∙ c.if-is_err.false)
+    c.read_to_end.ensures.bytes c.new-document.ensures.items c.as_slice.ensures.value in
+    λ three. document_known _ _ c.in-Ok.ensures.lines.value whole c.in-Ok.ensures.lines.reads
 
 pub refuse-requires : goal.refuse-requires
 refuse-requires g c = λ path is. (c.report.ensures.path_refused path (c.in-Err.is ∙ ap Err is)).memory_position
@@ -78,6 +85,14 @@ returns-clause-query_told g c = λ three.
       inr refl,
       subst (λ e. AppendsBeginning (g.E.Write.contents c.args.err.now) (g.E.Write.contents c.refuse.new.err) (line_of e)) is c.refuse.ensures.told,
     )
+
+pub returns-clause-query_last : goal.returns-clause-query_last
+returns-clause-query_last g c = λ three.
+    let (query, is) = query_of c.in-Err.e (sym c.refuse.ensures.status ∙ three) in
+    let (d, reads) = c.report.ensures.query_last query (c.in-Err.is ∙ ap Err is) in
+    let whole = whole_read c.read_to_end.result (g.R.Read.remaining c.args.input.now) c.new-document.result.items c.read_to_end.new.buf.items c.as_slice.result.now
+    (sym c.is_err.ensures.value ∙ c.if-is_err.false)
+    c.read_to_end.ensures.bytes c.new-document.ensures.items c.as_slice.ensures.value in document_known _ _ d whole reads
 
 pub returns-then-is_err-clause-path_first : goal.returns-then-is_err-clause-path_first
 returns-then-is_err-clause-path_first g c = λ path one no_path. inr (refl, c.write_text-then-is_err.ensures.beginning)
