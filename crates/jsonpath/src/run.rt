@@ -138,8 +138,8 @@ fn print<W: Write, E: Write>(lines: &str, out: &mut W, err: &mut E) -> u8
 /// The program: `jsonpath PATH` with a document as its input. Returns the exit status.
 ///
 /// With exactly one word the input is read to its end, then the path and the document are read, then all lines are made,
-/// and only then written. Any fault is reported to `err` in one line, and then nothing goes to `out`, unless it is the
-/// write that failed:
+/// and only then written. Any fault is reported to `err` in one line, as far as `err` takes it, and then nothing goes to
+/// `out`, unless it is the write that failed:
 ///
 /// | Status | When |
 /// |---|---|

@@ -58,7 +58,7 @@ impl JsonPath {
         }
     }
 
-    /// The path's text as a JSON string, from which `from_json` reads the path again.
+    /// The path's text as a JSON string, from which `from_json` reads the path again if it fits the built-in functions.
     ///
     /// An error comes only where memory is refused.
     pub fn to_json(&self, alloc: Global) -> Result<Value, AllocError>

@@ -50,6 +50,10 @@ position_of e = e.position
 abbrev pub message_of : ParseError → List ℕ
 message_of e = message e.kind e.context
 
+-- the error for want of memory
+abbrev pub no_memory : ParseError
+no_memory = record { kind = NoMemory; context = context.Path; position = 1 }
+
 -- the kinds for which at most one byte beyond the position is looked at
 abbrev pub is_told_at_next : ParseErrorKind → Bool
 is_told_at_next ExpectedRoot = true

@@ -19,9 +19,7 @@ use Rattle.serde_json_path_syntax.specs.declared.checked.Checked.{Checked}
 use Rattle.serde_json_path_parser.specs.declared.error.Refusal.{Refusal}
 use Rattle.serde_json_path_parser.specs.declared.error.Failure.{Failure}
 use Rattle.serde_json_path_parser.specs.declared.error.Failure.TheVariants as failures
-use Rattle.serde_json_path_parser.specs.Errors.{is_told_at_next}
-use Rattle.serde_json_path_parser.specs.declared.error.ParseErrorKind.TheVariants.{NoMemory}
-use Rattle.serde_json_path_parser.specs.declared.error.Context.TheVariants as context
+use Rattle.serde_json_path_parser.specs.Errors.{is_told_at_next, no_memory}
 use Rattle.serde_json_path_parser.specs.declared.error.ParseError.{ParseError}
 use Rattle.serde_json_path_parser.specs.declared.source.PathSource.{Ghosts}
 use Rattle.serde_json_path_parser.specs.declared.parser.reader.Reader.{Reader}
@@ -194,5 +192,5 @@ IsWithin (failures.Refused r) total = r.left ≤ total
 
 -- the public error of a failure, in a text of so many bytes
 abbrev pub error_of : Failure → ℕ → ParseError
-error_of failures.Memory total = record { kind = NoMemory; context = context.Path; position = 1 }
+error_of failures.Memory total = no_memory
 error_of (failures.Refused r) total = record { kind = r.kind; context = r.context; position = total - r.left + 1 }

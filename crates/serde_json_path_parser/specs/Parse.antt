@@ -12,7 +12,7 @@ use Rattle.serde_json_path_parser.specs.declared.error.ParseError.{ParseError}
 use Rattle.serde_json_path_parser.specs.declared.error.Refusal.{Refusal}
 use Rattle.serde_json_path_parser.specs.Lexical.{◌∈◌, begins, is_blank, IsBlank}
 use Rattle.serde_json_path_parser.specs.Accepted.{IsAccepted}
-use Rattle.serde_json_path_parser.specs.Errors.{kind_of, position_of}
+use Rattle.serde_json_path_parser.specs.Errors.{kind_of, position_of, no_memory}
 use Rattle.serde_json_path_parser.specs.Looking.{greatest_usize}
 use Rattle.serde_json_path_parser.specs.Filters.{path_at}
 use Rattle.serde_json_path_parser.specs.Operands.{IsUndeclared}
@@ -62,9 +62,9 @@ pub record Answers (signature : List ℕ → Option Signature) (text : List ℕ)
   pub undefined : IfErr answer (λ e. kind_of e ≡ UndefinedFunction → IsUndeclared signature (chars (drop (position_of e - 1) text)))
   -- a refusal stands at the start of a character, or at the end of the text
   pub position : IfErr answer (λ e. (1 ≤ position_of e) × IsCharBoundary text (position_of e - 1))
-  -- `NoMemory` is reported at position 1,
-  pub memory_position : IfErr answer (λ e. kind_of e ≡ NoMemory → position_of e ≡ 1)
-  -- and never where there is nothing to store,
+  -- want of memory is one error, at position 1,
+  pub memory : IfErr answer (λ e. kind_of e ≡ NoMemory → e ≡ no_memory)
+  -- and is never reported where there is nothing to store,
   pub spares_memory : length text < greatest_usize → NeedsNoMemory (chars text) → IfErr answer (λ e. kind_of e ≢ NoMemory)
   -- except for a text so long that its end has no position
   pub too_long : length text ≡ greatest_usize → IsErrAnd answer (λ e. kind_of e ≡ NoMemory)

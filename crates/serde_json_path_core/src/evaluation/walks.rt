@@ -46,8 +46,8 @@ impl<'q, 'b, F: Functions> Walk<'q, 'b, F> {
     /// The next node with its location, or `None` after the last one. Once [`Walk::places`] is 0, each call gives `None`,
     /// and none is refused.
     ///
-    /// A refusal leaves the remaining nodes of a clear query (`specs/Clear`) as they were, and the next call tries the same
-    /// step again. The error is `Pattern` only if the query calls a function that stands for `match` or `search`, under
+    /// A refusal leaves the remaining nodes of a clear query (`specs/Clear`) as they were, so the walk goes on with the next
+    /// call. The error is `Pattern` only if the query calls a function that stands for `match` or `search`, under
     /// whatever name; otherwise it is `Memory`.
     pub fn next(&mut self) -> Result<Option<LocatedNode<'b>>, QueryError>
         ensures query { query_of self.new ≡ query_of self.old }

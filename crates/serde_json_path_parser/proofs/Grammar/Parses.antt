@@ -166,7 +166,7 @@ module _ (signature : List ℕ → Option Signature) (text : List ℕ) (u : IsUt
     text_after = λ e. absurd cc;
     undefined = λ e. absurd cc;
     position = (omega arith, IsCharBoundary-start text u);
-    memory_position = λ e. refl;
+    memory = λ e. refl;
     spares_memory = λ less none. absurd (omega (arith, long));
     too_long = λ e. refl;
   }
@@ -184,7 +184,7 @@ module _ (signature : List ℕ → Option Signature) (text : List ℕ) (u : IsUt
         text_after = tt;
         undefined = tt;
         position = tt;
-        memory_position = tt;
+        memory = tt;
         spares_memory = λ less none. tt;
         too_long = λ long. absurd (omega (arith, long));
       }
@@ -201,7 +201,7 @@ module _ (signature : List ℕ → Option Signature) (text : List ℕ) (u : IsUt
     text_after = λ e. absurd cc;
     undefined = λ e. absurd cc;
     position = (omega arith, IsCharBoundary-start text u);
-    memory_position = λ e. refl;
+    memory = λ e. refl;
     spares_memory = λ less none. absurd (spares (needs_none (chars text) none));
     too_long = λ e. refl;
   }
@@ -218,7 +218,7 @@ module _ (signature : List ℕ → Option Signature) (text : List ℕ) (u : IsUt
         text_after = λ e. subst (λ (n : ℕ). (q : Query) × IsAccepted signature (chars (take n text)) q) (sym cut) (k.after e);
         undefined = λ e. subst (λ (n : ℕ). IsUndeclared signature (chars (drop n text))) (sym cut) (k.undefined e);
         position = (omega arith, subst (IsCharBoundary text) (sym cut) k.placed.1);
-        memory_position = λ e. absurd (k.no_memory e);
+        memory = λ e. absurd (k.no_memory e);
         spares_memory = λ less none. k.no_memory;
         too_long = λ long. absurd (omega (arith, long));
       }

@@ -1,6 +1,7 @@
 use Rattle.std.proofs.Common.{codes, Err, inl, inr, refl, sym, ap, subst, ◌∙◌}
 use Rattle.serde_json_path_functions.specs.Patterns.{builtin_functions}
 use Rattle.serde_json_path.specs.Paths.{path_view}
+use Rattle.serde_json_path_parser.specs.Errors.{position_of}
 use Rattle.serde_json_path_parser.specs.Parse.{IsParseOf}
 use Rattle.jsonpath.specs.Report.{CallsByPattern, IsNoPath}
 use Rattle.jsonpath.specs.Run.{AppendsBeginning, line_of, status_of}
@@ -39,7 +40,7 @@ returns-in-Ok-clause-query_last g c =
     λ three. document_known _ _ c.in-Ok.ensures.lines.value whole c.in-Ok.ensures.lines.reads
 
 pub refuse-requires : goal.refuse-requires
-refuse-requires g c = λ path is. (c.report.ensures.path_refused path (c.in-Err.is ∙ ap Err is)).memory_position
+refuse-requires g c = λ path is kind. ap position_of ((c.report.ensures.path_refused path (c.in-Err.is ∙ ap Err is)).memory kind)
 
 pub returns-clause-path_told : goal.returns-clause-path_told
 returns-clause-path_told g c = λ one.
