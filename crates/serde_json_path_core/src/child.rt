@@ -41,6 +41,7 @@ fn member_of<'b>(members: &'b Map<String, Value>, name: &str) -> Option<Child<'b
 }
 
 /// The item at an index, if the value is an array that has it; a negative index counts from the end.
+#[inline]
 pub(crate) fn item<'b>(value: &'b Value, index: i64) -> Option<Child<'b>>
     ensures { option_map child_view result ≡ item_at (view value.now) index }
 {

@@ -66,6 +66,7 @@ impl Arena {
     }
 
     /// The node of a part.
+    #[inline]
     pub(crate) fn node(&self, part: Part) -> &Node
         requires { part.number < length self.now.nodes.items }
         ensures piece { piece_at self.now.nodes.items part.number
@@ -78,6 +79,7 @@ impl Arena {
     }
 
     /// The segments of a query, in order.
+    #[inline]
     pub(crate) fn segments(&self, query: Part) -> &[Part]
         requires within { query.number < length self.now.nodes.items }
         requires is { (q : Query) × (piece_at self.now.nodes.items query.number ≡ a_query q) }

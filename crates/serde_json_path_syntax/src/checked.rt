@@ -108,6 +108,7 @@ impl Checked {
     }
 
     /// The node of a part.
+    #[inline]
     pub fn node(&self, part: Part) -> &Node
         requires { number_of part < length (nodes_in self.now) }
         ensures piece { piece_at (nodes_in self.now) (number_of part)
@@ -127,6 +128,7 @@ impl Checked {
     }
 
     /// The query's segments, in order.
+    #[inline]
     pub fn segments(&self) -> &[Part]
         ensures tree { segments_at (nodes_in self.now) result.now ≡ segments_of (tree_of self.now) }
         ensures within { parts_bound result.now ≤ length (nodes_in self.now) }
@@ -139,6 +141,7 @@ impl Checked {
 
     // Here and below: a node of the wrong kind stands for an ill-typed tree, so the other branch is never reached.
     /// Where a query begins.
+    #[inline]
     pub fn part_kind(&self, query: Part) -> QueryKind
         requires within { number_of query < length (nodes_in self.now) }
         requires typed { UnderSome IsTyped (part_query (nodes_in self.now) query) }
@@ -151,6 +154,7 @@ impl Checked {
     }
 
     /// The segments of a query, in order.
+    #[inline]
     pub fn part_segments(&self, query: Part) -> &[Part]
         requires within { number_of query < length (nodes_in self.now) }
         requires typed { UnderSome IsTyped (part_query (nodes_in self.now) query) }
@@ -162,6 +166,7 @@ impl Checked {
     }
 
     /// The operands of `||` in a logical expression.
+    #[inline]
     pub fn or_parts(&self, expression: Part) -> &[Part]
         requires within { number_of expression < length (nodes_in self.now) }
         requires typed { UnderSome IsTypedOr (or_at (nodes_in self.now) expression) }
@@ -176,6 +181,7 @@ impl Checked {
     }
 
     /// The operands of `&&` in an operand of `||`.
+    #[inline]
     pub fn and_parts(&self, expression: Part) -> &[Part]
         requires within { number_of expression < length (nodes_in self.now) }
         requires typed { UnderSome IsTypedAnd (and_at (nodes_in self.now) expression) }
@@ -231,6 +237,7 @@ impl Checked {
     }
 
     /// How far a segment goes down.
+    #[inline]
     pub fn segment_kind(&self, segment: Part) -> SegmentKind
         requires within { number_of segment < length (nodes_in self.now) }
         requires typed { UnderSome IsTypedSegment (segment_at (nodes_in self.now) segment) }
@@ -243,6 +250,7 @@ impl Checked {
     }
 
     /// A selector in brackets.
+    #[inline]
     pub(crate) fn selector(&self, part: Part) -> SelectorRef<'_>
         requires within { part.number < length (nodes_in self.now) }
         requires typed { UnderSome IsTypedSelector (selector_at (nodes_in self.now) part) }
@@ -263,6 +271,7 @@ impl Checked {
     }
 
     /// The selector at that index, from 0, among those in brackets.
+    #[inline]
     fn bracketed(&self, selectors: &[Part], number: usize) -> Option<SelectorRef<'_>>
         requires within { parts_bound selectors.now ≤ length (nodes_in self.now) }
         requires typed { UnderSome AreTypedSelectors (selectors_at (nodes_in self.now) selectors.now) }
@@ -279,6 +288,7 @@ impl Checked {
     }
 
     /// The selector at that index, from 0, in a segment.
+    #[inline]
     pub fn selector_ref(&self, segment: Part, number: usize) -> Option<SelectorRef<'_>>
         requires within { number_of segment < length (nodes_in self.now) }
         requires typed { UnderSome IsTypedSegment (segment_at (nodes_in self.now) segment) }
@@ -324,6 +334,7 @@ fn declares<F: Functions>(functions: &F, node: &Node) -> bool
 }
 
 /// The selector at that index where there is only one.
+#[inline]
 fn only<'q>(selector_ref: SelectorRef<'q>, number: usize) -> Option<SelectorRef<'q>>
     ensures same { IfSome result (λ given. given ≡ selector_ref.entry) }
     ensures more { IsSome result → number + 1 < 2 ^ 64 }

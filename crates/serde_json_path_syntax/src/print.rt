@@ -33,6 +33,7 @@ impl fmt::Display for Checked {
 }
 
 #[cycle(printing)]
+#[inline(always)]
 fn write_query<W: Write>(f: &mut Formatter<W>, tree: &Checked, query: Part) -> fmt::Result
     requires within { number_of query < length (nodes_in tree.now) }
     requires typed { UnderSome IsTyped (part_query (nodes_in tree.now) query) }
@@ -130,6 +131,7 @@ fn write_selectors<W: Write>(
 
 /// Writes a selector after its opening.
 #[cycle(printing)]
+#[inline(always)]
 fn write_selector<W: Write>(
     f: &mut Formatter<W>,
     tree: &Checked,
@@ -203,6 +205,7 @@ fn write_and<W: Write>(f: &mut Formatter<W>, tree: &Checked, expression: Part) -
 }
 
 #[cycle(printing)]
+#[inline(always)]
 fn write_basic<W: Write>(f: &mut Formatter<W>, tree: &Checked, expression: Part) -> fmt::Result
     requires within { number_of expression < length (nodes_in tree.now) }
     requires typed { UnderSome IsTypedBasic (basic_at (nodes_in tree.now) expression) }
@@ -246,6 +249,7 @@ fn write_basic<W: Write>(f: &mut Formatter<W>, tree: &Checked, expression: Part)
 }
 
 #[cycle(printing)]
+#[inline(always)]
 fn write_comparable<W: Write>(f: &mut Formatter<W>, tree: &Checked, comparable: Part) -> fmt::Result
     requires within { number_of comparable < length (nodes_in tree.now) }
     requires typed { UnderSome IsTypedComparable (comparable_at (nodes_in tree.now) comparable) }
@@ -295,6 +299,7 @@ fn write_arguments<W: Write>(f: &mut Formatter<W>, tree: &Checked, call: Part) -
 }
 
 #[cycle(printing)]
+#[inline(always)]
 fn write_argument<W: Write>(f: &mut Formatter<W>, tree: &Checked, argument: Part) -> fmt::Result
     requires within { number_of argument < length (nodes_in tree.now) }
     requires typed { UnderSome IsTypedForSome (argument_at (nodes_in tree.now) argument) }

@@ -39,6 +39,7 @@ pub(crate) struct Reached<'q, 'b> {
 }
 
 /// A name or an index; `None` for any other selector.
+#[inline(always)]
 fn name_or_index(selector_ref: SelectorRef<'_>) -> Option<SingleSelector<'_>>
     ensures { (nodes : List Node) → IfSome result (λ single.
         selector_view nodes selector_ref.entry ≡ single_view single) }
@@ -51,6 +52,7 @@ fn name_or_index(selector_ref: SelectorRef<'_>) -> Option<SingleSelector<'_>>
 }
 
 /// The selector of a child segment that is one name or one index; `None` for any other segment.
+#[inline(always)]
 fn only_selector(query: &Checked, segment: Part) -> Option<SingleSelector<'_>>
     requires within { segment.number < length (nodes_in query.now) }
     requires typed { UnderSome IsTypedSegment (segment_at (nodes_in query.now) segment) }
@@ -70,6 +72,7 @@ fn only_selector(query: &Checked, segment: Part) -> Option<SingleSelector<'_>>
 }
 
 /// The child that a selector selects, if there is one.
+#[inline(always)]
 fn select<'b>(single: SingleSelector<'_>, value: &'b Value) -> Option<Child<'b>>
     ensures { option_to_list (option_map child_view result)
         ≡ candidates (single_view single.entry) (view value.now) }
@@ -81,6 +84,7 @@ fn select<'b>(single: SingleSelector<'_>, value: &'b Value) -> Option<Child<'b>>
 }
 
 /// Goes down by the first of these segments, as long as each selects one child at most.
+#[inline(always)]
 pub(crate) fn go_down<'q, 'b>(
     query: &Checked,
     segments: &'q [Part],

@@ -15,6 +15,7 @@ use crate::filter::side::{Side, side_of};
 use serde_json_path_syntax::ComparisonOperator;
 
 /// Whether a comparison of two values holds.
+#[inline(always)]
 pub(crate) fn compare(
     operator: ComparisonOperator,
     left: &ComparedValue,
@@ -36,6 +37,7 @@ pub(crate) fn compare(
 }
 
 /// Whether two sides are equal.
+#[inline(always)]
 fn is_equal(left: Side, right: Side) -> bool
     ensures { result ≡ same_seen (side_view left.entry) (side_view right.entry) }
 {
@@ -51,6 +53,7 @@ fn is_equal(left: Side, right: Side) -> bool
 }
 
 /// Whether the first side is a text or a number before the second.
+#[inline(always)]
 fn is_less(left: Side, right: Side) -> bool
     ensures { result ≡ less_seen (side_view left.entry) (side_view right.entry) }
 {

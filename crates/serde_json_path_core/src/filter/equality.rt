@@ -25,6 +25,7 @@ fn same_values(left: &Value, right: &Value) -> bool
 }
 
 /// Whether two numbers are held as integers and equal.
+#[inline(always)]
 fn same_numbers(left: &Number, right: &Number) -> bool
     ensures { result
         ≡ same_amount (as_integer (number_view left.now)) (as_integer (number_view right.now)) }
@@ -33,6 +34,7 @@ fn same_numbers(left: &Number, right: &Number) -> bool
 }
 
 /// Whether two amounts are there, and equal.
+#[inline(always)]
 pub(crate) fn same_amounts(left: Option<i128>, right: Option<i128>) -> bool
     ensures { result ≡ same_amount left right }
 {

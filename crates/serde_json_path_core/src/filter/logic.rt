@@ -112,6 +112,7 @@ fn basic_true<'b, F: Functions>(
 
 /// What a side of a comparison stands for.
 #[cycle(evaluation)]
+#[inline(always)]
 fn compared<'x, 'q: 'x, 'b: 'x, F: Functions>(
     scope: &Scope<'q, 'b, F>,
     comparable: Part,
@@ -147,6 +148,7 @@ fn compared<'x, 'q: 'x, 'b: 'x, F: Functions>(
 }
 
 /// Where a query goes on from its start, after the segments that select one child at most.
+#[inline(always)]
 fn reached<'q, 'b, F: Functions>(
     scope: &Scope<'q, 'b, F>,
     query: Part,
@@ -189,6 +191,7 @@ fn first_from<'b, F: Functions>(
 
 /// The value of the first node that a query selects, if there is one. A singular query takes no memory.
 #[cycle(evaluation)]
+#[inline(always)]
 pub(crate) fn first<'b, F: Functions>(
     scope: &Scope<'_, 'b, F>,
     query: Part,

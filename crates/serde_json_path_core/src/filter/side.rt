@@ -35,6 +35,7 @@ pub(crate) enum Side<'s> {
 }
 
 /// A number in billionths, if it is held as an integer.
+#[inline(always)]
 pub(crate) fn amount(number: &Number) -> Option<i128>
     ensures { result ≡ amount_of (a_value (number_data (number_view number.now))) }
 {
@@ -46,6 +47,7 @@ pub(crate) fn amount(number: &Number) -> Option<i128>
 }
 
 /// A value by its kind.
+#[inline(always)]
 fn side_of_value(value: &Value) -> Side<'_>
     ensures { side_view result ≡ seen_of (a_value (view value.now)) }
 {
@@ -60,6 +62,7 @@ fn side_of_value(value: &Value) -> Side<'_>
 }
 
 /// A literal by its kind.
+#[inline(always)]
 fn side_of_literal(literal: &Literal) -> Side<'_>
     ensures { side_view result ≡ seen_of (literal_compared (literal_view literal.now)) }
 {
@@ -72,6 +75,7 @@ fn side_of_literal(literal: &Literal) -> Side<'_>
 }
 
 /// A compared value by its kind.
+#[inline(always)]
 pub(crate) fn side_of<'s>(compared_value: &'s ComparedValue<'_>) -> Side<'s>
     ensures { side_view result ≡ seen_of (compared_view compared_value.now) }
 {
