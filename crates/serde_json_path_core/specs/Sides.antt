@@ -1,5 +1,5 @@
 -- What a comparison sees of its sides: the same of a literal and of a value that equals it.
-use Rattle.std.specs.Prelude.{ℤ, List, ℕ, Bool, true, false, Option, Some, bytes_eq}
+use Rattle.std.specs.Prelude.{◌≡◌, ℤ, List, ℕ, Bool, true, false, Option, Some, bytes_eq}
 use Rattle.std.specs.Bool.{beq}
 use Rattle.std.specs.Ordering.{nat_cmp, is_lt}
 use Rattle.std.specs.Cmp.Lexicographic.{slice_cmp}
@@ -44,6 +44,10 @@ side_view (Amount z) = amount z
 side_view (Text t) = text t.now
 side_view (Array v) = items (items_view v.now.items)
 side_view (Object m) = members (members_view m.now.entries)
+
+-- what is seen of the side is what is seen of the comparable's value, which is there
+abbrev pub IsSeenOf : Side → Option Compared → Type 0
+IsSeenOf side compared = (a : Compared) × (compared ≡ Some a) × (side_view side ≡ seen_of a)
 
 -- `==`
 abbrev pub same_seen : Seen → Seen → Bool

@@ -4,10 +4,11 @@ ghost use Rattle.std.specs.Prelude.{◌≡◌, ◌||◌};
 ghost use Rattle.std.specs.Ordering.{nat_cmp, is_lt};
 ghost use Rattle.std.specs.Cmp.Lexicographic.{slice_cmp};
 ghost use Rattle.std.specs.Str.{chars};
+ghost use Rattle.serde_json_path_core.specs.Compared.{Compared};
 ghost use Rattle.serde_json_path_core.specs.Computed.{compare as comparison};
 ghost use Rattle.serde_json_path_syntax.specs.Literals.{operator_view};
 ghost use Rattle.serde_json_path_core.specs.ComparedValues.{compared_view};
-ghost use Rattle.serde_json_path_core.specs.Sides.{side_view, same_seen, less_seen};
+ghost use Rattle.serde_json_path_core.specs.Sides.{seen_of, side_view, same_seen, less_seen};
 
 use crate::filter::compared_value::ComparedValue;
 use crate::filter::equality::{same_amounts, same_items, same_members};
@@ -24,8 +25,15 @@ pub(crate) fn compare(
     ensures { result
         ≡ comparison (operator_view operator) (compared_view left.now) (compared_view right.now) }
 {
-    let left = side_of(left);
-    let right = side_of(right);
+    compare_sides(operator, side_of(left), side_of(right))
+}
+
+/// Whether a comparison of two sides holds.
+#[inline(always)]
+pub(crate) fn compare_sides(operator: ComparisonOperator, left: Side, right: Side) -> bool
+    ensures { (a b : Compared) → side_view left.entry ≡ seen_of a → side_view right.entry ≡ seen_of b
+        → result ≡ comparison (operator_view operator) a b }
+{
     match operator {
         ComparisonOperator::EqualTo => is_equal(left, right),
         ComparisonOperator::NotEqualTo => !is_equal(left, right),

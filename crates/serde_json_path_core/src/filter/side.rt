@@ -48,7 +48,7 @@ pub(crate) fn amount(number: &Number) -> Option<i128>
 
 /// A value by its kind.
 #[inline(always)]
-fn side_of_value(value: &Value) -> Side<'_>
+pub(crate) fn side_of_value(value: &Value) -> Side<'_>
     ensures { side_view result ≡ seen_of (a_value (view value.now)) }
 {
     match value {
@@ -63,7 +63,7 @@ fn side_of_value(value: &Value) -> Side<'_>
 
 /// A literal by its kind.
 #[inline(always)]
-fn side_of_literal(literal: &Literal) -> Side<'_>
+pub(crate) fn side_of_literal(literal: &Literal) -> Side<'_>
     ensures { side_view result ≡ seen_of (literal_compared (literal_view literal.now)) }
 {
     match literal {
