@@ -1,6 +1,6 @@
 //! The lines of a report on a path and a document.
 
-ghost use Rattle.std.specs.Prelude.{◌≡◌, ◌++◌, ℕ, List, IfOk, OnOk, string_bytes};
+ghost use Rattle.std.specs.Prelude.{◌≡◌, [], ◌++◌, ℕ, List, IfOk, OnOk, string_bytes};
 ghost use Rattle.serde_json.specs.Data.{Data};
 ghost use Rattle.serde_json.specs.View.{view};
 ghost use Rattle.serde_json_path_nodes.specs.Location.{Located};
@@ -108,16 +108,33 @@ fn push_line(alloc: Global, text: &mut String, node: &LocatedNode<'_>) -> Result
     push_value(alloc, text, node.node())
 }
 
-/// One line for each node that remains of a walk, in order.
+/// Room for lines that is a mapping of its own, which grows without a copy.
+const ROOM: usize = 262_144;
+
+/// An empty text with room for lines, if there is memory for it.
+///
+/// It is asked for before the document is read: a large request after a document's many small pieces has the allocator go over
+/// those that are free.
+fn room(alloc: Global) -> String
+    ensures { string_bytes result ≡ [] }
+{
+    match String::with_capacity(alloc, ROOM) {
+        Ok(text) => text,
+        Err(_) => String::new(alloc),
+    }
+}
+
+/// One line for each node that remains of a walk, in order, in a text that is empty before.
 fn lines<F: Functions + Drop>(
     alloc: Global,
+    mut text: String,
     mut walk: Walk<'_, '_, F>,
 ) -> Result<String, QueryError>
+    requires { string_bytes text ≡ [] }
     ensures lines { IfOk result (λ text. (nodes : List Located) × AreLinesOf nodes (string_bytes text)
         × (IsClearWalk walk.entry → nodes ≡ rest walk.entry)) }
     ensures refused { OnlyMemory (set_of walk.entry) (query_of walk.entry) result }
 {
-    let mut text = String::new(alloc);
     'nodes: while let Some(node) = walk.next()? {
         push_line(alloc, &mut text, &node)?;
     }
@@ -159,10 +176,11 @@ pub fn report<F: Functions>(
         → (d : Data) × ReadsAs document.now d }
 {
     let path = JsonPath::parse_with(alloc, path, functions).map_err(ReportError::Path)?;
+    let text = room(alloc);
     let value = self::document(alloc, document).map_err(ReportError::Document)?;
     let walk = path
         .walk(alloc, &value, functions)
         .map_err(ReportError::Query)?;
-    let text = lines(alloc, walk).map_err(ReportError::Query)?;
+    let text = lines(alloc, text, walk).map_err(ReportError::Query)?;
     Ok(text)
 }

@@ -5,4 +5,5 @@ pub(crate) mod compare;
 pub(crate) mod compared_value;
 mod equality;
 pub(crate) mod logic;
+mod plain;
 mod side;

@@ -605,6 +605,13 @@ filter::logic::all_true-basic_true-requires g t c =
     (subst (Sound scope IsTypedAnd calls_in_and) c.and_parts-part-items.ensures.tree c.requires.sound) in
     search rules
 
+pub filter::logic::basic_true-plain_relation-requires : goal.filter::logic::basic_true-plain_relation-requires
+filter::logic::basic_true-plain_relation-requires g t c =
+    let scope = c.args.scope.now in
+    let sides = side-calls (query_of scope) (comparable_at (nodes_of scope) c.in-Relation.left) (operator_view c.in-Relation.operator) (comparable_at (nodes_of scope) c.in-Relation.right) (basic_at (nodes_of scope) c.args.expression)
+    (search rules) c.requires.sound.1 in
+    search rules
+
 pub filter::logic::basic_true-compared-requires : goal.filter::logic::basic_true-compared-requires
 filter::logic::basic_true-compared-requires g t c =
     let scope = c.args.scope.now in

@@ -1,10 +1,14 @@
 -- A query goes down by segments that select one child at most: the values that it selects stay.
 use Rattle.std.specs.Prelude.{IfSome}
+use Rattle.std.specs.Borrow.{Bor}
+use Rattle.std.specs.Option.{option_map_or}
 use Rattle.std.proofs.Common.{◌≡◌, ℕ, ◌+◌, ◌<◌, List, [], ◌∷◌, ◌++◌, ◌-◌, ◌≤◌, map, take, drop, flat_map, length, get_or, arith, subst, inl, Option, Some, None, option_to_list, slice_get, refl, sym, ap, ◌∙◌}
 use Rattle.std.proofs.lemmas.Option.{none-some, same_Some}
 use Rattle.std.proofs.lemmas.List.{append-nil, drop_more, length-drop, take-append-drop, take_all}
 use Rattle.std.proofs.lemmas.List.Folds.{flat_map-map}
 use Rattle.serde_json.specs.Data.{Data}
+use Rattle.serde_json.specs.View.{view}
+use Rattle.serde_json.specs.declared.value.Value.{Value}
 use Rattle.serde_json_path_nodes.specs.Location.{Step, Located}
 use Rattle.serde_json_path_functions.specs.Functions.{FunctionSet}
 use Rattle.serde_json_path_syntax.specs.Tree.{Query, query, kind_of, segments_of, Segments, no_segments, segment, SegmentKind, child, descendant, Segment, Selector}
@@ -130,3 +134,10 @@ module _ (F : FunctionSet) (top : Data) where
 pub first-of-values : (ns : List Located) → first_value ns ≡ slice_get (map value_of ns) 0
 first-of-values [] = refl
 first-of-values (n ∷ ns) = refl
+
+-- where no segment is left, the first value is the one that was reached
+pub first-reached : (F : FunctionSet) (top : Data) (nodes : List Node) (ns : List Located) (parts : List Part) (found : Option (Bor Value)) (node : Bor Value)
+    → map value_of ns ≡ option_map_or (λ (v : Bor Value). values_from F top (segments_at nodes parts) (view v.now)) found [] → found ≡ Some node → length parts ≡ 0 → first_value ns ≡ Some (view node.now)
+first-reached F top nodes ns [] found node e is none =
+    first-of-values ns ∙ ap (λ vs. slice_get vs 0) (e ∙ ap (λ (o : Option (Bor Value)). option_map_or (λ (v : Bor Value). values_from F top (segments_at nodes []) (view v.now)) o []) is)
+first-reached F top nodes ns (part ∷ parts) found node e is none = absurd (omega arith)

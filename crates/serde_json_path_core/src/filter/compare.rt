@@ -4,14 +4,15 @@ ghost use Rattle.std.specs.Prelude.{◌≡◌, ◌||◌};
 ghost use Rattle.std.specs.Ordering.{nat_cmp, is_lt};
 ghost use Rattle.std.specs.Cmp.Lexicographic.{slice_cmp};
 ghost use Rattle.std.specs.Str.{chars};
-ghost use Rattle.serde_json_path_core.specs.Computed.{compare as comparison};
+ghost use Rattle.serde_json_path_core.specs.Compared.{Compared};
+ghost use Rattle.serde_json_path_core.specs.Computed.{compare as comparison, rising_amount};
 ghost use Rattle.serde_json_path_syntax.specs.Literals.{operator_view};
 ghost use Rattle.serde_json_path_core.specs.ComparedValues.{compared_view};
-ghost use Rattle.serde_json_path_core.specs.Sides.{side_view, same_seen, less_seen};
+ghost use Rattle.serde_json_path_core.specs.Sides.{seen_of, side_view, same_seen, less_seen};
 
 use crate::filter::compared_value::ComparedValue;
-use crate::filter::equality::{same_amounts, same_items, same_members};
-use crate::filter::side::{Side, side_of};
+use crate::filter::equality::{same_amounts, same_items, same_members, same_numbers};
+use crate::filter::side::{Side, amount, side_of};
 use serde_json_path_syntax::ComparisonOperator;
 
 /// Whether a comparison of two values holds.
@@ -24,8 +25,15 @@ pub(crate) fn compare(
     ensures { result
         ≡ comparison (operator_view operator) (compared_view left.now) (compared_view right.now) }
 {
-    let left = side_of(left);
-    let right = side_of(right);
+    compare_sides(operator, side_of(left), side_of(right))
+}
+
+/// Whether a comparison of two sides holds.
+#[inline(always)]
+pub(crate) fn compare_sides(operator: ComparisonOperator, left: Side, right: Side) -> bool
+    ensures { (a b : Compared) → side_view left.entry ≡ seen_of a → side_view right.entry ≡ seen_of b
+        → result ≡ comparison (operator_view operator) a b }
+{
     match operator {
         ComparisonOperator::EqualTo => is_equal(left, right),
         ComparisonOperator::NotEqualTo => !is_equal(left, right),
@@ -44,10 +52,30 @@ fn is_equal(left: Side, right: Side) -> bool
     match (left, right) {
         (Side::Nothing, Side::Nothing) | (Side::Null, Side::Null) => true,
         (Side::Bool(left), Side::Bool(right)) => left == right,
-        (Side::Amount(left), Side::Amount(right)) => same_amounts(left, right),
+        (Side::Number(left), Side::Number(right)) => same_numbers(left, right),
+        (Side::Number(left), Side::Literal(right)) => {
+            same_amounts(amount(left), Some(right.billionths()))
+        }
+        (Side::Literal(left), Side::Number(right)) => {
+            same_amounts(Some(left.billionths()), amount(right))
+        }
+        (Side::Literal(left), Side::Literal(right)) => {
+            same_amounts(Some(left.billionths()), Some(right.billionths()))
+        }
         (Side::Text(left), Side::Text(right)) => left == right,
         (Side::Array(left), Side::Array(right)) => same_items(left, right),
         (Side::Object(left), Side::Object(right)) => same_members(left, right),
+        _ => false,
+    }
+}
+
+/// Whether two amounts are there, and the first is less.
+#[inline(always)]
+fn rising_amounts(left: Option<i128>, right: Option<i128>) -> bool
+    ensures { result ≡ rising_amount left right }
+{
+    match (left, right) {
+        (Some(left), Some(right)) => left < right,
         _ => false,
     }
 }
@@ -58,7 +86,16 @@ fn is_less(left: Side, right: Side) -> bool
     ensures { result ≡ less_seen (side_view left.entry) (side_view right.entry) }
 {
     match (left, right) {
-        (Side::Amount(Some(left)), Side::Amount(Some(right))) => left < right,
+        (Side::Number(left), Side::Number(right)) => rising_amounts(amount(left), amount(right)),
+        (Side::Number(left), Side::Literal(right)) => {
+            rising_amounts(amount(left), Some(right.billionths()))
+        }
+        (Side::Literal(left), Side::Number(right)) => {
+            rising_amounts(Some(left.billionths()), amount(right))
+        }
+        (Side::Literal(left), Side::Literal(right)) => {
+            rising_amounts(Some(left.billionths()), Some(right.billionths()))
+        }
         (Side::Text(left), Side::Text(right)) => comes_before(left, right),
         _ => false,
     }

@@ -26,7 +26,7 @@ fn same_values(left: &Value, right: &Value) -> bool
 
 /// Whether two numbers are held as integers and equal.
 #[inline(always)]
-fn same_numbers(left: &Number, right: &Number) -> bool
+pub(crate) fn same_numbers(left: &Number, right: &Number) -> bool
     ensures { result
         ≡ same_amount (as_integer (number_view left.now)) (as_integer (number_view right.now)) }
 {

@@ -20,6 +20,7 @@ use crate::evaluation::start;
 use crate::filter::call::{answer, answer_holds, compared_answer};
 use crate::filter::compare::compare;
 use crate::filter::compared_value::ComparedValue;
+use crate::filter::plain::plain_relation;
 use serde_json::Value;
 use serde_json_path_functions::{FunctionValue, Functions, QueryError};
 use serde_json_path_syntax::{Basic, Comparable, Literal, Node, Part};
@@ -91,6 +92,9 @@ fn basic_true<'b, F: Functions>(
                 operator,
                 right,
             } => {
+                if let Some(holds) = plain_relation(scope, *left, *operator, *right, value) {
+                    return Ok(holds);
+                }
                 let left = compared(scope, *left, value)?;
                 let right = compared(scope, *right, value)?;
                 Ok(compare(*operator, &left, &right))
@@ -112,7 +116,6 @@ fn basic_true<'b, F: Functions>(
 
 /// What a side of a comparison stands for.
 #[cycle(evaluation)]
-#[inline(always)]
 fn compared<'x, 'q: 'x, 'b: 'x, F: Functions>(
     scope: &Scope<'q, 'b, F>,
     comparable: Part,
@@ -149,7 +152,7 @@ fn compared<'x, 'q: 'x, 'b: 'x, F: Functions>(
 
 /// Where a query goes on from its start, after the segments that select one child at most.
 #[inline(always)]
-fn reached<'q, 'b, F: Functions>(
+pub(crate) fn reached<'q, 'b, F: Functions>(
     scope: &Scope<'q, 'b, F>,
     query: Part,
     value: &'b Value,

@@ -10,7 +10,7 @@ ghost use Rattle.serde_json_path_core.specs.Sides.{seen_of, side_view};
 
 use crate::filter::compared_value::ComparedValue;
 use serde_json::{Map, Number, Value};
-use serde_json_path_syntax::Literal;
+use serde_json_path_syntax::{Literal, NumberLiteral};
 
 /// One, in billionths.
 const ONE: i128 = 1_000_000_000;
@@ -24,8 +24,10 @@ pub(crate) enum Side<'s> {
     Null,
     /// A truth value.
     Bool(bool),
-    /// A number in billionths, or `None` for a number that the document does not hold as an integer, which equals no number.
-    Amount(Option<i128>),
+    /// A number of the document.
+    Number(&'s Number),
+    /// A number of the query.
+    Literal(&'s NumberLiteral),
     /// A text.
     Text(&'s str),
     /// An array.
@@ -34,7 +36,7 @@ pub(crate) enum Side<'s> {
     Object(&'s Map<String, Value>),
 }
 
-/// A number in billionths, if it is held as an integer.
+/// A number in billionths, if it is held as an integer; any other number equals none.
 #[inline(always)]
 pub(crate) fn amount(number: &Number) -> Option<i128>
     ensures { result ≡ amount_of (a_value (number_data (number_view number.now))) }
@@ -48,13 +50,13 @@ pub(crate) fn amount(number: &Number) -> Option<i128>
 
 /// A value by its kind.
 #[inline(always)]
-fn side_of_value(value: &Value) -> Side<'_>
+pub(crate) fn side_of_value(value: &Value) -> Side<'_>
     ensures { side_view result ≡ seen_of (a_value (view value.now)) }
 {
     match value {
         Value::Null => Side::Null,
         Value::Bool(truth) => Side::Bool(*truth),
-        Value::Number(number) => Side::Amount(amount(number)),
+        Value::Number(number) => Side::Number(number),
         Value::String(text) => Side::Text(text.as_str()),
         Value::Array(items) => Side::Array(items),
         Value::Object(members) => Side::Object(members),
@@ -63,12 +65,12 @@ fn side_of_value(value: &Value) -> Side<'_>
 
 /// A literal by its kind.
 #[inline(always)]
-fn side_of_literal(literal: &Literal) -> Side<'_>
+pub(crate) fn side_of_literal(literal: &Literal) -> Side<'_>
     ensures { side_view result ≡ seen_of (literal_compared (literal_view literal.now)) }
 {
     match literal {
         Literal::String(text) => Side::Text(text.as_str()),
-        Literal::Number(number) => Side::Amount(Some(number.billionths())),
+        Literal::Number(number) => Side::Literal(number),
         Literal::Bool(truth) => Side::Bool(*truth),
         Literal::Null => Side::Null,
     }
