@@ -612,15 +612,8 @@ filter::logic::basic_true-plain_relation-requires g t c =
     (search rules) c.requires.sound.1 in
     search rules
 
-pub filter::logic::basic_true-compared-requires : goal.filter::logic::basic_true-compared-requires
-filter::logic::basic_true-compared-requires g t c =
-    let scope = c.args.scope.now in
-    let sides = side-calls (query_of scope) (comparable_at (nodes_of scope) c.in-Relation.left) (operator_view c.in-Relation.operator) (comparable_at (nodes_of scope) c.in-Relation.right) (basic_at (nodes_of scope) c.args.expression)
-    (search rules) c.requires.sound.1 in
-    search rules
-
-pub filter::logic::basic_true-compared-requires-in-Relation : goal.filter::logic::basic_true-compared-requires-in-Relation
-filter::logic::basic_true-compared-requires-in-Relation g t c =
+pub filter::logic::basic_true-relation_true-requires : goal.filter::logic::basic_true-relation_true-requires
+filter::logic::basic_true-relation_true-requires g t c =
     let scope = c.args.scope.now in
     let sides = side-calls (query_of scope) (comparable_at (nodes_of scope) c.in-Relation.left) (operator_view c.in-Relation.operator) (comparable_at (nodes_of scope) c.in-Relation.right) (basic_at (nodes_of scope) c.args.expression)
     (search rules) c.requires.sound.1 in

@@ -1,4 +1,4 @@
-use Rattle.std.proofs.Common.{◌≡◌, ◌+◌, ◌-◌, ◌*◌, ◌≤◌, ◌++◌, drop, length, map}
+use Rattle.std.proofs.Common.{◌≡◌, ◌+◌, ◌-◌, ◌*◌, ◌≤◌, ◌++◌, drop, length, map, max}
 use Rattle.std.specs.Prelude.{filter as keep}
 use Rattle.std.specs.Slice.Iter.{iter_rest}
 use Rattle.serde_json.specs.Data.{Data}
@@ -31,6 +31,9 @@ decreases-filter::logic::all_true g l = 8 * l.expression.number + 5
 
 abbrev pub decreases-filter::logic::basic_true : goal.decreases-filter::logic::basic_true
 decreases-filter::logic::basic_true g l = 8 * l.expression.number + 5
+
+abbrev pub decreases-filter::logic::relation_true : goal.decreases-filter::logic::relation_true
+decreases-filter::logic::relation_true g l = 8 * max l.left.number l.right.number + 6
 
 abbrev pub decreases-filter::logic::compared : goal.decreases-filter::logic::compared
 decreases-filter::logic::compared g l = 8 * l.comparable.number + 5

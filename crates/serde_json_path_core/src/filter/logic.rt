@@ -3,7 +3,7 @@
 ghost use Rattle.std.specs.Prelude.{◌≡◌, ◌<◌, ◌≤◌, Some, IfOk, IfErr, IfSome, length, map, option_map, slice_get};
 ghost use Rattle.serde_json.specs.View.{view};
 ghost use Rattle.serde_json_path_nodes.specs.Views.{node_value};
-ghost use Rattle.serde_json_path_core.specs.Evaluates.{SoundAnd, SoundBasic, SoundComparable, SoundOr, SoundQuery, SoundSegments, and_holds, basic_holds, compared_at, or_holds, results_at, values_at, values_of_segments};
+ghost use Rattle.serde_json_path_core.specs.Evaluates.{SoundAnd, SoundBasic, SoundComparable, SoundOr, SoundQuery, SoundSegments, and_holds, basic_holds, compared_at, or_holds, relation_holds, results_at, values_at, values_of_segments};
 ghost use Rattle.serde_json_path_core.specs.Clear.{StandsIn};
 ghost use Rattle.serde_json_path_core.specs.Meaning.{first_value};
 ghost use Rattle.serde_json_path_syntax.specs.PartBounds.{parts_bound};
@@ -23,7 +23,7 @@ use crate::filter::compared_value::ComparedValue;
 use crate::filter::plain::plain_relation;
 use serde_json::Value;
 use serde_json_path_functions::{FunctionValue, Functions, QueryError};
-use serde_json_path_syntax::{Basic, Comparable, Literal, Node, Part};
+use serde_json_path_syntax::{Basic, Comparable, ComparisonOperator, Literal, Node, Part};
 
 /// Whether a logical expression holds for `@` at the value: whether one of its operands of `||` does.
 #[cycle(evaluation)]
@@ -92,12 +92,10 @@ fn basic_true<'b, F: Functions>(
                 operator,
                 right,
             } => {
-                if let Some(holds) = plain_relation(scope, *left, *operator, *right, value) {
-                    return Ok(holds);
+                match plain_relation(scope, *left, *operator, *right, value) {
+                    Some(holds) => Ok(holds),
+                    None => relation_true(scope, *left, *operator, *right, value),
                 }
-                let left = compared(scope, *left, value)?;
-                let right = compared(scope, *right, value)?;
-                Ok(compare(*operator, &left, &right))
             }
             Basic::Exist(query) => Ok(first(scope, *query, value)?.is_some()),
             Basic::NotExist(query) => Ok(first(scope, *query, value)?.is_none()),
@@ -112,6 +110,30 @@ fn basic_true<'b, F: Functions>(
         },
         _ => unreachable!(),
     }
+}
+
+/// Whether a comparison holds, of which a side has to be evaluated.
+#[cycle(evaluation)]
+#[inline(never)]
+fn relation_true<'b, F: Functions>(
+    scope: &Scope<'_, 'b, F>,
+    left: Part,
+    operator: ComparisonOperator,
+    right: Part,
+    value: &'b Value,
+) -> Result<bool, QueryError>
+    requires below_left { left.number < length (nodes_of scope.now) }
+    requires below_right { right.number < length (nodes_of scope.now) }
+    requires sound_left { SoundComparable scope.now left }
+    requires sound_right { SoundComparable scope.now right }
+    requires inside { StandsIn (top_of scope.now) (view value.now) }
+    ensures means { IfOk result (λ holds.
+        Clear scope.now → holds ≡ relation_holds scope.now left operator right (view value.now)) }
+    ensures refused { IfErr result (λ e. WithoutPatterns scope.now → e ≡ Memory) }
+{
+    let left = compared(scope, left, value)?;
+    let right = compared(scope, right, value)?;
+    Ok(compare(operator, &left, &right))
 }
 
 /// What a side of a comparison stands for.
