@@ -1,7 +1,6 @@
 //! The bookstore of RFC 9535, section 1.5.
 
-use serde_json::Value;
-use serde_json_path::JsonPath;
+use crate::tests::rows::counts;
 use std::test::Fail;
 
 pub(crate) const BOOKSTORE: &str = concat!(
@@ -32,10 +31,5 @@ pub(crate) const BOOKS: &[&str] = &[
 
 #[test]
 fn counts_all_below_the_bookstore(rt: HostRuntime) -> Result<(), Fail> {
-    let alloc = rt.alloc();
-    let document = Value::from_str(alloc, BOOKSTORE)?;
-    let path = JsonPath::parse(alloc, "$..*")?;
-    assert_eq!(rt; path.query(alloc, &document)?.len(), 27);
-    assert_eq!(rt; path.query_located(alloc, &document)?.len(), 27);
-    Ok(())
+    counts(&rt, rt.alloc(), "$..*", BOOKSTORE, 27)
 }

@@ -46,21 +46,26 @@ fn is_message(told: &str) -> bool {
     false
 }
 
-/// Holds what a parse answers, where it refuses, to a character of the text or its end, and to a message of its kind.
+/// Holds the row of a refusal to the table.
+fn is_in_table(rt: &impl Abort, row: &str, text: &str) {
+    assert!(rt; is_message(row), "{row} of {text:?}");
+}
+
+/// Holds a refusal, if there is one, to a character of the text or its end, and to a message of its kind.
 fn is_told(
     rt: &impl Abort,
     alloc: Global,
     text: &str,
-    answer: Result<JsonPath, ParseError>,
+    refusal: Option<ParseError>,
 ) -> Result<(), Fail> {
-    if let Err(e) = answer {
+    if let Some(e) = refusal {
         let at = e.position();
         assert!(rt;
             at >= 1 && text.is_char_boundary(at - 1),
             "{at} in {text:?}"
         );
         let row = format!(in alloc; "{:?} ~ {}", e.kind(), e.message())?;
-        assert!(rt; is_message(row.as_str()), "{row} of {text:?}");
+        is_in_table(rt, row.as_str(), text);
     }
     Ok(())
 }
@@ -69,7 +74,7 @@ fn is_told(
 pub(crate) fn cut(rt: &impl Abort, alloc: Global, text: &str) -> Result<(), Fail> {
     for end in 0..text.len() + 1 {
         if let Some(start) = text.get(..end) {
-            is_told(rt, alloc, start, JsonPath::parse(alloc, start))?;
+            is_told(rt, alloc, start, JsonPath::parse(alloc, start).err())?;
         }
     }
     Ok(())
@@ -86,31 +91,31 @@ pub(crate) fn cut_rows_with<F: Functions>(
         let (text, _) = fields(row)?;
         for end in 0..text.len() + 1 {
             if let Some(start) = text.get(..end) {
-                is_told(
-                    rt,
-                    alloc,
-                    start,
-                    JsonPath::parse_with(alloc, start, functions),
-                )?;
+                let refusal = JsonPath::parse_with(alloc, start, functions).err();
+                is_told(rt, alloc, start, refusal)?;
             }
         }
     }
     Ok(())
 }
 
+/// Cuts a text that was made for it.
+fn cut_text(rt: &impl Abort, alloc: Global, text: String) -> Result<(), Fail> {
+    cut(rt, alloc, text.as_str())
+}
+
 #[test]
 fn cuts_nested_texts(rt: HostRuntime) -> Result<(), Fail> {
     let alloc = rt.alloc();
-    cut(&rt, alloc, nesting::filters(alloc, 129)?.as_str())?;
-    cut(&rt, alloc, nesting::parentheses(alloc, 128)?.as_str())?;
-    cut(&rt, alloc, nesting::calls(alloc, 128)?.as_str())
+    cut_text(&rt, alloc, nesting::filters(alloc, 129)?)?;
+    cut_text(&rt, alloc, nesting::parentheses(alloc, 128)?)?;
+    cut_text(&rt, alloc, nesting::calls(alloc, 128)?)
 }
 
 #[test]
 fn cuts_long_texts(rt: HostRuntime) -> Result<(), Fail> {
     let alloc = rt.alloc();
-    cut(&rt, alloc, long(alloc, "$[", "9", 10_000, "]")?.as_str())?;
-    let nines = long(alloc, "$[?@ == ", "9", 10_000, "]")?;
-    cut(&rt, alloc, nines.as_str())?;
-    cut(&rt, alloc, long(alloc, "$", " ", 10_000, "x")?.as_str())
+    cut_text(&rt, alloc, long(alloc, "$[", "9", 10_000, "]")?)?;
+    cut_text(&rt, alloc, long(alloc, "$[?@ == ", "9", 10_000, "]")?)?;
+    cut_text(&rt, alloc, long(alloc, "$", " ", 10_000, "x")?)
 }

@@ -7,11 +7,12 @@ ghost use Rattle.serde_json_path_core.specs.Selects.{OnlyMemory, SelectsValues};
 ghost use Rattle.serde_json_path_functions.specs.Patterns.{before_builtin, builtin_functions};
 ghost use Rattle.serde_json_path.specs.Paths.{path_tree};
 
-use crate::tests::rows::values;
+use crate::tests::rows::are_values;
 use serde_json::Value;
 use serde_json_path::functions::{Builtin, Functions};
 use serde_json_path::{JsonPath, NodeList, QueryError, law_set_before_itself};
 use std::alloc::Global;
+use std::process::Abort;
 use std::test::Fail;
 
 /// The nodes that a path selects, if it fits the built-in functions.
@@ -48,18 +49,26 @@ fn query_with_if_it_fits<'b, F: Functions>(
     Ok(Some(nodes))
 }
 
+/// Holds an answer to the texts of the values that it gives.
+fn gives(
+    rt: &impl Abort,
+    alloc: Global,
+    answer: &Option<NodeList<'_>>,
+    wanted: &str,
+) -> Result<(), Fail> {
+    match answer {
+        Some(nodes) => are_values(rt, alloc, nodes.iter(), wanted, "a path that fits"),
+        None => Err(Fail::new(format_args!("the path does not fit"))),
+    }
+}
+
 #[test]
 fn queries_where_the_path_fits(rt: HostRuntime) -> Result<(), Fail> {
     let alloc = rt.alloc();
     let document = Value::from_str(alloc, r#"[[1,2],[3]]"#)?;
     let path = JsonPath::parse(alloc, "$[?length(@) == 2]")?;
-    match query_if_it_fits(alloc, &path, &document)? {
-        Some(nodes) => assert_eq!(rt; values(alloc, nodes.iter())?.as_str(), "[1,2]"),
-        None => assert!(rt; false, "does not fit"),
-    }
-    match query_with_if_it_fits(alloc, &path, &document, &Builtin)? {
-        Some(nodes) => assert_eq!(rt; values(alloc, nodes.iter())?.as_str(), "[1,2]"),
-        None => assert!(rt; false, "does not fit the set"),
-    }
-    Ok(())
+    let nodes = query_if_it_fits(alloc, &path, &document)?;
+    gives(&rt, alloc, &nodes, "[1,2]")?;
+    let nodes = query_with_if_it_fits(alloc, &path, &document, &Builtin)?;
+    gives(&rt, alloc, &nodes, "[1,2]")
 }

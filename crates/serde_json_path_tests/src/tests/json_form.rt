@@ -4,7 +4,7 @@ ghost use Rattle.serde_json_path_functions.specs.Functions.{Fits};
 ghost use Rattle.serde_json_path_functions.specs.Patterns.{builtin_functions};
 ghost use Rattle.serde_json_path.specs.Paths.{path_signatures};
 
-use crate::tests::rows::{fields, values};
+use crate::tests::rows::{are_values, fields, tells};
 use serde_json::Value;
 use serde_json_path::{FromJsonError, JsonPath, JsonPathExt};
 use std::alloc::Global;
@@ -32,13 +32,18 @@ const READ: &[&str] = &[
     r#""$[?match(@, 'a.')]" ~ ["ab","a","b"] ~ "ab""#,
 ];
 
+/// Why a value is not read as a path, or `accepted`.
+fn refusal(alloc: Global, value: &Value) -> Result<String, Fail> {
+    match JsonPath::from_json(alloc, value).err() {
+        Some(e) => Ok(e.to_string(alloc)?),
+        None => Ok(String::from_str(alloc, "accepted")?),
+    }
+}
+
 /// Holds a value to the error that it is refused with.
 fn refuses(rt: &impl Abort, alloc: Global, value: &str, told: &str) -> Result<(), Fail> {
-    let value = Value::from_str(alloc, value)?;
-    match JsonPath::from_json(alloc, &value) {
-        Ok(_) => assert!(rt; false, "{told:?} is accepted"),
-        Err(e) => assert_eq!(rt; e.to_string(alloc)?.as_str(), told, "not {told}"),
-    }
+    let json = Value::from_str(alloc, value)?;
+    tells(rt, refusal(alloc, &json)?.as_str(), told, value);
     Ok(())
 }
 
@@ -47,15 +52,14 @@ fn gives(
     rt: &impl Abort,
     alloc: Global,
     path: &JsonPath,
-    document: &str,
+    document_text: &str,
     items: &str,
 ) -> Result<(), Fail>
     requires { Fits builtin_functions (path_signatures path.now) }
 {
-    let document = Value::from_str(alloc, document)?;
+    let document = Value::from_str(alloc, document_text)?;
     let nodes = document.json_path(alloc, path)?;
-    assert_eq!(rt; values(alloc, nodes.iter())?.as_str(), items, "not {items}");
-    Ok(())
+    are_values(rt, alloc, nodes.iter(), items, document_text)
 }
 
 #[test]
@@ -67,19 +71,23 @@ fn refuses_values_that_are_not_paths(rt: HostRuntime) -> Result<(), Fail> {
     }
     let number = Value::from_str(alloc, "7")?;
     let answer = JsonPath::from_json(alloc, &number).err();
-    assert_eq!(rt; answer, Some(FromJsonError::NotAString), "of 7");
+    assert!(rt; answer == Some(FromJsonError::NotAString), "of 7");
     Ok(())
+}
+
+/// Holds the string of a row, read as a path, to the values that it selects.
+fn reads(rt: &impl Abort, alloc: Global, row: &str) -> Result<(), Fail> {
+    let (value, rest) = fields(row)?;
+    let (document, items) = fields(rest)?;
+    let value = Value::from_str(alloc, value)?;
+    let path = JsonPath::from_json(alloc, &value)?;
+    gives(rt, alloc, &path, document, items)
 }
 
 #[test]
 fn reads_paths_from_strings(rt: HostRuntime) -> Result<(), Fail> {
-    let alloc = rt.alloc();
     for &row in READ {
-        let (value, rest) = fields(row)?;
-        let (document, items) = fields(rest)?;
-        let value = Value::from_str(alloc, value)?;
-        let path = JsonPath::from_json(alloc, &value)?;
-        gives(&rt, alloc, &path, document, items)?;
+        reads(&rt, rt.alloc(), row)?;
     }
     Ok(())
 }

@@ -1,22 +1,28 @@
 //! What the lists of a query answer.
 
-use crate::tests::rows::locations;
+use crate::tests::rows::{located_selection, locations, selection, tells};
 use serde_json::Value;
-use serde_json_path::{AtMostOneError, ExactlyOneError, JsonPath};
+use serde_json_path::{AtMostOneError, ExactlyOneError, LocatedNodeList, NodeList};
 use std::alloc::Global;
+use std::process::Abort;
 use std::test::Fail;
 
-/// The locations of what a path selects, each once, in the order of their first places.
-fn once(alloc: Global, path: &str, document: &str) -> Result<String, Fail> {
+/// Holds what a path selects, each location once, in the order of their first places, to the locations.
+fn once(
+    rt: &impl Abort,
+    alloc: Global,
+    path: &str,
+    document: &str,
+    wanted: &str,
+) -> Result<(), Fail> {
     let document = Value::from_str(alloc, document)?;
-    let nodes = JsonPath::parse(alloc, path)?.query_located(alloc, &document)?;
-    locations(alloc, &nodes.dedup())
+    let nodes = located_selection(alloc, path, &document)?.dedup();
+    tells(rt, locations(alloc, &nodes)?.as_str(), wanted, path);
+    Ok(())
 }
 
-/// The JSON pointers of what a path selects, with a `;` after each.
-fn pointers(alloc: Global, path: &str, document: &str) -> Result<String, Fail> {
-    let document = Value::from_str(alloc, document)?;
-    let nodes = JsonPath::parse(alloc, path)?.query_located(alloc, &document)?;
+/// The JSON pointers of nodes, with a `;` after each.
+fn pointers(alloc: Global, nodes: &LocatedNodeList<'_>) -> Result<String, Fail> {
     let mut text = String::new(alloc);
     for location in nodes.locations() {
         text.push_str(location.to_json_pointer(alloc)?.as_str())?;
@@ -25,31 +31,49 @@ fn pointers(alloc: Global, path: &str, document: &str) -> Result<String, Fail> {
     Ok(text)
 }
 
+/// Holds what a path selects to the JSON pointers.
+fn points(
+    rt: &impl Abort,
+    alloc: Global,
+    path: &str,
+    document: &str,
+    wanted: &str,
+) -> Result<(), Fail> {
+    let document = Value::from_str(alloc, document)?;
+    let nodes = located_selection(alloc, path, &document)?;
+    tells(rt, pointers(alloc, &nodes)?.as_str(), wanted, path);
+    Ok(())
+}
+
 #[test]
 fn tells_locations(rt: HostRuntime) -> Result<(), Fail> {
     let alloc = rt.alloc();
-    let twice = once(alloc, "$['a','a']", r#"{"a":1}"#)?;
-    assert_eq!(rt; twice.as_str(), "$['a']");
-    let turned = once(alloc, "$[1,0,1,0]", r#"["a","b"]"#)?;
-    assert_eq!(rt; turned.as_str(), "$[1] $[0]");
-    let below = pointers(alloc, "$..*", r#"{"a/~":[0]}"#)?;
-    assert_eq!(rt; below.as_str(), "/a~1~0;/a~1~0/0;");
-    let root = pointers(alloc, "$", r#"{"a/~":[0]}"#)?;
-    assert_eq!(rt; root.as_str(), ";");
-    Ok(())
+    once(&rt, alloc, "$['a','a']", r#"{"a":1}"#, "$['a']")?;
+    once(&rt, alloc, "$[1,0,1,0]", r#"["a","b"]"#, "$[1] $[0]")?;
+    points(&rt, alloc, "$..*", r#"{"a/~":[0]}"#, "/a~1~0;/a~1~0/0;")?;
+    points(&rt, alloc, "$", r#"{"a/~":[0]}"#, ";")
+}
+
+/// Holds a list to how it refuses to be exactly one node, and whether it refuses to be one at most.
+fn refuses(
+    rt: &impl Abort,
+    nodes: &NodeList<'_>,
+    exactly_one: ExactlyOneError,
+    at_most_one: Option<AtMostOneError>,
+) {
+    assert!(rt; nodes.exactly_one().err() == Some(exactly_one));
+    assert!(rt; nodes.at_most_one().err() == at_most_one);
 }
 
 #[test]
 fn counts_nodes(rt: HostRuntime) -> Result<(), Fail> {
     let alloc = rt.alloc();
     let document = Value::from_str(alloc, r#"{"a":1,"b":2}"#)?;
-    let both = JsonPath::parse(alloc, "$.*")?.query(alloc, &document)?;
-    let several = both.exactly_one().err();
-    assert_eq!(rt; several, Some(ExactlyOneError::MoreThanOne(2)));
-    assert_eq!(rt; both.at_most_one().err(), Some(AtMostOneError(2)));
-    let none = JsonPath::parse(alloc, "$.c")?.query(alloc, &document)?;
-    assert_eq!(rt; none.exactly_one().err(), Some(ExactlyOneError::Empty));
-    assert_eq!(rt; none.at_most_one().is_ok(), true);
-    assert_eq!(rt; none.len(), 0);
+    let both = selection(alloc, "$.*", &document)?;
+    let two = ExactlyOneError::MoreThanOne(2);
+    refuses(&rt, &both, two, Some(AtMostOneError(2)));
+    let none = selection(alloc, "$.c", &document)?;
+    refuses(&rt, &none, ExactlyOneError::Empty, None);
+    assert!(rt; none.len() == 0);
     Ok(())
 }

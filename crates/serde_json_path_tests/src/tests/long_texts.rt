@@ -1,8 +1,7 @@
 //! Long texts, of paths and of documents.
 
 use crate::tests::nesting::{calls, filters, nested, parentheses};
-use crate::tests::rows::{fields, parses, selects, told};
-use serde_json::Value;
+use crate::tests::rows::{counts, fields, parses, selects, tells, told};
 use serde_json_path::functions::Builtin;
 use serde_json_path::{JsonPath, PathSource, TextSource, parse_source};
 use std::alloc::{AllocError, Global};
@@ -25,15 +24,26 @@ pub(crate) fn long(
     Ok(text)
 }
 
+/// Holds a long text to what its parse answers.
+pub(crate) fn parses_long(
+    rt: &impl Abort,
+    alloc: Global,
+    (beginning, repeated, times, end): (&str, &str, usize, &str),
+    wanted: &str,
+) -> Result<(), Fail> {
+    let text = long(alloc, beginning, repeated, times, end)?;
+    parses(rt, alloc, text.as_str(), wanted)
+}
+
 #[test]
 fn refuses_long_texts(rt: HostRuntime) -> Result<(), Fail> {
     let alloc = rt.alloc();
-    let nines = long(alloc, "$[", "9", 10_000, "]")?;
-    parses(&rt, alloc, nines.as_str(), "IntegerOutOfRange 3")?;
-    let nines = long(alloc, "$[?@ == ", "9", 10_000, "]")?;
-    parses(&rt, alloc, nines.as_str(), "NumberOutOfRange 9")?;
-    let blanks = long(alloc, "$", " ", 10_000, "x")?;
-    parses(&rt, alloc, blanks.as_str(), "TextAfterPath 2")
+    let index = ("$[", "9", 10_000, "]");
+    parses_long(&rt, alloc, index, "IntegerOutOfRange 3")?;
+    let literal = ("$[?@ == ", "9", 10_000, "]");
+    parses_long(&rt, alloc, literal, "NumberOutOfRange 9")?;
+    let blanks = ("$", " ", 10_000, "x");
+    parses_long(&rt, alloc, blanks, "TextAfterPath 2")
 }
 
 /// Holds a path, which prints itself, to the one node that it selects from a document.
@@ -45,7 +55,7 @@ fn selects_one(
     (location, value): (&str, &str),
 ) -> Result<(), Fail> {
     let path = JsonPath::parse(alloc, text)?;
-    assert_eq!(rt; path.to_text(alloc)?.as_str(), text);
+    tells(rt, path.to_text(alloc)?.as_str(), text, "a path");
     let row = format!(in alloc; "{location} ~ {value}")?;
     selects(rt, alloc, &path, document, row.as_str())
 }
@@ -69,42 +79,54 @@ const REPEATED: &[&str] = &[
     "😀 ~ 😀",
 ];
 
-#[test]
-fn selects_by_long_names(rt: HostRuntime) -> Result<(), Fail> {
-    let alloc = rt.alloc();
-    for &row in REPEATED {
-        let (in_path, in_json) = fields(row)?;
-        let path = long(alloc, "$['", in_path, 1000, "']")?;
-        let document = long(alloc, "{\"", in_json, 1000, "\":1}")?;
-        let path = path.as_str();
-        selects_one(&rt, alloc, path, document.as_str(), (path, "1"))?;
-    }
-    Ok(())
+/// Holds a path to the member that it selects by a long name.
+fn selects_by_name(
+    rt: &impl Abort,
+    alloc: Global,
+    in_path: &str,
+    in_json: &str,
+) -> Result<(), Fail> {
+    let path = long(alloc, "$['", in_path, 1000, "']")?;
+    let document = long(alloc, "{\"", in_json, 1000, "\":1}")?;
+    let path = path.as_str();
+    selects_one(rt, alloc, path, document.as_str(), (path, "1"))
+}
+
+/// Holds a path to the item that it selects by a comparison with a long literal.
+fn selects_by_literal(
+    rt: &impl Abort,
+    alloc: Global,
+    in_path: &str,
+    in_json: &str,
+) -> Result<(), Fail> {
+    let path = long(alloc, "$[?@ == '", in_path, 1000, "']")?;
+    let document = long(alloc, "[0,\"", in_json, 1000, "\"]")?;
+    let text = long(alloc, "\"", in_json, 1000, "\"")?;
+    let node = ("$[1]", text.as_str());
+    selects_one(rt, alloc, path.as_str(), document.as_str(), node)
 }
 
 #[test]
-fn compares_long_literals(rt: HostRuntime) -> Result<(), Fail> {
-    let alloc = rt.alloc();
+fn selects_by_long_names_and_literals(rt: HostRuntime) -> Result<(), Fail> {
     for &row in REPEATED {
         let (in_path, in_json) = fields(row)?;
-        let path = long(alloc, "$[?@ == '", in_path, 1000, "']")?;
-        let document = long(alloc, "[0,\"", in_json, 1000, "\"]")?;
-        let text = long(alloc, "\"", in_json, 1000, "\"")?;
-        let node = ("$[1]", text.as_str());
-        selects_one(&rt, alloc, path.as_str(), document.as_str(), node)?;
+        selects_by_name(&rt, rt.alloc(), in_path, in_json)?;
+        selects_by_literal(&rt, rt.alloc(), in_path, in_json)?;
     }
     Ok(())
 }
 
 #[test]
 fn counts_a_thousand_items(rt: HostRuntime) -> Result<(), Fail> {
-    let alloc = rt.alloc();
-    let zeros = long(alloc, "[0", ",0", 999, "]")?;
-    let document = Value::from_str(alloc, zeros.as_str())?;
-    let path = JsonPath::parse(alloc, "$..*")?;
-    assert_eq!(rt; path.query(alloc, &document)?.len(), 1000);
-    assert_eq!(rt; path.query_located(alloc, &document)?.len(), 1000);
-    Ok(())
+    let zeros = long(rt.alloc(), "[0", ",0", 999, "]")?;
+    counts(&rt, rt.alloc(), "$..*", zeros.as_str(), 1000)
+}
+
+/// Holds a source to the length of its text and to so many looks at most.
+fn has_looked(rt: &impl Abort, source: &TextSource<'_>, (length, bound): (usize, u128)) {
+    let looks = source.looks();
+    assert!(rt; source.len() == length, "not of {length} bytes");
+    assert!(rt; looks <= bound, "{looks} looks at {length} bytes");
 }
 
 /// Holds a parse to what it answers and to so many looks at most.
@@ -117,26 +139,25 @@ fn looks_at_most(
 ) -> Result<(), Fail> {
     let mut source = TextSource::new(text);
     let answer = told(alloc, parse_source(alloc, &mut source, &Builtin))?;
-    assert_eq!(rt; answer.as_str(), wanted, "of {text:?}");
-    assert_eq!(rt; source.len(), length, "of {text:?}");
-    assert!(rt;
-        source.looks() <= bound,
-        "{} looks at {text:?}",
-        source.looks()
-    );
+    tells(rt, answer.as_str(), wanted, text);
+    has_looked(rt, &source, (length, bound));
     Ok(())
+}
+
+/// Holds the parse of a text to accept it, with so many looks at most.
+fn accepts(rt: &impl Abort, alloc: Global, text: &str, looks: (usize, u128)) -> Result<(), Fail> {
+    looks_at_most(rt, alloc, text, "accepted", looks)
 }
 
 #[test]
 fn looks_at_texts(rt: HostRuntime) -> Result<(), Fail> {
     let alloc = rt.alloc();
     looks_at_most(&rt, alloc, "", "ExpectedRoot 1", (0, 32))?;
-    let name = long(alloc, "$.", "a", 1000, "")?;
-    looks_at_most(&rt, alloc, name.as_str(), "accepted", (1002, 2 * 1002))?;
-    let deep = parentheses(alloc, 127)?;
-    looks_at_most(&rt, alloc, deep.as_str(), "accepted", (259, 8320))?;
-    let deep = filters(alloc, 128)?;
-    looks_at_most(&rt, alloc, deep.as_str(), "accepted", (513, 16448))?;
+    let name = (1002, 2 * 1002);
+    accepts(&rt, alloc, long(alloc, "$.", "a", 1000, "")?.as_str(), name)?;
+    accepts(&rt, alloc, parentheses(alloc, 127)?.as_str(), (259, 8320))?;
+    accepts(&rt, alloc, filters(alloc, 128)?.as_str(), (513, 16448))?;
+    accepts(&rt, alloc, calls(alloc, 127)?.as_str(), (1026, 32864))?;
     let deep = nested(alloc, ("$", "[?@", 128), "", ("]", 127, " == 1]"))?;
     looks_at_most(
         &rt,
@@ -144,7 +165,5 @@ fn looks_at_texts(rt: HostRuntime) -> Result<(), Fail> {
         deep.as_str(),
         "NonSingularQuery 4",
         (518, 16608),
-    )?;
-    let deep = calls(alloc, 127)?;
-    looks_at_most(&rt, alloc, deep.as_str(), "accepted", (1026, 32864))
+    )
 }

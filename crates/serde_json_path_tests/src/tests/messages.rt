@@ -5,7 +5,7 @@ ghost use Rattle.serde_json_path_parser.specs.Errors.{kind_of};
 ghost use Rattle.serde_json_path_parser.specs.declared.error.ParseErrorKind.TheVariants.{NoMemory};
 
 use crate::tests::nesting::parentheses;
-use crate::tests::rows::fields;
+use crate::tests::rows::{fields, tells};
 use serde_json_path::{JsonPath, ParseError};
 use std::alloc::Global;
 use std::process::Abort;
@@ -54,14 +54,12 @@ fn refused_twice(alloc: Global, text: &str) -> Option<(ParseError, ParseError)>
 }
 
 /// Holds a text that is refused to the message.
-fn tells(rt: &impl Abort, alloc: Global, text: &str, told: &str) -> Result<(), Fail> {
-    match refused_twice(alloc, text) {
-        None => assert!(rt; false, "{text:?} is accepted"),
-        Some((refused, again)) => {
-            assert_eq!(rt; refused.to_string(alloc)?.as_str(), told, "of {text:?}");
-            assert_eq!(rt; again.to_string(alloc)?.as_str(), told, "of {text:?}");
-        }
-    }
+fn refuses(rt: &impl Abort, alloc: Global, text: &str, message: &str) -> Result<(), Fail> {
+    let Some((refused, again)) = refused_twice(alloc, text) else {
+        return Err(Fail::new(format_args!("{text:?} is accepted")));
+    };
+    tells(rt, refused.to_string(alloc)?.as_str(), message, text);
+    tells(rt, again.to_string(alloc)?.as_str(), message, text);
     Ok(())
 }
 
@@ -70,9 +68,9 @@ fn tells_refusals(rt: HostRuntime) -> Result<(), Fail> {
     let alloc = rt.alloc();
     for &row in TOLD {
         let (text, message) = fields(row)?;
-        tells(&rt, alloc, text, message)?;
+        refuses(&rt, alloc, text, message)?;
     }
     let deep = parentheses(alloc, 128)?;
-    let told = "at position 131, in long-hand segment, nested more than 128 deep";
-    tells(&rt, alloc, deep.as_str(), told)
+    let message = "at position 131, in long-hand segment, nested more than 128 deep";
+    refuses(&rt, alloc, deep.as_str(), message)
 }

@@ -1,8 +1,9 @@
 //! Filters, parentheses and calls within each other (RFC 9535, section 2.3.5.1), of which 128 are taken.
 
-use crate::tests::long_texts::long;
+use crate::tests::long_texts::{long, parses_long};
 use crate::tests::rows::{fields, parses};
 use std::alloc::{AllocError, Global};
+use std::process::Abort;
 use std::test::Fail;
 
 /// The beginning, so many openings, the middle, so many closings, and the end.
@@ -51,36 +52,37 @@ fn mixed(alloc: Global, segment: &str) -> Result<String, AllocError> {
     )
 }
 
+/// Holds a nested text to what its parse answers.
+fn nests(rt: &impl Abort, alloc: Global, text: String, wanted: &str) -> Result<(), Fail> {
+    parses(rt, alloc, text.as_str(), wanted)
+}
+
 #[test]
 fn nests_filters(rt: HostRuntime) -> Result<(), Fail> {
     let alloc = rt.alloc();
-    parses(&rt, alloc, filters(alloc, 127)?.as_str(), "accepted")?;
-    parses(&rt, alloc, filters(alloc, 128)?.as_str(), "accepted")?;
-    let deep = filters(alloc, 129)?;
-    parses(&rt, alloc, deep.as_str(), "NestedTooDeep 387")?;
+    nests(&rt, alloc, filters(alloc, 127)?, "accepted")?;
+    nests(&rt, alloc, filters(alloc, 128)?, "accepted")?;
+    nests(&rt, alloc, filters(alloc, 129)?, "NestedTooDeep 387")?;
     let compared = nested(alloc, ("$", "[?@", 128), "", ("]", 127, " == 1]"))?;
-    parses(&rt, alloc, compared.as_str(), "NonSingularQuery 4")
+    nests(&rt, alloc, compared, "NonSingularQuery 4")
 }
 
 #[test]
 fn nests_parentheses(rt: HostRuntime) -> Result<(), Fail> {
     let alloc = rt.alloc();
-    parses(&rt, alloc, parentheses(alloc, 126)?.as_str(), "accepted")?;
-    parses(&rt, alloc, parentheses(alloc, 127)?.as_str(), "accepted")?;
-    let deep = parentheses(alloc, 128)?;
-    parses(&rt, alloc, deep.as_str(), "NestedTooDeep 131")?;
-    parses(&rt, alloc, negated(alloc, 127)?.as_str(), "accepted")?;
-    let deep = negated(alloc, 128)?;
-    parses(&rt, alloc, deep.as_str(), "NestedTooDeep 259")
+    nests(&rt, alloc, parentheses(alloc, 126)?, "accepted")?;
+    nests(&rt, alloc, parentheses(alloc, 127)?, "accepted")?;
+    nests(&rt, alloc, parentheses(alloc, 128)?, "NestedTooDeep 131")?;
+    nests(&rt, alloc, negated(alloc, 127)?, "accepted")?;
+    nests(&rt, alloc, negated(alloc, 128)?, "NestedTooDeep 259")
 }
 
 #[test]
 fn nests_calls(rt: HostRuntime) -> Result<(), Fail> {
     let alloc = rt.alloc();
-    parses(&rt, alloc, calls(alloc, 126)?.as_str(), "accepted")?;
-    parses(&rt, alloc, calls(alloc, 127)?.as_str(), "accepted")?;
-    let deep = calls(alloc, 128)?;
-    parses(&rt, alloc, deep.as_str(), "NestedTooDeep 893")
+    nests(&rt, alloc, calls(alloc, 126)?, "accepted")?;
+    nests(&rt, alloc, calls(alloc, 127)?, "accepted")?;
+    nests(&rt, alloc, calls(alloc, 128)?, "NestedTooDeep 893")
 }
 
 /// Segments that nest once or twice more.
@@ -102,11 +104,11 @@ const DEEP: &[&str] = &[
 fn nests_all_in_turn(rt: HostRuntime) -> Result<(), Fail> {
     let alloc = rt.alloc();
     for &segment in SHALLOW {
-        parses(&rt, alloc, mixed(alloc, segment)?.as_str(), "accepted")?;
+        nests(&rt, alloc, mixed(alloc, segment)?, "accepted")?;
     }
     for &row in DEEP {
         let (segment, refusal) = fields(row)?;
-        parses(&rt, alloc, mixed(alloc, segment)?.as_str(), refusal)?;
+        nests(&rt, alloc, mixed(alloc, segment)?, refusal)?;
     }
     Ok(())
 }
@@ -115,10 +117,9 @@ fn nests_all_in_turn(rt: HostRuntime) -> Result<(), Fail> {
 #[test]
 fn counts_what_is_open(rt: HostRuntime) -> Result<(), Fail> {
     let alloc = rt.alloc();
-    let many = long(alloc, "$[?(@)", " && (@)", 200, "]")?;
-    parses(&rt, alloc, many.as_str(), "accepted")?;
-    let many = long(alloc, "$[?count(@) == 1", " || count(@) == 1", 200, "]")?;
-    parses(&rt, alloc, many.as_str(), "accepted")?;
-    let many = long(alloc, "$", "[?@]", 200, "")?;
-    parses(&rt, alloc, many.as_str(), "accepted")
+    let open = ("$[?(@)", " && (@)", 200, "]");
+    parses_long(&rt, alloc, open, "accepted")?;
+    let called = ("$[?count(@) == 1", " || count(@) == 1", 200, "]");
+    parses_long(&rt, alloc, called, "accepted")?;
+    parses_long(&rt, alloc, ("$", "[?@]", 200, ""), "accepted")
 }

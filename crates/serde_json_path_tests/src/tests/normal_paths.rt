@@ -7,7 +7,7 @@ ghost use Rattle.serde_json_path_nodes.specs.Location.{at};
 ghost use Rattle.serde_json_path_nodes.specs.Views.{located_nodes};
 ghost use Rattle.serde_json_path.specs.Laws.{ArePositionsWritten};
 
-use crate::tests::rows::{locations, values};
+use crate::tests::rows::are_located;
 use serde_json::Value;
 use serde_json_path::{
     JsonPath, LocatedNodeList, NormalizedPath, ParseErrorKind, PathElement, QueryError,
@@ -52,13 +52,7 @@ fn finds_the_root_again(rt: HostRuntime) -> Result<(), Fail> {
     let root = NormalizedPath::from_steps(Vec::new(alloc));
     let document = Value::from_str(alloc, r#"[{"a":7}]"#)?;
     let nodes = find_again(alloc, &root, &document)?;
-    assert_eq!(rt; locations(alloc, &nodes)?.as_str(), "$", "not the root");
-    assert_eq!(rt;
-        values(alloc, nodes.nodes())?.as_str(),
-        r#"[{"a":7}]"#,
-        "not the document"
-    );
-    Ok(())
+    are_located(&rt, alloc, &nodes, ("$", r#"[{"a":7}]"#), "the root")
 }
 
 #[test]
@@ -72,15 +66,5 @@ fn finds_an_item_again(rt: HostRuntime) -> Result<(), Fail> {
     steps.push(PathElement::Index(1))?;
     let location = NormalizedPath::from_steps(steps);
     let nodes = find_again(alloc, &location, &document)?;
-    assert_eq!(rt;
-        locations(alloc, &nodes)?.as_str(),
-        "$[1]",
-        "not the location"
-    );
-    assert_eq!(rt;
-        values(alloc, nodes.nodes())?.as_str(),
-        "true",
-        "not the item"
-    );
-    Ok(())
+    are_located(&rt, alloc, &nodes, ("$[1]", "true"), "the item")
 }

@@ -1,7 +1,6 @@
 //! Number literals (RFC 9535, section 2.3.5.1).
 
-use crate::tests::long_texts::long;
-use crate::tests::rows::parses;
+use crate::tests::long_texts::parses_long;
 use std::test::Fail;
 
 /// A path, a document, and the locations and the values of what the path selects there.
@@ -34,7 +33,6 @@ pub(crate) const NO_NUMBERS: &[&str] = &[
 
 #[test]
 fn refuses_a_long_fraction(rt: HostRuntime) -> Result<(), Fail> {
-    let alloc = rt.alloc();
-    let zeros = long(alloc, "$[?@ == 0.", "0", 10_000, "]")?;
-    parses(&rt, alloc, zeros.as_str(), "FractionTooLong 9")
+    let zeros = ("$[?@ == 0.", "0", 10_000, "]");
+    parses_long(&rt, rt.alloc(), zeros, "FractionTooLong 9")
 }

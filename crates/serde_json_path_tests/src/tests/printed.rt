@@ -3,7 +3,7 @@
 ghost use Rattle.std.specs.Prelude.{IfOk, IsTrue};
 
 use crate::tests::nesting::{calls, filters, parentheses};
-use crate::tests::rows::fields;
+use crate::tests::rows::{fields, tells};
 use serde_json::Value;
 use serde_json_path::functions::{Builtin, Functions};
 use serde_json_path::{JsonPath, ParseErrorKind, law_print};
@@ -84,16 +84,39 @@ const PRINTED: &[&str] = &[
     "$[?@==true||@!=false||null==@] ~ $[?@ == true || @ != false || null == @]",
 ];
 
+/// Holds a value to the string that it is.
+fn is_string(rt: &impl Abort, value: &Value, text: &str) {
+    match value.as_str() {
+        Some(told) => tells(rt, told, text, "a path"),
+        None => assert!(rt; false, "no string in place of {text}"),
+    }
+}
+
+/// Holds the paths of two texts to whether they are equal.
+fn are_equal(
+    rt: &impl Abort,
+    left: &JsonPath,
+    right: &JsonPath,
+    equal: bool,
+    (one, other): (&str, &str),
+) {
+    assert!(rt; (left == right) == equal, "{one} and {other}");
+}
+
+/// Holds a copy of a path to the text that it prints, and to be equal to the path.
+fn copies(rt: &impl Abort, alloc: Global, path: &JsonPath, text: &str) -> Result<(), Fail> {
+    let copy = path.try_clone(alloc)?;
+    are_equal(rt, &copy, path, true, (text, "its copy"));
+    tells(rt, copy.to_text(alloc)?.as_str(), text, "a copy");
+    Ok(())
+}
+
 /// Holds a path to the text that it prints, in each way.
 fn prints(rt: &impl Abort, alloc: Global, path: &JsonPath, text: &str) -> Result<(), Fail> {
-    assert_eq!(rt; path.to_text(alloc)?.as_str(), text, "not {text}");
-    assert_eq!(rt; path.to_string(alloc)?.as_str(), text, "not {text}");
-    let value = path.to_json(alloc)?;
-    assert_eq!(rt; value.as_str(), Some(text), "not {text}");
-    let copy = path.try_clone(alloc)?;
-    assert!(rt; copy == *path, "not {text}");
-    assert_eq!(rt; copy.to_text(alloc)?.as_str(), text, "not {text}");
-    Ok(())
+    tells(rt, path.to_text(alloc)?.as_str(), text, "a path");
+    tells(rt, path.to_string(alloc)?.as_str(), text, "a path");
+    is_string(rt, &path.to_json(alloc)?, text);
+    copies(rt, alloc, path, text)
 }
 
 /// Prints a path, and holds what is read from that text to print the same.
@@ -101,8 +124,21 @@ pub(crate) fn prints_again(rt: &impl Abort, alloc: Global, path: &str) -> Result
     let path = JsonPath::parse(alloc, path)?;
     let text = path.to_text(alloc)?;
     let again = JsonPath::parse(alloc, text.as_str())?;
-    assert!(rt; again == path, "not {text}");
+    are_equal(rt, &again, &path, true, (text.as_str(), "itself"));
     prints(rt, alloc, &again, text.as_str())
+}
+
+/// The path of a text, after it was made a JSON value and read from that again.
+fn through_json(alloc: Global, text: &str) -> Result<JsonPath, Fail> {
+    let value = JsonPath::parse(alloc, text)?.to_json(alloc)?;
+    Ok(JsonPath::from_json(alloc, &value)?)
+}
+
+/// Holds the path of a text to the text that it prints, also when it comes through JSON.
+fn prints_as(rt: &impl Abort, alloc: Global, path: &str, text: &str) -> Result<(), Fail> {
+    prints(rt, alloc, &JsonPath::parse(alloc, path)?, text)?;
+    prints(rt, alloc, &through_json(alloc, path)?, text)?;
+    prints_again(rt, alloc, path)
 }
 
 #[test]
@@ -110,8 +146,8 @@ fn prints_paths(rt: HostRuntime) -> Result<(), Fail> {
     let alloc = rt.alloc();
     for &row in PRINTED {
         let (path, text) = fields(row)?;
-        prints(&rt, alloc, &JsonPath::parse(alloc, path)?, text)?;
-        prints_again(&rt, alloc, path)?;
+        prints_as(&rt, alloc, path, text)?;
+        assert!(rt; comes_back(alloc, path, &Builtin)?, "{path}");
     }
     prints(&rt, alloc, &JsonPath::new(alloc), "$")
 }
@@ -124,35 +160,26 @@ fn prints_nested_paths(rt: HostRuntime) -> Result<(), Fail> {
     prints_again(&rt, alloc, calls(alloc, 127)?.as_str())
 }
 
-#[test]
-fn comes_back_through_json(rt: HostRuntime) -> Result<(), Fail> {
-    let alloc = rt.alloc();
-    for &row in PRINTED {
-        let (path, text) = fields(row)?;
-        let value: Value = JsonPath::parse(alloc, path)?.to_json(alloc)?;
-        prints(&rt, alloc, &JsonPath::from_json(alloc, &value)?, text)?;
-    }
+/// Holds the paths of two texts to whether they are equal, and the first to be equal to itself.
+fn compares(
+    rt: &impl Abort,
+    alloc: Global,
+    one: &str,
+    other: &str,
+    equal: bool,
+) -> Result<(), Fail> {
+    let left = JsonPath::parse(alloc, one)?;
+    let right = JsonPath::parse(alloc, other)?;
+    are_equal(rt, &left, &right, equal, (one, other));
+    are_equal(rt, &right, &left, equal, (other, one));
+    are_equal(rt, &left, &left, true, (one, one));
     Ok(())
 }
 
 #[test]
 fn tells_equal_paths(rt: HostRuntime) -> Result<(), Fail> {
-    let alloc = rt.alloc();
     for &(one, other, equal) in COMPARED {
-        let left = JsonPath::parse(alloc, one)?;
-        let right = JsonPath::parse(alloc, other)?;
-        assert_eq!(rt; left == right, equal, "{one} and {other}");
-        assert_eq!(rt; right == left, equal, "{other} and {one}");
-        assert!(rt; left == left, "{one}");
-    }
-    Ok(())
-}
-
-#[test]
-fn comes_back_as_an_equal_path(rt: HostRuntime) -> Result<(), Fail> {
-    for &row in PRINTED {
-        let (path, _) = fields(row)?;
-        assert!(rt; comes_back(rt.alloc(), path, &Builtin)?, "{path}");
+        compares(&rt, rt.alloc(), one, other, equal)?;
     }
     Ok(())
 }

@@ -5,10 +5,15 @@ ghost use Rattle.serde_json_path_functions.specs.Patterns.{builtin_functions};
 ghost use Rattle.serde_json_path.specs.Paths.{path_signatures};
 
 use serde_json::Value;
-use serde_json_path::{JsonPath, LocatedNodeList, Nodes, ParseError};
+use serde_json_path::{JsonPath, LocatedNodeList, NodeList, Nodes, ParseError};
 use std::alloc::Global;
 use std::process::Abort;
 use std::test::Fail;
+
+/// Holds what was told of a text to what is wanted.
+pub(crate) fn tells(rt: &impl Abort, told: &str, wanted: &str, of: &str) {
+    assert!(rt; told == wanted, "{told} in place of {wanted} of {of:?}");
+}
 
 /// The first field of a row, and the fields after it.
 pub(crate) fn fields(row: &str) -> Result<(&str, &str), Fail> {
@@ -50,6 +55,81 @@ pub(crate) fn values(alloc: Global, nodes: Nodes<'_, '_>) -> Result<String, Fail
     Ok(text)
 }
 
+/// Holds values to their texts.
+pub(crate) fn are_values(
+    rt: &impl Abort,
+    alloc: Global,
+    nodes: Nodes<'_, '_>,
+    wanted: &str,
+    of: &str,
+) -> Result<(), Fail> {
+    tells(rt, values(alloc, nodes)?.as_str(), wanted, of);
+    Ok(())
+}
+
+/// Holds nodes to their locations and to the texts of their values.
+pub(crate) fn are_located(
+    rt: &impl Abort,
+    alloc: Global,
+    nodes: &LocatedNodeList<'_>,
+    (places, items): (&str, &str),
+    of: &str,
+) -> Result<(), Fail> {
+    tells(rt, locations(alloc, nodes)?.as_str(), places, of);
+    are_values(rt, alloc, nodes.nodes(), items, of)
+}
+
+/// The nodes that the path of a text selects from a document.
+pub(crate) fn selection<'b>(
+    alloc: Global,
+    path: &str,
+    document: &'b Value,
+) -> Result<NodeList<'b>, Fail> {
+    Ok(JsonPath::parse(alloc, path)?.query(alloc, document)?)
+}
+
+/// The nodes that the path of a text selects from a document, with their locations.
+pub(crate) fn located_selection<'b>(
+    alloc: Global,
+    path: &str,
+    document: &'b Value,
+) -> Result<LocatedNodeList<'b>, Fail> {
+    Ok(JsonPath::parse(alloc, path)?.query_located(alloc, document)?)
+}
+
+/// Holds both queries by the path of a text to how many nodes they select from a document.
+pub(crate) fn counts(
+    rt: &impl Abort,
+    alloc: Global,
+    path: &str,
+    document: &str,
+    wanted: usize,
+) -> Result<(), Fail> {
+    let document = Value::from_str(alloc, document)?;
+    let nodes = selection(alloc, path, &document)?.len();
+    let located = located_selection(alloc, path, &document)?.len();
+    assert!(rt; nodes == wanted, "{nodes} in place of {wanted}");
+    assert!(rt; located == wanted, "{located} in place of {wanted}");
+    Ok(())
+}
+
+/// Holds a path to the locations and the values of what it selects from a document.
+fn selects_nodes(
+    rt: &impl Abort,
+    alloc: Global,
+    path: &JsonPath,
+    document: &Value,
+    end: &str,
+) -> Result<(), Fail>
+    requires { Fits builtin_functions (path_signatures path.now) }
+{
+    let (places, items) = selected(end)?;
+    let located = path.query_located(alloc, document)?;
+    are_located(rt, alloc, &located, (places, items), end)?;
+    let nodes = path.query(alloc, document)?;
+    are_values(rt, alloc, nodes.iter(), items, end)
+}
+
 /// Holds a path to the end of a row: to the locations and the values of what it selects from a document.
 pub(crate) fn selects(
     rt: &impl Abort,
@@ -60,18 +140,8 @@ pub(crate) fn selects(
 ) -> Result<(), Fail>
     requires { Fits builtin_functions (path_signatures path.now) }
 {
-    let (places, items) = selected(end)?;
     let document = Value::from_str(alloc, document)?;
-    let located = path.query_located(alloc, &document)?;
-    assert_eq!(rt; locations(alloc, &located)?.as_str(), places, "not {end}");
-    assert_eq!(rt;
-        values(alloc, located.nodes())?.as_str(),
-        items,
-        "not {end}"
-    );
-    let nodes = path.query(alloc, &document)?;
-    assert_eq!(rt; values(alloc, nodes.iter())?.as_str(), items, "not {end}");
-    Ok(())
+    selects_nodes(rt, alloc, path, &document, end)
 }
 
 /// What a parse answers: the kind and the position of its refusal, or `accepted`.
@@ -85,6 +155,6 @@ pub(crate) fn told(alloc: Global, answer: Result<JsonPath, ParseError>) -> Resul
 /// Holds a text to what its parse answers.
 pub(crate) fn parses(rt: &impl Abort, alloc: Global, text: &str, wanted: &str) -> Result<(), Fail> {
     let answer = told(alloc, JsonPath::parse(alloc, text))?;
-    assert_eq!(rt; answer.as_str(), wanted, "of {text:?}");
+    tells(rt, answer.as_str(), wanted, text);
     Ok(())
 }

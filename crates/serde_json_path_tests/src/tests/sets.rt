@@ -5,7 +5,7 @@ ghost use Rattle.serde_json_path_tests.specs.TestSets.{kids_functions, odd_funct
 use crate::tests::cuts::cut_rows_with;
 use crate::tests::nesting::nested;
 use crate::tests::printed::comes_back;
-use crate::tests::rows::{fields, locations, selected, told, values};
+use crate::tests::rows::{are_located, are_values, fields, selected, tells, told};
 use crate::tests::walks::gives_each;
 use serde_json::Value;
 use serde_json_path::functions::FunctionArgType::{Logical, Nodelist};
@@ -160,6 +160,23 @@ impl Functions for Pairs {
     }
 }
 
+/// Holds a path to the end of a row: to the locations and the values of what it selects from a document under the set.
+fn selects_with<F: Functions>(
+    rt: &impl Abort,
+    alloc: Global,
+    functions: &F,
+    text: &str,
+    document: &Value,
+    end: &str,
+) -> Result<(), Fail> {
+    let (places, items) = selected(end)?;
+    let path = JsonPath::parse_with(alloc, text, functions)?;
+    let located = path.query_located_with(alloc, document, functions)?;
+    are_located(rt, alloc, &located, (places, items), text)?;
+    let nodes = path.query_with(alloc, document, functions)?;
+    are_values(rt, alloc, nodes.iter(), items, text)
+}
+
 /// Each row has a path, a document, and the locations and the values of what the path selects there under the set. What
 /// the path prints is read back under the set.
 fn selects_each_with<F: Functions>(
@@ -171,18 +188,9 @@ fn selects_each_with<F: Functions>(
     for &row in rows {
         let (text, rest) = fields(row)?;
         let (document, end) = fields(rest)?;
-        let (places, wanted) = selected(end)?;
         assert!(rt; comes_back(alloc, text, functions)?, "of {text:?}");
-        let path = JsonPath::parse_with(alloc, text, functions)?;
         let document = Value::from_str(alloc, document)?;
-        let located = path.query_located_with(alloc, &document, functions)?;
-        assert_eq!(rt; locations(alloc, &located)?.as_str(), places, "of {text:?}");
-        let nodes = path.query_with(alloc, &document, functions)?;
-        assert_eq!(rt;
-            values(alloc, nodes.iter())?.as_str(),
-            wanted,
-            "of {text:?}"
-        );
+        selects_with(rt, alloc, functions, text, &document, end)?;
     }
     Ok(())
 }
@@ -195,7 +203,7 @@ fn parses_with<F: Functions>(
     (text, wanted): (&str, &str),
 ) -> Result<(), Fail> {
     let answer = told(alloc, JsonPath::parse_with(alloc, text, functions))?;
-    assert_eq!(rt; answer.as_str(), wanted, "of {text:?}");
+    tells(rt, answer.as_str(), wanted, text);
     Ok(())
 }
 
@@ -296,39 +304,79 @@ fn calls_functions_of_sets(rt: HostRuntime) -> Result<(), Fail> {
     holds(&rt, alloc, &Pairs, (PAIRS, NO_PAIRS))
 }
 
+/// Holds the answer of a call to the refusal of memory.
+fn is_refused(rt: &impl Abort, refusal: Option<QueryError>) {
+    assert!(rt; refusal == Some(QueryError::Memory), "not refused");
+}
+
+/// A path that gives the first item of a document of two, and is refused at the second.
+const REFUSED: &str = "$[?@.a || refuse()]";
+
+/// Both queries are refused.
+fn queries_are_refused(rt: &impl Abort, alloc: Global, document: &Value) -> Result<(), Fail> {
+    let path = JsonPath::parse_with(alloc, REFUSED, &Strange)?;
+    is_refused(rt, path.query_located_with(alloc, document, &Strange).err());
+    is_refused(rt, path.query_with(alloc, document, &Strange).err());
+    Ok(())
+}
+
+/// A walk gives the first item, and is then refused each time.
+fn walks_are_refused(rt: &impl Abort, alloc: Global, document: &Value) -> Result<(), Fail> {
+    let path = JsonPath::parse_with(alloc, REFUSED, &Strange)?;
+    let mut walk = path.walk(alloc, document, &Strange)?;
+    gives_each(rt, alloc, &mut walk, &["$[0]"])?;
+    for _ in 0..3 {
+        is_refused(rt, walk.next().err());
+    }
+    Ok(())
+}
+
 #[test]
 fn refuses_where_a_function_is_refused(rt: HostRuntime) -> Result<(), Fail> {
-    let alloc = rt.alloc();
-    let document = Value::from_str(alloc, r#"[{"a":1},{}]"#)?;
-    let path = JsonPath::parse_with(alloc, "$[?@.a || refuse()]", &Strange)?;
-    let located = path.query_located_with(alloc, &document, &Strange).err();
-    assert_eq!(rt; located, Some(QueryError::Memory));
-    let nodes = path.query_with(alloc, &document, &Strange).err();
-    assert_eq!(rt; nodes, Some(QueryError::Memory));
-    let mut walk = path.walk(alloc, &document, &Strange)?;
-    gives_each(&rt, alloc, &mut walk, &["$[0]"])?;
-    for _ in 0..3 {
-        assert_eq!(rt; walk.next().err(), Some(QueryError::Memory));
-    }
+    let document = Value::from_str(rt.alloc(), r#"[{"a":1},{}]"#)?;
+    queries_are_refused(&rt, rt.alloc(), &document)?;
+    walks_are_refused(&rt, rt.alloc(), &document)
+}
+
+/// Holds the path of a text, as it is read under a set, to whether it fits the built-in functions, [`Kids`] and [`Odd`].
+fn fits<F: Functions>(
+    rt: &impl Abort,
+    alloc: Global,
+    functions: &F,
+    text: &str,
+    (builtin, kids, odd): (bool, bool, bool),
+) -> Result<(), Fail> {
+    let path = JsonPath::parse_with(alloc, text, functions)?;
+    assert!(rt; path.fits(&Builtin) == builtin, "{text}");
+    assert!(rt; path.fits(&Kids) == kids, "{text}");
+    assert!(rt; path.fits(&Odd) == odd, "{text}");
     Ok(())
 }
 
 #[test]
 fn fits_the_sets_that_declare_its_calls(rt: HostRuntime) -> Result<(), Fail> {
     let alloc = rt.alloc();
-    let plain = JsonPath::parse(alloc, "$.a")?;
-    assert!(rt; plain.fits(&Builtin) && plain.fits(&Kids) && plain.fits(&Odd));
-    let kids = JsonPath::parse_with(alloc, "$[?kids(@.*)]", &Kids)?;
-    assert!(rt; kids.fits(&Kids));
-    assert!(rt; !kids.fits(&Builtin) && !kids.fits(&Odd));
-    let odd = JsonPath::parse_with(alloc, "$[?length(@.*) == 3]", &Odd)?;
-    assert!(rt; odd.fits(&Odd));
-    assert!(rt; !odd.fits(&Builtin) && !odd.fits(&Kids));
-    let count = JsonPath::parse(alloc, "$[?count(@.*) == 3]")?;
-    assert!(rt; count.fits(&Builtin) && count.fits(&Odd));
-    let length = JsonPath::parse(alloc, "$[?length(@) == 3]")?;
-    assert!(rt; length.fits(&Builtin) && length.fits(&Kids) && !length.fits(&Odd));
-    Ok(())
+    fits(&rt, alloc, &Builtin, "$.a", (true, true, true))?;
+    let kids = "$[?kids(@.*)]";
+    fits(&rt, alloc, &Kids, kids, (false, true, false))?;
+    let odd = "$[?length(@.*) == 3]";
+    fits(&rt, alloc, &Odd, odd, (false, false, true))?;
+    let count = "$[?count(@.*) == 3]";
+    fits(&rt, alloc, &Builtin, count, (true, true, true))?;
+    let length = "$[?length(@) == 3]";
+    fits(&rt, alloc, &Builtin, length, (true, true, false))
+}
+
+/// Holds the text of a call within so many parentheses to what its parse answers.
+fn nests_within(
+    rt: &impl Abort,
+    alloc: Global,
+    call: &str,
+    times: usize,
+    wanted: &str,
+) -> Result<(), Fail> {
+    let text = nested(alloc, ("$[?", "(", times), call, (")", times, "]"))?;
+    parses_with(rt, alloc, &Pairs, (text.as_str(), wanted))
 }
 
 /// An argument that is a logical expression adds no level.
@@ -336,10 +384,8 @@ fn fits_the_sets_that_declare_its_calls(rt: HostRuntime) -> Result<(), Fail> {
 fn nests_logical_arguments(rt: HostRuntime) -> Result<(), Fail> {
     let alloc = rt.alloc();
     let call = "both(@.a && @.b, !@)";
-    let shallow = nested(alloc, ("$[?", "(", 126), call, (")", 126, "]"))?;
-    parses_with(&rt, alloc, &Pairs, (shallow.as_str(), "accepted"))?;
-    let deep = nested(alloc, ("$[?", "(", 127), call, (")", 127, "]"))?;
-    parses_with(&rt, alloc, &Pairs, (deep.as_str(), "NestedTooDeep 131"))
+    nests_within(&rt, alloc, call, 126, "accepted")?;
+    nests_within(&rt, alloc, call, 127, "NestedTooDeep 131")
 }
 
 #[test]

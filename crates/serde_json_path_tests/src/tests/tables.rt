@@ -12,148 +12,123 @@ use std::alloc::Global;
 use std::process::Abort;
 use std::test::Fail;
 
-/// Tables whose rows have a path, a document, and the locations and the values of what the path selects there.
-const PATHS: &[&[&str]] = &[
-    names::NAMES,
-    names::WILDCARDS,
-    names::INDEXES,
-    names::SEVERAL,
-    slices::SLICES,
-    descendants::DESCENDANTS,
-    blanks::BLANKS,
-    filters::FILTERS,
-    filters::NULLS,
-    comparisons::COMPARISONS,
-    calls::CALLS,
-    calls::PATTERNS,
-    literals::NUMBERS,
-    literals::OTHERS,
-    strings::STRINGS,
-    numbers::NUMBERS,
-    words::WORDS,
-];
-
-/// A document, and a table whose rows have a path, and the locations and the values of what it selects there.
-const OF_DOCUMENTS: &[(&str, &[&str])] = &[
-    (bookstore::BOOKSTORE, bookstore::BOOKS),
-    (filters::EXAMPLE, filters::EXAMPLES),
-    (filters::ITEMS, filters::OF_ITEMS),
-    (filters::MEMBERS, filters::OF_MEMBERS),
-    (filters::CHOICES, filters::OF_CHOICES),
-    (filters::NESTED, filters::OF_NESTED),
-    (comparisons::EXAMPLE, comparisons::EXAMPLES),
-    (calls::NAMES, calls::OF_NAMES),
-];
-
-/// Tables whose rows have a text, and the kind and the position of its refusal.
-const NO_PATHS: &[&[&str]] = &[
-    refusals::SEGMENTS,
-    refusals::SELECTORS,
-    refusals::SLICES,
-    refusals::STRINGS,
-    filter_refusals::LOGIC,
-    filter_refusals::COMPARISONS,
-    filter_refusals::LITERALS,
-    filter_refusals::CALLS,
-    filter_refusals::ARGUMENTS,
-    strings::NO_STRINGS,
-    numbers::NO_NUMBERS,
-    operators::OPERATORS,
-    operators::NO_OPERATORS,
-    words::LITERAL_WORDS,
-    words::OTHER_WORDS,
-];
-
-/// Holds a path to what a row says that it selects from the document.
-fn selects_from(
+/// Holds a path to what a row says that it selects from the document. Then cuts the path's text at each character, prints
+/// the path, and reads it from that text again.
+fn holds_path(
     rt: &impl Abort,
     alloc: Global,
     text: &str,
     document: &str,
     end: &str,
 ) -> Result<(), Fail> {
+    cut(rt, alloc, text)?;
+    prints_again(rt, alloc, text)?;
     let path = JsonPath::parse(alloc, text)?;
     selects(rt, alloc, &path, document, end)
 }
 
-/// Cuts the first field of each row at each character.
-fn cut_rows(rt: &impl Abort, alloc: Global, rows: &[&str]) -> Result<(), Fail> {
+/// Holds the path of each row, which has a path, a document, and the locations and the values of what the path selects
+/// there.
+fn holds_each(rt: &impl Abort, alloc: Global, rows: &[&str]) -> Result<(), Fail> {
     for &row in rows {
-        let (text, _) = fields(row)?;
+        let (text, rest) = fields(row)?;
+        let (document, end) = fields(rest)?;
+        holds_path(rt, alloc, text, document, end)?;
+    }
+    Ok(())
+}
+
+/// Holds the path of each row, which has a path, and the locations and the values of what it selects from the document.
+fn holds_each_of(
+    rt: &impl Abort,
+    alloc: Global,
+    document: &str,
+    rows: &[&str],
+) -> Result<(), Fail> {
+    for &row in rows {
+        let (text, end) = fields(row)?;
+        holds_path(rt, alloc, text, document, end)?;
+    }
+    Ok(())
+}
+
+/// Holds the text of each row, which has a text, and the kind and the position of its refusal. Then cuts the text at each
+/// character.
+fn refuses_each(rt: &impl Abort, alloc: Global, rows: &[&str]) -> Result<(), Fail> {
+    for &row in rows {
+        let (text, refusal) = fields(row)?;
+        parses(rt, alloc, text, refusal)?;
         cut(rt, alloc, text)?;
     }
     Ok(())
 }
 
-/// Prints the path of each row, and reads it from that text again.
-fn print_rows(rt: &impl Abort, alloc: Global, rows: &[&str]) -> Result<(), Fail> {
-    for &row in rows {
-        let (text, _) = fields(row)?;
-        prints_again(rt, alloc, text)?;
-    }
-    Ok(())
+#[test]
+fn selects_by_names_and_indexes(rt: HostRuntime) -> Result<(), Fail> {
+    let alloc = rt.alloc();
+    holds_each(&rt, alloc, names::NAMES)?;
+    holds_each(&rt, alloc, names::WILDCARDS)?;
+    holds_each(&rt, alloc, names::INDEXES)?;
+    holds_each(&rt, alloc, names::SEVERAL)?;
+    holds_each(&rt, alloc, slices::SLICES)?;
+    holds_each(&rt, alloc, descendants::DESCENDANTS)?;
+    holds_each(&rt, alloc, blanks::BLANKS)
 }
 
 #[test]
-fn selects_as_rows_tell(rt: HostRuntime) -> Result<(), Fail> {
-    for &rows in PATHS {
-        for &row in rows {
-            let (text, rest) = fields(row)?;
-            let (document, end) = fields(rest)?;
-            selects_from(&rt, rt.alloc(), text, document, end)?;
-        }
-    }
-    Ok(())
+fn selects_by_filters(rt: HostRuntime) -> Result<(), Fail> {
+    let alloc = rt.alloc();
+    holds_each(&rt, alloc, filters::FILTERS)?;
+    holds_each(&rt, alloc, filters::NULLS)?;
+    holds_each(&rt, alloc, comparisons::COMPARISONS)?;
+    holds_each(&rt, alloc, calls::CALLS)?;
+    holds_each(&rt, alloc, calls::PATTERNS)
+}
+
+#[test]
+fn selects_by_literals(rt: HostRuntime) -> Result<(), Fail> {
+    let alloc = rt.alloc();
+    holds_each(&rt, alloc, literals::NUMBERS)?;
+    holds_each(&rt, alloc, literals::OTHERS)?;
+    holds_each(&rt, alloc, strings::STRINGS)?;
+    holds_each(&rt, alloc, numbers::NUMBERS)?;
+    holds_each(&rt, alloc, words::WORDS)
 }
 
 #[test]
 fn selects_from_documents(rt: HostRuntime) -> Result<(), Fail> {
-    for &(document, rows) in OF_DOCUMENTS {
-        for &row in rows {
-            let (text, end) = fields(row)?;
-            selects_from(&rt, rt.alloc(), text, document, end)?;
-        }
-    }
-    Ok(())
+    let alloc = rt.alloc();
+    holds_each_of(&rt, alloc, bookstore::BOOKSTORE, bookstore::BOOKS)?;
+    holds_each_of(&rt, alloc, filters::EXAMPLE, filters::EXAMPLES)?;
+    holds_each_of(&rt, alloc, filters::ITEMS, filters::OF_ITEMS)?;
+    holds_each_of(&rt, alloc, filters::MEMBERS, filters::OF_MEMBERS)?;
+    holds_each_of(&rt, alloc, filters::CHOICES, filters::OF_CHOICES)?;
+    holds_each_of(&rt, alloc, filters::NESTED, filters::OF_NESTED)?;
+    holds_each_of(&rt, alloc, comparisons::EXAMPLE, comparisons::EXAMPLES)?;
+    holds_each_of(&rt, alloc, calls::NAMES, calls::OF_NAMES)
 }
 
 #[test]
-fn refuses_as_rows_tell(rt: HostRuntime) -> Result<(), Fail> {
-    for &rows in NO_PATHS {
-        for &row in rows {
-            let (text, refusal) = fields(row)?;
-            parses(&rt, rt.alloc(), text, refusal)?;
-        }
-    }
-    Ok(())
+fn refuses_texts(rt: HostRuntime) -> Result<(), Fail> {
+    let alloc = rt.alloc();
+    refuses_each(&rt, alloc, refusals::SEGMENTS)?;
+    refuses_each(&rt, alloc, refusals::SELECTORS)?;
+    refuses_each(&rt, alloc, refusals::SLICES)?;
+    refuses_each(&rt, alloc, refusals::STRINGS)?;
+    refuses_each(&rt, alloc, strings::NO_STRINGS)?;
+    refuses_each(&rt, alloc, numbers::NO_NUMBERS)?;
+    refuses_each(&rt, alloc, operators::OPERATORS)?;
+    refuses_each(&rt, alloc, operators::NO_OPERATORS)?;
+    refuses_each(&rt, alloc, words::LITERAL_WORDS)?;
+    refuses_each(&rt, alloc, words::OTHER_WORDS)
 }
 
 #[test]
-fn cuts_paths(rt: HostRuntime) -> Result<(), Fail> {
-    for &rows in PATHS {
-        cut_rows(&rt, rt.alloc(), rows)?;
-    }
-    for &(_, rows) in OF_DOCUMENTS {
-        cut_rows(&rt, rt.alloc(), rows)?;
-    }
-    Ok(())
-}
-
-#[test]
-fn prints_the_paths_of_rows(rt: HostRuntime) -> Result<(), Fail> {
-    for &rows in PATHS {
-        print_rows(&rt, rt.alloc(), rows)?;
-    }
-    for &(_, rows) in OF_DOCUMENTS {
-        print_rows(&rt, rt.alloc(), rows)?;
-    }
-    Ok(())
-}
-
-#[test]
-fn cuts_refused_texts(rt: HostRuntime) -> Result<(), Fail> {
-    for &rows in NO_PATHS {
-        cut_rows(&rt, rt.alloc(), rows)?;
-    }
-    Ok(())
+fn refuses_texts_of_filters(rt: HostRuntime) -> Result<(), Fail> {
+    let alloc = rt.alloc();
+    refuses_each(&rt, alloc, filter_refusals::LOGIC)?;
+    refuses_each(&rt, alloc, filter_refusals::COMPARISONS)?;
+    refuses_each(&rt, alloc, filter_refusals::LITERALS)?;
+    refuses_each(&rt, alloc, filter_refusals::CALLS)?;
+    refuses_each(&rt, alloc, filter_refusals::ARGUMENTS)
 }

@@ -1,11 +1,23 @@
 //! Walks, one node at a time.
 
+use crate::tests::rows::tells;
 use serde_json::Value;
 use serde_json_path::functions::{Both, Builtin, Functions};
 use serde_json_path::{JsonPath, Walk};
 use std::alloc::Global;
 use std::process::Abort;
 use std::test::Fail;
+
+/// The location of the next node that the walk gives, or an empty text for none.
+fn next_location<F: Functions>(
+    alloc: Global,
+    walk: &mut Walk<'_, '_, Both<&F, Builtin>>,
+) -> Result<String, Fail> {
+    match walk.next()? {
+        Some(node) => Ok(format!(in alloc; "{}", node.location())?),
+        None => Ok(String::new(alloc)),
+    }
+}
 
 /// The walk gives nodes at these locations, one after the other, with an empty text for none.
 pub(crate) fn gives_each<F: Functions>(
@@ -15,13 +27,7 @@ pub(crate) fn gives_each<F: Functions>(
     wanted: &[&str],
 ) -> Result<(), Fail> {
     for &want in wanted {
-        match walk.next()? {
-            Some(node) => {
-                let text = format!(in alloc; "{}", node.location())?;
-                assert_eq!(rt; text.as_str(), want);
-            }
-            None => assert_eq!(rt; "", want),
-        }
+        tells(rt, next_location(alloc, walk)?.as_str(), want, "a walk");
     }
     Ok(())
 }
@@ -67,18 +73,28 @@ fn zeros(alloc: Global, number: usize) -> Result<Value, Fail> {
     Ok(Value::Array(items))
 }
 
+/// The walk gives so many items, and keeps two places at most. After the last it keeps none.
+fn keeps_few_places<F: Functions>(
+    rt: &impl Abort,
+    alloc: Global,
+    walk: &mut Walk<'_, '_, Both<&F, Builtin>>,
+    number_of_items: usize,
+) -> Result<(), Fail> {
+    for number in 0..number_of_items {
+        let location = format!(in alloc; "$[{number}]")?;
+        gives_each(rt, alloc, walk, &[location.as_str()])?;
+        assert!(rt; walk.places() <= 2, "after {number}");
+    }
+    gives_each(rt, alloc, walk, &["", ""])?;
+    assert!(rt; walk.places() == 0, "after the last");
+    Ok(())
+}
+
 #[test]
 fn walks_keep_few_places(rt: HostRuntime) -> Result<(), Fail> {
     let alloc = rt.alloc();
     let document = zeros(alloc, 1000)?;
     let path = JsonPath::parse_with(alloc, "$..*", &Builtin)?;
     let mut walk = path.walk(alloc, &document, &Builtin)?;
-    for number in 0..1000 {
-        let location = format!(in alloc; "$[{number}]")?;
-        gives_each(&rt, alloc, &mut walk, &[location.as_str()])?;
-        assert!(rt; walk.places() <= 2, "after {number}");
-    }
-    gives_each(&rt, alloc, &mut walk, &["", ""])?;
-    assert_eq!(rt; walk.places(), 0);
-    Ok(())
+    keeps_few_places(&rt, alloc, &mut walk, 1000)
 }
