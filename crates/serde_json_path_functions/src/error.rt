@@ -12,7 +12,8 @@ use std::fmt;
 pub enum QueryError {
     /// Memory was refused.
     Memory,
-    /// `regex` refused a pattern of `match` or `search` for another reason than its syntax.
+    /// A pattern was refused for another reason than its syntax: by `regex` for the built-in `match` and `search`, or by a set
+    /// whose name stands for one of them.
     Pattern,
 }
 
