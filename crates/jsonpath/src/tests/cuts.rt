@@ -41,10 +41,15 @@ fn is_line(text: &str) -> bool {
     }
 }
 
+/// Asserts that a text is one line.
+fn holds_line(rt: &impl Abort, text: &str) {
+    assert!(rt; is_line(text), "{text:?}");
+}
+
 /// Asserts that the report of a document under `$` is one line, or that it is no JSON text.
 fn is_line_or_no_json(rt: &impl Abort, alloc: Global, document: &[u8]) {
     match report(alloc, "$", document, &Builtin) {
-        Ok(lines) => assert!(rt; is_line(lines.as_str()), "{lines:?}"),
+        Ok(lines) => holds_line(rt, lines.as_str()),
         Err(ReportError::Document(DocumentError::NotJson)) => {}
         Err(e) => assert!(rt; false, "{e}"),
     }

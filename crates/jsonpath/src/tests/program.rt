@@ -9,6 +9,7 @@ use serde_json_path::QueryError;
 use std::alloc::Global;
 use std::io;
 use std::io::{Read, Write};
+use std::process::Abort;
 use std::test::Fail;
 
 /// A reader that counts its reads and may fail at one of them.
@@ -114,8 +115,21 @@ fn words(alloc: Global, of: &[&str]) -> Result<Vec<String>, std::alloc::AllocErr
     Ok(words)
 }
 
+/// Asserts the status of a run.
+fn ends(rt: &impl Abort, status: u8, wanted: u8) {
+    assert!(rt; status == wanted, "{status} in place of {wanted}");
+}
+
+/// Asserts what was written.
+fn wrote(rt: &impl Abort, written: &[u8], wanted: &str) {
+    assert!(rt;
+        written == wanted.as_bytes(),
+        "{written:?} in place of {wanted:?}"
+    );
+}
+
 /// The words, the input, the status, and the texts on the output and on the output of errors.
-const RUNS: [(&[&str], &str, u8, &str, &str); 10] = [
+const RUNS: &[(&[&str], &str, u8, &str, &str)] = &[
     (&["$.a"], r#"{"a":[1]}"#, 0, "$['a']\t[1]\n", ""),
     (
         &["$['a','a']"],
@@ -146,18 +160,33 @@ const RUNS: [(&[&str], &str, u8, &str, &str); 10] = [
     (&["$", "$"], "null", 64, "", "usage: jsonpath PATH\n"),
 ];
 
+/// Asserts the status and the texts of a run, and that its input is read but where words are wrong.
+fn runs(
+    rt: &impl Abort,
+    alloc: Global,
+    words: &[String],
+    document: &str,
+    (status, printed, reported): (u8, &str, &str),
+) {
+    let mut input = Input::of(document.as_bytes());
+    let mut out = Vec::new(alloc);
+    let mut err = Vec::new(alloc);
+    ends(
+        rt,
+        run(alloc, words, &mut input, &mut out, &mut err),
+        status,
+    );
+    wrote(rt, out.as_slice(), printed);
+    wrote(rt, err.as_slice(), reported);
+    assert!(rt; (input.reads == 0) == (status == 64), "{document}");
+}
+
 #[test]
 fn statuses_and_texts(rt: HostRuntime) -> Result<(), Fail> {
-    for (given, document, status, printed, reported) in RUNS {
-        let mut input = Input::of(document.as_bytes());
-        let mut out = Vec::new(rt.alloc());
-        let mut err = Vec::new(rt.alloc());
+    for &(given, document, status, printed, reported) in RUNS {
         let words = words(rt.alloc(), given)?;
-        let answer = run(rt.alloc(), &words, &mut input, &mut out, &mut err);
-        assert_eq!(rt; answer, status, "{document}");
-        assert_eq!(rt; out.as_slice(), printed.as_bytes());
-        assert_eq!(rt; err.as_slice(), reported.as_bytes());
-        assert_eq!(rt; input.reads == 0, status == 64, "{document}");
+        let wanted = (status, printed, reported);
+        runs(&rt, rt.alloc(), &words, document, wanted);
     }
     Ok(())
 }
@@ -186,13 +215,11 @@ fn runs_on_bytes(rt: HostRuntime) -> Result<(), Fail> {
     for (path, wanted) in [("$[0]", 0), ("$[1]", 0), ("x", 1)] {
         let path = words(rt.alloc(), &[path])?;
         let status = run_on_bytes(rt.alloc(), &path, b"[1.5,null]", &mut out, &mut err);
-        assert_eq!(rt; status, wanted);
+        ends(&rt, status, wanted);
     }
-    assert_eq!(rt; out.as_slice(), b"$[0]\t1.5\n$[1]\tnull\n".as_slice());
-    assert_eq!(rt;
-        err.as_slice(),
-        b"jsonpath: path: at position 1, expected '$'\n".as_slice()
-    );
+    wrote(&rt, out.as_slice(), "$[0]\t1.5\n$[1]\tnull\n");
+    let refused = "jsonpath: path: at position 1, expected '$'\n";
+    wrote(&rt, err.as_slice(), refused);
     Ok(())
 }
 
@@ -204,9 +231,9 @@ fn failing_flushes(rt: HostRuntime) -> Result<(), Fail> {
     };
     let mut err = Vec::new(rt.alloc());
     let status = run(rt.alloc(), &root, &mut Input::of(b"1"), &mut out, &mut err);
-    assert_eq!(rt; status, 3);
-    assert_eq!(rt; out.taken.as_slice(), b"$\t1\n".as_slice());
-    assert_eq!(rt; err.as_slice(), b"jsonpath: output failed\n".as_slice());
+    ends(&rt, status, 3);
+    wrote(&rt, out.taken.as_slice(), "$\t1\n");
+    wrote(&rt, err.as_slice(), "jsonpath: output failed\n");
     Ok(())
 }
 
@@ -221,46 +248,43 @@ fn short_and_interrupted_writes(rt: HostRuntime) -> Result<(), Fail> {
         };
         let mut err = Vec::new(rt.alloc());
         let answer = run(rt.alloc(), &root, &mut Input::of(b"1"), &mut out, &mut err);
-        assert_eq!(rt; answer, status);
-        assert_eq!(rt; out.taken.as_slice(), written.as_bytes());
+        ends(&rt, answer, status);
+        wrote(&rt, out.taken.as_slice(), written);
     }
     Ok(())
+}
+
+/// A run over an input that cannot be read.
+fn fails_to_read(rt: &impl Abort, alloc: Global, path: &[String]) {
+    let mut input = Input::of(b"null");
+    input.fails_at = 0;
+    let mut out = Vec::new(alloc);
+    let mut err = Vec::new(alloc);
+    ends(rt, run(alloc, path, &mut input, &mut out, &mut err), 2);
+    wrote(rt, out.as_slice(), "");
+    wrote(rt, err.as_slice(), "jsonpath: document: cannot be read\n");
+}
+
+/// Runs whose output cannot be written, and then their output of errors neither.
+fn fails_to_write(rt: &impl Abort, alloc: Global, root: &[String]) {
+    let mut err = Vec::new(alloc);
+    let mut input = Input::of(b"1");
+    ends(rt, run(alloc, root, &mut input, &mut Broken, &mut err), 3);
+    wrote(rt, err.as_slice(), "jsonpath: output failed\n");
+    let mut input = Input::of(b"1");
+    ends(
+        rt,
+        run(alloc, root, &mut input, &mut Broken, &mut Broken),
+        3,
+    );
 }
 
 #[test]
 fn failing_reads_and_writes(rt: HostRuntime) -> Result<(), Fail> {
     let path = words(rt.alloc(), &["x"])?;
-    let mut input = Input::of(b"null");
-    input.fails_at = 0;
-    let mut out = Vec::new(rt.alloc());
-    let mut err = Vec::new(rt.alloc());
-    let status = run(rt.alloc(), &path, &mut input, &mut out, &mut err);
-    assert_eq!(rt; status, 2);
-    assert_eq!(rt; out.len(), 0);
-    assert_eq!(rt;
-        err.as_slice(),
-        b"jsonpath: document: cannot be read\n".as_slice()
-    );
-
+    fails_to_read(&rt, rt.alloc(), &path);
     let root = words(rt.alloc(), &["$"])?;
-    let mut err = Vec::new(rt.alloc());
-    let status = run(
-        rt.alloc(),
-        &root,
-        &mut Input::of(b"1"),
-        &mut Broken,
-        &mut err,
-    );
-    assert_eq!(rt; status, 3);
-    assert_eq!(rt; err.as_slice(), b"jsonpath: output failed\n".as_slice());
-    let status = run(
-        rt.alloc(),
-        &root,
-        &mut Input::of(b"1"),
-        &mut Broken,
-        &mut Broken,
-    );
-    assert_eq!(rt; status, 3);
+    fails_to_write(&rt, rt.alloc(), &root);
     Ok(())
 }
 
@@ -272,8 +296,8 @@ fn reports_refused_queries(rt: HostRuntime) -> Result<(), Fail> {
     ] {
         let mut err = Vec::new(rt.alloc());
         let status = refuse(rt.alloc(), &ReportError::Query(error), &mut err);
-        assert_eq!(rt; status, 3);
-        assert_eq!(rt; err.as_slice(), line.as_bytes());
+        ends(&rt, status, 3);
+        wrote(&rt, err.as_slice(), line);
     }
     Ok(())
 }

@@ -2,13 +2,15 @@
 
 use crate::report::report;
 use crate::samples::Samples;
+use crate::tests::reports::tells;
 use serde_json::Value;
 use serde_json_path::ParseErrorKind::{
     ExpectedComparisonOperator, UndefinedFunction, WrongArgumentType, WrongNumberOfArguments,
     WrongReturnType,
 };
 use serde_json_path::functions::Builtin;
-use serde_json_path::{JsonPath, ParseError, ParseErrorKind};
+use serde_json_path::{JsonPath, LocatedNodeList, ParseError, ParseErrorKind};
+use std::alloc::Global;
 use std::process::Abort;
 use std::test::Fail;
 
@@ -52,20 +54,28 @@ const SELECTED: &[(&str, &str, &str)] = &[
     ("$[?none() == @.x]", r#"[{},{"x":1}]"#, " $[0]"),
 ];
 
+/// The locations of nodes, with a space before each.
+fn locations(alloc: Global, nodes: &LocatedNodeList<'_>) -> Result<String, Fail> {
+    let mut text = String::new(alloc);
+    for location in nodes.locations() {
+        write!(text, " {location}")?;
+    }
+    Ok(text)
+}
+
+/// The locations of what a path selects from a document, where its filters call the samples.
+fn selected(alloc: Global, path: &str, document: &str) -> Result<String, Fail> {
+    let path = JsonPath::parse_with(alloc, path, &Samples)?;
+    let document = Value::from_str(alloc, document)?;
+    let nodes = path.query_located_with(alloc, &document, &Samples)?;
+    locations(alloc, &nodes)
+}
+
 #[test]
 fn filters_call_the_samples(rt: HostRuntime) -> Result<(), Fail> {
-    let alloc = rt.alloc();
-    for &(text, document, wanted) in SELECTED {
-        let path = JsonPath::parse_with(alloc, text, &Samples)?;
-        let document = Value::from_str(alloc, document)?;
-        let mut locations = String::new(alloc);
-        for location in path
-            .query_located_with(alloc, &document, &Samples)?
-            .locations()
-        {
-            write!(locations, " {location}")?;
-        }
-        assert_eq!(rt; locations.as_str(), wanted, "{text}");
+    for &(path, document, wanted) in SELECTED {
+        let locations = selected(rt.alloc(), path, document)?;
+        tells(&rt, locations.as_str(), wanted, path);
     }
     Ok(())
 }
@@ -78,7 +88,7 @@ fn reports_call_the_samples(rt: HostRuntime) -> Result<(), Fail> {
         ("$[?first(@.*) == 5 && length(@) == 1]", "$[2]\t[5]\n"),
     ] {
         let text = report(rt.alloc(), path, document, &Samples)?;
-        assert_eq!(rt; text.as_str(), lines, "{path}");
+        tells(&rt, text.as_str(), lines, path);
     }
     Ok(())
 }
@@ -94,8 +104,8 @@ fn refuses(
     match read {
         Ok(_) => assert!(rt; false, "{text} is accepted"),
         Err(e) => {
-            assert_eq!(rt; e.kind(), kind, "of {text}");
-            assert_eq!(rt; e.position(), position, "of {text}");
+            assert!(rt; e.kind() == kind, "{:?} of {text}", e.kind());
+            assert!(rt; e.position() == position, "{} of {text}", e.position());
         }
     }
 }
@@ -127,14 +137,18 @@ fn typed_calls_of_the_samples(rt: HostRuntime) -> Result<(), Fail> {
     Ok(())
 }
 
+/// Asserts that a path fits the samples, and whether it fits the built-in functions alone.
+fn fits(rt: &impl Abort, path: &JsonPath, is_builtin: bool) {
+    assert!(rt; path.fits(&Samples));
+    assert!(rt; path.fits(&Builtin) == is_builtin);
+}
+
 #[test]
 fn paths_fit_the_samples_or_not(rt: HostRuntime) -> Result<(), Fail> {
     let alloc = rt.alloc();
     let path = JsonPath::parse_with(alloc, "$[?first(@.*) == 4]", &Samples)?;
-    assert!(rt; path.fits(&Samples));
-    assert!(rt; !path.fits(&Builtin));
+    fits(&rt, &path, false);
     let plain = JsonPath::parse(alloc, "$.a")?;
-    assert!(rt; plain.fits(&Samples));
-    assert!(rt; plain.fits(&Builtin));
+    fits(&rt, &plain, true);
     Ok(())
 }
