@@ -1,8 +1,7 @@
 //! Texts of paths that are cut at each character.
 
 use crate::tests::long_texts::long;
-use crate::tests::nesting;
-use crate::tests::rows::fields;
+use crate::tests::rows::{fields, holds};
 use serde_json_path::functions::Functions;
 use serde_json_path::{JsonPath, ParseError};
 use std::alloc::Global;
@@ -46,11 +45,6 @@ fn is_message(told: &str) -> bool {
     false
 }
 
-/// Holds the row of a refusal to the table.
-fn is_in_table(rt: &impl Abort, row: &str, text: &str) {
-    assert!(rt; is_message(row), "{row} of {text:?}");
-}
-
 /// Holds a refusal, if there is one, to a character of the text or its end, and to a message of its kind.
 fn is_told(
     rt: &impl Abort,
@@ -60,12 +54,9 @@ fn is_told(
 ) -> Result<(), Fail> {
     if let Some(e) = refusal {
         let at = e.position();
-        assert!(rt;
-            at >= 1 && text.is_char_boundary(at - 1),
-            "{at} in {text:?}"
-        );
+        holds(rt, at >= 1 && text.is_char_boundary(at - 1), text);
         let row = format!(in alloc; "{:?} ~ {}", e.kind(), e.message())?;
-        is_in_table(rt, row.as_str(), text);
+        holds(rt, is_message(row.as_str()), text);
     }
     Ok(())
 }
@@ -99,23 +90,19 @@ pub(crate) fn cut_rows_with<F: Functions>(
     Ok(())
 }
 
-/// Cuts a text that was made for it.
-fn cut_text(rt: &impl Abort, alloc: Global, text: String) -> Result<(), Fail> {
-    cut(rt, alloc, text.as_str())
-}
-
-#[test]
-fn cuts_nested_texts(rt: HostRuntime) -> Result<(), Fail> {
-    let alloc = rt.alloc();
-    cut_text(&rt, alloc, nesting::filters(alloc, 129)?)?;
-    cut_text(&rt, alloc, nesting::parentheses(alloc, 128)?)?;
-    cut_text(&rt, alloc, nesting::calls(alloc, 128)?)
-}
+/// The beginning of a text, what stands in it so many times, and its end.
+const LONG: &[(&str, &str, usize, &str)] = &[
+    ("$[", "9", 10_000, "]"),
+    ("$[?@ == ", "9", 10_000, "]"),
+    ("$", " ", 10_000, "x"),
+];
 
 #[test]
 fn cuts_long_texts(rt: HostRuntime) -> Result<(), Fail> {
     let alloc = rt.alloc();
-    cut_text(&rt, alloc, long(alloc, "$[", "9", 10_000, "]")?)?;
-    cut_text(&rt, alloc, long(alloc, "$[?@ == ", "9", 10_000, "]")?)?;
-    cut_text(&rt, alloc, long(alloc, "$", " ", 10_000, "x")?)
+    for &(beginning, repeated, times, end) in LONG {
+        let text = long(alloc, beginning, repeated, times, end)?;
+        cut(&rt, alloc, text.as_str())?;
+    }
+    Ok(())
 }

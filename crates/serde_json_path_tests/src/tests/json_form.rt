@@ -4,7 +4,7 @@ ghost use Rattle.serde_json_path_functions.specs.Functions.{Fits};
 ghost use Rattle.serde_json_path_functions.specs.Patterns.{builtin_functions};
 ghost use Rattle.serde_json_path.specs.Paths.{path_signatures};
 
-use crate::tests::rows::{are_values, fields, tells};
+use crate::tests::rows::{fields, finds, gives};
 use serde_json::Value;
 use serde_json_path::{FromJsonError, JsonPath, JsonPathExt};
 use std::alloc::Global;
@@ -43,23 +43,21 @@ fn refusal(alloc: Global, value: &Value) -> Result<String, Fail> {
 /// Holds a value to the error that it is refused with.
 fn refuses(rt: &impl Abort, alloc: Global, value: &str, told: &str) -> Result<(), Fail> {
     let json = Value::from_str(alloc, value)?;
-    tells(rt, refusal(alloc, &json)?.as_str(), told, value);
-    Ok(())
+    gives(rt, refusal(alloc, &json), told, value)
 }
 
 /// Holds a value, queried by a path, to the values that the path selects from it.
-fn gives(
+fn queries(
     rt: &impl Abort,
     alloc: Global,
     path: &JsonPath,
-    document_text: &str,
+    document: &str,
     items: &str,
 ) -> Result<(), Fail>
     requires { Fits builtin_functions (path_signatures path.now) }
 {
-    let document = Value::from_str(alloc, document_text)?;
-    let nodes = document.json_path(alloc, path)?;
-    are_values(rt, alloc, nodes.iter(), items, document_text)
+    let document = Value::from_str(alloc, document)?;
+    finds(rt, alloc, document.json_path(alloc, path), items, items)
 }
 
 #[test]
@@ -71,7 +69,7 @@ fn refuses_values_that_are_not_paths(rt: HostRuntime) -> Result<(), Fail> {
     }
     let number = Value::from_str(alloc, "7")?;
     let answer = JsonPath::from_json(alloc, &number).err();
-    assert!(rt; answer == Some(FromJsonError::NotAString), "of 7");
+    assert!(rt; answer == Some(FromJsonError::NotAString));
     Ok(())
 }
 
@@ -81,7 +79,7 @@ fn reads(rt: &impl Abort, alloc: Global, row: &str) -> Result<(), Fail> {
     let (document, items) = fields(rest)?;
     let value = Value::from_str(alloc, value)?;
     let path = JsonPath::from_json(alloc, &value)?;
-    gives(rt, alloc, &path, document, items)
+    queries(rt, alloc, &path, document, items)
 }
 
 #[test]

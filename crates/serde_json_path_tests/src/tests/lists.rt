@@ -1,6 +1,6 @@
 //! What the lists of a query answer.
 
-use crate::tests::rows::{located_selection, locations, selection, tells};
+use crate::tests::rows::{gives, located_selection, locations, selection};
 use serde_json::Value;
 use serde_json_path::{AtMostOneError, ExactlyOneError, LocatedNodeList, NodeList};
 use std::alloc::Global;
@@ -17,8 +17,7 @@ fn once(
 ) -> Result<(), Fail> {
     let document = Value::from_str(alloc, document)?;
     let nodes = located_selection(alloc, path, &document)?.dedup();
-    tells(rt, locations(alloc, &nodes)?.as_str(), wanted, path);
-    Ok(())
+    gives(rt, locations(alloc, &nodes), wanted, path)
 }
 
 /// The JSON pointers of nodes, with a `;` after each.
@@ -41,8 +40,7 @@ fn points(
 ) -> Result<(), Fail> {
     let document = Value::from_str(alloc, document)?;
     let nodes = located_selection(alloc, path, &document)?;
-    tells(rt, pointers(alloc, &nodes)?.as_str(), wanted, path);
-    Ok(())
+    gives(rt, pointers(alloc, &nodes), wanted, path)
 }
 
 #[test]
@@ -54,13 +52,15 @@ fn tells_locations(rt: HostRuntime) -> Result<(), Fail> {
     points(&rt, alloc, "$", r#"{"a/~":[0]}"#, ";")
 }
 
-/// Holds a list to how it refuses to be exactly one node, and whether it refuses to be one at most.
-fn refuses(
+/// Holds a list to its length, and to how it refuses to be exactly one node and to be one at most.
+fn counts(
     rt: &impl Abort,
     nodes: &NodeList<'_>,
+    number: usize,
     exactly_one: ExactlyOneError,
     at_most_one: Option<AtMostOneError>,
 ) {
+    assert!(rt; nodes.len() == number);
     assert!(rt; nodes.exactly_one().err() == Some(exactly_one));
     assert!(rt; nodes.at_most_one().err() == at_most_one);
 }
@@ -69,11 +69,10 @@ fn refuses(
 fn counts_nodes(rt: HostRuntime) -> Result<(), Fail> {
     let alloc = rt.alloc();
     let document = Value::from_str(alloc, r#"{"a":1,"b":2}"#)?;
-    let both = selection(alloc, "$.*", &document)?;
     let two = ExactlyOneError::MoreThanOne(2);
-    refuses(&rt, &both, two, Some(AtMostOneError(2)));
+    let both = selection(alloc, "$.*", &document)?;
+    counts(&rt, &both, 2, two, Some(AtMostOneError(2)));
     let none = selection(alloc, "$.c", &document)?;
-    refuses(&rt, &none, ExactlyOneError::Empty, None);
-    assert!(rt; none.len() == 0);
+    counts(&rt, &none, 0, ExactlyOneError::Empty, None);
     Ok(())
 }

@@ -1,7 +1,7 @@
 //! Long texts, of paths and of documents.
 
-use crate::tests::nesting::{calls, filters, nested, parentheses};
-use crate::tests::rows::{counts, fields, parses, selects, tells, told};
+use crate::tests::nesting::{CALLS, COMPARED, FILTERS, Nesting, PARENTHESES, nested};
+use crate::tests::rows::{counts, fields, gives, holds, parses, prints, selects_nodes, told};
 use serde_json_path::functions::Builtin;
 use serde_json_path::{JsonPath, PathSource, TextSource, parse_source};
 use std::alloc::{AllocError, Global};
@@ -24,26 +24,32 @@ pub(crate) fn long(
     Ok(text)
 }
 
-/// Holds a long text to what its parse answers.
-pub(crate) fn parses_long(
-    rt: &impl Abort,
-    alloc: Global,
-    (beginning, repeated, times, end): (&str, &str, usize, &str),
-    wanted: &str,
-) -> Result<(), Fail> {
-    let text = long(alloc, beginning, repeated, times, end)?;
-    parses(rt, alloc, text.as_str(), wanted)
-}
+/// The beginning of a text, what stands in it so many times, its end, and what its parse answers.
+const LONG: &[(&str, &str, usize, &str, &str)] = &[
+    ("$[", "9", 10_000, "]", "IntegerOutOfRange 3"),
+    ("$[?@ == ", "9", 10_000, "]", "NumberOutOfRange 9"),
+    ("$[?@ == 0.", "0", 10_000, "]", "FractionTooLong 9"),
+    ("$", " ", 10_000, "x", "TextAfterPath 2"),
+    // Nesting that ends is not counted.
+    ("$[?(@)", " && (@)", 200, "]", "accepted"),
+    (
+        "$[?count(@) == 1",
+        " || count(@) == 1",
+        200,
+        "]",
+        "accepted",
+    ),
+    ("$", "[?@]", 200, "", "accepted"),
+];
 
 #[test]
-fn refuses_long_texts(rt: HostRuntime) -> Result<(), Fail> {
+fn parses_long_texts(rt: HostRuntime) -> Result<(), Fail> {
     let alloc = rt.alloc();
-    let index = ("$[", "9", 10_000, "]");
-    parses_long(&rt, alloc, index, "IntegerOutOfRange 3")?;
-    let literal = ("$[?@ == ", "9", 10_000, "]");
-    parses_long(&rt, alloc, literal, "NumberOutOfRange 9")?;
-    let blanks = ("$", " ", 10_000, "x");
-    parses_long(&rt, alloc, blanks, "TextAfterPath 2")
+    for &(beginning, repeated, times, end, wanted) in LONG {
+        let text = long(alloc, beginning, repeated, times, end)?;
+        parses(&rt, alloc, text.as_str(), wanted)?;
+    }
+    Ok(())
 }
 
 /// Holds a path, which prints itself, to the one node that it selects from a document.
@@ -52,18 +58,17 @@ fn selects_one(
     alloc: Global,
     text: &str,
     document: &str,
-    (location, value): (&str, &str),
+    wanted: (&str, &str),
 ) -> Result<(), Fail> {
     let path = JsonPath::parse(alloc, text)?;
-    tells(rt, path.to_text(alloc)?.as_str(), text, "a path");
-    let row = format!(in alloc; "{location} ~ {value}")?;
-    selects(rt, alloc, &path, document, row.as_str())
+    prints(rt, path.to_text(alloc), text, "a path")?;
+    selects_nodes(rt, alloc, &path, document, wanted)
 }
 
 #[test]
 fn selects_deep_nodes(rt: HostRuntime) -> Result<(), Fail> {
     let alloc = rt.alloc();
-    let document = nested(alloc, ("", "[", 20), "0", ("]", 20, ""))?;
+    let document = nested(alloc, ("", "[", "0", "]", ""), 20)?;
     let path = long(alloc, "$", "[0]", 20, "")?;
     let path = path.as_str();
     selects_one(&rt, alloc, path, document.as_str(), (path, "0"))
@@ -122,13 +127,6 @@ fn counts_a_thousand_items(rt: HostRuntime) -> Result<(), Fail> {
     counts(&rt, rt.alloc(), "$..*", zeros.as_str(), 1000)
 }
 
-/// Holds a source to the length of its text and to so many looks at most.
-fn has_looked(rt: &impl Abort, source: &TextSource<'_>, (length, bound): (usize, u128)) {
-    let looks = source.looks();
-    assert!(rt; source.len() == length, "not of {length} bytes");
-    assert!(rt; looks <= bound, "{looks} looks at {length} bytes");
-}
-
 /// Holds a parse to what it answers and to so many looks at most.
 fn looks_at_most(
     rt: &impl Abort,
@@ -138,32 +136,29 @@ fn looks_at_most(
     (length, bound): (usize, u128),
 ) -> Result<(), Fail> {
     let mut source = TextSource::new(text);
-    let answer = told(alloc, parse_source(alloc, &mut source, &Builtin))?;
-    tells(rt, answer.as_str(), wanted, text);
-    has_looked(rt, &source, (length, bound));
+    let answer = told(alloc, parse_source(alloc, &mut source, &Builtin));
+    gives(rt, answer, wanted, text)?;
+    holds(rt, source.len() == length, text);
+    holds(rt, source.looks() <= bound, text);
     Ok(())
 }
 
-/// Holds the parse of a text to accept it, with so many looks at most.
-fn accepts(rt: &impl Abort, alloc: Global, text: &str, looks: (usize, u128)) -> Result<(), Fail> {
-    looks_at_most(rt, alloc, text, "accepted", looks)
-}
+/// What nests, how often, what the parse of that text answers, the length of the text, and the greatest number of looks.
+const LOOKED: &[(Nesting<'static>, usize, &str, usize, u128)] = &[
+    (("", "", "", "", ""), 0, "ExpectedRoot 1", 0, 32),
+    (("$.", "a", "", "", ""), 1000, "accepted", 1002, 2 * 1002),
+    (PARENTHESES, 127, "accepted", 259, 8320),
+    (FILTERS, 128, "accepted", 513, 16448),
+    (COMPARED, 127, "NonSingularQuery 4", 518, 16608),
+    (CALLS, 127, "accepted", 1026, 32864),
+];
 
 #[test]
 fn looks_at_texts(rt: HostRuntime) -> Result<(), Fail> {
     let alloc = rt.alloc();
-    looks_at_most(&rt, alloc, "", "ExpectedRoot 1", (0, 32))?;
-    let name = (1002, 2 * 1002);
-    accepts(&rt, alloc, long(alloc, "$.", "a", 1000, "")?.as_str(), name)?;
-    accepts(&rt, alloc, parentheses(alloc, 127)?.as_str(), (259, 8320))?;
-    accepts(&rt, alloc, filters(alloc, 128)?.as_str(), (513, 16448))?;
-    accepts(&rt, alloc, calls(alloc, 127)?.as_str(), (1026, 32864))?;
-    let deep = nested(alloc, ("$", "[?@", 128), "", ("]", 127, " == 1]"))?;
-    looks_at_most(
-        &rt,
-        alloc,
-        deep.as_str(),
-        "NonSingularQuery 4",
-        (518, 16608),
-    )
+    for &(nesting, times, wanted, length, bound) in LOOKED {
+        let text = nested(alloc, nesting, times)?;
+        looks_at_most(&rt, alloc, text.as_str(), wanted, (length, bound))?;
+    }
+    Ok(())
 }

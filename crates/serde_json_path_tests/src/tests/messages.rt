@@ -4,8 +4,8 @@ ghost use Rattle.std.specs.Prelude.{◌≡◌, ◌≢◌, IfSome};
 ghost use Rattle.serde_json_path_parser.specs.Errors.{kind_of};
 ghost use Rattle.serde_json_path_parser.specs.declared.error.ParseErrorKind.TheVariants.{NoMemory};
 
-use crate::tests::nesting::parentheses;
-use crate::tests::rows::{fields, tells};
+use crate::tests::nesting::{PARENTHESES, nested};
+use crate::tests::rows::{fields, prints};
 use serde_json_path::{JsonPath, ParseError};
 use std::alloc::Global;
 use std::process::Abort;
@@ -58,9 +58,8 @@ fn refuses(rt: &impl Abort, alloc: Global, text: &str, message: &str) -> Result<
     let Some((refused, again)) = refused_twice(alloc, text) else {
         return Err(Fail::new(format_args!("{text:?} is accepted")));
     };
-    tells(rt, refused.to_string(alloc)?.as_str(), message, text);
-    tells(rt, again.to_string(alloc)?.as_str(), message, text);
-    Ok(())
+    prints(rt, refused.to_string(alloc), message, text)?;
+    prints(rt, again.to_string(alloc), message, text)
 }
 
 #[test]
@@ -70,7 +69,7 @@ fn tells_refusals(rt: HostRuntime) -> Result<(), Fail> {
         let (text, message) = fields(row)?;
         refuses(&rt, alloc, text, message)?;
     }
-    let deep = parentheses(alloc, 128)?;
+    let deep = nested(alloc, PARENTHESES, 128)?;
     let message = "at position 131, in long-hand segment, nested more than 128 deep";
     refuses(&rt, alloc, deep.as_str(), message)
 }

@@ -1,95 +1,85 @@
 //! Filters, parentheses and calls within each other (RFC 9535, section 2.3.5.1), of which 128 are taken.
 
-use crate::tests::long_texts::{long, parses_long};
+use crate::tests::cuts::cut;
+use crate::tests::long_texts::long;
+use crate::tests::printed::prints_again;
 use crate::tests::rows::{fields, parses};
 use std::alloc::{AllocError, Global};
 use std::process::Abort;
 use std::test::Fail;
 
-/// The beginning, so many openings, the middle, so many closings, and the end.
+/// The beginning, the opening, the middle, the closing and the end of a text, in which opening and closing stand as often.
+pub(crate) type Nesting<'t> = (&'t str, &'t str, &'t str, &'t str, &'t str);
+
+/// Filters, each within the one before.
+pub(crate) const FILTERS: Nesting<'static> = ("$", "[?@", "", "]", "");
+
+/// A filter that compares, and filters within it.
+pub(crate) const COMPARED: Nesting<'static> = ("$", "[?@", "[?@", "]", " == 1]");
+
+/// A filter, and parentheses within it.
+pub(crate) const PARENTHESES: Nesting<'static> = ("$[?", "(", "@", ")", "]");
+
+/// A filter, and negated parentheses within it.
+const NEGATED: Nesting<'static> = ("$[?", "!(", "@", ")", "]");
+
+/// A filter, and calls within it.
+pub(crate) const CALLS: Nesting<'static> = ("$[?", "length(", "@", ")", " == 1]");
+
+/// The text in which opening and closing stand so many times.
 pub(crate) fn nested(
     alloc: Global,
-    (beginning, opening, openings): (&str, &str, usize),
-    middle: &str,
-    (closing, closings, end): (&str, usize, &str),
+    (beginning, opening, middle, closing, end): Nesting<'_>,
+    times: usize,
 ) -> Result<String, AllocError> {
-    let opened = long(alloc, beginning, opening, openings, middle)?;
-    long(alloc, opened.as_str(), closing, closings, end)
+    let opened = long(alloc, beginning, opening, times, middle)?;
+    long(alloc, opened.as_str(), closing, times, end)
 }
 
-/// So many filters, each within the one before.
-pub(crate) fn filters(alloc: Global, times: usize) -> Result<String, AllocError> {
-    nested(alloc, ("$", "[?@", times), "", ("]", times, ""))
-}
+/// What nests, how often, and what the parse of that text answers.
+const NESTED: &[(Nesting<'static>, usize, &str)] = &[
+    (FILTERS, 127, "accepted"),
+    (FILTERS, 128, "accepted"),
+    (FILTERS, 129, "NestedTooDeep 387"),
+    (COMPARED, 127, "NonSingularQuery 4"),
+    (PARENTHESES, 126, "accepted"),
+    (PARENTHESES, 127, "accepted"),
+    (PARENTHESES, 128, "NestedTooDeep 131"),
+    (NEGATED, 127, "accepted"),
+    (NEGATED, 128, "NestedTooDeep 259"),
+    (CALLS, 126, "accepted"),
+    (CALLS, 127, "accepted"),
+    (CALLS, 128, "NestedTooDeep 893"),
+];
 
-/// A filter, and so many parentheses within it.
-pub(crate) fn parentheses(alloc: Global, times: usize) -> Result<String, AllocError> {
-    nested(alloc, ("$[?", "(", times), "@", (")", times, "]"))
-}
-
-/// A filter, and so many negated parentheses within it.
-fn negated(alloc: Global, times: usize) -> Result<String, AllocError> {
-    nested(alloc, ("$[?", "!(", times), "@", (")", times, "]"))
-}
-
-/// A filter, and so many calls within it.
-pub(crate) fn calls(alloc: Global, times: usize) -> Result<String, AllocError> {
-    nested(
-        alloc,
-        ("$[?", "length(", times),
-        "@",
-        (")", times, " == 1]"),
-    )
-}
-
-/// 126 filters, parentheses and calls in turn, and a segment within them.
-fn mixed(alloc: Global, segment: &str) -> Result<String, AllocError> {
-    nested(
-        alloc,
-        ("$", "[?(count(@", 42),
-        segment,
-        (") == 1)]", 42, ""),
-    )
-}
-
-/// Holds a nested text to what its parse answers.
-fn nests(rt: &impl Abort, alloc: Global, text: String, wanted: &str) -> Result<(), Fail> {
-    parses(rt, alloc, text.as_str(), wanted)
+/// Holds a text to what its parse answers. Then prints the path and reads it from that text again, or cuts the refused text
+/// at each character.
+fn holds_text(rt: &impl Abort, alloc: Global, text: &str, wanted: &str) -> Result<(), Fail> {
+    parses(rt, alloc, text, wanted)?;
+    match wanted {
+        "accepted" => prints_again(rt, alloc, text),
+        _ => cut(rt, alloc, text),
+    }
 }
 
 #[test]
-fn nests_filters(rt: HostRuntime) -> Result<(), Fail> {
+fn nests(rt: HostRuntime) -> Result<(), Fail> {
     let alloc = rt.alloc();
-    nests(&rt, alloc, filters(alloc, 127)?, "accepted")?;
-    nests(&rt, alloc, filters(alloc, 128)?, "accepted")?;
-    nests(&rt, alloc, filters(alloc, 129)?, "NestedTooDeep 387")?;
-    let compared = nested(alloc, ("$", "[?@", 128), "", ("]", 127, " == 1]"))?;
-    nests(&rt, alloc, compared, "NonSingularQuery 4")
+    for &(nesting, times, wanted) in NESTED {
+        let text = nested(alloc, nesting, times)?;
+        holds_text(&rt, alloc, text.as_str(), wanted)?;
+    }
+    Ok(())
 }
 
-#[test]
-fn nests_parentheses(rt: HostRuntime) -> Result<(), Fail> {
-    let alloc = rt.alloc();
-    nests(&rt, alloc, parentheses(alloc, 126)?, "accepted")?;
-    nests(&rt, alloc, parentheses(alloc, 127)?, "accepted")?;
-    nests(&rt, alloc, parentheses(alloc, 128)?, "NestedTooDeep 131")?;
-    nests(&rt, alloc, negated(alloc, 127)?, "accepted")?;
-    nests(&rt, alloc, negated(alloc, 128)?, "NestedTooDeep 259")
-}
-
-#[test]
-fn nests_calls(rt: HostRuntime) -> Result<(), Fail> {
-    let alloc = rt.alloc();
-    nests(&rt, alloc, calls(alloc, 126)?, "accepted")?;
-    nests(&rt, alloc, calls(alloc, 127)?, "accepted")?;
-    nests(&rt, alloc, calls(alloc, 128)?, "NestedTooDeep 893")
-}
-
-/// Segments that nest once or twice more.
-const SHALLOW: &[&str] = &["[?@]", "[?(@)]", "[?!(@)]", "[?count(@) == 1]", "[?@[?@]]"];
-
-/// Segments that nest three times more, and where the third opening comes after the others.
-const DEEP: &[&str] = &[
+/// A segment that stands within 126 filters, parentheses and calls in turn, and what the parse of that text answers. Where
+/// the segment nests three times more, the third opening comes after the others.
+const IN_TURN: &[&str] = &[
+    "[?@] ~ accepted",
+    "[?(@)] ~ accepted",
+    "[?!(@)] ~ accepted",
+    "[?count(@) == 1] ~ accepted",
+    "[?@[?@]] ~ accepted",
     "[?((@))] ~ NestedTooDeep 425",
     "[?(!(@))] ~ NestedTooDeep 426",
     "[?(count(@) == 1)] ~ NestedTooDeep 425",
@@ -103,23 +93,11 @@ const DEEP: &[&str] = &[
 #[test]
 fn nests_all_in_turn(rt: HostRuntime) -> Result<(), Fail> {
     let alloc = rt.alloc();
-    for &segment in SHALLOW {
-        nests(&rt, alloc, mixed(alloc, segment)?, "accepted")?;
-    }
-    for &row in DEEP {
-        let (segment, refusal) = fields(row)?;
-        nests(&rt, alloc, mixed(alloc, segment)?, refusal)?;
+    for &row in IN_TURN {
+        let (segment, wanted) = fields(row)?;
+        let nesting = ("$", "[?(count(@", segment, ") == 1)]", "");
+        let text = nested(alloc, nesting, 42)?;
+        parses(&rt, alloc, text.as_str(), wanted)?;
     }
     Ok(())
-}
-
-/// Nesting that ends is not counted.
-#[test]
-fn counts_what_is_open(rt: HostRuntime) -> Result<(), Fail> {
-    let alloc = rt.alloc();
-    let open = ("$[?(@)", " && (@)", 200, "]");
-    parses_long(&rt, alloc, open, "accepted")?;
-    let called = ("$[?count(@) == 1", " || count(@) == 1", 200, "]");
-    parses_long(&rt, alloc, called, "accepted")?;
-    parses_long(&rt, alloc, ("$", "[?@]", 200, ""), "accepted")
 }

@@ -1,8 +1,5 @@
 //! Number literals (RFC 9535, section 2.3.5.1).
 
-use crate::tests::long_texts::parses_long;
-use std::test::Fail;
-
 /// A path, a document, and the locations and the values of what the path selects there.
 pub(crate) const NUMBERS: &[&str] = &[
     "$[?@ == 0] ~ [0,1] ~ $[0] ~ 0",
@@ -30,9 +27,3 @@ pub(crate) const NO_NUMBERS: &[&str] = &[
     "$[?@ == -1E5] ~ ExponentOrEmptyFraction 9",
     "$[?@ == 99999999999999999999e1] ~ ExponentOrEmptyFraction 9",
 ];
-
-#[test]
-fn refuses_a_long_fraction(rt: HostRuntime) -> Result<(), Fail> {
-    let zeros = ("$[?@ == 0.", "0", 10_000, "]");
-    parses_long(&rt, rt.alloc(), zeros, "FractionTooLong 9")
-}

@@ -2,12 +2,11 @@
 
 ghost use Rattle.std.specs.Prelude.{IfOk, IsTrue};
 
-use crate::tests::nesting::{calls, filters, parentheses};
-use crate::tests::rows::{fields, tells};
+use crate::tests::rows::{fields, holds, prints, tells};
 use serde_json::Value;
 use serde_json_path::functions::{Builtin, Functions};
 use serde_json_path::{JsonPath, ParseErrorKind, law_print};
-use std::alloc::Global;
+use std::alloc::{AllocError, Global};
 use std::process::Abort;
 use std::test::Fail;
 
@@ -85,37 +84,29 @@ const PRINTED: &[&str] = &[
 ];
 
 /// Holds a value to the string that it is.
-fn is_string(rt: &impl Abort, value: &Value, text: &str) {
-    match value.as_str() {
-        Some(told) => tells(rt, told, text, "a path"),
-        None => assert!(rt; false, "no string in place of {text}"),
-    }
-}
-
-/// Holds the paths of two texts to whether they are equal.
-fn are_equal(
-    rt: &impl Abort,
-    left: &JsonPath,
-    right: &JsonPath,
-    equal: bool,
-    (one, other): (&str, &str),
-) {
-    assert!(rt; (left == right) == equal, "{one} and {other}");
+fn is_string(rt: &impl Abort, answer: Result<Value, AllocError>, text: &str) -> Result<(), Fail> {
+    let value = answer?;
+    holds(rt, value.as_str() == Some(text), text);
+    Ok(())
 }
 
 /// Holds a copy of a path to the text that it prints, and to be equal to the path.
 fn copies(rt: &impl Abort, alloc: Global, path: &JsonPath, text: &str) -> Result<(), Fail> {
     let copy = path.try_clone(alloc)?;
-    are_equal(rt, &copy, path, true, (text, "its copy"));
-    tells(rt, copy.to_text(alloc)?.as_str(), text, "a copy");
-    Ok(())
+    holds(rt, copy == *path, text);
+    prints(rt, copy.to_text(alloc), text, "a copy")
 }
 
 /// Holds a path to the text that it prints, in each way.
-fn prints(rt: &impl Abort, alloc: Global, path: &JsonPath, text: &str) -> Result<(), Fail> {
-    tells(rt, path.to_text(alloc)?.as_str(), text, "a path");
-    tells(rt, path.to_string(alloc)?.as_str(), text, "a path");
-    is_string(rt, &path.to_json(alloc)?, text);
+fn prints_each_way(
+    rt: &impl Abort,
+    alloc: Global,
+    path: &JsonPath,
+    text: &str,
+) -> Result<(), Fail> {
+    prints(rt, path.to_text(alloc), text, "a path")?;
+    prints(rt, path.to_string(alloc), text, "a path")?;
+    is_string(rt, path.to_json(alloc), text)?;
     copies(rt, alloc, path, text)
 }
 
@@ -124,8 +115,8 @@ pub(crate) fn prints_again(rt: &impl Abort, alloc: Global, path: &str) -> Result
     let path = JsonPath::parse(alloc, path)?;
     let text = path.to_text(alloc)?;
     let again = JsonPath::parse(alloc, text.as_str())?;
-    are_equal(rt, &again, &path, true, (text.as_str(), "itself"));
-    prints(rt, alloc, &again, text.as_str())
+    holds(rt, again == path, text.as_str());
+    prints_each_way(rt, alloc, &again, text.as_str())
 }
 
 /// The path of a text, after it was made a JSON value and read from that again.
@@ -136,8 +127,8 @@ fn through_json(alloc: Global, text: &str) -> Result<JsonPath, Fail> {
 
 /// Holds the path of a text to the text that it prints, also when it comes through JSON.
 fn prints_as(rt: &impl Abort, alloc: Global, path: &str, text: &str) -> Result<(), Fail> {
-    prints(rt, alloc, &JsonPath::parse(alloc, path)?, text)?;
-    prints(rt, alloc, &through_json(alloc, path)?, text)?;
+    prints_each_way(rt, alloc, &JsonPath::parse(alloc, path)?, text)?;
+    prints_each_way(rt, alloc, &through_json(alloc, path)?, text)?;
     prints_again(rt, alloc, path)
 }
 
@@ -147,17 +138,20 @@ fn prints_paths(rt: HostRuntime) -> Result<(), Fail> {
     for &row in PRINTED {
         let (path, text) = fields(row)?;
         prints_as(&rt, alloc, path, text)?;
-        assert!(rt; comes_back(alloc, path, &Builtin)?, "{path}");
+        holds(&rt, comes_back(alloc, path, &Builtin)?, path);
     }
-    prints(&rt, alloc, &JsonPath::new(alloc), "$")
+    prints_each_way(&rt, alloc, &JsonPath::new(alloc), "$")
 }
 
-#[test]
-fn prints_nested_paths(rt: HostRuntime) -> Result<(), Fail> {
-    let alloc = rt.alloc();
-    prints_again(&rt, alloc, filters(alloc, 128)?.as_str())?;
-    prints_again(&rt, alloc, parentheses(alloc, 127)?.as_str())?;
-    prints_again(&rt, alloc, calls(alloc, 127)?.as_str())
+/// Holds two paths to whether they are equal.
+fn tells_equal(
+    rt: &impl Abort,
+    left: &JsonPath,
+    right: &JsonPath,
+    equal: bool,
+    (one, other): (&str, &str),
+) {
+    assert!(rt; (left == right) == equal, "{one} and {other}");
 }
 
 /// Holds the paths of two texts to whether they are equal, and the first to be equal to itself.
@@ -170,9 +164,9 @@ fn compares(
 ) -> Result<(), Fail> {
     let left = JsonPath::parse(alloc, one)?;
     let right = JsonPath::parse(alloc, other)?;
-    are_equal(rt, &left, &right, equal, (one, other));
-    are_equal(rt, &right, &left, equal, (other, one));
-    are_equal(rt, &left, &left, true, (one, one));
+    tells_equal(rt, &left, &right, equal, (one, other));
+    tells_equal(rt, &right, &left, equal, (other, one));
+    tells_equal(rt, &left, &left, true, (one, one));
     Ok(())
 }
 

@@ -5,14 +5,41 @@ ghost use Rattle.serde_json_path_functions.specs.Patterns.{builtin_functions};
 ghost use Rattle.serde_json_path.specs.Paths.{path_signatures};
 
 use serde_json::Value;
-use serde_json_path::{JsonPath, LocatedNodeList, NodeList, Nodes, ParseError};
-use std::alloc::Global;
+use serde_json_path::{JsonPath, LocatedNodeList, NodeList, Nodes, ParseError, QueryError};
+use std::alloc::{AllocError, Global};
 use std::process::Abort;
 use std::test::Fail;
 
 /// Holds what was told of a text to what is wanted.
 pub(crate) fn tells(rt: &impl Abort, told: &str, wanted: &str, of: &str) {
     assert!(rt; told == wanted, "{told} in place of {wanted} of {of:?}");
+}
+
+/// Holds what is said of a text.
+pub(crate) fn holds(rt: &impl Abort, is_held: bool, of: &str) {
+    assert!(rt; is_held, "of {of:?}");
+}
+
+/// Holds the text that a call gives to what is wanted.
+pub(crate) fn gives(
+    rt: &impl Abort,
+    answer: Result<String, Fail>,
+    wanted: &str,
+    of: &str,
+) -> Result<(), Fail> {
+    tells(rt, answer?.as_str(), wanted, of);
+    Ok(())
+}
+
+/// Holds the text that a call prints to what is wanted.
+pub(crate) fn prints(
+    rt: &impl Abort,
+    answer: Result<String, AllocError>,
+    wanted: &str,
+    of: &str,
+) -> Result<(), Fail> {
+    tells(rt, answer?.as_str(), wanted, of);
+    Ok(())
 }
 
 /// The first field of a row, and the fields after it.
@@ -55,16 +82,16 @@ pub(crate) fn values(alloc: Global, nodes: Nodes<'_, '_>) -> Result<String, Fail
     Ok(text)
 }
 
-/// Holds values to their texts.
-pub(crate) fn are_values(
+/// Holds nodes to the texts of their values.
+pub(crate) fn finds(
     rt: &impl Abort,
     alloc: Global,
-    nodes: Nodes<'_, '_>,
-    wanted: &str,
+    answer: Result<NodeList<'_>, QueryError>,
+    items: &str,
     of: &str,
 ) -> Result<(), Fail> {
-    tells(rt, values(alloc, nodes)?.as_str(), wanted, of);
-    Ok(())
+    let nodes = answer?;
+    gives(rt, values(alloc, nodes.iter()), items, of)
 }
 
 /// Holds nodes to their locations and to the texts of their values.
@@ -75,8 +102,20 @@ pub(crate) fn are_located(
     (places, items): (&str, &str),
     of: &str,
 ) -> Result<(), Fail> {
-    tells(rt, locations(alloc, nodes)?.as_str(), places, of);
-    are_values(rt, alloc, nodes.nodes(), items, of)
+    gives(rt, locations(alloc, nodes), places, of)?;
+    gives(rt, values(alloc, nodes.nodes()), items, of)
+}
+
+/// Holds the nodes that a query gives to their locations and to the texts of their values.
+pub(crate) fn locates(
+    rt: &impl Abort,
+    alloc: Global,
+    answer: Result<LocatedNodeList<'_>, QueryError>,
+    wanted: (&str, &str),
+    of: &str,
+) -> Result<(), Fail> {
+    let nodes = answer?;
+    are_located(rt, alloc, &nodes, wanted, of)
 }
 
 /// The nodes that the path of a text selects from a document.
@@ -108,26 +147,25 @@ pub(crate) fn counts(
     let document = Value::from_str(alloc, document)?;
     let nodes = selection(alloc, path, &document)?.len();
     let located = located_selection(alloc, path, &document)?.len();
-    assert!(rt; nodes == wanted, "{nodes} in place of {wanted}");
-    assert!(rt; located == wanted, "{located} in place of {wanted}");
+    holds(rt, nodes == wanted && located == wanted, path);
     Ok(())
 }
 
 /// Holds a path to the locations and the values of what it selects from a document.
-fn selects_nodes(
+pub(crate) fn selects_nodes(
     rt: &impl Abort,
     alloc: Global,
     path: &JsonPath,
-    document: &Value,
-    end: &str,
+    document: &str,
+    wanted: (&str, &str),
 ) -> Result<(), Fail>
     requires { Fits builtin_functions (path_signatures path.now) }
 {
-    let (places, items) = selected(end)?;
-    let located = path.query_located(alloc, document)?;
-    are_located(rt, alloc, &located, (places, items), end)?;
-    let nodes = path.query(alloc, document)?;
-    are_values(rt, alloc, nodes.iter(), items, end)
+    let (places, items) = wanted;
+    let document = Value::from_str(alloc, document)?;
+    let located = path.query_located(alloc, &document);
+    locates(rt, alloc, located, wanted, places)?;
+    finds(rt, alloc, path.query(alloc, &document), items, places)
 }
 
 /// Holds a path to the end of a row: to the locations and the values of what it selects from a document.
@@ -140,8 +178,8 @@ pub(crate) fn selects(
 ) -> Result<(), Fail>
     requires { Fits builtin_functions (path_signatures path.now) }
 {
-    let document = Value::from_str(alloc, document)?;
-    selects_nodes(rt, alloc, path, &document, end)
+    let wanted = selected(end)?;
+    selects_nodes(rt, alloc, path, document, wanted)
 }
 
 /// What a parse answers: the kind and the position of its refusal, or `accepted`.
@@ -154,7 +192,5 @@ pub(crate) fn told(alloc: Global, answer: Result<JsonPath, ParseError>) -> Resul
 
 /// Holds a text to what its parse answers.
 pub(crate) fn parses(rt: &impl Abort, alloc: Global, text: &str, wanted: &str) -> Result<(), Fail> {
-    let answer = told(alloc, JsonPath::parse(alloc, text))?;
-    tells(rt, answer.as_str(), wanted, text);
-    Ok(())
+    gives(rt, told(alloc, JsonPath::parse(alloc, text)), wanted, text)
 }

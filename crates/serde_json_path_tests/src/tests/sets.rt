@@ -5,7 +5,7 @@ ghost use Rattle.serde_json_path_tests.specs.TestSets.{kids_functions, odd_funct
 use crate::tests::cuts::cut_rows_with;
 use crate::tests::nesting::nested;
 use crate::tests::printed::comes_back;
-use crate::tests::rows::{are_located, are_values, fields, selected, tells, told};
+use crate::tests::rows::{fields, finds, gives, holds, locates, selected, told};
 use crate::tests::walks::gives_each;
 use serde_json::Value;
 use serde_json_path::functions::FunctionArgType::{Logical, Nodelist};
@@ -166,15 +166,16 @@ fn selects_with<F: Functions>(
     alloc: Global,
     functions: &F,
     text: &str,
-    document: &Value,
+    document: &str,
     end: &str,
 ) -> Result<(), Fail> {
     let (places, items) = selected(end)?;
+    let document = Value::from_str(alloc, document)?;
     let path = JsonPath::parse_with(alloc, text, functions)?;
-    let located = path.query_located_with(alloc, document, functions)?;
-    are_located(rt, alloc, &located, (places, items), text)?;
-    let nodes = path.query_with(alloc, document, functions)?;
-    are_values(rt, alloc, nodes.iter(), items, text)
+    let located = path.query_located_with(alloc, &document, functions);
+    locates(rt, alloc, located, (places, items), text)?;
+    let nodes = path.query_with(alloc, &document, functions);
+    finds(rt, alloc, nodes, items, text)
 }
 
 /// Each row has a path, a document, and the locations and the values of what the path selects there under the set. What
@@ -188,9 +189,8 @@ fn selects_each_with<F: Functions>(
     for &row in rows {
         let (text, rest) = fields(row)?;
         let (document, end) = fields(rest)?;
-        assert!(rt; comes_back(alloc, text, functions)?, "of {text:?}");
-        let document = Value::from_str(alloc, document)?;
-        selects_with(rt, alloc, functions, text, &document, end)?;
+        holds(rt, comes_back(alloc, text, functions)?, text);
+        selects_with(rt, alloc, functions, text, document, end)?;
     }
     Ok(())
 }
@@ -202,13 +202,12 @@ fn parses_with<F: Functions>(
     functions: &F,
     (text, wanted): (&str, &str),
 ) -> Result<(), Fail> {
-    let answer = told(alloc, JsonPath::parse_with(alloc, text, functions))?;
-    tells(rt, answer.as_str(), wanted, text);
-    Ok(())
+    let answer = told(alloc, JsonPath::parse_with(alloc, text, functions));
+    gives(rt, answer, wanted, text)
 }
 
 /// Holds a set to a table of what is selected and to one of what is refused, and cuts the rows of both.
-fn holds<F: Functions>(
+fn holds_set<F: Functions>(
     rt: &impl Abort,
     alloc: Global,
     functions: &F,
@@ -298,15 +297,15 @@ const NO_PAIRS: &[&str] = &[
 #[test]
 fn calls_functions_of_sets(rt: HostRuntime) -> Result<(), Fail> {
     let alloc = rt.alloc();
-    holds(&rt, alloc, &Kids, (KIDS, NO_KIDS))?;
-    holds(&rt, alloc, &Odd, (ODD, NO_ODD))?;
-    holds(&rt, alloc, &Strange, (STRANGE, NO_STRANGE))?;
-    holds(&rt, alloc, &Pairs, (PAIRS, NO_PAIRS))
+    holds_set(&rt, alloc, &Kids, (KIDS, NO_KIDS))?;
+    holds_set(&rt, alloc, &Odd, (ODD, NO_ODD))?;
+    holds_set(&rt, alloc, &Strange, (STRANGE, NO_STRANGE))?;
+    holds_set(&rt, alloc, &Pairs, (PAIRS, NO_PAIRS))
 }
 
 /// Holds the answer of a call to the refusal of memory.
 fn is_refused(rt: &impl Abort, refusal: Option<QueryError>) {
-    assert!(rt; refusal == Some(QueryError::Memory), "not refused");
+    assert!(rt; refusal == Some(QueryError::Memory));
 }
 
 /// A path that gives the first item of a document of two, and is refused at the second.
@@ -347,9 +346,9 @@ fn fits<F: Functions>(
     (builtin, kids, odd): (bool, bool, bool),
 ) -> Result<(), Fail> {
     let path = JsonPath::parse_with(alloc, text, functions)?;
-    assert!(rt; path.fits(&Builtin) == builtin, "{text}");
-    assert!(rt; path.fits(&Kids) == kids, "{text}");
-    assert!(rt; path.fits(&Odd) == odd, "{text}");
+    holds(rt, path.fits(&Builtin) == builtin, text);
+    holds(rt, path.fits(&Kids) == kids, text);
+    holds(rt, path.fits(&Odd) == odd, text);
     Ok(())
 }
 
@@ -375,7 +374,7 @@ fn nests_within(
     times: usize,
     wanted: &str,
 ) -> Result<(), Fail> {
-    let text = nested(alloc, ("$[?", "(", times), call, (")", times, "]"))?;
+    let text = nested(alloc, ("$[?", "(", call, ")", "]"), times)?;
     parses_with(rt, alloc, &Pairs, (text.as_str(), wanted))
 }
 

@@ -1,9 +1,9 @@
 //! Walks, one node at a time.
 
-use crate::tests::rows::tells;
+use crate::tests::rows::gives;
 use serde_json::Value;
 use serde_json_path::functions::{Both, Builtin, Functions};
-use serde_json_path::{JsonPath, Walk};
+use serde_json_path::{JsonPath, QueryError, Walk};
 use std::alloc::Global;
 use std::process::Abort;
 use std::test::Fail;
@@ -27,9 +27,20 @@ pub(crate) fn gives_each<F: Functions>(
     wanted: &[&str],
 ) -> Result<(), Fail> {
     for &want in wanted {
-        tells(rt, next_location(alloc, walk)?.as_str(), want, "a walk");
+        gives(rt, next_location(alloc, walk), want, "a walk")?;
     }
     Ok(())
+}
+
+/// The walk, if it begins, gives nodes at these locations, as [`gives_each`] says.
+fn begins<F: Functions>(
+    rt: &impl Abort,
+    alloc: Global,
+    answer: Result<Walk<'_, '_, Both<&F, Builtin>>, QueryError>,
+    wanted: &[&str],
+) -> Result<(), Fail> {
+    let mut walk = answer?;
+    gives_each(rt, alloc, &mut walk, wanted)
 }
 
 /// Holds the walk of a path over a document to the locations that it gives.
@@ -42,8 +53,7 @@ fn walks(
 ) -> Result<(), Fail> {
     let document = Value::from_str(alloc, document)?;
     let path = JsonPath::parse_with(alloc, path, &Builtin)?;
-    let mut walk = path.walk(alloc, &document, &Builtin)?;
-    gives_each(rt, alloc, &mut walk, wanted)
+    begins(rt, alloc, path.walk(alloc, &document, &Builtin), wanted)
 }
 
 #[test]
@@ -73,6 +83,17 @@ fn zeros(alloc: Global, number: usize) -> Result<Value, Fail> {
     Ok(Value::Array(items))
 }
 
+/// The walk gives the item of that number next.
+fn gives_item<F: Functions>(
+    rt: &impl Abort,
+    alloc: Global,
+    walk: &mut Walk<'_, '_, Both<&F, Builtin>>,
+    number: usize,
+) -> Result<(), Fail> {
+    let location = format!(in alloc; "$[{number}]")?;
+    gives_each(rt, alloc, walk, &[location.as_str()])
+}
+
 /// The walk gives so many items, and keeps two places at most. After the last it keeps none.
 fn keeps_few_places<F: Functions>(
     rt: &impl Abort,
@@ -81,12 +102,11 @@ fn keeps_few_places<F: Functions>(
     number_of_items: usize,
 ) -> Result<(), Fail> {
     for number in 0..number_of_items {
-        let location = format!(in alloc; "$[{number}]")?;
-        gives_each(rt, alloc, walk, &[location.as_str()])?;
-        assert!(rt; walk.places() <= 2, "after {number}");
+        gives_item(rt, alloc, walk, number)?;
+        assert!(rt; walk.places() <= 2);
     }
     gives_each(rt, alloc, walk, &["", ""])?;
-    assert!(rt; walk.places() == 0, "after the last");
+    assert!(rt; walk.places() == 0);
     Ok(())
 }
 
