@@ -2,5 +2,6 @@
 
 mod cuts;
 mod program;
+mod refused_memory;
 mod reports;
 mod samples;

@@ -23,6 +23,7 @@ mod operators;
 mod paths;
 mod printed;
 mod refusals;
+mod refused_memory;
 mod rows;
 mod sets;
 mod slices;
