@@ -18,6 +18,7 @@ mod messages;
 mod names;
 mod nesting;
 mod normal_paths;
+mod now_and_then;
 mod numbers;
 mod operators;
 mod paths;
