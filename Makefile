@@ -4,7 +4,7 @@ bin/jsonpath: $(shell find crates -path '*/out' -prune -o -type f -print)
 	mkdir -p bin
 	cp crates/jsonpath/out/jsonpath bin/jsonpath
 
-.PHONY: check test clean
+.PHONY: check test refused-memory clean
 
 # Proves each crate, lowest first, over what earlier checks kept.
 check:
@@ -13,6 +13,10 @@ check:
 # The whole gate: each proof from nothing, each test, and each edit that must be refused.
 test:
 	rt ci
+
+# Refuses each request for memory in turn, and prints what came of it. No part of the gate.
+refused-memory:
+	tools/refuse_memory
 
 # Removes the program, and what checks kept.
 clean:

@@ -56,7 +56,7 @@ fn is_line_or_no_json(rt: &impl Abort, alloc: Global, document: &[u8]) {
 }
 
 /// Reports on each beginning of a document.
-fn cut(rt: &impl Abort, alloc: Global, document: &[u8]) {
+pub(crate) fn cut(rt: &impl Abort, alloc: Global, document: &[u8]) {
     for end in 0..document.len() + 1 {
         if let Some(start) = document.get(..end) {
             is_line_or_no_json(rt, alloc, start);

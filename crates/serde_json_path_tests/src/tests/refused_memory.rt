@@ -1,0 +1,554 @@
+//! Calls that are refused a request for memory. `tools/refuse_memory` refuses each request of each of these tests in turn,
+//! and reads how the test ends.
+//!
+//! A call that answers no memory is called again, and then answers as its row says. A test whose name begins with
+//! `takes_none` makes requests only for what it hands in.
+
+use crate::tests::long_texts::long;
+use crate::tests::rows::{fields, locations, selected, values};
+use serde_json::Value;
+use serde_json_path::functions::{
+    Both, Builtin, FunctionArgType, Functions, LogicalType, Signature,
+};
+use serde_json_path::{
+    FromJsonError, JsonPath, JsonPathExt, LocatedNode, LocatedNodeList, NodeList, NormalizedPath,
+    ParseError, ParseErrorKind, PathSource, QueryError, TextSource, Walk, parse_source,
+};
+use std::alloc::Global;
+use std::process::Abort;
+use std::test::Fail;
+
+/// Ends a test whose call was refused, and gave the right answer when it was called again.
+fn called_again() -> Result<(), Fail> {
+    Err(Fail::new(format_args!("no memory, and then the right answer")))
+}
+
+/// A text, and the text that its path prints, or the refusal.
+const TEXTS: &[&str] = &[
+    "$.foo..baz ~ $.foo..baz",
+    "$.* ~ $.*",
+    "$[?@.a[?@ > $.min]] ~ $[?@.a[?@ > $.min]]",
+    "$.readings[? @.val > $.threshold ].msg ~ $.readings[?@.val > $.threshold].msg",
+    "$.foo['bar'][1:10][?@.baz > 10 && @.foo.bar < 20] ~ $.foo['bar'][1:10][?@.baz > 10 && @.foo.bar < 20]",
+    "$[?first(@.*) == 4] ~ at position 4, in long-hand segment, undefined function",
+];
+
+/// Holds a parse to the text that its path prints, or to the refusal.
+fn is_parse(
+    rt: &impl Abort,
+    alloc: Global,
+    answer: Result<JsonPath, ParseError>,
+    wanted: &str,
+) -> Result<(), Fail> {
+    let text = match answer {
+        Ok(path) => path.to_text(alloc)?,
+        Err(e) => e.to_string(alloc)?,
+    };
+    assert_eq!(rt; text.as_str(), wanted);
+    Ok(())
+}
+
+#[test]
+fn parse(rt: HostRuntime) -> Result<(), Fail> {
+    for &row in TEXTS {
+        let (text, wanted) = fields(row)?;
+        match JsonPath::parse(rt.alloc(), text) {
+            Err(e) if e.kind() == ParseErrorKind::NoMemory => {
+                is_parse(&rt, rt.alloc(), JsonPath::parse(rt.alloc(), text), wanted)?;
+                return called_again();
+            }
+            answer => is_parse(&rt, rt.alloc(), answer, wanted)?,
+        }
+    }
+    Ok(())
+}
+
+#[test]
+fn from_str(rt: HostRuntime) -> Result<(), Fail> {
+    for &row in TEXTS {
+        let (text, wanted) = fields(row)?;
+        match JsonPath::from_str(rt.alloc(), text) {
+            Err(e) if e.kind() == ParseErrorKind::NoMemory => {
+                is_parse(
+                    &rt,
+                    rt.alloc(),
+                    JsonPath::from_str(rt.alloc(), text),
+                    wanted,
+                )?;
+                return called_again();
+            }
+            answer => is_parse(&rt, rt.alloc(), answer, wanted)?,
+        }
+    }
+    Ok(())
+}
+
+#[test]
+fn parse_with(rt: HostRuntime) -> Result<(), Fail> {
+    for &row in TEXTS {
+        let (text, wanted) = fields(row)?;
+        match JsonPath::parse_with(rt.alloc(), text, &Builtin) {
+            Err(e) if e.kind() == ParseErrorKind::NoMemory => {
+                is_parse(
+                    &rt,
+                    rt.alloc(),
+                    JsonPath::parse_with(rt.alloc(), text, &Builtin),
+                    wanted,
+                )?;
+                return called_again();
+            }
+            answer => is_parse(&rt, rt.alloc(), answer, wanted)?,
+        }
+    }
+    Ok(())
+}
+
+/// A parse that looks at the text no more than the bound says.
+fn parse_looking(rt: &impl Abort, alloc: Global, text: &str) -> Result<JsonPath, ParseError> {
+    let mut source = TextSource::new(text);
+    let answer = parse_source(alloc, &mut source, &Builtin);
+    let bound = 32 * (text.len() as u128 + 1);
+    assert!(rt; source.looks() <= bound, "{} looks", source.looks());
+    answer
+}
+
+#[test]
+fn parses_a_source(rt: HostRuntime) -> Result<(), Fail> {
+    for &row in TEXTS {
+        let (text, wanted) = fields(row)?;
+        match parse_looking(&rt, rt.alloc(), text) {
+            Err(e) if e.kind() == ParseErrorKind::NoMemory => {
+                is_parse(
+                    &rt,
+                    rt.alloc(),
+                    parse_looking(&rt, rt.alloc(), text),
+                    wanted,
+                )?;
+                return called_again();
+            }
+            answer => is_parse(&rt, rt.alloc(), answer, wanted)?,
+        }
+    }
+    Ok(())
+}
+
+/// Holds a path read from JSON to the text that it prints, or to the refusal.
+fn is_read(
+    rt: &impl Abort,
+    alloc: Global,
+    answer: Result<JsonPath, FromJsonError>,
+    wanted: &str,
+) -> Result<(), Fail> {
+    let text = match answer {
+        Ok(path) => path.to_text(alloc)?,
+        Err(e) => e.to_string(alloc)?,
+    };
+    assert_eq!(rt; text.as_str(), wanted);
+    Ok(())
+}
+
+#[test]
+fn from_json(rt: HostRuntime) -> Result<(), Fail> {
+    for &row in TEXTS {
+        let (text, wanted) = fields(row)?;
+        let value = Value::String(String::from_str(rt.alloc(), text)?);
+        match JsonPath::from_json(rt.alloc(), &value) {
+            Err(FromJsonError::Path(e)) if e.kind() == ParseErrorKind::NoMemory => {
+                is_read(
+                    &rt,
+                    rt.alloc(),
+                    JsonPath::from_json(rt.alloc(), &value),
+                    wanted,
+                )?;
+                return called_again();
+            }
+            answer => is_read(&rt, rt.alloc(), answer, wanted)?,
+        }
+    }
+    Ok(())
+}
+
+/// Texts that paths print.
+const PRINTED: &[&str] = &[
+    "$.foo..baz",
+    "$.*",
+    "$[?@.a[?@ > $.min]]",
+    "$.readings[?@.val > $.threshold].msg",
+    "$.foo['bar'][1:10][?@.baz > 10 && @.foo.bar < 20]",
+];
+
+#[test]
+fn try_clone(rt: HostRuntime) -> Result<(), Fail> {
+    for &text in PRINTED {
+        let path = JsonPath::parse(rt.alloc(), text)?;
+        match path.try_clone(rt.alloc()) {
+            Ok(copy) => assert!(rt; copy == path && copy.fits(&Builtin), "{text}"),
+            Err(_) => {
+                let copy = path.try_clone(rt.alloc())?;
+                assert!(rt; copy == path && copy.fits(&Builtin), "{text}");
+                return called_again();
+            }
+        }
+    }
+    Ok(())
+}
+
+#[test]
+fn to_text(rt: HostRuntime) -> Result<(), Fail> {
+    for &wanted in PRINTED {
+        let path = JsonPath::parse(rt.alloc(), wanted)?;
+        match path.to_text(rt.alloc()) {
+            Ok(text) => assert_eq!(rt; text.as_str(), wanted),
+            Err(_) => {
+                assert_eq!(rt; path.to_text(rt.alloc())?.as_str(), wanted);
+                return called_again();
+            }
+        }
+    }
+    Ok(())
+}
+
+#[test]
+fn to_json(rt: HostRuntime) -> Result<(), Fail> {
+    for &wanted in PRINTED {
+        let path = JsonPath::parse(rt.alloc(), wanted)?;
+        match path.to_json(rt.alloc()) {
+            Ok(value) => assert_eq!(rt; value.as_str(), Some(wanted)),
+            Err(_) => {
+                assert_eq!(rt; path.to_json(rt.alloc())?.as_str(), Some(wanted));
+                return called_again();
+            }
+        }
+    }
+    Ok(())
+}
+
+/// A path, a document, and the locations and the values of what the path selects there.
+const ROWS: &[&str] = &[
+    r#"$.foo..baz ~ {"foo":{"bar":{"baz":1},"baz":2},"baz":3} ~ $['foo']['baz'] $['foo']['bar']['baz'] ~ 2 1"#,
+    r#"$.* ~ {"a'b\\\u000b":1} ~ $['a\'b\\\u000b'] ~ 1"#,
+    r#"$[?@.a[?@ > $.min]] ~ {"min":3,"x":{"a":[1,5]},"y":{"a":[2]}} ~ $['x'] ~ {"a":[1,5]}"#,
+    r#"$.readings[? @.val > $.threshold ].msg ~ {"threshold":40,"readings":[{"val":35,"msg":"foo"},{"val":40,"msg":"bar"},{"val":42,"msg":"biz"},{"val":48,"msg":"bop"}]} ~ $['readings'][2]['msg'] $['readings'][3]['msg'] ~ "biz" "bop""#,
+    "$.foo['bar'][1:10][?@.baz > 10 && @.foo.bar < 20] ~ null ~ nothing",
+];
+
+/// A row's path, its document, and the locations and the values.
+fn cells(row: &str) -> Result<(&str, &str, &str, &str), Fail> {
+    let (text, rest) = fields(row)?;
+    let (document, end) = fields(rest)?;
+    let (places, items) = selected(end)?;
+    Ok((text, document, places, items))
+}
+
+/// Holds nodes to their values.
+fn are_values(
+    rt: &impl Abort,
+    alloc: Global,
+    nodes: &NodeList<'_>,
+    items: &str,
+) -> Result<(), Fail> {
+    assert_eq!(rt; values(alloc, nodes.iter())?.as_str(), items);
+    Ok(())
+}
+
+/// Holds located nodes to their locations.
+fn are_at(
+    rt: &impl Abort,
+    alloc: Global,
+    nodes: &LocatedNodeList<'_>,
+    places: &str,
+) -> Result<(), Fail> {
+    assert_eq!(rt; locations(alloc, nodes)?.as_str(), places);
+    Ok(())
+}
+
+#[test]
+fn query(rt: HostRuntime) -> Result<(), Fail> {
+    for &row in ROWS {
+        let (text, document, _, items) = cells(row)?;
+        let path = JsonPath::parse(rt.alloc(), text)?;
+        let document = Value::from_str(rt.alloc(), document)?;
+        match path.query(rt.alloc(), &document) {
+            Err(QueryError::Memory) => {
+                are_values(&rt, rt.alloc(), &path.query(rt.alloc(), &document)?, items)?;
+                return called_again();
+            }
+            answer => are_values(&rt, rt.alloc(), &answer?, items)?,
+        }
+    }
+    Ok(())
+}
+
+#[test]
+fn json_path(rt: HostRuntime) -> Result<(), Fail> {
+    for &row in ROWS {
+        let (text, document, _, items) = cells(row)?;
+        let path = JsonPath::parse(rt.alloc(), text)?;
+        let document = Value::from_str(rt.alloc(), document)?;
+        match document.json_path(rt.alloc(), &path) {
+            Err(QueryError::Memory) => {
+                are_values(
+                    &rt,
+                    rt.alloc(),
+                    &document.json_path(rt.alloc(), &path)?,
+                    items,
+                )?;
+                return called_again();
+            }
+            answer => are_values(&rt, rt.alloc(), &answer?, items)?,
+        }
+    }
+    Ok(())
+}
+
+#[test]
+fn query_located(rt: HostRuntime) -> Result<(), Fail> {
+    for &row in ROWS {
+        let (text, document, places, _) = cells(row)?;
+        let path = JsonPath::parse(rt.alloc(), text)?;
+        let document = Value::from_str(rt.alloc(), document)?;
+        match path.query_located(rt.alloc(), &document) {
+            Err(QueryError::Memory) => {
+                are_at(
+                    &rt,
+                    rt.alloc(),
+                    &path.query_located(rt.alloc(), &document)?,
+                    places,
+                )?;
+                return called_again();
+            }
+            answer => are_at(&rt, rt.alloc(), &answer?, places)?,
+        }
+    }
+    Ok(())
+}
+
+#[test]
+fn query_with(rt: HostRuntime) -> Result<(), Fail> {
+    for &row in ROWS {
+        let (text, document, _, items) = cells(row)?;
+        let path = JsonPath::parse_with(rt.alloc(), text, &Builtin)?;
+        let document = Value::from_str(rt.alloc(), document)?;
+        match path.query_with(rt.alloc(), &document, &Builtin) {
+            Err(QueryError::Memory) => {
+                are_values(
+                    &rt,
+                    rt.alloc(),
+                    &path.query_with(rt.alloc(), &document, &Builtin)?,
+                    items,
+                )?;
+                return called_again();
+            }
+            answer => are_values(&rt, rt.alloc(), &answer?, items)?,
+        }
+    }
+    Ok(())
+}
+
+#[test]
+fn query_located_with(rt: HostRuntime) -> Result<(), Fail> {
+    for &row in ROWS {
+        let (text, document, places, _) = cells(row)?;
+        let path = JsonPath::parse_with(rt.alloc(), text, &Builtin)?;
+        let document = Value::from_str(rt.alloc(), document)?;
+        match path.query_located_with(rt.alloc(), &document, &Builtin) {
+            Err(QueryError::Memory) => {
+                are_at(
+                    &rt,
+                    rt.alloc(),
+                    &path.query_located_with(rt.alloc(), &document, &Builtin)?,
+                    places,
+                )?;
+                return called_again();
+            }
+            answer => are_at(&rt, rt.alloc(), &answer?, places)?,
+        }
+    }
+    Ok(())
+}
+
+/// The locations of what remains of a walk, of three nodes at most.
+fn remaining<F: Functions>(
+    alloc: Global,
+    walk: &mut Walk<'_, '_, Both<&F, Builtin>>,
+) -> Result<String, Fail> {
+    let mut text = String::new(alloc);
+    for _ in 0..4 {
+        if let Some(node) = walk.next()? {
+            let before = if text.is_empty() { "" } else { " " };
+            write!(text, "{before}{}", node.location())?;
+        }
+    }
+    Ok(text)
+}
+
+#[test]
+fn walk(rt: HostRuntime) -> Result<(), Fail> {
+    for &row in ROWS {
+        let (text, document, places, _) = cells(row)?;
+        let path = JsonPath::parse_with(rt.alloc(), text, &Builtin)?;
+        let document = Value::from_str(rt.alloc(), document)?;
+        match path.walk(rt.alloc(), &document, &Builtin) {
+            Err(QueryError::Memory) => {
+                let mut walk = path.walk(rt.alloc(), &document, &Builtin)?;
+                assert_eq!(rt; remaining(rt.alloc(), &mut walk)?.as_str(), places);
+                return called_again();
+            }
+            Ok(mut walk) => assert_eq!(rt; remaining(rt.alloc(), &mut walk)?.as_str(), places),
+            Err(e) => return Err(Fail::from(e)),
+        }
+    }
+    Ok(())
+}
+
+/// The next node of a walk, which goes on where it is refused, and whether it was.
+fn next_node<'b, F: Functions>(
+    walk: &mut Walk<'_, 'b, Both<&F, Builtin>>,
+) -> Result<(Option<LocatedNode<'b>>, bool), QueryError> {
+    match walk.next() {
+        Err(QueryError::Memory) => Ok((walk.next()?, true)),
+        answer => Ok((answer?, false)),
+    }
+}
+
+/// Holds a walk, of three nodes at most, to its locations. Returns whether a call was refused.
+fn goes_on<F: Functions>(
+    rt: &impl Abort,
+    alloc: Global,
+    walk: &mut Walk<'_, '_, Both<&F, Builtin>>,
+    places: &str,
+) -> Result<bool, Fail> {
+    let mut was_refused = false;
+    let mut text = String::new(alloc);
+    for _ in 0..4 {
+        let (node, is_refused) = next_node(walk)?;
+        was_refused = was_refused || is_refused;
+        if let Some(node) = node {
+            let before = if text.is_empty() { "" } else { " " };
+            write!(text, "{before}{}", node.location())?;
+        }
+    }
+    assert_eq!(rt; text.as_str(), places);
+    Ok(was_refused)
+}
+
+#[test]
+fn next(rt: HostRuntime) -> Result<(), Fail> {
+    for &row in ROWS {
+        let (text, document, places, _) = cells(row)?;
+        let path = JsonPath::parse_with(rt.alloc(), text, &Builtin)?;
+        let document = Value::from_str(rt.alloc(), document)?;
+        let mut walk = path.walk(rt.alloc(), &document, &Builtin)?;
+        if goes_on(&rt, rt.alloc(), &mut walk, places)? {
+            return called_again();
+        }
+    }
+    Ok(())
+}
+
+/// A path, a document, and the pointer of the one node that the path selects there.
+const POINTED: &[&str] = &[
+    r#"$.foo.bar.baz ~ {"foo":{"bar":{"baz":1},"baz":2},"baz":3} ~ /foo/bar/baz"#,
+    "$.* ~ {\"a'b\\\\\\u000b\":1} ~ /a'b\\\u{b}",
+    r#"$[?@.a[?@ > $.min]] ~ {"min":3,"x":{"a":[1,5]},"y":{"a":[2]}} ~ /x"#,
+    r#"$[0] ~ [0] ~ /0"#,
+];
+
+/// Holds the pointer of a location to its text.
+fn points(
+    rt: &impl Abort,
+    alloc: Global,
+    location: &NormalizedPath<'_>,
+    wanted: &str,
+) -> Result<(), Fail> {
+    match location.to_json_pointer(alloc) {
+        Ok(text) => assert_eq!(rt; text.as_str(), wanted),
+        Err(_) => {
+            assert_eq!(rt; location.to_json_pointer(alloc)?.as_str(), wanted);
+            return called_again();
+        }
+    }
+    Ok(())
+}
+
+#[test]
+fn to_json_pointer(rt: HostRuntime) -> Result<(), Fail> {
+    for &row in POINTED {
+        let (text, rest) = fields(row)?;
+        let (document, wanted) = fields(rest)?;
+        let path = JsonPath::parse(rt.alloc(), text)?;
+        let document = Value::from_str(rt.alloc(), document)?;
+        let node = path.query_located(rt.alloc(), &document)?.exactly_one()?;
+        points(&rt, rt.alloc(), node.location(), wanted)?;
+    }
+    Ok(())
+}
+
+#[test]
+fn takes_none_where_the_root_is_missing(rt: HostRuntime) -> Result<(), Fail> {
+    for text in ["", "x", " $", "@.a", "é"] {
+        match JsonPath::parse(rt.alloc(), text) {
+            Ok(_) => assert!(rt; false, "{text} is accepted"),
+            Err(e) => assert_eq!(rt; e.kind(), ParseErrorKind::ExpectedRoot),
+        }
+    }
+    let path = JsonPath::new(rt.alloc());
+    assert!(rt; path == JsonPath::new(rt.alloc()) && path.fits(&Builtin));
+    Ok(())
+}
+
+#[test]
+fn takes_none_at_blanks(rt: HostRuntime) -> Result<(), Fail> {
+    let text = long(rt.alloc(), "$", " ", 10_000, "x")?;
+    let mut source = TextSource::new(text.as_str());
+    match parse_source(rt.alloc(), &mut source, &Builtin) {
+        Ok(_) => assert!(rt; false, "accepted"),
+        Err(e) => assert_eq!(rt;
+            (e.kind(), e.position()),
+            (ParseErrorKind::TextAfterPath, 2)
+        ),
+    }
+    assert!(rt; source.looks() <= 32 * (source.len() as u128 + 1));
+    Ok(())
+}
+
+/// Asks a list of the nodes of `$[1,0,1,0]` for all that it tells.
+fn asks_nodes(rt: &impl Abort, nodes: NodeList<'_>) {
+    assert!(rt; nodes.len() == 4 && !nodes.is_empty() && nodes.first().is_some());
+    assert!(rt; nodes.at_most_one().is_err() && nodes.exactly_one().is_err());
+    assert_eq!(rt; nodes.iter().count(), 4);
+    assert_eq!(rt; nodes.all().len(), 4);
+}
+
+/// Asks a list of the located nodes of `$[1,0,1,0]` for all that it tells.
+fn asks_located(rt: &impl Abort, nodes: LocatedNodeList<'_>) {
+    assert!(rt; nodes.len() == 4 && !nodes.is_empty());
+    assert_eq!(rt; nodes.iter().count(), 4);
+    assert_eq!(rt; nodes.nodes().count(), 4);
+    assert_eq!(rt; nodes.locations().count(), 4);
+    let nodes = nodes.dedup();
+    assert_eq!(rt; nodes.len(), 2);
+    assert!(rt; nodes.exactly_one().is_err());
+}
+
+#[test]
+fn takes_none_of_lists(rt: HostRuntime) -> Result<(), Fail> {
+    let document = Value::from_str(rt.alloc(), r#"["a","b"]"#)?;
+    let path = JsonPath::parse(rt.alloc(), "$[1,0,1,0]")?;
+    let nodes = path.query(rt.alloc(), &document)?;
+    let located = path.query_located(rt.alloc(), &document)?;
+    asks_nodes(&rt, nodes);
+    asks_located(&rt, located);
+    Ok(())
+}
+
+#[test]
+fn takes_none_of_signatures(rt: HostRuntime) -> Result<(), Fail> {
+    assert!(rt; Builtin.signature("none").is_none());
+    match Signature::new(&[FunctionArgType::Value], FunctionArgType::Value) {
+        Some(s) => assert_eq!(rt; (s.params().len(), s.result()), (1, FunctionArgType::Value)),
+        None => assert!(rt; false, "no signature"),
+    }
+    assert_eq!(rt; LogicalType::from(false), LogicalType::default());
+    Ok(())
+}
