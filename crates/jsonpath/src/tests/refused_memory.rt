@@ -136,6 +136,36 @@ fn try_clone(rt: HostRuntime) -> Result<(), Fail> {
     }
 }
 
+#[test]
+fn to_text(rt: HostRuntime) -> Result<(), Fail> {
+    let path = JsonPath::parse_with(rt.alloc(), FIRST, &Samples)?;
+    match path.to_text(rt.alloc()) {
+        Ok(text) => {
+            assert_eq!(rt; text.as_str(), FIRST);
+            Ok(())
+        }
+        Err(_) => {
+            assert_eq!(rt; path.to_text(rt.alloc())?.as_str(), FIRST);
+            called_again()
+        }
+    }
+}
+
+#[test]
+fn to_json(rt: HostRuntime) -> Result<(), Fail> {
+    let path = JsonPath::parse_with(rt.alloc(), FIRST, &Samples)?;
+    match path.to_json(rt.alloc()) {
+        Ok(value) => {
+            assert_eq!(rt; value.as_str(), Some(FIRST));
+            Ok(())
+        }
+        Err(_) => {
+            assert_eq!(rt; path.to_json(rt.alloc())?.as_str(), Some(FIRST));
+            called_again()
+        }
+    }
+}
+
 /// Holds nodes to the second row.
 fn is_second(rt: &impl Abort, alloc: Global, nodes: &NodeList<'_>) -> Result<(), Fail> {
     let node = nodes.exactly_one()?;
@@ -185,6 +215,26 @@ fn next_node<'b>(
     match walk.next() {
         Err(QueryError::Memory) => Ok((walk.next()?, true)),
         answer => Ok((answer?, false)),
+    }
+}
+
+/// Holds a walk to a node, whichever it is.
+fn has_node(rt: &impl Abort, mut walk: Walk<'_, '_, Both<&Samples, Builtin>>) -> Result<(), Fail> {
+    let (node, _) = next_node(&mut walk)?;
+    assert!(rt; node.is_some());
+    Ok(())
+}
+
+#[test]
+fn walk(rt: HostRuntime) -> Result<(), Fail> {
+    let path = JsonPath::parse_with(rt.alloc(), FIRST, &Samples)?;
+    let document = Value::from_str(rt.alloc(), SQUARE)?;
+    match path.walk(rt.alloc(), &document, &Samples) {
+        Err(QueryError::Memory) => {
+            has_node(&rt, path.walk(rt.alloc(), &document, &Samples)?)?;
+            called_again()
+        }
+        answer => has_node(&rt, answer?),
     }
 }
 
