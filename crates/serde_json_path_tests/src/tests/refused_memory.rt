@@ -14,6 +14,8 @@ use serde_json_path::{
     FromJsonError, JsonPath, JsonPathExt, LocatedNode, LocatedNodeList, NodeList, NormalizedPath,
     ParseError, ParseErrorKind, PathSource, QueryError, TextSource, Walk, parse_source,
 };
+use serde_json_path_nodes::escaped;
+use serde_json_path_syntax::{Checked, SyntaxBuilder};
 use std::alloc::Global;
 use std::process::Abort;
 use std::test::Fail;
@@ -520,12 +522,22 @@ fn asks_nodes(rt: &impl Abort, nodes: NodeList<'_>) {
     assert_eq!(rt; nodes.all().len(), 4);
 }
 
+/// Asks a located node of an array's text for its parts.
+fn asks_node(rt: &impl Abort, node: &LocatedNode<'_>) {
+    let location = node.location();
+    assert!(rt; node.node().is_string() && location.len() == 1 && !location.is_empty());
+    assert!(rt; location.get(0).is_some() && location.iter().count() == 1);
+}
+
 /// Asks a list of the located nodes of `$[1,0,1,0]` for all that it tells.
 fn asks_located(rt: &impl Abort, nodes: LocatedNodeList<'_>) {
     assert!(rt; nodes.len() == 4 && !nodes.is_empty());
     assert_eq!(rt; nodes.iter().count(), 4);
     assert_eq!(rt; nodes.nodes().count(), 4);
     assert_eq!(rt; nodes.locations().count(), 4);
+    for node in nodes.iter() {
+        asks_node(rt, node);
+    }
     let nodes = nodes.dedup();
     assert_eq!(rt; nodes.len(), 2);
     assert!(rt; nodes.exactly_one().is_err());
@@ -539,6 +551,21 @@ fn takes_none_of_lists(rt: HostRuntime) -> Result<(), Fail> {
     let located = path.query_located(rt.alloc(), &document)?;
     asks_nodes(&rt, nodes);
     asks_located(&rt, located);
+    let located = path.query_located(rt.alloc(), &document)?;
+    assert_eq!(rt; located.all().len(), 4);
+    let located = path.query_located(rt.alloc(), &document)?;
+    assert!(rt; located.at_most_one().is_err());
+    Ok(())
+}
+
+#[test]
+fn takes_none_to_begin(rt: HostRuntime) -> Result<(), Fail> {
+    let query = Checked::new(rt.alloc());
+    assert!(rt; query.segments().is_empty() && query.fits(&Builtin));
+    let _builder = SyntaxBuilder::new(rt.alloc());
+    let source = TextSource::new("$");
+    assert!(rt; source.looks() == 0 && source.len() == 1);
+    assert!(rt; escaped('a').is_none() && escaped('\n').is_some());
     Ok(())
 }
 
