@@ -5,17 +5,13 @@
 //! $['foo']['bar'][0]<tab>"baz"
 //! ```
 //!
-//! `report` makes the lines, `run` reads and writes over any streams, and `main` hands in the words and the standard
-//! streams. `samples` is a function set as an example for other programs. Definitions are in `specs/`: `Report` says what
-//! the lines are, `Run` what the statuses mean and what is told, `Samples` what the sample functions mean.
+//! `run` of `jsonpath_report` is the program over any streams; `main` hands in the words and the standard streams.
 #![tactic(auto)]
 
 mod arguments;
-mod report;
-mod run;
-mod samples;
 
 use crate::arguments::words_after_first;
+use jsonpath_report::run::run;
 use std::env;
 use std::process::ExitCode;
 
@@ -32,9 +28,6 @@ fn main(rt: HostRuntime) -> ExitCode {
     let mut input = rt.stdin();
     let mut out = rt.stdout();
     let mut err = rt.stderr();
-    let status = run::run(rt.alloc(), &words, &mut input, &mut out, &mut err);
+    let status = run(rt.alloc(), &words, &mut input, &mut out, &mut err);
     ExitCode::from(status)
 }
-
-#[cfg(test)]
-mod tests;

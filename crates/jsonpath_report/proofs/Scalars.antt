@@ -1,0 +1,81 @@
+-- The texts of null, truth values and integers are their compact JSON, and read back.
+use Rattle.std.proofs.Common.{◌≡◌, ℕ, ◌^◌, ◌<◌, ◌≤◌, ℤ, pos, negsuc, List, [], Bool, true, false, Option, Some, None, option_map, option_and_then, if◌then◌else◌, nat_lt, int_lt, SFits, w64, decimal, rules, refl, sym, ap, ◌∙◌, arith, append-nil}
+use Rattle.std.specs.Fmt.{signed_decimal}
+use Rattle.json.specs.Token.{Token}
+use Rattle.json.specs.Json as json
+use Rattle.json.specs.Tree.{json_tokens, HasNumbers}
+use Rattle.json.specs.Tree as tree
+use Rattle.json.proofs.Printed.Decimals.{IsNumber-decimal, IsNumber-signed_decimal}
+use Rattle.json.proofs.Printed.Tokens.{tokens-print}
+use Rattle.json.proofs.Printed.Trees.{value-json_tokens, ArePrintable-json_tokens}
+use Rattle.serde_json.specs.Data.{Data, unsigned, negative, float, null, boolean, number, string, array, object}
+use Rattle.serde_json.specs.Find.{as_number, as_u64, as_i64}
+use Rattle.serde_json.specs.Read.{read, of_json, max_depth}
+use Rattle.serde_json.specs.View.{view}
+use Rattle.serde_json.specs.declared.value.Value as value
+use Rattle.serde_json.specs.Written.{outline, compact_text}
+use Rattle.serde_json.proofs.Numbers.{number_of-decimal, number_of-negative}
+use Rattle.serde_json.proofs.Texts.{print-outline}
+use Rattle.jsonpath_report.specs.Report.{IsJsonOf}
+
+abbrev whole : Option (json.Json × List Token) → Option Data
+whole o = option_and_then of_json (option_and_then (λ p. json.if_last p.0 p.1) o)
+
+-- the compact text of a value reads back, where the value's outline is the value and nests no deeper than is read
+reads_back : (d : Data) → HasNumbers (outline d) → of_json (outline d) ≡ Some d → tree.depth (outline d) ≤ max_depth → read (compact_text d) ≡ Some d
+reads_back d numbers same shallow =
+    let ts = json_tokens (outline d) in
+    ap read (sym (print-outline d))
+    ∙ ap whole (ap (json.value max_depth) (tokens-print ts (ArePrintable-json_tokens (outline d) numbers) ∙ sym (append-nil ts)) ∙ value-json_tokens (outline d) max_depth [] shallow)
+    ∙ same
+
+pub null_json : IsJsonOf null (compact_text null)
+null_json = (λ _. refl, λ _. reads_back null tt refl (omega arith), λ float. absurd cc)
+
+pub boolean_json : (b : Bool) → IsJsonOf (boolean b) (compact_text (boolean b))
+boolean_json b = (λ _. refl, λ _. reads_back (boolean b) tt refl (omega arith), λ float. absurd cc)
+
+unsigned_json : (n : ℕ) → n < 2 ^ 64 → IsJsonOf (number (unsigned n)) (decimal n)
+unsigned_json n h =
+    (λ _. refl, λ _. reads_back (number (unsigned n)) (IsNumber-decimal n h) (ap (option_map number) (number_of-decimal n h)) (omega arith), λ float. absurd cc)
+
+negative_json : (n : ℕ) → n < 2 ^ 63 → IsJsonOf (number (negative (negsuc n))) (signed_decimal (negsuc n))
+negative_json n h = (
+  λ _. refl,
+  λ _. reads_back (number (negative (negsuc n))) (IsNumber-signed_decimal (negsuc n) h) (ap (option_map number) (number_of-negative n h)) (omega arith),
+  λ float. absurd cc,
+)
+
+not_unsigned : (small : Bool) (m n : ℕ) → (if small then Some (pos m) else None) ≡ Some (negsuc n) → ⊥
+not_unsigned true m n e = cc
+not_unsigned false m n e = cc
+
+-- what a value without parts is seen as
+pub seen_null : null ≡ view value.Null
+seen_null = search (rules, value.the_lemmas)
+
+pub seen_boolean : (b : Bool) → boolean b ≡ view (value.Bool b)
+seen_boolean b = search (rules, value.the_lemmas)
+
+-- a value that is held as an unsigned integer
+pub json_of_u64 : (d : Data) (n : ℕ) → n < 2 ^ 64 → option_and_then as_u64 (as_number d) ≡ Some n → IsJsonOf d (decimal n)
+json_of_u64 (number (unsigned m)) n h e = let same : m ≡ n = cc in rw same (unsigned_json n h)
+json_of_u64 (number (negative z)) n h e = absurd cc
+json_of_u64 (number (float x)) n h e = absurd cc
+json_of_u64 null n h e = absurd cc
+json_of_u64 (boolean b) n h e = absurd cc
+json_of_u64 (string s) n h e = absurd cc
+json_of_u64 (array ds) n h e = absurd cc
+json_of_u64 (object ms) n h e = absurd cc
+
+-- a value that is held as a negative integer
+pub json_of_i64 : (d : Data) (z : ℤ) → SFits w64 z → int_lt z (pos 0) ≡ true → option_and_then as_i64 (as_number d) ≡ Some z → IsJsonOf d (signed_decimal z)
+json_of_i64 d (pos n) fits below e = absurd (grind arith)
+json_of_i64 (number (unsigned m)) (negsuc n) fits below e = absurd (not_unsigned (nat_lt m (2 ^ 63)) m n e)
+json_of_i64 (number (negative z)) (negsuc n) fits below e = let same : z ≡ negsuc n = cc in rw same (negative_json n (grind arith))
+json_of_i64 (number (float x)) (negsuc n) fits below e = absurd cc
+json_of_i64 null (negsuc n) fits below e = absurd cc
+json_of_i64 (boolean b) (negsuc n) fits below e = absurd cc
+json_of_i64 (string s) (negsuc n) fits below e = absurd cc
+json_of_i64 (array ds) (negsuc n) fits below e = absurd cc
+json_of_i64 (object ms) (negsuc n) fits below e = absurd cc

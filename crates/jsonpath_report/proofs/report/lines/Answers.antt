@@ -1,0 +1,37 @@
+use Rattle.std.proofs.Common.{[], ◌∷◌, ◌++◌, string_bytes, sym, ap, subst, ◌∙◌, append_assoc, append-nil}
+use Rattle.serde_json_path_nodes.specs.Views.{located}
+use Rattle.serde_json_path_core.specs.Walks.{rest}
+use Rattle.jsonpath_report.specs.Report.{AreLinesOf}
+use Rattle.jsonpath_report.proofs.Lines.{lines_pushed, given_node, given_none}
+use Rattle.jsonpath_report.proofs.report.lines.Goals as goal
+
+pub nodes-preserved : goal.nodes-preserved
+nodes-preserved g c =
+    let before = c.nodes.invariant in
+    let done = before.written.0 in
+    let node = c.in-Some.node in
+    let left = rest c.next.new.self in
+    let pushed = c.in_ok-push_line.ensures in
+    record {
+      set = c.next.ensures.set ∙ before.set;
+      query = c.next.ensures.query ∙ before.query;
+      document = c.next.ensures.document ∙ before.document;
+      written = (
+        done ++ located node ∷ [],
+        subst (AreLinesOf (done ++ located node ∷ [])) (sym pushed.2) (lines_pushed done (string_bytes c.nodes.text) pushed.0 (located node) before.written.1 pushed.1),
+        λ clear.
+            let given = given_node c.in_ok-node.field-0 node _ left c.in-Some.is (c.in_ok-node.ensures.given (rw (before.set, before.query, before.document) clear)) in
+            before.written.2 clear ∙ ap (λ more. done ++ more) given ∙ sym (append_assoc done (located node ∷ []) left),
+      );
+    }
+
+pub returns-clause-lines : goal.returns-clause-lines
+returns-clause-lines g c =
+    let before = c.nodes.invariant in
+    let done = before.written.0 in (
+      done,
+      before.written.1,
+      λ clear.
+          let ended = given_none c.in_ok-node.field-0 _ (rest c.next.new.self) c.in_default.is (c.in_ok-node.ensures.given (rw (before.set, before.query, before.document) clear)) in
+          sym (before.written.2 clear ∙ ap (λ more. done ++ more) ended ∙ append-nil done),
+    )

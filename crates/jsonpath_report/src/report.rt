@@ -1,0 +1,186 @@
+//! The lines of a report on a path and a document.
+
+ghost use Rattle.std.specs.Prelude.{◌≡◌, [], ◌++◌, ℕ, List, IfOk, OnOk, string_bytes};
+ghost use Rattle.serde_json.specs.Data.{Data};
+ghost use Rattle.serde_json.specs.View.{view};
+ghost use Rattle.serde_json_path_nodes.specs.Location.{Located};
+ghost use Rattle.serde_json_path_nodes.specs.Views.{located};
+ghost use Rattle.serde_json_path_functions.specs.Patterns.{before_builtin};
+ghost use Rattle.serde_json_path_core.specs.Selects.{OnlyMemory};
+ghost use Rattle.serde_json_path_core.specs.Walks.{IsClearWalk, rest, query_of, set_of};
+ghost use Rattle.serde_json_path.specs.Paths.{path_view};
+ghost use Rattle.serde_json_path_parser.specs.Parse.{IsParseOf};
+ghost use Rattle.serde_json_path_parser.specs.declared.error.ParseError as path_error;
+ghost use Rattle.jsonpath_report.specs.Report.{ReadsAs, EndsLine, IsLineOf, AreLinesOf, IsNoPath, CallsByPattern, IsReportOf};
+
+use serde_json::Value;
+use serde_json_path::functions::Functions;
+use serde_json_path::{JsonPath, LocatedNode, ParseError, QueryError, Walk};
+use std::alloc::{AllocError, Global};
+use thiserror::Error;
+
+/// Why a document is refused.
+#[derive(Debug, Drop, Error)]
+pub enum DocumentError {
+    /// `serde_json` does not read the bytes. It takes 127 levels, and no number beyond those of floats.
+    #[error("not JSON")]
+    NotJson,
+    /// Memory was refused.
+    #[error("no memory")]
+    Memory,
+}
+
+/// Why there is no report.
+#[derive(Debug, Drop, Error)]
+pub enum ReportError {
+    /// The path is refused.
+    #[error("{0}")]
+    Path(ParseError),
+    /// The document is refused.
+    #[error("{0}")]
+    Document(DocumentError),
+    /// The query is refused, or memory for the lines.
+    #[error("{0}")]
+    Query(QueryError),
+}
+
+/// Reads a document from its bytes.
+fn document(alloc: Global, bytes: &[u8]) -> Result<Value, DocumentError>
+    ensures ok { IfOk result (λ value. ReadsAs bytes.now (view value)) }
+    ensures not_json { result ≡ Err DocumentError.NotJson → (d : Data) → ReadsAs bytes.now d → ⊥ }
+{
+    Value::from_slice(alloc, bytes).map_err(|e| {
+        if e.is_memory() {
+            DocumentError::Memory
+        } else {
+            DocumentError::NotJson
+        }
+    })
+}
+
+/// Appends a tab, the compact JSON of a value as `serde_json` writes it, and a line feed.
+fn push_printed(alloc: Global, text: &mut String, value: &Value) -> Result<(), AllocError>
+    ensures { OnOk result
+        (EndsLine (view value.now) (string_bytes text.old) (string_bytes text.new)) }
+{
+    let json = value.to_string(alloc)?;
+    text.push('\t')?;
+    text.push_str(json.as_str())?;
+    text.push('\n')
+}
+
+/// Appends a tab, the compact JSON of a value and a line feed, in one write where the value is held as an integer.
+fn push_number(alloc: Global, text: &mut String, value: &Value) -> Result<(), AllocError>
+    ensures { OnOk result
+        (EndsLine (view value.now) (string_bytes text.old) (string_bytes text.new)) }
+{
+    if let Some(n) = value.as_u64() {
+        return write!(text, "\t{n}\n");
+    }
+    if let Some(n) = value.as_i64() {
+        if n < 0 {
+            return write!(text, "\t{n}\n");
+        }
+    }
+    push_printed(alloc, text, value)
+}
+
+/// Appends a tab, the compact JSON of a value and a line feed.
+fn push_value(alloc: Global, text: &mut String, value: &Value) -> Result<(), AllocError>
+    ensures { OnOk result
+        (EndsLine (view value.now) (string_bytes text.old) (string_bytes text.new)) }
+{
+    match value {
+        Value::Null => text.push_str("\tnull\n"),
+        Value::Bool(true) => text.push_str("\ttrue\n"),
+        Value::Bool(false) => text.push_str("\tfalse\n"),
+        Value::Number(_) => push_number(alloc, text, value),
+        _ => push_printed(alloc, text, value),
+    }
+}
+
+/// Appends a node's line: its normalised path, a tab, its compact JSON and a line feed.
+fn push_line(alloc: Global, text: &mut String, node: &LocatedNode<'_>) -> Result<(), AllocError>
+    ensures { OnOk result ((line : List ℕ) × IsLineOf (located node.now) line
+        × (string_bytes text.new ≡ string_bytes text.old ++ line)) }
+{
+    write!(text, "{}", node.location())?;
+    push_value(alloc, text, node.node())
+}
+
+/// Room for lines that is a mapping of its own, which grows without a copy.
+const ROOM: usize = 262_144;
+
+/// An empty text with room for lines, if there is memory for it.
+///
+/// It is asked for before the document is read: a large request after a document's many small pieces has the allocator go over
+/// those that are free.
+fn room(alloc: Global) -> String
+    ensures { string_bytes result ≡ [] }
+{
+    match String::with_capacity(alloc, ROOM) {
+        Ok(text) => text,
+        Err(_) => String::new(alloc),
+    }
+}
+
+/// One line for each node that remains of a walk, in order, in a text that is empty before.
+fn lines<F: Functions + Drop>(
+    alloc: Global,
+    mut text: String,
+    mut walk: Walk<'_, '_, F>,
+) -> Result<String, QueryError>
+    requires { string_bytes text ≡ [] }
+    ensures lines { IfOk result (λ text. (nodes : List Located) × AreLinesOf nodes (string_bytes text)
+        × (IsClearWalk walk.entry → nodes ≡ rest walk.entry)) }
+    ensures refused { OnlyMemory (set_of walk.entry) (query_of walk.entry) result }
+{
+    'nodes: while let Some(node) = walk.next()? {
+        push_line(alloc, &mut text, &node)?;
+    }
+    Ok(text)
+}
+
+/// One line for each node of the document that the path selects, in order: its normalised path, a tab, its compact JSON
+/// and a line feed.
+///
+/// The path is read first, then the document, and then the query runs. Filters may call the functions of a set as well as
+/// the built-in ones. If both define a name, the set's function is used.
+///
+/// ```text
+/// report(alloc, "$.foo.bar[0]", b"{\"foo\":{\"bar\":[\"baz\",42]}}", &Builtin)
+/// gives $['foo']['bar'][0]<tab>"baz"
+/// ```
+pub fn report<F: Functions>(
+    alloc: Global,
+    path: &str,
+    document: &[u8],
+    functions: &F,
+) -> Result<String, ReportError>
+    ensures lines { IfOk result (λ text.
+        IsReportOf (before_builtin (F.set functions.now)) path.now document.now (string_bytes text)) }
+
+    // A path is refused as the parse refuses it, and before the document is looked at.
+    ensures path_refused { (e : path_error.ParseError) → result ≡ Err (ReportError.Path e)
+        → IsParseOf path_view (before_builtin (F.set functions.now)).signature path.now (Err e) }
+    ensures path_first { IsNoPath (before_builtin (F.set functions.now)) path.now
+        → (e : path_error.ParseError) × (result ≡ Err (ReportError.Path e)) }
+
+    ensures not_json { result ≡ Err (ReportError.Document DocumentError.NotJson) → (d : Data)
+        → ReadsAs document.now d → ⊥ }
+    ensures pattern_refused { result ≡ Err (ReportError.Query QueryError.Pattern)
+        → CallsByPattern (before_builtin (F.set functions.now)) path.now }
+
+    // A query is refused only where the document is read.
+    ensures query_last { (e : QueryError) → result ≡ Err (ReportError.Query e)
+        → (d : Data) × ReadsAs document.now d }
+{
+    let path = JsonPath::parse_with(alloc, path, functions).map_err(ReportError::Path)?;
+    let text = room(alloc);
+    let value = self::document(alloc, document).map_err(ReportError::Document)?;
+    let walk = path
+        .walk(alloc, &value, functions)
+        .map_err(ReportError::Query)?;
+    let text = lines(alloc, text, walk).map_err(ReportError::Query)?;
+    Ok(text)
+}

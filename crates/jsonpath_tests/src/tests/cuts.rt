@@ -1,0 +1,78 @@
+//! Documents cut at each byte.
+
+use crate::tests::reports::{BOOKSTORE, READINGS};
+use jsonpath_report::report::{DocumentError, ReportError, report};
+use serde_json_path::functions::Builtin;
+use std::alloc::Global;
+use std::process::Abort;
+use std::test::Fail;
+
+/// Documents of the other tests, and of the language's examples.
+const DOCUMENTS: &[&str] = &[
+    "null",
+    "[1]",
+    "[1, 1.5]",
+    "[0,1]",
+    "[18446744073709551615]",
+    r#"{"a":[1]}"#,
+    r#"{"a":1,"b":2}"#,
+    r#"{"foo":{"bar":{"baz":1},"baz":2},"baz":3}"#,
+    r#"["a","b","c","d","e","f","g"]"#,
+    "{\"\u{1f600}\":1}",
+    r#"{"a'b\\\u000b":1}"#,
+    r#"[{},{"a":1},{"a":1,"b":1}]"#,
+    r#"["ax","xb","xbx"]"#,
+    r#"[{"foo":"bar"},{"foo":"biz"}]"#,
+    "[[1,2,3],[4,5,6],[7,8,9]]",
+    r#"{"min":3,"x":{"a":[1,5]},"y":{"a":[2]}}"#,
+    "[\"\u{1f600}\",\"ab\",[0],{\"k\":1},7]",
+    r#"[{"a":1},{"a":{"a":1}}]"#,
+    r#"[{"a":1,"b":2},{"a":1,"b":1},{"b":3}]"#,
+    r#"[{},{"x":1}]"#,
+    READINGS,
+    BOOKSTORE,
+];
+
+/// Whether a text is one line.
+fn is_line(text: &str) -> bool {
+    match text.strip_suffix("\n") {
+        Some(line) => !line.contains("\n"),
+        None => false,
+    }
+}
+
+/// Asserts that a text is one line.
+fn holds_line(rt: &impl Abort, text: &str) {
+    assert!(rt; is_line(text), "{text:?}");
+}
+
+/// Asserts that the report of a document under `$` is one line, or that it is no JSON text.
+fn is_line_or_no_json(rt: &impl Abort, alloc: Global, document: &[u8]) {
+    match report(alloc, "$", document, &Builtin) {
+        Ok(lines) => holds_line(rt, lines.as_str()),
+        Err(ReportError::Document(DocumentError::NotJson)) => {}
+        Err(e) => assert!(rt; false, "{e}"),
+    }
+}
+
+/// Reports on each beginning of a document.
+pub(crate) fn cut(rt: &impl Abort, alloc: Global, document: &[u8]) {
+    for end in 0..document.len() + 1 {
+        if let Some(start) = document.get(..end) {
+            is_line_or_no_json(rt, alloc, start);
+        }
+    }
+}
+
+/// Reports on each beginning of each document.
+fn cut_each(rt: &impl Abort, alloc: Global, documents: &[&str]) {
+    for &document in documents {
+        cut(rt, alloc, document.as_bytes());
+    }
+}
+
+#[test]
+fn cuts_documents(rt: HostRuntime) -> Result<(), Fail> {
+    cut_each(&rt, rt.alloc(), DOCUMENTS);
+    Ok(())
+}

@@ -1,0 +1,154 @@
+//! The sample functions, as filters call them.
+
+use crate::tests::reports::tells;
+use jsonpath_report::report::report;
+use jsonpath_report::samples::Samples;
+use serde_json::Value;
+use serde_json_path::ParseErrorKind::{
+    ExpectedComparisonOperator, UndefinedFunction, WrongArgumentType, WrongNumberOfArguments,
+    WrongReturnType,
+};
+use serde_json_path::functions::Builtin;
+use serde_json_path::{JsonPath, LocatedNodeList, ParseError, ParseErrorKind};
+use std::alloc::Global;
+use std::process::Abort;
+use std::test::Fail;
+
+/// Two shelves of books.
+const BOOKS: &str = concat!(
+    r#"[{"books":[{"author":"Alexandre Dumas","title":"The Three Musketeers","price":14.99},"#,
+    r#"{"author":"Leo Tolstoy","title":"War and Peace","price":19.99}]},"#,
+    r#"{"books":[{"author":"Charles Dickens","title":"Great Expectations","price":13.99},"#,
+    r#"{"author":"Fyodor Dostoevsky","title":"The Brothers Karamazov","price":12.99}]}]"#
+);
+
+/// A path, a document, and the locations of what the path selects there.
+const SELECTED: &[(&str, &str, &str)] = &[
+    ("$[?first(@.*) == 4]", "[[1,2,3],[4,5,6],[7,8,9]]", " $[1]"),
+    (
+        "$[? first(@.books.*.author) == 'Alexandre Dumas']",
+        BOOKS,
+        " $[0]",
+    ),
+    ("$[? length(first(@.books.*.title)) == 18 ]", BOOKS, " $[1]"),
+    (
+        "$[?first(@.*) == @.x]",
+        r#"[{},{"x":1},{"y":1}]"#,
+        " $[0] $[1]",
+    ),
+    (
+        "$[?both(@.a, @.b > 1)]",
+        r#"[{"a":1,"b":2},{"a":1,"b":1},{"b":3}]"#,
+        " $[0]",
+    ),
+    (
+        "$[?both(both(@.a, @.b), !@.c)]",
+        r#"[{"a":1,"b":1},{"a":1,"b":1,"c":1}]"#,
+        " $[0]",
+    ),
+    (
+        "$[?both((@.a), @.b || @.c)]",
+        r#"[{"a":0,"c":0},{"a":0}]"#,
+        " $[0]",
+    ),
+    ("$[?none() == @.x]", r#"[{},{"x":1}]"#, " $[0]"),
+];
+
+/// The locations of nodes, with a space before each.
+fn locations(alloc: Global, nodes: &LocatedNodeList<'_>) -> Result<String, Fail> {
+    let mut text = String::new(alloc);
+    for location in nodes.locations() {
+        write!(text, " {location}")?;
+    }
+    Ok(text)
+}
+
+/// The locations of what a path selects from a document, where its filters call the samples.
+fn selected(alloc: Global, path: &str, document: &str) -> Result<String, Fail> {
+    let path = JsonPath::parse_with(alloc, path, &Samples)?;
+    let document = Value::from_str(alloc, document)?;
+    let nodes = path.query_located_with(alloc, &document, &Samples)?;
+    locations(alloc, &nodes)
+}
+
+#[test]
+fn filters_call_the_samples(rt: HostRuntime) -> Result<(), Fail> {
+    for &(path, document, wanted) in SELECTED {
+        let locations = selected(rt.alloc(), path, document)?;
+        tells(&rt, locations.as_str(), wanted, path);
+    }
+    Ok(())
+}
+
+#[test]
+fn reports_call_the_samples(rt: HostRuntime) -> Result<(), Fail> {
+    let document = b"[[4],[5,5],[5]]";
+    for (path, lines) in [
+        ("$[?first(@.*) == 4]", "$[0]\t[4]\n"),
+        ("$[?first(@.*) == 5 && length(@) == 1]", "$[2]\t[5]\n"),
+    ] {
+        let text = report(rt.alloc(), path, document, &Samples)?;
+        tells(&rt, text.as_str(), lines, path);
+    }
+    Ok(())
+}
+
+/// Asserts that a parse was refused with this kind and at this position.
+fn refuses(
+    rt: &impl Abort,
+    text: &str,
+    read: Result<JsonPath, ParseError>,
+    kind: ParseErrorKind,
+    position: usize,
+) {
+    match read {
+        Ok(_) => assert!(rt; false, "{text} is accepted"),
+        Err(e) => {
+            assert!(rt; e.kind() == kind, "{:?} of {text}", e.kind());
+            assert!(rt; e.position() == position, "{} of {text}", e.position());
+        }
+    }
+}
+
+/// A text, and the kind and the position of its refusal.
+const REFUSED: &[(&str, ParseErrorKind, usize)] = &[
+    ("$[?both(true, @)]", WrongArgumentType, 9),
+    ("$[?both(@.a, none())]", WrongArgumentType, 14),
+    ("$[?both(length(@), @)]", WrongArgumentType, 9),
+    ("$[?both(length(@) && @, @)]", WrongReturnType, 9),
+    ("$[?both(@.a && 1, @)]", ExpectedComparisonOperator, 17),
+    ("$[?both((1), @)]", ExpectedComparisonOperator, 11),
+    ("$[?first(@.*)]", WrongReturnType, 4),
+    ("$[?none()]", WrongReturnType, 4),
+    ("$[?none(@) == 1]", WrongNumberOfArguments, 4),
+    ("$[?third(@.*) == 4]", UndefinedFunction, 4),
+];
+
+#[test]
+fn typed_calls_of_the_samples(rt: HostRuntime) -> Result<(), Fail> {
+    let alloc = rt.alloc();
+    for &(text, kind, position) in REFUSED {
+        let read = JsonPath::parse_with(alloc, text, &Samples);
+        refuses(&rt, text, read, kind, position);
+    }
+    let text = "$[?first(@.*) == 4]";
+    let read = JsonPath::parse(alloc, text);
+    refuses(&rt, text, read, UndefinedFunction, 4);
+    Ok(())
+}
+
+/// Asserts that a path fits the samples, and whether it fits the built-in functions alone.
+fn fits(rt: &impl Abort, path: &JsonPath, is_builtin: bool) {
+    assert!(rt; path.fits(&Samples));
+    assert!(rt; path.fits(&Builtin) == is_builtin);
+}
+
+#[test]
+fn paths_fit_the_samples_or_not(rt: HostRuntime) -> Result<(), Fail> {
+    let alloc = rt.alloc();
+    let path = JsonPath::parse_with(alloc, "$[?first(@.*) == 4]", &Samples)?;
+    fits(&rt, &path, false);
+    let plain = JsonPath::parse(alloc, "$.a")?;
+    fits(&rt, &plain, true);
+    Ok(())
+}
