@@ -18,6 +18,7 @@ pub(crate) struct Child<'b> {
 }
 
 /// The member of that name, if the value is an object that has it.
+#[inline]
 pub(crate) fn member<'b>(value: &'b Value, name: &str) -> Option<Child<'b>>
     ensures { option_map child_view result ≡ child_by (view value.now) (by_name name.now) }
 {
@@ -27,6 +28,7 @@ pub(crate) fn member<'b>(value: &'b Value, name: &str) -> Option<Child<'b>>
     }
 }
 
+#[inline]
 fn member_of<'b>(members: &'b Map<String, Value>, name: &str) -> Option<Child<'b>>
     ensures { option_map child_view result
         ≡ child_by (object (members_view members.now.entries)) (by_name name.now) }
@@ -51,6 +53,7 @@ pub(crate) fn item<'b>(value: &'b Value, index: i64) -> Option<Child<'b>>
     }
 }
 
+#[inline]
 fn item_of<'b>(items: &'b Vec<Value>, index: i64) -> Option<Child<'b>>
     ensures { option_map child_view result ≡ item_at (array (items_view items.now.items)) index }
 {
@@ -70,6 +73,7 @@ fn item_of<'b>(items: &'b Vec<Value>, index: i64) -> Option<Child<'b>>
 }
 
 /// The position of an index in an array of `len` items, from 0; it may lie past the end.
+#[inline]
 fn position(index: i64, len: usize) -> Option<usize>
     ensures { result ≡ position_in index len }
 {

@@ -608,12 +608,12 @@ filter::logic::all_true-basic_true-requires g t c =
 pub filter::logic::basic_true-plain_relation-requires : goal.filter::logic::basic_true-plain_relation-requires
 filter::logic::basic_true-plain_relation-requires g t c =
     let scope = c.args.scope.now in
-    let sides = side-calls (query_of scope) (comparable_at (nodes_of scope) c.in-Relation.left) (operator_view c.in-Relation.operator) (comparable_at (nodes_of scope) c.in-Relation.right) (basic_at (nodes_of scope) c.args.expression)
+    let sides = side-calls (query_of scope) (comparable_at (nodes_of scope) c.in-Basic-Relation.left) (operator_view c.in-Basic-Relation.operator) (comparable_at (nodes_of scope) c.in-Basic-Relation.right) (basic_at (nodes_of scope) c.args.expression)
     (search rules) c.requires.sound.1 in
     search rules
 
-pub filter::logic::basic_true-relation_true-requires : goal.filter::logic::basic_true-relation_true-requires
-filter::logic::basic_true-relation_true-requires g t c =
+pub filter::logic::evaluated_true-relation_true-requires : goal.filter::logic::evaluated_true-relation_true-requires
+filter::logic::evaluated_true-relation_true-requires g t c =
     let scope = c.args.scope.now in
     let sides = side-calls (query_of scope) (comparable_at (nodes_of scope) c.in-Relation.left) (operator_view c.in-Relation.operator) (comparable_at (nodes_of scope) c.in-Relation.right) (basic_at (nodes_of scope) c.args.expression)
     (search rules) c.requires.sound.1 in

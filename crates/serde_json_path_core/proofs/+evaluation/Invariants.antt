@@ -32,6 +32,9 @@ decreases-filter::logic::all_true g l = 8 * l.expression.number + 5
 abbrev pub decreases-filter::logic::basic_true : goal.decreases-filter::logic::basic_true
 decreases-filter::logic::basic_true g l = 8 * l.expression.number + 5
 
+abbrev pub decreases-filter::logic::evaluated_true : goal.decreases-filter::logic::evaluated_true
+decreases-filter::logic::evaluated_true g l = 8 * l.expression.number + 4
+
 abbrev pub decreases-filter::logic::relation_true : goal.decreases-filter::logic::relation_true
 decreases-filter::logic::relation_true g l = 8 * max l.left.number l.right.number + 6
 

@@ -30,7 +30,10 @@ pub(crate) fn same_numbers(left: &Number, right: &Number) -> bool
     ensures { result
         ≡ same_amount (as_integer (number_view left.now)) (as_integer (number_view right.now)) }
 {
-    same_amounts(amount(left), amount(right))
+    match (left.as_i64(), right.as_i64()) {
+        (Some(first), Some(second)) => first == second,
+        _ => same_amounts(amount(left), amount(right)),
+    }
 }
 
 /// Whether two amounts are there, and equal.

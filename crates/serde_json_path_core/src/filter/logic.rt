@@ -27,6 +27,7 @@ use serde_json_path_syntax::{Basic, Comparable, ComparisonOperator, Literal, Nod
 
 /// Whether a logical expression holds for `@` at the value: whether one of its operands of `||` does.
 #[cycle(evaluation)]
+#[inline]
 pub(crate) fn is_true<'b, F: Functions>(
     scope: &Scope<'_, 'b, F>,
     expression: Part,
@@ -49,6 +50,7 @@ pub(crate) fn is_true<'b, F: Functions>(
 
 /// Whether all operands of `&&` hold.
 #[cycle(evaluation)]
+#[inline(always)]
 fn all_true<'b, F: Functions>(
     scope: &Scope<'_, 'b, F>,
     expression: Part,
@@ -69,9 +71,38 @@ fn all_true<'b, F: Functions>(
     Ok(true)
 }
 
-/// Whether a parenthesis, a comparison or a test holds.
+/// Whether a parenthesis, a comparison or a test holds. Comparisons of what is at hand come first.
 #[cycle(evaluation)]
+#[inline(always)]
 fn basic_true<'b, F: Functions>(
+    scope: &Scope<'_, 'b, F>,
+    expression: Part,
+    value: &'b Value,
+) -> Result<bool, QueryError>
+    requires below { expression.number < length (nodes_of scope.now) }
+    requires sound { SoundBasic scope.now expression }
+    requires inside { StandsIn (top_of scope.now) (view value.now) }
+    ensures means { IfOk result (λ holds.
+        Clear scope.now → holds ≡ basic_holds scope.now expression (view value.now)) }
+    ensures refused { IfErr result (λ e. WithoutPatterns scope.now → e ≡ Memory) }
+{
+    if let Node::Basic(Basic::Relation {
+        left,
+        operator,
+        right,
+    }) = scope.query.node(expression)
+    {
+        if let Some(holds) = plain_relation(scope, *left, *operator, *right, value) {
+            return Ok(holds);
+        }
+    }
+    evaluated_true(scope, expression, value)
+}
+
+/// The same, by evaluation of what is in it.
+#[cycle(evaluation)]
+#[inline(never)]
+fn evaluated_true<'b, F: Functions>(
     scope: &Scope<'_, 'b, F>,
     expression: Part,
     value: &'b Value,
@@ -91,12 +122,7 @@ fn basic_true<'b, F: Functions>(
                 left,
                 operator,
                 right,
-            } => {
-                match plain_relation(scope, *left, *operator, *right, value) {
-                    Some(holds) => Ok(holds),
-                    None => relation_true(scope, *left, *operator, *right, value),
-                }
-            }
+            } => relation_true(scope, *left, *operator, *right, value),
             Basic::Exist(query) => Ok(first(scope, *query, value)?.is_some()),
             Basic::NotExist(query) => Ok(first(scope, *query, value)?.is_none()),
             Basic::Test(call) => {
