@@ -4,12 +4,13 @@ use Rattle.std.proofs.lemmas.List.{append-nil}
 use Rattle.serde_json_path_nodes.specs.Location.{Located}
 use Rattle.serde_json_path_nodes.specs.Views.{located}
 use Rattle.serde_json_path_nodes.specs.declared.located_node.LocatedNode.{LocatedNode}
-use Rattle.jsonpath_report.specs.Report.{IsLineOf, AreLinesOf}
+use Rattle.jsonpath_report.specs.Report.{IsLineIn, AreLinesIn}
+use Rattle.jsonpath_report.specs.declared.report.LineForm.{LineForm}
 
-pub lines_pushed : (ns : List Located) (text line : List ℕ) (n : Located) → AreLinesOf ns text → IsLineOf n line → AreLinesOf (ns ++ n ∷ []) (text ++ line)
-lines_pushed [] text line n h l = (line, [], l, refl, ap (λ (t : List ℕ). t ++ line) h ∙ sym (append-nil line))
-lines_pushed (m ∷ ns) text line n h l =
-    (h.0, h.1 ++ line, h.2, lines_pushed ns h.1 line n h.3 l, ap (λ (t : List ℕ). t ++ line) h.4 ∙ append_assoc h.0 h.1 line)
+pub lines_pushed : (form : LineForm) (ns : List Located) (text line : List ℕ) (n : Located) → AreLinesIn form ns text → IsLineIn form n line → AreLinesIn form (ns ++ n ∷ []) (text ++ line)
+lines_pushed form [] text line n h l = (line, [], l, refl, ap (λ (t : List ℕ). t ++ line) h ∙ sym (append-nil line))
+lines_pushed form (m ∷ ns) text line n h l =
+    (h.0, h.1 ++ line, h.2, lines_pushed form ns h.1 line n h.3 l, ap (λ (t : List ℕ). t ++ line) h.4 ∙ append_assoc h.0 h.1 line)
 
 -- what remained of a walk is the node that it gave, and what remains then
 pub given_node : (next : Option LocatedNode) (node : LocatedNode) (before after : List Located) → next ≡ Some node

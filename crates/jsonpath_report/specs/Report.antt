@@ -14,6 +14,8 @@ use Rattle.serde_json_path_functions.specs.Functions.{FunctionSet}
 use Rattle.serde_json_path_core.specs.Clear.{GoesWithoutPattern}
 use Rattle.serde_json_path_core.specs.Selects.{Selects}
 use Rattle.serde_json_path_parser.specs.Accepted.{IsAccepted}
+use Rattle.jsonpath_report.specs.declared.report.LineForm.{LineForm}
+use Rattle.jsonpath_report.specs.declared.report.LineForm.TheVariants.{LocationAndValue, Location, Value}
 
 -- the bytes read as this document: they are UTF-8, and its text reads as the value
 abbrev pub ReadsAs : List ℕ → Data → Type 0
@@ -26,18 +28,22 @@ IsJsonOf d json =
     (has_float d ≡ false → json ≡ compact_text d) × (depth d ≤ max_depth → read json ≡ Some d)
     × (has_float d ≡ true → (json ≡ print (tokens json)) × IsInOrder json d)
 
--- the line of a node: its normalised path, a tab, its compact JSON and a line feed
-abbrev pub IsLineOf : Located → List ℕ → Type 0
-IsLineOf n line = (json : List ℕ) × (line ≡ normal n.location ++ (codes "\t" ++ (json ++ codes "\n"))) × IsJsonOf n.value json
-
--- what is appended to a text is a tab, the value's compact JSON and a line feed
+-- what is appended to a text is the value's compact JSON and a line feed
 abbrev pub EndsLine : Data → List ℕ → List ℕ → Type 0
-EndsLine d old new = (json : List ℕ) × IsJsonOf d json × (new ≡ old ++ (codes "\t" ++ (json ++ codes "\n")))
+EndsLine d old new = (json : List ℕ) × IsJsonOf d json × (new ≡ old ++ (json ++ codes "\n"))
+
+-- The line of a node in a form: its normalised path, a tab, its compact JSON and a line feed; or one of the two alone, and a line
+-- feed.
+abbrev pub IsLineIn : LineForm → Located → List ℕ → Type 0
+IsLineIn LocationAndValue n line =
+    (json : List ℕ) × (line ≡ normal n.location ++ (codes "\t" ++ (json ++ codes "\n"))) × IsJsonOf n.value json
+IsLineIn Location n line = line ≡ normal n.location ++ codes "\n"
+IsLineIn Value n line = (json : List ℕ) × (line ≡ json ++ codes "\n") × IsJsonOf n.value json
 
 -- the text is a line for each node, in order, joined
-abbrev pub AreLinesOf : List Located → List ℕ → Type 0
-AreLinesOf [] text = text ≡ []
-AreLinesOf (n ∷ ns) text = (line rest : List ℕ) × IsLineOf n line × AreLinesOf ns rest × (text ≡ line ++ rest)
+abbrev pub AreLinesIn : LineForm → List Located → List ℕ → Type 0
+AreLinesIn form [] text = text ≡ []
+AreLinesIn form (n ∷ ns) text = (line rest : List ℕ) × IsLineIn form n line × AreLinesIn form ns rest × (text ≡ line ++ rest)
 
 -- the text is no path under the set: it is accepted with no tree
 abbrev pub IsNoPath : FunctionSet → List ℕ → Type 0
@@ -47,13 +53,17 @@ IsNoPath F path = (q : Query) → IsAccepted F.signature (chars path) q → ⊥
 abbrev pub CallsByPattern : FunctionSet → List ℕ → Type 0
 CallsByPattern F path = (q : Query) × IsAccepted F.signature (chars path) q × (EachCall (GoesWithoutPattern F) q → ⊥)
 
--- The text is the lines of the path's result on the document, under the set's functions, where no call that goes by `regex`
--- gets a pattern that is nested deeper than `regex` takes.
-pub record IsReportOf (F : FunctionSet) (path document text : List ℕ) : Type 0 where
+-- The text is the lines, in a form, of the path's result on the document, under the set's functions, where no call that goes by
+-- `regex` gets a pattern that is nested deeper than `regex` takes.
+pub record IsReportIn (form : LineForm) (F : FunctionSet) (path document text : List ℕ) : Type 0 where
   pub query : Query
   pub value : Data
   pub nodes : List Located
   pub accepted : IsAccepted F.signature (chars path) query
   pub reads : ReadsAs document value
   pub selects : Selects F query value nodes
-  pub lines : AreLinesOf nodes text
+  pub lines : AreLinesIn form nodes text
+
+-- the same with both the location and the value of each node
+abbrev pub IsReportOf : FunctionSet → List ℕ → List ℕ → List ℕ → Type 0
+IsReportOf = IsReportIn LocationAndValue

@@ -11,7 +11,7 @@ ghost use Rattle.serde_json_path_core.specs.Walks.{IsClearWalk, rest, query_of, 
 ghost use Rattle.serde_json_path.specs.Paths.{path_view};
 ghost use Rattle.serde_json_path_parser.specs.Parse.{IsParseOf};
 ghost use Rattle.serde_json_path_parser.specs.declared.error.ParseError as path_error;
-ghost use Rattle.jsonpath_report.specs.Report.{ReadsAs, EndsLine, IsLineOf, AreLinesOf, IsNoPath, CallsByPattern, IsReportOf};
+ghost use Rattle.jsonpath_report.specs.Report.{ReadsAs, EndsLine, IsLineIn, AreLinesIn, IsNoPath, CallsByPattern, IsReportIn, IsReportOf};
 
 use serde_json::Value;
 use serde_json_path::functions::Functions;
@@ -44,6 +44,17 @@ pub enum ReportError {
     Query(QueryError),
 }
 
+/// What a line says of a node.
+#[derive(Clone, Copy, Debug, PartialEq, Eq)]
+pub enum LineForm {
+    /// Its normalised path, a tab, and its compact JSON.
+    LocationAndValue,
+    /// Its normalised path alone.
+    Location,
+    /// Its compact JSON alone.
+    Value,
+}
+
 /// Reads a document from its bytes.
 fn document(alloc: Global, bytes: &[u8]) -> Result<Value, DocumentError>
     ensures ok { IfOk result (λ value. ReadsAs bytes.now (view value)) }
@@ -58,54 +69,64 @@ fn document(alloc: Global, bytes: &[u8]) -> Result<Value, DocumentError>
     })
 }
 
-/// Appends a tab, the compact JSON of a value as `serde_json` writes it, and a line feed.
+/// Appends the compact JSON of a value as `serde_json` writes it, and a line feed.
 fn push_printed(alloc: Global, text: &mut String, value: &Value) -> Result<(), AllocError>
     ensures { OnOk result
         (EndsLine (view value.now) (string_bytes text.old) (string_bytes text.new)) }
 {
     let json = value.to_string(alloc)?;
-    text.push('\t')?;
     text.push_str(json.as_str())?;
     text.push('\n')
 }
 
-/// Appends a tab, the compact JSON of a value and a line feed, in one write where the value is held as an integer.
+/// Appends the compact JSON of a value and a line feed, in one write where the value is held as an integer.
 fn push_number(alloc: Global, text: &mut String, value: &Value) -> Result<(), AllocError>
     ensures { OnOk result
         (EndsLine (view value.now) (string_bytes text.old) (string_bytes text.new)) }
 {
     if let Some(n) = value.as_u64() {
-        return write!(text, "\t{n}\n");
+        return write!(text, "{n}\n");
     }
     if let Some(n) = value.as_i64() {
         if n < 0 {
-            return write!(text, "\t{n}\n");
+            return write!(text, "{n}\n");
         }
     }
     push_printed(alloc, text, value)
 }
 
-/// Appends a tab, the compact JSON of a value and a line feed.
+/// Appends the compact JSON of a value and a line feed.
 fn push_value(alloc: Global, text: &mut String, value: &Value) -> Result<(), AllocError>
     ensures { OnOk result
         (EndsLine (view value.now) (string_bytes text.old) (string_bytes text.new)) }
 {
     match value {
-        Value::Null => text.push_str("\tnull\n"),
-        Value::Bool(true) => text.push_str("\ttrue\n"),
-        Value::Bool(false) => text.push_str("\tfalse\n"),
+        Value::Null => text.push_str("null\n"),
+        Value::Bool(true) => text.push_str("true\n"),
+        Value::Bool(false) => text.push_str("false\n"),
         Value::Number(_) => push_number(alloc, text, value),
         _ => push_printed(alloc, text, value),
     }
 }
 
-/// Appends a node's line: its normalised path, a tab, its compact JSON and a line feed.
-fn push_line(alloc: Global, text: &mut String, node: &LocatedNode<'_>) -> Result<(), AllocError>
-    ensures { OnOk result ((line : List ℕ) × IsLineOf (located node.now) line
+/// Appends a node's line.
+fn push_line(
+    alloc: Global,
+    text: &mut String,
+    form: LineForm,
+    node: &LocatedNode<'_>,
+) -> Result<(), AllocError>
+    ensures { OnOk result ((line : List ℕ) × IsLineIn form (located node.now) line
         × (string_bytes text.new ≡ string_bytes text.old ++ line)) }
 {
-    write!(text, "{}", node.location())?;
-    push_value(alloc, text, node.node())
+    match form {
+        LineForm::LocationAndValue => {
+            write!(text, "{}\t", node.location())?;
+            push_value(alloc, text, node.node())
+        }
+        LineForm::Location => write!(text, "{}\n", node.location()),
+        LineForm::Value => push_value(alloc, text, node.node()),
+    }
 }
 
 /// Room for lines that is a mapping of its own, which grows without a copy.
@@ -127,16 +148,17 @@ fn room(alloc: Global) -> String
 /// One line for each node that remains of a walk, in order, in a text that is empty before.
 fn lines<F: Functions + Drop>(
     alloc: Global,
+    form: LineForm,
     mut text: String,
     mut walk: Walk<'_, '_, F>,
 ) -> Result<String, QueryError>
     requires { string_bytes text ≡ [] }
-    ensures lines { IfOk result (λ text. (nodes : List Located) × AreLinesOf nodes (string_bytes text)
+    ensures lines { IfOk result (λ text. (nodes : List Located) × AreLinesIn form nodes (string_bytes text)
         × (IsClearWalk walk.entry → nodes ≡ rest walk.entry)) }
     ensures refused { OnlyMemory (set_of walk.entry) (query_of walk.entry) result }
 {
     'nodes: while let Some(node) = walk.next()? {
-        push_line(alloc, &mut text, &node)?;
+        push_line(alloc, &mut text, form, &node)?;
     }
     Ok(text)
 }
@@ -175,12 +197,46 @@ pub fn report<F: Functions>(
     ensures query_last { (e : QueryError) → result ≡ Err (ReportError.Query e)
         → (d : Data) × ReadsAs document.now d }
 {
+    report_in(alloc, LineForm::LocationAndValue, path, document, functions)
+}
+
+/// The same with lines in a form.
+///
+/// ```text
+/// report_in(alloc, LineForm::Value, "$.foo.bar[0]", b"{\"foo\":{\"bar\":[\"baz\",42]}}", &Builtin)
+/// gives "baz"
+/// ```
+pub fn report_in<F: Functions>(
+    alloc: Global,
+    form: LineForm,
+    path: &str,
+    document: &[u8],
+    functions: &F,
+) -> Result<String, ReportError>
+    ensures lines { IfOk result (λ text.
+        IsReportIn form (before_builtin (F.set functions.now)) path.now document.now (string_bytes text)) }
+
+    // A path is refused as the parse refuses it, and before the document is looked at.
+    ensures path_refused { (e : path_error.ParseError) → result ≡ Err (ReportError.Path e)
+        → IsParseOf path_view (before_builtin (F.set functions.now)).signature path.now (Err e) }
+    ensures path_first { IsNoPath (before_builtin (F.set functions.now)) path.now
+        → (e : path_error.ParseError) × (result ≡ Err (ReportError.Path e)) }
+
+    ensures not_json { result ≡ Err (ReportError.Document DocumentError.NotJson) → (d : Data)
+        → ReadsAs document.now d → ⊥ }
+    ensures pattern_refused { result ≡ Err (ReportError.Query QueryError.Pattern)
+        → CallsByPattern (before_builtin (F.set functions.now)) path.now }
+
+    // A query is refused only where the document is read.
+    ensures query_last { (e : QueryError) → result ≡ Err (ReportError.Query e)
+        → (d : Data) × ReadsAs document.now d }
+{
     let path = JsonPath::parse_with(alloc, path, functions).map_err(ReportError::Path)?;
     let text = room(alloc);
     let value = self::document(alloc, document).map_err(ReportError::Document)?;
     let walk = path
         .walk(alloc, &value, functions)
         .map_err(ReportError::Query)?;
-    let text = lines(alloc, text, walk).map_err(ReportError::Query)?;
+    let text = lines(alloc, form, text, walk).map_err(ReportError::Query)?;
     Ok(text)
 }

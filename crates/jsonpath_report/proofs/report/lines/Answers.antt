@@ -1,7 +1,7 @@
 use Rattle.std.proofs.Common.{[], ◌∷◌, ◌++◌, string_bytes, sym, ap, subst, ◌∙◌, append_assoc, append-nil}
 use Rattle.serde_json_path_nodes.specs.Views.{located}
 use Rattle.serde_json_path_core.specs.Walks.{rest}
-use Rattle.jsonpath_report.specs.Report.{AreLinesOf}
+use Rattle.jsonpath_report.specs.Report.{AreLinesIn}
 use Rattle.jsonpath_report.proofs.Lines.{lines_pushed, given_node, given_none}
 use Rattle.jsonpath_report.proofs.report.lines.Goals as goal
 
@@ -18,7 +18,7 @@ nodes-preserved g c =
       document = c.next.ensures.document ∙ before.document;
       written = (
         done ++ located node ∷ [],
-        subst (AreLinesOf (done ++ located node ∷ [])) (sym pushed.2) (lines_pushed done (string_bytes c.nodes.text) pushed.0 (located node) before.written.1 pushed.1),
+        subst (AreLinesIn c.args.form (done ++ located node ∷ [])) (sym pushed.2) (lines_pushed c.args.form done (string_bytes c.nodes.text) pushed.0 (located node) before.written.1 pushed.1),
         λ clear.
             let given = given_node c.in_ok-node.field-0 node _ left c.in-Some.is (c.in_ok-node.ensures.given (rw (before.set, before.query, before.document) clear)) in
             before.written.2 clear ∙ ap (λ more. done ++ more) given ∙ sym (append_assoc done (located node ∷ []) left),

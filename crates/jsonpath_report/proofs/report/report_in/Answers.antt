@@ -6,7 +6,7 @@ use Rattle.serde_json_path_functions.specs.Patterns.{before_builtin}
 use Rattle.serde_json_path_functions.specs.declared.error.QueryError.TheVariants.{Memory, Pattern}
 use Rattle.jsonpath_report.specs.declared.report.ReportError.TheVariants.{Query}
 use Rattle.jsonpath_report.proofs.Runs.{ok_before, pattern_before}
-use Rattle.jsonpath_report.proofs.report.report.Goals as goal
+use Rattle.jsonpath_report.proofs.report.report_in.Goals as goal
 
 pub returns-clause-lines : goal.returns-clause-lines
 returns-clause-lines g c =

@@ -1,0 +1,52 @@
+-- What the exports answer, and what they write.
+use Rattle.std.specs.Prelude.{◌≡◌, ◌≢◌, ◌<◌, ℕ, List, ◌++◌, drop, length, Err}
+use Rattle.serde_json_path.specs.Paths.{path_view}
+use Rattle.serde_json_path_functions.specs.Patterns.{builtin_functions}
+use Rattle.serde_json_path_parser.specs.Errors.{kind_of, position_of}
+use Rattle.serde_json_path_parser.specs.Parse.{IsParseOf}
+use Rattle.serde_json_path_parser.specs.declared.error.ParseError.{ParseError}
+use Rattle.serde_json_path_parser.specs.declared.error.ParseErrorKind.{ParseErrorKind}
+use Rattle.serde_json_path_parser.specs.declared.error.ParseErrorKind.TheVariants.{ExpectedRoot, BadMemberName, ExpectedClosingBracket, ExpectedEndingQuote, BadEscape, ControlCharacter, ExpectedSelector, IntegerOutOfRange, ExponentOrEmptyFraction, NumberOutOfRange, ExpectedExpression, ExpectedClosingParenthesis, ExpectedComparisonOperator, NonSingularQuery, UndefinedFunction, WrongNumberOfArguments, WrongArgumentType, WrongReturnType, NestedTooDeep, TextAfterPath, FractionTooLong, NoMemory}
+use Rattle.jsonpath_c.specs.declared.refusal.Refusal.{Refusal}
+
+-- A text is put: it is the first bytes of what is there then, the others are as before, and the size is its own.
+abbrev pub IsPut : List ℕ → List ℕ → List ℕ → ℕ → Type 0
+IsPut text old new size = (new ≡ text ++ drop (length text) old) × (size ≡ length text)
+
+-- A text finds no room: what is there is shorter than the text, and the size is the text's.
+abbrev pub FindsNoRoom : List ℕ → List ℕ → ℕ → Type 0
+FindsNoRoom text old size = (length old < length text) × (size ≡ length text)
+
+-- the number of a kind of refusal; want of memory is no refusal
+abbrev pub number_of : ParseErrorKind → ℕ
+number_of ExpectedRoot = 1
+number_of BadMemberName = 2
+number_of ExpectedClosingBracket = 3
+number_of ExpectedEndingQuote = 4
+number_of BadEscape = 5
+number_of ControlCharacter = 6
+number_of ExpectedSelector = 7
+number_of IntegerOutOfRange = 8
+number_of ExponentOrEmptyFraction = 9
+number_of NumberOutOfRange = 10
+number_of ExpectedExpression = 11
+number_of ExpectedClosingParenthesis = 12
+number_of ExpectedComparisonOperator = 13
+number_of NonSingularQuery = 14
+number_of UndefinedFunction = 15
+number_of WrongNumberOfArguments = 16
+number_of WrongArgumentType = 17
+number_of WrongReturnType = 18
+number_of NestedTooDeep = 19
+number_of TextAfterPath = 20
+number_of FractionTooLong = 21
+number_of NoMemory = 0
+
+-- what the parse answers of a text, under the built-in functions, is this refusal, which is not for want of memory
+abbrev pub IsRefusedWith : List ℕ → ParseError → Type 0
+IsRefusedWith path e = IsParseOf path_view builtin_functions.signature path (Err e) × (kind_of e ≢ NoMemory)
+
+-- a text is refused as a path, and this says why and where
+abbrev pub IsRefusalOf : List ℕ → Refusal → Type 0
+IsRefusalOf path refusal =
+    (e : ParseError) × IsRefusedWith path e × (refusal.kind ≡ number_of (kind_of e)) × (refusal.position ≡ position_of e)

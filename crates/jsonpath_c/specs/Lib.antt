@@ -1,0 +1,3 @@
+-- What contracts cite:
+-- Exports: what the exports answer, and what they write.
+pub mod Exports
