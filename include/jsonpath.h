@@ -60,11 +60,11 @@ struct jsonpath_refusal {
 };
 
 /* Whether a text is a path under the built-in functions: DONE, PATH_REFUSED, NO_MEMORY or NOT_UTF8. `*refusal` is written
- * with PATH_REFUSED alone. The path is looked at no more than 32 (path_length + 1) times. */
+ * with PATH_REFUSED alone. */
 uint8_t jsonpath_check(const uint8_t *path, size_t path_length, struct jsonpath_refusal *refusal);
 
-/* The message of a path's refusal, as `at position 4, text after the path`: DONE, NO_ROOM or NO_MEMORY; nothing (DONE, and
- * `*length` is 0) where the text is a path. NOT_UTF8 where it is no text. */
+/* The message of a path's refusal, as `text after the path`, without an end: DONE, NO_ROOM, NO_MEMORY or NOT_UTF8. Of a text
+ * that is a path it is empty. `out` and `*length` are written as by jsonpath_report. */
 uint8_t jsonpath_message(const uint8_t *path, size_t path_length, uint8_t *out, size_t out_length, size_t *length);
 
 /* For each node of the document that the path selects, in order, a line: its normalised path, a tab, the node as compact JSON,

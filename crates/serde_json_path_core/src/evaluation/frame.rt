@@ -46,6 +46,7 @@ pub(crate) struct Task<'b> {
 }
 
 /// The children that a selector chooses from.
+#[inline]
 fn choose<'b>(query: &Checked, selector_ref: SelectorRef<'_>, value: &'b Value) -> Cursor<'b>
     ensures { cursor_left result
         ≡ candidates (selector_view (nodes_in query.now) selector_ref.entry) (view value.now) }
@@ -76,6 +77,7 @@ fn open<'b>(query: &Checked, segment: Part, selector: usize, value: &'b Value) -
 }
 
 /// The children with which a segment begins.
+#[inline]
 fn begin<'b>(query: &Checked, segments: &[Part], number: usize, value: &'b Value) -> Cursor<'b>
     requires within { parts_bound segments.now ≤ length (nodes_in query.now) }
     requires typed { UnderSome AreTypedSegments (segments_at (nodes_in query.now) segments.now) }
@@ -90,6 +92,7 @@ fn begin<'b>(query: &Checked, segments: &[Part], number: usize, value: &'b Value
 
 impl<'b> Frame<'b> {
     /// The first frame of a walk.
+    #[inline]
     pub(crate) fn start(query: &Checked, segments: &[Part], value: &'b Value) -> Frame<'b>
         requires within { parts_bound segments.now ≤ length (nodes_in query.now) }
         requires typed { UnderSome AreTypedSegments (segments_at (nodes_in query.now) segments.now) }
