@@ -1,19 +1,12 @@
-//! Redaction: prints the JSON pointers of what is private in the JSON document on standard input, and then the document
-//! without it.
+//! Redaction: prints where e-mail addresses and cards are in the JSON document on standard input, as normalised paths and as
+//! JSON pointers, and then the document without them.
 #![tactic(auto)]
-
-ghost use Rattle.serde_json_path_functions.specs.Functions.{Fits};
-ghost use Rattle.serde_json_path_functions.specs.Patterns.{builtin_functions};
-ghost use Rattle.serde_json_path.specs.Paths.{path_signatures};
 
 use serde_json::Value;
 use serde_json_path::{JsonPath, ParseError, QueryError};
 use std::alloc::{AllocError, Global};
 use std::io;
 use thiserror::Error;
-
-/// What is private: e-mail addresses and cards, wherever they are.
-const PRIVATE: &str = "$..['email','card']";
 
 /// Why nothing was redacted.
 #[derive(Debug, Drop, Error)]
@@ -30,17 +23,6 @@ enum Failure {
     Memory(#[from(alloc)] AllocError),
 }
 
-/// The JSON pointers of the nodes that the path selects, in order, each once.
-fn pointers(alloc: Global, path: &JsonPath, document: &Value) -> Result<Vec<String>, QueryError>
-    requires { Fits builtin_functions (path_signatures path.now) }
-{
-    let mut pointers = Vec::new(alloc);
-    for location in path.query_located(alloc, document)?.dedup().locations() {
-        pointers.push(location.to_json_pointer(alloc)?)?;
-    }
-    Ok(pointers)
-}
-
 /// Puts a text in the place of the value at each pointer. A value within one that is gone already is passed over.
 fn redact(alloc: Global, document: &mut Value, pointers: &[String]) -> Result<(), AllocError> {
     for pointer in pointers {
@@ -55,10 +37,12 @@ fn main(rt: HostRuntime) -> Result<(), Failure> {
     let alloc = rt.alloc();
     let text = io::read_to_string(alloc, rt.stdin())?;
     let mut document = Value::from_str(alloc, text.as_str())?;
-    let path = JsonPath::parse(alloc, PRIVATE)?;
-    let pointers = pointers(alloc, &path, &document)?;
-    for pointer in &pointers {
-        println!(rt; "{pointer}")?;
+    let path = JsonPath::parse(alloc, "$..['email','card']")?;
+    let mut pointers = Vec::new(alloc);
+    for node in path.query_located(alloc, &document)?.dedup().iter() {
+        let pointer = node.location().to_json_pointer(alloc)?;
+        println!(rt; "{}\t{pointer}", node.location())?;
+        pointers.push(pointer)?;
     }
     redact(alloc, &mut document, &pointers)?;
     println!(rt; "{document}")?;
