@@ -47,7 +47,8 @@ fn parse(alloc: Global, text: &str, looks: &mut u128) -> Result<JsonPath, ParseE
     requires { 32 * (length text.now + 1) ≤ looks.old }
     ensures parse { IsParseOf path_view (before_builtin builtin_functions).signature text.now result }
     ensures fits { IfOk result (λ path. Fits (before_builtin builtin_functions) (path_signatures path)) }
-    ensures looks { looks.old ≤ looks.new + 32 * (length text.now + 1) }
+    ensures falls { looks.new ≤ looks.old }
+    ensures spends { looks.old ≤ looks.new + 32 * (length text.now + 1) }
 {
     let mut source = TextSource::new(text);
     let parsed = parse_source(alloc, &mut source, &Builtin);
