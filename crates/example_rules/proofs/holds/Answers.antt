@@ -1,4 +1,4 @@
-use Rattle.std.proofs.Common.{rules, ◌≡◌, ◌==◌, not, length, List, [], ◌∷◌, Option, Some, None, MatchOption, is_some, sym, ap, ◌∙◌}
+use Rattle.std.proofs.Common.{◌≡◌, ◌==◌, not, length, List, [], ◌∷◌, Option, Some, None, MatchOption, is_some, sym, ap, ◌∙◌}
 use lib.Dec.{eqb-suc-zero}
 use Rattle.serde_json_path_nodes.specs.Location.{Located}
 use Rattle.serde_json_path_nodes.specs.Views.{located}
