@@ -1,8 +1,8 @@
 //! A service that takes paths from strangers: reads a path from each line of standard input, and answers in a line.
 //!
 //! A path is accepted, and printed in its canonical form with the number of nodes that it selects in a document, or it is
-//! refused, with the position and the reason. Three bounds hold, whatever the lines are: on the looks at all paths together,
-//! on the nodes of each answer, and on the time of a parse, which goes by the looks.
+//! refused, with the position and the reason. Two bounds hold, whatever the lines are: on the looks at all paths together,
+//! and on the nodes that are counted for each.
 #![tactic(auto)]
 
 ghost use Rattle.std.specs.Prelude.{◌≤◌, ◌+◌, ◌*◌, length, IfOk};
