@@ -14,3 +14,5 @@ pub mod ComparedSides
 pub mod OperandLists
 -- what is so of an option whose case is known
 pub mod KnownCases
+-- logical expressions of one operand, which is a comparison
+pub mod SingleOperands

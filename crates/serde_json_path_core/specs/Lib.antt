@@ -46,6 +46,8 @@ pub mod SingleChildren
 pub mod ComparedValues
 -- what a comparison sees of its sides: the same of a literal and of a value that equals it
 pub mod Sides
+-- filters that are one comparison
+pub mod SingleComparisons
 -- what an evaluation goes by
 pub mod Scopes
 -- the words of the functions that evaluate

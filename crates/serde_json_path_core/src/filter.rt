@@ -7,3 +7,4 @@ mod equality;
 pub(crate) mod logic;
 mod plain;
 mod side;
+pub(crate) mod single_comparison;

@@ -132,8 +132,8 @@ evaluation::frame::Frame::next_task-returns-in-Some-peek-clause-found g t c =
     at-downward (Clear scope) (set_of scope) (top_of scope) stage (frame_view c.loop-selector_ref.self) (child_view c.in-Some-peek.child) here (sym c.segment_kind.ensures ∙ ap segment_kind_view c.in-Descendant.is)
     c.in-Some-peek.ensures
 
-pub evaluation::frame::next_passing-is_true-requires : goal.evaluation::frame::next_passing-is_true-requires
-evaluation::frame::next_passing-is_true-requires g t c =
+pub evaluation::frame::next_passing-is_true_by-requires : goal.evaluation::frame::next_passing-is_true_by-requires
+evaluation::frame::next_passing-is_true_by-requires g t c =
     let top = top_of c.args.scope.now in
     let child = child_view c.in-Some.child in
     let inside = ends-stand top (cursor_left c.args.cursor.now) (cursor_left c.loop-child.cursor) c.loop-child.invariant.1 c.requires.inside child (subst (IsIn child) (sym c.in-Some.ensures) (inl refl)) in
@@ -144,7 +144,7 @@ evaluation::frame::next_passing-returns-then-branch-clause-found g t c =
     let child = child_view c.in-Some.child in
     let left = cursor_left c.loop-child.cursor in
     let test = λ (x : Step × Data). computed.is_true (set_of c.args.scope.now) (top_of c.args.scope.now) (or_at (nodes_of c.args.scope.now) c.args.test) x.1 in
-    (c.in-Some.ensures, λ clear. ap (keep test) c.in-Some.ensures ∙ keep-yes test child (drop 1 left) (sym (c.in_ok-is_true.ensures.means clear) ∙ c.if-branch.true))
+    (c.in-Some.ensures, λ clear. ap (keep test) c.in-Some.ensures ∙ keep-yes test child (drop 1 left) (sym (c.in_ok-is_true_by.ensures.means clear) ∙ c.if-branch.true))
 
 pub evaluation::frame::next_passing-loop-child-smaller : goal.evaluation::frame::next_passing-loop-child-smaller
 evaluation::frame::next_passing-loop-child-smaller g t c =
@@ -159,7 +159,7 @@ evaluation::frame::next_passing-loop-child-preserved g t c =
     let before = c.loop-child.invariant in
     let test = λ (x : Step × Data). computed.is_true (set_of c.args.scope.now) (top_of c.args.scope.now) (or_at (nodes_of c.args.scope.now) c.args.test) x.1 in (
       λ clear.
-          before.0 clear ∙ ap (keep test) c.in-Some.ensures ∙ keep-no test child (drop 1 left) (sym (c.in_ok-is_true.ensures.means clear) ∙ c.if-branch.false) ∙ ap (keep test) (sym c.pass.ensures),
+          before.0 clear ∙ ap (keep test) c.in-Some.ensures ∙ keep-no test child (drop 1 left) (sym (c.in_ok-is_true_by.ensures.means clear) ∙ c.if-branch.false) ∙ ap (keep test) (sym c.pass.ensures),
       ends-trans _ _ _ before.1 (child ∷ [], c.in-Some.ensures ∙ ap (λ cs. child ∷ cs) (sym c.pass.ensures)),
     )
 

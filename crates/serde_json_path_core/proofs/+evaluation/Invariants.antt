@@ -26,6 +26,9 @@ use Rattle.serde_json_path_core.proofs.+evaluation.Given as goal
 abbrev pub decreases-filter::logic::is_true : goal.decreases-filter::logic::is_true
 decreases-filter::logic::is_true g l = 8 * l.expression.number + 5
 
+abbrev pub decreases-filter::logic::is_true_by : goal.decreases-filter::logic::is_true_by
+decreases-filter::logic::is_true_by g l = 8 * l.expression.number + 6
+
 abbrev pub decreases-filter::logic::all_true : goal.decreases-filter::logic::all_true
 decreases-filter::logic::all_true g l = 8 * l.expression.number + 5
 
@@ -72,7 +75,7 @@ abbrev pub decreases-evaluation::frame::next_admitted : goal.decreases-evaluatio
 decreases-evaluation::frame::next_admitted g l = 8 * selector_bound l.selector_ref + 3
 
 abbrev pub decreases-evaluation::frame::next_passing : goal.decreases-evaluation::frame::next_passing
-decreases-evaluation::frame::next_passing g l = 8 * l.test.number + 6
+decreases-evaluation::frame::next_passing g l = 8 * l.test.number + 7
 
 abbrev pub invariant-filter::logic::is_true-loop-part : goal.invariant-filter::logic::is_true-loop-part
 invariant-filter::logic::is_true-loop-part g l =

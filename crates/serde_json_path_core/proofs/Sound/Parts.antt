@@ -1,9 +1,9 @@
 -- What an evaluation stands on of a part, for the parts of that part.
-use Rattle.std.proofs.Common.{◌≡◌, ℕ, zero, suc, ◌<◌, ◌≤◌, List, [], ◌∷◌, ◌++◌, length, get_or, slice_get, Some, sym, subst, arith, ap, ◌∙◌}
+use Rattle.std.proofs.Common.{◌≡◌, ℕ, zero, suc, ◌<◌, ◌≤◌, List, [], ◌∷◌, ◌++◌, length, get_or, slice_get, Some, refl, sym, subst, arith, ap, ◌∙◌}
 use Rattle.std.proofs.lemmas.Option.{none-some, same_Some}
-use Rattle.serde_json_path_syntax.specs.Tree.{Query, query, Segments, segments_of, Segment, dot_name, dot_wildcard, long_hand, Selectors, no_selectors, selector, Selector, name, wildcard, Operator, Basic, relation, Comparable, Call, call}
+use Rattle.serde_json_path_syntax.specs.Tree.{Query, query, Segments, segments_of, Segment, dot_name, dot_wildcard, long_hand, Selectors, no_selectors, selector, Selector, name, wildcard, Operator, LogicalOr, no_or, or, no_and, and, Basic, relation, Comparable, Call, call}
 use Rattle.serde_json_path_functions.specs.Functions.{FunctionSet, Signature, Kind, Fits}
-use Rattle.serde_json_path_syntax.specs.Typing.{IsTyped, AreTypedSegments, IsTypedSegment, AreTypedSelectors, IsTypedSelector, IsTypedOr, IsTypedAnd, IsTypedBasic, IsTypedCall, AreTypedArguments}
+use Rattle.serde_json_path_syntax.specs.Typing.{IsTyped, AreTypedSegments, IsTypedSegment, AreTypedSelectors, IsTypedSelector, IsTypedOr, IsTypedAnd, IsTypedBasic, IsTypedComparable, IsTypedCall, AreTypedArguments}
 use Rattle.serde_json_path_syntax.specs.Calls.{EachCall, arguments_of, calls_of, calls_in_segments, calls_in_segment, calls_in_selectors, calls_in_selector, calls_in_or, calls_in_and, calls_in_basic, calls_in_comparable, calls_from, calls_in_arguments, calls_in_argument, name_of}
 use Rattle.serde_json_path_syntax.specs.Lists.{IsIn}
 use Rattle.serde_json_path_syntax.specs.PartBounds.{parts_bound}
@@ -95,6 +95,16 @@ module _ (F : FunctionSet) (q : Query) where
   sound-basic ps [] i d h s = absurd (omega (arith, h))
   sound-basic ps (p ∷ parts) zero d h s = (s.0.0, (both-calls q _ _ s.1).0)
   sound-basic ps (p ∷ parts) (suc i) d h s = sound-basic ps parts i d (omega (arith, h)) (s.0.1, (both-calls q _ _ s.1).1)
+
+  -- both sides of the comparison of which an expression consists
+  pub sound-sides : (e : LogicalOr) (x : Comparable) (op : Operator) (y : Comparable) → e ≡ or (and (relation x op y) no_and) no_or
+      → IsSound F q IsTypedOr calls_in_or e → IsSound F q IsTypedComparable calls_in_comparable x × IsSound F q IsTypedComparable calls_in_comparable y
+  sound-sides e x op y is sound =
+      let s = subst (IsSound F q IsTypedOr calls_in_or) is sound in
+      let in_and = (both-calls q (calls_in_and (and (relation x op y) no_and)) (calls_in_or no_or) s.1).0 in
+      let in_basic = (both-calls q (calls_in_basic (relation x op y)) (calls_in_and no_and) in_and).0 in
+      let sides = side-calls q x op y (relation x op y) refl in_basic in
+      ((s.0.0.0.0, sides.0), (s.0.0.0.1, sides.1))
 
   sound-bracketed : (sels : Selectors) (n : ℕ) (sel : Selector) → slice_get (selectors_list sels) n ≡ Some sel
       → IsSound F q AreTypedSelectors calls_in_selectors sels → IsSound F q IsTypedSelector calls_in_selector sel

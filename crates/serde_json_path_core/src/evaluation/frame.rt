@@ -19,7 +19,8 @@ ghost use Rattle.serde_json_path_functions.specs.declared.error.QueryError.TheVa
 use crate::child::{Child, item, member};
 use crate::evaluation::cursor::Cursor;
 use crate::evaluation::scope::Scope;
-use crate::filter::logic::is_true;
+use crate::filter::logic::is_true_by;
+use crate::filter::single_comparison::single_comparison;
 use serde_json::Value;
 use serde_json_path_functions::{Functions, QueryError};
 use serde_json_path_nodes::PathElement;
@@ -224,8 +225,9 @@ fn next_passing<'b, F: Functions>(
         (cursor_left cursor.new) (option_map child_view found)) }
     ensures refused { IfErr result (λ e. WithoutPatterns scope.now → e ≡ Memory) }
 {
+    let comparison = single_comparison(scope, test);
     while let Some(child) = cursor.peek() {
-        if is_true(scope, test, child.value)? {
+        if is_true_by(scope, test, comparison.as_ref(), child.value)? {
             return Ok(Some(child));
         }
         cursor.pass();

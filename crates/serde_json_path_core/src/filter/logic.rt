@@ -9,6 +9,7 @@ ghost use Rattle.serde_json_path_core.specs.Meaning.{first_value};
 ghost use Rattle.serde_json_path_syntax.specs.PartBounds.{parts_bound};
 ghost use Rattle.serde_json_path_core.specs.ComparedValues.{compared_view};
 ghost use Rattle.serde_json_path_core.specs.SingleChildren.{values_reached};
+ghost use Rattle.serde_json_path_core.specs.SingleComparisons.{IsComparisonOf};
 ghost use Rattle.serde_json_path_core.specs.Scopes.{Clear, WithoutPatterns, nodes_of, set_of, top_of};
 ghost use Rattle.serde_json_path_functions.specs.declared.error.QueryError.TheVariants.{Memory};
 
@@ -21,6 +22,7 @@ use crate::filter::call::{answer, answer_holds, compared_answer};
 use crate::filter::compare::compare;
 use crate::filter::compared_value::ComparedValue;
 use crate::filter::plain::plain_relation;
+use crate::filter::single_comparison::{SingleComparison, decided};
 use serde_json::Value;
 use serde_json_path_functions::{FunctionValue, Functions, QueryError};
 use serde_json_path_syntax::{Basic, Comparable, ComparisonOperator, Literal, Node, Part};
@@ -46,6 +48,31 @@ pub(crate) fn is_true<'b, F: Functions>(
         }
     }
     Ok(false)
+}
+
+/// The same, where the comparison of which the expression consists, if it does, is at hand.
+#[cycle(evaluation)]
+#[inline(always)]
+pub(crate) fn is_true_by<'b, F: Functions>(
+    scope: &Scope<'_, 'b, F>,
+    expression: Part,
+    comparison: Option<&SingleComparison<'_>>,
+    value: &'b Value,
+) -> Result<bool, QueryError>
+    requires below { expression.number < length (nodes_of scope.now) }
+    requires sound { SoundOr scope.now expression }
+    requires single { IfSome comparison (λ c. IsComparisonOf scope.now c.now expression) }
+    requires inside { StandsIn (top_of scope.now) (view value.now) }
+    ensures means { IfOk result (λ holds.
+        Clear scope.now → holds ≡ or_holds scope.now expression (view value.now)) }
+    ensures refused { IfErr result (λ e. WithoutPatterns scope.now → e ≡ Memory) }
+{
+    if let Some(comparison) = comparison {
+        if let Some(holds) = decided(scope, comparison, value) {
+            return Ok(holds);
+        }
+    }
+    is_true(scope, expression, value)
 }
 
 /// Whether all operands of `&&` hold.
@@ -86,11 +113,13 @@ fn basic_true<'b, F: Functions>(
         Clear scope.now → holds ≡ basic_holds scope.now expression (view value.now)) }
     ensures refused { IfErr result (λ e. WithoutPatterns scope.now → e ≡ Memory) }
 {
-    if let Node::Basic(Basic::Relation {
-        left,
-        operator,
-        right,
-    }) = scope.query.node(expression)
+    if let Node::Basic(
+        Basic::Relation {
+            left,
+            operator,
+            right,
+        },
+    ) = scope.query.node(expression)
     {
         if let Some(holds) = plain_relation(scope, *left, *operator, *right, value) {
             return Ok(holds);

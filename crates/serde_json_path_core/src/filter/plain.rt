@@ -17,7 +17,7 @@ use serde_json_path_syntax::{Comparable, ComparisonOperator, Literal, Node, Part
 
 /// A literal, or the value to which single children lead, by its kind; `None` for a call, and for any other query.
 #[inline(always)]
-fn plain_side<'x, 'q: 'x, 'b: 'x, F: Functions>(
+pub(crate) fn plain_side<'x, 'q: 'x, 'b: 'x, F: Functions>(
     scope: &Scope<'q, 'b, F>,
     comparable: Part,
     value: &'b Value,
