@@ -23,10 +23,13 @@ pub use check::{jsonpath_check, jsonpath_message};
 pub use lines::{jsonpath_locations, jsonpath_report, jsonpath_values};
 pub use refusal::Refusal;
 
-/// The version: major * 10000 + minor * 100 + patch, of 0.7.2.
+/// The version, of 0.7.2.
+const VERSION: u32 = 702;
+
+/// The version: major * 10000 + minor * 100 + patch.
 #[unsafe(no_mangle)]
 pub extern "C" fn jsonpath_version() -> u32
     ensures { result ≡ 702 }
 {
-    702
+    VERSION
 }

@@ -1,6 +1,6 @@
 //! The lines of reports, and refusals of paths and documents.
 
-use jsonpath_report::report::report;
+use jsonpath_report::report::{LineForm, report, report_in};
 use serde_json_path::functions::Builtin;
 use std::alloc::{AllocError, Global};
 use std::process::Abort;
@@ -96,6 +96,37 @@ fn reports_each(rt: &impl Abort, alloc: Global, rows: &[(&str, &str, &str)]) -> 
 #[test]
 fn lines_of_paths(rt: HostRuntime) -> Result<(), Fail> {
     reports_each(&rt, rt.alloc(), LINES)
+}
+
+/// A path, a document, the lines of its locations, and those of its values.
+const HALVES: &[(&str, &str, &str, &str)] = &[
+    ("$", "null", "$\n", "null\n"),
+    ("$.a", "[]", "", ""),
+    (
+        "$[*]",
+        "[false,-7,2.5]",
+        "$[0]\n$[1]\n$[2]\n",
+        "false\n-7\n2.5\n",
+    ),
+    (
+        "$['a','a']",
+        r#"{"a":["\t"]}"#,
+        "$['a']\n$['a']\n",
+        "[\"\\t\"]\n[\"\\t\"]\n",
+    ),
+];
+
+#[test]
+fn locations_alone_and_values_alone(rt: HostRuntime) -> Result<(), Fail> {
+    let alloc = rt.alloc();
+    for &(path, document, locations, values) in HALVES {
+        let bytes = document.as_bytes();
+        let text = report_in(alloc, LineForm::Location, path, bytes, &Builtin)?;
+        tells(&rt, text.as_str(), locations, path);
+        let text = report_in(alloc, LineForm::Value, path, bytes, &Builtin)?;
+        tells(&rt, text.as_str(), values, path);
+    }
+    Ok(())
 }
 
 /// A path, the bytes of a document, and the text of the refusal.
