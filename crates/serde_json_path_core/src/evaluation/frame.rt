@@ -47,7 +47,6 @@ pub(crate) struct Task<'b> {
 }
 
 /// The children that a selector chooses from.
-#[inline]
 fn choose<'b>(query: &Checked, selector_ref: SelectorRef<'_>, value: &'b Value) -> Cursor<'b>
     ensures { cursor_left result
         ≡ candidates (selector_view (nodes_in query.now) selector_ref.entry) (view value.now) }
@@ -78,7 +77,6 @@ fn open<'b>(query: &Checked, segment: Part, selector: usize, value: &'b Value) -
 }
 
 /// The children with which a segment begins.
-#[inline]
 fn begin<'b>(query: &Checked, segments: &[Part], number: usize, value: &'b Value) -> Cursor<'b>
     requires within { parts_bound segments.now ≤ length (nodes_in query.now) }
     requires typed { UnderSome AreTypedSegments (segments_at (nodes_in query.now) segments.now) }
@@ -93,7 +91,6 @@ fn begin<'b>(query: &Checked, segments: &[Part], number: usize, value: &'b Value
 
 impl<'b> Frame<'b> {
     /// The first frame of a walk.
-    #[inline]
     pub(crate) fn start(query: &Checked, segments: &[Part], value: &'b Value) -> Frame<'b>
         requires within { parts_bound segments.now ≤ length (nodes_in query.now) }
         requires typed { UnderSome AreTypedSegments (segments_at (nodes_in query.now) segments.now) }

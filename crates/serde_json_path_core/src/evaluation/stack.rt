@@ -57,7 +57,6 @@ pub(crate) fn located_at<'b>(
 }
 
 /// Passes the next task of the last frame.
-#[inline]
 fn pass_last<'b>(frames: &mut Vec<Frame<'b>>)
     requires { 0 < length frames.old.items }
     ensures { frames_view frames.new.items ≡ last_passed (frames_view frames.old.items) }
@@ -67,7 +66,6 @@ fn pass_last<'b>(frames: &mut Vec<Frame<'b>>)
 }
 
 /// Passes the node that a walk has come to.
-#[inline]
 pub(crate) fn pass_found<'b>(frames: &mut Vec<Frame<'b>>, found: Found<'b>)
     requires { 0 < length frames.old.items }
     ensures { frames_view frames.new.items

@@ -62,17 +62,26 @@ pub(crate) fn is_true_by<'b, F: Functions>(
     requires below { expression.number < length (nodes_of scope.now) }
     requires sound { SoundOr scope.now expression }
     requires single { IfSome comparison (λ c. IsComparisonOf scope.now c.now expression) }
+    requires parts { IfSome comparison (λ c. (c.now.left.number < expression.number)
+        × (c.now.right.number < expression.number)) }
     requires inside { StandsIn (top_of scope.now) (view value.now) }
     ensures means { IfOk result (λ holds.
         Clear scope.now → holds ≡ or_holds scope.now expression (view value.now)) }
     ensures refused { IfErr result (λ e. WithoutPatterns scope.now → e ≡ Memory) }
 {
-    if let Some(comparison) = comparison {
-        if let Some(holds) = decided(scope, comparison, value) {
-            return Ok(holds);
-        }
+    let Some(comparison) = comparison else {
+        return is_true(scope, expression, value);
+    };
+    match decided(scope, comparison, value) {
+        Some(holds) => Ok(holds),
+        None => relation_true(
+            scope,
+            comparison.left,
+            comparison.operator,
+            comparison.right,
+            value,
+        ),
     }
-    is_true(scope, expression, value)
 }
 
 /// Whether all operands of `&&` hold.

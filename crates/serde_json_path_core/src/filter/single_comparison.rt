@@ -61,7 +61,9 @@ pub(crate) fn single_comparison<'x, 'q: 'x, 'b: 'x, F: Functions>(
 ) -> Option<SingleComparison<'x>>
     requires below { test.number < length (nodes_of scope.now) }
     requires sound { SoundOr scope.now test }
-    ensures { IfSome result (λ comparison. IsComparisonOf scope.now comparison test) }
+    ensures single { IfSome result (λ comparison. IsComparisonOf scope.now comparison test) }
+    ensures parts { IfSome result (λ comparison.
+        (comparison.left.number < test.number) × (comparison.right.number < test.number)) }
 {
     let [operands] = scope.query.or_parts(test) else {
         return None;

@@ -1,5 +1,7 @@
-use Rattle.std.proofs.Common.{◌≡◌, ℕ, Err, Ok, ap, sym, ◌∙◌}
+use Rattle.std.proofs.Common.{◌≡◌, ◌≢◌, ℕ, Err, Ok, rules, sym, ◌∙◌}
 use Rattle.serde_json_path_functions.specs.declared.error.QueryError.TheVariants.{Pattern}
+use Rattle.serde_json_path_parser.specs.Errors.{kind_of}
+use Rattle.serde_json_path_parser.specs.declared.error.ParseErrorKind.TheVariants.{NoMemory}
 use Rattle.jsonpath_report.specs.declared.report.ReportError.TheVariants.{Path, Query}
 use Rattle.jsonpath_c.proofs.Reported.{report_by_itself, no_path_before_itself, refusal_by_itself, pattern_by_itself}
 use Rattle.jsonpath_c.proofs.lines.lines.Goals as goal
@@ -26,19 +28,23 @@ returns-in-Ok-report_in-clause-path_first c = λ utf8 none.
 
 pub returns-in-Err-Path-clause-path_refused : goal.returns-in-Err-Path-clause-path_refused
 returns-in-Err-Path-clause-path_refused c = λ one.
-    let stored = λ memory. let no : ◌≡◌ {A = ℕ} 1 4 = sym one ∙ (c.refuse.ensures.memory memory).0 in cc in
+    let refused : c.report_in.result ≡ Err (Path c.in-Err-Path.e) = search rules in
+    let stored : kind_of c.in-Err-Path.e ≢ NoMemory = λ memory. let no : ◌≡◌ {A = ℕ} 1 4 = sym one ∙ (c.refuse.ensures.memory memory).0 in cc in
     let told = c.refuse.ensures.refused stored in (
       c.in-Err-Path.e,
-      (refusal_by_itself _ _ _ c.in-Ok.ensures.cases.0 (c.report_in.ensures.path_refused c.in-Err-Path.e c.in-Err-Path.is), stored),
-      told.1.0,
-      told.1.1,
+      (refusal_by_itself _ _ _ c.in-Ok.ensures.cases.0 (c.report_in.ensures.path_refused c.in-Err-Path.e refused), stored),
+      told.1,
+      told.2,
     )
 
 pub returns-in-Err-Query-Pattern-clause-path_first : goal.returns-in-Err-Query-Pattern-clause-path_first
 returns-in-Err-Query-Pattern-clause-path_first c = λ utf8 none.
     let (e, told) = c.report_in.ensures.path_first (no_path_before_itself _ _ c.in-Ok.ensures.cases.0 none) in
-    let no : Err (Query Pattern) ≡ Err (Path e) = sym c.in-Err-Query-Pattern.is ∙ told in
+    let refused : c.report_in.result ≡ Err (Query Pattern) = search rules in
+    let no : Err (Query Pattern) ≡ Err (Path e) = sym refused ∙ told in
     absurd cc
 
 pub returns-in-Err-Query-Pattern-clause-pattern_refused : goal.returns-in-Err-Query-Pattern-clause-pattern_refused
-returns-in-Err-Query-Pattern-clause-pattern_refused c = λ three. pattern_by_itself _ _ c.in-Ok.ensures.cases.0 (c.report_in.ensures.pattern_refused c.in-Err-Query-Pattern.is)
+returns-in-Err-Query-Pattern-clause-pattern_refused c = λ three.
+    let refused : c.report_in.result ≡ Err (Query Pattern) = search rules in
+    pattern_by_itself _ _ c.in-Ok.ensures.cases.0 (c.report_in.ensures.pattern_refused refused)

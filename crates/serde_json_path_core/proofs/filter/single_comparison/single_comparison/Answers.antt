@@ -51,8 +51,8 @@ fixed_side-fixed_right-requires-clause-sound g c =
     c.or_parts.ensures.tree c.and_parts.ensures.tree is_basic in
     (sound-sides (set_of scope) (query_of scope) (or_at nodes c.args.test) x op y is c.requires.sound).1
 
-pub returns-in-Basic-Relation : goal.returns-in-Basic-Relation
-returns-in-Basic-Relation g c =
+pub returns-in-Basic-Relation-clause-single : goal.returns-in-Basic-Relation-clause-single
+returns-in-Basic-Relation-clause-single g c =
     let scope = c.args.scope.now in
     let nodes = nodes_of scope in
     let x = comparable_at nodes c.in-Basic-Relation.left in
@@ -77,3 +77,10 @@ returns-in-Basic-Relation g c =
       c.fixed_side-fixed_left.ensures,
       c.fixed_side-fixed_right.ensures,
     )
+
+pub returns-in-Basic-Relation-clause-parts : goal.returns-in-Basic-Relation-clause-parts
+returns-in-Basic-Relation-clause-parts g c =
+    let d : Part = record { number = 0 } in
+    let in_or = within_get c.or_parts.result.now 0 d c.in-len1.len_at_least in
+    let in_and = within_get c.and_parts.result.now 0 d c.in-len1-and_parts.len_at_least in
+    (grind (arith, common_steps), grind (arith, common_steps))
