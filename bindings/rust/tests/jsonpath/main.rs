@@ -1,0 +1,18 @@
+//! What the crate answers, row by row, alone and from several threads at once.
+
+mod hostile;
+mod refusals;
+mod rows;
+
+use std::thread;
+
+#[test]
+fn several_threads_at_once() {
+    thread::scope(|scope| {
+        for _ in 0..4 {
+            scope.spawn(rows::all);
+            scope.spawn(refusals::all);
+            scope.spawn(hostile::all);
+        }
+    });
+}
