@@ -66,6 +66,15 @@ fn paths_that_nest() {
     assert_eq!(error.position(), 3 * 128 + 3);
 }
 
+/// The path and the document that need the most of the stack.
+pub fn deepest() {
+    let pattern = "(".repeat(248) + "a" + &")".repeat(248);
+    let filters = ("[?@".repeat(126), "]".repeat(126));
+    let deep = format!("${}[?search(@, '{pattern}')]{}", filters.0, filters.1);
+    let document = "[".repeat(127) + "\"a\"" + &"]".repeat(127);
+    assert_eq!(path(&deep).query(document.as_bytes()).unwrap().len(), 1);
+}
+
 fn paths_with_nul() {
     let error = JsonPath::parse("\0").unwrap_err();
     assert_eq!(

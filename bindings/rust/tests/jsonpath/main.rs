@@ -16,3 +16,9 @@ fn several_threads_at_once() {
         }
     });
 }
+
+#[test]
+fn a_stack_of_1_mb() {
+    let thread = thread::Builder::new().stack_size(1 << 20);
+    thread.spawn(hostile::deepest).unwrap().join().unwrap();
+}
