@@ -18,7 +18,7 @@ int main(int count, char **words) {
     if (!document) return fprintf(stderr, "no memory\n"), 3;
 
     struct jsonpath_refusal refusal;
-    room = 4096;
+    room = read + 4096;
     uint8_t *lines = malloc(room), status = JSONPATH_NO_MEMORY;
     if (lines) status = jsonpath_report(path, path_length, document, read, lines, room, &length, &refusal);
     if (status == JSONPATH_NO_ROOM) { /* `length` says how much it takes. */

@@ -19,9 +19,9 @@ for call in LIBRARY.jsonpath_report, LIBRARY.jsonpath_values, LIBRARY.jsonpath_l
 
 def lines(call, path, document, room=4096):
     """The status of a call for lines, its lines and its refusal. It is called again where the lines need more room."""
-    out, length, refusal = ctypes.create_string_buffer(max(room, 1)), ctypes.c_size_t(), Refusal()
-    status = call(path, len(path), document, len(document), out, room, length, refusal)
-    return lines(call, path, document, length.value) if status == NO_ROOM else (status, out.raw[: length.value], refusal)
+    out, length, refusal = ctypes.create_string_buffer(len(document) + room), ctypes.c_size_t(), Refusal()
+    status = call(path, len(path), document, len(document), out, len(out), length, refusal)
+    return lines(call, path, document, length.value) if status == NO_ROOM else (status, out[: length.value], refusal)
 
 
 if __name__ == "__main__":

@@ -89,18 +89,17 @@ impl JsonPath {
         self.lines(Form::LocationAndValue, document)
     }
 
-    /// The lines in a form. A first call finds room for short ones, and says how much a second one needs.
+    /// The lines in a form. The first call has room for more than the document; a second one for what the first says it needs.
     fn lines(&self, form: Form, document: &[u8]) -> Result<String, QueryError> {
-        let mut first = [0; 4096];
-        match ffi::lines(form, &self.text, document, &mut first) {
-            Answer::NoRoom(length) => {
-                let mut out = vec![0; length];
-                let answer = ffi::lines(form, &self.text, document, &mut out);
-                out.truncate(written(answer)?);
-                Ok(text(out))
-            }
-            answer => Ok(text(first[..written(answer)?].to_vec())),
+        let mut out = vec![0; document.len() + 4096];
+        let mut answer = ffi::lines(form, &self.text, document, &mut out);
+        if let Answer::NoRoom(length) = answer {
+            out = vec![0; length];
+            answer = ffi::lines(form, &self.text, document, &mut out);
         }
+        out.truncate(written(answer)?);
+        out.shrink_to_fit();
+        Ok(String::from_utf8(out).expect("the engine writes UTF-8"))
     }
 }
 
@@ -115,11 +114,6 @@ fn written(answer: Answer) -> Result<usize, QueryError> {
             unreachable!("the path was accepted, and the same call needs the same room")
         }
     }
-}
-
-/// What the engine wrote, as a text.
-fn text(bytes: Vec<u8>) -> String {
-    String::from_utf8(bytes).expect("the engine writes UTF-8")
 }
 
 impl fmt::Display for JsonPath {

@@ -112,16 +112,15 @@ fn large_documents() {
     assert_eq!(error, QueryError::Document);
 }
 
-/// Answers about as long as the buffer of the first call.
-fn answers_at_the_first_buffer() {
-    for length in 4090..4100 {
+/// Answers about as long as the room of the first call.
+fn answers_of_the_first_room() {
+    for length in 4080..4110 {
         let text = format!("\"{}\"", "x".repeat(length));
-        let nodes = path("$").query(text.as_bytes()).unwrap();
-        assert_eq!(nodes.iter().collect::<Vec<_>>(), [&text]);
-        assert_eq!(
-            path("$").report(text.as_bytes()).unwrap(),
-            format!("$\t{text}\n")
-        );
+        let document = format!("[{text}]");
+        let nodes = path("$[0,0]").query(document.as_bytes()).unwrap();
+        assert_eq!(nodes.iter().collect::<Vec<_>>(), [&text, &text]);
+        let report = path("$[0,0]").report(document.as_bytes()).unwrap();
+        assert_eq!(report, format!("$[0]\t{text}\n").repeat(2));
     }
 }
 
@@ -149,7 +148,7 @@ pub fn all() {
     paths_that_nest();
     paths_with_nul();
     large_documents();
-    answers_at_the_first_buffer();
+    answers_of_the_first_room();
     patterns();
 }
 
