@@ -1,20 +1,39 @@
+SOURCES := $(shell find crates -path '*/out' -prune -o -type f -print)
+
 # The program, proved and built.
-bin/jsonpath: $(shell find crates -path '*/out' -prune -o -type f -print)
+bin/jsonpath: $(SOURCES)
 	cd crates/jsonpath && printf null | rt run -- '$$' > /dev/null
 	mkdir -p bin
 	cp crates/jsonpath/out/jsonpath bin/jsonpath
 
-.PHONY: check test documents refused-memory clean
+# The static library for programs in C, proved and built, and the toolchain's C library beside it.
+bindings/lib/libjsonpath_c.a: $(SOURCES)
+	cd crates/jsonpath_c && rt lib
+	mkdir -p bindings/lib
+	cp "$$(dirname "$$(rt doc)")/c/liblibc_c.a" crates/jsonpath_c/out/libjsonpath_c.a bindings/lib/
+
+.PHONY: bindings test-bindings check test documents refused-memory clean
+
+# The static library and what is made of it: the Rust crate, the programs in C, and a shared library for Python.
+bindings: bindings/lib/libjsonpath_c.a
+	bindings/build
+
+# Tests the bindings, once they are built.
+test-bindings:
+	bindings/lacking
+	$(MAKE) bindings
+	bindings/test
 
 # Proves each crate, lowest first, over what earlier checks kept.
 check:
 	rt all check
 
-# The whole gate: each proof from nothing, each test, and each edit that must be refused; and then the documents, by the
-# program that the gate has built.
+# The whole gate: each proof from nothing, each test, and each edit that must be refused; then the documents, by the program
+# that the gate has built; and then the bindings.
 test:
 	rt ci
 	tools/check_documents
+	$(MAKE) test-bindings
 
 # Runs each command that the documents show, and looks for each of their snippets in the code.
 documents: bin/jsonpath
@@ -24,6 +43,6 @@ documents: bin/jsonpath
 refused-memory:
 	tools/refuse_memory
 
-# Removes the program, and what checks kept.
+# Removes the program, the bindings, and what checks kept.
 clean:
-	rm -rf bin crates/*/out
+	rm -rf bin bindings/lib bindings/rust/target bindings/c/build crates/*/out

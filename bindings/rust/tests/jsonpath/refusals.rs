@@ -1,0 +1,167 @@
+//! Refusals of paths.
+
+use jsonpath::ParseErrorKind::*;
+use jsonpath::{JsonPath, ParseErrorKind};
+use std::error::Error;
+
+/// A path, and the kind, the position and the message of its refusal.
+const REFUSALS: &[(&str, ParseErrorKind, usize, &str)] = &[
+    ("", ExpectedRoot, 1, "expected '$'"),
+    ("x", ExpectedRoot, 1, "expected '$'"),
+    (
+        "$.",
+        BadMemberName,
+        3,
+        "in dot member name, must start with a letter, '_' or a non-ASCII character",
+    ),
+    (
+        "$..",
+        BadMemberName,
+        4,
+        "must start with a letter, '_' or a non-ASCII character",
+    ),
+    (
+        "$[?@.]",
+        BadMemberName,
+        6,
+        "in long-hand segment, must start with a letter, '_' or a non-ASCII character",
+    ),
+    (
+        "$['a'",
+        ExpectedClosingBracket,
+        6,
+        "in long-hand segment, expected closing ']'",
+    ),
+    (
+        "$['a",
+        ExpectedEndingQuote,
+        5,
+        "in long-hand segment, expected an ending quote",
+    ),
+    (
+        "$['\\ud83d']",
+        BadEscape,
+        4,
+        "in long-hand segment, bad escape",
+    ),
+    (
+        "$['a\t']",
+        ControlCharacter,
+        5,
+        "in long-hand segment, control character in a string",
+    ),
+    (
+        "$[",
+        ExpectedSelector,
+        3,
+        "in long-hand segment, expected a selector",
+    ),
+    (
+        "$[9007199254740992]",
+        IntegerOutOfRange,
+        3,
+        "in long-hand segment, integer out of range",
+    ),
+    (
+        "$[?@ == 1.5e3]",
+        ExponentOrEmptyFraction,
+        9,
+        "in long-hand segment, exponent or empty fraction not supported",
+    ),
+    (
+        "$[?@ == 18446744073709551616]",
+        NumberOutOfRange,
+        9,
+        "in long-hand segment, number out of range",
+    ),
+    (
+        "$[?@.a == ]",
+        ExpectedExpression,
+        11,
+        "in long-hand segment, expected an expression",
+    ),
+    (
+        "$[?(@.a]",
+        ExpectedClosingParenthesis,
+        8,
+        "in long-hand segment, expected closing ')'",
+    ),
+    (
+        "$[?true]",
+        ExpectedComparisonOperator,
+        8,
+        "in long-hand segment, expected a comparison operator",
+    ),
+    (
+        "$[?@.* == 1]",
+        NonSingularQuery,
+        4,
+        "in long-hand segment, non-singular query in a comparison",
+    ),
+    (
+        "$[?first(@.*) == 4]",
+        UndefinedFunction,
+        4,
+        "in long-hand segment, undefined function",
+    ),
+    (
+        "$[?count() == 1]",
+        WrongNumberOfArguments,
+        4,
+        "in long-hand segment, wrong number of arguments",
+    ),
+    (
+        "$[?count(1) == 1]",
+        WrongArgumentType,
+        10,
+        "in long-hand segment, argument of the wrong type",
+    ),
+    (
+        "$[?length(@.author)]",
+        WrongReturnType,
+        4,
+        "in long-hand segment, function with incorrect return type used",
+    ),
+    ("$.a ", TextAfterPath, 4, "text after the path"),
+    ("$.a['b']tail", TextAfterPath, 9, "text after the path"),
+    (
+        "$[?@ == 0.0000000001]",
+        FractionTooLong,
+        9,
+        "in long-hand segment, fraction of more than 9 digits",
+    ),
+];
+
+/// Holds the refusal of a path to its row.
+fn refuses(path: &str, kind: ParseErrorKind, position: usize, message: &str) {
+    let error = JsonPath::parse(path).unwrap_err();
+    assert_eq!(error.kind(), kind, "{path}");
+    assert_eq!(error.position(), position, "{path}");
+    assert_eq!(error.message(), message, "{path}");
+    assert_eq!(
+        error.to_string(),
+        format!("at position {position}, {message}")
+    );
+    assert_eq!(error, error.clone());
+}
+
+/// Each row, and a path that is nested too deep.
+pub fn all() {
+    for (path, kind, position, message) in REFUSALS {
+        refuses(path, *kind, *position, message);
+    }
+    let deep = format!("$[?{}@{}]", "(".repeat(128), ")".repeat(128));
+    let message = "in long-hand segment, nested more than 128 deep";
+    refuses(&deep, NestedTooDeep, 131, message);
+}
+
+#[test]
+fn refusals() {
+    all();
+}
+
+#[test]
+fn errors_are_errors() {
+    let error: Box<dyn Error + Send + Sync> = Box::new("x".parse::<JsonPath>().unwrap_err());
+    assert_eq!(error.to_string(), "at position 1, expected '$'");
+}

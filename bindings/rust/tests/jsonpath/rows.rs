@@ -1,0 +1,171 @@
+//! Lines of paths and documents.
+
+use jsonpath::JsonPath;
+
+/// The bookstore of RFC 9535, section 1.5.
+pub const BOOKSTORE: &str = include_str!("../../../../examples/bookstore.json");
+
+/// Readings with messages, and a threshold.
+const READINGS: &str = r#"{"threshold":40,"readings":[{"val":35,"msg":"foo"},{"val":40,"msg":"bar"},
+    {"val":42,"msg":"biz"},{"val":48,"msg":"bop"}]}"#;
+
+/// A path, a document, and the lines that the path selects from it.
+const ROWS: &[(&str, &str, &str)] = &[
+    ("$", "null", "$\tnull\n"),
+    ("$", " [ ] ", "$\t[]\n"),
+    ("$", r#"{"b":1,"a":[true]}"#, "$\t{\"a\":[true],\"b\":1}\n"),
+    ("$", r#"{"a":1,"a":2}"#, "$\t{\"a\":2}\n"),
+    ("$[0]", "[1.5]", "$[0]\t1.5\n"),
+    (
+        "$[*]",
+        "[false,-7,18446744073709551615,-9223372036854775808]",
+        "$[0]\tfalse\n$[1]\t-7\n$[2]\t18446744073709551615\n$[3]\t-9223372036854775808\n",
+    ),
+    ("$[9007199254740991]", "[1]", ""),
+    ("$[-6]", "[1,2,3,4,5]", ""),
+    ("$[-1]", "[1,2,3,4,5]", "$[4]\t5\n"),
+    (
+        "$[5:1:-2]",
+        r#"["a","b","c","d","e","f","g"]"#,
+        "$[5]\t\"f\"\n$[3]\t\"d\"\n",
+    ),
+    ("$[::0]", "[1,2]", ""),
+    ("$['a','a']", r#"{"a":[1]}"#, "$['a']\t[1]\n$['a']\t[1]\n"),
+    ("$.é", r#"{"é":1}"#, "$['é']\t1\n"),
+    ("$['\\ud83d\\uDE00']", r#"{"😀":1}"#, "$['😀']\t1\n"),
+    (
+        "$.*",
+        r#"{"a'b\\\u000b\t\n\r":"\t\n\r"}"#,
+        "$['a\\'b\\\\\\u000b\\t\\n\\r']\t\"\\t\\n\\r\"\n",
+    ),
+    (
+        "$.*",
+        r#"{"\u0000":"\u0000"}"#,
+        "$['\\u0000']\t\"\\u0000\"\n",
+    ),
+    ("$.*", r#"{"":1}"#, "$['']\t1\n"),
+    (
+        "$..baz",
+        r#"{"foo":{"bar":{"baz":1},"baz":2},"baz":3}"#,
+        "$['baz']\t3\n$['foo']['baz']\t2\n$['foo']['bar']['baz']\t1\n",
+    ),
+    (
+        "$..[0,-1]",
+        "[[1]]",
+        "$[0]\t[1]\n$[0]\t[1]\n$[0][0]\t1\n$[0][0]\t1\n",
+    ),
+    (
+        "$[?@.a == @.b]",
+        r#"[{},{"a":1},{"a":1,"b":1}]"#,
+        "$[0]\t{}\n$[2]\t{\"a\":1,\"b\":1}\n",
+    ),
+    ("$[?@ == @]", "[1, 1.5]", "$[0]\t1\n"),
+    ("$[?@ != 1]", "[1, 1.5]", "$[1]\t1.5\n"),
+    ("$[?@ < 1.5]", "[1, 1.5]", "$[0]\t1\n"),
+    (
+        "$[?@ == 18446744073709551615]",
+        "[18446744073709551615]",
+        "$[0]\t18446744073709551615\n",
+    ),
+    (
+        "$[?@.a[?@ > $.min]]",
+        r#"{"min":3,"x":{"a":[1,5]},"y":{"a":[2]}}"#,
+        "$['x']\t{\"a\":[1,5]}\n",
+    ),
+    (
+        "$.readings[? @.val > $.threshold ].msg",
+        READINGS,
+        "$['readings'][2]['msg']\t\"biz\"\n$['readings'][3]['msg']\t\"bop\"\n",
+    ),
+    (
+        "$[?match(@,'a)|(b')]",
+        r#"["ax","xb","xbx"]"#,
+        "$[0]\t\"ax\"\n$[1]\t\"xb\"\n",
+    ),
+    ("$[?match(@,'(')]", r#"["("]"#, ""),
+    (
+        "$[?length(@) == 1]",
+        r#"["😀","ab",[0],{"k":1},7]"#,
+        "$[0]\t\"😀\"\n$[2]\t[0]\n$[3]\t{\"k\":1}\n",
+    ),
+    (
+        "$[?value(@..a) == 1]",
+        r#"[{"a":1},{"a":{"a":1}}]"#,
+        "$[0]\t{\"a\":1}\n",
+    ),
+    (
+        "$..[?@.price < 399.5]",
+        BOOKSTORE,
+        "$['store']['bicycle']\t{\"color\":\"red\",\"price\":399}\n",
+    ),
+    ("$..[?@.price<10]", BOOKSTORE, ""),
+    (
+        "$..book[?@.category == 'fiction' && match(@.author, '.*Mel.*')].title",
+        BOOKSTORE,
+        "$['store']['book'][2]['title']\t\"Moby Dick\"\n",
+    ),
+];
+
+/// Holds the three forms of an answer to its lines.
+fn selects(path: &str, document: &str, lines: &str) {
+    let parsed = JsonPath::parse(path).unwrap();
+    assert_eq!(parsed.report(document.as_bytes()).unwrap(), lines, "{path}");
+    let wanted: Vec<(&str, &str)> = lines
+        .lines()
+        .map(|line| line.split_once('\t').unwrap())
+        .collect();
+    let located = parsed.query_located(document.as_bytes()).unwrap();
+    let pairs: Vec<(&str, &str)> = located
+        .iter()
+        .map(|node| (node.location, node.json))
+        .collect();
+    assert_eq!(pairs, wanted, "{path}");
+    let nodes = parsed.query(document.as_bytes()).unwrap();
+    let values: Vec<&str> = nodes.iter().collect();
+    assert_eq!(
+        values,
+        wanted.iter().map(|pair| pair.1).collect::<Vec<_>>(),
+        "{path}"
+    );
+    assert_eq!(
+        (nodes.len(), located.len()),
+        (wanted.len(), wanted.len()),
+        "{path}"
+    );
+    assert_eq!(nodes.is_empty(), wanted.is_empty(), "{path}");
+    assert_eq!(located.is_empty(), wanted.is_empty(), "{path}");
+}
+
+/// Each row.
+pub fn all() {
+    for (path, document, lines) in ROWS {
+        selects(path, document, lines);
+    }
+}
+
+#[test]
+fn rows() {
+    all();
+}
+
+#[test]
+fn iterators_know_their_length() {
+    let path = JsonPath::parse("$[*]").unwrap();
+    let nodes = path.query(b"[1,2,3]").unwrap();
+    let mut iter = nodes.iter();
+    iter.next();
+    assert_eq!(iter.len(), 2);
+    assert_eq!((&nodes).into_iter().count(), 3);
+    let located = path.query_located(b"[1,2,3]").unwrap();
+    assert_eq!(located.iter().len(), 3);
+    assert_eq!((&located).into_iter().last().unwrap().location, "$[2]");
+}
+
+#[test]
+fn a_path_keeps_its_text() {
+    let path: JsonPath = "$[ 'a' ]".parse().unwrap();
+    assert_eq!(path.as_str(), "$[ 'a' ]");
+    assert_eq!(path.to_string(), "$[ 'a' ]");
+    assert_eq!(path, path.clone());
+    assert_ne!(path, JsonPath::parse("$['a']").unwrap());
+}
