@@ -13,6 +13,16 @@ typedef uint8_t lines_call(const uint8_t *, size_t, const uint8_t *, size_t, uin
 
 static int failures;
 
+/* How many requests for memory are granted. The linker puts these in the place of malloc and realloc (--wrap). */
+static size_t granted = SIZE_MAX;
+void *__real_malloc(size_t), *__real_realloc(void *, size_t);
+void *__wrap_malloc(size_t length) {
+    return granted && granted-- ? __real_malloc(length) : NULL;
+}
+void *__wrap_realloc(void *memory, size_t length) {
+    return granted && granted-- ? __real_realloc(memory, length) : NULL;
+}
+
 /* Prints what does not hold. */
 static void holds(int condition, const char *what, const char *path) {
     if (!condition) {
@@ -37,6 +47,8 @@ struct answer {
     struct jsonpath_refusal refusal;
 };
 
+static size_t grants = SIZE_MAX; /* `granted` during a call. */
+
 static struct answer lent(size_t room) {
     struct answer answer;
     memset(&answer, UNTOUCHED, sizeof answer);
@@ -55,8 +67,10 @@ static uint8_t *copied(const char *text, size_t length) {
 static struct answer asked(lines_call *call, const char *path, const char *document, size_t document_length, size_t room) {
     struct answer answer = lent(room);
     uint8_t *path_copy = copied(path, strlen(path)), *document_copy = copied(document, document_length);
+    granted = grants;
     answer.status = call(path_copy, strlen(path), document_copy, document_length, answer.out, room, &answer.length,
                          &answer.refusal);
+    granted = SIZE_MAX;
     free(path_copy), free(document_copy);
     int is_done = answer.status == JSONPATH_DONE, tells_length = is_done || answer.status == JSONPATH_NO_ROOM;
     holds(is_done || is_untouched(answer.out, room), "out is written", path);
@@ -116,6 +130,18 @@ static void refuses(const char *path, uint32_t kind, size_t position, const char
     free(answer.out);
 }
 
+/* Refuses memory from the first request on, from the second, and so on, until a call has enough. */
+static void runs_out(lines_call *call, const char *path, const char *document) {
+    uint8_t status = JSONPATH_NO_MEMORY;
+    for (grants = 0; status == JSONPATH_NO_MEMORY && grants < 1000; grants++) {
+        struct answer answer = asked(call, path, document, strlen(document), ROOM);
+        status = answer.status;
+        free(answer.out);
+    }
+    holds(status == JSONPATH_DONE && grants > 1, "status without memory", path);
+    grants = SIZE_MAX;
+}
+
 /* What is accepted, what is not UTF-8, and bytes of 0. */
 static void texts(void) {
     struct jsonpath_refusal refusal;
@@ -154,6 +180,9 @@ int main(void) {
     answers(JSONPATH_DOCUMENT_REFUSED, "$", "\"\xff\"", 3);
     answers(JSONPATH_QUERY_REFUSED, "$[?match(@, '\\\\w{1000}{10}')]", "[\"a\"]", 5);
     answers(JSONPATH_NOT_UTF8, "$\xff", "{", 1);
+    runs_out(jsonpath_report, "$..[?match(@.a, 'b*')]", "[{\"a\":\"bb\"},[1,2,3]]");
+    runs_out(jsonpath_values, "$[?@.a > 1.5, 'b']", "{\"b\":{\"a\":2}}");
+    runs_out(jsonpath_locations, "$..*", "{\"b\":{\"a\":2}}");
     texts();
     printf(failures ? "%d failed\n" : "all hold\n", failures);
     return failures != 0;

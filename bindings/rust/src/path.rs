@@ -91,16 +91,25 @@ impl JsonPath {
 
     /// The lines in a form. The first call has room for more than the document; a second one for what the first says it needs.
     fn lines(&self, form: Form, document: &[u8]) -> Result<String, QueryError> {
-        let mut out = vec![0; document.len() + 4096];
+        let mut out = room(document.len() + 4096)?;
         let mut answer = ffi::lines(form, &self.text, document, &mut out);
         if let Answer::NoRoom(length) = answer {
-            out = vec![0; length];
+            out = room(length)?;
             answer = ffi::lines(form, &self.text, document, &mut out);
         }
         out.truncate(written(answer)?);
         out.shrink_to_fit();
         Ok(String::from_utf8(out).expect("the engine writes UTF-8"))
     }
+}
+
+/// A buffer of so many bytes, if there is memory.
+fn room(length: usize) -> Result<Vec<u8>, QueryError> {
+    let mut out = Vec::new();
+    out.try_reserve_exact(length)
+        .map_err(|_| QueryError::NoMemory)?;
+    out.resize(length, 0);
+    Ok(out)
 }
 
 /// How many bytes a call wrote, or why none.
