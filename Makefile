@@ -8,7 +8,7 @@ bin/jsonpath: $(SOURCES)
 
 # The static library for programs in C, proved and built, and the toolchain's C library beside it.
 bindings/lib/libjsonpath_c.a: $(SOURCES)
-	cd crates/jsonpath_c && rt lib
+	tools/build_library
 	mkdir -p bindings/lib
 	cp "$$(dirname "$$(rt doc)")/c/liblibc_c.a" crates/jsonpath_c/out/libjsonpath_c.a bindings/lib/
 

@@ -1,5 +1,10 @@
 /* JSONPath (RFC 9535) over JSON texts, by the proved engine `serde_json_path`.
  *
+ * Nodes come in the order of RFC 9535, arrays by index and objects by the bytes of their names; a node that is selected twice
+ * comes twice. Of members of one name the last one counts. A number that is not held as a 64-bit integer (8.95, 4.0, 1e2) is found
+ * and printed, but equals nothing and is neither less nor greater than anything. Filters have the functions of RFC 9535, and no
+ * others.
+ *
  * Every call works on what it is handed, keeps nothing, and may run beside any other. A text is bytes and a length in
  * bytes, and needs no NUL at its end.
  *
@@ -64,7 +69,7 @@ struct jsonpath_refusal {
 uint8_t jsonpath_check(const uint8_t *path, size_t path_length, struct jsonpath_refusal *refusal);
 
 /* The message of a path's refusal, as `text after the path`, without an end: DONE, NO_ROOM, NO_MEMORY or NOT_UTF8. Of a text
- * that is a path it is empty. `out` and `*length` are written as by jsonpath_report. */
+ * that is a path it is empty; no message is longer than 100 bytes. `out` and `*length` are written as by jsonpath_report. */
 uint8_t jsonpath_message(const uint8_t *path, size_t path_length, uint8_t *out, size_t out_length, size_t *length);
 
 /* For each node of the document that the path selects, in order, a line: its normalised path, a tab, the node as compact JSON,
