@@ -1,9 +1,9 @@
 /* JSONPath (RFC 9535) over JSON texts, by the proved engine `serde_json_path`.
  *
- * Nodes come in the order of RFC 9535, arrays by index and objects by the bytes of their names; a node that is selected twice
- * comes twice. Of members of one name the last one counts. A number that is not held as a 64-bit integer (8.95, 4.0, 1e2) is found
- * and printed, but equals nothing and is neither less nor greater than anything. Filters have the functions of RFC 9535, and no
- * others.
+ * Nodes come in the order of RFC 9535, arrays by index and objects by the bytes of their names; a node that is selected
+ * twice comes twice. Of members of one name the last one counts. A number that is not held as a 64-bit integer (8.95, 4.0,
+ * 1e2) is found and printed, but equals nothing and is neither less nor greater than anything. Filters have the functions of
+ * RFC 9535, and no others.
  *
  * Every call works on what it is handed, keeps nothing, and may run beside any other. A text is bytes and a length in
  * bytes, and needs no NUL at its end.
@@ -76,8 +76,8 @@ uint8_t jsonpath_message(const uint8_t *path, size_t path_length, uint8_t *out, 
  * and a line feed.
  *
  * With DONE the lines are the first `*length` bytes of `out`. With NO_ROOM `*length` is how many bytes they are; call again
- * with that much. Whatever it answers but DONE, nothing of `out` is written, and whatever it answers but DONE and NO_ROOM, nothing
- * of `*length`. `*refusal` is written with PATH_REFUSED alone. The path is read first, then the document, then the query runs. */
+ * with that much. With any answer but DONE nothing of `out` is written, and with any but DONE and NO_ROOM nothing of
+ * `*length`. `*refusal` is written with PATH_REFUSED alone. The path is read first, then the document, then the query runs. */
 uint8_t jsonpath_report(const uint8_t *path, size_t path_length, const uint8_t *document, size_t document_length,
                         uint8_t *out, size_t out_length, size_t *length, struct jsonpath_refusal *refusal);
 
