@@ -1,5 +1,6 @@
 //! What a query selects: node by node, or as a list.
 
+pub(crate) mod child_values;
 pub(crate) mod cursor;
 pub(crate) mod frame;
 pub(crate) mod scope;

@@ -2,7 +2,7 @@
 use Rattle.std.specs.Prelude.{IfSome}
 use Rattle.std.specs.Borrow.{Bor}
 use Rattle.std.specs.Option.{option_map_or}
-use Rattle.std.proofs.Common.{◌≡◌, ℕ, ◌+◌, ◌<◌, List, [], ◌∷◌, ◌++◌, ◌-◌, ◌≤◌, map, take, drop, flat_map, length, get_or, arith, subst, inl, Option, Some, None, option_to_list, slice_get, refl, sym, ap, ◌∙◌}
+use Rattle.std.proofs.Common.{◌≡◌, ℕ, ◌+◌, ◌<◌, List, [], ◌∷◌, ◌++◌, ◌-◌, ◌≤◌, map, take, drop, flat_map, length, get_or, arith, subst, inl, Option, Some, None, option_to_list, slice_get, slice_index_or, refl, sym, ap, ◌∙◌}
 use Rattle.std.proofs.lemmas.Option.{none-some, same_Some}
 use Rattle.std.proofs.lemmas.List.{append-nil, drop_more, length-drop, take-append-drop, take_all}
 use Rattle.std.proofs.lemmas.List.Folds.{flat_map-map}
@@ -25,7 +25,7 @@ use Rattle.serde_json_path_syntax.specs.Lists.{IsIn}
 use Rattle.serde_json_path_nodes.specs.Location.{child_at}
 use Rattle.serde_json_path_core.proofs.Walks.FrameSteps.{candidates-of}
 use Rattle.serde_json_path_core.specs.Selected.{beneath}
-use Rattle.serde_json_path_core.specs.SingleChildren.{single_view, values_from}
+use Rattle.serde_json_path_core.specs.SingleChildren.{SelectOnly, single_view, values_from}
 use Rattle.serde_json_path_core.specs.declared.evaluation.single_children.SingleSelector.{SingleSelector}
 use Rattle.serde_json_path_core.specs.declared.evaluation.single_children.SingleSelector.TheVariants as single
 use Rattle.serde_json_path_core.proofs.Walks.Started.{chosen-list}
@@ -59,11 +59,21 @@ pub child-selected : (s : SingleSelector) (v : Data) (c : Step × Data) → c �
 unfolding AreChildrenOf
 child-selected s v c e = candidates-of (single_view s) v c (subst (IsIn c) e (inl refl))
 
--- a child segment of one selector is that of a name or an index, if this is the selector
-pub only_stage : (stage : Stage) (sel : Selector) (single : Option SingleSelector) → stage.kind ≡ child → slice_get stage.selectors 0 ≡ Some sel → slice_get stage.selectors 1 ≡ None
+-- a child segment of one selector
+pub only_stage : (stage : Stage) (sel : Selector) → stage.kind ≡ child → slice_get stage.selectors 0 ≡ Some sel → slice_get stage.selectors 1 ≡ None
+    → stage ≡ record { kind = child; selectors = sel ∷ [] }
+only_stage stage sel kind some none = let sels = alone stage.selectors sel some none in λ i. record { kind = kind i; selectors = sels i }
+
+-- it is that of a name or an index, if this is the selector
+pub single_stage : (stage : Stage) (sel : Selector) (single : Option SingleSelector) → stage ≡ record { kind = child; selectors = sel ∷ [] }
     → IfSome single (λ s. sel ≡ single_view s) → IfSome single (λ s. stage ≡ record { kind = child; selectors = single_view s ∷ [] })
-only_stage stage sel None kind some none is = tt
-only_stage stage sel (Some s) kind some none is = let sels = alone stage.selectors sel some none ∙ ap (λ x. x ∷ []) is in λ i. record { kind = kind i; selectors = sels i }
+single_stage stage sel None is e = tt
+single_stage stage sel (Some s) is e = λ i. record { kind = ap (λ (x : Stage). x.kind) is i; selectors = (ap (λ (x : Stage). x.selectors) is ∙ ap (λ x. x ∷ []) e) i }
+
+-- the values of children, each alone
+each-alone : (cs : List (Step × Data)) → flat_map (λ (c : Step × Data). c.1 ∷ []) cs ≡ map (λ (c : Step × Data). c.1) cs
+each-alone [] = refl
+each-alone (c ∷ cs) = ap (λ more. c.1 ∷ more) (each-alone cs)
 
 module _ (F : FunctionSet) (top : Data) where
   -- the values that come of the children that a segment selects
@@ -102,21 +112,38 @@ module _ (F : FunctionSet) (top : Data) where
   child_only more None = refl
   child_only more (Some c) = append-nil (values_from F top more c.1)
 
+  -- the children of a segment of one selector, which admits all
+  chosen-only : (kind : SegmentKind) (seg : Segment) (v : Data) (sel : Selector) → stage_of kind seg ≡ record { kind = child; selectors = sel ∷ [] }
+      → ((cs : List (Step × Data)) → admitted F top sel cs ≡ cs) → chosen F top seg v ≡ candidates sel v
+  chosen-only kind seg v sel is all =
+      sym (chosen-list F top seg v)
+      ∙ ap (flat_map (λ sel. admitted F top sel (candidates sel v))) (ap (λ (stage : Stage). stage.selectors) is)
+      ∙ append-nil (admitted F top sel (candidates sel v))
+      ∙ all (candidates sel v)
+
+  -- the values that come of a child segment of one selector, which admits all
+  values-only : (kind : SegmentKind) (seg : Segment) (more : Segments) (v : Data) (sel : Selector) → stage_of kind seg ≡ record { kind = child; selectors = sel ∷ [] }
+      → ((cs : List (Step × Data)) → admitted F top sel cs ≡ cs)
+      → values_from F top (segment kind seg more) v ≡ flat_map (λ (c : Step × Data). values_from F top more c.1) (candidates sel v)
+  values-only kind seg more v sel is all =
+      from_node kind seg more (λ m. values-anywhere more m) (itself v)
+      ∙ ap (λ k. flat_map (of_children seg more) (map value_of (reached k (itself v)))) (ap (λ (stage : Stage). stage.kind) is)
+      ∙ append-nil (of_children seg more v)
+      ∙ ap (flat_map (λ (c : Step × Data). values_from F top more c.1)) (chosen-only kind seg v sel is all)
+
   -- a child segment of one name or one index
   pub values-single : (kind : SegmentKind) (seg : Segment) (more : Segments) (v : Data) (s : SingleSelector) (found : Option (Step × Data))
       → stage_of kind seg ≡ record { kind = child; selectors = single_view s ∷ [] } → option_to_list found ≡ candidates (single_view s) v
       → values_from F top (segment kind seg more) v ≡ of_child more found
   values-single kind seg more v s found is_single is =
-      from_node kind seg more (λ m. values-anywhere more m) (itself v)
-      ∙ ap (λ k. flat_map (of_children seg more) (map value_of (reached k (itself v)))) (ap (λ (stage : Stage). stage.kind) is_single)
-      ∙ append-nil (of_children seg more v)
-      ∙ ap (flat_map (λ (c : Step × Data). values_from F top more c.1))
-      (sym (chosen-list F top seg v)
-      ∙ ap (flat_map (λ sel. admitted F top sel (candidates sel v))) (ap (λ (stage : Stage). stage.selectors) is_single)
-      ∙ append-nil (admitted F top (single_view s) (candidates (single_view s) v))
-      ∙ plain s (candidates (single_view s) v)
-      ∙ sym is)
+      values-only kind seg more v (single_view s) is_single (plain s)
+      ∙ ap (flat_map (λ (c : Step × Data). values_from F top more c.1)) (sym is)
       ∙ child_only more found
+
+  -- a child segment of one selector, which admits all, and no segment after it
+  last-only : (kind : SegmentKind) (seg : Segment) (v : Data) (sel : Selector) → stage_of kind seg ≡ record { kind = child; selectors = sel ∷ [] }
+      → ((cs : List (Step × Data)) → admitted F top sel cs ≡ cs) → values_from F top (segment kind seg no_segments) v ≡ map (λ (c : Step × Data). c.1) (candidates sel v)
+  last-only kind seg v sel is all = values-only kind seg no_segments v sel is all ∙ each-alone (candidates sel v)
 
   -- one part more of so many
   pub goes_down : (nodes : List Node) (parts : List Part) (i : ℕ) (part : Part) (v : Data) (s : SingleSelector) (found : Option (Step × Data)) → i < length parts → part ≡ get_or parts i part
@@ -141,3 +168,20 @@ pub first-reached : (F : FunctionSet) (top : Data) (nodes : List Node) (ns : Lis
 first-reached F top nodes ns [] found node e is none =
     first-of-values ns ∙ ap (λ vs. slice_get vs 0) (e ∙ ap (λ (o : Option (Bor Value)). option_map_or (λ (v : Bor Value). values_from F top (segments_at nodes []) (view v.now)) o []) is)
 first-reached F top nodes ns (part ∷ parts) found node e is none = absurd (omega arith)
+
+-- ---- segments that are one child segment of one selector
+
+pub select-only : (nodes : List Node) (parts : List Part) (d : Part) (sel : Selector) → 1 ≤ length parts → length parts < 2
+    → stage_at nodes (slice_index_or parts 0 d) ≡ record { kind = child; selectors = sel ∷ [] }
+    → ((F : FunctionSet) (top : Data) (cs : List (Step × Data)) → admitted F top sel cs ≡ cs) → SelectOnly nodes parts sel
+select-only nodes [] d sel some one is all = absurd (omega arith)
+select-only nodes (part ∷ []) d sel some one is all =
+    λ F top v. last-only F top (segment_kind_in (piece_at nodes part.number)) (segment_in (piece_at nodes part.number)) v sel is (all F top)
+select-only nodes (part ∷ second ∷ more) d sel some one is all = absurd (omega arith)
+
+-- the same of a name or an index, if the selector is one
+pub select-single : (nodes : List Node) (parts : List Part) (d : Part) (single : Option SingleSelector) → 1 ≤ length parts → length parts < 2
+    → IfSome single (λ s. stage_at nodes (slice_index_or parts 0 d) ≡ record { kind = child; selectors = single_view s ∷ [] })
+    → IfSome single (λ s. SelectOnly nodes parts (single_view s))
+select-single nodes parts d None some one is = tt
+select-single nodes parts d (Some s) some one is = select-only nodes parts d (single_view s) some one is (λ F top cs. plain F top s cs)

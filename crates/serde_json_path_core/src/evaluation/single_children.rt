@@ -1,6 +1,6 @@
 //! Going down by segments that select one child at most, without a frame.
 
-ghost use Rattle.std.specs.Prelude.{◌≡◌, ◌∷◌, [], ◌≤◌, ◌<◌, List, IfSome, length, option_map, option_to_list};
+ghost use Rattle.std.specs.Prelude.{◌≡◌, ◌∷◌, [], ◌≤◌, ◌<◌, List, IfSome, IsTrue, length, option_map, option_to_list};
 ghost use Rattle.serde_json.specs.Data.{Data};
 ghost use Rattle.serde_json.specs.View.{view};
 ghost use Rattle.serde_json_path_functions.specs.Functions.{FunctionSet};
@@ -9,11 +9,11 @@ ghost use Rattle.serde_json_path_syntax.specs.Parts.{nodes_in};
 ghost use Rattle.serde_json_path_syntax.specs.PartBounds.{parts_bound};
 ghost use Rattle.serde_json_path_syntax.specs.Stages.{selector_view, stage_at};
 ghost use Rattle.serde_json_path_syntax.specs.declared.node.Node.{Node};
-ghost use Rattle.serde_json_path_syntax.specs.Tree.{child};
+ghost use Rattle.serde_json_path_syntax.specs.Tree.{child, wildcard};
 ghost use Rattle.serde_json_path_syntax.specs.Typing.{AreTypedSegments, IsTypedSegment, UnderSome};
 ghost use Rattle.serde_json_path_core.specs.Clear.{StandsIn};
 ghost use Rattle.serde_json_path_core.specs.Rest.{candidates, EndsIn};
-ghost use Rattle.serde_json_path_core.specs.SingleChildren.{single_view, values_from, values_reached};
+ghost use Rattle.serde_json_path_core.specs.SingleChildren.{SelectOnly, single_view, values_from, values_reached};
 ghost use Rattle.serde_json_path_core.specs.Views.{child_view};
 
 use crate::child::{Child, item, member};
@@ -51,29 +51,67 @@ fn name_or_index(selector_ref: SelectorRef<'_>) -> Option<SingleSelector<'_>>
     }
 }
 
-/// The selector of a child segment that is one name or one index; `None` for any other segment.
+/// The selector of a child segment that has one; `None` for any other segment.
 #[inline(always)]
-fn only_selector(query: &Checked, segment: Part) -> Option<SingleSelector<'_>>
+fn only_selector(query: &Checked, segment: Part) -> Option<SelectorRef<'_>>
     requires within { segment.number < length (nodes_in query.now) }
     requires typed { UnderSome IsTypedSegment (segment_at (nodes_in query.now) segment) }
-    ensures { IfSome result (λ single. stage_at (nodes_in query.now) segment
-        ≡ record { kind = child; selectors = single_view single ∷ [] }) }
+    ensures { IfSome result (λ only. stage_at (nodes_in query.now) segment
+        ≡ record { kind = child; selectors = selector_view (nodes_in query.now) only ∷ [] }) }
 {
     match query.segment_kind(segment) {
         SegmentKind::Descendant => None,
         SegmentKind::Child => match query.selector_ref(segment, 0) {
             None => None,
             Some(first) => match query.selector_ref(segment, 1) {
-                None => name_or_index(first),
+                None => Some(first),
                 Some(_) => None,
             },
         },
     }
 }
 
+/// The selector of a child segment that is one name or one index; `None` for any other segment.
+#[inline(always)]
+fn single_selector(query: &Checked, segment: Part) -> Option<SingleSelector<'_>>
+    requires within { segment.number < length (nodes_in query.now) }
+    requires typed { UnderSome IsTypedSegment (segment_at (nodes_in query.now) segment) }
+    ensures { IfSome result (λ single. stage_at (nodes_in query.now) segment
+        ≡ record { kind = child; selectors = single_view single ∷ [] }) }
+{
+    match only_selector(query, segment) {
+        Some(only) => name_or_index(only),
+        None => None,
+    }
+}
+
+/// The name or index of which segments consist; `None` for any others.
+pub(crate) fn only_child<'q>(query: &'q Checked, segments: &[Part]) -> Option<SingleSelector<'q>>
+    requires within { parts_bound segments.now ≤ length (nodes_in query.now) }
+    requires typed { UnderSome AreTypedSegments (segments_at (nodes_in query.now) segments.now) }
+    ensures { IfSome result (λ single. SelectOnly (nodes_in query.now) segments.now (single_view single)) }
+{
+    let [segment] = segments else {
+        return None;
+    };
+    single_selector(query, *segment)
+}
+
+/// Whether segments consist of one child wildcard.
+pub(crate) fn is_wildcard(query: &Checked, segments: &[Part]) -> bool
+    requires within { parts_bound segments.now ≤ length (nodes_in query.now) }
+    requires typed { UnderSome AreTypedSegments (segments_at (nodes_in query.now) segments.now) }
+    ensures { IsTrue result → SelectOnly (nodes_in query.now) segments.now wildcard }
+{
+    let [segment] = segments else {
+        return false;
+    };
+    matches!(only_selector(query, *segment), Some(SelectorRef::Wildcard))
+}
+
 /// The child that a selector selects, if there is one.
 #[inline(always)]
-fn select<'b>(single: SingleSelector<'_>, value: &'b Value) -> Option<Child<'b>>
+pub(crate) fn select<'b>(single: SingleSelector<'_>, value: &'b Value) -> Option<Child<'b>>
     ensures { option_to_list (option_map child_view result)
         ≡ candidates (single_view single.entry) (view value.now) }
 {
@@ -101,7 +139,7 @@ pub(crate) fn go_down<'q, 'b>(
 {
     let mut reached = value;
     for (passed, segment) in segments.iter().enumerate() {
-        let Some(selector) = only_selector(query, *segment) else {
+        let Some(selector) = single_selector(query, *segment) else {
             return Reached {
                 segments: &segments[passed..],
                 value: Some(reached),

@@ -13,9 +13,10 @@ ghost use Rattle.serde_json_path_core.specs.SingleComparisons.{IsComparisonOf};
 ghost use Rattle.serde_json_path_core.specs.Scopes.{Clear, WithoutPatterns, nodes_of, set_of, top_of};
 ghost use Rattle.serde_json_path_functions.specs.declared.error.QueryError.TheVariants.{Memory};
 
+use crate::evaluation::child_values::child_values;
 use crate::evaluation::frame::Frame;
 use crate::evaluation::scope::Scope;
-use crate::evaluation::single_children::{Reached, go_down};
+use crate::evaluation::single_children::{Reached, go_down, is_wildcard};
 use crate::evaluation::stack::{find_next, pass_found};
 use crate::evaluation::start;
 use crate::filter::call::{answer, answer_holds, compared_answer};
@@ -347,6 +348,11 @@ pub(crate) fn all_values<'x, 'q: 'x, 'b: 'x, F: Functions>(
     let reached = reached(scope, query, value);
     match reached.value {
         None => Ok(Vec::new(scope.alloc)),
-        Some(value) => all_from(scope, reached.segments, value),
+        Some(value) => {
+            if is_wildcard(scope.query, reached.segments) {
+                return Ok(child_values(scope.alloc, value)?);
+            }
+            all_from(scope, reached.segments, value)
+        }
     }
 }

@@ -1,31 +1,45 @@
 //! Filters that are one comparison: what is the same for each node is looked up once.
 
-ghost use Rattle.std.specs.Prelude.{◌≡◌, ◌<◌, IfSome, length};
+ghost use Rattle.std.specs.Prelude.{◌≡◌, ◌<◌, IfSome, length, option_map};
 ghost use Rattle.serde_json.specs.View.{view};
 ghost use Rattle.serde_json_path_core.specs.Clear.{StandsIn};
-ghost use Rattle.serde_json_path_core.specs.Evaluates.{SoundComparable, SoundOr, compared_at, relation_holds};
+ghost use Rattle.serde_json_path_core.specs.Evaluates.{SoundComparable, SoundOr, SoundQuery, compared_at, relation_holds};
 ghost use Rattle.serde_json_path_core.specs.Scopes.{nodes_of, top_of};
-ghost use Rattle.serde_json_path_core.specs.Sides.{IsSeenOf};
-ghost use Rattle.serde_json_path_core.specs.SingleComparisons.{IsFixedSide, IsComparisonOf};
+ghost use Rattle.serde_json_path_core.specs.Sides.{IsSeenOf, seen_of, side_view};
+ghost use Rattle.serde_json_path_core.specs.SingleComparisons.{IsComparisonOf, IsFormOf, LeadsToChild, child_compared};
+ghost use Rattle.serde_json_path_core.specs.Views.{child_view};
 
+use crate::child::Child;
 use crate::evaluation::scope::Scope;
+use crate::evaluation::single_children::{SingleSelector, only_child, select};
 use crate::filter::compare::compare_sides;
 use crate::filter::plain::plain_side;
-use crate::filter::side::{Side, side_of_literal};
+use crate::filter::side::{Side, side_of_literal, side_of_value};
 use serde_json::Value;
 use serde_json_path_functions::Functions;
 use serde_json_path_syntax::{
     Basic, Comparable, ComparisonOperator, Literal, Node, Part, QueryKind,
 };
 
-/// A filter that is one comparison, with each side that is the same for all nodes.
+/// How a side of a comparison is found for each node.
+#[derive(Clone, Copy)]
+pub(crate) enum SideForm<'x> {
+    /// It is the same for all nodes.
+    Fixed(Side<'x>),
+    /// It is the child of the node that a name or an index selects, or Nothing without one.
+    OfChild(SingleSelector<'x>),
+    /// It is looked up or evaluated for each node.
+    Other,
+}
+
+/// A filter that is one comparison, with the form of each side.
 #[derive(Clone, Copy)]
 pub(crate) struct SingleComparison<'x> {
     pub(crate) left: Part,
-    pub(crate) fixed_left: Option<Side<'x>>,
+    pub(crate) left_form: SideForm<'x>,
     pub(crate) operator: ComparisonOperator,
     pub(crate) right: Part,
-    pub(crate) fixed_right: Option<Side<'x>>,
+    pub(crate) right_form: SideForm<'x>,
 }
 
 /// A literal, or the value to which single children lead from the root; `None` for any other comparable.
@@ -35,7 +49,7 @@ fn fixed_side<'x, 'q: 'x, 'b: 'x, F: Functions>(
 ) -> Option<Side<'x>>
     requires below { comparable.number < length (nodes_of scope.now) }
     requires sound { SoundComparable scope.now comparable }
-    ensures { IsFixedSide scope.now comparable result }
+    ensures { IfSome result (λ side. IsFormOf scope.now comparable (SideForm.Fixed side)) }
 {
     match scope.query.node(comparable) {
         Node::Comparable(Comparable::Literal(literal)) => {
@@ -52,6 +66,62 @@ fn fixed_side<'x, 'q: 'x, 'b: 'x, F: Functions>(
         },
         _ => None,
     }
+}
+
+/// The name or index of which a query from `@` consists; `None` for any other query.
+fn child_of_current<'x, 'q: 'x, F: Functions>(
+    scope: &Scope<'q, '_, F>,
+    query: Part,
+) -> Option<SingleSelector<'x>>
+    requires below { query.number < length (nodes_of scope.now) }
+    requires sound { SoundQuery scope.now query }
+    ensures { IfSome result (λ single. LeadsToChild scope.now query single) }
+{
+    match scope.query.part_kind(query) {
+        QueryKind::Root => None,
+        QueryKind::Current => {
+            let single: SingleSelector<'x> = only_child(
+                scope.query,
+                scope.query.part_segments(query),
+            )?;
+            Some(single)
+        }
+    }
+}
+
+/// The form of a comparable that is not fixed.
+fn form_by_child<'x, 'q: 'x, F: Functions>(
+    scope: &Scope<'q, '_, F>,
+    comparable: Part,
+) -> SideForm<'x>
+    requires below { comparable.number < length (nodes_of scope.now) }
+    requires sound { SoundComparable scope.now comparable }
+    ensures { IsFormOf scope.now comparable result }
+{
+    let Node::Comparable(Comparable::Singular(query)) = scope.query.node(comparable) else {
+        return SideForm::Other;
+    };
+    let single: Option<SingleSelector<'x>> = child_of_current(scope, *query);
+    match single {
+        Some(single) => SideForm::OfChild(single),
+        None => SideForm::Other,
+    }
+}
+
+/// The form of a comparable.
+fn form_of<'x, 'q: 'x, 'b: 'x, F: Functions>(
+    scope: &Scope<'q, 'b, F>,
+    comparable: Part,
+) -> SideForm<'x>
+    requires below { comparable.number < length (nodes_of scope.now) }
+    requires sound { SoundComparable scope.now comparable }
+    ensures { IsFormOf scope.now comparable result }
+{
+    let fixed: Option<Side<'x>> = fixed_side(scope, comparable);
+    if let Some(side) = fixed {
+        return SideForm::Fixed(side);
+    }
+    form_by_child(scope, comparable)
 }
 
 /// The comparison of which a filter consists; `None` for any other filter.
@@ -79,17 +149,28 @@ pub(crate) fn single_comparison<'x, 'q: 'x, 'b: 'x, F: Functions>(
                 right,
             },
         ) => {
-            let fixed_left: Option<Side<'x>> = fixed_side(scope, *left);
-            let fixed_right: Option<Side<'x>> = fixed_side(scope, *right);
+            let left_form: SideForm<'x> = form_of(scope, *left);
+            let right_form: SideForm<'x> = form_of(scope, *right);
             Some(SingleComparison {
                 left: *left,
-                fixed_left,
+                left_form,
                 operator: *operator,
                 right: *right,
-                fixed_right,
+                right_form,
             })
         }
         _ => None,
+    }
+}
+
+/// A child's value by its kind, or Nothing without a child.
+#[inline(always)]
+fn side_of_child<'b>(child: Option<Child<'b>>) -> Side<'b>
+    ensures { side_view result ≡ seen_of (child_compared (option_map child_view child.entry)) }
+{
+    match child {
+        Some(child) => side_of_value(child.value),
+        None => Side::Nothing,
     }
 }
 
@@ -98,18 +179,22 @@ pub(crate) fn single_comparison<'x, 'q: 'x, 'b: 'x, F: Functions>(
 fn side_at<'x, 'q: 'x, 'b: 'x, F: Functions>(
     scope: &Scope<'q, 'b, F>,
     comparable: Part,
-    fixed: Option<Side<'x>>,
+    form: SideForm<'x>,
     value: &'b Value,
 ) -> Option<Side<'x>>
     requires below { comparable.number < length (nodes_of scope.now) }
     requires sound { SoundComparable scope.now comparable }
-    requires fixed { IsFixedSide scope.now comparable fixed }
+    requires form { IsFormOf scope.now comparable form }
     requires inside { StandsIn (top_of scope.now) (view value.now) }
     ensures { IfSome result (λ side. IsSeenOf side (compared_at scope.now comparable (view value.now))) }
 {
-    match fixed {
-        Some(side) => Some(side),
-        None => plain_side(scope, comparable, value),
+    match form {
+        SideForm::Fixed(side) => Some(side),
+        SideForm::OfChild(single) => {
+            let value: &'x Value = value;
+            Some(side_of_child(select(single, value)))
+        }
+        SideForm::Other => plain_side(scope, comparable, value),
     }
 }
 
@@ -124,13 +209,13 @@ pub(crate) fn decided<'b, F: Functions>(
     requires below_right { comparison.now.right.number < length (nodes_of scope.now) }
     requires sound_left { SoundComparable scope.now comparison.now.left }
     requires sound_right { SoundComparable scope.now comparison.now.right }
-    requires fixed_left { IsFixedSide scope.now comparison.now.left comparison.now.fixed_left }
-    requires fixed_right { IsFixedSide scope.now comparison.now.right comparison.now.fixed_right }
+    requires left_form { IsFormOf scope.now comparison.now.left comparison.now.left_form }
+    requires right_form { IsFormOf scope.now comparison.now.right comparison.now.right_form }
     requires inside { StandsIn (top_of scope.now) (view value.now) }
     ensures { IfSome result (λ holds. holds
         ≡ relation_holds scope.now comparison.now.left comparison.now.operator comparison.now.right (view value.now)) }
 {
-    let left = side_at(scope, comparison.left, comparison.fixed_left, value)?;
-    let right = side_at(scope, comparison.right, comparison.fixed_right, value)?;
+    let left = side_at(scope, comparison.left, comparison.left_form, value)?;
+    let right = side_at(scope, comparison.right, comparison.right_form, value)?;
     Some(compare_sides(comparison.operator, left, right))
 }

@@ -11,14 +11,14 @@ use Rattle.serde_json_path_core.proofs.Walks.InDocument.{child_stands}
 use Rattle.serde_json_path_core.proofs.Walks.SingleChildren.{child-selected, ends-at, goes_down}
 use Rattle.serde_json_path_core.proofs.evaluation.single_children.go_down.Goals as goal
 
-pub only_selector-requires-clause-within : goal.only_selector-requires-clause-within
-only_selector-requires-clause-within c =
+pub single_selector-requires-clause-within : goal.single_selector-requires-clause-within
+single_selector-requires-clause-within c =
     let below = within_get c.args.segments.now c.loop-passed.passed (record { number = 0 }) c.loop-passed-test.true in
     let most = c.requires.within in
     omega arith
 
-pub only_selector-requires-clause-typed : goal.only_selector-requires-clause-typed
-only_selector-requires-clause-typed c =
+pub single_selector-requires-clause-typed : goal.single_selector-requires-clause-typed
+single_selector-requires-clause-typed c =
     let parts = c.args.segments.now in
     let i = c.loop-passed.passed in
     let first : Part = record { number = 0 } in

@@ -8,5 +8,5 @@ use Rattle.serde_json_path_core.proofs.evaluation.single_children.only_selector.
 pub returns-in-None-selector_ref : goal.returns-in-None-selector_ref
 returns-in-None-selector_ref c =
     let nodes = nodes_in c.args.query.now in
-    only_stage (stage_at nodes c.args.segment) (selector_view nodes c.in-Some.first) c.name_or_index.result (sym c.segment_kind.ensures ∙ ap segment_kind_view c.in-Child.is)
-    (sym c.in-Some.ensures.selector_ref) (sym c.in-None-selector_ref.ensures.selector_ref) (c.name_or_index.ensures nodes)
+    only_stage (stage_at nodes c.args.segment) (selector_view nodes c.in-Some.first) (sym c.segment_kind.ensures ∙ ap segment_kind_view c.in-Child.is)
+    (sym c.in-Some.ensures.selector_ref) (sym c.in-None-selector_ref.ensures.selector_ref)

@@ -21,8 +21,8 @@ and_parts-requires-clause-typed g c =
     (subst (Sound scope IsTypedOr calls_in_or) c.or_parts.ensures.tree c.requires.sound) in
     ((set_of scope).signature, sound.0)
 
-pub fixed_side-fixed_left-requires-clause-sound : goal.fixed_side-fixed_left-requires-clause-sound
-fixed_side-fixed_left-requires-clause-sound g c =
+pub form_of-left_form-requires-clause-sound : goal.form_of-left_form-requires-clause-sound
+form_of-left_form-requires-clause-sound g c =
     let scope = c.args.scope.now in
     let nodes = nodes_of scope in
     let x = comparable_at nodes c.in-Basic-Relation.left in
@@ -36,8 +36,8 @@ fixed_side-fixed_left-requires-clause-sound g c =
     c.or_parts.ensures.tree c.and_parts.ensures.tree is_basic in
     (sound-sides (set_of scope) (query_of scope) (or_at nodes c.args.test) x op y is c.requires.sound).0
 
-pub fixed_side-fixed_right-requires-clause-sound : goal.fixed_side-fixed_right-requires-clause-sound
-fixed_side-fixed_right-requires-clause-sound g c =
+pub form_of-right_form-requires-clause-sound : goal.form_of-right_form-requires-clause-sound
+form_of-right_form-requires-clause-sound g c =
     let scope = c.args.scope.now in
     let nodes = nodes_of scope in
     let x = comparable_at nodes c.in-Basic-Relation.left in
@@ -74,8 +74,8 @@ returns-in-Basic-Relation-clause-single g c =
       below_right,
       sides.0,
       sides.1,
-      c.fixed_side-fixed_left.ensures,
-      c.fixed_side-fixed_right.ensures,
+      c.form_of-left_form.ensures,
+      c.form_of-right_form.ensures,
     )
 
 pub returns-in-Basic-Relation-clause-parts : goal.returns-in-Basic-Relation-clause-parts

@@ -1,0 +1,15 @@
+use Rattle.std.proofs.Common.{◌≡◌, ◌++◌, length, map}
+use Rattle.serde_json.specs.View.{view}
+use Rattle.serde_json_path_nodes.specs.Location.{Step}
+use Rattle.serde_json.specs.Data.{Data}
+use Rattle.serde_json_path_nodes.specs.Views.{node_value}
+use Rattle.serde_json_path_core.specs.Computed.{children}
+use Rattle.serde_json_path_core.specs.Cursors.{cursor_left}
+use Rattle.serde_json_path_core.proofs.evaluation.child_values.child_values.Given as goal
+
+abbrev pub invariant-loop-child : goal.invariant-loop-child
+invariant-loop-child l =
+    map node_value l.found.items ++ map (λ (c : Step × Data). c.1) (cursor_left l.left) ≡ map (λ (c : Step × Data). c.1) (children (view l.fn.value))
+
+abbrev pub decreases-loop-child : goal.decreases-loop-child
+decreases-loop-child l = length (cursor_left l.left)

@@ -1,0 +1,9 @@
+use Rattle.serde_json_path_syntax.specs.Parts.{nodes_in}
+use Rattle.serde_json_path_syntax.specs.Stages.{selector_view, stage_at}
+use Rattle.serde_json_path_core.proofs.Walks.SingleChildren.{single_stage}
+use Rattle.serde_json_path_core.proofs.evaluation.single_children.single_selector.Goals as goal
+
+pub returns-in-Some : goal.returns-in-Some
+returns-in-Some c =
+    let nodes = nodes_in c.args.query.now in
+    single_stage (stage_at nodes c.args.segment) (selector_view nodes c.in-Some.only) c.name_or_index.result c.in-Some.ensures (c.name_or_index.ensures nodes)
