@@ -28,6 +28,8 @@ pub(crate) enum Answer {
 pub(crate) enum Form {
     /// The node.
     Value,
+    /// The node's normalised path.
+    Location,
     /// The node's normalised path, a tab and the node.
     LocationAndValue,
 }
@@ -72,6 +74,17 @@ extern "C" {
         length: *mut usize,
         refusal: *mut Refusal,
     ) -> u8;
+    fn jsonpath_locations(
+        path: *const c_uchar,
+        path_length: usize,
+        document: *const c_uchar,
+        document_length: usize,
+        out: *mut c_uchar,
+        out_length: usize,
+        length: *mut usize,
+        refusal: *mut Refusal,
+    ) -> u8;
+    fn jsonpath_version() -> u32;
 }
 
 /// The answer that a status stands for, with what the call wrote.
@@ -85,6 +98,12 @@ fn answer(status: u8, length: usize, refusal: Refusal) -> Answer {
         5 => Answer::NoRoom(length),
         _ => unreachable!("a `str` is UTF-8, and there are no other statuses"),
     }
+}
+
+/// The library's version, as one number.
+pub(crate) fn version() -> u32 {
+    // SAFETY: The call takes nothing.
+    unsafe { jsonpath_version() }
 }
 
 /// Whether a text is a path.
@@ -116,6 +135,7 @@ pub(crate) fn message(path: &str, out: &mut [u8]) -> Answer {
 pub(crate) fn lines(form: Form, path: &str, document: &[u8], out: &mut [u8]) -> Answer {
     let call: Lines = match form {
         Form::Value => jsonpath_values,
+        Form::Location => jsonpath_locations,
         Form::LocationAndValue => jsonpath_report,
     };
     let (mut length, mut refusal) = (0, Refusal::default());

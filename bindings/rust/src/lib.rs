@@ -25,5 +25,16 @@ mod nodes;
 mod path;
 
 pub use error::{ParseError, ParseErrorKind, QueryError};
-pub use nodes::{LocatedNode, LocatedNodes, LocatedNodesIter, Nodes, NodesIter};
+pub use nodes::{LinesIter, LocatedNode, LocatedNodes, LocatedNodesIter, Locations, Nodes};
 pub use path::JsonPath;
+
+/// The version of the library that is linked: major, minor and patch.
+///
+/// ```
+/// let (major, minor, patch) = jsonpath::library_version();
+/// println!("{major}.{minor}.{patch}");
+/// ```
+pub fn library_version() -> (u32, u32, u32) {
+    let version = ffi::version();
+    (version / 10_000, version / 100 % 100, version % 100)
+}

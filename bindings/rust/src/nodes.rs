@@ -24,20 +24,30 @@ impl Lines {
     }
 }
 
-/// Goes over the lines.
+/// Goes over [`Nodes`] or [`Locations`].
 #[derive(Clone, Debug)]
-struct LinesIter<'a> {
+pub struct LinesIter<'a> {
     lines: SplitTerminator<'a, char>,
     left: usize,
 }
 
-impl<'a> LinesIter<'a> {
+impl<'a> Iterator for LinesIter<'a> {
+    type Item = &'a str;
+
     fn next(&mut self) -> Option<&'a str> {
         let line = self.lines.next()?;
         self.left -= 1;
         Some(line)
     }
+
+    fn size_hint(&self) -> (usize, Option<usize>) {
+        (self.left, Some(self.left))
+    }
 }
+
+impl ExactSizeIterator for LinesIter<'_> {}
+
+impl FusedIterator for LinesIter<'_> {}
 
 /// The nodes that a path selects from a document, each as compact JSON.
 ///
@@ -75,40 +85,63 @@ impl Nodes {
     }
 
     /// Goes over the nodes, in order.
-    pub fn iter(&self) -> NodesIter<'_> {
-        NodesIter {
-            lines: self.lines.iter(),
-        }
+    pub fn iter(&self) -> LinesIter<'_> {
+        self.lines.iter()
     }
 }
-
-/// Goes over [`Nodes`].
-#[derive(Clone, Debug)]
-pub struct NodesIter<'a> {
-    lines: LinesIter<'a>,
-}
-
-impl<'a> Iterator for NodesIter<'a> {
-    type Item = &'a str;
-
-    fn next(&mut self) -> Option<&'a str> {
-        self.lines.next()
-    }
-
-    fn size_hint(&self) -> (usize, Option<usize>) {
-        (self.lines.left, Some(self.lines.left))
-    }
-}
-
-impl ExactSizeIterator for NodesIter<'_> {}
-
-impl FusedIterator for NodesIter<'_> {}
 
 impl<'a> IntoIterator for &'a Nodes {
     type Item = &'a str;
-    type IntoIter = NodesIter<'a>;
+    type IntoIter = LinesIter<'a>;
 
-    fn into_iter(self) -> NodesIter<'a> {
+    fn into_iter(self) -> LinesIter<'a> {
+        self.iter()
+    }
+}
+
+/// Where the nodes are that a path selects from a document: the normalised path of each, which selects it alone.
+///
+/// ```
+/// use jsonpath::JsonPath;
+///
+/// let locations = JsonPath::parse("$..a")?.locations(br#"{"a":{"a":1}}"#)?;
+/// assert_eq!(locations.iter().collect::<Vec<_>>(), ["$['a']", "$['a']['a']"]);
+/// # Ok::<(), Box<dyn std::error::Error>>(())
+/// ```
+#[derive(Clone, Debug, PartialEq, Eq)]
+pub struct Locations {
+    lines: Lines,
+}
+
+impl Locations {
+    /// The locations that lines are.
+    pub(crate) fn of(text: String) -> Locations {
+        Locations {
+            lines: Lines::of(text),
+        }
+    }
+
+    /// How many locations there are.
+    pub fn len(&self) -> usize {
+        self.lines.count
+    }
+
+    /// Whether there is none.
+    pub fn is_empty(&self) -> bool {
+        self.lines.count == 0
+    }
+
+    /// Goes over the locations, in order.
+    pub fn iter(&self) -> LinesIter<'_> {
+        self.lines.iter()
+    }
+}
+
+impl<'a> IntoIterator for &'a Locations {
+    type Item = &'a str;
+    type IntoIter = LinesIter<'a>;
+
+    fn into_iter(self) -> LinesIter<'a> {
         self.iter()
     }
 }
@@ -191,7 +224,7 @@ impl<'a> Iterator for LocatedNodesIter<'a> {
     }
 
     fn size_hint(&self) -> (usize, Option<usize>) {
-        (self.lines.left, Some(self.lines.left))
+        self.lines.size_hint()
     }
 }
 

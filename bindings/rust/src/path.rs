@@ -2,7 +2,7 @@
 
 use crate::error::{ParseError, QueryError};
 use crate::ffi::{self, Answer, Form};
-use crate::nodes::{LocatedNodes, Nodes};
+use crate::nodes::{LocatedNodes, Locations, Nodes};
 use std::fmt;
 use std::str::FromStr;
 
@@ -75,6 +75,18 @@ impl JsonPath {
     /// ```
     pub fn query_located(&self, document: &[u8]) -> Result<LocatedNodes, QueryError> {
         self.report(document).map(LocatedNodes::of)
+    }
+
+    /// Where the nodes are that the path selects from a document, in order, without the nodes.
+    ///
+    /// ```
+    /// # use jsonpath::JsonPath;
+    /// let locations = JsonPath::parse("$[?@ > 1]")?.locations(b"[3, 1, 2]")?;
+    /// assert_eq!(locations.iter().collect::<Vec<_>>(), ["$[0]", "$[2]"]);
+    /// # Ok::<(), Box<dyn std::error::Error>>(())
+    /// ```
+    pub fn locations(&self, document: &[u8]) -> Result<Locations, QueryError> {
+        self.lines(Form::Location, document).map(Locations::of)
     }
 
     /// A line for each node, as the program `jsonpath` prints them: its location, a tab, the node, and a line feed.

@@ -5,7 +5,8 @@
 //!
 //! ```text
 //! let path = JsonPath::parse(alloc, "$..book[-1:].title")?;
-//! for node in path.query_located(alloc, &document)?.iter() {
+//! let nodes = path.query_located(alloc, &document)?;
+//! for node in nodes.iter() {
 //!     println!(rt; "{}\t{}", node.location(), node.node())?;
 //! }
 //! ```

@@ -106,7 +106,7 @@ const ROWS: &[(&str, &str, &str)] = &[
     ),
 ];
 
-/// Holds the three forms of an answer to its lines.
+/// Holds the forms of an answer to its lines.
 fn selects(path: &str, document: &str, lines: &str) {
     let parsed = JsonPath::parse(path).unwrap();
     assert_eq!(parsed.report(document.as_bytes()).unwrap(), lines, "{path}");
@@ -127,13 +127,16 @@ fn selects(path: &str, document: &str, lines: &str) {
         wanted.iter().map(|pair| pair.1).collect::<Vec<_>>(),
         "{path}"
     );
+    let locations = parsed.locations(document.as_bytes()).unwrap();
     assert_eq!(
-        (nodes.len(), located.len()),
-        (wanted.len(), wanted.len()),
+        locations.iter().collect::<Vec<_>>(),
+        wanted.iter().map(|pair| pair.0).collect::<Vec<_>>(),
         "{path}"
     );
-    assert_eq!(nodes.is_empty(), wanted.is_empty(), "{path}");
-    assert_eq!(located.is_empty(), wanted.is_empty(), "{path}");
+    let lengths = [nodes.len(), located.len(), locations.len()];
+    assert_eq!(lengths, [wanted.len(); 3], "{path}");
+    let empty = [nodes.is_empty(), located.is_empty(), locations.is_empty()];
+    assert_eq!(empty, [wanted.is_empty(); 3], "{path}");
 }
 
 /// Each row.
@@ -159,6 +162,18 @@ fn iterators_know_their_length() {
     let located = path.query_located(b"[1,2,3]").unwrap();
     assert_eq!(located.iter().len(), 3);
     assert_eq!((&located).into_iter().last().unwrap().location, "$[2]");
+    let locations = path.locations(b"[1,2,3]").unwrap();
+    assert_eq!(locations.iter().len(), 3);
+    assert_eq!((&locations).into_iter().last(), Some("$[2]"));
+}
+
+#[test]
+fn the_library_has_the_version_of_the_crate() {
+    let (major, minor, patch) = jsonpath::library_version();
+    assert_eq!(
+        format!("{major}.{minor}.{patch}"),
+        env!("CARGO_PKG_VERSION")
+    );
 }
 
 #[test]
