@@ -1,9 +1,8 @@
 -- A function set as an example: what its names mean, and that it keeps types and patterns.
-use Rattle.std.proofs.Common.{◌≡◌, ◌≤◌, ◌&&◌, ℕ, List, [], ◌∷◌, length, Bool, true, false, Option, Some, None, bytes_eq, codes, if◌then◌else◌, refl, ap, ◌∙◌, subst, arith, slice_get}
-use Rattle.std.proofs.lemmas.Option.{same_Some}
+use Rattle.std.proofs.Common.{◌&&◌, ℕ, List, [], ◌∷◌, Bool, true, false, Option, Some, None, bytes_eq, codes, if◌then◌else◌, refl, arith, slice_get}
 use Rattle.serde_json.specs.Data.{Data}
-use Rattle.serde_json_path_functions.specs.BothTypes.{Keeps}
-use Rattle.serde_json_path_functions.specs.Functions.{of_value, of_nodes, of_logical, Signature, Term, value, nodes, logical, kind_of_term, FunctionSet, KeepsTypes}
+use Rattle.serde_json_path_functions.specs.BothTypes.{Keeps, declared_keeps}
+use Rattle.serde_json_path_functions.specs.Functions.{of_value, of_nodes, of_logical, Signature, Term, value, nodes, logical, FunctionSet, KeepsTypes}
 use Rattle.serde_json_path_functions.specs.Patterns.{KeepsPatterns, keeps_no_patterns}
 
 -- `first(Nodes) -> Value`, `both(Logical, Logical) -> Logical` and `none() -> Value`
@@ -35,20 +34,15 @@ samples = record { signature = samples_signature; meaning = samples_meaning; by_
 
 -- ---- types
 
-kept : (s : Signature) (meaning : List Term → Term) → length s.params ≤ 8 → ((ts : List Term) → kind_of_term (meaning ts) ≡ s.result) → Keeps (Some s) meaning
-kept s meaning few typed t e =
-    let same = same_Some s t e in
-    (subst (λ (x : Signature). length x.params ≤ 8) same few, λ ts h. typed ts ∙ ap (λ (x : Signature). x.result) same)
-
 by_name : (is_first is_both is_none : Bool) → Keeps (
     if is_first then Some (record { params = of_nodes ∷ []; result = of_value })
     else if is_both then Some (record { params = of_logical ∷ of_logical ∷ []; result = of_logical })
     else if is_none then Some (record { params = []; result = of_value })
     else None
     ) (λ ts. if is_first then value (first_of ts) else if is_both then logical (are_both ts) else value None)
-by_name true is_both is_none = kept (record { params = of_nodes ∷ []; result = of_value }) (λ ts. value (first_of ts)) (omega arith) (λ ts. refl)
-by_name false true is_none = kept (record { params = of_logical ∷ of_logical ∷ []; result = of_logical }) (λ ts. logical (are_both ts)) (omega arith) (λ ts. refl)
-by_name false false true = kept (record { params = []; result = of_value }) (λ ts. value None) (omega arith) (λ ts. refl)
+by_name true is_both is_none = declared_keeps _ (λ ts. value (first_of ts)) (omega arith) (λ ts. refl)
+by_name false true is_none = declared_keeps _ (λ ts. logical (are_both ts)) (omega arith) (λ ts. refl)
+by_name false false true = declared_keeps _ (λ ts. value None) (omega arith) (λ ts. refl)
 by_name false false false = λ s e. absurd cc
 
 pub samples_keep_types : KeepsTypes samples

@@ -11,6 +11,7 @@ use crate::path::JsonPath;
 use serde_json::Value;
 use serde_json_path_parser::ParseError;
 use std::alloc::{AllocError, Global};
+use std::error::Error;
 use std::fmt;
 use std::fmt::Write;
 
@@ -35,6 +36,8 @@ impl fmt::Display for FromJsonError {
         }
     }
 }
+
+impl Error for FromJsonError {}
 
 impl JsonPath {
     ghost use Rattle.serde_json_path.specs.FromJson.{IsReadFrom};

@@ -1,9 +1,8 @@
 -- The function sets of the tests: what their names mean, and that they keep types and patterns.
-use Rattle.std.proofs.Common.{◌≤◌, ℕ, List, [], ◌∷◌, length, Bool, true, false, ◌||◌, Option, Some, None, bytes_eq, codes, if◌then◌else◌, refl, ap, subst, arith}
-use Rattle.std.proofs.lemmas.Option.{same_Some}
+use Rattle.std.proofs.Common.{ℕ, List, [], ◌∷◌, Bool, true, false, ◌||◌, Option, Some, None, bytes_eq, codes, if◌then◌else◌, refl, arith}
 use Rattle.serde_json.specs.Data.{boolean}
-use Rattle.serde_json_path_functions.specs.BothTypes.{Keeps, KeepsPattern}
-use Rattle.serde_json_path_functions.specs.BuiltinTypes.{pattern_typed, declared_keeps, pattern_kept}
+use Rattle.serde_json_path_functions.specs.BothTypes.{Keeps, KeepsPattern, declared_keeps}
+use Rattle.serde_json_path_functions.specs.BuiltinTypes.{pattern_typed, pattern_kept}
 use Rattle.serde_json_path_functions.specs.Functions.{of_value, of_nodes, of_logical, Signature, value, logical, Matching, any_part, FunctionSet, KeepsTypes, matching_signature}
 use Rattle.serde_json_path_functions.specs.Patterns.{pattern_meaning, KeepsPatterns, keeps_no_patterns, meaning_by}
 
@@ -19,9 +18,8 @@ abbrev pub own_functions : FunctionSet
 own_functions = record { signature = own_signature; meaning = λ name ts. value (Some (boolean true)); by_regex = λ name. None }
 
 own_kept : (b : Bool) → Keeps (if b then Some (record { params = of_nodes ∷ []; result = of_value }) else None) (λ ts. value (Some (boolean true)))
-own_kept true s e =
-    let same = same_Some _ s e in (subst (λ x. length x.params ≤ 8) same (omega arith), λ ts h. ap (λ x. x.result) same)
-own_kept false s e = absurd cc
+own_kept true = declared_keeps _ (λ ts. value (Some (boolean true))) (omega arith) (λ ts. refl)
+own_kept false = λ s e. absurd cc
 
 pub own_keeps_types : KeepsTypes own_functions
 own_keeps_types name = own_kept (bytes_eq name (codes "match") || bytes_eq name (codes "own"))

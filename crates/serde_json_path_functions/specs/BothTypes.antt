@@ -1,5 +1,6 @@
--- One set before another keeps its types where both do, and its patterns.
-use Rattle.std.specs.Prelude.{◌≡◌, ◌≤◌, List, length, map, Option, None, Some}
+-- What it takes that a set keeps its types and its patterns; one set before another does where both do.
+use Rattle.std.proofs.Common.{◌≡◌, ◌≤◌, List, length, map, Option, None, Some, ap, ◌∙◌, subst}
+use Rattle.std.proofs.lemmas.Option.{same_Some}
 use Rattle.serde_json_path_functions.specs.Functions.{Signature, Term, Matching, FunctionSet, kind_of_term, Takes, KeepsTypes, matching_signature, first_signature, of_first, both}
 use Rattle.serde_json_path_functions.specs.Patterns.{KeepsPatterns, pattern_meaning}
 
@@ -8,6 +9,12 @@ abbrev pub Keeps : Option Signature → (List Term → Term) → Type 0
 Keeps declared meaning =
     (s : Signature) → declared ≡ Some s
     → (length s.params ≤ 8) × ((ts : List Term) → map kind_of_term ts ≡ s.params → kind_of_term (meaning ts) ≡ s.result)
+
+-- a declared name does, if its meaning is always of the type that it gives
+pub declared_keeps : (declared : Signature) (meaning : List Term → Term) → length declared.params ≤ 8
+    → ((ts : List Term) → kind_of_term (meaning ts) ≡ declared.result) → Keeps (Some declared) meaning
+declared_keeps declared meaning few typed s e =
+    let same = same_Some declared s e in (subst (λ x. length x.params ≤ 8) same few, λ ts h. typed ts ∙ ap (λ x. x.result) same)
 
 first_keeps : (o p : Option Signature) (first second : List Term → Term) → Keeps o first → Keeps p second
     → Keeps (first_signature o p) (λ ts. of_first o (first ts) (second ts))

@@ -1,10 +1,10 @@
 -- The built-in functions keep their types, and their patterns.
-use Rattle.std.proofs.Common.{◌≡◌, ℕ, ◌≤◌, List, [], ◌∷◌, length, Bool, true, false, true≢false, Option, Some, None, IsSome, bytes_eq, codes, if◌then◌else◌, inl, inr, refl, sym, ap, ◌∙◌, subst, arith}
+use Rattle.std.proofs.Common.{◌≡◌, ℕ, List, [], ◌∷◌, Bool, true, false, true≢false, Option, Some, None, IsSome, bytes_eq, codes, if◌then◌else◌, inl, inr, refl, sym, ap, subst, arith}
 use Rattle.std.proofs.lemmas.Bool.{cases_Bool}
 use Rattle.std.proofs.lemmas.Option.{same_Some}
 use Rattle.std.proofs.lemmas.Slice.Eq.{bytes_eq-Decides}
 use Rattle.serde_json.specs.Data.{string}
-use Rattle.serde_json_path_functions.specs.BothTypes.{Keeps, KeepsPattern}
+use Rattle.serde_json_path_functions.specs.BothTypes.{Keeps, KeepsPattern, declared_keeps}
 use Rattle.serde_json_path_functions.specs.Functions.{of_value, of_nodes, of_logical, Signature, Term, value, nodes, logical, kind_of_term, Matching, whole_text, any_part, KeepsTypes, matching_signature, first_signature, length_meaning, count_meaning, value_meaning, plain_meaning, plain_signature, pattern_signature, builtin_by_regex}
 use Rattle.serde_json_path_functions.specs.Patterns.{pattern_meaning, KeepsPatterns, meaning_by, builtin_functions}
 
@@ -32,11 +32,6 @@ value_typed (logical b ∷ ts) = refl
 pub pattern_typed : (matching : Matching) (ts : List Term) → kind_of_term (pattern_meaning matching ts) ≡ of_logical
 pattern_typed matching (value (Some (string text)) ∷ value (Some (string pattern)) ∷ []) = refl
 pattern_typed matching _ = refl
-
-pub declared_keeps : (declared : Signature) (meaning : List Term → Term) → length declared.params ≤ 8
-    → ((ts : List Term) → kind_of_term (meaning ts) ≡ declared.result) → Keeps (Some declared) meaning
-declared_keeps declared meaning few typed s e =
-    let same = same_Some declared s e in (subst (λ x. length x.params ≤ 8) same few, λ ts h. typed ts ∙ ap (λ x. x.result) same)
 
 abbrev plain_by : Bool → Bool → Bool → Option Signature
 plain_by a b c =

@@ -5,6 +5,7 @@ ghost use Rattle.serde_json_path_functions.specs.Errors.{query_error_text};
 ghost use Rattle.serde_json_path_functions.specs.declared.error.QueryError.TheVariants.{Memory};
 
 use std::alloc::{AllocError, AllocFailed};
+use std::error::Error;
 use std::fmt;
 
 /// Why a query fails. Path and document are unchanged.
@@ -27,6 +28,8 @@ impl fmt::Display for QueryError {
         }
     }
 }
+
+impl Error for QueryError {}
 
 impl From<AllocError> for QueryError {
     ghost from_gives = { λ _ e. e ≡ Memory };

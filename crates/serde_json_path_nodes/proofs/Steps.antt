@@ -4,7 +4,6 @@ use Rattle.std.proofs.Math.Numerals.{add-one}
 use Rattle.std.proofs.Math.Seq.{take-suc}
 use Rattle.std.proofs.lemmas.Grind.{flat_map-append}
 use Rattle.std.proofs.lemmas.List.{map-append}
-use Rattle.std.specs.List.{flat_map}
 use Rattle.serde_json_path_nodes.specs.Location.{Step}
 use Rattle.serde_json_path_nodes.specs.Text.{normal, normal_step}
 use Rattle.serde_json_path_nodes.specs.Views.{step_view}

@@ -3,6 +3,7 @@
 ghost use Rattle.std.specs.Prelude.{Some, ◌++◌, codes};
 ghost use Rattle.std.specs.Fmt.{decimal};
 
+use std::error::Error;
 use std::fmt;
 
 /// A list had more than one node; holds how many.
@@ -17,6 +18,8 @@ impl fmt::Display for AtMostOneError {
         write!(f, "at most one node expected, found {found}")
     }
 }
+
+impl Error for AtMostOneError {}
 
 /// A list had no node, or more than one.
 #[derive(Clone, Copy, Debug, PartialEq, Eq)]
@@ -39,3 +42,5 @@ impl fmt::Display for ExactlyOneError {
         }
     }
 }
+
+impl Error for ExactlyOneError {}

@@ -4,6 +4,7 @@ ghost use Rattle.std.specs.Prelude.{◌≡◌};
 ghost use Rattle.serde_json_path_parser.specs.declared.error.Failure.TheVariants.{Memory};
 
 use std::alloc::{AllocError, AllocFailed};
+use std::error::Error;
 use std::fmt;
 
 /// What is wrong with a text that is refused as a path.
@@ -197,6 +198,8 @@ impl fmt::Display for ParseError {
         write!(f, "at position {}, {message}", self.position)
     }
 }
+
+impl Error for ParseError {}
 
 impl Failure {
     ghost use Rattle.std.specs.Prelude.{◌<◌};

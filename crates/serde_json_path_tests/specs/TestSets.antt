@@ -1,21 +1,8 @@
 -- The function sets of the tests: what their names mean, and that they keep types and patterns.
-use Rattle.std.proofs.Common.{◌≡◌, ◌≤◌, ◌+◌, ◌&&◌, ℕ, List, [], ◌∷◌, length, map, Bool, true, false, Option, Some, None, bytes_eq, codes, if◌then◌else◌, refl, ap, ◌∙◌, subst, arith}
-use Rattle.std.proofs.lemmas.Option.{same_Some}
-use Rattle.serde_json_path_functions.specs.Functions.{Kind, of_value, of_nodes, of_logical, Signature, Term, value, nodes, logical, counted, kind_of_term, FunctionSet, KeepsTypes}
+use Rattle.std.proofs.Common.{◌≡◌, ◌+◌, ◌&&◌, ℕ, List, [], ◌∷◌, length, Bool, true, false, Option, Some, None, bytes_eq, codes, if◌then◌else◌, refl, arith}
+use Rattle.serde_json_path_functions.specs.BothTypes.{Keeps, declared_keeps}
+use Rattle.serde_json_path_functions.specs.Functions.{of_value, of_nodes, of_logical, Signature, Term, value, nodes, logical, counted, kind_of_term, FunctionSet, KeepsTypes}
 use Rattle.serde_json_path_functions.specs.Patterns.{KeepsPatterns, keeps_no_patterns}
-
--- the parameters of a declared name, and what it gives
-abbrev IsKept : Option Signature → (List Term → Term) → Type 0
-IsKept o meaning = (s : Signature) → o ≡ Some s → (length s.params ≤ 8) × ((ts : List Term) → map kind_of_term ts ≡ s.params → kind_of_term (meaning ts) ≡ s.result)
-
-kept : (params : List Kind) (result : Kind) (meaning : List Term → Term) → length params ≤ 8 → ((ts : List Term) → kind_of_term (meaning ts) ≡ result)
-    → IsKept (Some (record { params = params; result = result })) meaning
-kept params result meaning few typed s e =
-    let same = same_Some (record { params = params; result = result }) s e in
-    (subst (λ (x : Signature). length x.params ≤ 8) same few, λ ts h. typed ts ∙ ap (λ (x : Signature). x.result) same)
-
-none_kept : (meaning : List Term → Term) → IsKept None meaning
-none_kept meaning s e = absurd cc
 
 -- ---- `kids` gives its nodes back
 
@@ -36,9 +23,9 @@ kids_typed (nodes ds ∷ t ∷ ts) = refl
 kids_typed (value v ∷ ts) = refl
 kids_typed (logical b ∷ ts) = refl
 
-kids_by_name : (a : Bool) → IsKept (if a then Some (record { params = of_nodes ∷ []; result = of_nodes }) else None) kids_meaning
-kids_by_name true = kept (of_nodes ∷ []) of_nodes kids_meaning (omega arith) kids_typed
-kids_by_name false = none_kept kids_meaning
+kids_by_name : (a : Bool) → Keeps (if a then Some (record { params = of_nodes ∷ []; result = of_nodes }) else None) kids_meaning
+kids_by_name true = declared_keeps _ kids_meaning (omega arith) kids_typed
+kids_by_name false = λ s e. absurd cc
 
 pub kids_keeps_types : KeepsTypes kids_functions
 kids_keeps_types name s e = kids_by_name (bytes_eq name (codes "kids")) s e
@@ -65,9 +52,9 @@ odd_typed (nodes ds ∷ t ∷ ts) = refl
 odd_typed (value v ∷ ts) = refl
 odd_typed (logical b ∷ ts) = refl
 
-odd_by_name : (a : Bool) → IsKept (if a then Some (record { params = of_nodes ∷ []; result = of_value }) else None) odd_meaning
-odd_by_name true = kept (of_nodes ∷ []) of_value odd_meaning (omega arith) odd_typed
-odd_by_name false = none_kept odd_meaning
+odd_by_name : (a : Bool) → Keeps (if a then Some (record { params = of_nodes ∷ []; result = of_value }) else None) odd_meaning
+odd_by_name true = declared_keeps _ odd_meaning (omega arith) odd_typed
+odd_by_name false = λ s e. absurd cc
 
 pub odd_keeps_types : KeepsTypes odd_functions
 odd_keeps_types name s e = odd_by_name (bytes_eq name (codes "length")) s e
@@ -88,18 +75,18 @@ strange_signature name =
 abbrev pub strange_functions : FunctionSet
 strange_functions = record { signature = strange_signature; meaning = λ name ts. logical true; by_regex = λ name. None }
 
-strange_by_name : (a b c d : Bool) → IsKept (
+strange_by_name : (a b c d : Bool) → Keeps (
     if a then Some (record { params = []; result = of_logical })
     else if b then Some (record { params = []; result = of_logical })
     else if c then Some (record { params = []; result = of_logical })
     else if d then Some (record { params = of_value ∷ of_value ∷ of_value ∷ of_value ∷ of_value ∷ of_value ∷ of_value ∷ of_value ∷ []; result = of_logical })
     else None
     ) (λ ts. logical true)
-strange_by_name true b c d = kept [] of_logical (λ ts. logical true) (omega arith) (λ ts. refl)
-strange_by_name false true c d = kept [] of_logical (λ ts. logical true) (omega arith) (λ ts. refl)
-strange_by_name false false true d = kept [] of_logical (λ ts. logical true) (omega arith) (λ ts. refl)
-strange_by_name false false false true = kept (of_value ∷ of_value ∷ of_value ∷ of_value ∷ of_value ∷ of_value ∷ of_value ∷ of_value ∷ []) of_logical (λ ts. logical true) (omega arith) (λ ts. refl)
-strange_by_name false false false false = none_kept (λ ts. logical true)
+strange_by_name true b c d = declared_keeps _ (λ ts. logical true) (omega arith) (λ ts. refl)
+strange_by_name false true c d = declared_keeps _ (λ ts. logical true) (omega arith) (λ ts. refl)
+strange_by_name false false true d = declared_keeps _ (λ ts. logical true) (omega arith) (λ ts. refl)
+strange_by_name false false false true = declared_keeps _ (λ ts. logical true) (omega arith) (λ ts. refl)
+strange_by_name false false false false = λ s e. absurd cc
 
 pub strange_keeps_types : KeepsTypes strange_functions
 strange_keeps_types name s e =
@@ -136,14 +123,14 @@ both_typed (logical a ∷ nodes ds ∷ ts) = refl
 both_typed (value v ∷ ts) = refl
 both_typed (nodes ds ∷ ts) = refl
 
-pair_by_name : (a b : Bool) → IsKept (
+pair_by_name : (a b : Bool) → Keeps (
     if a then Some (record { params = of_logical ∷ of_logical ∷ []; result = of_logical })
     else if b then Some (record { params = []; result = of_value })
     else None
     ) (λ ts. if a then both_meaning ts else value None)
-pair_by_name true b = kept (of_logical ∷ of_logical ∷ []) of_logical both_meaning (omega arith) both_typed
-pair_by_name false true = kept [] of_value (λ ts. value None) (omega arith) (λ ts. refl)
-pair_by_name false false = none_kept (λ ts. value None)
+pair_by_name true b = declared_keeps _ both_meaning (omega arith) both_typed
+pair_by_name false true = declared_keeps _ (λ ts. value None) (omega arith) (λ ts. refl)
+pair_by_name false false = λ s e. absurd cc
 
 pub pair_keeps_types : KeepsTypes pair_functions
 pair_keeps_types name s e = pair_by_name (bytes_eq name (codes "both")) (bytes_eq name (codes "none")) s e
