@@ -45,8 +45,10 @@ enum Failure {
 /// Parses a path, and takes the looks at its text off those that are left.
 fn parse(alloc: Global, text: &str, looks: &mut u128) -> Result<JsonPath, ParseError>
     requires { 32 * (length text.now + 1) ≤ looks.old }
-    ensures parse { IsParseOf path_view (before_builtin builtin_functions).signature text.now result }
-    ensures fits { IfOk result (λ path. Fits (before_builtin builtin_functions) (path_signatures path)) }
+    ensures parse { IsParseOf path_view
+        (before_builtin builtin_functions).signature text.now result }
+    ensures fits { IfOk result (λ path.
+        Fits (before_builtin builtin_functions) (path_signatures path)) }
     ensures falls { looks.new ≤ looks.old }
     ensures spends { looks.old ≤ looks.new + 32 * (length text.now + 1) }
 {

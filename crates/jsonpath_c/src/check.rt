@@ -46,10 +46,13 @@ pub extern "C" fn jsonpath_message(
 ) -> u8
     ensures statuses { (result ≡ 0) ⊎ (result ≡ 4) ⊎ (result ≡ 5) ⊎ (result ≡ 6) }
     ensures done { result ≡ 0
-        → (((q : Query) × IsAccepted builtin_functions.signature (chars path.now) q) × IsPut [] out.old out.new size.new)
-        ⊎ ((e : path_error.ParseError) × IsRefusedWith path.now e × IsPut (message_of e) out.old out.new size.new) }
+        → (((q : Query) × IsAccepted builtin_functions.signature (chars path.now) q)
+        × IsPut [] out.old out.new size.new)
+        ⊎ ((e : path_error.ParseError) × IsRefusedWith path.now e
+        × IsPut (message_of e) out.old out.new size.new) }
     ensures no_room { result ≡ 5
-        → (e : path_error.ParseError) × IsRefusedWith path.now e × FindsNoRoom (message_of e) out.old size.new }
+        → (e : path_error.ParseError) × IsRefusedWith path.now e
+        × FindsNoRoom (message_of e) out.old size.new }
     ensures not_utf8 { (result ≡ 6) ↔ (IsUtf8 path.now → ⊥) }
     ensures kept_out { result ≢ 0 → out.new ≡ out.old }
     ensures kept_size { result ≢ 0 → result ≢ 5 → size.new ≡ size.old }

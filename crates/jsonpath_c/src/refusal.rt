@@ -52,7 +52,8 @@ fn number(kind: ParseErrorKind) -> u32
 pub(crate) fn refuse(e: &ParseError, refusal: &mut Refusal) -> u8
     ensures memory { kind_of e.now ≡ NoMemory → (result ≡ 4) × (refusal.new ≡ refusal.old) }
     ensures refused { kind_of e.now ≢ NoMemory
-        → (result ≡ 1) × (refusal.new.kind ≡ number_of (kind_of e.now)) × (refusal.new.position ≡ position_of e.now) }
+        → (result ≡ 1) × (refusal.new.kind ≡ number_of (kind_of e.now))
+        × (refusal.new.position ≡ position_of e.now) }
 {
     if e.kind() == ParseErrorKind::NoMemory {
         return NO_MEMORY;

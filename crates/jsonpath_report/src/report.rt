@@ -153,7 +153,8 @@ fn lines<F: Functions + Drop>(
     mut walk: Walk<'_, '_, F>,
 ) -> Result<String, QueryError>
     requires { string_bytes text ≡ [] }
-    ensures lines { IfOk result (λ text. (nodes : List Located) × AreLinesIn form nodes (string_bytes text)
+    ensures lines { IfOk result (λ text.
+        (nodes : List Located) × AreLinesIn form nodes (string_bytes text)
         × (IsClearWalk walk.entry → nodes ≡ rest walk.entry)) }
     ensures refused { OnlyMemory (set_of walk.entry) (query_of walk.entry) result }
 {

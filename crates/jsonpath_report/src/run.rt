@@ -55,7 +55,8 @@ fn write_text<W: Write>(text: &str, to: &mut W) -> io::Result<()>
 /// Tells why a path is refused. Where memory for the line is refused, only its beginning is told.
 fn tell_path<E: Write>(alloc: Global, e: &ParseError, err: &mut E)
     requires { kind_of e.now ≡ ParseErrorKind.NoMemory → position_of e.now ≡ 1 }
-    ensures { AppendsBeginning (E.contents err.old) (E.contents err.new) (line_of (ReportError.Path e.now)) }
+    ensures { AppendsBeginning (E.contents err.old) (E.contents err.new)
+        (line_of (ReportError.Path e.now)) }
 {
     if e.kind() == ParseErrorKind::NoMemory {
         let _ = write_text("jsonpath: path: at position 1, no memory\n", err);
@@ -126,7 +127,8 @@ fn print<W: Write, E: Write>(lines: &str, out: &mut W, err: &mut E) -> u8
     ensures beginning { AppendsBeginning (W.contents out.old) (W.contents out.new) lines.now }
     ensures silent { result ≡ 0 → err.new ≡ err.old }
     ensures told { result ≡ 3
-        → AppendsBeginning (E.contents err.old) (E.contents err.new) (codes "jsonpath: output failed\n") }
+        → AppendsBeginning (E.contents err.old) (E.contents err.new)
+        (codes "jsonpath: output failed\n") }
 {
     if write_lines(lines, out).is_ok() {
         return DONE;
@@ -163,7 +165,8 @@ pub fn run<R: Read, W: Write, E: Write>(
     ensures read_whole { result ≢ 2 → result ≢ 64 → IsAtEnd (R.remaining input.new) }
 
     // When a run is done, over a reader and a writer that tell their bytes: its report went out, and nothing else.
-    ensures report_out { result ≡ 0 → (text : List ℕ) × IsReportOfRun words.now (R.remaining input.old) text
+    ensures report_out { result ≡ 0
+        → (text : List ℕ) × IsReportOfRun words.now (R.remaining input.old) text
         × Appends (W.contents out.old) (W.contents out.new) text }
     ensures nothing_told { result ≡ 0 → err.new ≡ err.old }
 
@@ -175,14 +178,20 @@ pub fn run<R: Read, W: Write, E: Write>(
 
     // A fault is told in its line, as far as `err` takes it. A path is refused only as the parse refuses it.
     ensures usage_told { result ≡ 64
-        → AppendsBeginning (E.contents err.old) (E.contents err.new) (codes "usage: jsonpath PATH\n") }
+        → AppendsBeginning (E.contents err.old) (E.contents err.new)
+        (codes "usage: jsonpath PATH\n") }
     ensures path_told { result ≡ 1 → (path : List ℕ) × IsOneWord words.now path
-        × ((e : path_error.ParseError) × IsParseOf path_view builtin_functions.signature path (Err e)
-        × AppendsBeginning (E.contents err.old) (E.contents err.new) (line_of (ReportError.Path e))) }
-    ensures path_first { (path : List ℕ) → IsOneWord words.now path → IsNoPath builtin_functions path
+        × ((e : path_error.ParseError)
+        × IsParseOf path_view builtin_functions.signature path (Err e)
+        × AppendsBeginning (E.contents err.old) (E.contents err.new)
+        (line_of (ReportError.Path e))) }
+    ensures path_first { (path : List ℕ) → IsOneWord words.now path
+        → IsNoPath builtin_functions path
         → (result ≡ 1) ⊎ ((result ≡ 2)
-        × AppendsBeginning (E.contents err.old) (E.contents err.new) (codes "jsonpath: document: cannot be read\n")) }
-    ensures document_told { result ≡ 2 → (line : List ℕ) × IsDocumentLine (R.remaining input.old) line
+        × AppendsBeginning (E.contents err.old) (E.contents err.new)
+        (codes "jsonpath: document: cannot be read\n")) }
+    ensures document_told { result ≡ 2
+        → (line : List ℕ) × IsDocumentLine (R.remaining input.old) line
         × AppendsBeginning (E.contents err.old) (E.contents err.new) line }
     ensures query_last { result ≡ 3 → MayBeDocument (R.remaining input.old) }
     ensures query_told { result ≡ 3 → (line : List ℕ) × IsQueryLine words.now line

@@ -82,7 +82,8 @@ impl JsonPath {
         path_str: &str,
         functions: &F,
     ) -> Result<JsonPath, ParseError>
-        ensures parse { IsParseOf path_view (before_builtin (F.set functions.now)).signature path_str.now result }
+        ensures parse { IsParseOf path_view (before_builtin (F.set functions.now)).signature
+            path_str.now result }
         ensures fits { IfOk result (λ path.
             Fits (before_builtin (F.set functions.now)) (path_signatures path)) }
     {
@@ -141,7 +142,8 @@ impl JsonPath {
         requires { Fits (before_builtin (F.set functions.now)) (path_signatures self.now) }
         ensures selects { IfOk result (λ list.
             Selects (before_builtin (F.set functions.now)) (path_tree self.now) (view value.now) (located_nodes list)) }
-        ensures refused { OnlyMemory (before_builtin (F.set functions.now)) (path_tree self.now) result }
+        ensures refused { OnlyMemory (before_builtin (F.set functions.now))
+            (path_tree self.now) result }
     {
         evaluate_located(alloc, &self.checked, value, Both(functions, Builtin))
     }
@@ -173,7 +175,8 @@ impl JsonPath {
         requires { Fits (before_builtin (F.set functions.now)) (path_signatures self.now) }
         ensures selects { IfOk result (λ list.
             SelectsValues (before_builtin (F.set functions.now)) (path_tree self.now) (view value.now) (node_values list)) }
-        ensures refused { OnlyMemory (before_builtin (F.set functions.now)) (path_tree self.now) result }
+        ensures refused { OnlyMemory (before_builtin (F.set functions.now))
+            (path_tree self.now) result }
     {
         evaluate(alloc, &self.checked, value, Both(functions, Builtin))
     }

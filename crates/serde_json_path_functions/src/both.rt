@@ -22,9 +22,11 @@ impl<A: Functions, B: Functions> Functions for Both<A, B> {
 
     ghost set = { λ functions. both (A.set functions.0) (B.set functions.1) };
 
-    ghost typed = { λ functions. both_keeps_types (A.set functions.0) (B.set functions.1) (A.typed functions.0) (B.typed functions.1) };
+    ghost typed = { λ functions. both_keeps_types (A.set functions.0) (B.set functions.1)
+        (A.typed functions.0) (B.typed functions.1) };
 
-    ghost patterned = { λ functions. both_keeps_patterns (A.set functions.0) (B.set functions.1) (A.patterned functions.0) (B.patterned functions.1) };
+    ghost patterned = { λ functions. both_keeps_patterns (A.set functions.0) (B.set functions.1)
+        (A.patterned functions.0) (B.patterned functions.1) };
 
     fn signature(&self, name: &str) -> Option<Signature> {
         match self.0.signature(name) {

@@ -78,7 +78,8 @@ fn texts_match(
 ) -> Result<bool, QueryError>
     ensures means { IfOk result (λ found.
         let terms = value (value_view text.now) ∷ value (value_view pattern.now) ∷ [] in
-        IsPromised (Some (matching_view matching)) terms → logical found ≡ pattern_meaning (matching_view matching) terms) }
+        IsPromised (Some (matching_view matching)) terms
+        → logical found ≡ pattern_meaning (matching_view matching) terms) }
     ensures refused { result ≡ Err Pattern →
         MayRefuse (Some (matching_view matching)) (value (value_view text.now) ∷ value (value_view pattern.now) ∷ []) }
 {
@@ -151,7 +152,8 @@ impl Functions for Builtin {
         requires { Takes (builtin_functions.signature name.now) (map term_view args.items) }
         ensures means { IfOk result (λ answer.
             IsPromised (builtin_functions.by_regex name.now) (map term_view args.entry.items)
-            → term_view answer ≡ builtin_functions.meaning name.now (map term_view args.entry.items)) }
+            → term_view answer
+            ≡ builtin_functions.meaning name.now (map term_view args.entry.items)) }
         ensures typed_answer { IfOk result (λ answer.
             Gives (builtin_functions.signature name.now) (term_view answer)) }
         ensures pattern { result ≡ Err Pattern → IsSome (builtin_functions.by_regex name.now) }

@@ -27,7 +27,8 @@ impl Signature {
     /// The signature of these parameters and this result; `None` for more than eight parameters.
     pub fn new(params: &[FunctionArgType], result_type: FunctionArgType) -> Option<Signature>
         ensures some { IfSome result (λ s.
-            signature_view s ≡ record { params = map kind_view params.now; result = kind_view result_type }) }
+            signature_view s
+            ≡ record { params = map kind_view params.now; result = kind_view result_type }) }
         ensures none { IsNone result ↔ (8 < length params.now) }
     {
         if params.len() > MOST_PARAMS {

@@ -210,7 +210,8 @@ impl Printed {
 
 /// Appends a name as a JSON pointer writes it: `~` as `~0`, `/` as `~1`.
 fn push_in_pointer(text: &mut String, name: &str) -> Result<(), AllocError>
-    ensures { OnOk result (string_bytes text.new ≡ string_bytes text.old ++ flat_map in_pointer name.now) }
+    ensures { OnOk result (string_bytes text.new
+        ≡ string_bytes text.old ++ flat_map in_pointer name.now) }
 {
     for c in name.chars() {
         match c {

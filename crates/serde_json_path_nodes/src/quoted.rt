@@ -26,7 +26,8 @@ impl<'b> fmt::Display for Quoted<'b> {
 
 /// Writes what stands between the quotes. Characters without an escape are written many at a time.
 pub(crate) fn write_inside<W: Write>(f: &mut Formatter<W>, text: &str) -> fmt::Result
-    ensures { WritesOnOk W.write_str_gives f.old result (flat_map in_quotes (chars text.now)) f.new }
+    ensures { WritesOnOk W.write_str_gives f.old result
+        (flat_map in_quotes (chars text.now)) f.new }
 {
     let mut rest = text;
     'stretches: loop {

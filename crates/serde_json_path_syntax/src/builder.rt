@@ -220,7 +220,8 @@ impl SyntaxBuilder {
         requires left { (a : tree.Comparable) × IsPart self.old left (a_comparable a) }
         requires right { (b : tree.Comparable) × IsPart self.old right (a_comparable b) }
         ensures made { IfOk result (λ part.
-            (a b : tree.Comparable) → IsPart self.old left (a_comparable a) → IsPart self.old right (a_comparable b)
+            (a b : tree.Comparable) → IsPart self.old left (a_comparable a)
+            → IsPart self.old right (a_comparable b)
             → IsPart self.new part (a_basic (tree.relation a (operator_view operator) b))) }
         ensures keeps { KeepsParts self.old self.new }
     {

@@ -29,7 +29,8 @@ pub struct Checked {
     pub ghost typed: { ∥ IsTyped (signature_in (each_once (calls_among arena.nodes.items))) (query_at arena.nodes.items query) ∥₁ },
     ghost shallow: { depth (query_at arena.nodes.items query) ≤ deepest },
     pub ghost called: { ∥ AreCalled (each_once (calls_among arena.nodes.items)) (query_at arena.nodes.items query) ∥₁ },
-    ghost agreed: { AreDeclared (signature_in (calls_among arena.nodes.items)) (calls_among arena.nodes.items) },
+    ghost agreed: { AreDeclared (signature_in (calls_among arena.nodes.items))
+        (calls_among arena.nodes.items) },
 }
 
 impl Checked {
@@ -61,7 +62,8 @@ impl Checked {
     /// The tree of a part.
     pub(crate) fn of(arena: Arena, part: Part) -> Checked
         requires within { part.number < length arena.nodes.items }
-        requires complete { MayFinish (calls_among arena.nodes.items) (part_query arena.nodes.items part) }
+        requires complete { MayFinish (calls_among arena.nodes.items)
+            (part_query arena.nodes.items part) }
         ensures tree { tree_of result ≡ part_query arena.nodes.items part }
         ensures used { signatures_of result ≡ each_once (calls_among arena.nodes.items) }
     {
@@ -274,7 +276,8 @@ impl Checked {
     #[inline]
     fn bracketed(&self, selectors: &[Part], number: usize) -> Option<SelectorRef<'_>>
         requires within { parts_bound selectors.now ≤ length (nodes_in self.now) }
-        requires typed { UnderSome AreTypedSelectors (selectors_at (nodes_in self.now) selectors.now) }
+        requires typed { UnderSome AreTypedSelectors
+            (selectors_at (nodes_in self.now) selectors.now) }
         ensures more { IsSome result → number + 1 < 2 ^ 64 }
         ensures below { IfSome result (λ selector_ref.
             selector_bound selector_ref ≤ parts_bound selectors.now) }

@@ -49,7 +49,8 @@ impl NumberLiteral {
 
     /// The whole part, rounded toward zero, as a document's number.
     pub fn value(&self) -> Value
-        ensures { view result ≡ number (of_integer (int_div (number_amount self.now) (pos 1000000000))) }
+        ensures { view result
+            ≡ number (of_integer (int_div (number_amount self.now) (pos 1000000000))) }
     {
         let whole = self.billionths / ONE;
         if whole < 0 {

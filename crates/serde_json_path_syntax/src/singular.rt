@@ -40,7 +40,8 @@ fn is_singular_segment(arena: &Arena, segment: Part) -> bool
 /// Whether a segment is one name or one index.
 fn selects_one(arena: &Arena, segment: &Segment) -> bool
     requires { parts_bound (segment_parts segment.now) ≤ length arena.now.nodes.items }
-    ensures { IsTrue result ↔ tree.IsSingularSegment (segment_of (pieces arena.now.nodes.items) segment.now) }
+    ensures { IsTrue result
+        ↔ tree.IsSingularSegment (segment_of (pieces arena.now.nodes.items) segment.now) }
 {
     match segment {
         Segment::DotName(_) => true,

@@ -65,7 +65,8 @@ fn open<'b>(query: &Checked, segment: Part, selector: usize, value: &'b Value) -
     requires within { segment.number < length (nodes_in query.now) }
     requires typed { UnderSome IsTypedSegment (segment_at (nodes_in query.now) segment) }
     ensures { cursor_left result
-        ≡ opened (stage_at (nodes_in query.now) segment).kind (drop selector (stage_at (nodes_in query.now) segment).selectors) (view value.now) }
+        ≡ opened (stage_at (nodes_in query.now) segment).kind
+        (drop selector (stage_at (nodes_in query.now) segment).selectors) (view value.now) }
 {
     match query.selector_ref(segment, selector) {
         Some(selector_ref) => choose(query, selector_ref, value),
@@ -93,7 +94,8 @@ impl<'b> Frame<'b> {
     /// The first frame of a walk.
     pub(crate) fn start(query: &Checked, segments: &[Part], value: &'b Value) -> Frame<'b>
         requires within { parts_bound segments.now ≤ length (nodes_in query.now) }
-        requires typed { UnderSome AreTypedSegments (segments_at (nodes_in query.now) segments.now) }
+        requires typed { UnderSome AreTypedSegments
+            (segments_at (nodes_in query.now) segments.now) }
         ensures { frame_view result ≡ record {
           step = None;
           value = view value.now;
@@ -114,7 +116,8 @@ impl<'b> Frame<'b> {
     /// The frame that a task opens.
     pub(crate) fn of(query: &Checked, segments: &[Part], task: Task<'b>) -> Frame<'b>
         requires within { parts_bound segments.now ≤ length (nodes_in query.now) }
-        requires typed { UnderSome AreTypedSegments (segments_at (nodes_in query.now) segments.now) }
+        requires typed { UnderSome AreTypedSegments
+            (segments_at (nodes_in query.now) segments.now) }
         ensures { let c = child_view task.entry.child in
             frame_view result ≡ record {
               step = Some c.0;
@@ -193,7 +196,8 @@ fn next_admitted<'b, F: Functions>(
     requires below { selector_bound selector_ref ≤ length (nodes_of scope.now) }
     requires sound { SoundSelector scope.now selector_ref }
     requires inside { AllStandIn (top_of scope.now) (cursor_left cursor.old) }
-    ensures skips { Skips scope.now selector_ref.entry (cursor_left cursor.old) (cursor_left cursor.new) }
+    ensures skips { Skips scope.now selector_ref.entry (cursor_left cursor.old)
+        (cursor_left cursor.new) }
     ensures found { IfOk result (λ found.
         IsAtAdmitted scope.now selector_ref.entry
         (cursor_left cursor.new) (option_map child_view found)) }

@@ -89,7 +89,8 @@ fn single_selector(query: &Checked, segment: Part) -> Option<SingleSelector<'_>>
 pub(crate) fn only_child<'q>(query: &'q Checked, segments: &[Part]) -> Option<SingleSelector<'q>>
     requires within { parts_bound segments.now ≤ length (nodes_in query.now) }
     requires typed { UnderSome AreTypedSegments (segments_at (nodes_in query.now) segments.now) }
-    ensures { IfSome result (λ single. SelectOnly (nodes_in query.now) segments.now (single_view single)) }
+    ensures { IfSome result (λ single.
+        SelectOnly (nodes_in query.now) segments.now (single_view single)) }
 {
     let [segment] = segments else {
         return None;

@@ -84,7 +84,8 @@ impl<'q, 'b, F: Functions> Walk<'q, 'b, F> {
         ensures document { document_of self.new ≡ document_of self.old }
         ensures given { IfOk result (λ next. IsClearWalk self.old → MatchOption next
             (rest self.old ≡ [])
-            (λ value. (node : Located) × (node.value ≡ view value.now) × (rest self.old ≡ node ∷ rest self.new))) }
+            (λ value. (node : Located) × (node.value ≡ view value.now)
+            × (rest self.old ≡ node ∷ rest self.new))) }
         ensures nearer { IfOk result (λ next.
             IfSome next (λ value. steps_of self.new < steps_of self.old)) }
         ensures refused { OnlyMemory (set_of self.old) (query_of self.old) result }

@@ -69,7 +69,8 @@ pub(crate) fn answer<'x, 'q: 'x, 'b: 'x, F: Functions>(
     requires sound { SoundCall scope.now call }
     requires inside { StandsIn (top_of scope.now) (view value.now) }
     ensures kind { IfOk result (λ answer.
-        Some (kind_of_term (term_view answer)) ≡ result_kind (set_of scope.now).signature (call_at (nodes_of scope.now) call)) }
+        Some (kind_of_term (term_view answer))
+        ≡ result_kind (set_of scope.now).signature (call_at (nodes_of scope.now) call)) }
     ensures means { IfOk result (λ answer.
         Clear scope.now → term_view answer ≡ answer_at scope.now call (view value.now)) }
     ensures refused { IfErr result (λ e. WithoutPatterns scope.now → e ≡ Memory) }
@@ -97,7 +98,8 @@ fn argument_as<'x, 'q: 'x, 'b: 'x, F: Functions>(
     requires inside { StandsIn (top_of scope.now) (view value.now) }
     ensures kind { IfOk result (λ term. kind_of_term (term_view term) ≡ kind_view kind) }
     ensures means { IfOk result (λ term.
-        Clear scope.now → term_view term ≡ given_at scope.now argument (kind_view kind) (view value.now)) }
+        Clear scope.now
+        → term_view term ≡ given_at scope.now argument (kind_view kind) (view value.now)) }
     ensures refused { IfErr result (λ e. WithoutPatterns scope.now → e ≡ Memory) }
 {
     match scope.query.node(argument) {
@@ -134,7 +136,8 @@ fn result_as<'x, 'q: 'x, 'b: 'x, F: Functions>(
     requires inside { StandsIn (top_of scope.now) (view value.now) }
     ensures kind { IfOk result (λ term. kind_of_term (term_view term) ≡ kind_view kind) }
     ensures means { IfOk result (λ term.
-        Clear scope.now → term_view term ≡ computed.result_as (kind_view kind) (results_at scope.now query (view value.now))) }
+        Clear scope.now → term_view term
+        ≡ computed.result_as (kind_view kind) (results_at scope.now query (view value.now))) }
     ensures refused { IfErr result (λ e. WithoutPatterns scope.now → e ≡ Memory) }
 {
     match kind {

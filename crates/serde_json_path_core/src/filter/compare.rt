@@ -31,7 +31,8 @@ pub(crate) fn compare(
 /// Whether a comparison of two sides holds.
 #[inline(always)]
 pub(crate) fn compare_sides(operator: ComparisonOperator, left: Side, right: Side) -> bool
-    ensures { (a b : Compared) → side_view left.entry ≡ seen_of a → side_view right.entry ≡ seen_of b
+    ensures { (a b : Compared) → side_view left.entry ≡ seen_of a
+        → side_view right.entry ≡ seen_of b
         → result ≡ comparison (operator_view operator) a b }
 {
     match operator {

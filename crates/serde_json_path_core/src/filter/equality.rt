@@ -66,7 +66,8 @@ pub(crate) fn same_items(left: &Vec<Value>, right: &Vec<Value>) -> bool
 /// Whether two objects have the same names with equal values.
 #[cycle(same)]
 pub(crate) fn same_members(left: &Map<String, Value>, right: &Map<String, Value>) -> bool
-    ensures { result ≡ same_members_of (members_view left.now.entries) (members_view right.now.entries) }
+    ensures { result
+        ≡ same_members_of (members_view left.now.entries) (members_view right.now.entries) }
 {
     if left.len() != right.len() {
         return false;

@@ -212,7 +212,8 @@ fn compared<'x, 'q: 'x, 'b: 'x, F: Functions>(
     requires sound { SoundComparable scope.now comparable }
     requires inside { StandsIn (top_of scope.now) (view value.now) }
     ensures means { IfOk result (λ compared_value.
-        Clear scope.now → Some (compared_view compared_value) ≡ compared_at scope.now comparable (view value.now)) }
+        Clear scope.now
+        → Some (compared_view compared_value) ≡ compared_at scope.now comparable (view value.now)) }
     ensures refused { IfErr result (λ e. WithoutPatterns scope.now → e ≡ Memory) }
 {
     match scope.query.node(comparable) {
@@ -291,7 +292,8 @@ pub(crate) fn first<'b, F: Functions>(
     requires sound { SoundQuery scope.now query }
     requires inside { StandsIn (top_of scope.now) (view value.now) }
     ensures means { IfOk result (λ found.
-        Clear scope.now → option_map node_value found ≡ first_value (results_at scope.now query (view value.now))) }
+        Clear scope.now
+        → option_map node_value found ≡ first_value (results_at scope.now query (view value.now))) }
     ensures refused { IfErr result (λ e. WithoutPatterns scope.now → e ≡ Memory) }
 {
     let reached = reached(scope, query, value);

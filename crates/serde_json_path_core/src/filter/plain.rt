@@ -25,7 +25,8 @@ pub(crate) fn plain_side<'x, 'q: 'x, 'b: 'x, F: Functions>(
     requires below { comparable.number < length (nodes_of scope.now) }
     requires sound { SoundComparable scope.now comparable }
     requires inside { StandsIn (top_of scope.now) (view value.now) }
-    ensures { IfSome result (λ side. IsSeenOf side (compared_at scope.now comparable (view value.now))) }
+    ensures { IfSome result (λ side.
+        IsSeenOf side (compared_at scope.now comparable (view value.now))) }
 {
     match scope.query.node(comparable) {
         Node::Comparable(comparable) => match comparable {

@@ -186,7 +186,8 @@ fn side_at<'x, 'q: 'x, 'b: 'x, F: Functions>(
     requires sound { SoundComparable scope.now comparable }
     requires form { IsFormOf scope.now comparable form }
     requires inside { StandsIn (top_of scope.now) (view value.now) }
-    ensures { IfSome result (λ side. IsSeenOf side (compared_at scope.now comparable (view value.now))) }
+    ensures { IfSome result (λ side.
+        IsSeenOf side (compared_at scope.now comparable (view value.now))) }
 {
     match form {
         SideForm::Fixed(side) => Some(side),
@@ -213,7 +214,8 @@ pub(crate) fn decided<'b, F: Functions>(
     requires right_form { IsFormOf scope.now comparison.now.right comparison.now.right_form }
     requires inside { StandsIn (top_of scope.now) (view value.now) }
     ensures { IfSome result (λ holds. holds
-        ≡ relation_holds scope.now comparison.now.left comparison.now.operator comparison.now.right (view value.now)) }
+        ≡ relation_holds scope.now comparison.now.left comparison.now.operator comparison.now.right
+        (view value.now)) }
 {
     let left = side_at(scope, comparison.left, comparison.left_form, value)?;
     let right = side_at(scope, comparison.right, comparison.right_form, value)?;

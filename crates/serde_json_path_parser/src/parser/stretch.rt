@@ -67,14 +67,16 @@ fn gather<S: PathSource, C: Class>(
     part: &mut [u8],
 ) -> (usize, Option<u8>)
     requires ascii { (c : ℕ) → C.holds class.now c ≡ true → c < 128 }
-    requires first { Gathered (C.holds class.now) (S.told source.old).text index (index + 1) part.old }
+    requires first { Gathered (C.holds class.now) (S.told source.old).text index
+        (index + 1) part.old }
     requires some { index < end }
     requires most { end ≤ index + length part.old }
     requires within { end ≤ length (S.told source.old).text }
     ensures some { index < result.0 }
     ensures most { result.0 ≤ end }
     ensures long { length part.new ≡ length part.old }
-    ensures gathered { Gathered (C.holds class.now) (S.told source.old).text index result.0 part.new }
+    ensures gathered { Gathered (C.holds class.now) (S.told source.old).text
+        index result.0 part.new }
     ensures next_is { result.1 ≡ slice_get (S.told source.old).text result.0 }
     ensures looks { LooksOn (S.told source.old) (S.told source.new)
         (up_to result.0 result.1 - (index + 1)) (up_to result.0 result.1) }

@@ -76,7 +76,8 @@ impl fmt::Display for Literal {
 /// A value that stands for a literal.
 pub(crate) fn write_value<W: Write>(f: &mut Formatter<W>, value: &Value) -> fmt::Result
     requires { IsValueLiteral (literal_of (view value.now)) }
-    ensures { WritesOnOk W.write_str_gives f.old result (literal_text (literal_of (view value.now))) f.new }
+    ensures { WritesOnOk W.write_str_gives f.old result
+        (literal_text (literal_of (view value.now))) f.new }
 {
     match value {
         Value::String(text) => write!(f, "{}", Quoted(text.as_str())),

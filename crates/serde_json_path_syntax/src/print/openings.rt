@@ -19,7 +19,8 @@ pub(crate) fn sign(kind: QueryKind) -> &'static str
 
 /// What is before a name or `*`, after the sign of the query that begins with it.
 pub(crate) fn dots(start: Option<QueryKind>, kind: SegmentKind) -> &'static str
-    ensures { result.now ≡ sign_text (option_map kind_view start) ++ dots_of (segment_kind_view kind) }
+    ensures { result.now
+        ≡ sign_text (option_map kind_view start) ++ dots_of (segment_kind_view kind) }
 {
     match (start, kind) {
         (None, SegmentKind::Child) => ".",

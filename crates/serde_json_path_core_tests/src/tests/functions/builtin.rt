@@ -36,7 +36,8 @@ fn answer_to<'b>(
     document: &'b Value,
     number: usize,
 ) -> Result<String, Fail>
-    requires { (plain_signature name.now ≡ Some (record { params = of_nodes ∷ []; result = of_value })) }
+    requires { (plain_signature name.now
+        ≡ Some (record { params = of_nodes ∷ []; result = of_value })) }
 {
     let mut nodes = Vec::new(alloc);
     for _ in 0..number {
