@@ -31,7 +31,7 @@ check:
 # The whole gate: each proof from nothing, each test, and each edit that must be refused; then the documents, by the program
 # that the gate has built; and then the bindings.
 test:
-	rt ci
+	RT_JOBS="$$(tools/lanes)" rt ci
 	tools/check_documents
 	$(MAKE) test-bindings
 
