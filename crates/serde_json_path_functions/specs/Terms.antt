@@ -1,8 +1,9 @@
 -- What contracts see of arguments, answers and signatures.
 use Rattle.std.specs.Prelude.{List, map, take, Bool, true, false, Option, Some, None}
+use Rattle.std.specs.Borrow.{Bor}
 use Rattle.serde_json.specs.Data.{Data}
 use Rattle.serde_json.specs.View.{view}
-use Rattle.serde_json_path_nodes.specs.Views.{node_value}
+use Rattle.serde_json.specs.declared.value.Value.{Value}
 use Rattle.serde_json_path_functions.specs.Functions.{Kind, of_value, of_nodes, of_logical, Signature, Term, value, nodes, logical, whole_text, any_part}
 use Rattle.serde_json_path_functions.specs.Functions as spec
 use Rattle.serde_json_path_functions.specs.declared.types.FunctionArgType.{FunctionArgType}
@@ -27,14 +28,18 @@ abbrev pub truth_view : LogicalType → Bool
 truth_view truth.True = true
 truth_view truth.False = false
 
+-- the value of a node
+abbrev pub node_view : Bor Value → Data
+node_view node = view node.now
+
 abbrev pub value_view : ValueType → Option Data
 value_view (some.Value v) = Some (view v)
-value_view (some.Node v) = Some (view v.now)
+value_view (some.Node node) = Some (node_view node)
 value_view some.Nothing = None
 
 -- the values of the nodes, in order
 abbrev pub nodes_view : NodesType → List Data
-nodes_view list = map node_value list.nodes.items
+nodes_view list = map node_view list.nodes.items
 
 abbrev pub term_view : FunctionValue → Term
 term_view (function.Value v) = value (value_view v)

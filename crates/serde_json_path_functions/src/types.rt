@@ -2,8 +2,7 @@
 
 ghost use Rattle.std.specs.Prelude.{◌≡◌, ◌==◌, Bool, false, None, length, map, option_map, slice_get};
 ghost use Rattle.serde_json.specs.View.{view};
-ghost use Rattle.serde_json_path_nodes.specs.Views.{node_value};
-ghost use Rattle.serde_json_path_functions.specs.Terms.{truth_view, value_view, nodes_view};
+ghost use Rattle.serde_json_path_functions.specs.Terms.{node_view, nodes_view, truth_view, value_view};
 
 use serde_json::Value;
 
@@ -62,7 +61,7 @@ pub enum ValueType<'b> {
 impl<'b> ValueType<'b> {
     /// The value, or `None` for Nothing.
     pub fn as_value(&self) -> Option<&Value>
-        ensures { option_map node_value result ≡ value_view self.now }
+        ensures { option_map node_view result ≡ value_view self.now }
     {
         match self {
             ValueType::Value(value) => Some(value),
@@ -88,7 +87,7 @@ pub struct NodesType<'b> {
 }
 
 impl<'b> From<Vec<&'b Value>> for NodesType<'b> {
-    ghost from_gives = { λ nodes list. nodes_view list ≡ map node_value nodes.items };
+    ghost from_gives = { λ nodes list. nodes_view list ≡ map node_view nodes.items };
 
     /// The list of these nodes. Takes no memory.
     fn from(nodes: Vec<&'b Value>) -> NodesType<'b> {
@@ -99,14 +98,14 @@ impl<'b> From<Vec<&'b Value>> for NodesType<'b> {
 impl<'b> NodesType<'b> {
     /// The nodes as a vector, in order. Takes no memory.
     pub fn all(self) -> Vec<&'b Value>
-        ensures { map node_value result.items ≡ nodes_view self.entry }
+        ensures { map node_view result.items ≡ nodes_view self.entry }
     {
         self.nodes
     }
 
     /// The first node, or `None` if the list is empty.
     pub fn first(&self) -> Option<&'b Value>
-        ensures { option_map node_value result ≡ slice_get (nodes_view self.now) 0 }
+        ensures { option_map node_view result ≡ slice_get (nodes_view self.now) 0 }
     {
         self.nodes.first().copied()
     }

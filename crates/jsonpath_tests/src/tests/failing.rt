@@ -89,6 +89,11 @@ fn word(alloc: Global, of: &str) -> Result<Vec<String>, AllocError> {
     Ok(words)
 }
 
+/// Holds bytes to the text that is wanted.
+fn holds(rt: &impl Abort, bytes: &[u8], wanted: &[u8]) {
+    assert!(rt; bytes == wanted, "{bytes:?} in place of {wanted:?}");
+}
+
 /// The status of a run whose reader fails at a call, and whether that call was made. What is said is held to the status.
 fn run_reading(
     rt: &impl Abort,
@@ -110,8 +115,8 @@ fn run_reading(
         1 => ("", "jsonpath: path: at position 1, expected '$'\n"),
         _ => ("", "jsonpath: document: cannot be read\n"),
     };
-    assert_eq!(rt; out.as_slice(), lines.as_bytes());
-    assert_eq!(rt; err.as_slice(), told.as_bytes());
+    holds(rt, out.as_slice(), lines.as_bytes());
+    holds(rt, err.as_slice(), told.as_bytes());
     Ok((status, input.calls > fails_at))
 }
 
@@ -128,9 +133,12 @@ fn each_read_fails(rt: HostRuntime) -> Result<(), Fail> {
     Ok(())
 }
 
-/// How much a writer took that failed at a call, of a text that ends with a flush.
-fn taken_before(text: &str, fails_at: usize) -> Option<&[u8]> {
-    text.as_bytes().get(..text.len().min(fails_at / 2))
+/// Holds what a writer took that failed at a call to the beginning of a text that ends with a flush.
+fn holds_taken(rt: &impl Abort, writer: &Writer, text: &str) {
+    let (taken, _) = text
+        .as_bytes()
+        .split_at(text.len().min(writer.fails_at / 2));
+    holds(rt, writer.taken.as_slice(), taken);
 }
 
 /// Holds a run whose two writers fail at a call each to its status and to what they took.
@@ -146,14 +154,8 @@ fn run_writing(
     let mut out = Writer::new(alloc, out_fails_at);
     let mut err = Writer::new(alloc, err_fails_at);
     let status = run(alloc, &words, &mut input, &mut out, &mut err);
-    assert_eq!(rt;
-        Some(out.taken.as_slice()),
-        taken_before(lines, out_fails_at)
-    );
-    assert_eq!(rt;
-        Some(err.taken.as_slice()),
-        taken_before(told, err_fails_at)
-    );
+    holds_taken(rt, &out, lines);
+    holds_taken(rt, &err, told);
     Ok(status)
 }
 

@@ -3,14 +3,16 @@
 //!
 //! A call that answers no memory is called again, and then answers as its row says.
 
+ghost use Rattle.serde_json_path_functions.specs.Functions.{Fits};
+ghost use Rattle.serde_json_path_functions.specs.Patterns.{before_builtin};
+ghost use Rattle.serde_json_path.specs.Paths.{path_signatures};
+
 use crate::tests::reports::READINGS;
 use jsonpath_report::report::{DocumentError, ReportError, report};
 use jsonpath_report::samples::Samples;
 use serde_json::Value;
 use serde_json_path::functions::{Both, Builtin, Functions};
-use serde_json_path::{
-    JsonPath, LocatedNode, LocatedNodeList, NodeList, ParseErrorKind, QueryError, Walk,
-};
+use serde_json_path::{JsonPath, LocatedNode, NodeList, ParseErrorKind, QueryError, Walk};
 use std::alloc::Global;
 use std::process::Abort;
 use std::test::Fail;
@@ -173,44 +175,71 @@ fn is_second(rt: &impl Abort, alloc: Global, nodes: &NodeList<'_>) -> Result<(),
     Ok(())
 }
 
+/// Holds what a query gives to the second row. A query that is refused is made again; returns whether it was.
+fn queries_with<F: Functions>(
+    rt: &impl Abort,
+    alloc: Global,
+    path: &JsonPath,
+    document: &Value,
+    functions: &F,
+) -> Result<bool, Fail>
+    requires { Fits (before_builtin (F.set functions.now)) (path_signatures path.now) }
+{
+    let (nodes, was_refused) = match path.query_with(alloc, document, functions) {
+        Err(QueryError::Memory) => (path.query_with(alloc, document, functions)?, true),
+        answer => (answer?, false),
+    };
+    is_second(rt, alloc, &nodes)?;
+    Ok(was_refused)
+}
+
 #[test]
 fn query_with(rt: HostRuntime) -> Result<(), Fail> {
     let path = JsonPath::parse_with(rt.alloc(), FIRST, &Samples)?;
     let document = Value::from_str(rt.alloc(), SQUARE)?;
-    match path.query_with(rt.alloc(), &document, &Samples) {
-        Err(QueryError::Memory) => {
-            let nodes = path.query_with(rt.alloc(), &document, &Samples)?;
-            is_second(&rt, rt.alloc(), &nodes)?;
-            called_again()
-        }
-        answer => is_second(&rt, rt.alloc(), &answer?),
+    if queries_with(&rt, rt.alloc(), &path, &document, &Samples)? {
+        return called_again();
     }
+    Ok(())
 }
 
-/// Holds located nodes to the second row.
-fn is_at_second(rt: &impl Abort, alloc: Global, nodes: LocatedNodeList<'_>) -> Result<(), Fail> {
-    let node = nodes.exactly_one()?;
-    assert_eq!(rt; node.location().to_text(alloc)?.as_str(), "$[1]");
+/// Holds a node to the location of the second row.
+fn is_at_second(rt: &impl Abort, alloc: Global, node: &LocatedNode<'_>) -> Result<(), Fail> {
+    assert!(rt; node.location().to_text(alloc)?.as_str() == "$[1]");
     Ok(())
+}
+
+/// As `queries_with`, with locations.
+fn locates_with<F: Functions>(
+    rt: &impl Abort,
+    alloc: Global,
+    path: &JsonPath,
+    document: &Value,
+    functions: &F,
+) -> Result<bool, Fail>
+    requires { Fits (before_builtin (F.set functions.now)) (path_signatures path.now) }
+{
+    let (nodes, was_refused) = match path.query_located_with(alloc, document, functions) {
+        Err(QueryError::Memory) => (path.query_located_with(alloc, document, functions)?, true),
+        answer => (answer?, false),
+    };
+    is_at_second(rt, alloc, &nodes.exactly_one()?)?;
+    Ok(was_refused)
 }
 
 #[test]
 fn query_located_with(rt: HostRuntime) -> Result<(), Fail> {
     let path = JsonPath::parse_with(rt.alloc(), FIRST, &Samples)?;
     let document = Value::from_str(rt.alloc(), SQUARE)?;
-    match path.query_located_with(rt.alloc(), &document, &Samples) {
-        Err(QueryError::Memory) => {
-            let nodes = path.query_located_with(rt.alloc(), &document, &Samples)?;
-            is_at_second(&rt, rt.alloc(), nodes)?;
-            called_again()
-        }
-        answer => is_at_second(&rt, rt.alloc(), answer?),
+    if locates_with(&rt, rt.alloc(), &path, &document, &Samples)? {
+        return called_again();
     }
+    Ok(())
 }
 
 /// The next node of a walk, which goes on where it is refused, and whether it was.
-fn next_node<'b>(
-    walk: &mut Walk<'_, 'b, Both<&Samples, Builtin>>,
+fn next_node<'b, F: Functions>(
+    walk: &mut Walk<'_, 'b, Both<&F, Builtin>>,
 ) -> Result<(Option<LocatedNode<'b>>, bool), QueryError> {
     match walk.next() {
         Err(QueryError::Memory) => Ok((walk.next()?, true)),
@@ -218,24 +247,49 @@ fn next_node<'b>(
     }
 }
 
-/// Holds a walk to a node, whichever it is.
-fn has_node(rt: &impl Abort, mut walk: Walk<'_, '_, Both<&Samples, Builtin>>) -> Result<(), Fail> {
+/// Holds a walk to a node, whichever it is. A walk that is refused at its beginning is begun again; returns whether it was.
+fn walks<F: Functions>(
+    rt: &impl Abort,
+    alloc: Global,
+    path: &JsonPath,
+    document: &Value,
+    functions: &F,
+) -> Result<bool, Fail>
+    requires { Fits (before_builtin (F.set functions.now)) (path_signatures path.now) }
+{
+    let (mut walk, was_refused) = match path.walk(alloc, document, functions) {
+        Err(QueryError::Memory) => (path.walk(alloc, document, functions)?, true),
+        answer => (answer?, false),
+    };
     let (node, _) = next_node(&mut walk)?;
     assert!(rt; node.is_some());
-    Ok(())
+    Ok(was_refused)
 }
 
 #[test]
 fn walk(rt: HostRuntime) -> Result<(), Fail> {
     let path = JsonPath::parse_with(rt.alloc(), FIRST, &Samples)?;
     let document = Value::from_str(rt.alloc(), SQUARE)?;
-    match path.walk(rt.alloc(), &document, &Samples) {
-        Err(QueryError::Memory) => {
-            has_node(&rt, path.walk(rt.alloc(), &document, &Samples)?)?;
-            called_again()
-        }
-        answer => has_node(&rt, answer?),
+    if walks(&rt, rt.alloc(), &path, &document, &Samples)? {
+        return called_again();
     }
+    Ok(())
+}
+
+/// Holds a walk to the second row and its end. Returns whether a call was refused.
+fn gives_second<F: Functions>(
+    rt: &impl Abort,
+    alloc: Global,
+    walk: &mut Walk<'_, '_, Both<&F, Builtin>>,
+) -> Result<bool, Fail> {
+    let (node, was_refused) = next_node(walk)?;
+    match node {
+        Some(node) => is_at_second(rt, alloc, &node)?,
+        None => assert!(rt; false, "no node"),
+    }
+    let (node, is_refused) = next_node(walk)?;
+    assert!(rt; node.is_none());
+    Ok(was_refused || is_refused)
 }
 
 #[test]
@@ -243,14 +297,7 @@ fn next(rt: HostRuntime) -> Result<(), Fail> {
     let path = JsonPath::parse_with(rt.alloc(), FIRST, &Samples)?;
     let document = Value::from_str(rt.alloc(), SQUARE)?;
     let mut walk = path.walk(rt.alloc(), &document, &Samples)?;
-    let (node, was_refused) = next_node(&mut walk)?;
-    match node {
-        Some(node) => assert_eq!(rt; node.location().to_text(rt.alloc())?.as_str(), "$[1]"),
-        None => assert!(rt; false, "no node"),
-    }
-    let (node, is_refused) = next_node(&mut walk)?;
-    assert!(rt; node.is_none());
-    if was_refused || is_refused {
+    if gives_second(&rt, rt.alloc(), &mut walk)? {
         return called_again();
     }
     Ok(())

@@ -7,10 +7,10 @@ ghost use Rattle.serde_json_path_syntax.specs.Tree.{name};
 
 use serde_json::Value;
 use serde_json_path_core::{
-    Checked, Part, Parts, QueryKind, SegmentKind, Slice, SyntaxBuilder, evaluate, evaluate_located,
-    walk,
+    Checked, Part, Parts, QueryKind, SegmentKind, Slice, SyntaxBuilder, Walk, evaluate,
+    evaluate_located, walk,
 };
-use serde_json_path_functions::Builtin;
+use serde_json_path_functions::{Builtin, QueryError};
 use serde_json_path_nodes::LocatedNodeList;
 use std::alloc::Global;
 use std::process::Abort;
@@ -126,19 +126,25 @@ fn selects_by_parts(rt: HostRuntime) -> Result<(), Fail> {
     selects(&rt, alloc, &all, "[[1,2]]", twice)
 }
 
+/// Holds a walk to one node, and to one place at most.
+fn gives_one(rt: &impl Abort, walk: &mut Walk<'_, '_, Builtin>) -> Result<(), QueryError> {
+    assert!(rt; walk.places() <= 1);
+    assert!(rt; walk.next()?.is_some());
+    assert!(rt; walk.next()?.is_none());
+    assert!(rt; walk.places() == 0);
+    Ok(())
+}
+
 /// Holds a query to the one node that it selects in `{"a":[1]}`, as a list, as values and in a walk.
 fn selects_one(rt: &impl Abort, alloc: Global, query: &Checked, wanted: &str) -> Result<(), Fail>
     requires { signatures_of query.now ≡ [] }
 {
-    let root = Value::from_str(alloc, r#"{"a":[1]}"#)?;
-    let nodes = evaluate_located(alloc, query, &root, Builtin)?;
-    assert_eq!(rt; printed(alloc, &nodes)?.as_str(), wanted);
-    assert_eq!(rt; evaluate(alloc, query, &root, Builtin)?.len(), 1);
-    let mut walk = walk(alloc, query, &root, Builtin)?;
-    assert!(rt; walk.places() <= 1);
-    assert!(rt; walk.next()?.is_some());
-    assert!(rt; walk.next()?.is_none());
-    assert_eq!(rt; walk.places(), 0);
+    let document = r#"{"a":[1]}"#;
+    selects(rt, alloc, query, document, wanted)?;
+    let root = Value::from_str(alloc, document)?;
+    let count = evaluate(alloc, query, &root, Builtin)?.len();
+    assert!(rt; count == 1);
+    gives_one(rt, &mut walk(alloc, query, &root, Builtin)?)?;
     Ok(())
 }
 
@@ -158,13 +164,20 @@ fn tells_a_singular_query(rt: HostRuntime) -> Result<(), Fail> {
     Ok(())
 }
 
+/// Holds a query to its text, in both ways.
+fn prints(rt: &impl Abort, alloc: Global, query: &Checked, wanted: &str) -> Result<(), Fail> {
+    assert!(rt; query.to_text(alloc)?.as_str() == wanted);
+    assert!(rt; query.to_string(alloc)?.as_str() == wanted);
+    Ok(())
+}
+
 #[test]
 fn prints_and_copies_by_the_tree(rt: HostRuntime) -> Result<(), Fail> {
     let alloc = rt.alloc();
     let query = made_in_order(alloc)?;
     let other = made_from_the_end(alloc)?;
-    assert_eq!(rt; query.to_text(alloc)?.as_str(), "$['a', 'b']");
-    assert_eq!(rt; other.to_string(alloc)?.as_str(), "$['a', 'b']");
+    prints(&rt, alloc, &query, "$['a', 'b']")?;
+    prints(&rt, alloc, &other, "$['a', 'b']")?;
     assert!(rt; query == other);
     assert!(rt; query.try_clone(alloc)? == query);
     assert!(rt; query != first_of_member(alloc)?);

@@ -1,6 +1,8 @@
 //! Which literals may be arguments of the type of values (RFC 9535, section 2.4.3), and numbers as literals.
 
 use serde_json_path_core::{Literal, NumberLiteral};
+use std::alloc::Global;
+use std::process::Abort;
 use std::test::Fail;
 
 /// The billionths of the greatest number, 2^64 - 1.
@@ -22,17 +24,36 @@ const NUMBERS: &[(i128, bool, &str)] = &[
     (LEAST, true, "-9223372036854775808"),
 ];
 
+/// Holds a number to its billionths and its whole part.
+fn holds(
+    rt: &impl Abort,
+    alloc: Global,
+    number: NumberLiteral,
+    (billionths, whole): (i128, &str),
+) -> Result<(), Fail> {
+    assert!(rt; number.billionths() == billionths, "{whole}");
+    assert!(rt;
+        number.value().to_string(alloc)?.as_str() == whole,
+        "{whole}"
+    );
+    Ok(())
+}
+
+/// Whether a literal may be a value.
+fn is_value(literal: Literal) -> bool {
+    literal.is_value()
+}
+
 #[test]
 fn takes_no_fraction_as_a_value(rt: HostRuntime) -> Result<(), Fail> {
-    let alloc = rt.alloc();
-    for &(billionths, is_value, whole) in NUMBERS {
+    for &(billionths, may_be, whole) in NUMBERS {
         let number = NumberLiteral::from_billionths(billionths).ok_or("out of range")?;
-        assert_eq!(rt; number.billionths(), billionths);
-        assert_eq!(rt; number.value().to_string(alloc)?.as_str(), whole);
-        assert_eq!(rt; Literal::Number(number).is_value(), is_value, "{whole}");
+        holds(&rt, rt.alloc(), number, (billionths, whole))?;
+        assert!(rt; is_value(Literal::Number(number)) == may_be, "{whole}");
     }
-    assert!(rt; Literal::String(String::from_str(alloc, "1.5")?).is_value());
-    assert!(rt; Literal::Bool(false).is_value() && Literal::Null.is_value());
+    let text = String::from_str(rt.alloc(), "1.5")?;
+    assert!(rt; is_value(Literal::String(text)));
+    assert!(rt; is_value(Literal::Bool(false)) && is_value(Literal::Null));
     Ok(())
 }
 

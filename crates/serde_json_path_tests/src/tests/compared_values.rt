@@ -2,20 +2,24 @@
 
 use crate::tests::rows::{fields, gives, selection};
 use serde_json::Value;
-use std::alloc::Global;
+use std::alloc::{AllocError, Global};
 use std::process::Abort;
 use std::test::Fail;
 
 /// The operators.
 const OPERATORS: &[&str] = &["==", "!=", "<", "<=", ">", ">="];
 
-/// Whether an operator holds between two sides for the one item of a document.
-fn holds(
+/// The path of a comparison.
+fn compared(
     alloc: Global,
-    document: &Value,
     (left, operator, right): (&str, &str, &str),
-) -> Result<bool, Fail> {
-    let path = format!(in alloc; "$[?{left} {operator} {right}]")?;
+) -> Result<String, AllocError> {
+    format!(in alloc; "$[?{left} {operator} {right}]")
+}
+
+/// Whether an operator holds between two sides for the one item of a document.
+fn holds(alloc: Global, document: &Value, sides: (&str, &str, &str)) -> Result<bool, Fail> {
+    let path = compared(alloc, sides)?;
     Ok(selection(alloc, path.as_str(), document)?.len() == 1)
 }
 

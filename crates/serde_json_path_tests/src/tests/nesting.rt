@@ -58,7 +58,10 @@ fn holds_text(rt: &impl Abort, alloc: Global, text: &str, wanted: &str) -> Resul
     parses(rt, alloc, text, wanted)?;
     match wanted {
         "accepted" => prints_again(rt, alloc, text),
-        _ => cut(rt, alloc, text),
+        _ => {
+            cut(rt, alloc, text);
+            Ok(())
+        }
     }
 }
 

@@ -4,6 +4,10 @@
 //! A call that answers no memory is called again, and then answers as its row says. A test whose name begins with
 //! `takes_none` makes requests only for what it hands in.
 
+ghost use Rattle.serde_json_path_functions.specs.Functions.{Fits};
+ghost use Rattle.serde_json_path_functions.specs.Patterns.{before_builtin, builtin_functions};
+ghost use Rattle.serde_json_path.specs.Paths.{path_signatures};
+
 use crate::tests::long_texts::long;
 use crate::tests::rows::{fields, locations, selected, values};
 use serde_json::Value;
@@ -264,21 +268,53 @@ fn are_at(
     Ok(())
 }
 
+/// Holds what a query gives to its values. A query that is refused is made again; returns whether it was.
+fn queries(
+    rt: &impl Abort,
+    alloc: Global,
+    path: &JsonPath,
+    document: &Value,
+    items: &str,
+) -> Result<bool, Fail>
+    requires { Fits builtin_functions (path_signatures path.now) }
+{
+    let (nodes, was_refused) = match path.query(alloc, document) {
+        Err(QueryError::Memory) => (path.query(alloc, document)?, true),
+        answer => (answer?, false),
+    };
+    are_values(rt, alloc, &nodes, items)?;
+    Ok(was_refused)
+}
+
 #[test]
 fn query(rt: HostRuntime) -> Result<(), Fail> {
     for &row in ROWS {
         let (text, document, _, items) = cells(row)?;
         let path = JsonPath::parse(rt.alloc(), text)?;
         let document = Value::from_str(rt.alloc(), document)?;
-        match path.query(rt.alloc(), &document) {
-            Err(QueryError::Memory) => {
-                are_values(&rt, rt.alloc(), &path.query(rt.alloc(), &document)?, items)?;
-                return called_again();
-            }
-            answer => are_values(&rt, rt.alloc(), &answer?, items)?,
+        if queries(&rt, rt.alloc(), &path, &document, items)? {
+            return called_again();
         }
     }
     Ok(())
+}
+
+/// As `queries`, where the document is asked.
+fn document_queries(
+    rt: &impl Abort,
+    alloc: Global,
+    path: &JsonPath,
+    document: &Value,
+    items: &str,
+) -> Result<bool, Fail>
+    requires { Fits builtin_functions (path_signatures path.now) }
+{
+    let (nodes, was_refused) = match document.json_path(alloc, path) {
+        Err(QueryError::Memory) => (document.json_path(alloc, path)?, true),
+        answer => (answer?, false),
+    };
+    are_values(rt, alloc, &nodes, items)?;
+    Ok(was_refused)
 }
 
 #[test]
@@ -287,20 +323,29 @@ fn json_path(rt: HostRuntime) -> Result<(), Fail> {
         let (text, document, _, items) = cells(row)?;
         let path = JsonPath::parse(rt.alloc(), text)?;
         let document = Value::from_str(rt.alloc(), document)?;
-        match document.json_path(rt.alloc(), &path) {
-            Err(QueryError::Memory) => {
-                are_values(
-                    &rt,
-                    rt.alloc(),
-                    &document.json_path(rt.alloc(), &path)?,
-                    items,
-                )?;
-                return called_again();
-            }
-            answer => are_values(&rt, rt.alloc(), &answer?, items)?,
+        if document_queries(&rt, rt.alloc(), &path, &document, items)? {
+            return called_again();
         }
     }
     Ok(())
+}
+
+/// As `queries`, with locations.
+fn locates(
+    rt: &impl Abort,
+    alloc: Global,
+    path: &JsonPath,
+    document: &Value,
+    places: &str,
+) -> Result<bool, Fail>
+    requires { Fits builtin_functions (path_signatures path.now) }
+{
+    let (nodes, was_refused) = match path.query_located(alloc, document) {
+        Err(QueryError::Memory) => (path.query_located(alloc, document)?, true),
+        answer => (answer?, false),
+    };
+    are_at(rt, alloc, &nodes, places)?;
+    Ok(was_refused)
 }
 
 #[test]
@@ -309,20 +354,30 @@ fn query_located(rt: HostRuntime) -> Result<(), Fail> {
         let (text, document, places, _) = cells(row)?;
         let path = JsonPath::parse(rt.alloc(), text)?;
         let document = Value::from_str(rt.alloc(), document)?;
-        match path.query_located(rt.alloc(), &document) {
-            Err(QueryError::Memory) => {
-                are_at(
-                    &rt,
-                    rt.alloc(),
-                    &path.query_located(rt.alloc(), &document)?,
-                    places,
-                )?;
-                return called_again();
-            }
-            answer => are_at(&rt, rt.alloc(), &answer?, places)?,
+        if locates(&rt, rt.alloc(), &path, &document, places)? {
+            return called_again();
         }
     }
     Ok(())
+}
+
+/// As `queries`, under a function set.
+fn queries_with<F: Functions>(
+    rt: &impl Abort,
+    alloc: Global,
+    path: &JsonPath,
+    document: &Value,
+    functions: &F,
+    items: &str,
+) -> Result<bool, Fail>
+    requires { Fits (before_builtin (F.set functions.now)) (path_signatures path.now) }
+{
+    let (nodes, was_refused) = match path.query_with(alloc, document, functions) {
+        Err(QueryError::Memory) => (path.query_with(alloc, document, functions)?, true),
+        answer => (answer?, false),
+    };
+    are_values(rt, alloc, &nodes, items)?;
+    Ok(was_refused)
 }
 
 #[test]
@@ -331,20 +386,30 @@ fn query_with(rt: HostRuntime) -> Result<(), Fail> {
         let (text, document, _, items) = cells(row)?;
         let path = JsonPath::parse_with(rt.alloc(), text, &Builtin)?;
         let document = Value::from_str(rt.alloc(), document)?;
-        match path.query_with(rt.alloc(), &document, &Builtin) {
-            Err(QueryError::Memory) => {
-                are_values(
-                    &rt,
-                    rt.alloc(),
-                    &path.query_with(rt.alloc(), &document, &Builtin)?,
-                    items,
-                )?;
-                return called_again();
-            }
-            answer => are_values(&rt, rt.alloc(), &answer?, items)?,
+        if queries_with(&rt, rt.alloc(), &path, &document, &Builtin, items)? {
+            return called_again();
         }
     }
     Ok(())
+}
+
+/// As `locates`, under a function set.
+fn locates_with<F: Functions>(
+    rt: &impl Abort,
+    alloc: Global,
+    path: &JsonPath,
+    document: &Value,
+    functions: &F,
+    places: &str,
+) -> Result<bool, Fail>
+    requires { Fits (before_builtin (F.set functions.now)) (path_signatures path.now) }
+{
+    let (nodes, was_refused) = match path.query_located_with(alloc, document, functions) {
+        Err(QueryError::Memory) => (path.query_located_with(alloc, document, functions)?, true),
+        answer => (answer?, false),
+    };
+    are_at(rt, alloc, &nodes, places)?;
+    Ok(was_refused)
 }
 
 #[test]
@@ -353,17 +418,8 @@ fn query_located_with(rt: HostRuntime) -> Result<(), Fail> {
         let (text, document, places, _) = cells(row)?;
         let path = JsonPath::parse_with(rt.alloc(), text, &Builtin)?;
         let document = Value::from_str(rt.alloc(), document)?;
-        match path.query_located_with(rt.alloc(), &document, &Builtin) {
-            Err(QueryError::Memory) => {
-                are_at(
-                    &rt,
-                    rt.alloc(),
-                    &path.query_located_with(rt.alloc(), &document, &Builtin)?,
-                    places,
-                )?;
-                return called_again();
-            }
-            answer => are_at(&rt, rt.alloc(), &answer?, places)?,
+        if locates_with(&rt, rt.alloc(), &path, &document, &Builtin, places)? {
+            return called_again();
         }
     }
     Ok(())
@@ -384,20 +440,33 @@ fn remaining<F: Functions>(
     Ok(text)
 }
 
+/// Holds a walk to its locations. One that is refused at its beginning is begun again; returns whether it was.
+fn walks<F: Functions>(
+    rt: &impl Abort,
+    alloc: Global,
+    path: &JsonPath,
+    document: &Value,
+    functions: &F,
+    places: &str,
+) -> Result<bool, Fail>
+    requires { Fits (before_builtin (F.set functions.now)) (path_signatures path.now) }
+{
+    let (mut walk, was_refused) = match path.walk(alloc, document, functions) {
+        Err(QueryError::Memory) => (path.walk(alloc, document, functions)?, true),
+        answer => (answer?, false),
+    };
+    assert_eq!(rt; remaining(alloc, &mut walk)?.as_str(), places);
+    Ok(was_refused)
+}
+
 #[test]
 fn walk(rt: HostRuntime) -> Result<(), Fail> {
     for &row in ROWS {
         let (text, document, places, _) = cells(row)?;
         let path = JsonPath::parse_with(rt.alloc(), text, &Builtin)?;
         let document = Value::from_str(rt.alloc(), document)?;
-        match path.walk(rt.alloc(), &document, &Builtin) {
-            Err(QueryError::Memory) => {
-                let mut walk = path.walk(rt.alloc(), &document, &Builtin)?;
-                assert_eq!(rt; remaining(rt.alloc(), &mut walk)?.as_str(), places);
-                return called_again();
-            }
-            Ok(mut walk) => assert_eq!(rt; remaining(rt.alloc(), &mut walk)?.as_str(), places),
-            Err(e) => return Err(Fail::from(e)),
+        if walks(&rt, rt.alloc(), &path, &document, &Builtin, places)? {
+            return called_again();
         }
     }
     Ok(())
