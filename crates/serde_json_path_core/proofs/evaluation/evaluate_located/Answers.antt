@@ -1,4 +1,4 @@
-use Rattle.std.proofs.Common.{[], ◌∷◌, ◌++◌, map, sym, subst, ap, ◌∙◌, append_assoc}
+use Rattle.std.proofs.Common.{[], ◌∷◌, ◌++◌, map, sym, subst, ap, ◌∙◌, append_assoc, rules}
 use Rattle.std.proofs.lemmas.List.{map-append}
 use Rattle.serde_json.specs.View.{view}
 use Rattle.serde_json_path_nodes.specs.Views.{located}
@@ -24,3 +24,6 @@ nodes-preserved g c =
           let more = ap (map located) c.in_ok-push.ensures.items ∙ map-append located c.nodes.found.items (node ∷ []) in
           subst nodes (ap (λ more. found ++ more) given ∙ sym (append_assoc found (located node ∷ []) left) ∙ ap (λ all. all ++ left) (sym more)) (before.selected clear);
     }
+
+pub returns-clause-selects : goal.returns-clause-selects
+returns-clause-selects c = search rules

@@ -1,4 +1,4 @@
-use Rattle.std.proofs.Common.{sym, ap, ◌∙◌}
+use Rattle.std.proofs.Common.{sym, ap, ◌∙◌, rules}
 use Rattle.serde_json_path_syntax.specs.Flat.{segment_kind_view}
 use Rattle.serde_json_path_syntax.specs.Parts.{nodes_in}
 use Rattle.serde_json_path_syntax.specs.Stages.{selector_view, stage_at}
@@ -10,3 +10,6 @@ returns-in-None-selector_ref c =
     let nodes = nodes_in c.args.query.now in
     only_stage (stage_at nodes c.args.segment) (selector_view nodes c.in-Some.first) (sym c.segment_kind.ensures ∙ ap segment_kind_view c.in-Child.is)
     (sym c.in-Some.ensures.selector_ref) (sym c.in-None-selector_ref.ensures.selector_ref)
+
+pub returns-in-Some-selector_ref : goal.returns-in-Some-selector_ref
+returns-in-Some-selector_ref c = search rules
