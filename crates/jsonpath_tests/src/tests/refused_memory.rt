@@ -12,15 +12,10 @@ use jsonpath_report::report::{DocumentError, ReportError, report};
 use jsonpath_report::samples::Samples;
 use serde_json::Value;
 use serde_json_path::functions::{Both, Builtin, Functions};
-use serde_json_path::{JsonPath, LocatedNode, NodeList, ParseErrorKind, QueryError, Walk};
+use serde_json_path::{JsonPath, LocatedNodeList, NodeList, ParseErrorKind, QueryError, Walk};
 use std::alloc::Global;
 use std::process::Abort;
 use std::test::Fail;
-
-/// Ends a test whose call was refused, and gave the right answer when it was called again.
-fn called_again() -> Result<(), Fail> {
-    Err(Fail::new(format_args!("no memory, and then the right answer")))
-}
 
 /// Where a report met a refused request.
 fn refused_at(e: &ReportError) -> Option<&'static str> {
@@ -107,189 +102,199 @@ const SQUARE: &str = "[[1,2,3],[4,5,6],[7,8,9]]";
 /// A path that selects the second of the rows, by a function of the samples.
 const FIRST: &str = "$[?first(@.*) == 4]";
 
-/// Holds a parse under the samples to the path.
-fn is_first(rt: &impl Abort, alloc: Global, path: &JsonPath) -> Result<(), Fail> {
+/// Holds the answer of a call to what is wanted. Returns whether there is one, which there is not where memory is refused.
+fn is_answered(rt: &impl Abort, answer: Option<String>, wanted: &str) -> bool {
+    match answer {
+        Some(text) => {
+            assert_eq!(rt; text.as_str(), wanted);
+            true
+        }
+        None => false,
+    }
+}
+
+/// Holds a call that was refused, and is called again, to what is wanted. Ends the test.
+fn answers_again(rt: &impl Abort, answer: Option<String>, wanted: &str) -> Result<(), Fail> {
+    assert!(rt; is_answered(rt, answer, wanted), "refused twice");
+    Err(Fail::from("no memory, and then the right answer"))
+}
+
+/// The text of a path that fits the samples alone.
+fn of_path(rt: &impl Abort, alloc: Global, path: &JsonPath) -> Result<Option<String>, Fail> {
     assert!(rt; path.fits(&Samples) && !path.fits(&Builtin));
-    assert_eq!(rt; path.to_text(alloc)?.as_str(), FIRST);
-    Ok(())
+    Ok(Some(path.to_text(alloc)?))
+}
+
+/// The text of a path that is read under the samples, or nothing where memory is refused.
+fn parsed(rt: &impl Abort, alloc: Global) -> Result<Option<String>, Fail> {
+    match JsonPath::parse_with(alloc, FIRST, &Samples) {
+        Err(e) if e.kind() == ParseErrorKind::NoMemory => Ok(None),
+        answer => of_path(rt, alloc, &answer?),
+    }
 }
 
 #[test]
 fn parse_with(rt: HostRuntime) -> Result<(), Fail> {
-    match JsonPath::parse_with(rt.alloc(), FIRST, &Samples) {
-        Err(e) if e.kind() == ParseErrorKind::NoMemory => {
-            let path = JsonPath::parse_with(rt.alloc(), FIRST, &Samples)?;
-            is_first(&rt, rt.alloc(), &path)?;
-            called_again()
-        }
-        answer => is_first(&rt, rt.alloc(), &answer?),
+    if !is_answered(&rt, parsed(&rt, rt.alloc())?, FIRST) {
+        return answers_again(&rt, parsed(&rt, rt.alloc())?, FIRST);
     }
+    Ok(())
+}
+
+/// A call on a path under the samples.
+#[derive(Clone, Copy)]
+enum Call {
+    TryClone,
+    ToText,
+    ToJson,
+    QueryWith,
+    QueryLocatedWith,
+    Walk,
+}
+
+/// The value that a query gives, or nothing where memory is refused.
+fn of_nodes(
+    alloc: Global,
+    answer: Result<NodeList<'_>, QueryError>,
+) -> Result<Option<String>, Fail> {
+    match answer {
+        Err(QueryError::Memory) => Ok(None),
+        answer => Ok(Some(answer?.exactly_one()?.to_string(alloc)?)),
+    }
+}
+
+/// The location that a query gives, or nothing where memory is refused.
+fn of_located(
+    alloc: Global,
+    answer: Result<LocatedNodeList<'_>, QueryError>,
+) -> Result<Option<String>, Fail> {
+    match answer {
+        Err(QueryError::Memory) => Ok(None),
+        answer => Ok(Some(answer?.exactly_one()?.location().to_text(alloc)?)),
+    }
+}
+
+/// The location that a walk gives first, or nothing where memory is refused at its beginning.
+fn of_walk<F: Functions>(
+    alloc: Global,
+    answer: Result<Walk<'_, '_, Both<&F, Builtin>>, QueryError>,
+) -> Result<Option<String>, Fail> {
+    let mut walk = match answer {
+        Err(QueryError::Memory) => return Ok(None),
+        answer => answer?,
+    };
+    match walk.next()? {
+        Some(node) => Ok(Some(node.location().to_text(alloc)?)),
+        None => Err(Fail::from("no node")),
+    }
+}
+
+/// What a call on a path gives, or nothing where memory is refused.
+fn called<F: Functions>(
+    rt: &impl Abort,
+    alloc: Global,
+    call: Call,
+    path: &JsonPath,
+    document: &Value,
+    functions: &F,
+) -> Result<Option<String>, Fail>
+    requires { Fits (before_builtin (F.set functions.now)) (path_signatures path.now) }
+{
+    match call {
+        Call::TryClone => match path.try_clone(alloc) {
+            Ok(copy) => of_path(rt, alloc, &copy),
+            Err(_) => Ok(None),
+        },
+        Call::ToText => Ok(path.to_text(alloc).ok()),
+        Call::ToJson => match path.to_json(alloc) {
+            Ok(Value::String(text)) => Ok(Some(text)),
+            _ => Ok(None),
+        },
+        Call::QueryWith => of_nodes(alloc, path.query_with(alloc, document, functions)),
+        Call::QueryLocatedWith => {
+            of_located(alloc, path.query_located_with(alloc, document, functions))
+        }
+        Call::Walk => of_walk(alloc, path.walk(alloc, document, functions)),
+    }
+}
+
+/// Holds a call on the path under the samples to what is wanted.
+fn calls(rt: &impl Abort, alloc: Global, call: Call, wanted: &str) -> Result<(), Fail> {
+    let path = JsonPath::parse_with(alloc, FIRST, &Samples)?;
+    let document = Value::from_str(alloc, SQUARE)?;
+    if is_answered(
+        rt,
+        called(rt, alloc, call, &path, &document, &Samples)?,
+        wanted,
+    ) {
+        return Ok(());
+    }
+    answers_again(
+        rt,
+        called(rt, alloc, call, &path, &document, &Samples)?,
+        wanted,
+    )
 }
 
 #[test]
 fn try_clone(rt: HostRuntime) -> Result<(), Fail> {
-    let path = JsonPath::parse_with(rt.alloc(), FIRST, &Samples)?;
-    match path.try_clone(rt.alloc()) {
-        Ok(copy) => is_first(&rt, rt.alloc(), &copy),
-        Err(_) => {
-            is_first(&rt, rt.alloc(), &path.try_clone(rt.alloc())?)?;
-            called_again()
-        }
-    }
+    calls(&rt, rt.alloc(), Call::TryClone, FIRST)
 }
 
 #[test]
 fn to_text(rt: HostRuntime) -> Result<(), Fail> {
-    let path = JsonPath::parse_with(rt.alloc(), FIRST, &Samples)?;
-    match path.to_text(rt.alloc()) {
-        Ok(text) => {
-            assert_eq!(rt; text.as_str(), FIRST);
-            Ok(())
-        }
-        Err(_) => {
-            assert_eq!(rt; path.to_text(rt.alloc())?.as_str(), FIRST);
-            called_again()
-        }
-    }
+    calls(&rt, rt.alloc(), Call::ToText, FIRST)
 }
 
 #[test]
 fn to_json(rt: HostRuntime) -> Result<(), Fail> {
-    let path = JsonPath::parse_with(rt.alloc(), FIRST, &Samples)?;
-    match path.to_json(rt.alloc()) {
-        Ok(value) => {
-            assert_eq!(rt; value.as_str(), Some(FIRST));
-            Ok(())
-        }
-        Err(_) => {
-            assert_eq!(rt; path.to_json(rt.alloc())?.as_str(), Some(FIRST));
-            called_again()
-        }
-    }
-}
-
-/// Holds nodes to the second row.
-fn is_second(rt: &impl Abort, alloc: Global, nodes: &NodeList<'_>) -> Result<(), Fail> {
-    let node = nodes.exactly_one()?;
-    assert_eq!(rt; node.to_string(alloc)?.as_str(), "[4,5,6]");
-    Ok(())
-}
-
-/// Holds what a query gives to the second row. A query that is refused is made again; returns whether it was.
-fn queries_with<F: Functions>(
-    rt: &impl Abort,
-    alloc: Global,
-    path: &JsonPath,
-    document: &Value,
-    functions: &F,
-) -> Result<bool, Fail>
-    requires { Fits (before_builtin (F.set functions.now)) (path_signatures path.now) }
-{
-    let (nodes, was_refused) = match path.query_with(alloc, document, functions) {
-        Err(QueryError::Memory) => (path.query_with(alloc, document, functions)?, true),
-        answer => (answer?, false),
-    };
-    is_second(rt, alloc, &nodes)?;
-    Ok(was_refused)
+    calls(&rt, rt.alloc(), Call::ToJson, FIRST)
 }
 
 #[test]
 fn query_with(rt: HostRuntime) -> Result<(), Fail> {
-    let path = JsonPath::parse_with(rt.alloc(), FIRST, &Samples)?;
-    let document = Value::from_str(rt.alloc(), SQUARE)?;
-    if queries_with(&rt, rt.alloc(), &path, &document, &Samples)? {
-        return called_again();
-    }
-    Ok(())
-}
-
-/// Holds a node to the location of the second row.
-fn is_at_second(rt: &impl Abort, alloc: Global, node: &LocatedNode<'_>) -> Result<(), Fail> {
-    assert!(rt; node.location().to_text(alloc)?.as_str() == "$[1]");
-    Ok(())
-}
-
-/// As `queries_with`, with locations.
-fn locates_with<F: Functions>(
-    rt: &impl Abort,
-    alloc: Global,
-    path: &JsonPath,
-    document: &Value,
-    functions: &F,
-) -> Result<bool, Fail>
-    requires { Fits (before_builtin (F.set functions.now)) (path_signatures path.now) }
-{
-    let (nodes, was_refused) = match path.query_located_with(alloc, document, functions) {
-        Err(QueryError::Memory) => (path.query_located_with(alloc, document, functions)?, true),
-        answer => (answer?, false),
-    };
-    is_at_second(rt, alloc, &nodes.exactly_one()?)?;
-    Ok(was_refused)
+    calls(&rt, rt.alloc(), Call::QueryWith, "[4,5,6]")
 }
 
 #[test]
 fn query_located_with(rt: HostRuntime) -> Result<(), Fail> {
-    let path = JsonPath::parse_with(rt.alloc(), FIRST, &Samples)?;
-    let document = Value::from_str(rt.alloc(), SQUARE)?;
-    if locates_with(&rt, rt.alloc(), &path, &document, &Samples)? {
-        return called_again();
-    }
-    Ok(())
-}
-
-/// The next node of a walk, which goes on where it is refused, and whether it was.
-fn next_node<'b, F: Functions>(
-    walk: &mut Walk<'_, 'b, Both<&F, Builtin>>,
-) -> Result<(Option<LocatedNode<'b>>, bool), QueryError> {
-    match walk.next() {
-        Err(QueryError::Memory) => Ok((walk.next()?, true)),
-        answer => Ok((answer?, false)),
-    }
-}
-
-/// Holds a walk to a node, whichever it is. A walk that is refused at its beginning is begun again; returns whether it was.
-fn walks<F: Functions>(
-    rt: &impl Abort,
-    alloc: Global,
-    path: &JsonPath,
-    document: &Value,
-    functions: &F,
-) -> Result<bool, Fail>
-    requires { Fits (before_builtin (F.set functions.now)) (path_signatures path.now) }
-{
-    let (mut walk, was_refused) = match path.walk(alloc, document, functions) {
-        Err(QueryError::Memory) => (path.walk(alloc, document, functions)?, true),
-        answer => (answer?, false),
-    };
-    let (node, _) = next_node(&mut walk)?;
-    assert!(rt; node.is_some());
-    Ok(was_refused)
+    calls(&rt, rt.alloc(), Call::QueryLocatedWith, "$[1]")
 }
 
 #[test]
 fn walk(rt: HostRuntime) -> Result<(), Fail> {
-    let path = JsonPath::parse_with(rt.alloc(), FIRST, &Samples)?;
-    let document = Value::from_str(rt.alloc(), SQUARE)?;
-    if walks(&rt, rt.alloc(), &path, &document, &Samples)? {
-        return called_again();
-    }
-    Ok(())
+    calls(&rt, rt.alloc(), Call::Walk, "$[1]")
 }
 
-/// Holds a walk to the second row and its end. Returns whether a call was refused.
-fn gives_second<F: Functions>(
+/// The next node's location, or an empty text for none, from a walk that goes on where it is refused, and whether it was.
+fn next_location<F: Functions>(
+    alloc: Global,
+    walk: &mut Walk<'_, '_, Both<&F, Builtin>>,
+) -> Result<(String, bool), Fail> {
+    let (node, was_refused) = match walk.next() {
+        Err(QueryError::Memory) => (walk.next()?, true),
+        answer => (answer?, false),
+    };
+    match node {
+        Some(node) => Ok((node.location().to_text(alloc)?, was_refused)),
+        None => Ok((String::new(alloc), was_refused)),
+    }
+}
+
+/// Holds a walk to locations, with an empty text for none. Returns whether a call was refused.
+fn gives_each<F: Functions>(
     rt: &impl Abort,
     alloc: Global,
     walk: &mut Walk<'_, '_, Both<&F, Builtin>>,
+    wanted: &[&str],
 ) -> Result<bool, Fail> {
-    let (node, was_refused) = next_node(walk)?;
-    match node {
-        Some(node) => is_at_second(rt, alloc, &node)?,
-        None => assert!(rt; false, "no node"),
+    let mut was_refused = false;
+    for &want in wanted {
+        let (location, is_refused) = next_location(alloc, walk)?;
+        assert_eq!(rt; location.as_str(), want);
+        was_refused = was_refused || is_refused;
     }
-    let (node, is_refused) = next_node(walk)?;
-    assert!(rt; node.is_none());
-    Ok(was_refused || is_refused)
+    Ok(was_refused)
 }
 
 #[test]
@@ -297,8 +302,8 @@ fn next(rt: HostRuntime) -> Result<(), Fail> {
     let path = JsonPath::parse_with(rt.alloc(), FIRST, &Samples)?;
     let document = Value::from_str(rt.alloc(), SQUARE)?;
     let mut walk = path.walk(rt.alloc(), &document, &Samples)?;
-    if gives_second(&rt, rt.alloc(), &mut walk)? {
-        return called_again();
+    if gives_each(&rt, rt.alloc(), &mut walk, &["$[1]", ""])? {
+        return Err(Fail::from("no memory, and then the right answer"));
     }
     Ok(())
 }

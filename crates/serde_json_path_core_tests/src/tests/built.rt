@@ -88,6 +88,11 @@ fn all_and_all_but_the_first(alloc: Global) -> Result<Checked, Fail>
     Ok(builder.finish(query))
 }
 
+/// Holds what is told to what is wanted.
+fn tells(rt: &impl Abort, told: &str, wanted: &str) {
+    assert_eq!(rt; told, wanted);
+}
+
 /// The nodes' locations and values, with a `;` after each.
 fn printed(alloc: Global, nodes: &LocatedNodeList) -> Result<String, Fail> {
     let mut text = String::new(alloc);
@@ -109,7 +114,7 @@ fn selects(
 {
     let root = Value::from_str(alloc, document)?;
     let nodes = evaluate_located(alloc, query, &root, Builtin)?;
-    assert_eq!(rt; printed(alloc, &nodes)?.as_str(), wanted);
+    tells(rt, printed(alloc, &nodes)?.as_str(), wanted);
     Ok(())
 }
 
@@ -166,9 +171,14 @@ fn tells_a_singular_query(rt: HostRuntime) -> Result<(), Fail> {
 
 /// Holds a query to its text, in both ways.
 fn prints(rt: &impl Abort, alloc: Global, query: &Checked, wanted: &str) -> Result<(), Fail> {
-    assert!(rt; query.to_text(alloc)?.as_str() == wanted);
-    assert!(rt; query.to_string(alloc)?.as_str() == wanted);
+    tells(rt, query.to_text(alloc)?.as_str(), wanted);
+    tells(rt, query.to_string(alloc)?.as_str(), wanted);
     Ok(())
+}
+
+/// Holds two queries to whether they are equal.
+fn are_equal(rt: &impl Abort, one: &Checked, other: &Checked, is_equal: bool) {
+    assert!(rt; (one == other) == is_equal);
 }
 
 #[test]
@@ -178,8 +188,8 @@ fn prints_and_copies_by_the_tree(rt: HostRuntime) -> Result<(), Fail> {
     let other = made_from_the_end(alloc)?;
     prints(&rt, alloc, &query, "$['a', 'b']")?;
     prints(&rt, alloc, &other, "$['a', 'b']")?;
-    assert!(rt; query == other);
-    assert!(rt; query.try_clone(alloc)? == query);
-    assert!(rt; query != first_of_member(alloc)?);
+    are_equal(&rt, &query, &other, true);
+    are_equal(&rt, &query, &query.try_clone(alloc)?, true);
+    are_equal(&rt, &query, &first_of_member(alloc)?, false);
     Ok(())
 }

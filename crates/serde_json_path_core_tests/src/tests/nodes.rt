@@ -116,39 +116,60 @@ fn number_at(document: &Value, pointer: &str) -> Result<Option<u64>, Fail> {
     }
 }
 
+// Holds a location to its normalised path and its JSON pointer.
+fn points(
+    rt: &impl Abort,
+    alloc: Global,
+    location: &NormalizedPath<'_>,
+    (normal, pointer): (&str, &str),
+) -> Result<(), AllocError> {
+    prints(rt, location.to_text(alloc)?.as_str(), normal);
+    prints(rt, location.to_json_pointer(alloc)?.as_str(), pointer);
+    Ok(())
+}
+
 #[test]
 fn locations_print_and_point(rt: HostRuntime) -> Result<(), Fail> {
-    let alloc = rt.alloc();
-    let document = Value::from_str(alloc, NAMED)?;
+    let document = Value::from_str(rt.alloc(), NAMED)?;
     for &(steps, normal, pointer, number) in POINTED {
-        let location = location(alloc, steps)?;
-        prints(&rt, location.to_text(alloc)?.as_str(), normal);
-        prints(&rt, location.to_json_pointer(alloc)?.as_str(), pointer);
+        let location = location(rt.alloc(), steps)?;
+        points(&rt, rt.alloc(), &location, (normal, pointer))?;
         assert!(rt; number_at(&document, pointer)? == number, "at {normal}");
     }
     Ok(())
 }
 
 // Two steps.
-const STEPS: [PathElement<'static>; 2] = [PathElement::Name("a"), PathElement::Index(7)];
+const STEPS: &[PathElement<'static>] = &[PathElement::Name("a"), PathElement::Index(7)];
 
-#[test]
-fn locations_are_lists_of_steps(rt: HostRuntime) -> Result<(), Fail> {
-    let two = location(rt.alloc(), &STEPS)?;
-    assert!(rt; two.len() == 2 && !two.is_empty() && two.iter().len() == 2);
-    assert!(rt; two.get(1) == Some(STEPS[1]) && two.get(2).is_none());
-    assert!(rt; two.iter().eq(STEPS.iter().copied()));
-    Ok(())
+// Holds a location to its two steps.
+fn are_steps(rt: &impl Abort, location: &NormalizedPath<'_>) {
+    assert!(rt; location.len() == 2 && !location.is_empty() && location.iter().len() == 2);
+    assert!(rt; location.get(1) == Some(STEPS[1]) && location.get(2).is_none());
+    assert!(rt; location.iter().eq(STEPS.iter().copied()));
 }
 
 #[test]
+fn locations_are_lists_of_steps(rt: HostRuntime) -> Result<(), Fail> {
+    are_steps(&rt, &location(rt.alloc(), STEPS)?);
+    Ok(())
+}
+
+// Steps of two locations, and whether these are equal.
+const COMPARED: &[(&[PathElement<'static>], &[PathElement<'static>], bool)] = &[
+    (STEPS, STEPS, true),
+    (STEPS, &[PathElement::Name("a")], false),
+    (&[PathElement::Name("a")], &[PathElement::Index(7)], false),
+];
+
+#[test]
 fn locations_are_equal_by_their_steps(rt: HostRuntime) -> Result<(), Fail> {
-    let alloc = rt.alloc();
-    let two = location(alloc, &STEPS)?;
-    let one = location(alloc, &STEPS[..1])?;
-    assert!(rt; two == location(alloc, &STEPS)? && two != one);
-    assert!(rt; one != location(alloc, &STEPS[1..])?);
     law_texts_tell_locations();
+    for &(one, other, is_equal) in COMPARED {
+        let one = location(rt.alloc(), one)?;
+        let other = location(rt.alloc(), other)?;
+        assert!(rt; (one == other) == is_equal);
+    }
     Ok(())
 }
 
@@ -216,15 +237,26 @@ const COUNTED: &[(usize, &str, &str)] = &[
     ),
 ];
 
+// Holds a list of so many nodes to what it answers where at most one node is expected, and where one is.
+fn answers(
+    rt: &impl Abort,
+    alloc: Global,
+    list: NodeList<'_>,
+    count: usize,
+    (most, one): (&str, &str),
+) -> Result<(), Fail> {
+    prints(rt, at_most(alloc, &list)?.as_str(), most);
+    prints(rt, exactly(alloc, &list)?.as_str(), one);
+    assert!(rt; has(&list, count) && list.all().len() == count);
+    Ok(())
+}
+
 #[test]
 fn lists_answer_by_their_length(rt: HostRuntime) -> Result<(), Fail> {
-    let alloc = rt.alloc();
     let node = Value::Null;
     for &(count, most, one) in COUNTED {
-        let list = repeated(alloc, &node, count)?;
-        prints(&rt, at_most(alloc, &list)?.as_str(), most);
-        prints(&rt, exactly(alloc, &list)?.as_str(), one);
-        assert!(rt; has(&list, count) && list.all().len() == count, "{count}");
+        let list = repeated(rt.alloc(), &node, count)?;
+        answers(&rt, rt.alloc(), list, count, (most, one))?;
     }
     Ok(())
 }
@@ -238,30 +270,41 @@ fn has_located(list: &LocatedNodeList<'_>, count: usize) -> bool {
         && list.locations().len() == count
 }
 
-#[test]
-fn located_lists_answer_as_lists_of_pairs(rt: HostRuntime) -> Result<(), Fail> {
-    let alloc = rt.alloc();
-    let node = Value::Null;
-    let list = located(alloc, &node, &[5, 6])?;
-    assert!(rt; has_located(&list, 2));
-    prints(&rt, texts(alloc, &list)?.as_str(), "$[5]$[6]");
+// Holds a list to two pairs of null and a location of one step.
+fn are_pairs(rt: &impl Abort, list: &LocatedNodeList<'_>) {
+    assert!(rt; has_located(list, 2));
     assert!(rt; list.nodes().all(|node| node.is_null()));
     assert!(rt;
         list.iter()
             .all(|pair| pair.node().is_null() && pair.location().len() == 1)
     );
+}
+
+#[test]
+fn located_lists_answer_as_lists_of_pairs(rt: HostRuntime) -> Result<(), Fail> {
+    let node = Value::Null;
+    let list = located(rt.alloc(), &node, &[5, 6])?;
+    are_pairs(&rt, &list);
+    prints(&rt, texts(rt.alloc(), &list)?.as_str(), "$[5]$[6]");
     assert!(rt; list.all().len() == 2);
     Ok(())
 }
 
+// Positions, and why a list of the nodes there is not exactly one node.
+const LOCATED: &[(&[usize], Option<ExactlyOneError>)] = &[
+    (&[], Some(ExactlyOneError::Empty)),
+    (&[5], None),
+    (&[5, 6], Some(ExactlyOneError::MoreThanOne(2))),
+];
+
 #[test]
 fn located_lists_answer_by_their_length(rt: HostRuntime) -> Result<(), Fail> {
-    let alloc = rt.alloc();
     let node = Value::Null;
-    assert!(rt; located(alloc, &node, &[5, 6])?.at_most_one().is_err());
-    assert!(rt; located(alloc, &node, &[5])?.at_most_one().is_ok());
-    let several = located(alloc, &node, &[5, 6])?.exactly_one().err();
-    assert!(rt; several == Some(ExactlyOneError::MoreThanOne(2)));
-    assert!(rt; located(alloc, &node, &[5])?.exactly_one().is_ok());
+    for &(positions, refusal) in LOCATED {
+        let most = located(rt.alloc(), &node, positions)?.at_most_one();
+        assert!(rt; most.is_err() == (positions.len() > 1));
+        let one = located(rt.alloc(), &node, positions)?.exactly_one();
+        assert!(rt; one.err() == refusal);
+    }
     Ok(())
 }

@@ -65,14 +65,23 @@ fn counts(
     assert!(rt; nodes.at_most_one().err() == at_most_one);
 }
 
+/// A path, how many nodes it selects from an object of two members, and how the list of these refuses.
+const COUNTED: &[(&str, usize, ExactlyOneError, Option<AtMostOneError>)] = &[
+    (
+        "$.*",
+        2,
+        ExactlyOneError::MoreThanOne(2),
+        Some(AtMostOneError(2)),
+    ),
+    ("$.c", 0, ExactlyOneError::Empty, None),
+];
+
 #[test]
 fn counts_nodes(rt: HostRuntime) -> Result<(), Fail> {
-    let alloc = rt.alloc();
-    let document = Value::from_str(alloc, r#"{"a":1,"b":2}"#)?;
-    let two = ExactlyOneError::MoreThanOne(2);
-    let both = selection(alloc, "$.*", &document)?;
-    counts(&rt, &both, 2, two, Some(AtMostOneError(2)));
-    let none = selection(alloc, "$.c", &document)?;
-    counts(&rt, &none, 0, ExactlyOneError::Empty, None);
+    let document = Value::from_str(rt.alloc(), r#"{"a":1,"b":2}"#)?;
+    for &(path, number, exactly_one, at_most_one) in COUNTED {
+        let nodes = selection(rt.alloc(), path, &document)?;
+        counts(&rt, &nodes, number, exactly_one, at_most_one);
+    }
     Ok(())
 }

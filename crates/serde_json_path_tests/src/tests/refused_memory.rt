@@ -5,28 +5,52 @@
 //! `takes_none` makes requests only for what it hands in.
 
 ghost use Rattle.serde_json_path_functions.specs.Functions.{Fits};
-ghost use Rattle.serde_json_path_functions.specs.Patterns.{before_builtin, builtin_functions};
+ghost use Rattle.serde_json_path_functions.specs.Patterns.{builtin_functions};
 ghost use Rattle.serde_json_path.specs.Paths.{path_signatures};
 
 use crate::tests::long_texts::long;
-use crate::tests::rows::{fields, locations, selected, values};
+use crate::tests::rows::{
+    fields, located_selection, locations, selected, selection, tells, values,
+};
 use serde_json::Value;
 use serde_json_path::functions::{
     Both, Builtin, FunctionArgType, Functions, LogicalType, Signature,
 };
 use serde_json_path::{
     FromJsonError, JsonPath, JsonPathExt, LocatedNode, LocatedNodeList, NodeList, NormalizedPath,
-    ParseError, ParseErrorKind, PathSource, QueryError, TextSource, Walk, parse_source,
+    ParseError, ParseErrorKind, PathSource, QueryError, TextSource, Walk, law_set_before_itself,
+    parse_source,
 };
 use serde_json_path_nodes::escaped;
 use serde_json_path_syntax::{Checked, SyntaxBuilder};
-use std::alloc::Global;
+use std::alloc::{AllocError, Global};
 use std::process::Abort;
 use std::test::Fail;
 
-/// Ends a test whose call was refused, and gave the right answer when it was called again.
+/// Holds the answer of a call to what is wanted. Returns whether there is one, which there is not where memory is refused.
+fn is_answered(rt: &impl Abort, answer: Option<String>, wanted: &str) -> bool {
+    match answer {
+        Some(text) => {
+            tells(rt, text.as_str(), wanted, "a call");
+            true
+        }
+        None => false,
+    }
+}
+
+/// Ends a test of which a call was refused and gave the right answer when it was called again.
 fn called_again() -> Result<(), Fail> {
-    Err(Fail::new(format_args!("no memory, and then the right answer")))
+    Err(Fail::from("no memory, and then the right answer"))
+}
+
+/// A call that reads a path from a text.
+#[derive(Clone, Copy)]
+enum Reading {
+    Parse,
+    FromStr,
+    ParseWith,
+    ParseSource,
+    FromJson,
 }
 
 /// A text, and the text that its path prints, or the refusal.
@@ -39,76 +63,6 @@ const TEXTS: &[&str] = &[
     "$[?first(@.*) == 4] ~ at position 4, in long-hand segment, undefined function",
 ];
 
-/// Holds a parse to the text that its path prints, or to the refusal.
-fn is_parse(
-    rt: &impl Abort,
-    alloc: Global,
-    answer: Result<JsonPath, ParseError>,
-    wanted: &str,
-) -> Result<(), Fail> {
-    let text = match answer {
-        Ok(path) => path.to_text(alloc)?,
-        Err(e) => e.to_string(alloc)?,
-    };
-    assert_eq!(rt; text.as_str(), wanted);
-    Ok(())
-}
-
-#[test]
-fn parse(rt: HostRuntime) -> Result<(), Fail> {
-    for &row in TEXTS {
-        let (text, wanted) = fields(row)?;
-        match JsonPath::parse(rt.alloc(), text) {
-            Err(e) if e.kind() == ParseErrorKind::NoMemory => {
-                is_parse(&rt, rt.alloc(), JsonPath::parse(rt.alloc(), text), wanted)?;
-                return called_again();
-            }
-            answer => is_parse(&rt, rt.alloc(), answer, wanted)?,
-        }
-    }
-    Ok(())
-}
-
-#[test]
-fn from_str(rt: HostRuntime) -> Result<(), Fail> {
-    for &row in TEXTS {
-        let (text, wanted) = fields(row)?;
-        match JsonPath::from_str(rt.alloc(), text) {
-            Err(e) if e.kind() == ParseErrorKind::NoMemory => {
-                is_parse(
-                    &rt,
-                    rt.alloc(),
-                    JsonPath::from_str(rt.alloc(), text),
-                    wanted,
-                )?;
-                return called_again();
-            }
-            answer => is_parse(&rt, rt.alloc(), answer, wanted)?,
-        }
-    }
-    Ok(())
-}
-
-#[test]
-fn parse_with(rt: HostRuntime) -> Result<(), Fail> {
-    for &row in TEXTS {
-        let (text, wanted) = fields(row)?;
-        match JsonPath::parse_with(rt.alloc(), text, &Builtin) {
-            Err(e) if e.kind() == ParseErrorKind::NoMemory => {
-                is_parse(
-                    &rt,
-                    rt.alloc(),
-                    JsonPath::parse_with(rt.alloc(), text, &Builtin),
-                    wanted,
-                )?;
-                return called_again();
-            }
-            answer => is_parse(&rt, rt.alloc(), answer, wanted)?,
-        }
-    }
-    Ok(())
-}
-
 /// A parse that looks at the text no more than the bound says.
 fn parse_looking(rt: &impl Abort, alloc: Global, text: &str) -> Result<JsonPath, ParseError> {
     let mut source = TextSource::new(text);
@@ -118,60 +72,89 @@ fn parse_looking(rt: &impl Abort, alloc: Global, text: &str) -> Result<JsonPath,
     answer
 }
 
-#[test]
-fn parses_a_source(rt: HostRuntime) -> Result<(), Fail> {
+/// The text of what is read, or nothing where memory is refused.
+fn told(
+    alloc: Global,
+    answer: Result<JsonPath, FromJsonError>,
+) -> Result<Option<String>, AllocError> {
+    match answer {
+        Ok(path) => Ok(Some(path.to_text(alloc)?)),
+        Err(FromJsonError::Path(e)) if e.kind() == ParseErrorKind::NoMemory => Ok(None),
+        Err(e) => Ok(Some(e.to_string(alloc)?)),
+    }
+}
+
+/// What a call reads from a text, as [`told`] gives it.
+fn read(
+    rt: &impl Abort,
+    alloc: Global,
+    reading: Reading,
+    text: &str,
+) -> Result<Option<String>, AllocError> {
+    let answer = match reading {
+        Reading::Parse => JsonPath::parse(alloc, text),
+        Reading::FromStr => JsonPath::from_str(alloc, text),
+        Reading::ParseWith => JsonPath::parse_with(alloc, text, &Builtin),
+        Reading::ParseSource => parse_looking(rt, alloc, text),
+        Reading::FromJson => {
+            let value = Value::String(String::from_str(alloc, text)?);
+            return told(alloc, JsonPath::from_json(alloc, &value));
+        }
+    };
+    told(alloc, answer.map_err(FromJsonError::Path))
+}
+
+/// Holds the text of a row to what a call reads from it. Returns whether the call was refused and made again.
+fn reads(rt: &impl Abort, alloc: Global, reading: Reading, row: &str) -> Result<bool, Fail> {
+    let (text, wanted) = fields(row)?;
+    if is_answered(rt, read(rt, alloc, reading, text)?, wanted) {
+        return Ok(false);
+    }
+    assert!(rt; is_answered(rt, read(rt, alloc, reading, text)?, wanted));
+    Ok(true)
+}
+
+/// Holds each text to what a call reads from it.
+fn reads_each(rt: &impl Abort, alloc: Global, reading: Reading) -> Result<(), Fail> {
     for &row in TEXTS {
-        let (text, wanted) = fields(row)?;
-        match parse_looking(&rt, rt.alloc(), text) {
-            Err(e) if e.kind() == ParseErrorKind::NoMemory => {
-                is_parse(
-                    &rt,
-                    rt.alloc(),
-                    parse_looking(&rt, rt.alloc(), text),
-                    wanted,
-                )?;
-                return called_again();
-            }
-            answer => is_parse(&rt, rt.alloc(), answer, wanted)?,
+        if reads(rt, alloc, reading, row)? {
+            return called_again();
         }
     }
     Ok(())
 }
 
-/// Holds a path read from JSON to the text that it prints, or to the refusal.
-fn is_read(
-    rt: &impl Abort,
-    alloc: Global,
-    answer: Result<JsonPath, FromJsonError>,
-    wanted: &str,
-) -> Result<(), Fail> {
-    let text = match answer {
-        Ok(path) => path.to_text(alloc)?,
-        Err(e) => e.to_string(alloc)?,
-    };
-    assert_eq!(rt; text.as_str(), wanted);
-    Ok(())
+#[test]
+fn parse(rt: HostRuntime) -> Result<(), Fail> {
+    reads_each(&rt, rt.alloc(), Reading::Parse)
+}
+
+#[test]
+fn from_str(rt: HostRuntime) -> Result<(), Fail> {
+    reads_each(&rt, rt.alloc(), Reading::FromStr)
+}
+
+#[test]
+fn parse_with(rt: HostRuntime) -> Result<(), Fail> {
+    reads_each(&rt, rt.alloc(), Reading::ParseWith)
+}
+
+#[test]
+fn parses_a_source(rt: HostRuntime) -> Result<(), Fail> {
+    reads_each(&rt, rt.alloc(), Reading::ParseSource)
 }
 
 #[test]
 fn from_json(rt: HostRuntime) -> Result<(), Fail> {
-    for &row in TEXTS {
-        let (text, wanted) = fields(row)?;
-        let value = Value::String(String::from_str(rt.alloc(), text)?);
-        match JsonPath::from_json(rt.alloc(), &value) {
-            Err(FromJsonError::Path(e)) if e.kind() == ParseErrorKind::NoMemory => {
-                is_read(
-                    &rt,
-                    rt.alloc(),
-                    JsonPath::from_json(rt.alloc(), &value),
-                    wanted,
-                )?;
-                return called_again();
-            }
-            answer => is_read(&rt, rt.alloc(), answer, wanted)?,
-        }
-    }
-    Ok(())
+    reads_each(&rt, rt.alloc(), Reading::FromJson)
+}
+
+/// A call that makes a copy or a text of a path.
+#[derive(Clone, Copy)]
+enum Writing {
+    TryClone,
+    ToText,
+    ToJson,
 }
 
 /// Texts that paths print.
@@ -183,50 +166,81 @@ const PRINTED: &[&str] = &[
     "$.foo['bar'][1:10][?@.baz > 10 && @.foo.bar < 20]",
 ];
 
-#[test]
-fn try_clone(rt: HostRuntime) -> Result<(), Fail> {
+/// The text of a copy, which is equal to its path and fits the same set.
+fn copied(
+    rt: &impl Abort,
+    alloc: Global,
+    path: &JsonPath,
+    copy: &JsonPath,
+) -> Result<Option<String>, AllocError> {
+    assert!(rt; copy == path && copy.fits(&Builtin));
+    Ok(Some(copy.to_text(alloc)?))
+}
+
+/// The text that a call makes of a path, or nothing where memory is refused.
+fn written(
+    rt: &impl Abort,
+    alloc: Global,
+    writing: Writing,
+    path: &JsonPath,
+) -> Result<Option<String>, AllocError> {
+    match writing {
+        Writing::TryClone => match path.try_clone(alloc) {
+            Ok(copy) => copied(rt, alloc, path, &copy),
+            Err(_) => Ok(None),
+        },
+        Writing::ToText => Ok(path.to_text(alloc).ok()),
+        Writing::ToJson => match path.to_json(alloc) {
+            Ok(Value::String(text)) => Ok(Some(text)),
+            _ => Ok(None),
+        },
+    }
+}
+
+/// Holds the path of a text to the text that a call makes of it. Returns whether the call was refused and made again.
+fn writes(rt: &impl Abort, alloc: Global, writing: Writing, text: &str) -> Result<bool, Fail> {
+    let path = JsonPath::parse(alloc, text)?;
+    if is_answered(rt, written(rt, alloc, writing, &path)?, text) {
+        return Ok(false);
+    }
+    assert!(rt; is_answered(rt, written(rt, alloc, writing, &path)?, text));
+    Ok(true)
+}
+
+/// Holds each printed path to the text that a call makes of it.
+fn writes_each(rt: &impl Abort, alloc: Global, writing: Writing) -> Result<(), Fail> {
     for &text in PRINTED {
-        let path = JsonPath::parse(rt.alloc(), text)?;
-        match path.try_clone(rt.alloc()) {
-            Ok(copy) => assert!(rt; copy == path && copy.fits(&Builtin), "{text}"),
-            Err(_) => {
-                let copy = path.try_clone(rt.alloc())?;
-                assert!(rt; copy == path && copy.fits(&Builtin), "{text}");
-                return called_again();
-            }
+        if writes(rt, alloc, writing, text)? {
+            return called_again();
         }
     }
     Ok(())
+}
+
+#[test]
+fn try_clone(rt: HostRuntime) -> Result<(), Fail> {
+    writes_each(&rt, rt.alloc(), Writing::TryClone)
 }
 
 #[test]
 fn to_text(rt: HostRuntime) -> Result<(), Fail> {
-    for &wanted in PRINTED {
-        let path = JsonPath::parse(rt.alloc(), wanted)?;
-        match path.to_text(rt.alloc()) {
-            Ok(text) => assert_eq!(rt; text.as_str(), wanted),
-            Err(_) => {
-                assert_eq!(rt; path.to_text(rt.alloc())?.as_str(), wanted);
-                return called_again();
-            }
-        }
-    }
-    Ok(())
+    writes_each(&rt, rt.alloc(), Writing::ToText)
 }
 
 #[test]
 fn to_json(rt: HostRuntime) -> Result<(), Fail> {
-    for &wanted in PRINTED {
-        let path = JsonPath::parse(rt.alloc(), wanted)?;
-        match path.to_json(rt.alloc()) {
-            Ok(value) => assert_eq!(rt; value.as_str(), Some(wanted)),
-            Err(_) => {
-                assert_eq!(rt; path.to_json(rt.alloc())?.as_str(), Some(wanted));
-                return called_again();
-            }
-        }
-    }
-    Ok(())
+    writes_each(&rt, rt.alloc(), Writing::ToJson)
+}
+
+/// A call that gives the nodes of a path, as values or with their locations.
+#[derive(Clone, Copy)]
+enum Querying {
+    Query,
+    QueryWith,
+    JsonPath,
+    QueryLocated,
+    QueryLocatedWith,
+    Walk,
 }
 
 /// A path, a document, and the locations and the values of what the path selects there.
@@ -239,237 +253,154 @@ const ROWS: &[&str] = &[
 ];
 
 /// A row's path, its document, and the locations and the values.
-fn cells(row: &str) -> Result<(&str, &str, &str, &str), Fail> {
+fn cells(row: &str) -> Result<(&str, &str, (&str, &str)), Fail> {
     let (text, rest) = fields(row)?;
     let (document, end) = fields(rest)?;
-    let (places, items) = selected(end)?;
-    Ok((text, document, places, items))
+    Ok((text, document, selected(end)?))
 }
 
-/// Holds nodes to their values.
-fn are_values(
-    rt: &impl Abort,
+/// The values that a query gives, or nothing where memory is refused.
+fn of_nodes(
     alloc: Global,
-    nodes: &NodeList<'_>,
-    items: &str,
-) -> Result<(), Fail> {
-    assert_eq!(rt; values(alloc, nodes.iter())?.as_str(), items);
+    answer: Result<NodeList<'_>, QueryError>,
+) -> Result<Option<String>, Fail> {
+    match answer {
+        Err(QueryError::Memory) => Ok(None),
+        answer => Ok(Some(values(alloc, answer?.iter())?)),
+    }
+}
+
+/// The locations that a query gives, or nothing where memory is refused.
+fn of_located(
+    alloc: Global,
+    answer: Result<LocatedNodeList<'_>, QueryError>,
+) -> Result<Option<String>, Fail> {
+    match answer {
+        Err(QueryError::Memory) => Ok(None),
+        answer => Ok(Some(locations(alloc, &answer?)?)),
+    }
+}
+
+/// Appends the location of a node, after a space where it is not the first.
+fn push_location(text: &mut String, node: Option<LocatedNode<'_>>) -> Result<(), Fail> {
+    if let Some(node) = node {
+        let before = if text.is_empty() { "" } else { " " };
+        write!(text, "{before}{}", node.location())?;
+    }
     Ok(())
 }
 
-/// Holds located nodes to their locations.
-fn are_at(
-    rt: &impl Abort,
+/// The locations that a walk of three nodes at most gives, or nothing where memory is refused at its beginning.
+fn of_walk<F: Functions>(
     alloc: Global,
-    nodes: &LocatedNodeList<'_>,
-    places: &str,
-) -> Result<(), Fail> {
-    assert_eq!(rt; locations(alloc, nodes)?.as_str(), places);
-    Ok(())
+    answer: Result<Walk<'_, '_, Both<&F, Builtin>>, QueryError>,
+) -> Result<Option<String>, Fail> {
+    let mut walk = match answer {
+        Err(QueryError::Memory) => return Ok(None),
+        answer => answer?,
+    };
+    let mut text = String::new(alloc);
+    for _ in 0..4 {
+        push_location(&mut text, walk.next()?)?;
+    }
+    Ok(Some(text))
 }
 
-/// Holds what a query gives to its values. A query that is refused is made again; returns whether it was.
-fn queries(
-    rt: &impl Abort,
+/// What a query gives, as values or as locations, or nothing where memory is refused.
+fn queried(
     alloc: Global,
+    query: Querying,
     path: &JsonPath,
     document: &Value,
-    items: &str,
+) -> Result<Option<String>, Fail>
+    requires { Fits builtin_functions (path_signatures path.now) }
+{
+    law_set_before_itself();
+    match query {
+        Querying::Query => of_nodes(alloc, path.query(alloc, document)),
+        Querying::QueryWith => of_nodes(alloc, path.query_with(alloc, document, &Builtin)),
+        Querying::JsonPath => of_nodes(alloc, document.json_path(alloc, path)),
+        Querying::QueryLocated => of_located(alloc, path.query_located(alloc, document)),
+        Querying::QueryLocatedWith => {
+            of_located(alloc, path.query_located_with(alloc, document, &Builtin))
+        }
+        Querying::Walk => of_walk(alloc, path.walk(alloc, document, &Builtin)),
+    }
+}
+
+/// Whether a query gives locations.
+fn is_located(query: Querying) -> bool {
+    match query {
+        Querying::Query | Querying::QueryWith | Querying::JsonPath => false,
+        Querying::QueryLocated | Querying::QueryLocatedWith | Querying::Walk => true,
+    }
+}
+
+/// Holds a query to what it selects. Returns whether it was refused and made again.
+fn selects(
+    rt: &impl Abort,
+    alloc: Global,
+    query: Querying,
+    path: &JsonPath,
+    document: &Value,
+    wanted: &str,
 ) -> Result<bool, Fail>
     requires { Fits builtin_functions (path_signatures path.now) }
 {
-    let (nodes, was_refused) = match path.query(alloc, document) {
-        Err(QueryError::Memory) => (path.query(alloc, document)?, true),
-        answer => (answer?, false),
-    };
-    are_values(rt, alloc, &nodes, items)?;
-    Ok(was_refused)
+    if is_answered(rt, queried(alloc, query, path, document)?, wanted) {
+        return Ok(false);
+    }
+    assert!(rt; is_answered(rt, queried(alloc, query, path, document)?, wanted));
+    Ok(true)
+}
+
+/// Holds a query by the path of a row to what it selects, as [`selects`] does.
+fn queries(rt: &impl Abort, alloc: Global, query: Querying, row: &str) -> Result<bool, Fail> {
+    let (text, document, (places, items)) = cells(row)?;
+    let wanted = if is_located(query) { places } else { items };
+    let path = JsonPath::parse(alloc, text)?;
+    let document = Value::from_str(alloc, document)?;
+    selects(rt, alloc, query, &path, &document, wanted)
+}
+
+/// Holds a query by the path of each row to what it selects.
+fn queries_each(rt: &impl Abort, alloc: Global, query: Querying) -> Result<(), Fail> {
+    for &row in ROWS {
+        if queries(rt, alloc, query, row)? {
+            return called_again();
+        }
+    }
+    Ok(())
 }
 
 #[test]
 fn query(rt: HostRuntime) -> Result<(), Fail> {
-    for &row in ROWS {
-        let (text, document, _, items) = cells(row)?;
-        let path = JsonPath::parse(rt.alloc(), text)?;
-        let document = Value::from_str(rt.alloc(), document)?;
-        if queries(&rt, rt.alloc(), &path, &document, items)? {
-            return called_again();
-        }
-    }
-    Ok(())
-}
-
-/// As `queries`, where the document is asked.
-fn document_queries(
-    rt: &impl Abort,
-    alloc: Global,
-    path: &JsonPath,
-    document: &Value,
-    items: &str,
-) -> Result<bool, Fail>
-    requires { Fits builtin_functions (path_signatures path.now) }
-{
-    let (nodes, was_refused) = match document.json_path(alloc, path) {
-        Err(QueryError::Memory) => (document.json_path(alloc, path)?, true),
-        answer => (answer?, false),
-    };
-    are_values(rt, alloc, &nodes, items)?;
-    Ok(was_refused)
-}
-
-#[test]
-fn json_path(rt: HostRuntime) -> Result<(), Fail> {
-    for &row in ROWS {
-        let (text, document, _, items) = cells(row)?;
-        let path = JsonPath::parse(rt.alloc(), text)?;
-        let document = Value::from_str(rt.alloc(), document)?;
-        if document_queries(&rt, rt.alloc(), &path, &document, items)? {
-            return called_again();
-        }
-    }
-    Ok(())
-}
-
-/// As `queries`, with locations.
-fn locates(
-    rt: &impl Abort,
-    alloc: Global,
-    path: &JsonPath,
-    document: &Value,
-    places: &str,
-) -> Result<bool, Fail>
-    requires { Fits builtin_functions (path_signatures path.now) }
-{
-    let (nodes, was_refused) = match path.query_located(alloc, document) {
-        Err(QueryError::Memory) => (path.query_located(alloc, document)?, true),
-        answer => (answer?, false),
-    };
-    are_at(rt, alloc, &nodes, places)?;
-    Ok(was_refused)
-}
-
-#[test]
-fn query_located(rt: HostRuntime) -> Result<(), Fail> {
-    for &row in ROWS {
-        let (text, document, places, _) = cells(row)?;
-        let path = JsonPath::parse(rt.alloc(), text)?;
-        let document = Value::from_str(rt.alloc(), document)?;
-        if locates(&rt, rt.alloc(), &path, &document, places)? {
-            return called_again();
-        }
-    }
-    Ok(())
-}
-
-/// As `queries`, under a function set.
-fn queries_with<F: Functions>(
-    rt: &impl Abort,
-    alloc: Global,
-    path: &JsonPath,
-    document: &Value,
-    functions: &F,
-    items: &str,
-) -> Result<bool, Fail>
-    requires { Fits (before_builtin (F.set functions.now)) (path_signatures path.now) }
-{
-    let (nodes, was_refused) = match path.query_with(alloc, document, functions) {
-        Err(QueryError::Memory) => (path.query_with(alloc, document, functions)?, true),
-        answer => (answer?, false),
-    };
-    are_values(rt, alloc, &nodes, items)?;
-    Ok(was_refused)
+    queries_each(&rt, rt.alloc(), Querying::Query)
 }
 
 #[test]
 fn query_with(rt: HostRuntime) -> Result<(), Fail> {
-    for &row in ROWS {
-        let (text, document, _, items) = cells(row)?;
-        let path = JsonPath::parse_with(rt.alloc(), text, &Builtin)?;
-        let document = Value::from_str(rt.alloc(), document)?;
-        if queries_with(&rt, rt.alloc(), &path, &document, &Builtin, items)? {
-            return called_again();
-        }
-    }
-    Ok(())
+    queries_each(&rt, rt.alloc(), Querying::QueryWith)
 }
 
-/// As `locates`, under a function set.
-fn locates_with<F: Functions>(
-    rt: &impl Abort,
-    alloc: Global,
-    path: &JsonPath,
-    document: &Value,
-    functions: &F,
-    places: &str,
-) -> Result<bool, Fail>
-    requires { Fits (before_builtin (F.set functions.now)) (path_signatures path.now) }
-{
-    let (nodes, was_refused) = match path.query_located_with(alloc, document, functions) {
-        Err(QueryError::Memory) => (path.query_located_with(alloc, document, functions)?, true),
-        answer => (answer?, false),
-    };
-    are_at(rt, alloc, &nodes, places)?;
-    Ok(was_refused)
+#[test]
+fn json_path(rt: HostRuntime) -> Result<(), Fail> {
+    queries_each(&rt, rt.alloc(), Querying::JsonPath)
+}
+
+#[test]
+fn query_located(rt: HostRuntime) -> Result<(), Fail> {
+    queries_each(&rt, rt.alloc(), Querying::QueryLocated)
 }
 
 #[test]
 fn query_located_with(rt: HostRuntime) -> Result<(), Fail> {
-    for &row in ROWS {
-        let (text, document, places, _) = cells(row)?;
-        let path = JsonPath::parse_with(rt.alloc(), text, &Builtin)?;
-        let document = Value::from_str(rt.alloc(), document)?;
-        if locates_with(&rt, rt.alloc(), &path, &document, &Builtin, places)? {
-            return called_again();
-        }
-    }
-    Ok(())
-}
-
-/// The locations of what remains of a walk, of three nodes at most.
-fn remaining<F: Functions>(
-    alloc: Global,
-    walk: &mut Walk<'_, '_, Both<&F, Builtin>>,
-) -> Result<String, Fail> {
-    let mut text = String::new(alloc);
-    for _ in 0..4 {
-        if let Some(node) = walk.next()? {
-            let before = if text.is_empty() { "" } else { " " };
-            write!(text, "{before}{}", node.location())?;
-        }
-    }
-    Ok(text)
-}
-
-/// Holds a walk to its locations. One that is refused at its beginning is begun again; returns whether it was.
-fn walks<F: Functions>(
-    rt: &impl Abort,
-    alloc: Global,
-    path: &JsonPath,
-    document: &Value,
-    functions: &F,
-    places: &str,
-) -> Result<bool, Fail>
-    requires { Fits (before_builtin (F.set functions.now)) (path_signatures path.now) }
-{
-    let (mut walk, was_refused) = match path.walk(alloc, document, functions) {
-        Err(QueryError::Memory) => (path.walk(alloc, document, functions)?, true),
-        answer => (answer?, false),
-    };
-    assert_eq!(rt; remaining(alloc, &mut walk)?.as_str(), places);
-    Ok(was_refused)
+    queries_each(&rt, rt.alloc(), Querying::QueryLocatedWith)
 }
 
 #[test]
 fn walk(rt: HostRuntime) -> Result<(), Fail> {
-    for &row in ROWS {
-        let (text, document, places, _) = cells(row)?;
-        let path = JsonPath::parse_with(rt.alloc(), text, &Builtin)?;
-        let document = Value::from_str(rt.alloc(), document)?;
-        if walks(&rt, rt.alloc(), &path, &document, &Builtin, places)? {
-            return called_again();
-        }
-    }
-    Ok(())
+    queries_each(&rt, rt.alloc(), Querying::Walk)
 }
 
 /// The next node of a walk, which goes on where it is refused, and whether it was.
@@ -494,23 +425,29 @@ fn goes_on<F: Functions>(
     for _ in 0..4 {
         let (node, is_refused) = next_node(walk)?;
         was_refused = was_refused || is_refused;
-        if let Some(node) = node {
-            let before = if text.is_empty() { "" } else { " " };
-            write!(text, "{before}{}", node.location())?;
-        }
+        push_location(&mut text, node)?;
     }
-    assert_eq!(rt; text.as_str(), places);
+    tells(rt, text.as_str(), places, "a walk");
     Ok(was_refused)
+}
+
+/// Holds a walk by the path of a row to its locations. Returns whether a call was refused.
+fn walks(rt: &impl Abort, alloc: Global, row: &str) -> Result<bool, Fail> {
+    let (text, document, (places, _)) = cells(row)?;
+    let path = JsonPath::parse_with(alloc, text, &Builtin)?;
+    let document = Value::from_str(alloc, document)?;
+    goes_on(
+        rt,
+        alloc,
+        &mut path.walk(alloc, &document, &Builtin)?,
+        places,
+    )
 }
 
 #[test]
 fn next(rt: HostRuntime) -> Result<(), Fail> {
     for &row in ROWS {
-        let (text, document, places, _) = cells(row)?;
-        let path = JsonPath::parse_with(rt.alloc(), text, &Builtin)?;
-        let document = Value::from_str(rt.alloc(), document)?;
-        let mut walk = path.walk(rt.alloc(), &document, &Builtin)?;
-        if goes_on(&rt, rt.alloc(), &mut walk, places)? {
+        if walks(&rt, rt.alloc(), row)? {
             return called_again();
         }
     }
@@ -525,44 +462,48 @@ const POINTED: &[&str] = &[
     r#"$[0] ~ [0] ~ /0"#,
 ];
 
-/// Holds the pointer of a location to its text.
-fn points(
-    rt: &impl Abort,
-    alloc: Global,
-    location: &NormalizedPath<'_>,
-    wanted: &str,
-) -> Result<(), Fail> {
-    match location.to_json_pointer(alloc) {
-        Ok(text) => assert_eq!(rt; text.as_str(), wanted),
-        Err(_) => {
-            assert_eq!(rt; location.to_json_pointer(alloc)?.as_str(), wanted);
+/// Holds the pointer of a location to its text. Returns whether the call was refused and made again.
+fn points(rt: &impl Abort, alloc: Global, location: &NormalizedPath<'_>, wanted: &str) -> bool {
+    if is_answered(rt, location.to_json_pointer(alloc).ok(), wanted) {
+        return false;
+    }
+    assert!(rt; is_answered(rt, location.to_json_pointer(alloc).ok(), wanted));
+    true
+}
+
+/// Holds the location that the path of a row selects to its pointer, as [`points`] does.
+fn points_at(rt: &impl Abort, alloc: Global, row: &str) -> Result<bool, Fail> {
+    let (text, rest) = fields(row)?;
+    let (document, wanted) = fields(rest)?;
+    let document = Value::from_str(alloc, document)?;
+    let node = located_selection(alloc, text, &document)?.exactly_one()?;
+    Ok(points(rt, alloc, node.location(), wanted))
+}
+
+#[test]
+fn to_json_pointer(rt: HostRuntime) -> Result<(), Fail> {
+    for &row in POINTED {
+        if points_at(&rt, rt.alloc(), row)? {
             return called_again();
         }
     }
     Ok(())
 }
 
+/// Texts without a root.
+const ROOTLESS: &[&str] = &["", "x", " $", "@.a", "é"];
+
 #[test]
-fn to_json_pointer(rt: HostRuntime) -> Result<(), Fail> {
-    for &row in POINTED {
-        let (text, rest) = fields(row)?;
-        let (document, wanted) = fields(rest)?;
-        let path = JsonPath::parse(rt.alloc(), text)?;
-        let document = Value::from_str(rt.alloc(), document)?;
-        let node = path.query_located(rt.alloc(), &document)?.exactly_one()?;
-        points(&rt, rt.alloc(), node.location(), wanted)?;
+fn takes_none_where_the_root_is_missing(rt: HostRuntime) -> Result<(), Fail> {
+    for &text in ROOTLESS {
+        let refusal = JsonPath::parse(rt.alloc(), text).err();
+        assert!(rt; refusal.map(|e| e.kind()) == Some(ParseErrorKind::ExpectedRoot));
     }
     Ok(())
 }
 
 #[test]
-fn takes_none_where_the_root_is_missing(rt: HostRuntime) -> Result<(), Fail> {
-    for text in ["", "x", " $", "@.a", "é"] {
-        match JsonPath::parse(rt.alloc(), text) {
-            Ok(_) => assert!(rt; false, "{text} is accepted"),
-            Err(e) => assert_eq!(rt; e.kind(), ParseErrorKind::ExpectedRoot),
-        }
-    }
+fn takes_none_of_the_new_path(rt: HostRuntime) -> Result<(), Fail> {
     let path = JsonPath::new(rt.alloc());
     assert!(rt; path == JsonPath::new(rt.alloc()) && path.fits(&Builtin));
     Ok(())
@@ -584,11 +525,10 @@ fn takes_none_at_blanks(rt: HostRuntime) -> Result<(), Fail> {
 }
 
 /// Asks a list of the nodes of `$[1,0,1,0]` for all that it tells.
-fn asks_nodes(rt: &impl Abort, nodes: NodeList<'_>) {
+fn asks_nodes(rt: &impl Abort, nodes: &NodeList<'_>) {
     assert!(rt; nodes.len() == 4 && !nodes.is_empty() && nodes.first().is_some());
     assert!(rt; nodes.at_most_one().is_err() && nodes.exactly_one().is_err());
-    assert_eq!(rt; nodes.iter().count(), 4);
-    assert_eq!(rt; nodes.all().len(), 4);
+    assert!(rt; nodes.iter().count() == 4);
 }
 
 /// Asks a located node of an array's text for its parts.
@@ -599,31 +539,44 @@ fn asks_node(rt: &impl Abort, node: &LocatedNode<'_>) {
 }
 
 /// Asks a list of the located nodes of `$[1,0,1,0]` for all that it tells.
-fn asks_located(rt: &impl Abort, nodes: LocatedNodeList<'_>) {
-    assert!(rt; nodes.len() == 4 && !nodes.is_empty());
-    assert_eq!(rt; nodes.iter().count(), 4);
-    assert_eq!(rt; nodes.nodes().count(), 4);
-    assert_eq!(rt; nodes.locations().count(), 4);
+fn asks_located(rt: &impl Abort, nodes: &LocatedNodeList<'_>) {
+    assert!(rt; nodes.len() == 4 && !nodes.is_empty() && nodes.iter().count() == 4);
+    assert!(rt; nodes.nodes().count() == 4 && nodes.locations().count() == 4);
     for node in nodes.iter() {
         asks_node(rt, node);
     }
-    let nodes = nodes.dedup();
-    assert_eq!(rt; nodes.len(), 2);
-    assert!(rt; nodes.exactly_one().is_err());
+}
+
+/// The document of which `$[1,0,1,0]` selects four nodes, two of them twice.
+fn two_texts(alloc: Global) -> Result<Value, Fail> {
+    Ok(Value::from_str(alloc, r#"["a","b"]"#)?)
 }
 
 #[test]
-fn takes_none_of_lists(rt: HostRuntime) -> Result<(), Fail> {
-    let document = Value::from_str(rt.alloc(), r#"["a","b"]"#)?;
-    let path = JsonPath::parse(rt.alloc(), "$[1,0,1,0]")?;
-    let nodes = path.query(rt.alloc(), &document)?;
-    let located = path.query_located(rt.alloc(), &document)?;
-    asks_nodes(&rt, nodes);
-    asks_located(&rt, located);
-    let located = path.query_located(rt.alloc(), &document)?;
-    assert_eq!(rt; located.all().len(), 4);
-    let located = path.query_located(rt.alloc(), &document)?;
-    assert!(rt; located.at_most_one().is_err());
+fn takes_none_of_nodes(rt: HostRuntime) -> Result<(), Fail> {
+    let document = two_texts(rt.alloc())?;
+    let nodes = selection(rt.alloc(), "$[1,0,1,0]", &document)?;
+    asks_nodes(&rt, &nodes);
+    assert_eq!(rt; nodes.all().len(), 4);
+    Ok(())
+}
+
+#[test]
+fn takes_none_of_located_nodes(rt: HostRuntime) -> Result<(), Fail> {
+    let document = two_texts(rt.alloc())?;
+    let nodes = located_selection(rt.alloc(), "$[1,0,1,0]", &document)?;
+    asks_located(&rt, &nodes);
+    assert!(rt; nodes.at_most_one().is_err());
+    let nodes = located_selection(rt.alloc(), "$[1,0,1,0]", &document)?;
+    assert_eq!(rt; nodes.all().len(), 4);
+    Ok(())
+}
+
+#[test]
+fn takes_none_of_nodes_once(rt: HostRuntime) -> Result<(), Fail> {
+    let document = two_texts(rt.alloc())?;
+    let nodes = located_selection(rt.alloc(), "$[1,0,1,0]", &document)?.dedup();
+    assert!(rt; nodes.len() == 2 && nodes.exactly_one().is_err());
     Ok(())
 }
 

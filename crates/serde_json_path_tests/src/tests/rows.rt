@@ -145,9 +145,10 @@ pub(crate) fn counts(
     wanted: usize,
 ) -> Result<(), Fail> {
     let document = Value::from_str(alloc, document)?;
-    let nodes = selection(alloc, path, &document)?.len();
-    let located = located_selection(alloc, path, &document)?.len();
-    holds(rt, nodes == wanted && located == wanted, path);
+    let nodes = selection(alloc, path, &document)?;
+    holds(rt, nodes.len() == wanted, path);
+    let nodes = located_selection(alloc, path, &document)?;
+    holds(rt, nodes.len() == wanted, path);
     Ok(())
 }
 

@@ -38,6 +38,14 @@ fn holds_each(rt: &impl Abort, alloc: Global, rows: &[&str]) -> Result<(), Fail>
     Ok(())
 }
 
+/// Holds the path of each row of each table, as [`holds_each`] says.
+fn holds_all(rt: &impl Abort, alloc: Global, tables: &[&[&str]]) -> Result<(), Fail> {
+    for &rows in tables {
+        holds_each(rt, alloc, rows)?;
+    }
+    Ok(())
+}
+
 /// Holds the path of each row, which has a path, and the locations and the values of what it selects from the document.
 fn holds_each_of(
     rt: &impl Abort,
@@ -63,72 +71,107 @@ fn refuses_each(rt: &impl Abort, alloc: Global, rows: &[&str]) -> Result<(), Fai
     Ok(())
 }
 
+/// Holds the text of each row of each table, as [`refuses_each`] says.
+fn refuses_all(rt: &impl Abort, alloc: Global, tables: &[&[&str]]) -> Result<(), Fail> {
+    for &rows in tables {
+        refuses_each(rt, alloc, rows)?;
+    }
+    Ok(())
+}
+
+/// The tables of names, indexes, wildcards, slices and descendants.
+const SELECTORS: &[&[&str]] = &[
+    names::NAMES,
+    names::WILDCARDS,
+    names::INDEXES,
+    names::SEVERAL,
+    slices::SLICES,
+    descendants::DESCENDANTS,
+    blanks::BLANKS,
+];
+
 #[test]
 fn selects_by_names_and_indexes(rt: HostRuntime) -> Result<(), Fail> {
-    let alloc = rt.alloc();
-    holds_each(&rt, alloc, names::NAMES)?;
-    holds_each(&rt, alloc, names::WILDCARDS)?;
-    holds_each(&rt, alloc, names::INDEXES)?;
-    holds_each(&rt, alloc, names::SEVERAL)?;
-    holds_each(&rt, alloc, slices::SLICES)?;
-    holds_each(&rt, alloc, descendants::DESCENDANTS)?;
-    holds_each(&rt, alloc, blanks::BLANKS)
+    holds_all(&rt, rt.alloc(), SELECTORS)
 }
+
+/// The tables of filters.
+const FILTERS: &[&[&str]] = &[
+    filters::FILTERS,
+    filters::NULLS,
+    comparisons::COMPARISONS,
+    calls::CALLS,
+    calls::PATTERNS,
+];
 
 #[test]
 fn selects_by_filters(rt: HostRuntime) -> Result<(), Fail> {
-    let alloc = rt.alloc();
-    holds_each(&rt, alloc, filters::FILTERS)?;
-    holds_each(&rt, alloc, filters::NULLS)?;
-    holds_each(&rt, alloc, comparisons::COMPARISONS)?;
-    holds_each(&rt, alloc, calls::CALLS)?;
-    holds_each(&rt, alloc, calls::PATTERNS)
+    holds_all(&rt, rt.alloc(), FILTERS)
 }
+
+/// The tables of literals.
+const LITERALS: &[&[&str]] = &[
+    literals::NUMBERS,
+    literals::OTHERS,
+    strings::STRINGS,
+    numbers::NUMBERS,
+    words::WORDS,
+];
 
 #[test]
 fn selects_by_literals(rt: HostRuntime) -> Result<(), Fail> {
-    let alloc = rt.alloc();
-    holds_each(&rt, alloc, literals::NUMBERS)?;
-    holds_each(&rt, alloc, literals::OTHERS)?;
-    holds_each(&rt, alloc, strings::STRINGS)?;
-    holds_each(&rt, alloc, numbers::NUMBERS)?;
-    holds_each(&rt, alloc, words::WORDS)
+    holds_all(&rt, rt.alloc(), LITERALS)
 }
+
+/// A document, and the table of its paths.
+const DOCUMENTS: &[(&str, &[&str])] = &[
+    (bookstore::BOOKSTORE, bookstore::BOOKS),
+    (filters::EXAMPLE, filters::EXAMPLES),
+    (filters::ITEMS, filters::OF_ITEMS),
+    (filters::MEMBERS, filters::OF_MEMBERS),
+    (filters::CHOICES, filters::OF_CHOICES),
+    (filters::NESTED, filters::OF_NESTED),
+    (comparisons::EXAMPLE, comparisons::EXAMPLES),
+    (calls::NAMES, calls::OF_NAMES),
+];
 
 #[test]
 fn selects_from_documents(rt: HostRuntime) -> Result<(), Fail> {
-    let alloc = rt.alloc();
-    holds_each_of(&rt, alloc, bookstore::BOOKSTORE, bookstore::BOOKS)?;
-    holds_each_of(&rt, alloc, filters::EXAMPLE, filters::EXAMPLES)?;
-    holds_each_of(&rt, alloc, filters::ITEMS, filters::OF_ITEMS)?;
-    holds_each_of(&rt, alloc, filters::MEMBERS, filters::OF_MEMBERS)?;
-    holds_each_of(&rt, alloc, filters::CHOICES, filters::OF_CHOICES)?;
-    holds_each_of(&rt, alloc, filters::NESTED, filters::OF_NESTED)?;
-    holds_each_of(&rt, alloc, comparisons::EXAMPLE, comparisons::EXAMPLES)?;
-    holds_each_of(&rt, alloc, calls::NAMES, calls::OF_NAMES)
+    for &(document, rows) in DOCUMENTS {
+        holds_each_of(&rt, rt.alloc(), document, rows)?;
+    }
+    Ok(())
 }
+
+/// The tables of texts that are refused outside filters.
+const REFUSALS: &[&[&str]] = &[
+    refusals::SEGMENTS,
+    refusals::SELECTORS,
+    refusals::SLICES,
+    refusals::STRINGS,
+    strings::NO_STRINGS,
+    numbers::NO_NUMBERS,
+    operators::OPERATORS,
+    operators::NO_OPERATORS,
+    words::LITERAL_WORDS,
+    words::OTHER_WORDS,
+];
 
 #[test]
 fn refuses_texts(rt: HostRuntime) -> Result<(), Fail> {
-    let alloc = rt.alloc();
-    refuses_each(&rt, alloc, refusals::SEGMENTS)?;
-    refuses_each(&rt, alloc, refusals::SELECTORS)?;
-    refuses_each(&rt, alloc, refusals::SLICES)?;
-    refuses_each(&rt, alloc, refusals::STRINGS)?;
-    refuses_each(&rt, alloc, strings::NO_STRINGS)?;
-    refuses_each(&rt, alloc, numbers::NO_NUMBERS)?;
-    refuses_each(&rt, alloc, operators::OPERATORS)?;
-    refuses_each(&rt, alloc, operators::NO_OPERATORS)?;
-    refuses_each(&rt, alloc, words::LITERAL_WORDS)?;
-    refuses_each(&rt, alloc, words::OTHER_WORDS)
+    refuses_all(&rt, rt.alloc(), REFUSALS)
 }
+
+/// The tables of texts that are refused in filters.
+const FILTER_REFUSALS: &[&[&str]] = &[
+    filter_refusals::LOGIC,
+    filter_refusals::COMPARISONS,
+    filter_refusals::LITERALS,
+    filter_refusals::CALLS,
+    filter_refusals::ARGUMENTS,
+];
 
 #[test]
 fn refuses_texts_of_filters(rt: HostRuntime) -> Result<(), Fail> {
-    let alloc = rt.alloc();
-    refuses_each(&rt, alloc, filter_refusals::LOGIC)?;
-    refuses_each(&rt, alloc, filter_refusals::COMPARISONS)?;
-    refuses_each(&rt, alloc, filter_refusals::LITERALS)?;
-    refuses_each(&rt, alloc, filter_refusals::CALLS)?;
-    refuses_each(&rt, alloc, filter_refusals::ARGUMENTS)
+    refuses_all(&rt, rt.alloc(), FILTER_REFUSALS)
 }
