@@ -113,10 +113,15 @@ fn is_answered(rt: &impl Abort, answer: Option<String>, wanted: &str) -> bool {
     }
 }
 
+/// Ends a test of which a call was refused and gave the right answer when it was called again.
+fn called_again() -> Result<(), Fail> {
+    Err(Fail::from("no memory, and then the right answer"))
+}
+
 /// Holds a call that was refused, and is called again, to what is wanted. Ends the test.
 fn answers_again(rt: &impl Abort, answer: Option<String>, wanted: &str) -> Result<(), Fail> {
     assert!(rt; is_answered(rt, answer, wanted), "refused twice");
-    Err(Fail::from("no memory, and then the right answer"))
+    called_again()
 }
 
 /// The text of a path that fits the samples alone.
@@ -303,7 +308,7 @@ fn next(rt: HostRuntime) -> Result<(), Fail> {
     let document = Value::from_str(rt.alloc(), SQUARE)?;
     let mut walk = path.walk(rt.alloc(), &document, &Samples)?;
     if gives_each(&rt, rt.alloc(), &mut walk, &["$[1]", ""])? {
-        return Err(Fail::from("no memory, and then the right answer"));
+        return called_again();
     }
     Ok(())
 }
