@@ -12,7 +12,7 @@ bindings/lib/libjsonpath_c.a: $(SOURCES)
 	mkdir -p bindings/lib
 	cp "$$(dirname "$$(rt doc)")/c/liblibc_c.a" crates/jsonpath_c/out/libjsonpath_c.a bindings/lib/
 
-.PHONY: bindings test-bindings check test documents refused-memory clean
+.PHONY: bindings test-bindings check test documents trusted refused-memory clean
 
 # The static library and what is made of it: the Rust crate, the programs in C, and a shared library for Python.
 bindings: bindings/lib/libjsonpath_c.a
@@ -28,16 +28,23 @@ test-bindings:
 check:
 	rt all check
 
-# The whole gate: each proof from nothing, each test, and each edit that must be refused; then the documents, by the program
-# that the gate has built; and then the bindings.
+# The whole gate: each proof from nothing, each test, and each edit that must be refused; then the programs that must not
+# compile, over the libraries that the gate has left; the documents, by the program that it has built, and the list of what
+# must be believed; and the bindings.
 test:
 	RT_JOBS="$$(tools/lanes)" rt ci
+	tools/must_not_compile
 	tools/check_documents
+	tools/trusted --check docs/TRUSTED.md
 	$(MAKE) test-bindings
 
 # Runs each command that the documents show, and looks for each of their snippets in the code.
 documents: bin/jsonpath
 	tools/check_documents
+
+# Writes the lists of what must be believed anew.
+trusted:
+	tools/trusted --write docs/TRUSTED.md
 
 # Refuses each request for memory in turn, and prints what came of it. No part of the gate.
 refused-memory:

@@ -29,8 +29,10 @@ extern "C" {
 /* What a call answers. */
 #define JSONPATH_DONE 0             /* All is written to `out`. */
 #define JSONPATH_PATH_REFUSED 1     /* The path is refused; `refusal` says why, and where. */
-#define JSONPATH_DOCUMENT_REFUSED 2 /* The document is not JSON, or nests deeper than 127 levels. */
-#define JSONPATH_QUERY_REFUSED 3    /* A pattern of `match` or `search` is too large once built. */
+#define JSONPATH_DOCUMENT_REFUSED 2 /* The document is not JSON, or nests deeper than 127 levels, or has a number beyond those
+                                     * of 64-bit floats, as 1e400. */
+#define JSONPATH_QUERY_REFUSED 3    /* Some call of `match` or `search` has a pattern that `regex` reads, and the document is
+                                     * read. In the code it comes where that is too large once built; no contract says so. */
 #define JSONPATH_NO_MEMORY 4        /* Memory was refused. */
 #define JSONPATH_NO_ROOM 5          /* `out` is too small; `*length` says how many bytes are needed. */
 #define JSONPATH_NOT_UTF8 6         /* The path is not UTF-8. */

@@ -173,9 +173,9 @@ impl Error for ParseError {}
 #[derive(Clone, Copy, Debug, PartialEq, Eq, Hash)]
 #[non_exhaustive]
 pub enum QueryError {
-    /// The document is not JSON, or nests deeper than 127 levels.
+    /// The document is not JSON, or nests deeper than 127 levels, or has a number beyond those of 64-bit floats, as `1e400`.
     Document,
-    /// A pattern of `match` or `search` is too large once built.
+    /// A pattern of `match` or `search`, which `regex` reads, is too large once built.
     Pattern,
     /// Memory was refused.
     NoMemory,

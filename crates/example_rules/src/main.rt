@@ -8,7 +8,6 @@ ghost use Rattle.serde_json.specs.View.{view};
 ghost use Rattle.serde_json_path_nodes.specs.Location.{Located};
 ghost use Rattle.serde_json_path_functions.specs.Functions.{Fits};
 ghost use Rattle.serde_json_path_functions.specs.Patterns.{before_builtin, builtin_functions};
-ghost use Rattle.serde_json_path_core.specs.Clear.{IsClear};
 ghost use Rattle.serde_json_path_core.specs.Selects.{Selects};
 ghost use Rattle.serde_json_path.specs.Paths.{path_signatures, path_tree};
 
@@ -51,8 +50,7 @@ fn holds(alloc: Global, path: &JsonPath, document: &Value) -> Result<bool, Query
     requires { Fits (before_builtin builtin_functions) (path_signatures path.now) }
     ensures { IfOk result (λ holds. (nodes : List Located)
         × Selects (before_builtin builtin_functions) (path_tree path.now) (view document.now) nodes
-        × (IsClear (before_builtin builtin_functions) (path_tree path.now) (view document.now)
-        → holds ≡ not (length nodes == 0))) }
+        × (holds ≡ not (length nodes == 0))) }
 {
     let mut walk = path.walk(alloc, document, &Builtin)?;
     Ok(walk.next()?.is_some())

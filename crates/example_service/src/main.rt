@@ -9,6 +9,7 @@ ghost use Rattle.std.specs.Prelude.{◌≤◌, ◌+◌, ◌*◌, length, IfOk};
 ghost use Rattle.serde_json_path_functions.specs.Functions.{Fits};
 ghost use Rattle.serde_json_path_functions.specs.Patterns.{before_builtin, builtin_functions};
 ghost use Rattle.serde_json_path_parser.specs.Parse.{IsParseOf};
+ghost use Rattle.serde_json_path_parser.specs.Reported.{ReportsFirst};
 ghost use Rattle.serde_json_path.specs.Paths.{path_signatures, path_view};
 
 use serde_json::Value;
@@ -46,6 +47,8 @@ enum Failure {
 fn parse(alloc: Global, text: &str, looks: &mut u128) -> Result<JsonPath, ParseError>
     requires { 32 * (length text.now + 1) ≤ looks.old }
     ensures parse { IsParseOf path_view
+        (before_builtin builtin_functions).signature text.now result }
+    ensures reported { ReportsFirst path_view
         (before_builtin builtin_functions).signature text.now result }
     ensures fits { IfOk result (λ path.
         Fits (before_builtin builtin_functions) (path_signatures path)) }

@@ -3,8 +3,9 @@ use Rattle.std.proofs.Common.{◌≡◌, ℕ, List, Err, subst, sym}
 use Rattle.serde_json_path.specs.Paths.{path_view}
 use Rattle.serde_json_path_functions.specs.Patterns.{before_builtin, builtin_functions}
 use Rattle.serde_json_path_parser.specs.Parse.{IsParseOf}
+use Rattle.serde_json_path_parser.specs.Reported.{ReportsFirst}
 use Rattle.serde_json_path_parser.specs.declared.error.ParseError.{ParseError}
-use Rattle.jsonpath_report.specs.Report.{CallsByPattern, IsNoPath, IsReportIn}
+use Rattle.jsonpath_report.specs.Report.{CallsByPatternOn, IsNoPath, IsReportIn}
 use Rattle.jsonpath_report.specs.declared.report.LineForm.{LineForm}
 use Rattle.jsonpath_report.proofs.Sets.{before_itself}
 
@@ -25,6 +26,14 @@ refusal_by_itself path given e same refused =
     subst (λ F. IsParseOf path_view F.signature given (Err e)) (before_itself builtin_functions)
     (subst (λ p. IsParseOf path_view (before_builtin builtin_functions).signature p (Err e)) same refused)
 
-pub pattern_by_itself : (path given : List ℕ) → path ≡ given → CallsByPattern (before_builtin builtin_functions) path → CallsByPattern builtin_functions given
-pattern_by_itself path given same calls =
-    subst (λ F. CallsByPattern F given) (before_itself builtin_functions) (subst (CallsByPattern (before_builtin builtin_functions)) same calls)
+pub reported_by_itself : (path given : List ℕ) (e : ParseError) → path ≡ given
+    → ReportsFirst path_view (before_builtin builtin_functions).signature path (Err e) → ReportsFirst path_view builtin_functions.signature given (Err e)
+reported_by_itself path given e same reported =
+    subst (λ F. ReportsFirst path_view F.signature given (Err e)) (before_itself builtin_functions)
+    (subst (λ p. ReportsFirst path_view (before_builtin builtin_functions).signature p (Err e)) same reported)
+
+pub pattern_by_itself : (path given document : List ℕ) → path ≡ given → CallsByPatternOn (before_builtin builtin_functions) path document
+    → CallsByPatternOn builtin_functions given document
+pattern_by_itself path given document same calls =
+    subst (λ F. CallsByPatternOn F given document) (before_itself builtin_functions)
+    (subst (λ p. CallsByPatternOn (before_builtin builtin_functions) p document) same calls)

@@ -4,6 +4,7 @@ use Rattle.serde_json_path.specs.Paths.{path_view}
 use Rattle.serde_json_path_functions.specs.Patterns.{builtin_functions}
 use Rattle.serde_json_path_parser.specs.Errors.{kind_of, position_of}
 use Rattle.serde_json_path_parser.specs.Parse.{IsParseOf}
+use Rattle.serde_json_path_parser.specs.Reported.{ReportsFirst}
 use Rattle.serde_json_path_parser.specs.declared.error.ParseError.{ParseError}
 use Rattle.serde_json_path_parser.specs.declared.error.ParseErrorKind.{ParseErrorKind}
 use Rattle.serde_json_path_parser.specs.declared.error.ParseErrorKind.TheVariants.{ExpectedRoot, BadMemberName, ExpectedClosingBracket, ExpectedEndingQuote, BadEscape, ControlCharacter, ExpectedSelector, IntegerOutOfRange, ExponentOrEmptyFraction, NumberOutOfRange, ExpectedExpression, ExpectedClosingParenthesis, ExpectedComparisonOperator, NonSingularQuery, UndefinedFunction, WrongNumberOfArguments, WrongArgumentType, WrongReturnType, NestedTooDeep, TextAfterPath, FractionTooLong, NoMemory}
@@ -46,7 +47,19 @@ number_of NoMemory = 0
 abbrev pub IsRefusedWith : List ℕ → ParseError → Type 0
 IsRefusedWith path e = IsParseOf path_view builtin_functions.signature path (Err e) × (kind_of e ≢ NoMemory)
 
+-- and is the refusal that the parse reports
+abbrev pub IsReportedWith : List ℕ → ParseError → Type 0
+IsReportedWith path e = IsRefusedWith path e × ReportsFirst path_view builtin_functions.signature path (Err e)
+
+-- a text is refused as a path with the kind and the position of an error
+abbrev pub IsRefusalBy : (List ℕ → ParseError → Type 0) → List ℕ → Refusal → Type 0
+IsRefusalBy IsRefusedBy path refusal =
+    (e : ParseError) × IsRefusedBy path e × (refusal.kind ≡ number_of (kind_of e)) × (refusal.position ≡ position_of e)
+
 -- a text is refused as a path, and this says why and where
 abbrev pub IsRefusalOf : List ℕ → Refusal → Type 0
-IsRefusalOf path refusal =
-    (e : ParseError) × IsRefusedWith path e × (refusal.kind ≡ number_of (kind_of e)) × (refusal.position ≡ position_of e)
+IsRefusalOf path refusal = IsRefusalBy IsRefusedWith path refusal
+
+-- and it is the refusal that the parse reports
+abbrev pub IsReportedRefusalOf : List ℕ → Refusal → Type 0
+IsReportedRefusalOf path refusal = IsRefusalBy IsReportedWith path refusal

@@ -7,7 +7,7 @@ ghost use Rattle.serde_json_path_parser.specs.Accepted.{IsAccepted};
 ghost use Rattle.serde_json_path_parser.specs.Errors.{message_of};
 ghost use Rattle.serde_json_path_parser.specs.declared.error.ParseError as path_error;
 ghost use Rattle.serde_json_path_syntax.specs.Tree.{Query};
-ghost use Rattle.jsonpath_c.specs.Exports.{IsPut, FindsNoRoom, IsRefusalOf, IsRefusedWith};
+ghost use Rattle.jsonpath_c.specs.Exports.{IsPut, FindsNoRoom, IsRefusalOf, IsReportedRefusalOf, IsReportedWith};
 
 use crate::put::put;
 use crate::refusal::{Refusal, refuse};
@@ -23,6 +23,7 @@ pub extern "C" fn jsonpath_check(alloc: Global, path: &[u8], refusal: &mut Refus
     ensures accepted { result ≡ 0
         → (q : Query) × IsAccepted builtin_functions.signature (chars path.now) q }
     ensures refused { result ≡ 1 → IsRefusalOf path.now refusal.new }
+    ensures reported { result ≡ 1 → IsReportedRefusalOf path.now refusal.new }
     ensures not_utf8 { (result ≡ 6) ↔ (IsUtf8 path.now → ⊥) }
     ensures kept { result ≢ 1 → refusal.new ≡ refusal.old }
 {
@@ -48,10 +49,10 @@ pub extern "C" fn jsonpath_message(
     ensures done { result ≡ 0
         → (((q : Query) × IsAccepted builtin_functions.signature (chars path.now) q)
         × IsPut [] out.old out.new size.new)
-        ⊎ ((e : path_error.ParseError) × IsRefusedWith path.now e
+        ⊎ ((e : path_error.ParseError) × IsReportedWith path.now e
         × IsPut (message_of e) out.old out.new size.new) }
     ensures no_room { result ≡ 5
-        → (e : path_error.ParseError) × IsRefusedWith path.now e
+        → (e : path_error.ParseError) × IsReportedWith path.now e
         × FindsNoRoom (message_of e) out.old size.new }
     ensures not_utf8 { (result ≡ 6) ↔ (IsUtf8 path.now → ⊥) }
     ensures kept_out { result ≢ 0 → out.new ≡ out.old }

@@ -4,8 +4,8 @@ ghost use Rattle.std.specs.Prelude.{◌≡◌, ◌≢◌, ◌≤◌, ◌⊎◌, 
 ghost use Rattle.std.specs.Str.{IsUtf8};
 ghost use Rattle.serde_json.specs.Data.{Data};
 ghost use Rattle.serde_json_path_functions.specs.Patterns.{builtin_functions};
-ghost use Rattle.jsonpath_report.specs.Report.{ReadsAs, IsNoPath, CallsByPattern, IsReportIn};
-ghost use Rattle.jsonpath_c.specs.Exports.{IsPut, FindsNoRoom, IsRefusalOf};
+ghost use Rattle.jsonpath_report.specs.Report.{ReadsAs, IsNoPath, CallsByPatternOn, IsReportIn};
+ghost use Rattle.jsonpath_c.specs.Exports.{IsPut, FindsNoRoom, IsRefusalOf, IsReportedRefusalOf};
 
 use crate::put::put;
 use crate::refusal::{Refusal, refuse};
@@ -33,10 +33,12 @@ fn lines(
         × IsReportIn form builtin_functions path.now document.now text
         × FindsNoRoom text out.old size.new }
     ensures path_refused { result ≡ 1 → IsRefusalOf path.now refusal.new }
+    ensures path_reported { result ≡ 1 → IsReportedRefusalOf path.now refusal.new }
     ensures path_first { IsUtf8 path.now → IsNoPath builtin_functions path.now
         → (result ≡ 1) ⊎ (result ≡ 4) }
     ensures not_json { result ≡ 2 → (d : Data) → ReadsAs document.now d → ⊥ }
-    ensures pattern_refused { result ≡ 3 → CallsByPattern builtin_functions path.now }
+    ensures pattern_refused { result ≡ 3
+        → CallsByPatternOn builtin_functions path.now document.now }
     ensures query_last { result ≡ 3 → (d : Data) × ReadsAs document.now d }
     ensures not_utf8 { (result ≡ 6) ↔ (IsUtf8 path.now → ⊥) }
     ensures kept_out { result ≢ 0 → out.new ≡ out.old }
@@ -75,10 +77,12 @@ pub extern "C" fn jsonpath_report(
         × IsReportIn LineForm.LocationAndValue builtin_functions path.now document.now text
         × FindsNoRoom text out.old size.new }
     ensures path_refused { result ≡ 1 → IsRefusalOf path.now refusal.new }
+    ensures path_reported { result ≡ 1 → IsReportedRefusalOf path.now refusal.new }
     ensures path_first { IsUtf8 path.now → IsNoPath builtin_functions path.now
         → (result ≡ 1) ⊎ (result ≡ 4) }
     ensures not_json { result ≡ 2 → (d : Data) → ReadsAs document.now d → ⊥ }
-    ensures pattern_refused { result ≡ 3 → CallsByPattern builtin_functions path.now }
+    ensures pattern_refused { result ≡ 3
+        → CallsByPatternOn builtin_functions path.now document.now }
     ensures query_last { result ≡ 3 → (d : Data) × ReadsAs document.now d }
     ensures not_utf8 { (result ≡ 6) ↔ (IsUtf8 path.now → ⊥) }
     ensures kept_out { result ≢ 0 → out.new ≡ out.old }
@@ -114,10 +118,12 @@ pub extern "C" fn jsonpath_values(
         × IsReportIn LineForm.Value builtin_functions path.now document.now text
         × FindsNoRoom text out.old size.new }
     ensures path_refused { result ≡ 1 → IsRefusalOf path.now refusal.new }
+    ensures path_reported { result ≡ 1 → IsReportedRefusalOf path.now refusal.new }
     ensures path_first { IsUtf8 path.now → IsNoPath builtin_functions path.now
         → (result ≡ 1) ⊎ (result ≡ 4) }
     ensures not_json { result ≡ 2 → (d : Data) → ReadsAs document.now d → ⊥ }
-    ensures pattern_refused { result ≡ 3 → CallsByPattern builtin_functions path.now }
+    ensures pattern_refused { result ≡ 3
+        → CallsByPatternOn builtin_functions path.now document.now }
     ensures query_last { result ≡ 3 → (d : Data) × ReadsAs document.now d }
     ensures not_utf8 { (result ≡ 6) ↔ (IsUtf8 path.now → ⊥) }
     ensures kept_out { result ≢ 0 → out.new ≡ out.old }
@@ -145,10 +151,12 @@ pub extern "C" fn jsonpath_locations(
         × IsReportIn LineForm.Location builtin_functions path.now document.now text
         × FindsNoRoom text out.old size.new }
     ensures path_refused { result ≡ 1 → IsRefusalOf path.now refusal.new }
+    ensures path_reported { result ≡ 1 → IsReportedRefusalOf path.now refusal.new }
     ensures path_first { IsUtf8 path.now → IsNoPath builtin_functions path.now
         → (result ≡ 1) ⊎ (result ≡ 4) }
     ensures not_json { result ≡ 2 → (d : Data) → ReadsAs document.now d → ⊥ }
-    ensures pattern_refused { result ≡ 3 → CallsByPattern builtin_functions path.now }
+    ensures pattern_refused { result ≡ 3
+        → CallsByPatternOn builtin_functions path.now document.now }
     ensures query_last { result ≡ 3 → (d : Data) × ReadsAs document.now d }
     ensures not_utf8 { (result ≡ 6) ↔ (IsUtf8 path.now → ⊥) }
     ensures kept_out { result ≢ 0 → out.new ≡ out.old }

@@ -9,9 +9,8 @@ use Rattle.serde_json.specs.Written.{has_float, compact_text, IsInOrder}
 use Rattle.serde_json_path_nodes.specs.Location.{Located}
 use Rattle.serde_json_path_nodes.specs.Text.{normal}
 use Rattle.serde_json_path_syntax.specs.Tree.{Query}
-use Rattle.serde_json_path_syntax.specs.Calls.{EachCall}
 use Rattle.serde_json_path_functions.specs.Functions.{FunctionSet}
-use Rattle.serde_json_path_core.specs.Clear.{GoesWithoutPattern}
+use Rattle.serde_json_path_core.specs.PatternCalls.{CallsByPattern}
 use Rattle.serde_json_path_core.specs.Selects.{Selects}
 use Rattle.serde_json_path_parser.specs.Accepted.{IsAccepted}
 use Rattle.jsonpath_report.specs.declared.report.LineForm.{LineForm}
@@ -49,12 +48,12 @@ AreLinesIn form (n ∷ ns) text = (line rest : List ℕ) × IsLineIn form n line
 abbrev pub IsNoPath : FunctionSet → List ℕ → Type 0
 IsNoPath F path = (q : Query) → IsAccepted F.signature (chars path) q → ⊥
 
--- the text is a path that calls a name of the set which stands for `match` or `search`
-abbrev pub CallsByPattern : FunctionSet → List ℕ → Type 0
-CallsByPattern F path = (q : Query) × IsAccepted F.signature (chars path) q × (EachCall (GoesWithoutPattern F) q → ⊥)
+-- the text is a path of which some call goes by a pattern that `regex` reads, on a document that the bytes read as
+abbrev pub CallsByPatternOn : FunctionSet → List ℕ → List ℕ → Type 0
+CallsByPatternOn F path document =
+    (q : Query) × (d : Data) × IsAccepted F.signature (chars path) q × ReadsAs document d × CallsByPattern F d q
 
--- The text is the lines, in a form, of the path's result on the document, under the set's functions, where no call that goes by
--- `regex` gets a pattern that is nested deeper than `regex` takes.
+-- The text is the lines, in a form, of the path's result on the document, under the set's functions.
 pub record IsReportIn (form : LineForm) (F : FunctionSet) (path document text : List ℕ) : Type 0 where
   pub query : Query
   pub value : Data

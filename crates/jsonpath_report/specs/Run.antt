@@ -8,7 +8,7 @@ use Rattle.serde_json_path_functions.specs.Patterns.{builtin_functions}
 use Rattle.serde_json_path_functions.specs.declared.error.QueryError.{QueryError}
 use Rattle.serde_json_path_functions.specs.declared.error.QueryError.TheVariants as query_error
 use Rattle.serde_json_path_parser.specs.Errors.{position_of, message_of}
-use Rattle.jsonpath_report.specs.Report.{ReadsAs, CallsByPattern, IsReportOf}
+use Rattle.jsonpath_report.specs.Report.{ReadsAs, CallsByPatternOn, IsReportOf}
 use Rattle.jsonpath_report.specs.declared.report.DocumentError.{DocumentError}
 use Rattle.jsonpath_report.specs.declared.report.DocumentError.TheVariants as document_error
 use Rattle.jsonpath_report.specs.declared.report.ReportError.{ReportError}
@@ -56,9 +56,16 @@ IsDocumentLine input line =
 abbrev pub MayBeDocument : Option (List ℕ) → Type 0
 MayBeDocument input = IfSome input (λ bytes. (d : Data) × ReadsAs bytes d)
 
+-- some call of the path, which is the one word, goes by a pattern that `regex` reads, on a document that is the input as far as it
+-- is known
+abbrev pub CallsByPatternInRun : List (String Global) → Option (List ℕ) → Type 0
+CallsByPatternInRun words input =
+    (document path : List ℕ) × IsOneWord words path × IfSome input (λ bytes. document ≡ bytes)
+    × CallsByPatternOn builtin_functions path document
+
 -- a line of status 3: why the query is refused, or that the output failed; a pattern is told to be refused only where the path
--- calls by pattern
-abbrev pub IsQueryLine : List (String Global) → List ℕ → Type 0
-IsQueryLine words line =
-    ((e : QueryError) × (line ≡ line_of (Query e)) × (e ≡ query_error.Pattern → (path : List ℕ) × IsOneWord words path × CallsByPattern builtin_functions path))
+-- calls by one that `regex` reads
+abbrev pub IsQueryLine : List (String Global) → Option (List ℕ) → List ℕ → Type 0
+IsQueryLine words input line =
+    ((e : QueryError) × (line ≡ line_of (Query e)) × (e ≡ query_error.Pattern → CallsByPatternInRun words input))
     ⊎ (line ≡ codes "jsonpath: output failed\n")

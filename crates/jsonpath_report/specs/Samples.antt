@@ -1,7 +1,7 @@
 -- A function set as an example: what its names mean, and that it keeps types and patterns.
 use Rattle.std.proofs.Common.{◌&&◌, ℕ, List, [], ◌∷◌, Bool, true, false, Option, Some, None, bytes_eq, codes, if◌then◌else◌, refl, arith, slice_get}
 use Rattle.serde_json.specs.Data.{Data}
-use Rattle.serde_json_path_functions.specs.BothTypes.{Keeps, declared_keeps}
+use Rattle.serde_json_path_functions.specs.OwnSets.{Keeps, declared_keeps}
 use Rattle.serde_json_path_functions.specs.Functions.{of_value, of_nodes, of_logical, Signature, Term, value, nodes, logical, FunctionSet, KeepsTypes}
 use Rattle.serde_json_path_functions.specs.Patterns.{KeepsPatterns, keeps_no_patterns}
 

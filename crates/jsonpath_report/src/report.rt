@@ -6,12 +6,13 @@ ghost use Rattle.serde_json.specs.View.{view};
 ghost use Rattle.serde_json_path_nodes.specs.Location.{Located};
 ghost use Rattle.serde_json_path_nodes.specs.Views.{located};
 ghost use Rattle.serde_json_path_functions.specs.Patterns.{before_builtin};
-ghost use Rattle.serde_json_path_core.specs.Selects.{OnlyMemory};
-ghost use Rattle.serde_json_path_core.specs.Walks.{IsClearWalk, rest, query_of, set_of};
+ghost use Rattle.serde_json_path_core.specs.Selects.{OnlyMemoryOrPattern};
+ghost use Rattle.serde_json_path_core.specs.Walks.{rest, query_of, set_of, document_of};
 ghost use Rattle.serde_json_path.specs.Paths.{path_view};
 ghost use Rattle.serde_json_path_parser.specs.Parse.{IsParseOf};
+ghost use Rattle.serde_json_path_parser.specs.Reported.{ReportsFirst};
 ghost use Rattle.serde_json_path_parser.specs.declared.error.ParseError as path_error;
-ghost use Rattle.jsonpath_report.specs.Report.{ReadsAs, EndsLine, IsLineIn, AreLinesIn, IsNoPath, CallsByPattern, IsReportIn, IsReportOf};
+ghost use Rattle.jsonpath_report.specs.Report.{ReadsAs, EndsLine, IsLineIn, AreLinesIn, IsNoPath, CallsByPatternOn, IsReportIn, IsReportOf};
 
 use serde_json::Value;
 use serde_json_path::functions::Functions;
@@ -155,8 +156,9 @@ fn lines<F: Functions + Drop>(
     requires { string_bytes text ≡ [] }
     ensures lines { IfOk result (λ text.
         (nodes : List Located) × AreLinesIn form nodes (string_bytes text)
-        × (IsClearWalk walk.entry → nodes ≡ rest walk.entry)) }
-    ensures refused { OnlyMemory (set_of walk.entry) (query_of walk.entry) result }
+        × (nodes ≡ rest walk.entry)) }
+    ensures refused { OnlyMemoryOrPattern (set_of walk.entry) (query_of walk.entry)
+        (document_of walk.entry) result }
 {
     'nodes: while let Some(node) = walk.next()? {
         push_line(alloc, &mut text, form, &node)?;
@@ -186,13 +188,15 @@ pub fn report<F: Functions>(
     // A path is refused as the parse refuses it, and before the document is looked at.
     ensures path_refused { (e : path_error.ParseError) → result ≡ Err (ReportError.Path e)
         → IsParseOf path_view (before_builtin (F.set functions.now)).signature path.now (Err e) }
+    ensures path_reported { (e : path_error.ParseError) → result ≡ Err (ReportError.Path e)
+        → ReportsFirst path_view (before_builtin (F.set functions.now)).signature path.now (Err e) }
     ensures path_first { IsNoPath (before_builtin (F.set functions.now)) path.now
         → (e : path_error.ParseError) × (result ≡ Err (ReportError.Path e)) }
 
     ensures not_json { result ≡ Err (ReportError.Document DocumentError.NotJson) → (d : Data)
         → ReadsAs document.now d → ⊥ }
     ensures pattern_refused { result ≡ Err (ReportError.Query QueryError.Pattern)
-        → CallsByPattern (before_builtin (F.set functions.now)) path.now }
+        → CallsByPatternOn (before_builtin (F.set functions.now)) path.now document.now }
 
     // A query is refused only where the document is read.
     ensures query_last { (e : QueryError) → result ≡ Err (ReportError.Query e)
@@ -220,13 +224,15 @@ pub fn report_in<F: Functions>(
     // A path is refused as the parse refuses it, and before the document is looked at.
     ensures path_refused { (e : path_error.ParseError) → result ≡ Err (ReportError.Path e)
         → IsParseOf path_view (before_builtin (F.set functions.now)).signature path.now (Err e) }
+    ensures path_reported { (e : path_error.ParseError) → result ≡ Err (ReportError.Path e)
+        → ReportsFirst path_view (before_builtin (F.set functions.now)).signature path.now (Err e) }
     ensures path_first { IsNoPath (before_builtin (F.set functions.now)) path.now
         → (e : path_error.ParseError) × (result ≡ Err (ReportError.Path e)) }
 
     ensures not_json { result ≡ Err (ReportError.Document DocumentError.NotJson) → (d : Data)
         → ReadsAs document.now d → ⊥ }
     ensures pattern_refused { result ≡ Err (ReportError.Query QueryError.Pattern)
-        → CallsByPattern (before_builtin (F.set functions.now)) path.now }
+        → CallsByPatternOn (before_builtin (F.set functions.now)) path.now document.now }
 
     // A query is refused only where the document is read.
     ensures query_last { (e : QueryError) → result ≡ Err (ReportError.Query e)

@@ -6,6 +6,7 @@ ghost use Rattle.serde_json_path_functions.specs.Patterns.{builtin_functions};
 ghost use Rattle.serde_json_path.specs.Paths.{path_view};
 ghost use Rattle.serde_json_path_parser.specs.Errors.{kind_of, position_of};
 ghost use Rattle.serde_json_path_parser.specs.Parse.{IsParseOf};
+ghost use Rattle.serde_json_path_parser.specs.Reported.{ReportsFirst};
 ghost use Rattle.serde_json_path_parser.specs.declared.error.ParseError as path_error;
 ghost use Rattle.jsonpath_report.specs.Report.{IsNoPath};
 ghost use Rattle.jsonpath_report.specs.Run.{status_of, line_of, IsStatus, IsDocumentLine, IsQueryLine, IsOneWord, IsReportOfRun, MayBeDocument, AppendsBeginning};
@@ -140,8 +141,8 @@ fn print<W: Write, E: Write>(lines: &str, out: &mut W, err: &mut E) -> u8
 /// The program: `jsonpath PATH` with a document as its input. Returns the exit status.
 ///
 /// With exactly one word the input is read to its end, then the path and the document are read, then all lines are made,
-/// and only then written. Any fault is reported to `err` in one line, as far as `err` takes it, and then nothing goes to
-/// `out`, unless it is the write that failed:
+/// and only then written. Any fault is told to `err` in its line, or a beginning of it, which may be empty, and then nothing
+/// goes to `out`, unless it is the write that failed:
 ///
 /// | Status | When |
 /// |---|---|
@@ -176,13 +177,14 @@ pub fn run<R: Read, W: Write, E: Write>(
         ⊎ ((text : List ℕ) × IsReportOfRun words.now (R.remaining input.old) text
         × AppendsBeginning (W.contents out.old) (W.contents out.new) text) }
 
-    // A fault is told in its line, as far as `err` takes it. A path is refused only as the parse refuses it.
+    // A fault is told in its line, or a beginning of it. A path is refused only as the parse refuses it.
     ensures usage_told { result ≡ 64
         → AppendsBeginning (E.contents err.old) (E.contents err.new)
         (codes "usage: jsonpath PATH\n") }
     ensures path_told { result ≡ 1 → (path : List ℕ) × IsOneWord words.now path
         × ((e : path_error.ParseError)
         × IsParseOf path_view builtin_functions.signature path (Err e)
+        × ReportsFirst path_view builtin_functions.signature path (Err e)
         × AppendsBeginning (E.contents err.old) (E.contents err.new)
         (line_of (ReportError.Path e))) }
     ensures path_first { (path : List ℕ) → IsOneWord words.now path
@@ -194,7 +196,8 @@ pub fn run<R: Read, W: Write, E: Write>(
         → (line : List ℕ) × IsDocumentLine (R.remaining input.old) line
         × AppendsBeginning (E.contents err.old) (E.contents err.new) line }
     ensures query_last { result ≡ 3 → MayBeDocument (R.remaining input.old) }
-    ensures query_told { result ≡ 3 → (line : List ℕ) × IsQueryLine words.now line
+    ensures query_told { result ≡ 3
+        → (line : List ℕ) × IsQueryLine words.now (R.remaining input.old) line
         × ((line ≡ codes "jsonpath: output failed\n") ⊎ (out.new ≡ out.old))
         × AppendsBeginning (E.contents err.old) (E.contents err.new) line }
 {

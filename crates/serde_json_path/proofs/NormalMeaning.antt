@@ -8,7 +8,7 @@ use Rattle.serde_json_path_syntax.specs.Tree.{query, root, long_hand, no_selecto
 use Rattle.serde_json_path_syntax.specs.Typing.{AreTypedSegments}
 use Rattle.serde_json_path_syntax.specs.Depth.{segments_depth}
 use Rattle.serde_json_path_core.specs.Meaning.{IsResult}
-use Rattle.serde_json_path_core.specs.Computed.{chosen, itself, placed, results_from}
+use Rattle.serde_json_path_core.specs.Inside.Computed.{chosen, itself, placed, results_from}
 use Rattle.serde_json_path_core.proofs.Meaning.Derived.{computed_result}
 use Rattle.serde_json_path_functions.specs.Functions.{Signature, FunctionSet}
 use Rattle.serde_json_path_syntax.specs.Calls.{calls_in_segments}

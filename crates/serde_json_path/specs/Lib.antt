@@ -1,9 +1,9 @@
--- What contracts cite:
+-- What public contracts cite; the rest is in `Inside`.
 -- Paths: what contracts see of a path.
 -- FromJson: what reading a path from a JSON value answers.
--- SamePaths: the test of two paths is an equivalence.
 -- Laws: a normalised path is accepted with one tree, and selects its node alone.
+-- Inside: that the test of two paths is an equivalence. A law of a trait may cite `specs` alone.
 pub mod Paths
 pub mod FromJson
-pub mod SamePaths
 pub mod Laws
+pub mod Inside

@@ -10,7 +10,7 @@ use crate::path::JsonPath;
 /// they keep are not compared.
 impl PartialEq for JsonPath {
     ghost use Rattle.std.specs.Cmp.{partial_equiv_from_equiv};
-    ghost use Rattle.serde_json_path.specs.SamePaths.{same_paths-equiv};
+    ghost use Rattle.serde_json_path.specs.Inside.SamePaths.{same_paths-equiv};
 
     ghost eq = { λ mine theirs. same_query (path_tree mine) (path_tree theirs) };
 
@@ -25,7 +25,7 @@ impl PartialEq for JsonPath {
 }
 
 impl Eq for JsonPath {
-    ghost use Rattle.serde_json_path.specs.SamePaths.{same_paths-equiv};
+    ghost use Rattle.serde_json_path.specs.Inside.SamePaths.{same_paths-equiv};
 
     ghost laws = { same_paths-equiv };
 }

@@ -4,7 +4,7 @@ ghost use Rattle.std.specs.Prelude.{IfOk};
 ghost use Rattle.serde_json.specs.Data.{Data};
 ghost use Rattle.serde_json.specs.View.{view};
 ghost use Rattle.serde_json_path_nodes.specs.Views.{node_values};
-ghost use Rattle.serde_json_path_core.specs.Selects.{OnlyMemory, SelectsValues};
+ghost use Rattle.serde_json_path_core.specs.Selects.{OnlyMemoryOrPattern, SelectsValues};
 ghost use Rattle.serde_json_path_functions.specs.Functions.{Fits};
 ghost use Rattle.serde_json_path_functions.specs.Patterns.{builtin_functions};
 ghost use Rattle.serde_json_path.specs.Paths.{path_signatures, path_tree};
@@ -32,7 +32,8 @@ pub trait JsonPathExt {
         ensures selects { IfOk result (λ list.
             SelectsValues builtin_functions (path_tree path.now) (document self.now)
             (node_values list)) }
-        ensures refused { OnlyMemory builtin_functions (path_tree path.now) result };
+        ensures refused { OnlyMemoryOrPattern builtin_functions (path_tree path.now)
+            (document self.now) result };
 }
 
 impl JsonPathExt for Value {

@@ -40,7 +40,7 @@ impl fmt::Display for FromJsonError {
 impl Error for FromJsonError {}
 
 impl JsonPath {
-    ghost use Rattle.serde_json_path.specs.FromJson.{IsReadFrom};
+    ghost use Rattle.serde_json_path.specs.FromJson.{IsReadFrom, IsReportedFrom};
     ghost use Rattle.serde_json_path.specs.Paths.{path_signatures, path_tree};
     ghost use Rattle.serde_json_path_syntax.specs.Text.{query_text};
 
@@ -53,6 +53,7 @@ impl JsonPath {
     /// ```
     pub fn from_json(alloc: Global, value: &Value) -> Result<JsonPath, FromJsonError>
         ensures read { IsReadFrom (view value.now) result }
+        ensures reported { IsReportedFrom (view value.now) result }
         ensures fits { IfOk result (λ path. Fits builtin_functions (path_signatures path)) }
     {
         match value.as_str() {

@@ -47,7 +47,7 @@
 //! Contracts cite relations in the terms of the RFC: the grammar is in `specs/` of `serde_json_path_parser`, trees and their
 //! typing in those of `serde_json_path_syntax`, what a query selects in those of `serde_json_path_core`. `Paths` here is
 //! what contracts see of a path, `FromJson` what reading one from a JSON value answers, `Laws` the law that joins grammar and
-//! meaning.
+//! meaning. The laws of results, of texts and of locations are functions with empty bodies, whose contracts are the laws.
 #![tactic(auto)]
 
 mod equal;
@@ -62,10 +62,13 @@ pub use ext::JsonPathExt;
 pub use json::FromJsonError;
 pub use laws::{law_locations_are_proper, law_normal, law_set_before_itself};
 pub use path::JsonPath;
-pub use serde_json_path_core::{QueryError, Walk, functions};
-pub use serde_json_path_nodes::{
+pub use serde_json_path_core::{
     AtMostOneError, ExactlyOneError, LocatedNode, LocatedNodeList, LocatedNodes, Locations,
-    NodeList, Nodes, NormalizedPath, PathElement, PathElements, law_texts_tell_locations,
+    NodeList, Nodes, NormalizedPath, PathElement, PathElements, QueryError, Walk, functions,
+    law_append, law_before_is_asymmetric, law_descendants_in_document_order,
+    law_each_document_has_a_height, law_less_or_equal_is_either, law_not_equal_negates_equal,
+    law_order_is_total, law_result_exists, law_result_is_unique,
+    law_singular_query_selects_at_most_one, law_texts_tell_locations,
 };
 pub use serde_json_path_parser::{
     ParseError, ParseErrorKind, PathSource, TextSource, law_one_tree_at_most, law_print,

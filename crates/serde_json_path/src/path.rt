@@ -4,7 +4,7 @@ ghost use Rattle.std.specs.Prelude.{◌≡◌, [], IfOk, IfErr, IsTrue, ◌↔�
 ghost use Rattle.serde_json.specs.View.{view};
 ghost use Rattle.serde_json_path_nodes.specs.Views.{located_nodes, node_values};
 ghost use Rattle.serde_json_path_syntax.specs.Tree.{query, root, no_segments};
-ghost use Rattle.serde_json_path_core.specs.Selects.{OnlyMemory, Selects, SelectsValues};
+ghost use Rattle.serde_json_path_core.specs.Selects.{OnlyMemoryOrPattern, Selects, SelectsValues};
 ghost use Rattle.serde_json_path_core.specs.Walks.{rest, query_of, set_of, document_of};
 ghost use Rattle.serde_json_path_functions.specs.Functions.{Fits};
 ghost use Rattle.serde_json_path_functions.specs.Patterns.{before_builtin, builtin_functions};
@@ -33,6 +33,7 @@ pub struct JsonPath {
 
 impl JsonPath {
     ghost use Rattle.serde_json_path_parser.specs.Parse.{IsParseOf};
+    ghost use Rattle.serde_json_path_parser.specs.Reported.{ReportsFirst};
     ghost use Rattle.serde_json_path.specs.Paths.{path_tree, path_signatures, path_view};
 
     /// The path `$`, which selects the document itself. It calls nothing, so it fits every function set. It allocates nothing.
@@ -55,6 +56,7 @@ impl JsonPath {
     /// ```
     pub fn parse(alloc: Global, path_str: &str) -> Result<JsonPath, ParseError>
         ensures parse { IsParseOf path_view builtin_functions.signature path_str.now result }
+        ensures reported { ReportsFirst path_view builtin_functions.signature path_str.now result }
         ensures fits { IfOk result (λ path. Fits builtin_functions (path_signatures path)) }
     {
         let mut source = TextSource::new(path_str);
@@ -65,6 +67,7 @@ impl JsonPath {
     /// Parses a path, as `parse` does. This is not `std::str::FromStr`, because it takes an allocator.
     pub fn from_str(alloc: Global, path_str: &str) -> Result<JsonPath, ParseError>
         ensures parse { IsParseOf path_view builtin_functions.signature path_str.now result }
+        ensures reported { ReportsFirst path_view builtin_functions.signature path_str.now result }
         ensures fits { IfOk result (λ path. Fits builtin_functions (path_signatures path)) }
     {
         JsonPath::parse(alloc, path_str)
@@ -83,6 +86,8 @@ impl JsonPath {
         functions: &F,
     ) -> Result<JsonPath, ParseError>
         ensures parse { IsParseOf path_view (before_builtin (F.set functions.now)).signature
+            path_str.now result }
+        ensures reported { ReportsFirst path_view (before_builtin (F.set functions.now)).signature
             path_str.now result }
         ensures fits { IfOk result (λ path.
             Fits (before_builtin (F.set functions.now)) (path_signatures path)) }
@@ -115,8 +120,8 @@ impl JsonPath {
     /// The nodes that the path selects from a document, with their locations, in order (RFC 9535, section 2.1.2). The path
     /// must fit the built-in functions, as a path of `parse` does.
     ///
-    /// The nodes and the names of their locations borrow from the document. The error is `Pattern` only if the path calls
-    /// `match` or `search`; otherwise it is `Memory`.
+    /// The nodes and the names of their locations borrow from the document. The error is `Pattern` only if some call of `match`
+    /// or `search` has a pattern that `regex` reads; otherwise it is `Memory`.
     pub fn query_located<'b>(
         &self,
         alloc: Global,
@@ -125,14 +130,15 @@ impl JsonPath {
         requires { Fits builtin_functions (path_signatures self.now) }
         ensures selects { IfOk result (λ list.
             Selects builtin_functions (path_tree self.now) (view value.now) (located_nodes list)) }
-        ensures refused { OnlyMemory builtin_functions (path_tree self.now) result }
+        ensures refused { OnlyMemoryOrPattern builtin_functions (path_tree self.now)
+            (view value.now) result }
     {
         evaluate_located(alloc, &self.checked, value, Builtin)
     }
 
     /// The nodes that the path selects from a document, with their locations, in order, as `query_located` gives them. The
-    /// path must fit the set combined with the built-in functions (see `fits`). The error is `Pattern` only if the path
-    /// calls a name that stands for `match` or `search`; otherwise it is `Memory`.
+    /// path must fit the set combined with the built-in functions (see `fits`). The error is `Pattern` only if some call of
+    /// `match` or `search`, under whatever name, has a pattern that `regex` reads; otherwise it is `Memory`.
     pub fn query_located_with<'b, F: Functions>(
         &self,
         alloc: Global,
@@ -142,8 +148,8 @@ impl JsonPath {
         requires { Fits (before_builtin (F.set functions.now)) (path_signatures self.now) }
         ensures selects { IfOk result (λ list.
             Selects (before_builtin (F.set functions.now)) (path_tree self.now) (view value.now) (located_nodes list)) }
-        ensures refused { OnlyMemory (before_builtin (F.set functions.now))
-            (path_tree self.now) result }
+        ensures refused { OnlyMemoryOrPattern (before_builtin (F.set functions.now))
+            (path_tree self.now) (view value.now) result }
     {
         evaluate_located(alloc, &self.checked, value, Both(functions, Builtin))
     }
@@ -159,7 +165,8 @@ impl JsonPath {
         requires { Fits builtin_functions (path_signatures self.now) }
         ensures selects { IfOk result (λ list.
             SelectsValues builtin_functions (path_tree self.now) (view value.now) (node_values list)) }
-        ensures refused { OnlyMemory builtin_functions (path_tree self.now) result }
+        ensures refused { OnlyMemoryOrPattern builtin_functions (path_tree self.now)
+            (view value.now) result }
     {
         evaluate(alloc, &self.checked, value, Builtin)
     }
@@ -175,8 +182,8 @@ impl JsonPath {
         requires { Fits (before_builtin (F.set functions.now)) (path_signatures self.now) }
         ensures selects { IfOk result (λ list.
             SelectsValues (before_builtin (F.set functions.now)) (path_tree self.now) (view value.now) (node_values list)) }
-        ensures refused { OnlyMemory (before_builtin (F.set functions.now))
-            (path_tree self.now) result }
+        ensures refused { OnlyMemoryOrPattern (before_builtin (F.set functions.now))
+            (path_tree self.now) (view value.now) result }
     {
         evaluate(alloc, &self.checked, value, Both(functions, Builtin))
     }

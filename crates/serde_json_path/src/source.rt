@@ -3,9 +3,10 @@
 ghost use Rattle.std.specs.Prelude.{◌≡◌, ◌+◌, ◌-◌, ◌*◌, ◌^◌, ◌≤◌, max, true, length, IfOk, IfErr};
 ghost use Rattle.serde_json_path_functions.specs.Functions.{Fits};
 ghost use Rattle.serde_json_path_functions.specs.Patterns.{before_builtin};
-ghost use Rattle.serde_json_path_parser.specs.Looking.{greatest_usize};
+ghost use Rattle.serde_json_path_parser.specs.Source.{greatest_usize};
 ghost use Rattle.serde_json_path_parser.specs.Errors.{kind_of, position_of, is_told_at_next};
 ghost use Rattle.serde_json_path_parser.specs.Parse.{IsParseOf};
+ghost use Rattle.serde_json_path_parser.specs.Reported.{ReportsFirst};
 ghost use Rattle.serde_json_path.specs.Paths.{path_signatures, path_view};
 
 use crate::path::JsonPath;
@@ -33,6 +34,8 @@ pub fn parse_source<S: PathSource, F: Functions>(
     functions: &F,
 ) -> Result<JsonPath, ParseError>
     ensures parse { IsParseOf path_view (before_builtin (F.set functions.now)).signature
+        (S.told source.old).text result }
+    ensures reported { ReportsFirst path_view (before_builtin (F.set functions.now)).signature
         (S.told source.old).text result }
     // The signatures that the path keeps are those of the set, before the built-in ones.
     ensures fits { IfOk result (λ path.

@@ -18,3 +18,5 @@ pub mod Beneath
 pub mod Order
 -- the computed ends are those of the derivations, and the computed tests hold where the defined ones do
 pub mod Derived
+-- one more segment selects at each node of the shorter query
+pub mod LastSegments

@@ -1,6 +1,6 @@
 -- Steps of the code.
 
--- a call of a set answers what is computed, where the meaning is promised
+-- a call of a set answers what is computed, and is refused for its pattern only where it goes by one
 pub mod Answered
 -- a look-up in a map or a vector finds what the same look-up in their data finds
 pub mod Lookups

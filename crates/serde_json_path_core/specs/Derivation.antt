@@ -31,6 +31,10 @@ start_of current top here = here
 abbrev pub BelongsTo : Data → List Triple → Located → Type 0
 BelongsTo start xs n = (n.location ≡ location_of xs) × (at start n.location ≡ Some n.value)
 
+-- a node below a location
+abbrev pub beneath : List Step → Located → Located
+beneath above n = record { location = above ++ n.location; value = n.value }
+
 -- ---- order
 
 -- of two steps that one selector selects: a slice with a step below 0 takes them falling, and all else takes document

@@ -1,14 +1,12 @@
 -- Laws of the definitions.
-use Rattle.std.specs.Prelude.{◌≡◌, ◌≢◌, ◌≤◌, List, [], ◌∷◌, ◌++◌, length, map, ◌⊎◌, ◌↔◌, Some}
+use Rattle.std.specs.Prelude.{◌≡◌, ◌≢◌, ◌≤◌, ℕ, List, [], ◌∷◌, ◌++◌, length, map, ◌⊎◌, ◌↔◌, Some}
 use Rattle.serde_json.specs.Data.{Data}
 use Rattle.serde_json_path_nodes.specs.Location.{Step, child_at, at, StepBefore, Located}
 use Rattle.serde_json_path_syntax.specs.Tree.{QueryKind, Query, query, current, Segments, no_segments, segment, SegmentKind, child, descendant, Segment, relation, equal, not_equal, less, less_or_equal, Comparable, IsSingular}
 use Rattle.serde_json_path_functions.specs.Functions.{FunctionSet, KeepsTypes}
 use Rattle.serde_json_path_syntax.specs.Lists.{IsIn, IsInOrder}
-use Rattle.serde_json_path_core.specs.Height.{height}
-use Rattle.serde_json_path_core.specs.Selected.{beneath}
-use Rattle.serde_json_path_core.specs.Computed.{placed}
-use Rattle.serde_json_path_core.specs.Derivation.{Triple, start_of, Before}
+use Rattle.serde_json_path_core.specs.Height.{IsHeight}
+use Rattle.serde_json_path_core.specs.Derivation.{beneath, Triple, start_of, Before}
 use Rattle.serde_json_path_core.specs.Meaning.{Derives, HoldsBasic, IsResult}
 use Rattle.serde_json_path_syntax.specs.Typing.{IsTyped, IsTypedComparable}
 
@@ -42,7 +40,7 @@ AreResultsAt F top q (n ∷ nodes) list =
 
 -- the same at each of these children
 abbrev pub AreSubtreeResults : FunctionSet → Data → Query → List (Step × Data) → List Located → Type 0
-AreSubtreeResults F top q cs list = AreResultsAt F top q (map (placed []) cs) list
+AreSubtreeResults F top q cs list = AreResultsAt F top q (map (λ c. record { location = c.0 ∷ []; value = c.1 }) cs) list
 
 -- a descendant segment gives the child segment's results at the node, then those of each child's subtree (section 2.5.2.2)
 abbrev pub DescendantsInDocumentOrder : Type 0
@@ -79,13 +77,9 @@ with_segment (segment kind first more) reach seg = segment kind first (with_segm
 abbrev pub LastSegmentSelectsAtEach : Type 0
 LastSegmentSelectsAtEach =
     (F : FunctionSet) (top : Data) (kind : QueryKind) (segs : Segments) (reach : SegmentKind) (seg : Segment) (node : Data) (shorter longer : List Located)
-    → IsTyped F.signature (query kind (with_segment segs reach seg))
     → IsResult F top (query kind segs) node shorter → IsResult F top (query kind (with_segment segs reach seg)) node longer
     → AreResultsAt F top (query current (segment reach seg no_segments)) shorter longer
 
--- a location that leads to a value of the document is at most as long as the document is high, and some location is that long
-abbrev pub HeightIsTheLongestLocation : Type 0
-HeightIsTheLongestLocation =
-    (document : Data)
-    → ((location : List Step) (v : Data) → at document location ≡ Some v → length location ≤ height document)
-    × ((location : List Step) × (v : Data) × (at document location ≡ Some v) × (length location ≡ height document))
+-- each document has one height
+abbrev pub EachDocumentHasAHeight : Type 0
+EachDocumentHasAHeight = (document : Data) → (n : ℕ) × IsHeight document n × ((m : ℕ) → IsHeight document m → m ≡ n)

@@ -6,9 +6,8 @@ use Rattle.serde_json_path_nodes.specs.Location.{Located}
 use Rattle.serde_json_path_syntax.specs.Tree.{Query, segments_of}
 use Rattle.serde_json_path_functions.specs.Functions.{FunctionSet}
 use Rattle.serde_json_path_syntax.specs.Parts.{tree_of}
-use Rattle.serde_json_path_core.specs.Clear.{IsClear}
-use Rattle.serde_json_path_core.specs.Frames.{frames_view}
-use Rattle.serde_json_path_core.specs.Rest.{rest_of, work}
+use Rattle.serde_json_path_core.specs.Inside.Frames.{frames_view}
+use Rattle.serde_json_path_core.specs.Inside.Rest.{rest_of, work}
 use Rattle.serde_json_path_syntax.specs.Stages.{stages}
 use Rattle.serde_json_path_core.specs.declared.evaluation.walks.Walk.{Walk}
 
@@ -21,10 +20,6 @@ set_of {F} {g} w = g.set w.scope.functions
 
 abbrev pub document_of : {F : Type 0} {g : _} → Walk F g → Data
 document_of w = view w.scope.root.now
-
--- the meaning of each call of the query is promised
-abbrev pub IsClearWalk : {F : Type 0} {g : _} → Walk F g → Type 0
-IsClearWalk w = IsClear (set_of w) (query_of w) (document_of w)
 
 -- the nodes that remain
 abbrev pub rest : {F : Type 0} {g : _} → Walk F g → List Located

@@ -15,7 +15,7 @@ ghost use Rattle.serde_json_path_nodes.specs.Views.{located_nodes, node_values};
 ghost use Rattle.serde_json_path_functions.specs.Functions.{Fits};
 ghost use Rattle.serde_json_path_core.specs.Derivation.{start_of};
 ghost use Rattle.serde_json_path_syntax.specs.Flat.{kind_view};
-ghost use Rattle.serde_json_path_core.specs.Selects.{OnlyMemory, Selects, SelectsValues};
+ghost use Rattle.serde_json_path_core.specs.Selects.{OnlyMemoryOrPattern, Selects, SelectsValues};
 ghost use Rattle.serde_json_path_core.specs.Walks.{rest, query_of, set_of, document_of};
 ghost use Rattle.serde_json_path_syntax.specs.Parts.{signatures_of, tree_of};
 ghost use Rattle.serde_json_path_functions.specs.declared.error.QueryError.TheVariants.{Memory};
@@ -40,7 +40,7 @@ pub(crate) fn start<'b>(kind: QueryKind, node: &'b Value, root: &'b Value) -> &'
 }
 
 /// A walk over what the query selects in the document, node by node (RFC 9535, sections 2.1.2 and 2.5), under a function
-/// set that the query fits, which the walk keeps. What it gives is promised of clear queries (`specs/Clear`).
+/// set that the query fits, which the walk keeps.
 ///
 /// The nodes and the names of their locations borrow the document. An error comes only where memory is refused.
 ///
@@ -78,10 +78,11 @@ pub fn walk<'q, 'b, F: Functions + Drop>(
 }
 
 /// What the query selects in the document, with locations, in order (RFC 9535, sections 2.1.2 and 2.5), under a function
-/// set that the query fits. That is promised of clear queries (`specs/Clear`).
+/// set that the query fits.
 ///
 /// The nodes and the names of their locations borrow the document. Where an error comes there is no list: `Pattern` comes
-/// only where the query calls a function that stands for `match` or `search`; every other error is of memory.
+/// only where some call of `match` or `search`, under whatever name, has a pattern that `regex` reads (`specs/PatternCalls`);
+/// every other error is of memory.
 ///
 /// ```text
 /// let nodes = evaluate_located(alloc, &query, &document, Builtin)?;
@@ -95,7 +96,8 @@ pub fn evaluate_located<'b, F: Functions + Drop>(
     requires { Fits (F.set functions) (signatures_of query.now) }
     ensures selects { IfOk result (λ list.
         Selects (F.set functions) (tree_of query.now) (view document.now) (located_nodes list)) }
-    ensures refused { OnlyMemory (F.set functions) (tree_of query.now) result }
+    ensures refused { OnlyMemoryOrPattern (F.set functions) (tree_of query.now)
+        (view document.now) result }
 {
     let mut walk = walk(alloc, query, document, functions)?;
     let mut found = Vec::new(alloc);
@@ -116,7 +118,8 @@ pub fn evaluate<'b, F: Functions + Drop>(
     requires { Fits (F.set functions) (signatures_of query.now) }
     ensures selects { IfOk result (λ list.
         SelectsValues (F.set functions) (tree_of query.now) (view document.now) (node_values list)) }
-    ensures refused { OnlyMemory (F.set functions) (tree_of query.now) result }
+    ensures refused { OnlyMemoryOrPattern (F.set functions) (tree_of query.now)
+        (view document.now) result }
 {
     let mut walk = walk(alloc, query, document, functions)?;
     let mut found = Vec::new(alloc);

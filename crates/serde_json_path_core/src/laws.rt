@@ -5,11 +5,9 @@ ghost use Rattle.serde_json.specs.Data.{Data};
 ghost use Rattle.serde_json_path_nodes.specs.Location.{Located};
 ghost use Rattle.serde_json_path_syntax.specs.Tree.{Query, segments_of};
 ghost use Rattle.serde_json_path_functions.specs.Functions.{FunctionSet};
-ghost use Rattle.serde_json_path_syntax.specs.Calls.{EachCall};
-ghost use Rattle.serde_json_path_core.specs.Clear.{GoesWithoutPattern, IsClear};
 ghost use Rattle.serde_json_path_core.specs.Derivation.{Triple, Before};
 ghost use Rattle.serde_json_path_core.specs.Meaning.{IsResult};
-ghost use Rattle.serde_json_path_core.specs.Laws.{DescendantsInDocumentOrder, EveryQueryHasAResult, HeightIsTheLongestLocation, LastSegmentSelectsAtEach, LessOrEqualIsEither, NotEqualNegatesEqual, OrderIsTotal, SingularQuerySelectsAtMostOne};
+ghost use Rattle.serde_json_path_core.specs.Laws.{DescendantsInDocumentOrder, EachDocumentHasAHeight, EveryQueryHasAResult, LastSegmentSelectsAtEach, LessOrEqualIsEither, NotEqualNegatesEqual, OrderIsTotal, SingularQuerySelectsAtMostOne};
 
 /// Of two derivations of one query, at most one comes before the other (RFC 9535, sections 2.5.1.2 and 2.5.2.2).
 pub fn law_before_is_asymmetric()
@@ -69,24 +67,14 @@ pub fn law_descendants_in_document_order()
 /// The result of a query with one more segment is, for each node of the shorter query's result in order, what that segment
 /// selects at the node, below the node's location (RFC 9535, section 2.1.2).
 ///
-/// The longer query is well-typed, and both have the same root.
+/// The queries may be well-typed or not; both have the same root.
 pub fn law_append()
     ensures { LastSegmentSelectsAtEach }
 {}
 
-/// A query is clear if no function that it calls stands for `match` or `search`.
+/// Each document has one height: the length of its longest location, by which the places of a walk are bounded.
 ///
-/// So what evaluation promises holds of such a query without a condition.
-pub fn law_clear_without_patterns()
-    ensures { (F : FunctionSet) (q : Query) (top : Data) → EachCall (GoesWithoutPattern F) q
-        → IsClear F q top }
-{}
-
-/// A location that leads to a value of a document is at most as long as the document is high, and some location is that
-/// long.
-///
-/// The document may be any. So its height, by which the places of a walk are bounded, is the length of its longest
-/// location.
-pub fn law_height_is_the_longest_location()
-    ensures { HeightIsTheLongestLocation }
+/// The document may be any.
+pub fn law_each_document_has_a_height()
+    ensures { EachDocumentHasAHeight }
 {}

@@ -11,8 +11,8 @@
 //! ```
 //!
 //! Definitions are in `specs/`: `Slices` has the items that a slice takes, `Compared` what `==`, `!=` and `<` mean,
-//! `Derivation` the derivations of a query and their order, `Meaning` what a query selects, `Clear` where that is promised,
-//! `Laws` the laws of results.
+//! `Derivation` the derivations of a query and their order, `Meaning` what a query selects, `PatternCalls` which calls may be
+//! refused for their pattern, `Laws` the laws of results.
 #![tactic(auto)]
 
 mod child;
@@ -23,13 +23,17 @@ mod laws;
 pub use evaluation::walks::Walk;
 pub use evaluation::{evaluate, evaluate_located, walk};
 pub use laws::{
-    law_append, law_before_is_asymmetric, law_clear_without_patterns,
-    law_descendants_in_document_order, law_height_is_the_longest_location,
-    law_less_or_equal_is_either, law_not_equal_negates_equal, law_order_is_total,
-    law_result_exists, law_result_is_unique, law_singular_query_selects_at_most_one,
+    law_append, law_before_is_asymmetric, law_descendants_in_document_order,
+    law_each_document_has_a_height, law_less_or_equal_is_either, law_not_equal_negates_equal,
+    law_order_is_total, law_result_exists, law_result_is_unique,
+    law_singular_query_selects_at_most_one,
 };
 pub use serde_json_path_functions as functions;
 pub use serde_json_path_functions::QueryError;
+pub use serde_json_path_nodes::{
+    AtMostOneError, ExactlyOneError, LocatedNode, LocatedNodeList, LocatedNodes, Locations,
+    NodeList, Nodes, NormalizedPath, PathElement, PathElements, law_texts_tell_locations,
+};
 pub use serde_json_path_syntax::{
     Checked, ComparisonOperator, Literal, NumberLiteral, Part, Parts, QueryKind, SegmentKind,
     Slice, SyntaxBuilder,

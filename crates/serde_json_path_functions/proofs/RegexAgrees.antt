@@ -1,5 +1,5 @@
 -- `regex` finds a pattern in a text exactly where its specification, reading the pattern, does.
-use Rattle.std.proofs.Common.{◌≡◌, ℕ, ◌<◌, ◌≤◌, ◌⊎◌, List, length, get_or, true, false, Option, None, Some, IfSome, IsSomeAnd, is_some, option_and_then, inl, inr, refl, arith}
+use Rattle.std.proofs.Common.{◌≡◌, ℕ, ◌<◌, ◌≤◌, ◌⊎◌, List, length, get_or, true, false, Option, None, Some, IfSome, IsSomeAnd, is_some, option_and_then, inl, inr, refl, arith, nat_le, if◌then◌else◌}
 use Rattle.std.specs.Str.{chars}
 use Rattle.regex_syntax.specs.Brackets.{Nested}
 use Rattle.regex_syntax.specs.Grammar.{Names, group_count, read}
@@ -12,13 +12,15 @@ use Rattle.regex.specs.declared.error.Error.{Error}
 use Rattle.regex.specs.declared.error.Error.TheVariants.{Syntax, CompiledTooBig, Internal, OutOfMemory}
 use Rattle.regex.specs.declared.string.regex.Regex.{Regex}
 use Rattle.regex.proofs.ForCallers.{is_match_alike}
-use Rattle.serde_json_path_functions.specs.Patterns.{IsWithinNesting, IsReadable, is_found}
+use Rattle.serde_json_path_functions.specs.Patterns.{IsReadable, is_found}
 
 found_alike : (o : Option (Nested Re × Names)) (most : ℕ) (a : Re) (names : Names) (text : List ℕ) → ((k : ℕ) → get_or text k 0 < 256) →
     IsSomeAnd o (λ (re, found). (re.depth ≤ most) × SameCaptures a re.value × (names ≡ found) × (group_count a ≤ length names)) →
-    is_some (find_str a text 0) ≡ is_some (option_and_then (λ (re, names). find_str re.value text 0) o)
+    is_some (find_str a text 0) ≡ is_some (option_and_then (λ (re, names). if nat_le re.depth most then find_str re.value text 0 else None) o)
 found_alike None most a names text bytes h = absurd h
-found_alike (Some found) most a names text bytes h = is_match_alike h.1 text bytes true 0
+found_alike (Some found) most a names text bytes h =
+    let near : nat_le found.0.depth most ≡ true = (let d = h.0 in grind (arith, d)) in
+    rw (near) (is_match_alike h.1 text bytes true 0)
 
 -- a compiled pattern is found where the text that it was compiled from says so
 pub found_as_read : (r : Regex) (source text : List ℕ) → regex_source r ≡ source → regex_config r ≡ default_config → IsReadFromSource r →
@@ -27,20 +29,22 @@ unfolding Reads
 found_as_read r source text is_source is_default is_read bytes =
     found_alike (read default_config (chars source)) default_config.nest_limit _ _ text bytes (rw (is_source, is_default) at is_read)
 
-none_found : {A : Type 0} (o : Option (Nested Re × Names)) (most : ℕ) (text : List ℕ) → IfSome o (λ (re, names). re.depth ≤ most) →
+none_found : {A : Type 0} (o : Option (Nested Re × Names)) (most : ℕ) (text : List ℕ) →
     (o ≡ None) ⊎ (A × IfSome o (λ (re, names). most < re.depth)) →
-    false ≡ is_some (option_and_then (λ (re, names). find_str re.value text 0) o)
-none_found None most text within refused = refl
-none_found (Some found) most text within (inl none) = absurd cc
-none_found (Some found) most text within (inr deep) = absurd (omega arith)
+    false ≡ is_some (option_and_then (λ (re, names). if nat_le re.depth most then find_str re.value text 0 else None) o)
+none_found None most text refused = refl
+none_found (Some found) most text (inl none) = absurd cc
+none_found (Some found) most text (inr deep) =
+    let far : nat_le found.0.depth most ≡ false = (let d = deep.1 in grind (arith, d)) in
+    rw (far) refl
 
 -- a text that the grammar refuses, and not as nested too deep, is found nowhere
 pub refused_is_not_found : (source text : List ℕ) (kind : ErrorKind) → Refuses default_config source kind → (kind ≡ parser.OutOfMemory → ⊥) →
-    IsWithinNesting source → false ≡ is_found source text
+    false ≡ is_found source text
 unfolding Refuses
-refused_is_not_found source text kind (inl memory) other within = absurd (other memory)
-refused_is_not_found source text kind (inr refused) other within =
-    none_found (read default_config (chars source)) default_config.nest_limit text within refused
+refused_is_not_found source text kind (inl memory) other = absurd (other memory)
+refused_is_not_found source text kind (inr refused) other =
+    none_found (read default_config (chars source)) default_config.nest_limit text refused
 
 readable_nested : (o : Option (Nested Re × Names)) (most : ℕ) (a : Re) (names : Names) →
     IsSomeAnd o (λ (re, found). (re.depth ≤ most) × SameCaptures a re.value × (names ≡ found) × (group_count a ≤ length names)) →

@@ -1,12 +1,13 @@
--- What contracts cite:
+-- What public contracts cite; the rest is in `Inside`.
 -- Functions: function sets, what they promise, one before another, and the built-in names.
--- Patterns: what `match` and `search` mean, where that is promised, what a set keeps of them, and the built-in set.
+-- Patterns: what `match` and `search` mean, which patterns may be refused, what a set keeps of them, and the built-in set.
 -- Terms: what contracts see of arguments, answers and signatures.
 -- Errors: the texts of errors.
--- BothTypes, BuiltinTypes: one set before another, and the built-in one, keep their types and patterns.
+-- OwnSets: lemmas for a set of your own, that it keeps types and patterns.
+-- Inside: that the sets here keep theirs. A law of a trait may cite `specs` alone.
 pub mod Functions
-pub mod BothTypes
-pub mod BuiltinTypes
 pub mod Patterns
 pub mod Terms
 pub mod Errors
+pub mod OwnSets
+pub mod Inside

@@ -1,5 +1,5 @@
 -- The patterns of `match` and `search`, as `regex` reads them (RFC 9535, sections 2.4.6 and 2.4.7).
-use Rattle.std.specs.Prelude.{◌≡◌, ℕ, ◌≤◌, List, [], ◌∷◌, ◌++◌, Bool, false, Option, None, Some, IfSome, IsSomeAnd, is_some, option_and_then, codes, chars}
+use Rattle.std.specs.Prelude.{◌≡◌, ℕ, ◌≤◌, List, [], ◌∷◌, ◌++◌, Bool, false, Option, None, Some, IsSomeAnd, is_some, option_and_then, codes, chars, nat_le, if◌then◌else◌}
 use Rattle.regex_syntax.specs.Grammar.{read}
 use Rattle.regex.specs.Patterns.{default_config, find_str}
 use Rattle.serde_json.specs.Data.{string}
@@ -10,10 +10,6 @@ abbrev pub built_text : Matching → List ℕ → List ℕ
 built_text whole_text pattern = codes "(?R)^(" ++ (pattern ++ codes ")$")
 built_text any_part pattern = codes "(?R)(" ++ (pattern ++ codes ")")
 
--- if the text is a pattern, then it is nested no deeper than `regex` takes
-abbrev pub IsWithinNesting : List ℕ → Type 0
-IsWithinNesting text = IfSome (read default_config (chars text)) (λ (re, names). re.depth ≤ default_config.nest_limit)
-
 -- the text is a pattern, nested no deeper than `regex` takes: `regex` refuses it only for its size, or for want of memory
 abbrev pub IsReadable : List ℕ → Type 0
 IsReadable text = IsSomeAnd (read default_config (chars text)) (λ (re, names). re.depth ≤ default_config.nest_limit)
@@ -23,14 +19,12 @@ abbrev pub MayRefuse : Option Matching → List Term → Type 0
 MayRefuse (Some matching) (value (Some (string text)) ∷ value (Some (string pattern)) ∷ []) = IsReadable (built_text matching pattern)
 MayRefuse _ _ = ⊥
 
--- at these arguments the meaning of a name is promised
-abbrev pub IsPromised : Option Matching → List Term → Type 0
-IsPromised (Some matching) (value (Some (string text)) ∷ value (Some (string pattern)) ∷ []) = IsWithinNesting (built_text matching pattern)
-IsPromised _ _ = Unit {0}
-
--- `regex` reads the text as a pattern, and finds it in the other text
+-- `regex` reads the text as a pattern, nested no deeper than it takes, and finds it in the other text
 abbrev pub is_found : List ℕ → List ℕ → Bool
-is_found pattern text = is_some (option_and_then (λ (re, names). find_str re.value text 0) (read default_config (chars pattern)))
+is_found pattern text =
+    is_some (option_and_then
+    (λ (re, names). if nat_le re.depth default_config.nest_limit then find_str re.value text 0 else None)
+    (read default_config (chars pattern)))
 
 -- `match` and `search` of a text and a pattern; false unless both are texts (sections 2.4.6 and 2.4.7)
 abbrev pub pattern_meaning : Matching → List Term → Term

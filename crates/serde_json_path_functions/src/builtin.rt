@@ -1,9 +1,9 @@
 //! The built-in functions (RFC 9535, sections 2.4.4 to 2.4.8).
 
-ghost use Rattle.std.specs.Prelude.{◌≡◌, [], ◌∷◌, length, map, IfOk, IsSome, Err};
+ghost use Rattle.std.specs.Prelude.{◌≡◌, [], ◌∷◌, length, map, IfOk, Err};
 ghost use Rattle.std.specs.Str.{chars};
-ghost use Rattle.serde_json_path_functions.specs.Functions.{value, logical, of_logical, kind_of_term, Takes, Gives, plain_signature, plain_meaning, counted, length_of, value_of_one};
-ghost use Rattle.serde_json_path_functions.specs.Patterns.{IsPromised, MayRefuse, pattern_meaning, builtin_functions};
+ghost use Rattle.serde_json_path_functions.specs.Functions.{value, logical, of_logical, kind_of_term, Takes, plain_signature, plain_meaning, counted, length_of, value_of_one};
+ghost use Rattle.serde_json_path_functions.specs.Patterns.{MayRefuse, pattern_meaning, builtin_functions};
 ghost use Rattle.serde_json_path_functions.specs.Terms.{term_view, value_view, nodes_view, matching_view};
 ghost use Rattle.serde_json_path_functions.specs.Functions as spec;
 ghost use Rattle.serde_json_path_functions.specs.declared.error.QueryError.TheVariants.{Pattern};
@@ -78,8 +78,7 @@ fn texts_match(
 ) -> Result<bool, QueryError>
     ensures means { IfOk result (λ found.
         let terms = value (value_view text.now) ∷ value (value_view pattern.now) ∷ [] in
-        IsPromised (Some (matching_view matching)) terms
-        → logical found ≡ pattern_meaning (matching_view matching) terms) }
+        logical found ≡ pattern_meaning (matching_view matching) terms) }
     ensures refused { result ≡ Err Pattern →
         MayRefuse (Some (matching_view matching)) (value (value_view text.now) ∷ value (value_view pattern.now) ∷ []) }
 {
@@ -98,8 +97,7 @@ fn pattern_answer<'b>(
     args: &[FunctionValue<'b>],
 ) -> Result<FunctionValue<'b>, QueryError>
     ensures means { IfOk result (λ answer.
-        IsPromised (Some (matching_view matching)) (map term_view args.now)
-        → term_view answer ≡ pattern_meaning (matching_view matching) (map term_view args.now)) }
+        term_view answer ≡ pattern_meaning (matching_view matching) (map term_view args.now)) }
     ensures typed_answer { IfOk result (λ answer. kind_of_term (term_view answer) ≡ of_logical) }
     ensures refused { result ≡ Err Pattern
         → MayRefuse (Some (matching_view matching)) (map term_view args.now) }
@@ -117,7 +115,7 @@ fn pattern_answer<'b>(
 }
 
 impl Functions for Builtin {
-    ghost use Rattle.serde_json_path_functions.specs.BuiltinTypes.{builtin_keeps_types, builtin_keeps_patterns};
+    ghost use Rattle.serde_json_path_functions.specs.Inside.BuiltinTypes.{builtin_keeps_types, builtin_keeps_patterns};
 
     ghost set = { λ _. builtin_functions };
 
@@ -139,27 +137,12 @@ impl Functions for Builtin {
         }
     }
 
-    /// The answer of a built-in name.
-    ///
-    /// Beside what each set promises: `match` and `search` answer `Pattern` only where both arguments are texts, and the
-    /// text that is built of the pattern is one that `regex` reads.
     fn call<'b>(
         &self,
         alloc: Global,
         name: &str,
         args: Vec<FunctionValue<'b>>,
-    ) -> Result<FunctionValue<'b>, QueryError>
-        requires { Takes (builtin_functions.signature name.now) (map term_view args.items) }
-        ensures means { IfOk result (λ answer.
-            IsPromised (builtin_functions.by_regex name.now) (map term_view args.entry.items)
-            → term_view answer
-            ≡ builtin_functions.meaning name.now (map term_view args.entry.items)) }
-        ensures typed_answer { IfOk result (λ answer.
-            Gives (builtin_functions.signature name.now) (term_view answer)) }
-        ensures pattern { result ≡ Err Pattern → IsSome (builtin_functions.by_regex name.now) }
-        ensures refused { result ≡ Err Pattern
-            → MayRefuse (builtin_functions.by_regex name.now) (map term_view args.entry.items) }
-    {
+    ) -> Result<FunctionValue<'b>, QueryError> {
         match name {
             "match" => pattern_answer(alloc, Matching::WholeText, args.as_slice()),
             "search" => pattern_answer(alloc, Matching::AnyPart, args.as_slice()),

@@ -1,7 +1,7 @@
 //! The patterns of `match` and `search` (RFC 9535, sections 2.4.6 and 2.4.7).
 
 ghost use Rattle.std.specs.Prelude.{◌≡◌, IfOk, Err, string_bytes};
-ghost use Rattle.serde_json_path_functions.specs.Patterns.{IsWithinNesting, IsReadable};
+ghost use Rattle.serde_json_path_functions.specs.Patterns.{IsReadable};
 ghost use Rattle.serde_json_path_functions.specs.Patterns as spec;
 ghost use Rattle.serde_json_path_functions.specs.Terms.{matching_view};
 ghost use Rattle.serde_json_path_functions.specs.declared.error.QueryError.TheVariants.{Pattern};
@@ -43,8 +43,7 @@ pub(crate) fn is_found(
     text: &str,
 ) -> Result<bool, QueryError>
     ensures means { IfOk result (λ found.
-        IsWithinNesting (spec.built_text (matching_view matching) pattern.now)
-        → found ≡ spec.is_found (spec.built_text (matching_view matching) pattern.now) text.now) }
+        found ≡ spec.is_found (spec.built_text (matching_view matching) pattern.now) text.now) }
     ensures refused { result ≡ Err Pattern
         → IsReadable (spec.built_text (matching_view matching) pattern.now) }
 {

@@ -1,8 +1,8 @@
 //! The trait of function sets.
 
-ghost use Rattle.std.specs.Prelude.{◌≡◌, IfOk, IsSome, Err, map, option_map};
+ghost use Rattle.std.specs.Prelude.{◌≡◌, IfOk, Err, map, option_map};
 ghost use Rattle.serde_json_path_functions.specs.Functions.{FunctionSet, Takes, Gives, KeepsTypes};
-ghost use Rattle.serde_json_path_functions.specs.Patterns.{IsPromised, KeepsPatterns};
+ghost use Rattle.serde_json_path_functions.specs.Patterns.{KeepsPatterns, MayRefuse};
 ghost use Rattle.serde_json_path_functions.specs.Terms.{term_view, signature_view};
 ghost use Rattle.serde_json_path_functions.specs.declared.error.QueryError.TheVariants.{Pattern};
 
@@ -14,9 +14,7 @@ use std::alloc::Global;
 /// A set of functions, which filters call by name (RFC 9535, section 2.4).
 ///
 /// An implementation states once what it declares and what its names mean (`set`), and that does not change. When a call
-/// succeeds, its answer is the stated meaning of the name at the arguments. For a name that stands for the built-in
-/// `match` or `search` this is promised only where the text that is built of the pattern is not nested deeper than
-/// `regex` takes.
+/// succeeds, its answer is the stated meaning of the name at the arguments.
 pub trait Functions {
     /// The set that contracts see.
     ghost set: { Self → FunctionSet };
@@ -33,7 +31,8 @@ pub trait Functions {
 
     /// The answer of a declared name to arguments of the declared types.
     ///
-    /// Only a name that stands for the built-in `match` or `search` may answer `Pattern`; any name may answer `Memory`.
+    /// Only a name that stands for the built-in `match` or `search` may answer `Pattern`, and only where both arguments are
+    /// texts and `regex` reads the text that is built of the pattern. Any name may answer `Memory`.
     fn call<'b>(
         &self,
         alloc: Global,
@@ -42,11 +41,11 @@ pub trait Functions {
     ) -> Result<FunctionValue<'b>, QueryError>
         requires { Takes ((set self.now).signature name.now) (map term_view args.items) }
         ensures means { IfOk result (λ answer.
-            IsPromised ((set self.now).by_regex name.now) (map term_view args.entry.items)
-            → term_view answer ≡ (set self.now).meaning name.now (map term_view args.entry.items)) }
+            term_view answer ≡ (set self.now).meaning name.now (map term_view args.entry.items)) }
         ensures typed_answer { IfOk result (λ answer.
             Gives ((set self.now).signature name.now) (term_view answer)) }
-        ensures pattern { result ≡ Err Pattern → IsSome ((set self.now).by_regex name.now) };
+        ensures pattern { result ≡ Err Pattern
+            → MayRefuse ((set self.now).by_regex name.now) (map term_view args.entry.items) };
 }
 
 impl<F: Functions> Functions for &F {

@@ -8,9 +8,9 @@ use Rattle.std.proofs.lemmas.List.Elements.{All-nil, All-push, All-weaker, recur
 use Rattle.std.proofs.lemmas.List.Folds.{list_any-append}
 use Rattle.std.specs.declared.cmp.Ordering.{Ordering}
 use Rattle.serde_json_path_nodes.specs.Lists.{is_among, first_places, first_places_after}
-use Rattle.serde_json_path_nodes.specs.NodeOrder.{AreNumbered}
+use Rattle.serde_json_path_nodes.specs.Inside.NodeOrder.{AreNumbered}
 use Rattle.serde_json_path_nodes.specs.Same.{same_steps}
-use Rattle.serde_json_path_nodes.specs.StepOrder.{location_cmp}
+use Rattle.serde_json_path_nodes.specs.Inside.StepOrder.{location_cmp}
 use Rattle.serde_json_path_nodes.specs.Views.{located, location_of}
 use Rattle.serde_json_path_nodes.specs.declared.located_node.LocatedNode.{LocatedNode}
 use Rattle.serde_json_path_nodes.proofs.KeptBySorting.{is_first_among, repeats}

@@ -9,7 +9,7 @@ use Rattle.std.specs.declared.cmp.Ordering.{Ordering}
 use Rattle.std.specs.declared.cmp.Ordering.TheVariants.{Less, Equal, Greater}
 use Rattle.serde_json_path_nodes.specs.Location.{Step, by_name, by_position}
 use Rattle.serde_json_path_nodes.specs.Same.{same_step, same_steps}
-use Rattle.serde_json_path_nodes.specs.StepOrder.{step_cmp, location_cmp}
+use Rattle.serde_json_path_nodes.specs.Inside.StepOrder.{step_cmp, location_cmp}
 
 step_cmp-antisymm : (s t : Step) → step_cmp s t ≡ ordering_reverse (step_cmp t s)
 step_cmp-antisymm (by_name a) (by_name b) = nat_list_cmp_total.antisymm a b

@@ -20,7 +20,7 @@ pub struct LocatedNode<'b> {
 
 impl<'b> LocatedNode<'b> {
     ghost use Rattle.serde_json_path_nodes.specs.Views.{located};
-    ghost use Rattle.serde_json_path_nodes.specs.NodeOrder.{node_cmp};
+    ghost use Rattle.serde_json_path_nodes.specs.Inside.NodeOrder.{node_cmp};
 
     /// The node with this location. Takes no memory.
     pub fn new(location: NormalizedPath<'b>, node: &'b Value) -> LocatedNode<'b>

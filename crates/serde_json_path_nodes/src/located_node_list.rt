@@ -3,7 +3,7 @@
 ghost use Rattle.std.specs.Prelude.{◌≡◌, ◌==◌, length, map, option_map, IfOk, IfErr};
 ghost use Rattle.serde_json_path_nodes.specs.Views.{located, location_of};
 ghost use Rattle.serde_json_path_nodes.specs.Lists.{first_places};
-ghost use Rattle.serde_json_path_nodes.specs.NodeOrder.{AreNumbered};
+ghost use Rattle.serde_json_path_nodes.specs.Inside.NodeOrder.{AreNumbered};
 
 use crate::error::{AtMostOneError, ExactlyOneError};
 use crate::iterators::{LocatedNodes, Locations, Nodes};

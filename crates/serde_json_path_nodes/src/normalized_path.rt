@@ -34,7 +34,7 @@ impl<'b> Model for NormalizedPath<'b> {
 
 impl<'b> NormalizedPath<'b> {
     ghost use Rattle.serde_json_path_nodes.specs.Views.{step_view};
-    ghost use Rattle.serde_json_path_nodes.specs.StepOrder.{location_cmp};
+    ghost use Rattle.serde_json_path_nodes.specs.Inside.StepOrder.{location_cmp};
 
     /// The location that the steps lead to. Takes no memory.
     pub fn from_steps(steps: Vec<PathElement<'b>>) -> NormalizedPath<'b>

@@ -14,7 +14,7 @@ pub enum PathElement<'b> {
 }
 
 impl<'b> PathElement<'b> {
-    ghost use Rattle.serde_json_path_nodes.specs.StepOrder.{step_cmp};
+    ghost use Rattle.serde_json_path_nodes.specs.Inside.StepOrder.{step_cmp};
     ghost use Rattle.serde_json_path_nodes.specs.Views.{step_view};
 
     /// A total order: names before indexes, names by their bytes.

@@ -1,9 +1,34 @@
 -- The grammar: which text has which tree (RFC 9535, sections 2.1 to 2.5). A text is a list of characters, and the
 -- joining of the texts of its parts, of signs and of blanks.
 use Rattle.std.specs.Prelude.{◌≡◌, ℕ, ℤ, List, [], ◌++◌, ◌⊎◌, true, false, Option, Some, None, codes}
-use Rattle.serde_json_path_syntax.specs.Tree.{Query, query, Segments, no_segments, segment, SegmentKind, Segment, dot_name, dot_wildcard, long_hand, Selectors, no_selectors, selector, Selector, name, wildcard, index, slice, filter, Slice, LogicalOr, no_or, or, LogicalAnd, no_and, and, Basic, paren, not_paren, relation, exist, not_exist, test, not_test, Comparable, literal, singular, called, Call, call, Arguments, no_arguments, argument, Argument, literal_argument, query_argument, call_argument, logical_argument, Literal, text, number, truth, null, IsSingular}
-use Rattle.serde_json_path_syntax.specs.Text.{query_kind_text, operator_text, dots_of, bracket_dots_of}
+use Rattle.serde_json_path_syntax.specs.Tree.{QueryKind, root, current, Query, query, Segments, no_segments, segment, SegmentKind, child, descendant, Segment, dot_name, dot_wildcard, long_hand, Selectors, no_selectors, selector, Selector, name, wildcard, index, slice, filter, Slice, LogicalOr, no_or, or, LogicalAnd, no_and, and, Basic, paren, not_paren, relation, exist, not_exist, test, not_test, Operator, equal, not_equal, less, less_or_equal, greater, greater_or_equal, Comparable, literal, singular, called, Call, call, Arguments, no_arguments, argument, Argument, literal_argument, query_argument, call_argument, logical_argument, Literal, text, number, truth, null, IsSingular}
 use Rattle.serde_json_path_parser.specs.Lexical.{IsBlank, IsName, IsFunctionName, IsInt, IsNumber, IsString}
+
+-- ---- signs
+
+-- the root (section 2.2.1), and the current node of a filter (section 2.3.5.1)
+abbrev pub query_sign : QueryKind → List ℕ
+query_sign root = codes "$"
+query_sign current = codes "@"
+
+-- what stands before a name or `*` of a child segment (section 2.5.1.1), and of a descendant segment (section 2.5.2.1)
+abbrev pub dots_before_name : SegmentKind → List ℕ
+dots_before_name child = codes "."
+dots_before_name descendant = codes ".."
+
+-- the same before a bracket
+abbrev pub dots_before_bracket : SegmentKind → List ℕ
+dots_before_bracket child = []
+dots_before_bracket descendant = codes ".."
+
+-- comparison operators (section 2.3.5.1)
+abbrev pub operator_sign : Operator → List ℕ
+operator_sign equal = codes "=="
+operator_sign not_equal = codes "!="
+operator_sign less = codes "<"
+operator_sign less_or_equal = codes "<="
+operator_sign greater = codes ">"
+operator_sign greater_or_equal = codes ">="
 
 -- ---- slices (section 2.3.4.1)
 
@@ -57,7 +82,7 @@ StandsAlone _ = ⊥
 abbrev mutual
   -- `$` or `@`, and segments
   pub Reads : Query → List ℕ → Type 0
-  Reads (query kind segs) t = (a : List ℕ) × ReadSegments segs a × (t ≡ query_kind_text kind ++ a)
+  Reads (query kind segs) t = (a : List ℕ) × ReadSegments segs a × (t ≡ query_sign kind ++ a)
 
   -- blanks may stand before each segment
   pub ReadSegments : Segments → List ℕ → Type 0
@@ -67,11 +92,11 @@ abbrev mutual
 
   -- `.name`, `.*` and `[..]`, or with `..` before them (section 2.5)
   pub ReadsSegment : Segment → SegmentKind → List ℕ → Type 0
-  ReadsSegment (dot_name bytes) kind t = (a : List ℕ) × IsName a bytes × (t ≡ dots_of kind ++ a)
-  ReadsSegment dot_wildcard kind t = t ≡ dots_of kind ++ codes "*"
+  ReadsSegment (dot_name bytes) kind t = (a : List ℕ) × IsName a bytes × (t ≡ dots_before_name kind ++ a)
+  ReadsSegment dot_wildcard kind t = t ≡ dots_before_name kind ++ codes "*"
   ReadsSegment (long_hand sels) kind t =
       (j a k : List ℕ) × IsBlank j × ReadSelectors sels a × IsBlank k
-      × (t ≡ bracket_dots_of kind ++ (codes "[" ++ (j ++ (a ++ (k ++ codes "]")))))
+      × (t ≡ dots_before_bracket kind ++ (codes "[" ++ (j ++ (a ++ (k ++ codes "]")))))
 
   -- one or more, with commas and blanks round them
   pub ReadSelectors : Selectors → List ℕ → Type 0
@@ -115,7 +140,7 @@ abbrev mutual
   ReadsBasic (paren e) t = InParentheses (ReadsOr e) t
   ReadsBasic (not_paren e) t = Negated (InParentheses (ReadsOr e)) t
   ReadsBasic (relation left op right) t =
-      (a s b : List ℕ) × ReadsComparable left a × IsSign (operator_text op) s × ReadsComparable right b × (t ≡ a ++ (s ++ b))
+      (a s b : List ℕ) × ReadsComparable left a × IsSign (operator_sign op) s × ReadsComparable right b × (t ≡ a ++ (s ++ b))
   ReadsBasic (exist q) t = Reads q t
   ReadsBasic (not_exist q) t = Negated (Reads q) t
   ReadsBasic (test c) t = ReadsCall c t

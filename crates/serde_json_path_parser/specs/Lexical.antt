@@ -1,4 +1,4 @@
--- The pieces of a path's text (RFC 9535, sections 2.1.1, 2.3.1.1, 2.3.3.1, 2.3.5.1 and 2.5.1.1). A text is a list of
+-- The pieces of a path's text (RFC 9535, sections 2.1.1, 2.3.1.1, 2.3.3.1, 2.3.5.1, 2.5 and 2.5.1.1). A text is a list of
 -- characters, each a Unicode scalar value; names and strings in trees are the bytes of their characters.
 use Rattle.std.specs.Prelude.{◌≡◌, ◌==◌, ℕ, suc, ◌+◌, ◌-◌, ◌*◌, ◌<◌, ◌≤◌, ◌^◌, ◌⊎◌, ◌&&◌, ◌||◌, not, nat_le, ℤ, pos, negsuc, ◌-ℤ◌, Bool, true, false, List, [], ◌∷◌, ◌++◌, length, drop, codes, slice_index, Option, Some, None, if◌then◌else◌}
 use Rattle.std.specs.List.{AllByRecursion}
@@ -54,6 +54,12 @@ is_blank c = c ∈ " \t\n\r"
 
 abbrev pub IsBlank : List ℕ → Type 0
 IsBlank text = AllPass is_blank text
+
+-- ---- segments (section 2.5)
+
+-- a segment begins with one of these
+abbrev pub opens : ℕ → Bool
+opens c = c ∈ ".["
 
 -- ---- member names (section 2.5.1.1)
 

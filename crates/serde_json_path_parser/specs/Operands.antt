@@ -1,11 +1,10 @@
 -- What a filter compares or tests: a literal, a query or a call, which is read before its use is known; and what decides
 -- how it may be used.
-use Rattle.std.specs.Prelude.{◌≡◌, ℕ, ◌+◌, ◌%◌, ◌==◌, ◌&&◌, ◌||◌, Bool, true, false, ℤ, pos, negsuc, List, [], ◌++◌, Option, Some, None, codes}
+use Rattle.std.specs.Prelude.{ℕ, ◌+◌, ◌%◌, ◌==◌, ◌&&◌, ◌||◌, Bool, true, false, ℤ, pos, negsuc, List, [], Option, Some}
 use Rattle.serde_json_path_syntax.specs.Calls.{calls_of, calls_from}
 use Rattle.serde_json_path_syntax.specs.Tree.{Query, query, Segments, no_segments, segment, child, descendant, Segment, dot_name, long_hand, selector, no_selectors, name, index, Call, Argument, literal_argument, query_argument, call_argument, logical_argument, Literal, number}
 use Rattle.serde_json_path_syntax.specs.Typing.{result_kind}
 use Rattle.serde_json_path_functions.specs.Functions.{Kind, of_value, of_nodes, of_logical, Signature}
-use Rattle.serde_json_path_parser.specs.Lexical.{IsFunctionName}
 
 pub data Operand : Type 0 where
   a_literal : Literal → Operand
@@ -33,12 +32,6 @@ are_singular (segment descendant seg more) = false
 
 abbrev pub is_singular : Query → Bool
 is_singular (query kind segs) = are_singular segs
-
--- ---- names of functions (section 2.4)
-
--- a name with `(` at once after it stands there, and no function of that name is declared
-abbrev pub IsUndeclared : (List ℕ → Option Signature) → List ℕ → Type 0
-IsUndeclared signature rest = (f more : List ℕ) × IsFunctionName f f × (rest ≡ f ++ (codes "(" ++ more)) × (signature f ≡ None)
 
 -- ---- results (section 2.4.3)
 

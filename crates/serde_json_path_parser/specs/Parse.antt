@@ -1,22 +1,18 @@
--- What a parse answers, whatever way it is asked.
-use Rattle.std.specs.Prelude.{◌≡◌, ◌≢◌, ℕ, ◌+◌, ◌-◌, ◌<◌, ◌≤◌, ◌⊎◌, ◌↔◌, Bool, false, List, ◌++◌, length, take, drop, codes, Option, Some, None, Result, Ok, Err, IfOk, IfErr, IsErrAnd}
+-- Acceptance: which texts a parse accepts, each with which tree, and what it may refuse for want of memory.
+use Rattle.std.specs.Prelude.{◌≡◌, ◌≢◌, ℕ, ◌<◌, ◌⊎◌, Bool, false, List, ◌++◌, length, codes, Option, Result, IfOk, IfErr, IsErrAnd}
 use Rattle.std.specs.Result.{result_map_both}
-use Rattle.std.specs.Str.{chars, IsCharBoundary}
+use Rattle.std.specs.Str.{chars}
 use Rattle.serde_json_path_syntax.specs.declared.checked.Checked.{Checked}
 use Rattle.serde_json_path_syntax.specs.Parts.{tree_of, signatures_of}
 use Rattle.serde_json_path_syntax.specs.Tree.{Query}
 use Rattle.serde_json_path_syntax.specs.Used.{AreCalled}
 use Rattle.serde_json_path_functions.specs.Functions.{Signature}
-use Rattle.serde_json_path_parser.specs.declared.error.ParseErrorKind.TheVariants.{ExpectedRoot, UndefinedFunction, TextAfterPath, NoMemory}
+use Rattle.serde_json_path_parser.specs.declared.error.ParseErrorKind.TheVariants.{NoMemory}
 use Rattle.serde_json_path_parser.specs.declared.error.ParseError.{ParseError}
-use Rattle.serde_json_path_parser.specs.declared.error.Refusal.{Refusal}
-use Rattle.serde_json_path_parser.specs.Lexical.{◌∈◌, begins, is_blank, IsBlank}
+use Rattle.serde_json_path_parser.specs.Lexical.{◌∈◌, begins, is_blank, IsBlank, opens}
 use Rattle.serde_json_path_parser.specs.Accepted.{IsAccepted}
-use Rattle.serde_json_path_parser.specs.Errors.{kind_of, position_of, no_memory}
-use Rattle.serde_json_path_parser.specs.Looking.{greatest_usize}
-use Rattle.serde_json_path_parser.specs.Filters.{path_at}
-use Rattle.serde_json_path_parser.specs.Operands.{IsUndeclared}
-use Rattle.serde_json_path_parser.specs.Parsing.{opens}
+use Rattle.serde_json_path_parser.specs.Errors.{kind_of, no_memory}
+use Rattle.serde_json_path_parser.specs.Source.{greatest_usize}
 
 abbrev pub is_dollar : ℕ → Bool
 is_dollar c = c ∈ "$"
@@ -26,16 +22,6 @@ abbrev pub NeedsNoMemory : List ℕ → Type 0
 NeedsNoMemory text =
     (begins is_dollar text ≡ false)
     ⊎ ((blanks rest : List ℕ) × (text ≡ codes "$" ++ (blanks ++ rest)) × IsBlank blanks × (begins is_blank rest ≡ false) × (begins opens rest ≡ false))
-
--- a refusal as a parse reports it, of a text of so many bytes
-abbrev pub reported : {A : Type 0} → ℕ → Result A Refusal → Option ParseError
-reported total (Ok read) = None
-reported total (Err r) = Some (record { kind = r.kind; context = r.context; position = total - r.left + 1 })
-
--- The refusal that is met first as a text is read from left to right: its kind, how its message begins, and its position.
--- There is none where the text is read to its end.
-abbrev pub first_refusal : (List ℕ → Option Signature) → List ℕ → Option ParseError
-first_refusal signature text = reported (length text) (path_at signature (chars text))
 
 -- a tree, and the names that it calls, each with its signature
 pub record ParsedQuery : Type 0 where
@@ -52,16 +38,6 @@ pub record Answers (signature : List ℕ → Option Signature) (text : List ℕ)
   pub only : IfOk answer (λ read. (q : Query) → IsAccepted signature (chars text) q → q ≡ read.tree)
   -- a refusal, unless memory was refused, means that the text is accepted with no tree
   pub refused : IfErr answer (λ e. kind_of e ≢ NoMemory → (q : Query) → IsAccepted signature (chars text) q → ⊥)
-  -- it is the one that is met first
-  pub told : IfErr answer (λ e. kind_of e ≢ NoMemory → first_refusal signature text ≡ Some e)
-  -- a missing root is reported exactly where a text whose end has a position does not begin with `$`
-  pub missing_root : IsErrAnd answer (λ e. kind_of e ≡ ExpectedRoot) ↔ ((length text < greatest_usize) × (begins is_dollar (chars text) ≡ false))
-  -- text after the path is reported only where the bytes before the position are an accepted text
-  pub text_after : IfErr answer (λ e. kind_of e ≡ TextAfterPath → (q : Query) × IsAccepted signature (chars (take (position_of e - 1) text)) q)
-  -- an undefined function is reported only where a name that is not declared stands, with `(` at once after it
-  pub undefined : IfErr answer (λ e. kind_of e ≡ UndefinedFunction → IsUndeclared signature (chars (drop (position_of e - 1) text)))
-  -- a refusal stands at the start of a character, or at the end of the text
-  pub position : IfErr answer (λ e. (1 ≤ position_of e) × IsCharBoundary text (position_of e - 1))
   -- want of memory is one error, at position 1,
   pub memory : IfErr answer (λ e. kind_of e ≡ NoMemory → e ≡ no_memory)
   -- and is never reported where there is nothing to store,

@@ -6,7 +6,7 @@ use Rattle.serde_json_path_nodes.specs.Text.{code}
 use Rattle.serde_json_path_parser.specs.declared.error.ParseErrorKind.TheVariants.{BadMemberName, ExpectedClosingBracket, ExpectedSelector, IntegerOutOfRange}
 use Rattle.serde_json_path_parser.specs.declared.error.Context as declared
 use Rattle.serde_json_path_parser.specs.declared.error.Context.TheVariants as context
-use Rattle.serde_json_path_parser.specs.Lexical.{◌∈◌, between, is_at, begins, is_digit, is_name_first, is_name_char, value_from}
+use Rattle.serde_json_path_parser.specs.Lexical.{◌∈◌, between, is_at, begins, is_digit, is_name_first, is_name_char, value_from, opens}
 use Rattle.serde_json_path_parser.specs.Parsed.{Parsed, ◌>>=◌, refusal, front, past, past_blanks, many, refusal_at, byte_count}
 use Rattle.serde_json_path_parser.specs.Strings.{string_at}
 
@@ -67,9 +67,6 @@ position_at cs = int_at cs >>= λ i.
 -- after the opening quote
 unfoldable pub quoted_at : ℕ → List ℕ → Parsed Selector
 quoted_at quote cs = string_at quote cs >>= λ text. Ok (name text.0, past_blanks text.1)
-
-abbrev pub opens : ℕ → Bool
-opens c = c ∈ ".["
 
 -- a segment begins after blanks
 abbrev pub opens_next : List ℕ → Bool

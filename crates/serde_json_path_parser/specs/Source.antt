@@ -1,6 +1,10 @@
 -- What a source tells: one text, how often it was looked at, and the farthest byte looked at.
 use Rattle.std.specs.Prelude.{ℕ, ◌+◌, ◌-◌, ◌^◌, List, if◌then◌else◌, nat_lt, max}
 
+-- the greatest number of a place: a text of so many bytes has no number for its end
+abbrev pub greatest_usize : ℕ
+greatest_usize = 2 ^ 64 - 1
+
 -- the text's bytes, the number of looks, and the number of the farthest byte looked at, from 1, or 0
 pub record Told : Type 0 where
   pub text : List ℕ

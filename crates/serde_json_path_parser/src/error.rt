@@ -204,8 +204,8 @@ impl Error for ParseError {}
 impl Failure {
     ghost use Rattle.std.specs.Prelude.{◌<◌};
     ghost use Rattle.serde_json_path_parser.specs.declared.error.Context.TheVariants.{LongHand};
-    ghost use Rattle.serde_json_path_parser.specs.Giving.{IsWithin, error_of};
-    ghost use Rattle.serde_json_path_parser.specs.Looking.{greatest_usize};
+    ghost use Rattle.serde_json_path_parser.specs.Inside.Giving.{IsWithin, error_of};
+    ghost use Rattle.serde_json_path_parser.specs.Source.{greatest_usize};
 
     /// A refusal inside a bracket, where `left` bytes of the text are left.
     pub(crate) fn in_long_hand(kind: ParseErrorKind, left: usize) -> Failure

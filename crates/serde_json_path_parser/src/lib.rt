@@ -9,8 +9,8 @@
 //! ```
 //!
 //! Definitions are in `specs/`: `Lexical` has names, strings and numbers, `Grammar` which text reads as which tree, `Accepted`
-//! the typed grammar, `Parse` what a parse promises, `Errors` messages, `Source` what a source holds and counts.
-//! `src/parser` follows the grammar, one module for each part.
+//! the typed grammar, `Parse` what a parse accepts, `Reported` which refusal it reports, `Errors` messages, `Source` what a
+//! source holds and counts. `src/parser` follows the grammar, one module for each part.
 #![tactic(auto)]
 
 mod error;

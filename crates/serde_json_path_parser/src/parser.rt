@@ -16,9 +16,10 @@ mod stretch;
 ghost use Rattle.std.specs.Prelude.{◌≡◌, ◌+◌, ◌-◌, ◌*◌, ◌^◌, ◌≤◌, max, true, length, IfOk, IfErr};
 ghost use Rattle.serde_json_path_syntax.specs.Parts.{signatures_of};
 ghost use Rattle.serde_json_path_functions.specs.Functions.{Fits};
-ghost use Rattle.serde_json_path_parser.specs.Looking.{greatest_usize};
+ghost use Rattle.serde_json_path_parser.specs.Source.{greatest_usize};
 ghost use Rattle.serde_json_path_parser.specs.Errors.{kind_of, position_of, is_told_at_next};
 ghost use Rattle.serde_json_path_parser.specs.Parse.{IsParseOf, checked_view};
+ghost use Rattle.serde_json_path_parser.specs.Reported.{ReportsFirst};
 
 use crate::error::{Failure, ParseError};
 use crate::parser::query::parse_path;
@@ -47,6 +48,8 @@ pub fn parse<S: PathSource, F: Functions>(
     functions: &F,
 ) -> Result<Checked, ParseError>
     ensures parse { IsParseOf checked_view (F.set functions.now).signature
+        (S.told source.old).text result }
+    ensures reported { ReportsFirst checked_view (F.set functions.now).signature
         (S.told source.old).text result }
     // The signatures that the query keeps are those of the set.
     ensures fits { IfOk result (λ checked. Fits (F.set functions.now) (signatures_of checked)) }

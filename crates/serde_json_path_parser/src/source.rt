@@ -2,8 +2,7 @@
 
 ghost use Rattle.std.specs.Prelude.{◌≡◌, ◌<◌, length, slice_index};
 ghost use Rattle.std.specs.Str.{IsUtf8};
-ghost use Rattle.serde_json_path_parser.specs.Source.{Told, looked};
-ghost use Rattle.serde_json_path_parser.specs.Looking.{greatest_usize};
+ghost use Rattle.serde_json_path_parser.specs.Source.{Told, looked, greatest_usize};
 
 /// One text that does not change, as the bytes of its UTF-8. Each call of `byte` is one look.
 pub trait PathSource {

@@ -12,12 +12,8 @@ pub mod Calls
 pub mod Used
 -- the text in which a query is printed, as the bytes of its UTF-8
 pub mod Text
--- what is printed before a selector in brackets
-pub mod Openings
 -- whether two trees are the same, as a computed test
 pub mod SameTree
--- the test of two trees is true exactly where they are equal, so it is an equivalence
-pub mod SameLaws
 -- the range of the numbers in a tree
 pub mod WellFormed
 -- what is in a list, and lists in an order
@@ -38,7 +34,9 @@ pub mod SliceView
 pub mod Flat
 -- bounds of the numbers of parts
 pub mod PartBounds
--- what a copy of a node keeps
-pub mod Copies
 -- the segments of a tree as a walk takes them: each with its kind and the list of its selectors
 pub mod Stages
+-- ---- what no public contract cites
+
+-- the vocabulary of private functions and of proofs
+pub mod Inside

@@ -18,6 +18,10 @@ use std::alloc::{AllocError, Global};
 ///
 /// A part belongs to the builder that made it, and stands for the same tree after every further call, refused or not.
 /// A call fails only if memory is refused.
+///
+/// The builder keeps each function call that `call` makes, also one that the tree does not use, and `finish` asks that the
+/// tree calls its name, with the same signature. So a call may be left out of the tree only where the tree calls that name
+/// elsewhere; else begin with a new builder. Any other part may be left out.
 #[derive(Drop)]
 pub struct SyntaxBuilder {
     arena: Arena,
@@ -292,6 +296,8 @@ impl SyntaxBuilder {
     }
 
     /// A call of a function by name, which keeps that signature, with its arguments in order (RFC 9535, section 2.4).
+    ///
+    /// The builder keeps the name and the signature for good, and a tree that does not call the name cannot be finished.
     #[tactic(auto, using(crate::proofs::Tree::NamedParts::of_named_parts))]
     pub fn call(
         &mut self,
@@ -377,8 +383,8 @@ impl SyntaxBuilder {
     /// The finished tree of a part. Takes no memory.
     ///
     /// The query starts at the root, nests at most 128 filters, parentheses and calls, and calls exactly the names of the
-    /// calls that the builder has made. Each name always has the same signature, and the query is well-typed under these
-    /// signatures (RFC 9535, section 2.4.3).
+    /// calls that the builder has made, those that the tree does not use among them. Each name always has the same
+    /// signature, and the query is well-typed under these signatures (RFC 9535, section 2.4.3).
     pub fn finish(self, part: Part) -> Checked
         requires { (q : tree.Query) × IsPart self part (a_query q) × MayFinish (calls_in self) q }
         ensures tree { (q : tree.Query) → IsPart self part (a_query q) → tree_of result ≡ q }

@@ -1,7 +1,7 @@
 //! Copies of nodes. An error comes only where memory is refused.
 
 ghost use Rattle.std.specs.Prelude.{◌≡◌, List, IfOk};
-ghost use Rattle.serde_json_path_syntax.specs.Copies.{AreCopies, IsCopy};
+ghost use Rattle.serde_json_path_syntax.specs.Inside.Copies.{AreCopies, IsCopy};
 ghost use Rattle.serde_json_path_syntax.specs.Piece.{Piece};
 
 use crate::node::{Argument, Comparable, Node, Segment, Selector};

@@ -22,7 +22,7 @@ use serde_json::Value;
 /// Two queries are equal where their trees are: the signatures that they keep are not compared.
 impl PartialEq for Checked {
     ghost use Rattle.std.specs.Cmp.{partial_equiv_from_equiv};
-    ghost use Rattle.serde_json_path_syntax.specs.SameLaws.{same_trees-equiv};
+    ghost use Rattle.serde_json_path_syntax.specs.Inside.SameLaws.{same_trees-equiv};
 
     ghost eq = { λ mine theirs. trees.same_query (tree_of mine) (tree_of theirs) };
 
@@ -38,7 +38,7 @@ impl PartialEq for Checked {
 }
 
 impl Eq for Checked {
-    ghost use Rattle.serde_json_path_syntax.specs.SameLaws.{same_trees-equiv};
+    ghost use Rattle.serde_json_path_syntax.specs.Inside.SameLaws.{same_trees-equiv};
 
     ghost laws = { same_trees-equiv };
 }

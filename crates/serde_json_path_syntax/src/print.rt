@@ -7,7 +7,7 @@ ghost use Rattle.serde_json_path_syntax.specs.Calls.{arguments_of};
 ghost use Rattle.serde_json_path_syntax.specs.PartBounds.{parts_bound};
 ghost use Rattle.serde_json_path_syntax.specs.Parts.{nodes_in, number_of, tree_of};
 ghost use Rattle.serde_json_path_syntax.specs.Text.{and_text, argument_text, argument_texts, basic_text, call_text, comparable_text, joined, or_text, query_kind_text, query_text, segment_text, segments_text, selector_text, selector_texts, sign_text};
-ghost use Rattle.serde_json_path_syntax.specs.Openings.{opening_text};
+ghost use Rattle.serde_json_path_syntax.specs.Inside.Openings.{opening_text};
 ghost use Rattle.serde_json_path_syntax.specs.Typing.{AreTypedSegments, AreTypedSelectors, IsTyped, IsTypedAnd, IsTypedBasic, IsTypedCall, IsTypedComparable, IsTypedForSome, IsTypedOr, IsTypedSegment, IsTypedSelector, UnderSome};
 
 mod literals;

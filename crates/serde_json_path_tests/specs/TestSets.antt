@@ -1,6 +1,6 @@
 -- The function sets of the tests: what their names mean, and that they keep types and patterns.
 use Rattle.std.proofs.Common.{◌≡◌, ◌+◌, ◌&&◌, ℕ, List, [], ◌∷◌, length, Bool, true, false, Option, Some, None, bytes_eq, codes, if◌then◌else◌, refl, arith}
-use Rattle.serde_json_path_functions.specs.BothTypes.{Keeps, declared_keeps}
+use Rattle.serde_json_path_functions.specs.OwnSets.{Keeps, declared_keeps}
 use Rattle.serde_json_path_functions.specs.Functions.{of_value, of_nodes, of_logical, Signature, Term, value, nodes, logical, counted, kind_of_term, FunctionSet, KeepsTypes}
 use Rattle.serde_json_path_functions.specs.Patterns.{KeepsPatterns, keeps_no_patterns}
 

@@ -11,6 +11,7 @@ mod errors;
 mod filter_refusals;
 mod filters;
 mod fitting;
+mod headline;
 mod json_form;
 mod lists;
 mod literals;

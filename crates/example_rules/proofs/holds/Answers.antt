@@ -18,5 +18,5 @@ returns c =
     let made = c.in_ok-walk.ensures in (
       rest walk,
       made.selects,
-      λ clear. c.is_some.ensures ∙ given c.in_ok-next.field-0 (rest walk) (rest c.next.new.self) (c.in_ok-next.ensures.given (rw (made.set, made.query, made.document) clear)),
+      c.is_some.ensures ∙ given c.in_ok-next.field-0 (rest walk) (rest c.next.new.self) c.in_ok-next.ensures.given,
     )

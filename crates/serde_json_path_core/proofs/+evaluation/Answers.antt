@@ -3,7 +3,7 @@ use Rattle.std.proofs.lemmas.List.{get_or_default, map-append}
 use Rattle.std.proofs.lemmas.Grind.{common_steps}
 use Rattle.std.specs.Option.{option_map_or}
 use Rattle.std.proofs.lemmas.List.{length-set}
-use Rattle.serde_json_path_core.specs.Advances.{IsAtTask, IsKept}
+use Rattle.serde_json_path_core.specs.Inside.Advances.{IsAtTask, IsKept}
 use Rattle.std.proofs.Math.Logic.{∥∥₁_map}
 use Rattle.std.specs.Slice.Iter.{iter_rest}
 use Rattle.serde_json.specs.Data.{Data}
@@ -11,25 +11,25 @@ use Rattle.serde_json.specs.View.{view}
 use Rattle.serde_json_path_nodes.specs.Location.{Step, Located}
 use Rattle.serde_json_path_nodes.specs.Views.{node_value, step_view}
 use Rattle.serde_json_path_syntax.specs.Tree.{child, descendant}
-use Rattle.serde_json_path_core.specs.Cursors.{cursor_left}
+use Rattle.serde_json_path_core.specs.Inside.Cursors.{cursor_left}
 use Rattle.serde_json_path_syntax.specs.Flat.{segment_kind_view, segment_in, segments_at, piece_at, basic_at, comparable_at, or_at, call_at, part_query, pieces}
 use Rattle.serde_json_path_syntax.specs.Literals.{operator_view}
 use Rattle.serde_json_path_functions.specs.Terms.{term_view, kind_view}
-use Rattle.serde_json_path_core.specs.Clear.{StandsIn}
-use Rattle.serde_json_path_core.specs.Evaluates.{IsAtNode, Sound}
+use Rattle.serde_json_path_core.specs.PatternCalls.{StandsIn}
+use Rattle.serde_json_path_core.specs.Inside.Evaluates.{IsAtNode, Sound}
 use Rattle.serde_json_path_syntax.specs.Typing.{IsTypedOr, IsTypedAnd, AreTypedArguments}
 use Rattle.serde_json_path_syntax.specs.Calls.{calls_in_or, calls_in_and, name_of, arguments_of}
-use Rattle.serde_json_path_core.specs.Scopes.{Clear, nodes_of, query_of, set_of, top_of}
-use Rattle.serde_json_path_core.specs.Frames.{frame_view, frames_view, task_view}
-use Rattle.serde_json_path_core.specs.Rest.{admitted, node_at, rest_of, work, IsStack, IsStackIn, IsInside}
+use Rattle.serde_json_path_core.specs.Inside.Scopes.{nodes_of, query_of, set_of, top_of}
+use Rattle.serde_json_path_core.specs.Inside.Frames.{frame_view, frames_view, task_view}
+use Rattle.serde_json_path_core.specs.Inside.Rest.{admitted, node_at, rest_of, work, IsStack, IsStackIn, IsInside}
 use Rattle.serde_json_path_syntax.specs.Stages.{selector_view, stage_at, stages_at}
-use Rattle.serde_json_path_core.specs.Views.{child_view}
-use Rattle.serde_json_path_core.specs.SingleChildren.{values_from}
+use Rattle.serde_json_path_core.specs.Inside.Views.{child_view}
+use Rattle.serde_json_path_core.specs.Inside.SingleChildren.{values_from}
 use Rattle.std.specs.Borrow.{Bor}
 use Rattle.serde_json.specs.declared.value.Value.{Value}
 use Rattle.serde_json_path_syntax.specs.Lists.{IsIn}
-use Rattle.serde_json_path_core.specs.Computed as computed
-use Rattle.serde_json_path_core.proofs.Steps.Answered.{given-all, answered, own_pattern}
+use Rattle.serde_json_path_core.specs.Inside.Computed as computed
+use Rattle.serde_json_path_core.proofs.Steps.Answered.{given-all, answered, by_pattern, if_refused}
 use Rattle.serde_json_path_syntax.proofs.Tree.BoundedParts.{within_get, within_bound}
 use Rattle.serde_json_path_core.proofs.Steps.OperandLists.{keep-no, keep-yes}
 use Rattle.serde_json_path_core.proofs.Walks.FrameSteps.{at_selector, ends-trans, passes-over, passes-skipped, at-onward, at-downward, done, at-none, at-some}
@@ -75,8 +75,8 @@ evaluation::frame::Frame::next_task-loop-selector_ref-preserved g t c =
     let mid = frame_view c.loop-selector_ref.self in
     let left = cursor_left c.next_admitted.new.cursor in
     let here = drop-some stage.selectors mid.selector sel (sym (ap (option_map (selector_view (nodes_of scope))) (sym c.in-Some.is) ∙ c.selector_ref.ensures.selector_ref)) in
-    let none : Clear scope → admitted (set_of scope) (top_of scope) sel mid.left ≡ [] = λ clear. c.next_admitted.ensures.skips.0 clear ∙ at-none (Clear scope) (set_of scope) (top_of scope) stage child_view sel left c.in_ok-child.field-0 c.in-None.is c.in_ok-child.ensures.found clear in
-    (c.loop-selector_ref.invariant.0, passes-over (Clear scope) (set_of scope) (top_of scope) stage (frame_view c.args.self.now) mid sel (cursor_left c.open-self.result) c.loop-selector_ref.invariant.1 here none c.open-self.ensures)
+    let none : admitted (set_of scope) (top_of scope) sel mid.left ≡ [] = c.next_admitted.ensures.skips.0 ∙ at-none (set_of scope) (top_of scope) stage child_view sel left c.in_ok-child.field-0 c.in-None.is c.in_ok-child.ensures.found in
+    (c.loop-selector_ref.invariant.0, passes-over (set_of scope) (top_of scope) stage (frame_view c.args.self.now) mid sel (cursor_left c.open-self.result) c.loop-selector_ref.invariant.1 here none c.open-self.ensures)
 
 pub evaluation::frame::Frame::next_task-returns-in_err-child-clause-passes : goal.evaluation::frame::Frame::next_task-returns-in_err-child-clause-passes
 evaluation::frame::Frame::next_task-returns-in_err-child-clause-passes g t c =
@@ -86,7 +86,7 @@ evaluation::frame::Frame::next_task-returns-in_err-child-clause-passes g t c =
     let mid = frame_view c.loop-selector_ref.self in
     let left = cursor_left c.next_admitted.new.cursor in
     let here = drop-some stage.selectors mid.selector sel (sym (ap (option_map (selector_view (nodes_of scope))) (sym c.in-Some.is) ∙ c.selector_ref.ensures.selector_ref)) in
-    passes-skipped (Clear scope) (set_of scope) (top_of scope) stage (frame_view c.args.self.now) mid sel (drop (mid.selector + 1) stage.selectors) left c.loop-selector_ref.invariant.1 here c.next_admitted.ensures.skips
+    passes-skipped (set_of scope) (top_of scope) stage (frame_view c.args.self.now) mid sel (drop (mid.selector + 1) stage.selectors) left c.loop-selector_ref.invariant.1 here c.next_admitted.ensures.skips
 
 pub evaluation::frame::Frame::next_task-returns-in-Some-2-clause-passes : goal.evaluation::frame::Frame::next_task-returns-in-Some-2-clause-passes
 evaluation::frame::Frame::next_task-returns-in-Some-2-clause-passes g t c =
@@ -96,7 +96,7 @@ evaluation::frame::Frame::next_task-returns-in-Some-2-clause-passes g t c =
     let mid = frame_view c.loop-selector_ref.self in
     let left = cursor_left c.next_admitted.new.cursor in
     let here = drop-some stage.selectors mid.selector sel (sym (ap (option_map (selector_view (nodes_of scope))) (sym c.in-Some.is) ∙ c.selector_ref.ensures.selector_ref)) in
-    passes-skipped (Clear scope) (set_of scope) (top_of scope) stage (frame_view c.args.self.now) mid sel (drop (mid.selector + 1) stage.selectors) left c.loop-selector_ref.invariant.1 here c.next_admitted.ensures.skips
+    passes-skipped (set_of scope) (top_of scope) stage (frame_view c.args.self.now) mid sel (drop (mid.selector + 1) stage.selectors) left c.loop-selector_ref.invariant.1 here c.next_admitted.ensures.skips
 
 pub evaluation::frame::Frame::next_task-returns-in-Some-2-clause-found : goal.evaluation::frame::Frame::next_task-returns-in-Some-2-clause-found
 evaluation::frame::Frame::next_task-returns-in-Some-2-clause-found g t c =
@@ -106,15 +106,15 @@ evaluation::frame::Frame::next_task-returns-in-Some-2-clause-found g t c =
     let mid = frame_view c.loop-selector_ref.self in
     let left = cursor_left c.next_admitted.new.cursor in
     let here = drop-some stage.selectors mid.selector sel (sym (ap (option_map (selector_view (nodes_of scope))) (sym c.in-Some.is) ∙ c.selector_ref.ensures.selector_ref)) in
-    at-onward (Clear scope) (set_of scope) (top_of scope) stage (at_selector mid mid.selector left) sel (drop (mid.selector + 1) stage.selectors) (child_view c.in-Some-2.child) here
-    (at-some (Clear scope) (set_of scope) (top_of scope) stage child_view sel left c.in_ok-child.field-0 c.in-Some-2.child c.in-Some-2.is c.in_ok-child.ensures.found)
+    at-onward (set_of scope) (top_of scope) stage (at_selector mid mid.selector left) sel (drop (mid.selector + 1) stage.selectors) (child_view c.in-Some-2.child) here
+    (at-some (set_of scope) (top_of scope) stage child_view sel left c.in_ok-child.field-0 c.in-Some-2.child c.in-Some-2.is c.in_ok-child.ensures.found)
 
 pub evaluation::frame::Frame::next_task-returns-in-Child-clause-found : goal.evaluation::frame::Frame::next_task-returns-in-Child-clause-found
 evaluation::frame::Frame::next_task-returns-in-Child-clause-found g t c =
     let scope = c.args.scope.now in
     let stage = stage_at (nodes_of scope) c.args.segment in
     let here = drop-none stage.selectors c.loop-selector_ref.self.selector (missing (selector_view (nodes_of scope)) c.selector_ref.result _ c.in_default.not-Some c.selector_ref.ensures.selector_ref) in
-    done (Clear scope) (set_of scope) (top_of scope) stage (frame_view c.loop-selector_ref.self) here
+    done (set_of scope) (top_of scope) stage (frame_view c.loop-selector_ref.self) here
     (λ kind. let no : child ≡ descendant = sym (ap segment_kind_view c.in-Child.is) ∙ c.segment_kind.ensures ∙ kind in absurd cc)
 
 pub evaluation::frame::Frame::next_task-returns-in-None-peek-clause-found : goal.evaluation::frame::Frame::next_task-returns-in-None-peek-clause-found
@@ -122,14 +122,14 @@ evaluation::frame::Frame::next_task-returns-in-None-peek-clause-found g t c =
     let scope = c.args.scope.now in
     let stage = stage_at (nodes_of scope) c.args.segment in
     let here = drop-none stage.selectors c.loop-selector_ref.self.selector (missing (selector_view (nodes_of scope)) c.selector_ref.result _ c.in_default.not-Some c.selector_ref.ensures.selector_ref) in
-    done (Clear scope) (set_of scope) (top_of scope) stage (frame_view c.loop-selector_ref.self) here (λ kind. c.in-None-peek.ensures)
+    done (set_of scope) (top_of scope) stage (frame_view c.loop-selector_ref.self) here (λ kind. c.in-None-peek.ensures)
 
 pub evaluation::frame::Frame::next_task-returns-in-Some-peek-clause-found : goal.evaluation::frame::Frame::next_task-returns-in-Some-peek-clause-found
 evaluation::frame::Frame::next_task-returns-in-Some-peek-clause-found g t c =
     let scope = c.args.scope.now in
     let stage = stage_at (nodes_of scope) c.args.segment in
     let here = drop-none stage.selectors c.loop-selector_ref.self.selector (missing (selector_view (nodes_of scope)) c.selector_ref.result _ c.in_default.not-Some c.selector_ref.ensures.selector_ref) in
-    at-downward (Clear scope) (set_of scope) (top_of scope) stage (frame_view c.loop-selector_ref.self) (child_view c.in-Some-peek.child) here (sym c.segment_kind.ensures ∙ ap segment_kind_view c.in-Descendant.is)
+    at-downward (set_of scope) (top_of scope) stage (frame_view c.loop-selector_ref.self) (child_view c.in-Some-peek.child) here (sym c.segment_kind.ensures ∙ ap segment_kind_view c.in-Descendant.is)
     c.in-Some-peek.ensures
 
 pub evaluation::frame::next_passing-is_true_by-requires : goal.evaluation::frame::next_passing-is_true_by-requires
@@ -144,7 +144,7 @@ evaluation::frame::next_passing-returns-then-branch-clause-found g t c =
     let child = child_view c.in-Some.child in
     let left = cursor_left c.loop-child.cursor in
     let test = λ (x : Step × Data). computed.is_true (set_of c.args.scope.now) (top_of c.args.scope.now) (or_at (nodes_of c.args.scope.now) c.args.test) x.1 in
-    (c.in-Some.ensures, λ clear. ap (keep test) c.in-Some.ensures ∙ keep-yes test child (drop 1 left) (sym (c.in_ok-is_true_by.ensures.means clear) ∙ c.if-branch.true))
+    (c.in-Some.ensures, ap (keep test) c.in-Some.ensures ∙ keep-yes test child (drop 1 left) (sym c.in_ok-is_true_by.ensures.means ∙ c.if-branch.true))
 
 pub evaluation::frame::next_passing-loop-child-smaller : goal.evaluation::frame::next_passing-loop-child-smaller
 evaluation::frame::next_passing-loop-child-smaller g t c =
@@ -158,8 +158,7 @@ evaluation::frame::next_passing-loop-child-preserved g t c =
     let left = cursor_left c.loop-child.cursor in
     let before = c.loop-child.invariant in
     let test = λ (x : Step × Data). computed.is_true (set_of c.args.scope.now) (top_of c.args.scope.now) (or_at (nodes_of c.args.scope.now) c.args.test) x.1 in (
-      λ clear.
-          before.0 clear ∙ ap (keep test) c.in-Some.ensures ∙ keep-no test child (drop 1 left) (sym (c.in_ok-is_true_by.ensures.means clear) ∙ c.if-branch.false) ∙ ap (keep test) (sym c.pass.ensures),
+      before.0 ∙ ap (keep test) c.in-Some.ensures ∙ keep-no test child (drop 1 left) (sym c.in_ok-is_true_by.ensures.means ∙ c.if-branch.false) ∙ ap (keep test) (sym c.pass.ensures),
       ends-trans _ _ _ before.1 (child ∷ [], c.in-Some.ensures ∙ ap (λ cs. child ∷ cs) (sym c.pass.ensures)),
     )
 
@@ -200,7 +199,7 @@ evaluation::stack::find_next-returns-in-None-clause-found g t c =
     let len = c.len.ensures ∙ frames.ok.0 in
     let long : length items ≡ n + 1 = omega arith in (
       omega arith,
-      came-start (Clear scope) (set_of scope) (top_of scope) nodes c.args.segments.now items n c.index.result.now _ long c.index.ensures (past_length _ _ c.in-None.ensures.lookup.0)
+      came-start (set_of scope) (top_of scope) nodes c.args.segments.now items n c.index.result.now _ long c.index.ensures (past_length _ _ c.in-None.ensures.lookup.0)
           (ap (λ f. (frame_view f).value) (c.index.ensures ∙ get_or_default items n _ _ (omega arith) ∙ sym c.index-in-None.ensures)),
     )
 
@@ -219,9 +218,9 @@ evaluation::stack::find_next-returns-in_err-next_task-in-Some-get-clause-rest g 
     let seen = c.index.result.now in
     let old = c.index_mut.result.now in
     let new = c.next_task.new.self in
-    let came : Came (Clear scope) (set_of scope) (top_of scope) nodes c.args.segments.now items n seen old new segment =
+    let came : Came (set_of scope) (top_of scope) nodes c.args.segments.now items n seen old new segment =
     record { long = long; seen_is = c.index.ensures; old_is = c.index_mut.ensures.value; within = below_length _ _ look.0; at = look.1; passes = c.next_task.ensures.passes } in
-    λ clear. (kept-trans (Clear scope) (set_of scope) (top_of scope) (stages_at nodes c.args.segments.now) _ _ _ c.loop-last.invariant (came-kept (Clear scope) (set_of scope) (top_of scope) nodes c.args.segments.now items n seen old new segment came)).0 clear
+    (kept-trans (set_of scope) (top_of scope) (stages_at nodes c.args.segments.now) _ _ _ c.loop-last.invariant (came-kept (set_of scope) (top_of scope) nodes c.args.segments.now items n seen old new segment came)).0
 
 pub evaluation::stack::find_next-returns-in_err-next_task-in-Some-get-clause-less : goal.evaluation::stack::find_next-returns-in_err-next_task-in-Some-get-clause-less
 evaluation::stack::find_next-returns-in_err-next_task-in-Some-get-clause-less g t c =
@@ -238,9 +237,9 @@ evaluation::stack::find_next-returns-in_err-next_task-in-Some-get-clause-less g 
     let seen = c.index.result.now in
     let old = c.index_mut.result.now in
     let new = c.next_task.new.self in
-    let came : Came (Clear scope) (set_of scope) (top_of scope) nodes c.args.segments.now items n seen old new segment =
+    let came : Came (set_of scope) (top_of scope) nodes c.args.segments.now items n seen old new segment =
     record { long = long; seen_is = c.index.ensures; old_is = c.index_mut.ensures.value; within = below_length _ _ look.0; at = look.1; passes = c.next_task.ensures.passes } in
-    (kept-trans (Clear scope) (set_of scope) (top_of scope) (stages_at nodes c.args.segments.now) _ _ _ c.loop-last.invariant (came-kept (Clear scope) (set_of scope) (top_of scope) nodes c.args.segments.now items n seen old new segment came)).1
+    (kept-trans (set_of scope) (top_of scope) (stages_at nodes c.args.segments.now) _ _ _ c.loop-last.invariant (came-kept (set_of scope) (top_of scope) nodes c.args.segments.now items n seen old new segment came)).1
 
 pub evaluation::stack::find_next-returns-in_err-next_task-in-Some-get-clause-stack : goal.evaluation::stack::find_next-returns-in_err-next_task-in-Some-get-clause-stack
 evaluation::stack::find_next-returns-in_err-next_task-in-Some-get-clause-stack g t c =
@@ -257,9 +256,9 @@ evaluation::stack::find_next-returns-in_err-next_task-in-Some-get-clause-stack g
     let seen = c.index.result.now in
     let old = c.index_mut.result.now in
     let new = c.next_task.new.self in
-    let came : Came (Clear scope) (set_of scope) (top_of scope) nodes c.args.segments.now items n seen old new segment =
+    let came : Came (set_of scope) (top_of scope) nodes c.args.segments.now items n seen old new segment =
     record { long = long; seen_is = c.index.ensures; old_is = c.index_mut.ensures.value; within = below_length _ _ look.0; at = look.1; passes = c.next_task.ensures.passes } in
-    (kept-trans (Clear scope) (set_of scope) (top_of scope) (stages_at nodes c.args.segments.now) _ _ _ c.loop-last.invariant (came-kept (Clear scope) (set_of scope) (top_of scope) nodes c.args.segments.now items n seen old new segment came)).2
+    (kept-trans (set_of scope) (top_of scope) (stages_at nodes c.args.segments.now) _ _ _ c.loop-last.invariant (came-kept (set_of scope) (top_of scope) nodes c.args.segments.now items n seen old new segment came)).2
 
 pub evaluation::stack::find_next-loop-last-smaller-in-None-2 : goal.evaluation::stack::find_next-loop-last-smaller-in-None-2
 evaluation::stack::find_next-loop-last-smaller-in-None-2 g t c =
@@ -276,9 +275,9 @@ evaluation::stack::find_next-loop-last-smaller-in-None-2 g t c =
     let seen = c.index.result.now in
     let old = c.index_mut.result.now in
     let new = c.next_task.new.self in
-    let came : Came (Clear scope) (set_of scope) (top_of scope) nodes c.args.segments.now items n seen old new segment =
+    let came : Came (set_of scope) (top_of scope) nodes c.args.segments.now items n seen old new segment =
     record { long = long; seen_is = c.index.ensures; old_is = c.index_mut.ensures.value; within = below_length _ _ look.0; at = look.1; passes = c.next_task.ensures.passes } in
-    (came-dropped (Clear scope) (set_of scope) (top_of scope) nodes c.args.segments.now items n seen old new segment came (subst (λ found. IsAtTask (Clear scope) (set_of scope) (top_of scope) (stage_at nodes segment) (frame_view new) (option_map task_view found)) c.in-None-2.is c.in_ok-next_task-in-Some-get.ensures.found) c.truncate.new.self.items c.truncate.ensures.items).1
+    (came-dropped (set_of scope) (top_of scope) nodes c.args.segments.now items n seen old new segment came (subst (λ found. IsAtTask (set_of scope) (top_of scope) (stage_at nodes segment) (frame_view new) (option_map task_view found)) c.in-None-2.is c.in_ok-next_task-in-Some-get.ensures.found) c.truncate.new.self.items c.truncate.ensures.items).1
 
 pub evaluation::stack::find_next-loop-last-preserved-in-None-2 : goal.evaluation::stack::find_next-loop-last-preserved-in-None-2
 evaluation::stack::find_next-loop-last-preserved-in-None-2 g t c =
@@ -295,9 +294,9 @@ evaluation::stack::find_next-loop-last-preserved-in-None-2 g t c =
     let seen = c.index.result.now in
     let old = c.index_mut.result.now in
     let new = c.next_task.new.self in
-    let came : Came (Clear scope) (set_of scope) (top_of scope) nodes c.args.segments.now items n seen old new segment =
+    let came : Came (set_of scope) (top_of scope) nodes c.args.segments.now items n seen old new segment =
     record { long = long; seen_is = c.index.ensures; old_is = c.index_mut.ensures.value; within = below_length _ _ look.0; at = look.1; passes = c.next_task.ensures.passes } in
-    kept-trans (Clear scope) (set_of scope) (top_of scope) (stages_at nodes c.args.segments.now) _ _ _ c.loop-last.invariant (turn-kept (Clear scope) (set_of scope) (top_of scope) (stages_at nodes c.args.segments.now) _ _ (came-dropped (Clear scope) (set_of scope) (top_of scope) nodes c.args.segments.now items n seen old new segment came (subst (λ found. IsAtTask (Clear scope) (set_of scope) (top_of scope) (stage_at nodes segment) (frame_view new) (option_map task_view found)) c.in-None-2.is c.in_ok-next_task-in-Some-get.ensures.found) c.truncate.new.self.items c.truncate.ensures.items))
+    kept-trans (set_of scope) (top_of scope) (stages_at nodes c.args.segments.now) _ _ _ c.loop-last.invariant (turn-kept (set_of scope) (top_of scope) (stages_at nodes c.args.segments.now) _ _ (came-dropped (set_of scope) (top_of scope) nodes c.args.segments.now items n seen old new segment came (subst (λ found. IsAtTask (set_of scope) (top_of scope) (stage_at nodes segment) (frame_view new) (option_map task_view found)) c.in-None-2.is c.in_ok-next_task-in-Some-get.ensures.found) c.truncate.new.self.items c.truncate.ensures.items))
 
 pub evaluation::stack::find_next-loop-last-smaller : goal.evaluation::stack::find_next-loop-last-smaller
 evaluation::stack::find_next-loop-last-smaller g t c =
@@ -314,10 +313,10 @@ evaluation::stack::find_next-loop-last-smaller g t c =
     let seen = c.index.result.now in
     let old = c.index_mut.result.now in
     let new = c.next_task.new.self in
-    let came : Came (Clear scope) (set_of scope) (top_of scope) nodes c.args.segments.now items n seen old new segment =
+    let came : Came (set_of scope) (top_of scope) nodes c.args.segments.now items n seen old new segment =
     record { long = long; seen_is = c.index.ensures; old_is = c.index_mut.ensures.value; within = below_length _ _ look.0; at = look.1; passes = c.next_task.ensures.passes } in
     let task = task_view c.in-Some-2.task in
-    (came-entered (Clear scope) (set_of scope) (top_of scope) nodes c.args.segments.now items n seen old new segment came task (subst (λ found. IsAtTask (Clear scope) (set_of scope) (top_of scope) (stage_at nodes segment) (frame_view new) (option_map task_view found)) c.in-Some-2.is c.in_ok-next_task-in-Some-get.ensures.found) (omega arith) (frames_view c.enter.new.frames.items) c.in_ok-enter-in-Some-2.ensures.ok).1
+    (came-entered (set_of scope) (top_of scope) nodes c.args.segments.now items n seen old new segment came task (subst (λ found. IsAtTask (set_of scope) (top_of scope) (stage_at nodes segment) (frame_view new) (option_map task_view found)) c.in-Some-2.is c.in_ok-next_task-in-Some-get.ensures.found) (omega arith) (frames_view c.enter.new.frames.items) c.in_ok-enter-in-Some-2.ensures.ok).1
 
 pub evaluation::stack::find_next-loop-last-preserved : goal.evaluation::stack::find_next-loop-last-preserved
 evaluation::stack::find_next-loop-last-preserved g t c =
@@ -334,10 +333,10 @@ evaluation::stack::find_next-loop-last-preserved g t c =
     let seen = c.index.result.now in
     let old = c.index_mut.result.now in
     let new = c.next_task.new.self in
-    let came : Came (Clear scope) (set_of scope) (top_of scope) nodes c.args.segments.now items n seen old new segment =
+    let came : Came (set_of scope) (top_of scope) nodes c.args.segments.now items n seen old new segment =
     record { long = long; seen_is = c.index.ensures; old_is = c.index_mut.ensures.value; within = below_length _ _ look.0; at = look.1; passes = c.next_task.ensures.passes } in
     let task = task_view c.in-Some-2.task in
-    kept-trans (Clear scope) (set_of scope) (top_of scope) (stages_at nodes c.args.segments.now) _ _ _ c.loop-last.invariant (turn-kept (Clear scope) (set_of scope) (top_of scope) (stages_at nodes c.args.segments.now) _ _ (came-entered (Clear scope) (set_of scope) (top_of scope) nodes c.args.segments.now items n seen old new segment came task (subst (λ found. IsAtTask (Clear scope) (set_of scope) (top_of scope) (stage_at nodes segment) (frame_view new) (option_map task_view found)) c.in-Some-2.is c.in_ok-next_task-in-Some-get.ensures.found) (omega arith) (frames_view c.enter.new.frames.items) c.in_ok-enter-in-Some-2.ensures.ok))
+    kept-trans (set_of scope) (top_of scope) (stages_at nodes c.args.segments.now) _ _ _ c.loop-last.invariant (turn-kept (set_of scope) (top_of scope) (stages_at nodes c.args.segments.now) _ _ (came-entered (set_of scope) (top_of scope) nodes c.args.segments.now items n seen old new segment came task (subst (λ found. IsAtTask (set_of scope) (top_of scope) (stage_at nodes segment) (frame_view new) (option_map task_view found)) c.in-Some-2.is c.in_ok-next_task-in-Some-get.ensures.found) (omega arith) (frames_view c.enter.new.frames.items) c.in_ok-enter-in-Some-2.ensures.ok))
 
 pub evaluation::stack::find_next-returns-in_err-enter-in-Some-2-clause-rest : goal.evaluation::stack::find_next-returns-in_err-enter-in-Some-2-clause-rest
 evaluation::stack::find_next-returns-in_err-enter-in-Some-2-clause-rest g t c =
@@ -354,9 +353,9 @@ evaluation::stack::find_next-returns-in_err-enter-in-Some-2-clause-rest g t c =
     let seen = c.index.result.now in
     let old = c.index_mut.result.now in
     let new = c.next_task.new.self in
-    let came : Came (Clear scope) (set_of scope) (top_of scope) nodes c.args.segments.now items n seen old new segment =
+    let came : Came (set_of scope) (top_of scope) nodes c.args.segments.now items n seen old new segment =
     record { long = long; seen_is = c.index.ensures; old_is = c.index_mut.ensures.value; within = below_length _ _ look.0; at = look.1; passes = c.next_task.ensures.passes } in
-    λ clear. (let kept = kept-trans (Clear scope) (set_of scope) (top_of scope) (stages_at nodes c.args.segments.now) _ _ _ c.loop-last.invariant (came-kept (Clear scope) (set_of scope) (top_of scope) nodes c.args.segments.now items n seen old new segment came) in subst (IsKept (Clear scope) (set_of scope) (top_of scope) (stages_at nodes c.args.segments.now) (frames_view c.args.frames.now.items)) (ap frames_view (sym c.in_err-enter-in-Some-2.ensures.unchanged)) kept).0 clear
+    (let kept = kept-trans (set_of scope) (top_of scope) (stages_at nodes c.args.segments.now) _ _ _ c.loop-last.invariant (came-kept (set_of scope) (top_of scope) nodes c.args.segments.now items n seen old new segment came) in subst (IsKept (set_of scope) (top_of scope) (stages_at nodes c.args.segments.now) (frames_view c.args.frames.now.items)) (ap frames_view (sym c.in_err-enter-in-Some-2.ensures.unchanged)) kept).0
 
 pub evaluation::stack::find_next-returns-in_err-enter-in-Some-2-clause-less : goal.evaluation::stack::find_next-returns-in_err-enter-in-Some-2-clause-less
 evaluation::stack::find_next-returns-in_err-enter-in-Some-2-clause-less g t c =
@@ -373,9 +372,9 @@ evaluation::stack::find_next-returns-in_err-enter-in-Some-2-clause-less g t c =
     let seen = c.index.result.now in
     let old = c.index_mut.result.now in
     let new = c.next_task.new.self in
-    let came : Came (Clear scope) (set_of scope) (top_of scope) nodes c.args.segments.now items n seen old new segment =
+    let came : Came (set_of scope) (top_of scope) nodes c.args.segments.now items n seen old new segment =
     record { long = long; seen_is = c.index.ensures; old_is = c.index_mut.ensures.value; within = below_length _ _ look.0; at = look.1; passes = c.next_task.ensures.passes } in
-    (let kept = kept-trans (Clear scope) (set_of scope) (top_of scope) (stages_at nodes c.args.segments.now) _ _ _ c.loop-last.invariant (came-kept (Clear scope) (set_of scope) (top_of scope) nodes c.args.segments.now items n seen old new segment came) in subst (IsKept (Clear scope) (set_of scope) (top_of scope) (stages_at nodes c.args.segments.now) (frames_view c.args.frames.now.items)) (ap frames_view (sym c.in_err-enter-in-Some-2.ensures.unchanged)) kept).1
+    (let kept = kept-trans (set_of scope) (top_of scope) (stages_at nodes c.args.segments.now) _ _ _ c.loop-last.invariant (came-kept (set_of scope) (top_of scope) nodes c.args.segments.now items n seen old new segment came) in subst (IsKept (set_of scope) (top_of scope) (stages_at nodes c.args.segments.now) (frames_view c.args.frames.now.items)) (ap frames_view (sym c.in_err-enter-in-Some-2.ensures.unchanged)) kept).1
 
 pub evaluation::stack::find_next-returns-in_err-enter-in-Some-2-clause-stack : goal.evaluation::stack::find_next-returns-in_err-enter-in-Some-2-clause-stack
 evaluation::stack::find_next-returns-in_err-enter-in-Some-2-clause-stack g t c =
@@ -392,9 +391,9 @@ evaluation::stack::find_next-returns-in_err-enter-in-Some-2-clause-stack g t c =
     let seen = c.index.result.now in
     let old = c.index_mut.result.now in
     let new = c.next_task.new.self in
-    let came : Came (Clear scope) (set_of scope) (top_of scope) nodes c.args.segments.now items n seen old new segment =
+    let came : Came (set_of scope) (top_of scope) nodes c.args.segments.now items n seen old new segment =
     record { long = long; seen_is = c.index.ensures; old_is = c.index_mut.ensures.value; within = below_length _ _ look.0; at = look.1; passes = c.next_task.ensures.passes } in
-    (let kept = kept-trans (Clear scope) (set_of scope) (top_of scope) (stages_at nodes c.args.segments.now) _ _ _ c.loop-last.invariant (came-kept (Clear scope) (set_of scope) (top_of scope) nodes c.args.segments.now items n seen old new segment came) in subst (IsKept (Clear scope) (set_of scope) (top_of scope) (stages_at nodes c.args.segments.now) (frames_view c.args.frames.now.items)) (ap frames_view (sym c.in_err-enter-in-Some-2.ensures.unchanged)) kept).2
+    (let kept = kept-trans (set_of scope) (top_of scope) (stages_at nodes c.args.segments.now) _ _ _ c.loop-last.invariant (came-kept (set_of scope) (top_of scope) nodes c.args.segments.now items n seen old new segment came) in subst (IsKept (set_of scope) (top_of scope) (stages_at nodes c.args.segments.now) (frames_view c.args.frames.now.items)) (ap frames_view (sym c.in_err-enter-in-Some-2.ensures.unchanged)) kept).2
 
 pub evaluation::stack::find_next-returns-then-task-segments-clause-rest : goal.evaluation::stack::find_next-returns-then-task-segments-clause-rest
 evaluation::stack::find_next-returns-then-task-segments-clause-rest g t c =
@@ -411,9 +410,9 @@ evaluation::stack::find_next-returns-then-task-segments-clause-rest g t c =
     let seen = c.index.result.now in
     let old = c.index_mut.result.now in
     let new = c.next_task.new.self in
-    let came : Came (Clear scope) (set_of scope) (top_of scope) nodes c.args.segments.now items n seen old new segment =
+    let came : Came (set_of scope) (top_of scope) nodes c.args.segments.now items n seen old new segment =
     record { long = long; seen_is = c.index.ensures; old_is = c.index_mut.ensures.value; within = below_length _ _ look.0; at = look.1; passes = c.next_task.ensures.passes } in
-    λ clear. (kept-trans (Clear scope) (set_of scope) (top_of scope) (stages_at nodes c.args.segments.now) _ _ _ c.loop-last.invariant (came-kept (Clear scope) (set_of scope) (top_of scope) nodes c.args.segments.now items n seen old new segment came)).0 clear
+    (kept-trans (set_of scope) (top_of scope) (stages_at nodes c.args.segments.now) _ _ _ c.loop-last.invariant (came-kept (set_of scope) (top_of scope) nodes c.args.segments.now items n seen old new segment came)).0
 
 pub evaluation::stack::find_next-returns-then-task-segments-clause-less : goal.evaluation::stack::find_next-returns-then-task-segments-clause-less
 evaluation::stack::find_next-returns-then-task-segments-clause-less g t c =
@@ -430,9 +429,9 @@ evaluation::stack::find_next-returns-then-task-segments-clause-less g t c =
     let seen = c.index.result.now in
     let old = c.index_mut.result.now in
     let new = c.next_task.new.self in
-    let came : Came (Clear scope) (set_of scope) (top_of scope) nodes c.args.segments.now items n seen old new segment =
+    let came : Came (set_of scope) (top_of scope) nodes c.args.segments.now items n seen old new segment =
     record { long = long; seen_is = c.index.ensures; old_is = c.index_mut.ensures.value; within = below_length _ _ look.0; at = look.1; passes = c.next_task.ensures.passes } in
-    (kept-trans (Clear scope) (set_of scope) (top_of scope) (stages_at nodes c.args.segments.now) _ _ _ c.loop-last.invariant (came-kept (Clear scope) (set_of scope) (top_of scope) nodes c.args.segments.now items n seen old new segment came)).1
+    (kept-trans (set_of scope) (top_of scope) (stages_at nodes c.args.segments.now) _ _ _ c.loop-last.invariant (came-kept (set_of scope) (top_of scope) nodes c.args.segments.now items n seen old new segment came)).1
 
 pub evaluation::stack::find_next-returns-then-task-segments-clause-stack : goal.evaluation::stack::find_next-returns-then-task-segments-clause-stack
 evaluation::stack::find_next-returns-then-task-segments-clause-stack g t c =
@@ -449,9 +448,9 @@ evaluation::stack::find_next-returns-then-task-segments-clause-stack g t c =
     let seen = c.index.result.now in
     let old = c.index_mut.result.now in
     let new = c.next_task.new.self in
-    let came : Came (Clear scope) (set_of scope) (top_of scope) nodes c.args.segments.now items n seen old new segment =
+    let came : Came (set_of scope) (top_of scope) nodes c.args.segments.now items n seen old new segment =
     record { long = long; seen_is = c.index.ensures; old_is = c.index_mut.ensures.value; within = below_length _ _ look.0; at = look.1; passes = c.next_task.ensures.passes } in
-    (kept-trans (Clear scope) (set_of scope) (top_of scope) (stages_at nodes c.args.segments.now) _ _ _ c.loop-last.invariant (came-kept (Clear scope) (set_of scope) (top_of scope) nodes c.args.segments.now items n seen old new segment came)).2
+    (kept-trans (set_of scope) (top_of scope) (stages_at nodes c.args.segments.now) _ _ _ c.loop-last.invariant (came-kept (set_of scope) (top_of scope) nodes c.args.segments.now items n seen old new segment came)).2
 
 pub evaluation::stack::find_next-returns-then-task-segments-clause-found : goal.evaluation::stack::find_next-returns-then-task-segments-clause-found
 evaluation::stack::find_next-returns-then-task-segments-clause-found g t c =
@@ -468,11 +467,11 @@ evaluation::stack::find_next-returns-then-task-segments-clause-found g t c =
     let seen = c.index.result.now in
     let old = c.index_mut.result.now in
     let new = c.next_task.new.self in
-    let came : Came (Clear scope) (set_of scope) (top_of scope) nodes c.args.segments.now items n seen old new segment =
+    let came : Came (set_of scope) (top_of scope) nodes c.args.segments.now items n seen old new segment =
     record { long = long; seen_is = c.index.ensures; old_is = c.index_mut.ensures.value; within = below_length _ _ look.0; at = look.1; passes = c.next_task.ensures.passes } in
     let task = task_view c.in-Some-2.task in
     let at : IsAtNode scope c.args.segments.now (frames_view (set items n new)) (Some (step_view c.in-Some-2.task.child.step)) (view c.in-Some-2.task.child.value.now) =
-    came-node (Clear scope) (set_of scope) (top_of scope) nodes c.args.segments.now items n seen old new segment came task (subst (λ found. IsAtTask (Clear scope) (set_of scope) (top_of scope) (stage_at nodes segment) (frame_view new) (option_map task_view found)) c.in-Some-2.is c.in_ok-next_task-in-Some-get.ensures.found) (omega arith) in
+    came-node (set_of scope) (top_of scope) nodes c.args.segments.now items n seen old new segment came task (subst (λ found. IsAtTask (set_of scope) (top_of scope) (stage_at nodes segment) (frame_view new) (option_map task_view found)) c.in-Some-2.is c.in_ok-next_task-in-Some-get.ensures.found) (omega arith) in
     (omega (arith, length-set items n new), at)
 
 -- ---- queries in expressions
@@ -505,7 +504,7 @@ filter::logic::first_from-returns-in-Some-clause-means g t c =
     let values = map (λ (n : Located). n.value) in
     let found = c.in-Some.found in
     let at = found-some _ _ c.in_ok-found.field-0 found c.in-Some.is c.in_ok-found.ensures.found in
-    λ clear. ap (λ ns. slice_get (values ns) 0) (sym (sym begins ∙ c.find_next.ensures.rest clear ∙ at.1.0 clear))
+    ap (λ ns. slice_get (values ns) 0) (sym (sym begins ∙ c.find_next.ensures.rest ∙ at.1.0))
 
 pub filter::logic::first_from-returns-clause-means : goal.filter::logic::first_from-returns-clause-means
 filter::logic::first_from-returns-clause-means g t c =
@@ -516,8 +515,8 @@ filter::logic::first_from-returns-clause-means g t c =
     let begins = ap (rest_of (set_of scope) (top_of scope) all) (items ∙ ap (λ f. f ∷ []) c.start.ensures) ∙ rest-started (set_of scope) (top_of scope) (segments_at (nodes_of scope) c.args.segments.now) v in
     let values = map (λ (n : Located). n.value) in
     let none = found-none _ _ c.in_ok-found.field-0 c.in-None.is c.in_ok-found.ensures.found in
-    λ clear. ap (λ ns. slice_get (values ns) 0)
-    (sym (sym begins ∙ c.find_next.ensures.rest clear ∙ ap (λ fs. rest_of (set_of scope) (top_of scope) all (frames_view fs)) none))
+    ap (λ ns. slice_get (values ns) 0)
+    (sym (sym begins ∙ c.find_next.ensures.rest ∙ ap (λ fs. rest_of (set_of scope) (top_of scope) all (frames_view fs)) none))
 
 pub filter::logic::all_from-values-init : goal.filter::logic::all_from-values-init
 filter::logic::all_from-values-init g t c =
@@ -528,7 +527,7 @@ filter::logic::all_from-values-init g t c =
     let begins = ap (rest_of (set_of scope) (top_of scope) all) (items ∙ ap (λ f. f ∷ []) c.start.ensures) ∙ rest-started (set_of scope) (top_of scope) (segments_at (nodes_of scope) c.args.segments.now) v in
     let values = map (λ (n : Located). n.value) in
     record {
-      values = λ clear.
+      values =
           ap values (sym begins) ∙ ap (λ found. map node_value found ++ values (rest_of (set_of scope) (top_of scope) all (frames_view c.push.new.self.items))) (sym c.new-found.ensures.items);
       inside = ∣ entered-inside (top_of scope) v all (frames_view c.push.new.self.items) (frame_view c.start.result) c.requires.inside items c.start.ensures ∣₁;
     }
@@ -563,10 +562,10 @@ filter::logic::all_from-values-preserved g t c =
     let left = values (rest (frames_view c.pass_found.new.frames.items)) in
     let found = map node_value c.values.found.items in
     record {
-      values = λ clear.
-          c.values.invariant.values clear
+      values =
+          c.values.invariant.values
           ∙ ap (λ ns. found ++ values ns)
-          (c.find_next.ensures.rest clear ∙ at.1.0 clear ∙ ap (λ fs. node_at (frames_view frames) (option_map step_view node.step) (view node.value.now) ∷ rest fs) (sym c.pass_found.ensures))
+          (c.find_next.ensures.rest ∙ at.1.0 ∙ ap (λ fs. node_at (frames_view frames) (option_map step_view node.step) (view node.value.now) ∷ rest fs) (sym c.pass_found.ensures))
           ∙ sym (append_assoc found (view node.value.now ∷ []) left)
           ∙ ap (λ xs. xs ++ left) (sym (ap (map node_value) c.in_ok-push-2.ensures.items ∙ map-append node_value c.values.found.items (node.value ∷ [])));
       inside = ∥∥₁_map c.values.invariant.inside (λ h. (h.0, h.1, subst (IsStack h.0) (sym c.pass_found.ensures) (at.1.2 h.0 (c.find_next.ensures.stack h.0 h.2))));
@@ -577,7 +576,6 @@ filter::logic::first-returns-in-None-clause-means g t c =
     let scope = c.args.scope.now in
     let reached = c.reached-reached.result in
     let below : Option (Bor Value) → List Data = λ o. option_map_or (λ (v : Bor Value). values_from (set_of scope) (top_of scope) (segments_at (nodes_of scope) reached.segments.now) (view v.now)) o [] in
-    λ clear.
     sym (first-of-values (computed.results (set_of scope) (top_of scope) (part_query (nodes_of scope) c.args.query) (view c.args.value.now))
     ∙ ap (λ vs. slice_get vs 0) (c.reached-reached.ensures.selects ∙ ap below c.in-None.is))
 
@@ -655,8 +653,14 @@ filter::call::answer-loop-argument-preserved g t c =
 pub filter::call::answer-returns-clause-refused : goal.filter::call::answer-returns-clause-refused
 filter::call::answer-returns-clause-refused g t c =
     let scope = c.args.scope.now in
-    let own = own_pattern (set_of scope) (query_of scope) (call_at (nodes_of scope) c.args.call) c.requires.sound.1 in
-    search rules
+    let asked = call_at (nodes_of scope) c.args.call in
+    let v = view c.args.value.now in
+    let parts = iter_rest c.loop-argument.argument-iterator.a in
+    let kinds = iter_rest c.loop-argument.argument-iterator.b in
+    let given = map term_view c.loop-argument.given.items in
+    let over : (length parts ≡ 0) ⊎ (length kinds ≡ 0) = elim c.in-None.ensures.steps [ inl h ↦ inl h.1.0 | inr h ↦ inr h.1.0 ] in
+    let all = given-all (set_of scope) (top_of scope) (pieces (nodes_of scope)) parts kinds v given _ over c.loop-argument.invariant.means in
+    if_refused c.call.result (λ may. by_pattern (set_of scope) (top_of scope) (query_of scope) asked c.called_name-name.result.now v given c.called_name-name.ensures c.requires.sound c.requires.inside all may) c.call.ensures.pattern
 
 pub filter::call::answer-returns-clause-means : goal.filter::call::answer-returns-clause-means
 filter::call::answer-returns-clause-means g t c =
@@ -667,5 +671,5 @@ filter::call::answer-returns-clause-means g t c =
     let kinds = iter_rest c.loop-argument.argument-iterator.b in
     let given = map term_view c.loop-argument.given.items in
     let over : (length parts ≡ 0) ⊎ (length kinds ≡ 0) = elim c.in-None.ensures.steps [ inl h ↦ inl h.1.0 | inr h ↦ inr h.1.0 ] in
-    answered (set_of scope) (top_of scope) (query_of scope) asked c.called_name-name.result.now v given c.call.result c.called_name-name.ensures c.requires.sound c.requires.inside
-    (λ clear. given-all (set_of scope) (top_of scope) (pieces (nodes_of scope)) parts kinds v given _ over (c.loop-argument.invariant.means clear)) c.call.ensures.means
+    answered (set_of scope) (top_of scope) asked c.called_name-name.result.now v given c.call.result c.called_name-name.ensures
+    (given-all (set_of scope) (top_of scope) (pieces (nodes_of scope)) parts kinds v given _ over c.loop-argument.invariant.means) c.call.ensures.means

@@ -10,17 +10,17 @@ use Rattle.serde_json_path_functions.specs.Terms.{kind_view, term_view}
 use Rattle.serde_json_path_syntax.specs.Calls.{arguments_of, calls_in_arguments, name_of}
 use Rattle.serde_json_path_syntax.specs.Typing.{AreTypedArguments}
 use Rattle.serde_json_path_core.specs.Meaning.{params_of}
-use Rattle.serde_json_path_core.specs.Computed as computed
+use Rattle.serde_json_path_core.specs.Inside.Computed as computed
 use Rattle.serde_json_path_syntax.specs.Flat.{or_at, and_at, ors_in, ands_in, arguments_in, call_at, pieces, pieces_named, segments_at}
 use Rattle.serde_json_path_syntax.specs.PartBounds.{parts_bound, selector_bound}
-use Rattle.serde_json_path_core.specs.Cursors.{cursor_left}
-use Rattle.serde_json_path_core.specs.Rest.{rest_of, work, EndsIn, IsStackIn}
-use Rattle.serde_json_path_core.specs.Advances.{IsKept, Passes}
-use Rattle.serde_json_path_core.specs.SingleChildren.{values_from}
+use Rattle.serde_json_path_core.specs.Inside.Cursors.{cursor_left}
+use Rattle.serde_json_path_core.specs.Inside.Rest.{rest_of, work, EndsIn, IsStackIn}
+use Rattle.serde_json_path_core.specs.Inside.Advances.{IsKept, Passes}
+use Rattle.serde_json_path_core.specs.Inside.SingleChildren.{values_from}
 use Rattle.serde_json_path_syntax.specs.Stages.{stage_at, stages_at}
-use Rattle.serde_json_path_core.specs.Evaluates.{Sound}
-use Rattle.serde_json_path_core.specs.Scopes.{Clear, nodes_of, set_of, top_of}
-use Rattle.serde_json_path_core.specs.Frames.{frame_view, frames_view}
+use Rattle.serde_json_path_core.specs.Inside.Evaluates.{Sound}
+use Rattle.serde_json_path_core.specs.Inside.Scopes.{nodes_of, set_of, top_of}
+use Rattle.serde_json_path_core.specs.Inside.Frames.{frame_view, frames_view}
 use Rattle.serde_json_path_core.proofs.+evaluation.Given as goal
 
 abbrev pub decreases-filter::logic::is_true : goal.decreases-filter::logic::is_true
@@ -79,24 +79,24 @@ decreases-evaluation::frame::next_passing g l = 8 * l.test.number + 7
 
 abbrev pub invariant-filter::logic::is_true-loop-part : goal.invariant-filter::logic::is_true-loop-part
 invariant-filter::logic::is_true-loop-part g l =
-    Clear l.scope → computed.is_true (set_of l.fn.scope) (top_of l.fn.scope) (or_at (nodes_of l.fn.scope) l.fn.expression) (view l.fn.value)
+    computed.is_true (set_of l.fn.scope) (top_of l.fn.scope) (or_at (nodes_of l.fn.scope) l.fn.expression) (view l.fn.value)
     ≡ computed.is_true (set_of l.scope) (top_of l.scope) (ors_in (pieces_named (pieces (nodes_of l.scope)) (drop l.part-index l.part-items))) (view l.value)
 
 abbrev pub invariant-filter::logic::all_true-loop-part : goal.invariant-filter::logic::all_true-loop-part
 invariant-filter::logic::all_true-loop-part g l =
-    Clear l.scope → computed.all_true (set_of l.fn.scope) (top_of l.fn.scope) (and_at (nodes_of l.fn.scope) l.fn.expression) (view l.fn.value)
+    computed.all_true (set_of l.fn.scope) (top_of l.fn.scope) (and_at (nodes_of l.fn.scope) l.fn.expression) (view l.fn.value)
     ≡ computed.all_true (set_of l.scope) (top_of l.scope) (ands_in (pieces_named (pieces (nodes_of l.scope)) (drop l.part-index l.part-items))) (view l.value)
 
 abbrev pub invariant-evaluation::frame::Frame::next_task-loop-selector_ref : goal.invariant-evaluation::frame::Frame::next_task-loop-selector_ref
 invariant-evaluation::frame::Frame::next_task-loop-selector_ref g l =
-    (l.self.segment ≡ l.fn.self.segment) × Passes (Clear l.scope) (set_of l.scope) (top_of l.scope) (stage_at (nodes_of l.scope) l.segment) (frame_view l.fn.self) (frame_view l.self)
+    (l.self.segment ≡ l.fn.self.segment) × Passes (set_of l.scope) (top_of l.scope) (stage_at (nodes_of l.scope) l.segment) (frame_view l.fn.self) (frame_view l.self)
 
 abbrev pub decreases-evaluation::frame::Frame::next_task-loop-selector_ref : goal.decreases-evaluation::frame::Frame::next_task-loop-selector_ref
 decreases-evaluation::frame::Frame::next_task-loop-selector_ref g l = length (stage_at (nodes_of l.scope) l.segment).selectors - l.self.selector
 
 abbrev pub invariant-evaluation::frame::next_passing-loop-child : goal.invariant-evaluation::frame::next_passing-loop-child
 invariant-evaluation::frame::next_passing-loop-child g l =
-    (Clear l.scope → keep (λ (c : Step × Data). computed.is_true (set_of l.scope) (top_of l.scope) (or_at (nodes_of l.scope) l.test) c.1) (cursor_left l.fn.cursor)
+    (keep (λ (c : Step × Data). computed.is_true (set_of l.scope) (top_of l.scope) (or_at (nodes_of l.scope) l.test) c.1) (cursor_left l.fn.cursor)
     ≡ keep (λ (c : Step × Data). computed.is_true (set_of l.scope) (top_of l.scope) (or_at (nodes_of l.scope) l.test) c.1) (cursor_left l.cursor))
     × EndsIn (cursor_left l.fn.cursor) (cursor_left l.cursor)
 
@@ -105,15 +105,14 @@ decreases-evaluation::frame::next_passing-loop-child g l = length (cursor_left l
 
 abbrev pub invariant-evaluation::stack::find_next-loop-last : goal.invariant-evaluation::stack::find_next-loop-last
 invariant-evaluation::stack::find_next-loop-last g l =
-    IsKept (Clear l.scope) (set_of l.scope) (top_of l.scope) (stages_at (nodes_of l.scope) l.segments) (frames_view l.fn.frames.items) (frames_view l.frames.items)
+    IsKept (set_of l.scope) (top_of l.scope) (stages_at (nodes_of l.scope) l.segments) (frames_view l.fn.frames.items) (frames_view l.frames.items)
 
 abbrev pub decreases-evaluation::stack::find_next-loop-last : goal.decreases-evaluation::stack::find_next-loop-last
 decreases-evaluation::stack::find_next-loop-last g l = work (stages_at (nodes_of l.scope) l.segments) (frames_view l.frames.items)
 
 abbrev pub invariant-filter::logic::all_from-values : goal.invariant-filter::logic::all_from-values
 invariant-filter::logic::all_from-values g l = record {
-  values : Clear l.scope
-      → values_from (set_of l.fn.scope) (top_of l.fn.scope) (segments_at (nodes_of l.fn.scope) l.fn.segments) (view l.fn.value)
+  values : values_from (set_of l.fn.scope) (top_of l.fn.scope) (segments_at (nodes_of l.fn.scope) l.fn.segments) (view l.fn.value)
       ≡ map node_value l.found.items ++ map (λ (n : Located). n.value) (rest_of (set_of l.scope) (top_of l.scope) (stages_at (nodes_of l.scope) l.segments) (frames_view l.frames.items));
   inside : ∥ IsStackIn (top_of l.scope) (frames_view l.frames.items) ∥₁;
 }
@@ -133,7 +132,6 @@ invariant-filter::call::answer-loop-argument g l =
       below : parts_bound parts ≤ l.fn.call.number;
       sound : Sound l.scope (λ signature args. AreTypedArguments signature args kinds) calls_in_arguments left;
       typed : map kind_of_term given ++ kinds ≡ params_of (F.signature (name_of call));
-      means : Clear l.scope
-          → computed.arguments F (top_of l.scope) (arguments_of call) (params_of (F.signature (name_of call))) (view l.value)
+      means : computed.arguments F (top_of l.scope) (arguments_of call) (params_of (F.signature (name_of call))) (view l.value)
           ≡ given ++ computed.arguments F (top_of l.scope) left kinds (view l.value);
     }

@@ -7,7 +7,7 @@ use Rattle.serde_json_path_functions.specs.Functions.{Kind, of_value, of_nodes, 
 use Rattle.serde_json_path_core.specs.Compared.{Compared, literal_compared, value_compared}
 use Rattle.serde_json_path_core.specs.Meaning.{first_value, params_of}
 use Rattle.serde_json_path_syntax.specs.Typing.{result_kind, IsTypedComparable, IsTypedCall, AreTypedArguments, IsTypedArgument}
-use Rattle.serde_json_path_core.specs.Computed.{results, compared, answer, arguments, argument_as, answer_compared}
+use Rattle.serde_json_path_core.specs.Inside.Computed.{results, compared, answer, arguments, argument_as, answer_compared}
 
 module _ (F : FunctionSet) (top : Data) (keeps : KeepsTypes F) where
   mutual

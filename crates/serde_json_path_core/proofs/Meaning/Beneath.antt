@@ -5,8 +5,8 @@ use Rattle.serde_json.specs.Data.{Data}
 use Rattle.serde_json_path_nodes.specs.Location.{Located}
 use Rattle.serde_json_path_syntax.specs.Tree.{Segments}
 use Rattle.serde_json_path_functions.specs.Functions.{FunctionSet}
-use Rattle.serde_json_path_core.specs.Selected.{beneath}
-use Rattle.serde_json_path_core.specs.Computed.{itself, results_from}
+use Rattle.serde_json_path_core.specs.Derivation.{beneath}
+use Rattle.serde_json_path_core.specs.Inside.Computed.{itself, results_from}
 use Rattle.serde_json_path_core.proofs.Meaning.DerivationEnds.{node_at, ends, results-ends}
 
 module _ (F : FunctionSet) (top : Data) where

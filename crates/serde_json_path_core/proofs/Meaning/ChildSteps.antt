@@ -12,8 +12,8 @@ use Rattle.serde_json.proofs.Views.{get_member-put, get_member-put_other}
 use Rattle.serde_json_path_nodes.specs.Location.{Step, by_name, by_position, child_at, StepBefore}
 use Rattle.serde_json_path_syntax.specs.Lists.{IsIn, IsInOrder}
 use Rattle.serde_json_path_core.specs.Meaning.{SelectsIndex, IsPositionOf}
-use Rattle.serde_json_path_core.specs.Selected.{child_by, item_at}
-use Rattle.serde_json_path_core.specs.Computed.{children, items_from, members_all, in_order}
+use Rattle.serde_json_path_core.specs.Inside.Selected.{child_by, item_at}
+use Rattle.serde_json_path_core.specs.Inside.Computed.{children, items_from, members_all, in_order}
 use Rattle.serde_json_path_syntax.proofs.Lists.InLists.{in_option}
 use Rattle.std.specs.Prelude.{◌<ℤ◌, ◌+ℤ◌, nat_lt, if◌then◌else◌}
 use Rattle.std.proofs.lemmas.Int.{ints}

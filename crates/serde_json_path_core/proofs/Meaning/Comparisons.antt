@@ -12,7 +12,7 @@ use Rattle.serde_json.specs.Data.{Data, null, boolean, number, string, array, ob
 use Rattle.serde_json.specs.Find.{as_integer}
 use Rattle.serde_json_path_syntax.specs.Tree.{Operator, equal, not_equal, less, less_or_equal, greater, greater_or_equal}
 use Rattle.serde_json_path_core.specs.Compared.{Compared, nothing, value, billionths, amount_of, AreEqualAmounts, AreRisingAmounts, EqualData, EqualItems, EqualMembers, AreEqual, IsLess, Compares}
-use Rattle.serde_json_path_core.specs.Computed.{same_amount, rising_amount, same_data, same_items, same_members, is_same, comes_before, compare}
+use Rattle.serde_json_path_core.specs.Inside.Computed.{same_amount, rising_amount, same_data, same_items, same_members, is_same, comes_before, compare}
 use Rattle.serde_json_path_syntax.proofs.Lists.Deciding.{always, never}
 
 Decides-int_lt : (a b : ℤ) → Decides (int_lt a b) (a <ℤ b)

@@ -6,10 +6,10 @@ use Rattle.serde_json.specs.Data.{Data}
 use Rattle.serde_json_path_nodes.specs.Location.{Step, by_name, Located, StepBefore, DescentBefore}
 use Rattle.serde_json_path_syntax.specs.Tree.{SegmentKind, child, descendant, Segments, no_segments, segment, Segment, dot_name, dot_wildcard, long_hand, Selectors, no_selectors, selector, Selector, name, wildcard, index, slice, filter}
 use Rattle.serde_json_path_functions.specs.Functions.{FunctionSet}
-use Rattle.serde_json_path_core.specs.Derivation.{Triple, location_of, SelectedBefore, SelectedBeforeBy, TripleBefore, Before}
+use Rattle.serde_json_path_core.specs.Derivation.{Triple, location_of, SelectedBefore, SelectedBeforeBy, TripleBefore, Before, beneath}
 use Rattle.serde_json_path_syntax.specs.Lists.{IsIn, IsInOrder}
-use Rattle.serde_json_path_core.specs.Selected.{child_by, item_at, beneath}
-use Rattle.serde_json_path_core.specs.Computed.{itself, children, descents, reached, placed, results_from, chosen, chosen_by, selected, is_true}
+use Rattle.serde_json_path_core.specs.Inside.Selected.{child_by, item_at}
+use Rattle.serde_json_path_core.specs.Inside.Computed.{itself, children, descents, reached, placed, results_from, chosen, chosen_by, selected, is_true}
 use Rattle.serde_json_path_syntax.proofs.Lists.InLists.{in_append, in_map, weaker, in_order-append, in_order-map, in_order-flat_map, in_order-keep, in_order-option, flat_map-same, flat_map-flat_map, map-flat_map}
 use Rattle.serde_json_path_core.proofs.Meaning.ChildSteps.{children_ordered}
 use Rattle.serde_json_path_core.proofs.Meaning.Descents.{descents_ordered}

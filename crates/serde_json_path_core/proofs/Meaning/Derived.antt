@@ -13,8 +13,8 @@ use Rattle.serde_json_path_core.specs.Derivation.{Triple, location_of, start_of,
 use Rattle.serde_json_path_syntax.specs.Lists.{IsIn}
 use Rattle.serde_json_path_core.specs.Meaning.{MayDescend, Derives, AdmitsIn, AdmitsBy, Admits, Holds, HoldsAll, HoldsBasic, Exists, IsResult, IsComparedAs, Answers, AreArguments, IsArgument, AnswersYes, IsTruthOf, first_value, params_of}
 use Rattle.serde_json_path_syntax.specs.Typing.{IsTyped, AreTypedSegments, IsTypedSegment, AreTypedSelectors, IsTypedSelector, IsTypedOr, IsTypedAnd, IsTypedBasic, IsTypedComparable, IsTypedCall, AreTypedArguments, IsTypedArgument}
-use Rattle.serde_json_path_core.specs.Selected.{child_by}
-use Rattle.serde_json_path_core.specs.Computed.{itself, children, results, selected, is_true, all_true, basic_true, compare_sides, compared, answer, arguments, argument_as, answer_holds, answer_compared, is_nonempty}
+use Rattle.serde_json_path_core.specs.Inside.Selected.{child_by}
+use Rattle.serde_json_path_core.specs.Inside.Computed.{itself, children, results, selected, is_true, all_true, basic_true, compare_sides, compared, answer, arguments, argument_as, answer_holds, answer_compared, is_nonempty}
 use Rattle.serde_json_path_syntax.proofs.Lists.InLists.{in_append, in_map, map_in, in_flat_map, in_keep, in_order-map}
 use Rattle.serde_json_path_core.proofs.Meaning.ChildSteps.{in_children, in_child_by, in_item_at}
 use Rattle.serde_json_path_core.proofs.Meaning.Comparisons.{Decides-compare}
@@ -40,7 +40,7 @@ at-append v (s ∷ ls) ms = by (child_at v s) (λ c. at-append c ls ms)
     by (Some c) later = later c
 
 -- what stands below a child of a value below v
-at_below : (v : Data) (down : List Step) (d : Data) (s : Step) (c : Data) (rest : List Step)
+pub at_below : (v : Data) (down : List Step) (d : Data) (s : Step) (c : Data) (rest : List Step)
     → at v down ≡ Some d → child_at d s ≡ Some c → at v ((down ++ s ∷ []) ++ rest) ≡ at c rest
 at_below v down d s c rest p q =
     ap (at v) (append_assoc down (s ∷ []) rest) ∙ at-append v down (s ∷ rest) ∙ ap (option_and_then (λ x. at x (s ∷ rest))) p

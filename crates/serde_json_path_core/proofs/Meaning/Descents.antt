@@ -8,8 +8,8 @@ use Rattle.serde_json.specs.Data.{Data, null, boolean, number, string, array, ob
 use Rattle.serde_json.specs.Find.{get_item, get_member}
 use Rattle.serde_json_path_nodes.specs.Location.{Step, by_name, by_position, child_at, at, Located, StepBefore, DescentBefore}
 use Rattle.serde_json_path_syntax.specs.Lists.{IsIn, IsInOrder}
-use Rattle.serde_json_path_core.specs.Selected.{beneath}
-use Rattle.serde_json_path_core.specs.Computed.{children, items_from, members_all, in_order, itself, below_member, descents, items_descents, members_descents}
+use Rattle.serde_json_path_core.specs.Derivation.{beneath}
+use Rattle.serde_json_path_core.specs.Inside.Computed.{children, items_from, members_all, in_order, itself, below_member, descents, items_descents, members_descents}
 use Rattle.serde_json_path_syntax.proofs.Lists.InLists.{in_map, map_in, in_flat_map, weaker, in_order-map, in_order-flat_map}
 use Rattle.serde_json_path_core.proofs.Meaning.ChildSteps.{in_children, children_ordered}
 

@@ -46,7 +46,7 @@ selected_once_in (dot_name k) n s t h g = step_once s t h g
 selected_once_in dot_wildcard n s t h g = step_once s t h g
 selected_once_in (long_hand sels) n s t h g = selected_once_by sels n s t h g
 
-triple_once : (seg : Segment) (x y : Triple) → TripleBefore seg x y → TripleBefore seg y x → ⊥
+pub triple_once : (seg : Segment) (x y : Triple) → TripleBefore seg x y → TripleBefore seg y x → ⊥
 triple_once seg x y (inl h) (inl g) = descent_once x.descent y.descent h g
 triple_once seg x y (inl h) (inr g) = let k = subst (DescentBefore x.descent) g.0 h in descent_once x.descent x.descent k k
 triple_once seg x y (inr h) (inl g) = let k = subst (DescentBefore y.descent) h.0 g in descent_once y.descent y.descent k k

@@ -15,7 +15,7 @@ use Rattle.serde_json_path_core.specs.Slices.{step_of, from_end, bound_of, Selec
 use Rattle.serde_json_path_syntax.specs.Lists.{IsIn, IsInOrder}
 use Rattle.serde_json_path_core.specs.Derivation.{SelectedBefore}
 use Rattle.serde_json_path_core.specs.Meaning.{IsPositionOf}
-use Rattle.serde_json_path_core.specs.Computed.{SlicePositions, count_within, strided, rising, falling, positions_by, sliced, next_position}
+use Rattle.serde_json_path_core.specs.Inside.Computed.{SlicePositions, count_within, strided, rising, falling, positions_by, sliced, next_position}
 
 -- ---- items at positions
 

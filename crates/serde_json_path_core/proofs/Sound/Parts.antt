@@ -4,10 +4,10 @@ use Rattle.std.proofs.lemmas.Option.{none-some, same_Some}
 use Rattle.serde_json_path_syntax.specs.Tree.{Query, query, Segments, segments_of, Segment, dot_name, dot_wildcard, long_hand, Selectors, no_selectors, selector, Selector, name, wildcard, Operator, LogicalOr, no_or, or, no_and, and, Basic, relation, Comparable, Call, call}
 use Rattle.serde_json_path_functions.specs.Functions.{FunctionSet, Signature, Kind, Fits}
 use Rattle.serde_json_path_syntax.specs.Typing.{IsTyped, AreTypedSegments, IsTypedSegment, AreTypedSelectors, IsTypedSelector, IsTypedOr, IsTypedAnd, IsTypedBasic, IsTypedComparable, IsTypedCall, AreTypedArguments}
-use Rattle.serde_json_path_syntax.specs.Calls.{EachCall, arguments_of, calls_of, calls_in_segments, calls_in_segment, calls_in_selectors, calls_in_selector, calls_in_or, calls_in_and, calls_in_basic, calls_in_comparable, calls_from, calls_in_arguments, calls_in_argument, name_of}
+use Rattle.serde_json_path_syntax.specs.Calls.{arguments_of, calls_of, calls_in_segments, calls_in_segment, calls_in_selectors, calls_in_selector, calls_in_or, calls_in_and, calls_in_basic, calls_in_comparable, calls_from, calls_in_arguments, calls_in_argument, name_of}
 use Rattle.serde_json_path_syntax.specs.Lists.{IsIn}
 use Rattle.serde_json_path_syntax.specs.PartBounds.{parts_bound}
-use Rattle.serde_json_path_core.specs.Rest.{EndsIn}
+use Rattle.serde_json_path_core.specs.Inside.Rest.{EndsIn}
 use Rattle.serde_json_path_syntax.specs.Piece.{Piece}
 use Rattle.serde_json_path_syntax.specs.Flat.{argument_in, arguments_in, piece_in, pieces_named, segment_in, segments_in, and_in, ors_in, basic_in, ands_in}
 use Rattle.serde_json_path_syntax.specs.Stages.{selectors_list, selectors_of}
@@ -16,7 +16,7 @@ use Rattle.serde_json_path_core.specs.Meaning.{params_of}
 use Rattle.std.proofs.Math.Logic.{∥∥₁_elim}
 use mathlib.Core.List.{is_set}
 use mathlib.Core.Sum.{⊎_set}
-use Rattle.serde_json_path_core.specs.Sound.{AreCallsOf, IsSound}
+use Rattle.serde_json_path_core.specs.Inside.Sound.{AreCallsOf, IsSound}
 use Rattle.serde_json_path_syntax.specs.declared.node.Part.{Part}
 
 -- ---- calls of the query
@@ -29,10 +29,10 @@ pub all-calls : (q : Query) → AreCallsOf q (calls_of q)
 unfolding AreCallsOf
 all-calls q = λ c i. i
 
--- what holds of each call of the query holds of a call whose calls are calls of it
-pub of-call : (Fact : Call → Type 0) (q : Query) (c : Call) → AreCallsOf q (calls_from c) → EachCall Fact q → Fact c
+-- a call whose calls are calls of the query is one itself
+pub own-call : (q : Query) (c : Call) → AreCallsOf q (calls_from c) → IsIn c (calls_of q)
 unfolding AreCallsOf
-of-call Fact q c each facts = facts c (each c (in_from c))
+own-call q c each = each c (in_from c)
 
 -- those in its arguments are, too
 pub argument-calls : (q : Query) (c : Call) → AreCallsOf q (calls_from c) → AreCallsOf q (calls_in_arguments (arguments_of c))

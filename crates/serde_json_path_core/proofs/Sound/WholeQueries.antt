@@ -6,7 +6,7 @@ use Rattle.serde_json_path_functions.specs.Functions.{Signature, FunctionSet, Fi
 use Rattle.serde_json_path_syntax.specs.Used.{signature_in}
 use Rattle.serde_json_path_syntax.specs.Typing.{IsTyped}
 use Rattle.serde_json_path_syntax.specs.Calls.{calls_of}
-use Rattle.serde_json_path_core.specs.Sound.{IsSound}
+use Rattle.serde_json_path_core.specs.Inside.Sound.{IsSound}
 use Rattle.serde_json_path_core.proofs.Sound.Parts.{all-calls}
 use Rattle.serde_json_path_syntax.proofs.Typing.Typings.{typed_recovered}
 use Rattle.std.proofs.lemmas.Option.{none-some}

@@ -1,5 +1,5 @@
--- A call of a set answers what is computed, where the meaning is promised.
-use Rattle.std.proofs.Common.{◌≡◌, ◌⊎◌, ℕ, List, [], ◌∷◌, ◌++◌, length, map, inl, inr, Result, Ok, Err, IfOk, IsNone, refl, sym, ap, subst, ◌∙◌}
+-- A call of a set answers what is computed, and is refused for its pattern only where it goes by one.
+use Rattle.std.proofs.Common.{◌≡◌, ◌⊎◌, ℕ, List, [], ◌∷◌, ◌++◌, length, map, inl, inr, Result, Ok, Err, IfOk, IfErr, refl, sym, ap, subst, ◌∙◌}
 use Rattle.std.proofs.lemmas.List.{append-nil}
 use Rattle.serde_json.specs.Data.{Data}
 use Rattle.serde_json_path_syntax.specs.Tree.{Query, Call, call, Arguments}
@@ -7,17 +7,19 @@ use Rattle.serde_json_path_functions.specs.Functions.{Term, FunctionSet}
 use Rattle.serde_json_path_functions.specs.Terms.{kind_view, term_view}
 use Rattle.serde_json_path_core.specs.Meaning.{params_of}
 use Rattle.serde_json_path_syntax.specs.Typing.{IsTypedCall, AreTypedArguments}
-use Rattle.serde_json_path_functions.specs.Patterns.{IsPromised}
-use Rattle.serde_json_path_core.specs.Clear.{GoesWithoutPattern, StandsIn, IsClear, IsClearCall}
-use Rattle.serde_json_path_core.specs.Sound.{AreCallsOf, IsSound}
-use Rattle.serde_json_path_syntax.specs.Calls.{EachCall, arguments_of, calls_from, name_of}
-use Rattle.serde_json_path_core.specs.Computed.{answer, arguments}
+use Rattle.serde_json_path_functions.specs.Patterns.{MayRefuse}
+use Rattle.serde_json_path_core.specs.PatternCalls.{CallsByPattern, StandsIn}
+use Rattle.serde_json_path_core.specs.Inside.Sound.{IsSound}
+use Rattle.serde_json_path_syntax.specs.Calls.{arguments_of, calls_from, name_of}
+use Rattle.serde_json_path_core.specs.Inside.Computed.{answer, arguments}
 use Rattle.serde_json_path_syntax.specs.Piece.{Piece}
 use Rattle.serde_json_path_syntax.specs.Flat.{arguments_in, pieces_named}
 use Rattle.serde_json_path_syntax.specs.declared.node.Part.{Part}
+use Rattle.serde_json_path_functions.specs.declared.error.QueryError.{QueryError}
+use Rattle.serde_json_path_functions.specs.declared.error.QueryError.TheVariants.{Pattern}
 use Rattle.serde_json_path_functions.specs.declared.types.FunctionArgType.{FunctionArgType}
 use Rattle.serde_json_path_functions.specs.declared.types.FunctionValue.{FunctionValue}
-use Rattle.serde_json_path_core.proofs.Sound.Parts.{of-call}
+use Rattle.serde_json_path_core.proofs.Sound.Parts.{own-call}
 use Rattle.serde_json_path_core.proofs.Meaning.Derived.{arguments_right}
 
 module _ (F : FunctionSet) (top : Data) where
@@ -34,22 +36,24 @@ module _ (F : FunctionSet) (top : Data) where
       → all ≡ given ++ arguments F top (arguments_in (pieces_named ps parts)) (map kind_view kinds) v → given ≡ all
   given-all ps parts kinds v given all h e = sym (e ∙ ap (λ more. given ++ more) (none-left ps parts kinds v h) ∙ append-nil given)
 
-  promised : (f : List ℕ) (args : Arguments) (v : Data) → IsTypedCall F.signature (call f args) → IsClearCall F top (call f args) → StandsIn top v
-      → IsPromised (F.by_regex f) (arguments F top args (params_of (F.signature f)) v)
-  promised f args v typed clear stands =
-      let given = arguments F top args (params_of (F.signature f)) v in
-      clear v stands given ((arguments_right F top args (params_of (F.signature f)) (subst (AreTypedArguments F.signature args) (sym (ap params_of typed.1)) typed.2) v given).1 refl)
+  pub answered : {E : Type 0} (c : Call) (name : List ℕ) (v : Data) (given : List Term) (r : Result FunctionValue E) → name ≡ name_of c
+      → given ≡ arguments F top (arguments_of c) (params_of (F.signature (name_of c))) v
+      → IfOk r (λ a. term_view a ≡ F.meaning name given) → IfOk r (λ a. term_view a ≡ answer F top c v)
+  answered (call f args) name v given (Ok a) e is means = means ∙ ap (λ n. F.meaning n given) e ∙ ap (F.meaning f) is
+  answered (call f args) name v given (Err x) e is means = tt
 
-  pub answered : {E : Type 0} (q : Query) (c : Call) (name : List ℕ) (v : Data) (given : List Term) (r : Result FunctionValue E) → name ≡ name_of c
-      → IsSound F q IsTypedCall calls_from c → StandsIn top v
-      → (IsClear F q top → given ≡ arguments F top (arguments_of c) (params_of (F.signature (name_of c))) v)
-      → IfOk r (λ a. IsPromised (F.by_regex name) given → term_view a ≡ F.meaning name given) → IfOk r (λ a. IsClear F q top → term_view a ≡ answer F top c v)
-  answered q (call f args) name v given (Ok a) e sound stands is means = λ clear.
-      subst (λ ts. IsPromised (F.by_regex f) ts → term_view a ≡ F.meaning f ts) (is clear)
-      (subst (λ n. IsPromised (F.by_regex n) given → term_view a ≡ F.meaning n given) e means)
-      (promised f args v sound.0 (of-call (IsClearCall F top) q (call f args) sound.1 clear) stands)
-  answered q (call f args) name v given (Err x) e sound stands is means = tt
+  -- a call that is refused for its pattern goes by one
+  pub by_pattern : (q : Query) (c : Call) (name : List ℕ) (v : Data) (given : List Term) → name ≡ name_of c → IsSound F q IsTypedCall calls_from c → StandsIn top v
+      → given ≡ arguments F top (arguments_of c) (params_of (F.signature (name_of c))) v → MayRefuse (F.by_regex name) given → CallsByPattern F top q
+  by_pattern q (call f args) name v given e sound stands is may =
+      let kinds = params_of (F.signature f) in
+      let typed = subst (AreTypedArguments F.signature args) (sym (ap params_of sound.0.1)) sound.0.2 in (
+        call f args,
+        own-call q (call f args) sound.1,
+        (v, stands, (given, (arguments_right F top args kinds typed v given).1 is, subst (λ n. MayRefuse (F.by_regex n) given) e may)),
+      )
 
--- where no call of the query goes by `regex`, the name of none does
-pub own_pattern : (F : FunctionSet) (q : Query) (c : Call) → AreCallsOf q (calls_from c) → EachCall (GoesWithoutPattern F) q → IsNone (F.by_regex (name_of c))
-own_pattern F q (call f args) each none = of-call (GoesWithoutPattern F) q (call f args) each none
+-- an error that a call hands on
+pub if_refused : {A P Q : Type 0} (r : Result A QueryError) → (P → Q) → (r ≡ Err Pattern → P) → IfErr r (λ e. e ≡ Pattern → Q)
+if_refused (Ok a) then h = tt
+if_refused (Err e) then h = λ is. then (h (ap Err is))

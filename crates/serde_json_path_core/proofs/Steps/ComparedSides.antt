@@ -6,8 +6,8 @@ use Rattle.std.proofs.lemmas.Int.{ints}
 use Rattle.serde_json.specs.Data.{Data, null, boolean, number, string, array, object}
 use Rattle.serde_json.specs.Find.{as_integer}
 use Rattle.serde_json_path_core.specs.Compared.{Compared, nothing, value, billionths}
-use Rattle.serde_json_path_core.specs.Computed.{same_amount, rising_amount, same_data, is_same, comes_before}
-use Rattle.serde_json_path_core.specs.Sides.{Seen, seen_data, seen_of, same_seen, less_seen}
+use Rattle.serde_json_path_core.specs.Inside.Computed.{same_amount, rising_amount, same_data, is_same, comes_before}
+use Rattle.serde_json_path_core.specs.Inside.Sides.{Seen, seen_data, seen_of, same_seen, less_seen}
 
 -- two whole numbers are equal where their billionths are
 int_eq-billionths : (a b : ℤ) → int_eq a b ≡ int_eq (a *ℤ pos 1000000000) (b *ℤ pos 1000000000)

@@ -5,7 +5,7 @@ use Rattle.std.specs.List.Sorted.{IsStrictlySortedBy}
 use Rattle.std.specs.Map.{keys_of}
 use Rattle.serde_json.specs.View.{members_view}
 use Rattle.serde_json.proofs.Views.{Entry}
-use Rattle.serde_json_path_core.specs.Computed.{in_order}
+use Rattle.serde_json_path_core.specs.Inside.Computed.{in_order}
 use Rattle.serde_json_path_core.proofs.Meaning.ChildSteps.{IsBelow, AreRising, in_order-rising}
 
 below_keys : (key : String Global) (entries : List Entry) → AllByRecursion (λ k. string_cmp key k ≡ Less) (keys_of entries) → IsBelow (string_bytes key) (members_view entries)

@@ -11,7 +11,7 @@ use Rattle.serde_json.proofs.Views.{get_item_within, get_item_past}
 use Rattle.serde_json_path_nodes.specs.Location.{by_position}
 use Rattle.serde_json_path_syntax.specs.Tree.{Slice}
 use Rattle.serde_json_path_core.specs.Slices.{bound_of}
-use Rattle.serde_json_path_core.specs.Computed.{SlicePositions, items_from, count_within, strided, falling, next_position}
+use Rattle.serde_json_path_core.specs.Inside.Computed.{SlicePositions, items_from, count_within, strided, falling, next_position}
 use Rattle.serde_json_path_core.proofs.Meaning.SlicePositions.{next_strided}
 
 -- ---- the positions of a slice

@@ -2,11 +2,10 @@
 use Rattle.std.proofs.Common.{◌≡◌, ◌+◌, ◌≤◌, List, [], ◌∷◌, ◌++◌, length, Some, None, sym, ap, subst, ◌∙◌, arith}
 use Rattle.serde_json.specs.Data.{Data}
 use Rattle.serde_json_path_nodes.specs.Location.{Step, child_at}
-use Rattle.serde_json_path_core.specs.Height.{height}
 use Rattle.serde_json_path_syntax.specs.Stages.{Stage}
-use Rattle.serde_json_path_core.specs.Rest.{AreChildrenOf, Frame, begun, IsOfValue, IsChain, IsStack}
-use Rattle.serde_json_path_core.specs.Advances.{IsSameFrame}
-use Rattle.serde_json_path_core.proofs.Walks.Heights.{height-child_at}
+use Rattle.serde_json_path_core.specs.Inside.Rest.{AreChildrenOf, Frame, begun, IsOfValue, IsChain, IsStack}
+use Rattle.serde_json_path_core.specs.Inside.Advances.{IsSameFrame}
+use Rattle.serde_json_path_core.proofs.Walks.Heights.{height, height-child_at}
 use Rattle.serde_json_path_core.proofs.Walks.FrameSteps.{opened-of}
 
 pub begun-of : (all : List Stage) (v : Data) → AreChildrenOf v (begun all v)

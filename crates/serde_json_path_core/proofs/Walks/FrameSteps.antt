@@ -5,8 +5,8 @@ use Rattle.serde_json_path_nodes.specs.Location.{Step, child_at}
 use Rattle.serde_json_path_functions.specs.Functions.{FunctionSet}
 use Rattle.serde_json_path_syntax.specs.Tree.{SegmentKind, child, descendant, Selector, name, wildcard, index, slice, filter}
 use Rattle.serde_json_path_syntax.specs.Stages.{Stage}
-use Rattle.serde_json_path_core.specs.Rest.{AreChildrenOf, Frame, candidates, admitted, unfiltered, opened, tasks, EndsIn}
-use Rattle.serde_json_path_core.specs.Advances.{Skips, IsAtAdmitted, Passes, IsDone, IsAtTask}
+use Rattle.serde_json_path_core.specs.Inside.Rest.{AreChildrenOf, Frame, candidates, admitted, unfiltered, opened, tasks, EndsIn}
+use Rattle.serde_json_path_core.specs.Inside.Advances.{Skips, IsAtAdmitted, Passes, IsDone, IsAtTask}
 use Rattle.serde_json_path_core.proofs.Meaning.ChildSteps.{in_children, in_child_by, in_item_at}
 use Rattle.serde_json_path_core.proofs.Meaning.SlicePositions.{in_sliced}
 use Rattle.serde_json_path_nodes.specs.Location.{by_name}
@@ -49,60 +49,60 @@ opened-of descendant [] v = candidates-of wildcard v
 abbrev pub at_selector : Frame → ℕ → List (Step × Data) → Frame
 at_selector p number left = record { step = p.step; value = p.value; segment = p.segment; selector = number; left = left }
 
-module _ (Clear : Type 0) (F : FunctionSet) (top : Data) (stage : Stage) where
+module _ (F : FunctionSet) (top : Data) (stage : Stage) where
   -- the selector at work admits no more of them, and the next one begins
-  pub passes-over : (old mid : Frame) (sel : Selector) (left : List (Step × Data)) → Passes Clear F top stage old mid
-      → drop mid.selector stage.selectors ≡ sel ∷ drop (mid.selector + 1) stage.selectors → (Clear → admitted F top sel mid.left ≡ [])
+  pub passes-over : (old mid : Frame) (sel : Selector) (left : List (Step × Data)) → Passes F top stage old mid
+      → drop mid.selector stage.selectors ≡ sel ∷ drop (mid.selector + 1) stage.selectors → (admitted F top sel mid.left ≡ [])
       → left ≡ opened stage.kind (drop (mid.selector + 1) stage.selectors) mid.value
-      → Passes Clear F top stage old (at_selector mid (mid.selector + 1) left)
+      → Passes F top stage old (at_selector mid (mid.selector + 1) left)
   passes-over old mid sel left before here none is =
       let more = drop (mid.selector + 1) stage.selectors in (
         (before.0.0, before.0.1, before.0.2, λ h. subst (AreChildrenOf mid.value) (sym is) (opened-of stage.kind more mid.value)),
-        λ clear. before.1 clear ∙ turns_over (admitted F top) mid.segment stage.kind mid.value (drop mid.selector stage.selectors) sel more mid.left left here is
-            ∙ ap (λ cs. map (onward (admitted F top) mid.segment stage.kind mid.value) cs ++ tasks (admitted F top) mid.segment stage.kind more left mid.value) (none clear),
+        before.1 ∙ turns_over (admitted F top) mid.segment stage.kind mid.value (drop mid.selector stage.selectors) sel more mid.left left here is
+            ∙ ap (λ cs. map (onward (admitted F top) mid.segment stage.kind mid.value) cs ++ tasks (admitted F top) mid.segment stage.kind more left mid.value) none,
         ends-trans _ _ _ before.2
             (map (onward unfiltered mid.segment stage.kind mid.value) mid.left, turns_over unfiltered mid.segment stage.kind mid.value (drop mid.selector stage.selectors) sel more mid.left left here is),
       )
 
   -- the selector at work passes some children that it does not admit
-  pub passes-skipped : (old mid : Frame) (sel : Selector) (more : List Selector) (left : List (Step × Data)) → Passes Clear F top stage old mid
-      → drop mid.selector stage.selectors ≡ sel ∷ more → Skips Clear F top sel mid.left left → Passes Clear F top stage old (at_selector mid mid.selector left)
+  pub passes-skipped : (old mid : Frame) (sel : Selector) (more : List Selector) (left : List (Step × Data)) → Passes F top stage old mid
+      → drop mid.selector stage.selectors ≡ sel ∷ more → Skips F top sel mid.left left → Passes F top stage old (at_selector mid mid.selector left)
   passes-skipped old mid sel more left before here skips = (
     (before.0.0, before.0.1, before.0.2, λ h. end-of mid.value skips.1.0 left (subst (AreChildrenOf mid.value) skips.1.1 (before.0.3 h))),
-    λ clear. before.1 clear ∙ skips_over (admitted F top) mid.segment stage.kind mid.value (drop mid.selector stage.selectors) sel more mid.left left [] here (skips.0 clear),
+    before.1 ∙ skips_over (admitted F top) mid.segment stage.kind mid.value (drop mid.selector stage.selectors) sel more mid.left left [] here skips.0,
     ends-trans _ _ _ before.2
         (map (onward unfiltered mid.segment stage.kind mid.value) skips.1.0, skips_over unfiltered mid.segment stage.kind mid.value (drop mid.selector stage.selectors) sel more mid.left left skips.1.0 here skips.1.1),
   )
 
   -- the first child that is left is one that the selector at work admits
   pub at-onward : (p : Frame) (sel : Selector) (more : List Selector) (c : Step × Data)
-      → drop p.selector stage.selectors ≡ sel ∷ more → IsAtAdmitted Clear F top sel p.left (Some c) → IsAtTask Clear F top stage p (Some (p.segment + 1, c))
+      → drop p.selector stage.selectors ≡ sel ∷ more → IsAtAdmitted F top sel p.left (Some c) → IsAtTask F top stage p (Some (p.segment + 1, c))
   at-onward p sel more c here at = (
     (refl, refl, refl, λ h. end-of p.value (c ∷ []) (drop 1 p.left) (subst (AreChildrenOf p.value) at.0 h)),
-    λ clear. gives_child (admitted F top) p.segment stage.kind p.value (drop p.selector stage.selectors) sel more p.left (drop 1 p.left) [] c here (at.1 clear),
+    gives_child (admitted F top) p.segment stage.kind p.value (drop p.selector stage.selectors) sel more p.left (drop 1 p.left) [] c here at.1,
     ([], gives_child unfiltered p.segment stage.kind p.value (drop p.selector stage.selectors) sel more p.left (drop 1 p.left) [] c here at.0),
     λ h. first-of p.value c (drop 1 p.left) (subst (AreChildrenOf p.value) at.0 h),
   )
 
   -- after the last selector, the first child that is left is one to go down to
   pub at-downward : (p : Frame) (c : Step × Data) → drop p.selector stage.selectors ≡ [] → stage.kind ≡ descendant → p.left ≡ c ∷ drop 1 p.left
-      → IsAtTask Clear F top stage p (Some (p.segment, c))
+      → IsAtTask F top stage p (Some (p.segment, c))
   at-downward p c here kind is = (
     (refl, refl, refl, λ h. end-of p.value (c ∷ []) (drop 1 p.left) (subst (AreChildrenOf p.value) is h)),
-    λ clear. goes_down (admitted F top) p.segment stage.kind p.value (drop p.selector stage.selectors) p.left (drop 1 p.left) c kind here is,
+    goes_down (admitted F top) p.segment stage.kind p.value (drop p.selector stage.selectors) p.left (drop 1 p.left) c kind here is,
     ([], goes_down unfiltered p.segment stage.kind p.value (drop p.selector stage.selectors) p.left (drop 1 p.left) c kind here is),
     λ h. first-of p.value c (drop 1 p.left) (subst (AreChildrenOf p.value) is h),
   )
 
   -- after the last selector there is nothing left to go down to
-  pub done : (p : Frame) → drop p.selector stage.selectors ≡ [] → (stage.kind ≡ descendant → p.left ≡ []) → IsDone Clear F top stage p
-  done p here none = λ clear. is_done (admitted F top) p.segment stage.kind p.value (drop p.selector stage.selectors) p.left here none
+  pub done : (p : Frame) → drop p.selector stage.selectors ≡ [] → (stage.kind ≡ descendant → p.left ≡ []) → IsDone F top stage p
+  done p here none = is_done (admitted F top) p.segment stage.kind p.value (drop p.selector stage.selectors) p.left here none
 
   -- what a look for the next child says where there is none, and where there is one
-  pub at-none : {A : Type 0} (see : A → Step × Data) (sel : Selector) (left : List (Step × Data)) (found : Option A) → found ≡ None → IsAtAdmitted Clear F top sel left (option_map see found)
-      → Clear → admitted F top sel left ≡ []
-  at-none see sel left found e h = subst (λ o. IsAtAdmitted Clear F top sel left (option_map see o)) e h
+  pub at-none : {A : Type 0} (see : A → Step × Data) (sel : Selector) (left : List (Step × Data)) (found : Option A) → found ≡ None → IsAtAdmitted F top sel left (option_map see found)
+      → admitted F top sel left ≡ []
+  at-none see sel left found e h = subst (λ o. IsAtAdmitted F top sel left (option_map see o)) e h
 
-  pub at-some : {A : Type 0} (see : A → Step × Data) (sel : Selector) (left : List (Step × Data)) (found : Option A) (c : A) → found ≡ Some c → IsAtAdmitted Clear F top sel left (option_map see found)
-      → IsAtAdmitted Clear F top sel left (Some (see c))
-  at-some see sel left found c e h = subst (λ o. IsAtAdmitted Clear F top sel left (option_map see o)) e h
+  pub at-some : {A : Type 0} (see : A → Step × Data) (sel : Selector) (left : List (Step × Data)) (found : Option A) (c : A) → found ≡ Some c → IsAtAdmitted F top sel left (option_map see found)
+      → IsAtAdmitted F top sel left (Some (see c))
+  at-some see sel left found c e h = subst (λ o. IsAtAdmitted F top sel left (option_map see o)) e h

@@ -6,8 +6,8 @@ use Rattle.serde_json_path_nodes.specs.Location.{Step, child_at, at}
 use Rattle.serde_json_path_syntax.specs.Tree.{QueryKind, root, current}
 use Rattle.serde_json_path_syntax.specs.Lists.{IsIn}
 use Rattle.serde_json_path_core.specs.Derivation.{start_of}
-use Rattle.serde_json_path_core.specs.Clear.{StandsIn}
-use Rattle.serde_json_path_core.specs.Rest.{AreChildrenOf, Frame, entered, EndsIn, IsChain, IsStack, IsStackIn, IsInside, AllStandIn}
+use Rattle.serde_json_path_core.specs.PatternCalls.{StandsIn}
+use Rattle.serde_json_path_core.specs.Inside.Rest.{AreChildrenOf, Frame, entered, EndsIn, IsChain, IsStack, IsStackIn, IsInside, AllStandIn}
 use Rattle.serde_json_path_syntax.specs.Stages.{Stage}
 use Rattle.serde_json_path_core.proofs.Walks.Chains.{stack-started}
 use Rattle.serde_json_path_core.proofs.Meaning.Derived.{at-append}

@@ -1,7 +1,7 @@
 -- The last of so many frames.
 use Rattle.std.proofs.Common.{◌≡◌, ℕ, ◌+◌, ◌-◌, ◌<◌, ◌≤◌, List, [], ◌∷◌, ◌++◌, map, take, set, length, get_or, refl, ap, ◌∙◌, sym, arith, append_assoc}
-use Rattle.serde_json_path_core.specs.Frames.{frame_view, frames_view}
-use Rattle.serde_json_path_core.specs.Rest.{Frame, last_passed, passed}
+use Rattle.serde_json_path_core.specs.Inside.Frames.{frame_view, frames_view}
+use Rattle.serde_json_path_core.specs.Inside.Rest.{Frame, last_passed, passed}
 use Rattle.serde_json_path_core.specs.declared.evaluation.frame.Frame as declared
 use Rattle.std.proofs.lemmas.List.{get_or_append_left, take-append-drop, drop_more, drop_all, set_at, length-take, map-append}
 

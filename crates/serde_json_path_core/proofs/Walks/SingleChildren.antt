@@ -17,15 +17,14 @@ use Rattle.serde_json_path_syntax.specs.Flat.{piece_at, segment_in, segment_kind
 use Rattle.serde_json_path_syntax.specs.declared.node.Node.{Node}
 use Rattle.serde_json_path_syntax.specs.declared.node.Part.{Part}
 use Rattle.serde_json_path_syntax.proofs.Lists.InLists.{flat_map-same, map-flat_map}
-use Rattle.serde_json_path_core.specs.Computed.{chosen, descents, itself, placed, reached, results, results_from}
-use Rattle.serde_json_path_core.specs.Derivation.{start_of}
+use Rattle.serde_json_path_core.specs.Inside.Computed.{chosen, descents, itself, placed, reached, results, results_from}
+use Rattle.serde_json_path_core.specs.Derivation.{start_of, beneath}
 use Rattle.serde_json_path_core.specs.Meaning.{first_value}
-use Rattle.serde_json_path_core.specs.Rest.{admitted, candidates, AreChildrenOf, EndsIn}
+use Rattle.serde_json_path_core.specs.Inside.Rest.{admitted, candidates, AreChildrenOf, EndsIn}
 use Rattle.serde_json_path_syntax.specs.Lists.{IsIn}
 use Rattle.serde_json_path_nodes.specs.Location.{child_at}
 use Rattle.serde_json_path_core.proofs.Walks.FrameSteps.{candidates-of}
-use Rattle.serde_json_path_core.specs.Selected.{beneath}
-use Rattle.serde_json_path_core.specs.SingleChildren.{SelectOnly, single_view, values_from}
+use Rattle.serde_json_path_core.specs.Inside.SingleChildren.{SelectOnly, single_view, values_from}
 use Rattle.serde_json_path_core.specs.declared.evaluation.single_children.SingleSelector.{SingleSelector}
 use Rattle.serde_json_path_core.specs.declared.evaluation.single_children.SingleSelector.TheVariants as single
 use Rattle.serde_json_path_core.proofs.Walks.Started.{chosen-list}

@@ -6,10 +6,10 @@ use Rattle.std.proofs.lemmas.List.Folds.{flat_map-map}
 use Rattle.serde_json.specs.Data.{Data, null as null_data, boolean, number as number_data, string, array, object}
 use Rattle.serde_json_path_nodes.specs.Location.{Step, Located}
 use Rattle.serde_json_path_syntax.specs.Tree.{SegmentKind, child, descendant, Selector, name, wildcard, index, slice, filter}
-use Rattle.serde_json_path_core.specs.Selected.{beneath}
-use Rattle.serde_json_path_core.specs.Computed.{children, descents, placed, reached}
+use Rattle.serde_json_path_core.specs.Derivation.{beneath}
+use Rattle.serde_json_path_core.specs.Inside.Computed.{children, descents, placed, reached}
 use Rattle.serde_json_path_syntax.specs.Stages.{Stage}
-use Rattle.serde_json_path_core.specs.Rest.{Frame, candidates, lower, entered, frame_tasks, is_leaf, here, stack_path, visit, visit_rest, visit_place, visit_stack, admitted, unfiltered, rest_of, work}
+use Rattle.serde_json_path_core.specs.Inside.Rest.{Frame, candidates, lower, entered, frame_tasks, is_leaf, here, stack_path, visit, visit_rest, visit_place, visit_stack, admitted, unfiltered, rest_of, work}
 use Rattle.serde_json_path_core.proofs.Meaning.Descents.{below_child, descents_are}
 use Rattle.serde_json_path_syntax.proofs.Lists.InLists.{flat_map-same, flat_map-flat_map}
 use Rattle.serde_json_path_core.proofs.Walks.Tasks.{next_opened}

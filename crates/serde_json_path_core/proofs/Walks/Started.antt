@@ -7,8 +7,8 @@ use Rattle.serde_json_path_nodes.specs.Location.{Located}
 use Rattle.serde_json_path_functions.specs.Functions.{FunctionSet}
 use Rattle.serde_json_path_syntax.specs.Tree.{Query, query, kind_of, segments_of, Segments, no_segments, segment, Segment, dot_name, dot_wildcard, long_hand, Selectors, no_selectors, selector, Selector, filter}
 use Rattle.serde_json_path_core.specs.Derivation.{start_of}
-use Rattle.serde_json_path_core.specs.Computed.{results, placed, reached, results_from, chosen, chosen_by, selected}
-use Rattle.serde_json_path_core.specs.Rest.{Frame, candidates, admitted, begun, entered, starting_frame, visit, rest_of}
+use Rattle.serde_json_path_core.specs.Inside.Computed.{results, placed, reached, results_from, chosen, chosen_by, selected}
+use Rattle.serde_json_path_core.specs.Inside.Rest.{Frame, candidates, admitted, begun, entered, starting_frame, visit, rest_of}
 use Rattle.serde_json_path_syntax.specs.Stages.{selectors_of, selectors_list, stages}
 use Rattle.serde_json_path_syntax.proofs.Lists.InLists.{flat_map-same}
 use Rattle.serde_json_path_core.proofs.Walks.Stacks.{enters, located}

@@ -7,14 +7,14 @@ ghost use Rattle.serde_json_path_syntax.specs.Parts.{nodes_in};
 ghost use Rattle.serde_json_path_syntax.specs.Tree.{filter};
 ghost use Rattle.serde_json_path_syntax.specs.PartBounds.{parts_bound, selector_bound};
 ghost use Rattle.serde_json_path_syntax.specs.Typing.{AreTypedSegments, IsTypedSegment, UnderSome};
-ghost use Rattle.serde_json_path_core.specs.Evaluates.{IsAtAdmitted, IsAtTask, Passes, Skips, SoundOr, SoundSegment, SoundSelector};
-ghost use Rattle.serde_json_path_core.specs.Scopes.{WithoutPatterns, nodes_of, top_of};
-ghost use Rattle.serde_json_path_core.specs.Cursors.{cursor_left};
-ghost use Rattle.serde_json_path_core.specs.Views.{child_view};
-ghost use Rattle.serde_json_path_core.specs.Rest.{candidates, opened, begun, passed, IsInside, AllStandIn};
+ghost use Rattle.serde_json_path_core.specs.Inside.Evaluates.{IsAtAdmitted, IsAtTask, Passes, Skips, SoundOr, SoundSegment, SoundSelector};
+ghost use Rattle.serde_json_path_core.specs.Inside.Scopes.{MayRefuse, nodes_of, top_of};
+ghost use Rattle.serde_json_path_core.specs.Inside.Cursors.{cursor_left};
+ghost use Rattle.serde_json_path_core.specs.Inside.Views.{child_view};
+ghost use Rattle.serde_json_path_core.specs.Inside.Rest.{candidates, opened, begun, passed, IsInside, AllStandIn};
 ghost use Rattle.serde_json_path_syntax.specs.Stages.{selector_view, stage_at, stages_at};
-ghost use Rattle.serde_json_path_core.specs.Frames.{frame_view, task_view};
-ghost use Rattle.serde_json_path_functions.specs.declared.error.QueryError.TheVariants.{Memory};
+ghost use Rattle.serde_json_path_core.specs.Inside.Frames.{frame_view, task_view};
+ghost use Rattle.serde_json_path_functions.specs.declared.error.QueryError.TheVariants.{Pattern};
 
 use crate::child::{Child, item, member};
 use crate::evaluation::cursor::Cursor;
@@ -150,7 +150,7 @@ impl<'b> Frame<'b> {
         ensures passes { Passes scope.now segment (frame_view self.old) (frame_view self.new) }
         ensures found { IfOk result (λ found.
             IsAtTask scope.now segment (frame_view self.new) (option_map task_view found)) }
-        ensures refused { IfErr result (λ e. WithoutPatterns scope.now → e ≡ Memory) }
+        ensures refused { IfErr result (λ e. e ≡ Pattern → MayRefuse scope.now) }
     {
         while let Some(selector_ref) = scope.query.selector_ref(segment, self.selector) {
             match next_admitted(scope, selector_ref, &mut self.cursor)? {
@@ -201,7 +201,7 @@ fn next_admitted<'b, F: Functions>(
     ensures found { IfOk result (λ found.
         IsAtAdmitted scope.now selector_ref.entry
         (cursor_left cursor.new) (option_map child_view found)) }
-    ensures refused { IfErr result (λ e. WithoutPatterns scope.now → e ≡ Memory) }
+    ensures refused { IfErr result (λ e. e ≡ Pattern → MayRefuse scope.now) }
 {
     match selector_ref {
         SelectorRef::Filter(test) => next_passing(scope, test, cursor),
@@ -224,7 +224,7 @@ fn next_passing<'b, F: Functions>(
     ensures found { IfOk result (λ found.
         IsAtAdmitted scope.now (SelectorRef.Filter test)
         (cursor_left cursor.new) (option_map child_view found)) }
-    ensures refused { IfErr result (λ e. WithoutPatterns scope.now → e ≡ Memory) }
+    ensures refused { IfErr result (λ e. e ≡ Pattern → MayRefuse scope.now) }
 {
     let comparison = single_comparison(scope, test);
     while let Some(child) = cursor.peek() {

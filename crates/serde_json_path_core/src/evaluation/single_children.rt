@@ -11,10 +11,10 @@ ghost use Rattle.serde_json_path_syntax.specs.Stages.{selector_view, stage_at};
 ghost use Rattle.serde_json_path_syntax.specs.declared.node.Node.{Node};
 ghost use Rattle.serde_json_path_syntax.specs.Tree.{child, wildcard};
 ghost use Rattle.serde_json_path_syntax.specs.Typing.{AreTypedSegments, IsTypedSegment, UnderSome};
-ghost use Rattle.serde_json_path_core.specs.Clear.{StandsIn};
-ghost use Rattle.serde_json_path_core.specs.Rest.{candidates, EndsIn};
-ghost use Rattle.serde_json_path_core.specs.SingleChildren.{SelectOnly, single_view, values_from, values_reached};
-ghost use Rattle.serde_json_path_core.specs.Views.{child_view};
+ghost use Rattle.serde_json_path_core.specs.PatternCalls.{StandsIn};
+ghost use Rattle.serde_json_path_core.specs.Inside.Rest.{candidates, EndsIn};
+ghost use Rattle.serde_json_path_core.specs.Inside.SingleChildren.{SelectOnly, single_view, values_from, values_reached};
+ghost use Rattle.serde_json_path_core.specs.Inside.Views.{child_view};
 
 use crate::child::{Child, item, member};
 use serde_json::Value;

@@ -7,13 +7,13 @@ ghost use Rattle.serde_json_path_nodes.specs.Views.{located, step_view};
 ghost use Rattle.serde_json_path_syntax.specs.Parts.{nodes_in};
 ghost use Rattle.serde_json_path_syntax.specs.PartBounds.{parts_bound};
 ghost use Rattle.serde_json_path_syntax.specs.Typing.{AreTypedSegments, UnderSome};
-ghost use Rattle.serde_json_path_core.specs.Evaluates.{IsAtNode, SoundSegments, remaining, work_left};
-ghost use Rattle.serde_json_path_core.specs.Scopes.{Clear, WithoutPatterns, nodes_of, top_of};
-ghost use Rattle.serde_json_path_core.specs.Rest.{entering, is_leaf, last_passed, stack_path, without_node, IsStack, IsStackIn};
+ghost use Rattle.serde_json_path_core.specs.Inside.Evaluates.{IsAtNode, SoundSegments, remaining, work_left};
+ghost use Rattle.serde_json_path_core.specs.Inside.Scopes.{MayRefuse, nodes_of, top_of};
+ghost use Rattle.serde_json_path_core.specs.Inside.Rest.{entering, is_leaf, last_passed, stack_path, without_node, IsStack, IsStackIn};
 ghost use Rattle.serde_json_path_syntax.specs.Flat.{segments_at};
 ghost use Rattle.serde_json_path_syntax.specs.Stages.{stages_at};
-ghost use Rattle.serde_json_path_core.specs.Frames.{frames_view, task_view};
-ghost use Rattle.serde_json_path_functions.specs.declared.error.QueryError.TheVariants.{Memory};
+ghost use Rattle.serde_json_path_core.specs.Inside.Frames.{frames_view, task_view};
+ghost use Rattle.serde_json_path_functions.specs.declared.error.QueryError.TheVariants.{Memory, Pattern};
 
 use crate::evaluation::frame::{Frame, Task};
 use crate::evaluation::scope::Scope;
@@ -122,8 +122,7 @@ pub(crate) fn find_next<'b, F: Functions>(
     requires below { parts_bound segments.now ≤ length (nodes_of scope.now) }
     requires sound { SoundSegments scope.now segments.now }
     requires inside { ∥ IsStackIn (top_of scope.now) (frames_view frames.old.items) ∥₁ }
-    ensures rest { Clear scope.now
-        → remaining scope.now segments.now (frames_view frames.old.items)
+    ensures rest { remaining scope.now segments.now (frames_view frames.old.items)
         ≡ remaining scope.now segments.now (frames_view frames.new.items) }
     ensures less { work_left scope.now segments.now (frames_view frames.new.items)
         ≤ work_left scope.now segments.now (frames_view frames.old.items) }
@@ -133,7 +132,7 @@ pub(crate) fn find_next<'b, F: Functions>(
     ensures after_end { frames.old.items ≡ [] → result ≡ Ok None }
     ensures stack { (start : Data) → IsStack start (frames_view frames.old.items)
         → IsStack start (frames_view frames.new.items) }
-    ensures refused { IfErr result (λ e. WithoutPatterns scope.now → e ≡ Memory) }
+    ensures refused { IfErr result (λ e. e ≡ Pattern → MayRefuse scope.now) }
 {
     while let Some(last) = frames.len().checked_sub(1) {
         match segments.get(frames[last].segment) {

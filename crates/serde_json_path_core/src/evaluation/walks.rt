@@ -1,8 +1,8 @@
 //! Walks, which give one node per call.
 
 ghost use Rattle.serde_json.specs.View.{view};
-ghost use Rattle.serde_json_path_core.specs.Rest.{IsStack};
-ghost use Rattle.serde_json_path_core.specs.Frames.{frames_view};
+ghost use Rattle.serde_json_path_core.specs.Inside.Rest.{IsStack};
+ghost use Rattle.serde_json_path_core.specs.Inside.Frames.{frames_view};
 
 use crate::evaluation::frame::Frame;
 use crate::evaluation::scope::Scope;
@@ -14,7 +14,7 @@ use serde_json_path_nodes::LocatedNode;
 /// The nodes that a query selects, one at a time, in order.
 ///
 /// A walk keeps no list of nodes, only one frame per level of the document that it is in. If a call of [`Walk::next`]
-/// fails, the remaining nodes of a clear query (`specs/Clear`) stay as they were.
+/// fails, the remaining nodes stay as they were.
 #[derive(Drop)]
 pub struct Walk<'q, 'b, F: Functions> {
     pub(crate) scope: Scope<'q, 'b, F>,
@@ -23,12 +23,12 @@ pub struct Walk<'q, 'b, F: Functions> {
 }
 
 impl<'q, 'b, F: Functions> Walk<'q, 'b, F> {
-    ghost use Rattle.std.specs.Prelude.{◌≡◌, ◌+◌, ◌<◌, ◌≤◌, [], ◌∷◌, None, Ok, IfOk, IfErr, IfSome, IfNone, MatchOption};
+    ghost use Rattle.std.specs.Prelude.{◌≡◌, ℕ, ◌+◌, ◌<◌, ◌≤◌, [], ◌∷◌, None, Ok, IfOk, IfErr, IfSome, IfNone, MatchOption};
     ghost use Rattle.serde_json_path_nodes.specs.Views.{located};
     ghost use Rattle.serde_json_path_nodes.specs.Location.{Located};
-    ghost use Rattle.serde_json_path_core.specs.Height.{height};
-    ghost use Rattle.serde_json_path_core.specs.Selects.{OnlyMemory};
-    ghost use Rattle.serde_json_path_core.specs.Walks.{query_of, set_of, document_of, rest, places_of, steps_of, IsClearWalk};
+    ghost use Rattle.serde_json_path_core.specs.Height.{IsHeight};
+    ghost use Rattle.serde_json_path_core.specs.Selects.{OnlyMemoryOrPattern};
+    ghost use Rattle.serde_json_path_core.specs.Walks.{query_of, set_of, document_of, rest, places_of, steps_of};
 
     /// How many frames the walk's stack has: at most the document's height plus one. With none, no node remains.
     ///
@@ -37,7 +37,8 @@ impl<'q, 'b, F: Functions> Walk<'q, 'b, F> {
     /// other. No clause adds these stacks up.
     pub fn places(&self) -> usize
         ensures count { result ≡ places_of self.now }
-        ensures within { result ≤ height (document_of self.now) + 1 }
+        ensures within { (height : ℕ) → IsHeight (document_of self.now) height
+            → result ≤ height + 1 }
         ensures empty { result ≡ 0 → rest self.now ≡ [] }
     {
         self.frames.len()
@@ -46,14 +47,14 @@ impl<'q, 'b, F: Functions> Walk<'q, 'b, F> {
     /// The next node with its location, or `None` after the last one. Once [`Walk::places`] is 0, each call gives `None`,
     /// and none is refused.
     ///
-    /// A refusal leaves the remaining nodes of a clear query (`specs/Clear`) as they were, so the walk goes on with the next
-    /// call. The error is `Pattern` only if the query calls a function that stands for `match` or `search`, under
-    /// whatever name; otherwise it is `Memory`.
+    /// A refusal leaves the remaining nodes as they were, so the walk goes on with the next call. The error is `Pattern` only
+    /// if some call of `match` or `search`, under whatever name, has a pattern that `regex` reads (`specs/PatternCalls`);
+    /// otherwise it is `Memory`.
     pub fn next(&mut self) -> Result<Option<LocatedNode<'b>>, QueryError>
         ensures query { query_of self.new ≡ query_of self.old }
         ensures set { set_of self.new ≡ set_of self.old }
         ensures document { document_of self.new ≡ document_of self.old }
-        ensures given { IfOk result (λ next. IsClearWalk self.old → MatchOption next
+        ensures given { IfOk result (λ next. MatchOption next
             ((rest self.old ≡ []) × (rest self.new ≡ []))
             (λ node. rest self.old ≡ located node ∷ rest self.new)) }
         ensures ended { IfOk result (λ next. IfNone next (places_of self.new ≡ 0)) }
@@ -61,9 +62,9 @@ impl<'q, 'b, F: Functions> Walk<'q, 'b, F> {
         // Only that the number falls matters, whatever it counts: so a walk that is not refused ends.
         ensures nearer { IfOk result (λ next.
             IfSome next (λ node. steps_of self.new < steps_of self.old)) }
-        ensures unchanged { IfErr result (λ e.
-            IsClearWalk self.old → rest self.new ≡ rest self.old) }
-        ensures refused { OnlyMemory (set_of self.old) (query_of self.old) result }
+        ensures unchanged { IfErr result (λ e. rest self.new ≡ rest self.old) }
+        ensures refused { OnlyMemoryOrPattern (set_of self.old) (query_of self.old)
+            (document_of self.old) result }
     {
         let scope = &self.scope;
         let segments = scope.query.segments();
@@ -82,13 +83,14 @@ impl<'q, 'b, F: Functions> Walk<'q, 'b, F> {
         ensures query { query_of self.new ≡ query_of self.old }
         ensures set { set_of self.new ≡ set_of self.old }
         ensures document { document_of self.new ≡ document_of self.old }
-        ensures given { IfOk result (λ next. IsClearWalk self.old → MatchOption next
+        ensures given { IfOk result (λ next. MatchOption next
             (rest self.old ≡ [])
             (λ value. (node : Located) × (node.value ≡ view value.now)
             × (rest self.old ≡ node ∷ rest self.new))) }
         ensures nearer { IfOk result (λ next.
             IfSome next (λ value. steps_of self.new < steps_of self.old)) }
-        ensures refused { OnlyMemory (set_of self.old) (query_of self.old) result }
+        ensures refused { OnlyMemoryOrPattern (set_of self.old) (query_of self.old)
+            (document_of self.old) result }
     {
         let scope = &self.scope;
         match find_next(scope, scope.query.segments(), &mut self.frames)? {

@@ -3,15 +3,15 @@
 ghost use Rattle.std.specs.Prelude.{◌≡◌, ◌<◌, Some, IfOk, IfErr, length};
 ghost use Rattle.serde_json.specs.View.{view};
 ghost use Rattle.serde_json_path_functions.specs.Functions.{kind_of_term, of_value};
-ghost use Rattle.serde_json_path_core.specs.Evaluates.{SoundArgument, SoundCall, SoundQuery, answer_at, given_at, results_at};
-ghost use Rattle.serde_json_path_core.specs.ComparedValues.{compared_view};
+ghost use Rattle.serde_json_path_core.specs.Inside.Evaluates.{SoundArgument, SoundCall, SoundQuery, answer_at, given_at, results_at};
+ghost use Rattle.serde_json_path_core.specs.Inside.ComparedValues.{compared_view};
 ghost use Rattle.serde_json_path_functions.specs.Terms.{kind_view, term_view};
 ghost use Rattle.serde_json_path_syntax.specs.Typing.{result_kind};
-ghost use Rattle.serde_json_path_core.specs.Clear.{StandsIn};
-ghost use Rattle.serde_json_path_core.specs.Computed as computed;
+ghost use Rattle.serde_json_path_core.specs.PatternCalls.{StandsIn};
+ghost use Rattle.serde_json_path_core.specs.Inside.Computed as computed;
 ghost use Rattle.serde_json_path_syntax.specs.Flat.{call_at};
-ghost use Rattle.serde_json_path_core.specs.Scopes.{Clear, WithoutPatterns, nodes_of, set_of, top_of};
-ghost use Rattle.serde_json_path_functions.specs.declared.error.QueryError.TheVariants.{Memory};
+ghost use Rattle.serde_json_path_core.specs.Inside.Scopes.{MayRefuse, nodes_of, set_of, top_of};
+ghost use Rattle.serde_json_path_functions.specs.declared.error.QueryError.TheVariants.{Pattern};
 
 use crate::evaluation::scope::Scope;
 use crate::filter::compared_value::ComparedValue;
@@ -72,8 +72,8 @@ pub(crate) fn answer<'x, 'q: 'x, 'b: 'x, F: Functions>(
         Some (kind_of_term (term_view answer))
         ≡ result_kind (set_of scope.now).signature (call_at (nodes_of scope.now) call)) }
     ensures means { IfOk result (λ answer.
-        Clear scope.now → term_view answer ≡ answer_at scope.now call (view value.now)) }
-    ensures refused { IfErr result (λ e. WithoutPatterns scope.now → e ≡ Memory) }
+        term_view answer ≡ answer_at scope.now call (view value.now)) }
+    ensures refused { IfErr result (λ e. e ≡ Pattern → MayRefuse scope.now) }
 {
     let name = scope.query.called_name(call);
     let parameters = scope.query.parameters(call);
@@ -98,9 +98,8 @@ fn argument_as<'x, 'q: 'x, 'b: 'x, F: Functions>(
     requires inside { StandsIn (top_of scope.now) (view value.now) }
     ensures kind { IfOk result (λ term. kind_of_term (term_view term) ≡ kind_view kind) }
     ensures means { IfOk result (λ term.
-        Clear scope.now
-        → term_view term ≡ given_at scope.now argument (kind_view kind) (view value.now)) }
-    ensures refused { IfErr result (λ e. WithoutPatterns scope.now → e ≡ Memory) }
+        term_view term ≡ given_at scope.now argument (kind_view kind) (view value.now)) }
+    ensures refused { IfErr result (λ e. e ≡ Pattern → MayRefuse scope.now) }
 {
     match scope.query.node(argument) {
         Node::Argument(argument) => match argument {
@@ -136,9 +135,9 @@ fn result_as<'x, 'q: 'x, 'b: 'x, F: Functions>(
     requires inside { StandsIn (top_of scope.now) (view value.now) }
     ensures kind { IfOk result (λ term. kind_of_term (term_view term) ≡ kind_view kind) }
     ensures means { IfOk result (λ term.
-        Clear scope.now → term_view term
+        term_view term
         ≡ computed.result_as (kind_view kind) (results_at scope.now query (view value.now))) }
-    ensures refused { IfErr result (λ e. WithoutPatterns scope.now → e ≡ Memory) }
+    ensures refused { IfErr result (λ e. e ≡ Pattern → MayRefuse scope.now) }
 {
     match kind {
         FunctionArgType::Value => match first(scope, query, value)? {

@@ -5,10 +5,10 @@ ghost use Rattle.std.specs.Ordering.{nat_cmp, is_lt};
 ghost use Rattle.std.specs.Cmp.Lexicographic.{slice_cmp};
 ghost use Rattle.std.specs.Str.{chars};
 ghost use Rattle.serde_json_path_core.specs.Compared.{Compared};
-ghost use Rattle.serde_json_path_core.specs.Computed.{compare as comparison, rising_amount};
+ghost use Rattle.serde_json_path_core.specs.Inside.Computed.{compare as comparison, rising_amount};
 ghost use Rattle.serde_json_path_syntax.specs.Literals.{operator_view};
-ghost use Rattle.serde_json_path_core.specs.ComparedValues.{compared_view};
-ghost use Rattle.serde_json_path_core.specs.Sides.{seen_of, side_view, same_seen, less_seen};
+ghost use Rattle.serde_json_path_core.specs.Inside.ComparedValues.{compared_view};
+ghost use Rattle.serde_json_path_core.specs.Inside.Sides.{seen_of, side_view, same_seen, less_seen};
 
 use crate::filter::compared_value::ComparedValue;
 use crate::filter::equality::{same_amounts, same_items, same_members, same_numbers};

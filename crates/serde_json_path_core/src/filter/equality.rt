@@ -3,7 +3,7 @@
 ghost use Rattle.std.specs.Prelude.{◌≡◌};
 ghost use Rattle.serde_json.specs.Find.{as_integer};
 ghost use Rattle.serde_json.specs.View.{view, items_view, members_view, number_view};
-ghost use Rattle.serde_json_path_core.specs.Computed.{same_amount, same_data, same_items as same_items_of, same_members as same_members_of};
+ghost use Rattle.serde_json_path_core.specs.Inside.Computed.{same_amount, same_data, same_items as same_items_of, same_members as same_members_of};
 
 use crate::filter::side::amount;
 use serde_json::{Map, Number, Value};

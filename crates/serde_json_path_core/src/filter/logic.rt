@@ -3,15 +3,15 @@
 ghost use Rattle.std.specs.Prelude.{◌≡◌, ◌<◌, ◌≤◌, Some, IfOk, IfErr, IfSome, length, map, option_map, slice_get};
 ghost use Rattle.serde_json.specs.View.{view};
 ghost use Rattle.serde_json_path_nodes.specs.Views.{node_value};
-ghost use Rattle.serde_json_path_core.specs.Evaluates.{SoundAnd, SoundBasic, SoundComparable, SoundOr, SoundQuery, SoundSegments, and_holds, basic_holds, compared_at, or_holds, relation_holds, results_at, values_at, values_of_segments};
-ghost use Rattle.serde_json_path_core.specs.Clear.{StandsIn};
+ghost use Rattle.serde_json_path_core.specs.Inside.Evaluates.{SoundAnd, SoundBasic, SoundComparable, SoundOr, SoundQuery, SoundSegments, and_holds, basic_holds, compared_at, or_holds, relation_holds, results_at, values_at, values_of_segments};
+ghost use Rattle.serde_json_path_core.specs.PatternCalls.{StandsIn};
 ghost use Rattle.serde_json_path_core.specs.Meaning.{first_value};
 ghost use Rattle.serde_json_path_syntax.specs.PartBounds.{parts_bound};
-ghost use Rattle.serde_json_path_core.specs.ComparedValues.{compared_view};
-ghost use Rattle.serde_json_path_core.specs.SingleChildren.{values_reached};
-ghost use Rattle.serde_json_path_core.specs.SingleComparisons.{IsComparisonOf};
-ghost use Rattle.serde_json_path_core.specs.Scopes.{Clear, WithoutPatterns, nodes_of, set_of, top_of};
-ghost use Rattle.serde_json_path_functions.specs.declared.error.QueryError.TheVariants.{Memory};
+ghost use Rattle.serde_json_path_core.specs.Inside.ComparedValues.{compared_view};
+ghost use Rattle.serde_json_path_core.specs.Inside.SingleChildren.{values_reached};
+ghost use Rattle.serde_json_path_core.specs.Inside.SingleComparisons.{IsComparisonOf};
+ghost use Rattle.serde_json_path_core.specs.Inside.Scopes.{MayRefuse, nodes_of, set_of, top_of};
+ghost use Rattle.serde_json_path_functions.specs.declared.error.QueryError.TheVariants.{Pattern};
 
 use crate::evaluation::child_values::child_values;
 use crate::evaluation::frame::Frame;
@@ -40,8 +40,8 @@ pub(crate) fn is_true<'b, F: Functions>(
     requires sound { SoundOr scope.now expression }
     requires inside { StandsIn (top_of scope.now) (view value.now) }
     ensures means { IfOk result (λ holds.
-        Clear scope.now → holds ≡ or_holds scope.now expression (view value.now)) }
-    ensures refused { IfErr result (λ e. WithoutPatterns scope.now → e ≡ Memory) }
+        holds ≡ or_holds scope.now expression (view value.now)) }
+    ensures refused { IfErr result (λ e. e ≡ Pattern → MayRefuse scope.now) }
 {
     for part in scope.query.or_parts(expression) {
         if all_true(scope, *part, value)? {
@@ -67,8 +67,8 @@ pub(crate) fn is_true_by<'b, F: Functions>(
         × (c.now.right.number < expression.number)) }
     requires inside { StandsIn (top_of scope.now) (view value.now) }
     ensures means { IfOk result (λ holds.
-        Clear scope.now → holds ≡ or_holds scope.now expression (view value.now)) }
-    ensures refused { IfErr result (λ e. WithoutPatterns scope.now → e ≡ Memory) }
+        holds ≡ or_holds scope.now expression (view value.now)) }
+    ensures refused { IfErr result (λ e. e ≡ Pattern → MayRefuse scope.now) }
 {
     let Some(comparison) = comparison else {
         return is_true(scope, expression, value);
@@ -97,8 +97,8 @@ fn all_true<'b, F: Functions>(
     requires sound { SoundAnd scope.now expression }
     requires inside { StandsIn (top_of scope.now) (view value.now) }
     ensures means { IfOk result (λ holds.
-        Clear scope.now → holds ≡ and_holds scope.now expression (view value.now)) }
-    ensures refused { IfErr result (λ e. WithoutPatterns scope.now → e ≡ Memory) }
+        holds ≡ and_holds scope.now expression (view value.now)) }
+    ensures refused { IfErr result (λ e. e ≡ Pattern → MayRefuse scope.now) }
 {
     for part in scope.query.and_parts(expression) {
         if !basic_true(scope, *part, value)? {
@@ -120,8 +120,8 @@ fn basic_true<'b, F: Functions>(
     requires sound { SoundBasic scope.now expression }
     requires inside { StandsIn (top_of scope.now) (view value.now) }
     ensures means { IfOk result (λ holds.
-        Clear scope.now → holds ≡ basic_holds scope.now expression (view value.now)) }
-    ensures refused { IfErr result (λ e. WithoutPatterns scope.now → e ≡ Memory) }
+        holds ≡ basic_holds scope.now expression (view value.now)) }
+    ensures refused { IfErr result (λ e. e ≡ Pattern → MayRefuse scope.now) }
 {
     if let Node::Basic(
         Basic::Relation {
@@ -150,8 +150,8 @@ fn evaluated_true<'b, F: Functions>(
     requires sound { SoundBasic scope.now expression }
     requires inside { StandsIn (top_of scope.now) (view value.now) }
     ensures means { IfOk result (λ holds.
-        Clear scope.now → holds ≡ basic_holds scope.now expression (view value.now)) }
-    ensures refused { IfErr result (λ e. WithoutPatterns scope.now → e ≡ Memory) }
+        holds ≡ basic_holds scope.now expression (view value.now)) }
+    ensures refused { IfErr result (λ e. e ≡ Pattern → MayRefuse scope.now) }
 {
     match scope.query.node(expression) {
         Node::Basic(basic) => match basic {
@@ -193,8 +193,8 @@ fn relation_true<'b, F: Functions>(
     requires sound_right { SoundComparable scope.now right }
     requires inside { StandsIn (top_of scope.now) (view value.now) }
     ensures means { IfOk result (λ holds.
-        Clear scope.now → holds ≡ relation_holds scope.now left operator right (view value.now)) }
-    ensures refused { IfErr result (λ e. WithoutPatterns scope.now → e ≡ Memory) }
+        holds ≡ relation_holds scope.now left operator right (view value.now)) }
+    ensures refused { IfErr result (λ e. e ≡ Pattern → MayRefuse scope.now) }
 {
     let left = compared(scope, left, value)?;
     let right = compared(scope, right, value)?;
@@ -212,9 +212,8 @@ fn compared<'x, 'q: 'x, 'b: 'x, F: Functions>(
     requires sound { SoundComparable scope.now comparable }
     requires inside { StandsIn (top_of scope.now) (view value.now) }
     ensures means { IfOk result (λ compared_value.
-        Clear scope.now
-        → Some (compared_view compared_value) ≡ compared_at scope.now comparable (view value.now)) }
-    ensures refused { IfErr result (λ e. WithoutPatterns scope.now → e ≡ Memory) }
+        Some (compared_view compared_value) ≡ compared_at scope.now comparable (view value.now)) }
+    ensures refused { IfErr result (λ e. e ≡ Pattern → MayRefuse scope.now) }
 {
     match scope.query.node(comparable) {
         Node::Comparable(comparable) => match comparable {
@@ -268,9 +267,9 @@ fn first_from<'b, F: Functions>(
     requires below { parts_bound segments.now ≤ length (nodes_of scope.now) }
     requires sound { SoundSegments scope.now segments.now }
     requires inside { StandsIn (top_of scope.now) (view value.now) }
-    ensures means { IfOk result (λ found. Clear scope.now → option_map node_value found
+    ensures means { IfOk result (λ found. option_map node_value found
         ≡ slice_get (values_of_segments scope.now segments.now (view value.now)) 0) }
-    ensures refused { IfErr result (λ e. WithoutPatterns scope.now → e ≡ Memory) }
+    ensures refused { IfErr result (λ e. e ≡ Pattern → MayRefuse scope.now) }
 {
     let mut frames = Vec::new(scope.alloc);
     frames.push(Frame::start(scope.query, segments, value))?;
@@ -292,9 +291,8 @@ pub(crate) fn first<'b, F: Functions>(
     requires sound { SoundQuery scope.now query }
     requires inside { StandsIn (top_of scope.now) (view value.now) }
     ensures means { IfOk result (λ found.
-        Clear scope.now
-        → option_map node_value found ≡ first_value (results_at scope.now query (view value.now))) }
-    ensures refused { IfErr result (λ e. WithoutPatterns scope.now → e ≡ Memory) }
+        option_map node_value found ≡ first_value (results_at scope.now query (view value.now))) }
+    ensures refused { IfErr result (λ e. e ≡ Pattern → MayRefuse scope.now) }
 {
     let reached = reached(scope, query, value);
     match reached.value {
@@ -318,9 +316,9 @@ fn all_from<'x, 'q: 'x, 'b: 'x, F: Functions>(
     requires below { parts_bound segments.now ≤ length (nodes_of scope.now) }
     requires sound { SoundSegments scope.now segments.now }
     requires inside { StandsIn (top_of scope.now) (view value.now) }
-    ensures means { IfOk result (λ found. Clear scope.now → map node_value found.items
+    ensures means { IfOk result (λ found. map node_value found.items
         ≡ values_of_segments scope.now segments.now (view value.now)) }
-    ensures refused { IfErr result (λ e. WithoutPatterns scope.now → e ≡ Memory) }
+    ensures refused { IfErr result (λ e. e ≡ Pattern → MayRefuse scope.now) }
 {
     let mut frames = Vec::new(scope.alloc);
     frames.push(Frame::start(scope.query, segments, value))?;
@@ -344,8 +342,8 @@ pub(crate) fn all_values<'x, 'q: 'x, 'b: 'x, F: Functions>(
     requires sound { SoundQuery scope.now query }
     requires inside { StandsIn (top_of scope.now) (view value.now) }
     ensures means { IfOk result (λ found.
-        Clear scope.now → map node_value found.items ≡ values_at scope.now query (view value.now)) }
-    ensures refused { IfErr result (λ e. WithoutPatterns scope.now → e ≡ Memory) }
+        map node_value found.items ≡ values_at scope.now query (view value.now)) }
+    ensures refused { IfErr result (λ e. e ≡ Pattern → MayRefuse scope.now) }
 {
     let reached = reached(scope, query, value);
     match reached.value {

@@ -2,10 +2,10 @@
 
 ghost use Rattle.std.specs.Prelude.{◌≡◌, ◌<◌, IfSome, length};
 ghost use Rattle.serde_json.specs.View.{view};
-ghost use Rattle.serde_json_path_core.specs.Clear.{StandsIn};
-ghost use Rattle.serde_json_path_core.specs.Evaluates.{SoundComparable, compared_at, relation_holds};
-ghost use Rattle.serde_json_path_core.specs.Scopes.{nodes_of, top_of};
-ghost use Rattle.serde_json_path_core.specs.Sides.{IsSeenOf};
+ghost use Rattle.serde_json_path_core.specs.PatternCalls.{StandsIn};
+ghost use Rattle.serde_json_path_core.specs.Inside.Evaluates.{SoundComparable, compared_at, relation_holds};
+ghost use Rattle.serde_json_path_core.specs.Inside.Scopes.{nodes_of, top_of};
+ghost use Rattle.serde_json_path_core.specs.Inside.Sides.{IsSeenOf};
 
 use crate::evaluation::scope::Scope;
 use crate::filter::compare::compare_sides;

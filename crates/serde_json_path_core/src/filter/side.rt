@@ -5,8 +5,8 @@ ghost use Rattle.serde_json.specs.Data.{number as number_data};
 ghost use Rattle.serde_json.specs.View.{view, number_view};
 ghost use Rattle.serde_json_path_core.specs.Compared.{amount_of, value as a_value, literal_compared};
 ghost use Rattle.serde_json_path_syntax.specs.Literals.{literal_view};
-ghost use Rattle.serde_json_path_core.specs.ComparedValues.{compared_view};
-ghost use Rattle.serde_json_path_core.specs.Sides.{seen_of, side_view};
+ghost use Rattle.serde_json_path_core.specs.Inside.ComparedValues.{compared_view};
+ghost use Rattle.serde_json_path_core.specs.Inside.Sides.{seen_of, side_view};
 
 use crate::filter::compared_value::ComparedValue;
 use serde_json::{Map, Number, Value};

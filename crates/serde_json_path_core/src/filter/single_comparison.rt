@@ -2,12 +2,12 @@
 
 ghost use Rattle.std.specs.Prelude.{◌≡◌, ◌<◌, IfSome, length, option_map};
 ghost use Rattle.serde_json.specs.View.{view};
-ghost use Rattle.serde_json_path_core.specs.Clear.{StandsIn};
-ghost use Rattle.serde_json_path_core.specs.Evaluates.{SoundComparable, SoundOr, SoundQuery, compared_at, relation_holds};
-ghost use Rattle.serde_json_path_core.specs.Scopes.{nodes_of, top_of};
-ghost use Rattle.serde_json_path_core.specs.Sides.{IsSeenOf, seen_of, side_view};
-ghost use Rattle.serde_json_path_core.specs.SingleComparisons.{IsComparisonOf, IsFormOf, LeadsToChild, child_compared};
-ghost use Rattle.serde_json_path_core.specs.Views.{child_view};
+ghost use Rattle.serde_json_path_core.specs.PatternCalls.{StandsIn};
+ghost use Rattle.serde_json_path_core.specs.Inside.Evaluates.{SoundComparable, SoundOr, SoundQuery, compared_at, relation_holds};
+ghost use Rattle.serde_json_path_core.specs.Inside.Scopes.{nodes_of, top_of};
+ghost use Rattle.serde_json_path_core.specs.Inside.Sides.{IsSeenOf, seen_of, side_view};
+ghost use Rattle.serde_json_path_core.specs.Inside.SingleComparisons.{IsComparisonOf, IsFormOf, LeadsToChild, child_compared};
+ghost use Rattle.serde_json_path_core.specs.Inside.Views.{child_view};
 
 use crate::child::Child;
 use crate::evaluation::scope::Scope;

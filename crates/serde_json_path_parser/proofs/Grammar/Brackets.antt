@@ -2,11 +2,10 @@
 use Rattle.std.proofs.Common.{◌≡◌, ℕ, Bool, true, cond, List, [], ◌∷◌, ◌++◌, length, drop, Ok, Err, refl, sym, ap, subst, ◌∙◌, append_assoc, arith}
 use Rattle.std.specs.Prelude.{◌==◌, ◌||◌, codes}
 use Rattle.serde_json_path_syntax.specs.Tree.{SegmentKind, Segment, long_hand, Selectors, no_selectors, selector, Selector, LogicalOr}
-use Rattle.serde_json_path_syntax.specs.Text.{bracket_dots_of}
 use Rattle.serde_json_path_parser.specs.declared.error.ParseErrorKind.TheVariants.{ExpectedClosingBracket}
 use Rattle.serde_json_path_parser.specs.declared.error.Context.TheVariants as context
 use Rattle.serde_json_path_parser.specs.Lexical.{is_at, begins, IsBlank}
-use Rattle.serde_json_path_parser.specs.Grammar.{ReadsSegment, ReadSelectors, ReadMoreSelectors}
+use Rattle.serde_json_path_parser.specs.Grammar.{ReadsSegment, ReadSelectors, ReadMoreSelectors, dots_before_bracket}
 use Rattle.serde_json_path_parser.specs.Parsed.{Parsed, ◌>>=◌, refusal, past_blanks, many}
 use Rattle.serde_json_path_parser.specs.Parsing.{selector_at, next_selector_at, selectors_at, selector_list, bracket_at}
 use Rattle.serde_json_path_parser.proofs.Reading.Regrouped.{past_all, blanks_of, are_blank, split_blanks, gathered_after, enclosed, spread}
@@ -88,13 +87,13 @@ module _ (filter_at : List ℕ → Parsed Selector) (Good : LogicalOr → Type 0
   abbrev pub IsSegmentText : SegmentKind → List ℕ → Segment → Type 0
   IsSegmentText kind t seg = IsGoodSegment Good seg × ReadsSegment seg kind t
 
-  pub bracket_sound : (kind : SegmentKind) (cs : List ℕ) (x : Segment × List ℕ) → bracket_at filter_at cs ≡ Ok x → Read (IsSegmentText kind) (bracket_dots_of kind ++ (91 ∷ cs)) x
+  pub bracket_sound : (kind : SegmentKind) (cs : List ℕ) (x : Segment × List ℕ) → bracket_at filter_at cs ≡ Ok x → Read (IsSegmentText kind) (dots_before_bracket kind ++ (91 ∷ cs)) x
   unfolding bracket_at
   bracket_sound kind cs x e =
       let ss = bind_ok (selectors_at filter_at cs) (λ ss. cond (is_at "]" ss.1) (Ok (long_hand (selector_list ss.0), drop 1 ss.1)) (Err (refusal ExpectedClosingBracket context.LongHand ss.1))) x e in
       let g = guard (is_at "]" ss.0.1) (refusal ExpectedClosingBracket context.LongHand ss.0.1) (done (long_hand (selector_list ss.0.0), drop 1 ss.0.1)) x ss.2 in
       let r = selectors_sound cs ss.0 ss.1 in
-      let dots = bracket_dots_of kind in
+      let dots = dots_before_bracket kind in
       let j = blanks_of cs in
       let a = r.is_so.0 in
       let k = r.is_so.1 in

@@ -4,14 +4,13 @@ use Rattle.std.specs.Prelude.{◌==◌, codes, bytes_eq}
 use Rattle.std.proofs.lemmas.Bool.{and_parts, eq-eqb}
 use Rattle.std.proofs.lemmas.Option.{same_Some}
 use Rattle.serde_json_path_syntax.specs.Tree.{root, current, LogicalOr, LogicalAnd, Basic, paren, not_paren, relation, exist, not_exist, test, not_test, Comparable, literal, singular, called, Call, call, Operator, equal, not_equal, less, less_or_equal, greater, greater_or_equal, Query, query, no_or, or, no_and, and, QueryKind, truth, null}
-use Rattle.serde_json_path_syntax.specs.Text.{operator_text}
 use Rattle.serde_json_path_syntax.specs.Typing.{result_kind, IsTypedOr, IsTypedAnd, IsTypedBasic, IsTypedComparable, IsTestKind}
 use Rattle.serde_json_path_syntax.specs.Depth.{or_depth, and_depth, basic_depth, comparable_depth}
 use Rattle.serde_json_path_functions.specs.Functions.{Kind, of_value, of_nodes, of_logical, Signature}
 use Rattle.serde_json_path_parser.specs.declared.error.ParseErrorKind.TheVariants.{NonSingularQuery, WrongReturnType, ExpectedClosingParenthesis, ExpectedExpression, ExpectedComparisonOperator}
 use Rattle.serde_json_path_parser.specs.declared.error.Context.TheVariants as context
 use Rattle.serde_json_path_parser.specs.Lexical.{is_at, are_at, begins, begins_both, IsBlank, is_blank, is_small_letter, is_function_char, IsQuote}
-use Rattle.serde_json_path_parser.specs.Grammar.{InParentheses, ReadsOr, ReadMoreOrs, ReadsAnd, ReadMoreAnds, ReadsBasic, ReadsComparable, Reads, ReadsCall}
+use Rattle.serde_json_path_parser.specs.Grammar.{InParentheses, ReadsOr, ReadMoreOrs, ReadsAnd, ReadMoreAnds, ReadsBasic, ReadsComparable, Reads, ReadsCall, operator_sign}
 use Rattle.serde_json_path_parser.specs.Parsed.{Parsed, ◌>>=◌, refusal, past_blanks, many, byte_count}
 use Rattle.serde_json_path_parser.specs.Operands.{Operand, a_literal, a_query, a_call, is_singular, is_result}
 use Rattle.serde_json_path_parser.specs.Filters.{begins_call, operator_at, and_list, or_list, Deeper, query_at, named_call_at, operand_at, comparable_at, test_at, right_side_at, relation_at, basic_from, paren_at, negated_call_at, negated_at, basic_at, next_basic_at, and_from, and_at, next_and_at, or_from, or_at, past_word, filter_at, word, literal_word_at, text_at}
@@ -45,10 +44,10 @@ after_two a b (c ∷ cs) e =
     let parts = and_parts (c == a) (begins (λ d. d == b) cs) e in
     after_one a (c ∷ cs) parts.0 ∙ ap (λ (l : List ℕ). a ∷ l) (after_one b cs parts.1)
 
-pub operator_sound : (cs : List ℕ) (op : Operator × List ℕ) → operator_at cs ≡ Some op → cs ≡ operator_text op.0 ++ op.1
+pub operator_sound : (cs : List ℕ) (op : Operator × List ℕ) → operator_at cs ≡ Some op → cs ≡ operator_sign op.0 ++ op.1
 operator_sound cs op e =
-    let is : (o : Operator) (rest : List ℕ) → Some (o, rest) ≡ Some op → cs ≡ operator_text o ++ rest → cs ≡ operator_text op.0 ++ op.1 =
-    λ o rest same split. subst (λ (x : Operator × List ℕ). cs ≡ operator_text x.0 ++ x.1) (same_Some (o, rest) op same) split in
+    let is : (o : Operator) (rest : List ℕ) → Some (o, rest) ≡ Some op → cs ≡ operator_sign o ++ rest → cs ≡ operator_sign op.0 ++ op.1 =
+    λ o rest same split. subst (λ (x : Operator × List ℕ). cs ≡ operator_sign x.0 ++ x.1) (same_Some (o, rest) op same) split in
     elim (chosen (are_at "==" cs) (Some (equal, drop 2 cs)) _ (Some op) e) [
       | inl a ↦ is equal (drop 2 cs) a.1 (after_two 61 61 cs a.0)
       | inr a ↦ elim (chosen (are_at "!=" cs) (Some (not_equal, drop 2 cs)) _ (Some op) a.1) [
@@ -155,9 +154,9 @@ module _ (signature : List ℕ → Option Signature) (n : ℕ) (deeper : Deeper)
           let b = bind_ok (right_side_at signature deeper a.0.1) (λ b. Ok (relation a.0.0 op.0 b.0, b.1)) x a.2 in
           let r = right_side_sound a.0.1 b.0 b.1 in
           let j = blanks_of op.1 in
-          let sign = k ++ (operator_text op.0 ++ j) in
-          let after : cs ≡ operator_text op.0 ++ (j ++ (r.text ++ b.0.1)) =
-          operator_sound cs op found ∙ ap (λ (l : List ℕ). operator_text op.0 ++ l) (split_blanks op.1 ∙ ap (λ (l : List ℕ). j ++ l) (left_side.1 ∙ r.split)) in
+          let sign = k ++ (operator_sign op.0 ++ j) in
+          let after : cs ≡ operator_sign op.0 ++ (j ++ (r.text ++ b.0.1)) =
+          operator_sound cs op found ∙ ap (λ (l : List ℕ). operator_sign op.0 ++ l) (split_blanks op.1 ∙ ap (λ (l : List ℕ). j ++ l) (left_side.1 ∙ r.split)) in
           subst (Read (Spaced IsBasicText) ((t ++ k) ++ cs)) (ok_is (relation a.0.0 op.0 b.0.0, b.0.1) x b.2) (record {
             text = t ++ (sign ++ r.text);
             is_so = (
@@ -167,7 +166,7 @@ module _ (signature : List ℕ → Option Signature) (n : ℕ) (deeper : Deeper)
               r.is_so.3,
               ap (λ (l : List ℕ). t ++ (sign ++ l)) r.is_so.4 ∙ gathered t sign r.is_so.0 r.is_so.1,
             );
-            split = ap (λ (l : List ℕ). (t ++ k) ++ l) after ∙ joined t k (operator_text op.0) j r.text b.0.1;
+            split = ap (λ (l : List ℕ). (t ++ k) ++ l) after ∙ joined t k (operator_sign op.0) j r.text b.0.1;
           })
         where
           joined : (t k o j r d : List ℕ) → (t ++ k) ++ (o ++ (j ++ (r ++ d))) ≡ (t ++ ((k ++ (o ++ j)) ++ r)) ++ d
@@ -379,7 +378,7 @@ no_equals : (k cs : List ℕ) → IsBlank k → begins begins_operand cs ≡ tru
 no_equals k cs blank first =
     begins_not (λ c. c == 61) k cs (λ c e. differs is_blank 61 c refl e) blank (begins_differs begins_operand 61 cs refl first)
 
-operator_again : (op : Operator) (rest : List ℕ) → is_at "=" rest ≡ false → operator_at (operator_text op ++ rest) ≡ Some (op, rest)
+operator_again : (op : Operator) (rest : List ℕ) → is_at "=" rest ≡ false → operator_at (operator_sign op ++ rest) ≡ Some (op, rest)
 operator_again equal rest none = refl
 operator_again not_equal rest none = refl
 operator_again less rest none = rw none refl
@@ -391,7 +390,7 @@ pub no_operator : (cs : List ℕ) → begins ends_basic cs ≡ true → operator
 no_operator cs follows =
     rw (begins_differs ends_basic 61 cs refl follows, begins_differs ends_basic 33 cs refl follows, begins_differs ends_basic 60 cs refl follows, begins_differs ends_basic 62 cs refl follows) refl
 
-operator_ends : (op : Operator) (rest : List ℕ) → begins ends_operand (operator_text op ++ rest) ≡ true
+operator_ends : (op : Operator) (rest : List ℕ) → begins ends_operand (operator_sign op ++ rest) ≡ true
 operator_ends equal rest = refl
 operator_ends not_equal rest = refl
 operator_ends less rest = refl
@@ -399,7 +398,7 @@ operator_ends less_or_equal rest = refl
 operator_ends greater rest = refl
 operator_ends greater_or_equal rest = refl
 
-operator_no_blank : (op : Operator) (rest : List ℕ) → begins is_blank (operator_text op ++ rest) ≡ false
+operator_no_blank : (op : Operator) (rest : List ℕ) → begins is_blank (operator_sign op ++ rest) ≡ false
 operator_no_blank equal rest = refl
 operator_no_blank not_equal rest = refl
 operator_no_blank less rest = refl
@@ -453,7 +452,7 @@ module _ (signature : List ℕ → Option Signature) (n : ℕ) (deeper : Deeper)
 
   -- after an operand that is the left side, at the operator
   relation_again : (start : List ℕ) (left : Comparable) (op : Operator) (right : Comparable) (a k b rest : List ℕ) → IsComparable a left → IsBlank k → IsComparable b right → Follows ends_basic rest
-      → basic_from signature deeper (byte_count start) (operand_of left) (operator_text op ++ (k ++ (b ++ rest))) ≡ Ok (relation left op right, past_blanks rest)
+      → basic_from signature deeper (byte_count start) (operand_of left) (operator_sign op ++ (k ++ (b ++ rest))) ≡ Ok (relation left op right, past_blanks rest)
   unfolding basic_from relation_at right_side_at
   relation_again start left op right a k b rest is_left blank is_right follows =
       let o = as_operand right b is_right in
@@ -461,7 +460,7 @@ module _ (signature : List ℕ → Option Signature) (n : ℕ) (deeper : Deeper)
       let found = operator_again op (k ++ (b ++ rest)) (no_equals k (b ++ rest) blank first) in
       let past = past_all k (b ++ rest) blank (operand_no_blank (b ++ rest) first) in
       let right_read = operand_again signature n deeper laws b (operand_of right) rest o (basic_ends_operand rest follows) in
-      ap (λ o. relation_at signature deeper (byte_count start) (operand_of left) o (operator_text op ++ (k ++ (b ++ rest)))) found
+      ap (λ o. relation_at signature deeper (byte_count start) (operand_of left) o (operator_sign op ++ (k ++ (b ++ rest)))) found
       ∙ rw (past, comparable_again start left a (b ++ rest) is_left, right_read, comparable_again (b ++ rest) right b (past_blanks rest) is_right) refl
 
   -- an operand, and what it is made after it
@@ -532,10 +531,10 @@ module _ (signature : List ℕ → Option Signature) (n : ℕ) (deeper : Deeper)
   basic_again t (not_paren e) rest (good, (k, a, blank, is, same)) follows =
       negated_again t k a rest (not_paren e) blank same (basic_begins (paren e) a rest is) (not_paren_again a e rest good is)
   basic_again t (relation left op right) rest (good, (a, s, b, is_left, (j, k, before, after, sign), is_right, same)) follows =
-      let here = operator_text op ++ (k ++ (b ++ rest)) in
+      let here = operator_sign op ++ (k ++ (b ++ rest)) in
       let left_good : IsComparable a left = ((good.0.0, omega (arith, good.1)), is_left) in
       let right_good : IsComparable b right = ((good.0.1, omega (arith, good.1)), is_right) in
-      let whole : t ++ rest ≡ a ++ (j ++ here) = ap (λ (l : List ℕ). l ++ rest) (same ∙ ap (λ (l : List ℕ). a ++ (l ++ b)) sign) ∙ regrouped a j (operator_text op) k b rest in
+      let whole : t ++ rest ≡ a ++ (j ++ here) = ap (λ (l : List ℕ). l ++ rest) (same ∙ ap (λ (l : List ℕ). a ++ (l ++ b)) sign) ∙ regrouped a j (operator_sign op) k b rest in
       let past : past_blanks (j ++ here) ≡ here = past_all j here before (operator_no_blank op (k ++ (b ++ rest))) in
       let o = as_operand left a left_good in
       let left_read = operand_again signature n deeper laws a (operand_of left) (j ++ here) o (ap (begins ends_operand) past ∙ operator_ends op (k ++ (b ++ rest))) in
@@ -730,9 +729,9 @@ module _ (signature : List ℕ → Option Signature) (n : ℕ) (deeper : Deeper)
       by_operator (Some op) found e =
           bind_stands start (comparable_at signature deeper (byte_count start) o (past_blanks op.1)) _ r (λ d f. comparable_stands start o (past_blanks op.1) d f) (λ a f h.
           let right : op.1 ≡ blanks_of op.1 ++ a.1 = split_blanks op.1 ∙ ap (λ (l : List ℕ). blanks_of op.1 ++ l) (same_rest start o (past_blanks op.1) a f) in
-          let after : start ≡ (before ++ (operator_text op.0 ++ blanks_of op.1)) ++ a.1 =
-          split ∙ ap (λ (l : List ℕ). before ++ l) (operator_sound cs op found ∙ ap (λ (l : List ℕ). operator_text op.0 ++ l) right) ∙ gathered before (operator_text op.0) (blanks_of op.1) a.1 in
-          further start (before ++ (operator_text op.0 ++ blanks_of op.1)) a.1 r after
+          let after : start ≡ (before ++ (operator_sign op.0 ++ blanks_of op.1)) ++ a.1 =
+          split ∙ ap (λ (l : List ℕ). before ++ l) (operator_sound cs op found ∙ ap (λ (l : List ℕ). operator_sign op.0 ++ l) right) ∙ gathered before (operator_sign op.0) (blanks_of op.1) a.1 in
+          further start (before ++ (operator_sign op.0 ++ blanks_of op.1)) a.1 r after
           (bind_stands a.1 (right_side_at signature deeper a.1) _ r (right_side_stands a.1) (λ b g k. no_refusal a.1 _ r k) h)) e
 
   -- ---- parentheses and `!`

@@ -4,16 +4,15 @@ use Rattle.std.specs.Prelude.{◌==◌, codes, bytes_eq, ◌||◌, ℤ}
 use Rattle.std.proofs.lemmas.Bool.{and_parts, or_parts, or_left, or_right, false_from_ne_true}
 use Rattle.std.proofs.lemmas.Slice.Eq.{bytes_eq-Decides}
 use Rattle.serde_json_path_syntax.specs.Tree.{QueryKind, root, current, Query, query, Call, Literal, text, number, truth, null, Segments, call}
-use Rattle.serde_json_path_syntax.specs.Text.{query_kind_text}
 use Rattle.serde_json_path_functions.specs.Functions.{Signature}
 use Rattle.serde_json_path_parser.specs.declared.error.ParseErrorKind.TheVariants.{ExpectedExpression}
 use Rattle.serde_json_path_parser.specs.declared.error.Context.TheVariants as context
-use Rattle.serde_json_path_parser.specs.Lexical.{is_at, begins, is_small_letter, is_function_char, IsFunctionName, IsQuote, AllPass, is_blank, is_name_char, IsNumber}
-use Rattle.serde_json_path_parser.specs.Grammar.{IsLiteral, Reads, ReadsCall}
+use Rattle.serde_json_path_parser.specs.Lexical.{is_at, begins, is_small_letter, is_function_char, IsFunctionName, IsQuote, AllPass, is_blank, is_name_char, IsNumber, opens}
+use Rattle.serde_json_path_parser.specs.Grammar.{IsLiteral, Reads, ReadsCall, query_sign}
 use Rattle.serde_json_path_parser.specs.Parsed.{Parsed, ◌>>=◌, refusal, past_blanks, byte_count}
 use Rattle.serde_json_path_parser.specs.Strings.{string_at}
 use Rattle.serde_json_path_parser.specs.Numbers.{number_at}
-use Rattle.serde_json_path_parser.specs.Parsing.{segments_at, segment_list, begins_int, opens, opens_next}
+use Rattle.serde_json_path_parser.specs.Parsing.{segments_at, segment_list, begins_int, opens_next}
 use Rattle.serde_json_path_parser.specs.Operands.{Operand, a_literal, a_query, a_call}
 use Rattle.serde_json_path_parser.specs.Filters.{Deeper, word, past_word, begins_call, literal_word_at, filter_at, query_at, named_call_at, text_at, operand_at}
 use Rattle.serde_json_path_parser.proofs.Grammar.Filters.{filter_laws}
@@ -75,7 +74,7 @@ module _ (signature : List ℕ → Option Signature) (n : ℕ) (deeper : Deeper)
       subst (Read (Spaced IsOperandText) cs) (ok_is (a_literal (text t.0.0), past_blanks t.0.1) x t.2)
       (with_blanks IsOperandText cs (a_literal (text t.0.0), t.0.1) (record { text = r.text; is_so = (tt, r.is_so); split = begun ∙ r.split }))
 
-  pub query_sound : (kind : QueryKind) (sign : ℕ) (cs : List ℕ) (x : Query × List ℕ) → query_kind_text kind ≡ sign ∷ [] → begins (λ c. c == sign) cs ≡ true → query_at signature deeper kind cs ≡ Ok x
+  pub query_sound : (kind : QueryKind) (sign : ℕ) (cs : List ℕ) (x : Query × List ℕ) → query_sign kind ≡ sign ∷ [] → begins (λ c. c == sign) cs ≡ true → query_at signature deeper kind cs ≡ Ok x
       → Read (Spaced (λ t q. IsGoodQuery signature n q × Reads q t)) cs x
   unfolding query_at
   query_sound kind sign cs x is begun e =
@@ -206,7 +205,7 @@ module _ (signature : List ℕ → Option Signature) (n : ℕ) (deeper : Deeper)
       (segments_good signature n segs good.0 good.1, reads) (none_after is_name_char rest refl follows) (no_segment rest follows) in
       rw (after_sign, read) (ap (λ (s : Segments). Ok (query kind s, past_blanks rest)) (same_segments segs))
     where
-      by_kind : (k : QueryKind) → drop 1 ((query_kind_text k ++ a) ++ rest) ≡ a ++ rest
+      by_kind : (k : QueryKind) → drop 1 ((query_sign k ++ a) ++ rest) ≡ a ++ rest
       by_kind root = refl
       by_kind current = refl
 

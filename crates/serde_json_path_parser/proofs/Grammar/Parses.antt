@@ -7,7 +7,7 @@ use Rattle.std.proofs.Math.Seq.{take-append_seam, drop-append_seam}
 use Rattle.std.proofs.lemmas.Str.{IsCharBoundary-start, chars-encodes, scalars-chars}
 use Rattle.serde_json_path_syntax.specs.Tree.{Query, query, root, current, Segments}
 use Rattle.serde_json_path_functions.specs.Functions.{Signature}
-use Rattle.serde_json_path_parser.specs.Looking.{greatest_usize}
+use Rattle.serde_json_path_parser.specs.Source.{greatest_usize}
 use Rattle.serde_json_path_parser.specs.declared.error.Refusal.{Refusal}
 use Rattle.serde_json_path_parser.specs.declared.error.Failure.{Failure}
 use Rattle.serde_json_path_parser.specs.declared.error.Failure.TheVariants as failures
@@ -15,15 +15,15 @@ use Rattle.serde_json_path_parser.specs.declared.error.ParseErrorKind.{ParseErro
 use Rattle.serde_json_path_parser.specs.declared.error.ParseErrorKind.TheVariants.{ExpectedRoot, UndefinedFunction, TextAfterPath, NoMemory}
 use Rattle.serde_json_path_syntax.specs.declared.checked.Checked.{Checked}
 use Rattle.serde_json_path_syntax.specs.Parts.{tree_of, signatures_of}
-use Rattle.serde_json_path_parser.specs.Lexical.{begins}
+use Rattle.serde_json_path_parser.specs.Lexical.{begins, opens}
 use Rattle.serde_json_path_parser.specs.Accepted.{IsAccepted}
 use Rattle.serde_json_path_parser.specs.Laws.{OneTreeAtMost}
 use Rattle.serde_json_path_syntax.specs.Used.{AreCalled}
-use Rattle.serde_json_path_parser.specs.Parsing.{opens, opens_next, opens_after_root}
-use Rattle.serde_json_path_parser.specs.Operands.{IsUndeclared}
+use Rattle.serde_json_path_parser.specs.Parsing.{opens_next, opens_after_root}
+use Rattle.serde_json_path_parser.specs.Reported.{IsUndeclared, Reports, reported}
 use Rattle.serde_json_path_parser.specs.Filters.{path_at}
-use Rattle.serde_json_path_parser.specs.Giving.{Fails, IsRefused, IsWithin, error_of}
-use Rattle.serde_json_path_parser.specs.Parse.{is_dollar, NeedsNoMemory, Answers, checked_view, reported}
+use Rattle.serde_json_path_parser.specs.Inside.Giving.{Fails, IsRefused, IsWithin, error_of}
+use Rattle.serde_json_path_parser.specs.Parse.{is_dollar, NeedsNoMemory, ParsedQuery, Answers, checked_view}
 use Rattle.serde_json_path_parser.proofs.Reading.Regrouped.{past_all}
 use Rattle.serde_json_path_parser.proofs.Grammar.Paths.{ArePathSegments, path_sound, path_again, NoRoot, TextAfter, SegmentRefused, path_refused, boundary}
 use Rattle.serde_json_path_parser.proofs.Printing.Spelling.{scalars_of}
@@ -161,11 +161,6 @@ module _ (signature : List ℕ → Option Signature) (text : List ℕ) (u : IsUt
     kept = tt;
     only = tt;
     refused = λ other. absurd (other refl);
-    told = λ other. absurd (other refl);
-    missing_root = ((λ e. absurd cc), (λ h. let less = h.0 in absurd (omega (arith, long))));
-    text_after = λ e. absurd cc;
-    undefined = λ e. absurd cc;
-    position = (omega arith, IsCharBoundary-start text u);
     memory = λ e. refl;
     spares_memory = λ less none. absurd (omega (arith, long));
     too_long = λ e. refl;
@@ -179,46 +174,70 @@ module _ (signature : List ℕ → Option Signature) (text : List ℕ) (u : IsUt
         kept = subst (AreCalled (signatures_of checked)) (sym tree) kept;
         only = λ q a. one_tree_at_most signature (chars text) q (tree_of checked) a (subst (IsAccepted signature (chars text)) (sym tree) (accepted signature (chars text) s.0 segs s.2 s.1));
         refused = tt;
-        told = tt;
-        missing_root = ((λ h. absurd h), (λ h. true≢false (sym (ap (begins is_dollar) s.2) ∙ h.1)));
-        text_after = tt;
-        undefined = tt;
-        position = tt;
         memory = tt;
         spares_memory = λ less none. tt;
         too_long = λ long. absurd (omega (arith, long));
       }
 
-  pub refused : (short : length text < greatest_usize) (s : Failure) (total : ℕ) → total ≡ length text → Fails s (path_at signature (chars text)) → (opens_after_root (chars text) ≡ false → IsRefused s)
+  pub refused : (short : length text < greatest_usize) (s : Failure) (total : ℕ) → Fails s (path_at signature (chars text)) → (opens_after_root (chars text) ≡ false → IsRefused s)
       → Answers signature text (Err (error_of s total))
-  refused short failures.Memory total t h spares = record {
+  refused short failures.Memory total h spares = record {
     accepted = tt;
     kept = tt;
     only = tt;
     refused = λ other. absurd (other refl);
+    memory = λ e. refl;
+    spares_memory = λ less none. absurd (spares (needs_none (chars text) none));
+    too_long = λ e. refl;
+  }
+  refused short (failures.Refused r) total h spares = record {
+    accepted = tt;
+    kept = tt;
+    only = tt;
+    refused = λ other q a. let f = accepted_read signature (chars text) q a in let e : Ok f.0 ≡ Err r = sym f.2 ∙ h in cc;
+    memory = λ e. absurd ((told r h).no_memory e);
+    spares_memory = λ less none. (told r h).no_memory;
+    too_long = λ long. absurd (omega (arith, long));
+  }
+
+  -- ---- what is reported at each
+
+  pub too_long_reported : length text ≡ greatest_usize → Reports signature text (Err (error_of failures.Memory 0))
+  too_long_reported long = record {
+    told = λ other. absurd (other refl);
+    missing_root = ((λ e. absurd cc), (λ h. let less = h.0 in absurd (omega (arith, long))));
+    text_after = λ e. absurd cc;
+    undefined = λ e. absurd cc;
+    position = (omega arith, IsCharBoundary-start text u);
+  }
+
+  pub parsed_reported : (read : ParsedQuery) (segs : Segments) → path_at signature (chars text) ≡ Ok segs → Reports signature text (Ok read)
+  parsed_reported read segs e =
+      let s = path_sound signature (chars text) segs e in
+      record {
+        told = tt;
+        missing_root = ((λ h. absurd h), (λ h. true≢false (sym (ap (begins is_dollar) s.2) ∙ h.1)));
+        text_after = tt;
+        undefined = tt;
+        position = tt;
+      }
+
+  pub refused_reported : (short : length text < greatest_usize) (s : Failure) (total : ℕ) → total ≡ length text → Fails s (path_at signature (chars text)) → (opens_after_root (chars text) ≡ false → IsRefused s)
+      → Reports signature text (Err (error_of s total))
+  refused_reported short failures.Memory total t h spares = record {
     told = λ other. absurd (other refl);
     missing_root = ((λ e. absurd cc), (λ g. absurd (spares (needs_none (chars text) (inl g.1)))));
     text_after = λ e. absurd cc;
     undefined = λ e. absurd cc;
     position = (omega arith, IsCharBoundary-start text u);
-    memory = λ e. refl;
-    spares_memory = λ less none. absurd (spares (needs_none (chars text) none));
-    too_long = λ e. refl;
   }
-  refused short (failures.Refused r) total t h spares =
+  refused_reported short (failures.Refused r) total t h spares =
       let k = told r h in
       let cut : (total - r.left + 1) - 1 ≡ length text - r.left = omega (arith, t) in
       record {
-        accepted = tt;
-        kept = tt;
-        only = tt;
-        refused = λ other q a. let f = accepted_read signature (chars text) q a in let e : Ok f.0 ≡ Err r = sym f.2 ∙ h in cc;
         told = λ other. ap (reported (length text)) h ∙ ap (λ (n : ℕ). Some (record { kind = r.kind; context = r.context; position = n - r.left + 1 })) (sym t);
         missing_root = ((λ e. (short, k.root_missing.0 e)), (λ g. k.root_missing.1 g.1));
         text_after = λ e. subst (λ (n : ℕ). (q : Query) × IsAccepted signature (chars (take n text)) q) (sym cut) (k.after e);
         undefined = λ e. subst (λ (n : ℕ). IsUndeclared signature (chars (drop n text))) (sym cut) (k.undefined e);
         position = (omega arith, subst (IsCharBoundary text) (sym cut) k.placed.1);
-        memory = λ e. absurd (k.no_memory e);
-        spares_memory = λ less none. k.no_memory;
-        too_long = λ long. absurd (omega (arith, long));
       }

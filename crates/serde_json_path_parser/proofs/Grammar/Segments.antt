@@ -4,13 +4,12 @@ use Rattle.std.specs.Prelude.{◌==◌, codes}
 use Rattle.std.specs.Str.{encode_utf8_all}
 use Rattle.std.proofs.lemmas.List.{length-append}
 use Rattle.serde_json_path_syntax.specs.Tree.{SegmentKind, child, descendant, Segments, no_segments, segment, Segment, dot_name, dot_wildcard, long_hand, Selector, LogicalOr}
-use Rattle.serde_json_path_syntax.specs.Text.{dots_of}
 use Rattle.serde_json_path_parser.specs.declared.error.ParseErrorKind.TheVariants.{BadMemberName, ExpectedClosingBracket}
 use Rattle.serde_json_path_parser.specs.declared.error.Context as declared
-use Rattle.serde_json_path_parser.specs.Lexical.{is_at, begins, is_blank, IsBlank, is_name_first, is_name_char, IsName, Joined}
-use Rattle.serde_json_path_parser.specs.Grammar.{ReadSegments}
+use Rattle.serde_json_path_parser.specs.Lexical.{is_at, begins, is_blank, IsBlank, is_name_first, is_name_char, IsName, Joined, opens}
+use Rattle.serde_json_path_parser.specs.Grammar.{ReadSegments, dots_before_name}
 use Rattle.serde_json_path_parser.specs.Parsed.{Parsed, ◌>>=◌, refusal, front, past, past_blanks, many}
-use Rattle.serde_json_path_parser.specs.Parsing.{after_dot, name_at, bracket_at, dotted_at, descendant_at, of_kind, dot_at, segment_at, opens, opens_next, next_segment_at, segments_at, segment_list, selector_at, next_selector_at, selectors_at, selector_list}
+use Rattle.serde_json_path_parser.specs.Parsing.{after_dot, name_at, bracket_at, dotted_at, descendant_at, of_kind, dot_at, segment_at, opens_next, next_segment_at, segments_at, segment_list, selector_at, next_selector_at, selectors_at, selector_list}
 use Rattle.serde_json_path_parser.proofs.Reading.Regrouped.{past_all, blanks_of, are_blank, split_blanks, no_longer, begins_not}
 use Rattle.serde_json_path_parser.proofs.Grammar.Brackets.{IsSegmentText, bracket_sound, bracket_again, is_comma, next_sound, selectors_sound}
 use Rattle.serde_json_path_parser.proofs.Grammar.Filtered.{AreGoodSegments, FilterLaws, IsGoodText, FiltersStand}
@@ -90,21 +89,21 @@ module _ (filter_at : List ℕ → Parsed Selector) (Good : LogicalOr → Type 0
 
   -- ---- after the dots
 
-  dotted_sound : (kind : SegmentKind) (at : declared.Context) (cs : List ℕ) (x : Segment × List ℕ) → dotted_at at cs ≡ Ok x → Read (IsSegment kind) (dots_of kind ++ cs) x
+  dotted_sound : (kind : SegmentKind) (at : declared.Context) (cs : List ℕ) (x : Segment × List ℕ) → dotted_at at cs ≡ Ok x → Read (IsSegment kind) (dots_before_name kind ++ cs) x
   unfolding dotted_at
   dotted_sound kind at cs x e = elim (chosen (is_at "*" cs) (done (dot_wildcard, drop 1 cs)) (name_at at cs >>= λ n. Ok (dot_name n.0, n.1)) (Ok x) e) [
-    | inl a ↦ subst (Read (IsSegment kind) (dots_of kind ++ cs)) (ok_is (dot_wildcard, drop 1 cs) x a.1) (record {
-      text = dots_of kind ++ (42 ∷ []);
+    | inl a ↦ subst (Read (IsSegment kind) (dots_before_name kind ++ cs)) (ok_is (dot_wildcard, drop 1 cs) x a.1) (record {
+      text = dots_before_name kind ++ (42 ∷ []);
       is_so = (tt, refl);
-      split = ap (λ (l : List ℕ). dots_of kind ++ l) (after_one 42 cs a.0) ∙ sym (append_assoc (dots_of kind) (42 ∷ []) (drop 1 cs));
+      split = ap (λ (l : List ℕ). dots_before_name kind ++ l) (after_one 42 cs a.0) ∙ sym (append_assoc (dots_before_name kind) (42 ∷ []) (drop 1 cs));
     })
     | inr a ↦
         let n = bind_ok (name_at at cs) (λ n. Ok (dot_name n.0, n.1)) x a.1 in
         let r = name_sound at cs n.0 n.1 in
-        subst (Read (IsSegment kind) (dots_of kind ++ cs)) (ok_is (dot_name n.0.0, n.0.1) x n.2) (record {
-          text = dots_of kind ++ r.text;
+        subst (Read (IsSegment kind) (dots_before_name kind ++ cs)) (ok_is (dot_name n.0.0, n.0.1) x n.2) (record {
+          text = dots_before_name kind ++ r.text;
           is_so = (tt, (r.text, r.is_so, refl));
-          split = ap (λ (l : List ℕ). dots_of kind ++ l) r.split ∙ sym (append_assoc (dots_of kind) r.text n.0.1);
+          split = ap (λ (l : List ℕ). dots_before_name kind ++ l) r.split ∙ sym (append_assoc (dots_before_name kind) r.text n.0.1);
         })
   ]
 

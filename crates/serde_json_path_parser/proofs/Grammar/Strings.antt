@@ -13,7 +13,7 @@ use Rattle.serde_json_path_parser.specs.declared.error.Context.TheVariants as co
 use Rattle.serde_json_path_parser.specs.Lexical.{◌∈◌, AllPass, is_at, begins, is_digit, hexadecimal_of, IsHex4, IsHighSurrogate, IsLowSurrogate, pair_of, escaped_by, is_plain, IsPiece, plain, quote_escape, letter_escape, hex_escape, pair_escape, IsQuote, IsString}
 use Rattle.serde_json_path_parser.specs.Parsed.{Parsed, ◌>>=◌, refusal, many, byte_count}
 use Rattle.serde_json_path_parser.specs.Strings.{is_hexadecimal, hexadecimal_value, head, hexadecimal_at, hex4_at, is_high, is_low, low_at, unicode_at, is_letter_escape, letter_value, escape_at, is_control, piece_at, is_inside, string_at}
-use Rattle.serde_json_path_parser.specs.Stretches.{is_ascii_plain, Stretched}
+use Rattle.serde_json_path_parser.specs.Inside.Stretches.{is_ascii_plain, Stretched}
 use Rattle.serde_json_path_parser.proofs.Texts.Stretches.{plain_below_128, plain_of}
 use Rattle.std.proofs.lemmas.Str.{encode_ascii}
 use Rattle.serde_json_path_parser.proofs.Reading.Many as m
@@ -23,7 +23,7 @@ use Rattle.serde_json_path_parser.specs.declared.error.Refusal.{Refusal}
 use Rattle.serde_json_path_parser.proofs.Reading.Stands.{Plain, Stands, here, further, bind_stands, guard_stands, no_refusal, many_stands}
 use Rattle.serde_json_path_parser.specs.declared.error.Failure.{Failure}
 use Rattle.serde_json_path_parser.specs.declared.error.Failure.TheVariants as failures
-use Rattle.serde_json_path_parser.specs.Giving.{Fails}
+use Rattle.serde_json_path_parser.specs.Inside.Giving.{Fails}
 
 -- ---- what is read is in the grammar, and what is in the grammar is read
 

@@ -7,27 +7,27 @@ use Rattle.std.proofs.lemmas.Str.{chars-encodes, scalars-chars}
 use Rattle.serde_json_path_syntax.specs.Tree.{Query, query, QueryKind, root, current, Segments, no_segments, segment, SegmentKind, child, descendant, Segment, dot_name, dot_wildcard, long_hand, Selectors, no_selectors, selector, Selector, name, wildcard, index, slice, filter, LogicalOr, no_or, or, LogicalAnd, no_and, and, Basic, paren, not_paren, relation, exist, not_exist, test, not_test, Comparable, literal, singular, called, Call, call, Arguments, no_arguments, argument, Argument, literal_argument, query_argument, call_argument, logical_argument, Operator, equal, not_equal, less, less_or_equal, greater, greater_or_equal}
 use Rattle.serde_json_path_syntax.specs.Text.{operator_text, query_kind_text, dots_of, bracket_dots_of, joined, query_text, segments_text, segment_text, selector_texts, selector_text, or_text, and_texts, and_text, basic_texts, basic_text, comparable_text, call_text, argument_texts, argument_text}
 use Rattle.serde_json_path_parser.specs.Lexical.{IsFunctionName, is_function_char}
-use Rattle.serde_json_path_parser.specs.Grammar.{Reads, ReadSegments, ReadsSegment, ReadSelectors, ReadMoreSelectors, ReadsSelector, ReadsOr, ReadMoreOrs, ReadsAnd, ReadMoreAnds, ReadsBasic, ReadsComparable, ReadsCall, ReadArguments, ReadMoreArguments, ReadsArgument, InParentheses, Negated, IsSign}
+use Rattle.serde_json_path_parser.specs.Grammar.{Reads, ReadSegments, ReadsSegment, ReadSelectors, ReadMoreSelectors, ReadsSelector, ReadsOr, ReadMoreOrs, ReadsAnd, ReadMoreAnds, ReadsBasic, ReadsComparable, ReadsCall, ReadArguments, ReadMoreArguments, ReadsArgument, InParentheses, Negated, IsSign, query_sign, operator_sign, dots_before_bracket, dots_before_name}
 use Rattle.serde_json_path_parser.proofs.Printing.Spelling.{Spells, Spelt, spell_nothing, scalars_parts, scalars_of, spell_both, spell_ascii, spell_between}
 use Rattle.serde_json_path_parser.proofs.Printing.QuotedTexts.{string_spelt}
 use Rattle.serde_json_path_parser.proofs.Printing.Numerals.{int_spelt}
 use Rattle.serde_json_path_parser.proofs.Printing.SlicesAndLiterals.{slice_spelt, literal_spelt}
 
--- ---- signs
+-- ---- signs: those that are printed spell those of the grammar
 
-kind_spells : (kind : QueryKind) → Spells (query_kind_text kind) (query_kind_text kind)
+kind_spells : (kind : QueryKind) → Spells (query_kind_text kind) (query_sign kind)
 kind_spells root = spell_ascii (codes "$") (omega arith, tt)
 kind_spells current = spell_ascii (codes "@") (omega arith, tt)
 
-dots_spell : (kind : SegmentKind) → Spells (dots_of kind) (dots_of kind)
+dots_spell : (kind : SegmentKind) → Spells (dots_of kind) (dots_before_name kind)
 dots_spell child = spell_ascii (codes ".") (omega arith, tt)
 dots_spell descendant = spell_ascii (codes "..") (omega arith, (omega arith, tt))
 
-bracket_dots_spell : (kind : SegmentKind) → Spells (bracket_dots_of kind) (bracket_dots_of kind)
+bracket_dots_spell : (kind : SegmentKind) → Spells (bracket_dots_of kind) (dots_before_bracket kind)
 bracket_dots_spell child = spell_nothing
 bracket_dots_spell descendant = spell_ascii (codes "..") (omega arith, (omega arith, tt))
 
-operator_spells : (op : Operator) → Spells (operator_text op) (operator_text op)
+operator_spells : (op : Operator) → Spells (operator_text op) (operator_sign op)
 operator_spells equal = spell_ascii (codes "==") (omega arith, (omega arith, tt))
 operator_spells not_equal = spell_ascii (codes "!=") (omega arith, (omega arith, tt))
 operator_spells less = spell_ascii (codes "<") (omega arith, tt)
@@ -118,9 +118,9 @@ negated Is bytes x = record {
 mutual
   query_spelt : (q : Query) (t : List ℕ) → all_scalars t ≡ true → Reads q t → Spelt (Reads q) (query_text q)
   query_spelt (query kind segs) t e (a, segments, split) =
-      let x = segments_spelt segs a (scalars_of t (query_kind_text kind) a e split).1 segments in
+      let x = segments_spelt segs a (scalars_of t (query_sign kind) a e split).1 segments in
       record {
-        characters = query_kind_text kind ++ x.characters;
+        characters = query_sign kind ++ x.characters;
         spells = spell_both _ _ _ _ (kind_spells kind) x.spells;
         is_so = (x.characters, x.is_so, refl);
       }
@@ -139,19 +139,19 @@ mutual
 
   segment_spelt : (seg : Segment) (kind : SegmentKind) (t : List ℕ) → all_scalars t ≡ true → ReadsSegment seg kind t → Spelt (ReadsSegment seg kind) (segment_text seg kind)
   segment_spelt (dot_name bytes) kind t e (a, is, split) = record {
-    characters = dots_of kind ++ a;
-    spells = spell_both _ _ _ _ (dots_spell kind) (record { scalars = (scalars_of t (dots_of kind) a e split).1; encoded = sym is.bytes_of });
+    characters = dots_before_name kind ++ a;
+    spells = spell_both _ _ _ _ (dots_spell kind) (record { scalars = (scalars_of t (dots_before_name kind) a e split).1; encoded = sym is.bytes_of });
     is_so = (a, is, refl);
   }
   segment_spelt dot_wildcard kind t e h = record {
-    characters = dots_of kind ++ codes "*";
+    characters = dots_before_name kind ++ codes "*";
     spells = spell_both _ _ _ _ (dots_spell kind) (spell_ascii (codes "*") (omega arith, tt));
     is_so = refl;
   }
   segment_spelt (long_hand sels) kind t e (j, a, k, blank, inside, blank', split) =
-      let x = selectors_spelt sels a (scalars_inside t (bracket_dots_of kind) (codes "[" ++ j) a (k ++ codes "]") e split) inside in
+      let x = selectors_spelt sels a (scalars_inside t (dots_before_bracket kind) (codes "[" ++ j) a (k ++ codes "]") e split) inside in
       record {
-        characters = ((bracket_dots_of kind ++ codes "[") ++ x.characters) ++ codes "]";
+        characters = ((dots_before_bracket kind ++ codes "[") ++ x.characters) ++ codes "]";
         spells = spell_both _ _ _ _ (spell_both _ _ _ _ (spell_both _ _ _ _ (bracket_dots_spell kind) (spell_ascii (codes "[") (omega arith, tt))) x.spells) (spell_ascii (codes "]") (omega arith, tt));
         is_so = ([], x.characters, [], tt, x.is_so, tt, simp append_assoc refl);
       }
@@ -217,9 +217,9 @@ mutual
       let y = comparable_spelt right b (scalars_after t a s b e split).1 r in
       let o = operator_spells op in
       record {
-        characters = (((x.characters ++ codes " ") ++ operator_text op) ++ codes " ") ++ y.characters;
+        characters = (((x.characters ++ codes " ") ++ operator_sign op) ++ codes " ") ++ y.characters;
         spells = spell_both _ _ _ _ (spell_both _ _ _ _ (spell_both _ _ _ _ (spell_both _ _ _ _ x.spells blank_spells) o) blank_spells) y.spells;
-        is_so = (x.characters, codes " " ++ (operator_text op ++ codes " "), y.characters, x.is_so, between_blanks (operator_text op), y.is_so, simp append_assoc refl);
+        is_so = (x.characters, codes " " ++ (operator_sign op ++ codes " "), y.characters, x.is_so, between_blanks (operator_sign op), y.is_so, simp append_assoc refl);
       }
   basic_spelt (exist q) t e h = query_spelt q t e h
   basic_spelt (not_exist q) t e (k, a, blank, inside, split) = negated (Reads q) _ (query_spelt q a (scalars_after t (codes "!") k a e split).1 inside)

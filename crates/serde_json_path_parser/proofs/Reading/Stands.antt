@@ -6,7 +6,7 @@ use Rattle.serde_json_path_parser.specs.declared.error.ParseErrorKind.{ParseErro
 use Rattle.serde_json_path_parser.specs.declared.error.ParseErrorKind.TheVariants.{ExpectedRoot, UndefinedFunction, TextAfterPath, NoMemory}
 use Rattle.serde_json_path_parser.specs.declared.error.Context as declared
 use Rattle.serde_json_path_parser.specs.Lexical.{is_blank}
-use Rattle.serde_json_path_parser.specs.Operands.{IsUndeclared}
+use Rattle.serde_json_path_parser.specs.Reported.{IsUndeclared}
 use Rattle.serde_json_path_parser.specs.Parsed.{Parsed, ◌>>=◌, refusal, front, past_blanks, many_at, byte_count}
 use Rattle.serde_json_path_parser.proofs.Reading.Runs.{whole}
 use Rattle.serde_json_path_parser.proofs.Reading.Steps.{Read, chosen, done}

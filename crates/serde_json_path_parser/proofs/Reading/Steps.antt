@@ -8,7 +8,7 @@ use Rattle.serde_json_path_parser.specs.Parsed.{Parsed, ◌>>=◌, many_at, many
 use Rattle.serde_json_path_parser.proofs.Reading.Many as m
 use Rattle.serde_json_path_parser.specs.declared.error.Failure.{Failure}
 use Rattle.serde_json_path_parser.specs.declared.error.Failure.TheVariants as failures
-use Rattle.serde_json_path_parser.specs.Giving.{Fails}
+use Rattle.serde_json_path_parser.specs.Inside.Giving.{Fails}
 
 -- ---- one step
 

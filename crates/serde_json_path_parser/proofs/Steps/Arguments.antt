@@ -16,8 +16,8 @@ use Rattle.serde_json_path_syntax.specs.declared.node.Part.{Part}
 use Rattle.serde_json_path_syntax.specs.declared.builder.SyntaxBuilder.{SyntaxBuilder}
 use Rattle.serde_json_path_parser.specs.declared.source.PathSource.{Ghosts}
 use Rattle.serde_json_path_parser.specs.declared.parser.reader.Reader.{Reader}
-use Rattle.serde_json_path_parser.specs.Giving.{Fails, Grows, GivesEnd, MakesArguments}
-use Rattle.serde_json_path_parser.specs.Reading.{left}
+use Rattle.serde_json_path_parser.specs.Inside.Giving.{Fails, Grows, GivesEnd, MakesArguments}
+use Rattle.serde_json_path_parser.specs.Inside.Reading.{left}
 use Rattle.serde_json_path_parser.specs.Lexical.{is_at, begins}
 use Rattle.serde_json_path_parser.specs.Parsed.{Parsed, ◌>>=◌, refusal, past_blanks, byte_count, refusal_at}
 use Rattle.serde_json_path_parser.specs.Numbers.{whole_at, amount_at, number_at}

@@ -14,7 +14,7 @@ use Rattle.serde_json_path_functions.specs.Functions.{of_value, Signature}
 use Rattle.serde_json_path_parser.specs.declared.parser.call.Argument as declared
 use Rattle.serde_json_path_parser.specs.declared.parser.call.Argument.TheVariants as the_arguments
 use Rattle.serde_json_path_parser.specs.declared.parser.operand.Operand.TheVariants as the_operands
-use Rattle.serde_json_path_parser.specs.Giving.{IsArgumentOf}
+use Rattle.serde_json_path_parser.specs.Inside.Giving.{IsArgumentOf}
 use Rattle.serde_json_path_parser.specs.Operands.{is_value_literal, is_whole, fits}
 use Rattle.serde_json_path_parser.proofs.Grammar.Calls.{amount_whole, whole_amount}
 use Rattle.serde_json_path_parser.proofs.Steps.Operands.{singular_by}

@@ -6,7 +6,7 @@ use Rattle.serde_json_path_functions.specs.Functions.{Signature}
 use Rattle.serde_json_path_parser.specs.declared.error.Context.TheVariants as context
 use Rattle.serde_json_path_parser.specs.declared.error.Failure.{Failure}
 use Rattle.serde_json_path_parser.specs.Filters.{Deeper, filter_at, query_at}
-use Rattle.serde_json_path_parser.specs.Giving.{Fails}
+use Rattle.serde_json_path_parser.specs.Inside.Giving.{Fails}
 use Rattle.serde_json_path_parser.specs.Lexical.{is_at, begins}
 use Rattle.serde_json_path_parser.specs.Parsed.{Parsed, ◌>>=◌, past_blanks, byte_count}
 use Rattle.serde_json_path_parser.specs.Parsing.{selector_at, segments_at, segment_list}

@@ -14,7 +14,7 @@ use Rattle.serde_json_path_syntax.specs.Tree.{query, root, Segments, SegmentKind
 use Rattle.serde_json_path_syntax.specs.declared.builder.SyntaxBuilder.{SyntaxBuilder}
 use Rattle.serde_json_path_functions.specs.Functions.{Signature}
 use Rattle.serde_json_path_parser.specs.Filters.{and_list, or_list}
-use Rattle.serde_json_path_parser.specs.Giving.{Grows, GrowsFrom, Makes, MakesFrom, MakesOf}
+use Rattle.serde_json_path_parser.specs.Inside.Giving.{Grows, GrowsFrom, Makes, MakesFrom, MakesOf}
 use Rattle.serde_json_path_parser.specs.Parsed.{Parsed}
 use Rattle.serde_json_path_parser.specs.declared.error.Failure.{Failure}
 use Rattle.serde_json_path_parser.specs.declared.parser.reader.Reader.{Reader}

@@ -4,9 +4,9 @@ use Rattle.serde_json_path_syntax.specs.Tree.{SegmentKind, Segment}
 use Rattle.serde_json_path_functions.specs.Functions.{FunctionSet}
 use Rattle.serde_json_path_parser.specs.declared.error.Context as declared
 use Rattle.serde_json_path_parser.specs.declared.parser.filter_parser.FilterParser.{FilterParser}
-use Rattle.serde_json_path_parser.specs.Levels.{signatures, deeper, filter_at}
-use Rattle.serde_json_path_parser.specs.Lexical.{begins}
-use Rattle.serde_json_path_parser.specs.Parsing.{opens, opens_next, next_selector_at, segment_at, next_segment_at}
+use Rattle.serde_json_path_parser.specs.Inside.Levels.{signatures, deeper, filter_at}
+use Rattle.serde_json_path_parser.specs.Lexical.{begins, opens}
+use Rattle.serde_json_path_parser.specs.Parsing.{opens_next, next_selector_at, segment_at, next_segment_at}
 use Rattle.serde_json_path_parser.proofs.Grammar.Brackets as brackets
 use Rattle.serde_json_path_parser.proofs.Grammar.Brackets.{is_comma}
 use Rattle.serde_json_path_parser.proofs.Grammar.Filtered.{FilterLaws}

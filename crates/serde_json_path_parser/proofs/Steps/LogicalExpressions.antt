@@ -22,7 +22,7 @@ use Rattle.serde_json_path_parser.specs.declared.error.Failure.TheVariants as fa
 use Rattle.serde_json_path_parser.specs.declared.parser.operand.Operand as declared
 use Rattle.serde_json_path_parser.specs.declared.parser.operand.Operand.TheVariants as the_operands
 use Rattle.serde_json_path_parser.specs.Filters.{word, past_word, begins_call, literal_word_at, operator_at, and_list, or_list, Deeper, level, query_at, named_call_at, named_at, operand_at, comparable_at, test_at, right_side_at, relation_at, basic_from, paren_at, negated_call_at, negated_name_at, negated_at, basic_at, next_basic_at, and_from, and_at, next_and_at, or_from, or_at}
-use Rattle.serde_json_path_parser.specs.Giving.{Fails, IsOperandOf}
+use Rattle.serde_json_path_parser.specs.Inside.Giving.{Fails, IsOperandOf}
 use Rattle.serde_json_path_parser.specs.Lexical.{is_at, begins, begins_both}
 use Rattle.serde_json_path_parser.specs.Operands.{Operand, a_literal, a_query, a_call, is_result}
 use Rattle.serde_json_path_parser.specs.Parsed.{Parsed, ◌>>=◌, refusal, past_blanks, many, byte_count, refusal_at}

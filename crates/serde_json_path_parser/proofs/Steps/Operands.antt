@@ -14,7 +14,7 @@ use Rattle.serde_json_path_parser.specs.declared.parser.call.Argument.TheVariant
 use Rattle.serde_json_path_parser.specs.declared.parser.operand.Operand as declared
 use Rattle.serde_json_path_parser.specs.declared.parser.operand.Operand.TheVariants as the_operands
 use Rattle.serde_json_path_parser.specs.Filters.{Deeper, alone, comparable_at, text_at}
-use Rattle.serde_json_path_parser.specs.Giving.{IsOperandOf, IsArgumentOf}
+use Rattle.serde_json_path_parser.specs.Inside.Giving.{IsOperandOf, IsArgumentOf}
 use Rattle.serde_json_path_parser.specs.Operands.{Operand, a_literal, a_query as query_operand, a_call, calls_in_operand, is_singular}
 use Rattle.serde_json_path_parser.specs.Parsed.{past_blanks, refusal_at}
 use Rattle.serde_json_path_parser.specs.Strings.{string_at}

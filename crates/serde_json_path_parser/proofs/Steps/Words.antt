@@ -12,7 +12,7 @@ use Rattle.serde_json_path_parser.specs.Lexical.{AllPass, begins, is_function_ch
 use Rattle.serde_json_path_parser.specs.Parsed.{Parsed, refusal, front, past, past_blanks}
 use Rattle.serde_json_path_parser.specs.Operands.{Operand, a_literal}
 use Rattle.serde_json_path_parser.specs.Filters.{word, past_word, literal_word_at}
-use Rattle.serde_json_path_parser.specs.Words.{common, literal_word}
+use Rattle.serde_json_path_parser.specs.Inside.Words.{common, literal_word}
 use Rattle.serde_json_path_parser.proofs.Reading.Runs.{whole, front_end}
 
 -- ---- what a text has in common with a known one

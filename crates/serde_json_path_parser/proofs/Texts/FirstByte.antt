@@ -6,7 +6,7 @@ use Rattle.std.specs.Str.Pattern.{StartsWithChar}
 use Rattle.std.proofs.lemmas.Bool.{cases_lt, eqb-true}
 use Rattle.std.proofs.lemmas.List.{length-drop, drop-drop, drop_all}
 use Rattle.std.proofs.lemmas.Str.{IsUtf8-from_is_utf8, is_utf8-from_IsUtf8, chars-nil, chars_past_char, byte_from_char, char_from_byte}
-use Rattle.serde_json_path_parser.specs.Ahead.{is_ascii, IsAhead}
+use Rattle.serde_json_path_parser.specs.Inside.Ahead.{is_ascii, IsAhead}
 use Rattle.serde_json_path_parser.specs.Lexical.{begins}
 use Rattle.serde_json_path_parser.proofs.Texts.Decoding as d
 

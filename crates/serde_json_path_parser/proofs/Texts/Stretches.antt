@@ -6,11 +6,11 @@ use Rattle.std.proofs.lemmas.Bool.{and_parts, cases_lt}
 use Rattle.std.proofs.lemmas.List.{length-take-le, take_more_set}
 use Rattle.std.proofs.lemmas.Str.{encodes-append, encodes-IsAscii}
 use Rattle.serde_json_path_parser.specs.Lexical.{AllPass, begins, is_name_char, is_plain}
-use Rattle.serde_json_path_parser.specs.Ahead.{IsAhead}
+use Rattle.serde_json_path_parser.specs.Inside.Ahead.{IsAhead}
 use Rattle.serde_json_path_parser.specs.Parsed.{front, past}
 use Rattle.serde_json_path_parser.specs.Source.{Told, one_more, looked}
-use Rattle.serde_json_path_parser.specs.Looking.{LooksOn}
-use Rattle.serde_json_path_parser.specs.Stretches.{is_ascii_name_char, is_ascii_plain, Gathered, Stretched}
+use Rattle.serde_json_path_parser.specs.Inside.Looking.{LooksOn}
+use Rattle.serde_json_path_parser.specs.Inside.Stretches.{is_ascii_name_char, is_ascii_plain, Gathered, Stretched}
 use Rattle.serde_json_path_parser.proofs.Texts.FirstByte.{step_one}
 use Rattle.serde_json_path_parser.proofs.Reading.Runs.{past_through}
 

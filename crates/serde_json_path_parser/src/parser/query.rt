@@ -2,9 +2,9 @@
 
 ghost use Rattle.std.specs.Prelude.{◌≡◌, false, IfErr};
 ghost use Rattle.serde_json_path_parser.specs.Filters.{path_at};
-ghost use Rattle.serde_json_path_parser.specs.Giving.{GivesQuery, MovesTo, IsRefused};
+ghost use Rattle.serde_json_path_parser.specs.Inside.Giving.{GivesQuery, MovesTo, IsRefused};
 ghost use Rattle.serde_json_path_parser.specs.Parsing.{opens_after_root};
-ghost use Rattle.serde_json_path_parser.specs.Reading.{left};
+ghost use Rattle.serde_json_path_parser.specs.Inside.Reading.{left};
 
 use crate::error::{Context, Failure, ParseErrorKind, Refusal};
 use crate::parser::filter_parser::FilterParser;

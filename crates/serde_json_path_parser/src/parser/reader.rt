@@ -3,10 +3,11 @@
 ghost use Rattle.std.specs.Prelude.{◌≡◌, ◌==◌, ◌<◌, ◌≤◌, ◌+◌, ◌-◌, ◌^◌, ◌∷◌, ℕ, length, slice_get, drop, true, max, None, IfOk, IsTrue, is_ok, string_bytes, ◌++◌};
 ghost use Rattle.std.specs.Str.{is_utf8, chars, encode_utf8_all as encoded};
 ghost use Rattle.std.specs.Char.{IsScalar};
-ghost use Rattle.serde_json_path_parser.specs.Stretches.{is_ascii_plain, Stretched};
+ghost use Rattle.serde_json_path_parser.specs.Inside.Stretches.{is_ascii_plain, Stretched};
 ghost use Rattle.serde_json_path_parser.specs.Lexical.{begins, begins_both, is_blank, is_digit, is_name_first, is_name_char, is_small_letter, is_function_char};
-ghost use Rattle.serde_json_path_parser.specs.Ahead.{is_ascii, limit_of, IsAhead, IsSecond};
-ghost use Rattle.serde_json_path_parser.specs.Looking.{greatest_usize, up_to};
+ghost use Rattle.serde_json_path_parser.specs.Inside.Ahead.{is_ascii, limit_of, IsAhead, IsSecond};
+ghost use Rattle.serde_json_path_parser.specs.Inside.Looking.{up_to};
+ghost use Rattle.serde_json_path_parser.specs.Source.{greatest_usize};
 ghost use Rattle.serde_json_path_parser.specs.Parsed.{front, past};
 ghost use Rattle.serde_json_path_parser.specs.Numbers.{is_exponent};
 ghost use Rattle.serde_json_path_parser.specs.Strings.{is_hexadecimal, is_letter_escape, is_control, is_inside};
@@ -38,10 +39,11 @@ pub(crate) struct Reader<'s, S: PathSource> {
 impl<'s, S: PathSource> Reader<'s, S> {
     ghost use Rattle.std.specs.Str.{encode_utf8_all};
     ghost use Rattle.serde_json_path_parser.specs.Parsed.{byte_count, refusal, past_blanks};
-    ghost use Rattle.serde_json_path_parser.specs.Parsing.{is_first_digit, begins_int, opens};
-    ghost use Rattle.serde_json_path_parser.specs.Reading.{told, left, seen, Moves};
+    ghost use Rattle.serde_json_path_parser.specs.Parsing.{is_first_digit, begins_int};
+    ghost use Rattle.serde_json_path_parser.specs.Lexical.{opens};
+    ghost use Rattle.serde_json_path_parser.specs.Inside.Reading.{told, left, seen, Moves};
     ghost use Rattle.serde_json_path_parser.specs.Filters.{ends_argument};
-    ghost use Rattle.serde_json_path_parser.specs.Giving.{StopsNear};
+    ghost use Rattle.serde_json_path_parser.specs.Inside.Giving.{StopsNear};
 
     /// A reader at the start of a text.
     pub(crate) fn new(source: &'s mut S) -> Reader<'s, S>

@@ -5,12 +5,12 @@ ghost use Rattle.serde_json_path_syntax.specs.Flat.{segment_kind_view};
 ghost use Rattle.serde_json_path_syntax.specs.Tree.{Selector};
 ghost use Rattle.serde_json_path_syntax.specs.Tree as tree;
 ghost use Rattle.serde_json_path_functions.specs.Functions.{Signature};
-ghost use Rattle.serde_json_path_parser.specs.Giving.{Makes, MakesSegments, StartsSegment, segment_piece, MovesTo, IsRefused};
-ghost use Rattle.serde_json_path_parser.specs.Levels.{filter_at, signatures};
-ghost use Rattle.serde_json_path_parser.specs.Lexical.{begins};
+ghost use Rattle.serde_json_path_parser.specs.Inside.Giving.{Makes, MakesSegments, StartsSegment, segment_piece, MovesTo, IsRefused};
+ghost use Rattle.serde_json_path_parser.specs.Inside.Levels.{filter_at, signatures};
+ghost use Rattle.serde_json_path_parser.specs.Lexical.{begins, opens};
 ghost use Rattle.serde_json_path_parser.specs.Parsed.{Parsed};
-ghost use Rattle.serde_json_path_parser.specs.Parsing.{bracket_at, after_dot, dotted_at, descendant_at, of_kind, dot_at, segment_at, segments_at, opens, opens_next};
-ghost use Rattle.serde_json_path_parser.specs.Reading.{left};
+ghost use Rattle.serde_json_path_parser.specs.Parsing.{bracket_at, after_dot, dotted_at, descendant_at, of_kind, dot_at, segment_at, segments_at, opens_next};
+ghost use Rattle.serde_json_path_parser.specs.Inside.Reading.{left};
 
 use crate::error::{Context, Failure, ParseErrorKind};
 use crate::parser::filter_parser::FilterParser;

@@ -2,7 +2,7 @@
 
 ghost use Rattle.std.specs.Prelude.{◌≡◌, ◌++◌, codes, option_map};
 ghost use Rattle.serde_json_path_syntax.specs.Flat.{kind_view, segment_kind_view};
-ghost use Rattle.serde_json_path_syntax.specs.Openings.{opening_text};
+ghost use Rattle.serde_json_path_syntax.specs.Inside.Openings.{opening_text};
 ghost use Rattle.serde_json_path_syntax.specs.Text.{dots_of, query_kind_text, sign_text};
 
 use crate::node::{QueryKind, SegmentKind};

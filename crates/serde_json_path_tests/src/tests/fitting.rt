@@ -3,7 +3,7 @@
 ghost use Rattle.std.specs.Prelude.{◌≡◌, [], Some, IfOk, IfErr, IfSome, IsTrue, ◌↔◌};
 ghost use Rattle.serde_json.specs.View.{view};
 ghost use Rattle.serde_json_path_nodes.specs.Views.{node_values};
-ghost use Rattle.serde_json_path_core.specs.Selects.{OnlyMemory, SelectsValues};
+ghost use Rattle.serde_json_path_core.specs.Selects.{SelectsValues};
 ghost use Rattle.serde_json_path_functions.specs.Patterns.{before_builtin, builtin_functions};
 ghost use Rattle.serde_json_path.specs.Paths.{path_tree};
 

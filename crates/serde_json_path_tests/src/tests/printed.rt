@@ -1,35 +1,13 @@
 //! Paths as texts, and paths read from these again.
 
-ghost use Rattle.std.specs.Prelude.{IfOk, IsTrue};
-
+use crate::tests::headline::comes_back;
 use crate::tests::rows::{fields, holds, prints, tells};
 use serde_json::Value;
-use serde_json_path::functions::{Builtin, Functions};
-use serde_json_path::{JsonPath, ParseErrorKind, law_print};
+use serde_json_path::JsonPath;
+use serde_json_path::functions::Builtin;
 use std::alloc::{AllocError, Global};
 use std::process::Abort;
 use std::test::Fail;
-
-/// Whether a path that is parsed, printed and parsed again under one function set is equal to the first: always, by the
-/// contracts of these calls. The second parse is refused for nothing but memory.
-pub(crate) fn comes_back<F: Functions>(
-    alloc: Global,
-    text: &str,
-    functions: &F,
-) -> Result<bool, Fail>
-    ensures { IfOk result IsTrue }
-{
-    law_print();
-    let path = JsonPath::parse_with(alloc, text, functions)?;
-    let printed = path.to_text(alloc)?;
-    match JsonPath::parse_with(alloc, printed.as_str(), functions) {
-        Ok(again) => Ok(again == path),
-        Err(e) => match e.kind() {
-            ParseErrorKind::NoMemory => Err(Fail::new(format_args!("{e}"))),
-            _ => unreachable!(),
-        },
-    }
-}
 
 /// Two paths, and whether they are equal.
 const COMPARED: &[(&str, &str, bool)] = &[

@@ -3,8 +3,8 @@
 ghost use Rattle.serde_json_path_tests.specs.TestSets.{kids_functions, odd_functions, strange_functions, pair_functions};
 
 use crate::tests::cuts::cut_rows_with;
+use crate::tests::headline::comes_back;
 use crate::tests::nesting::nested;
-use crate::tests::printed::comes_back;
 use crate::tests::rows::{fields, finds, gives, holds, locates, selected, told};
 use crate::tests::walks::gives_each;
 use serde_json::Value;

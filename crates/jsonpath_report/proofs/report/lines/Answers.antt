@@ -19,9 +19,8 @@ nodes-preserved g c =
       written = (
         done ++ located node ∷ [],
         subst (AreLinesIn c.args.form (done ++ located node ∷ [])) (sym pushed.2) (lines_pushed c.args.form done (string_bytes c.nodes.text) pushed.0 (located node) before.written.1 pushed.1),
-        λ clear.
-            let given = given_node c.in_ok-node.field-0 node _ left c.in-Some.is (c.in_ok-node.ensures.given (rw (before.set, before.query, before.document) clear)) in
-            before.written.2 clear ∙ ap (λ more. done ++ more) given ∙ sym (append_assoc done (located node ∷ []) left),
+        let given = given_node c.in_ok-node.field-0 node _ left c.in-Some.is c.in_ok-node.ensures.given in
+            before.written.2 ∙ ap (λ more. done ++ more) given ∙ sym (append_assoc done (located node ∷ []) left),
       );
     }
 
@@ -31,7 +30,6 @@ returns-clause-lines g c =
     let done = before.written.0 in (
       done,
       before.written.1,
-      λ clear.
-          let ended = given_none c.in_ok-node.field-0 _ (rest c.next.new.self) c.in_default.is (c.in_ok-node.ensures.given (rw (before.set, before.query, before.document) clear)) in
-          sym (before.written.2 clear ∙ ap (λ more. done ++ more) ended ∙ append-nil done),
+      let ended = given_none c.in_ok-node.field-0 _ (rest c.next.new.self) c.in_default.is c.in_ok-node.ensures.given in
+          sym (before.written.2 ∙ ap (λ more. done ++ more) ended ∙ append-nil done),
     )

@@ -1,7 +1,7 @@
 use Rattle.std.proofs.Common.{◌≡◌, List, ◌++◌}
 use Rattle.std.specs.Prelude.{string_bytes}
 use Rattle.serde_json_path_nodes.specs.Location.{Located}
-use Rattle.serde_json_path_core.specs.Walks.{IsClearWalk, document_of, query_of, rest, set_of, steps_of}
+use Rattle.serde_json_path_core.specs.Walks.{document_of, query_of, rest, set_of, steps_of}
 use Rattle.jsonpath_report.specs.Report.{AreLinesIn}
 use Rattle.jsonpath_report.proofs.report.lines.Given as goal
 
@@ -10,7 +10,7 @@ invariant-nodes g l = record {
   set : set_of l.walk ≡ set_of l.initial.walk;
   query : query_of l.walk ≡ query_of l.initial.walk;
   document : document_of l.walk ≡ document_of l.initial.walk;
-  written : (done : List Located) × AreLinesIn l.form done (string_bytes l.text) × (IsClearWalk l.initial.walk → rest l.initial.walk ≡ done ++ rest l.walk);
+  written : (done : List Located) × AreLinesIn l.form done (string_bytes l.text) × (rest l.initial.walk ≡ done ++ rest l.walk);
 }
 
 abbrev pub decreases-nodes : goal.decreases-nodes

@@ -1,9 +1,9 @@
-use Rattle.std.proofs.Common.{◌≡◌, Ok, Err, rules, sym, subst}
+use Rattle.std.proofs.Common.{◌≡◌, Ok, Err, refl, rules, sym, subst}
 use Rattle.serde_json.specs.View.{view}
 use Rattle.serde_json_path.specs.Paths.{path_tree}
 use Rattle.serde_json_path_core.specs.Meaning.{IsResult}
 use Rattle.serde_json_path_functions.specs.Patterns.{before_builtin}
-use Rattle.serde_json_path_functions.specs.declared.error.QueryError.TheVariants.{Memory, Pattern}
+use Rattle.serde_json_path_functions.specs.declared.error.QueryError.TheVariants.{Pattern}
 use Rattle.jsonpath_report.specs.declared.report.ReportError.TheVariants.{Query}
 use Rattle.jsonpath_report.proofs.Runs.{ok_before, pattern_before}
 use Rattle.jsonpath_report.proofs.report.report_in.Goals as goal
@@ -20,18 +20,13 @@ returns-clause-lines g c =
     let walked : c.walk.result ≡ Ok walk = ok_before _ _ walk _ c.map_err-3.ensures.cases c.in_ok-walk.was in
     let made : c.lines.result ≡ Ok text = ok_before _ _ text _ c.map_err-4.ensures.cases c.in_ok-text.was in
     let written = rw made at c.lines.ensures.lines in
-    let set = rw walked at c.walk.ensures.set in
-    let query = rw walked at c.walk.ensures.query in
-    let document = rw walked at c.walk.ensures.document in
     record {
       query = path_tree path;
       value = view value;
       nodes = written.0;
       accepted = (rw parsed at c.parse_with.ensures.parse).accepted;
       reads = rw read at c.document.ensures.ok;
-      selects = λ clear.
-          subst (IsResult F (view value) (path_tree path) (view value)) (sym (written.2 (rw (set, query, document) clear)))
-          ((rw walked at c.walk.ensures.selects) clear);
+      selects = subst (IsResult F (view value) (path_tree path) (view value)) (sym written.2) (rw walked at c.walk.ensures.selects);
       lines = written.1;
     }
 
@@ -44,10 +39,15 @@ returns-in_err-text-clause-pattern_refused g c = λ is.
     let told : c.map_err-4.result ≡ Err (Query Pattern) = search rules in
     let refused = rw (pattern_before c.lines.result c.map_err-4.result c.map_err-4.ensures.cases told) at c.lines.ensures.refused in
     let set = rw walked at c.walk.ensures.set in
-    let query = rw walked at c.walk.ensures.query in (
+    let query = rw walked at c.walk.ensures.query in
+    let document = rw walked at c.walk.ensures.document in
+    let value = c.in_ok-value.value in
+    let read : c.document.result ≡ Ok value = ok_before _ _ value _ c.map_err-2.ensures.cases c.in_ok-value.was in (
       path_tree path,
+      view value,
       (rw parsed at c.parse_with.ensures.parse).accepted,
-      λ without. let told_as : Pattern ≡ Memory = refused (rw (set, query) without) in cc,
+      rw read at c.document.ensures.ok,
+      rw (set, query, document) at (refused refl),
     )
 
 pub returns-in_err-walk-clause-query_last : goal.returns-in_err-walk-clause-query_last

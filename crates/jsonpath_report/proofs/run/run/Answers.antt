@@ -3,7 +3,8 @@ use Rattle.serde_json_path_functions.specs.Patterns.{builtin_functions}
 use Rattle.serde_json_path.specs.Paths.{path_view}
 use Rattle.serde_json_path_parser.specs.Errors.{position_of}
 use Rattle.serde_json_path_parser.specs.Parse.{IsParseOf}
-use Rattle.jsonpath_report.specs.Report.{CallsByPattern, IsNoPath}
+use Rattle.serde_json_path_parser.specs.Reported.{ReportsFirst}
+use Rattle.jsonpath_report.specs.Report.{CallsByPatternOn, IsNoPath}
 use Rattle.jsonpath_report.specs.Run.{AppendsBeginning, line_of, status_of}
 use Rattle.jsonpath_report.specs.declared.report.ReportError.TheVariants.{Path, Document, Query}
 use Rattle.jsonpath_report.proofs.Runs.{one_word, same_word, not_json_known, document_known, not_both, same_error, whole_read, report_of_run, path_of, document_of, query_of}
@@ -51,6 +52,8 @@ returns-clause-path_told g c = λ one.
         path,
         subst (λ F. IsParseOf path_view F.signature c.as_str.result.now (Err path)) (before_itself builtin_functions)
             (c.report.ensures.path_refused path (c.in-Err.is ∙ ap Err is)),
+        subst (λ F. ReportsFirst path_view F.signature c.as_str.result.now (Err path)) (before_itself builtin_functions)
+            (c.report.ensures.path_reported path (c.in-Err.is ∙ ap Err is)),
         subst (λ e. AppendsBeginning (g.E.Write.contents c.args.err.now) (g.E.Write.contents c.refuse.new.err) (line_of e)) is c.refuse.ensures.told,
       ),
     )
@@ -72,15 +75,20 @@ returns-clause-document_told g c = λ two.
 
 pub returns-clause-query_told : goal.returns-clause-query_told
 returns-clause-query_told g c = λ three.
-    let (query, is) = query_of c.in-Err.e (sym c.refuse.ensures.status ∙ three) in (
+    let (query, is) = query_of c.in-Err.e (sym c.refuse.ensures.status ∙ three) in
+    let whole = whole_read c.read_to_end.result (g.R.Read.remaining c.args.input.now) c.new-document.result.items c.read_to_end.new.buf.items c.as_slice.result.now
+    (sym c.is_err.ensures.value ∙ c.if-is_err.false)
+    c.read_to_end.ensures.bytes c.new-document.ensures.items c.as_slice.ensures.value in (
       line_of (Query query),
       inl (
         query,
         refl,
         λ pattern. (
+          c.as_slice.result.now,
           c.as_str.result.now,
           one_word c.args.words.now c.path-item.result c.as_str.result.now c.in-len1.len_at_least c.in-len1.len_below c.path-item.is c.as_str.ensures.value,
-          subst (λ F. CallsByPattern F c.as_str.result.now) (before_itself builtin_functions) (c.report.ensures.pattern_refused (c.in-Err.is ∙ ap Err (is ∙ ap Query pattern))),
+          whole,
+          subst (λ F. CallsByPatternOn F c.as_str.result.now c.as_slice.result.now) (before_itself builtin_functions) (c.report.ensures.pattern_refused (c.in-Err.is ∙ ap Err (is ∙ ap Query pattern))),
         ),
       ),
       inr refl,

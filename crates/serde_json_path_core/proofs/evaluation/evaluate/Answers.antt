@@ -19,9 +19,9 @@ values-preserved g c =
       set = c.next_value.ensures.set ∙ before.set;
       query = c.next_value.ensures.query ∙ before.query;
       document = c.next_value.ensures.document ∙ before.document;
-      selected = λ clear.
-          let given = found-some _ _ c.in_ok-value.field-0 value c.in-Some.is (c.in_ok-value.ensures.given (rw (before.set, before.query, before.document) clear)) in
-          let found = before.selected clear in (
+      selected =
+          let given = found-some _ _ c.in_ok-value.field-0 value c.in-Some.is (c.in_ok-value.ensures.given) in
+          let found = before.selected in (
             found.0 ++ given.0 ∷ [],
             subst nodes (ap (λ more. found.0 ++ more) given.2 ∙ sym (append_assoc found.0 (given.0 ∷ []) left)) found.1,
             ap (map node_value) c.in_ok-push.ensures.items ∙ map-append node_value c.values.found.items (value ∷ [])

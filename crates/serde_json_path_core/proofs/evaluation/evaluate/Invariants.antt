@@ -2,7 +2,6 @@ use Rattle.std.proofs.Common.{◌≡◌, ◌++◌, List, map}
 use Rattle.serde_json.specs.View.{view}
 use Rattle.serde_json_path_nodes.specs.Location.{Located}
 use Rattle.serde_json_path_nodes.specs.Views.{node_value}
-use Rattle.serde_json_path_core.specs.Clear.{IsClear}
 use Rattle.serde_json_path_core.specs.Meaning.{IsResult}
 use Rattle.serde_json_path_syntax.specs.Parts.{tree_of}
 use Rattle.serde_json_path_core.specs.Walks.{document_of, query_of, rest, set_of, steps_of}
@@ -13,8 +12,7 @@ invariant-values g l = record {
   set : set_of l.walk ≡ g.F.Functions.set l.fn.functions;
   query : query_of l.walk ≡ tree_of l.fn.query;
   document : document_of l.walk ≡ view l.fn.document;
-  selected : IsClear (g.F.Functions.set l.fn.functions) (tree_of l.fn.query) (view l.fn.document)
-      → (given : List Located) × IsResult (g.F.Functions.set l.fn.functions) (view l.fn.document) (tree_of l.fn.query) (view l.fn.document) (given ++ rest l.walk) × (map node_value l.found.items ≡ map (λ n. n.value) given);
+  selected : (given : List Located) × IsResult (g.F.Functions.set l.fn.functions) (view l.fn.document) (tree_of l.fn.query) (view l.fn.document) (given ++ rest l.walk) × (map node_value l.found.items ≡ map (λ n. n.value) given);
 }
 
 abbrev pub decreases-values : goal.decreases-values

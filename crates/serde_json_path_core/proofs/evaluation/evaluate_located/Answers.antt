@@ -19,10 +19,10 @@ nodes-preserved g c =
       set = c.next.ensures.set ∙ before.set;
       query = c.next.ensures.query ∙ before.query;
       document = c.next.ensures.document ∙ before.document;
-      selected = λ clear.
-          let given = found-some _ _ c.in_ok-node.field-0 node c.in-Some.is (c.in_ok-node.ensures.given (rw (before.set, before.query, before.document) clear)) in
+      selected =
+          let given = found-some _ _ c.in_ok-node.field-0 node c.in-Some.is (c.in_ok-node.ensures.given) in
           let more = ap (map located) c.in_ok-push.ensures.items ∙ map-append located c.nodes.found.items (node ∷ []) in
-          subst nodes (ap (λ more. found ++ more) given ∙ sym (append_assoc found (located node ∷ []) left) ∙ ap (λ all. all ++ left) (sym more)) (before.selected clear);
+          subst nodes (ap (λ more. found ++ more) given ∙ sym (append_assoc found (located node ∷ []) left) ∙ ap (λ all. all ++ left) (sym more)) before.selected;
     }
 
 pub returns-clause-selects : goal.returns-clause-selects

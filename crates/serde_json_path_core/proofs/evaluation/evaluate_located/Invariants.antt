@@ -1,7 +1,6 @@
 use Rattle.std.proofs.Common.{◌≡◌, ◌++◌, map}
 use Rattle.serde_json.specs.View.{view}
 use Rattle.serde_json_path_nodes.specs.Views.{located}
-use Rattle.serde_json_path_core.specs.Clear.{IsClear}
 use Rattle.serde_json_path_core.specs.Meaning.{IsResult}
 use Rattle.serde_json_path_syntax.specs.Parts.{tree_of}
 use Rattle.serde_json_path_core.specs.Walks.{document_of, query_of, rest, set_of, steps_of}
@@ -12,8 +11,7 @@ invariant-nodes g l = record {
   set : set_of l.walk ≡ g.F.Functions.set l.fn.functions;
   query : query_of l.walk ≡ tree_of l.fn.query;
   document : document_of l.walk ≡ view l.fn.document;
-  selected : IsClear (g.F.Functions.set l.fn.functions) (tree_of l.fn.query) (view l.fn.document)
-      → IsResult (g.F.Functions.set l.fn.functions) (view l.fn.document) (tree_of l.fn.query) (view l.fn.document) (map located l.found.items ++ rest l.walk);
+  selected : IsResult (g.F.Functions.set l.fn.functions) (view l.fn.document) (tree_of l.fn.query) (view l.fn.document) (map located l.found.items ++ rest l.walk);
 }
 
 abbrev pub decreases-nodes : goal.decreases-nodes

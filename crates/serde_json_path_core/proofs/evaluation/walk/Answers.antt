@@ -3,8 +3,8 @@ use Rattle.serde_json.specs.View.{view}
 use Rattle.serde_json_path_core.specs.Derivation.{start_of}
 use Rattle.serde_json_path_syntax.specs.Flat.{segments_at}
 use Rattle.serde_json_path_syntax.specs.Parts.{nodes_in, signatures_of, tree_of}
-use Rattle.serde_json_path_core.specs.Frames.{frame_view, frames_view}
-use Rattle.serde_json_path_core.specs.Rest.{rest_of, IsStack}
+use Rattle.serde_json_path_core.specs.Inside.Frames.{frame_view, frames_view}
+use Rattle.serde_json_path_core.specs.Inside.Rest.{rest_of, IsStack}
 use Rattle.serde_json_path_syntax.specs.Stages.{stages, stages_at}
 use Rattle.serde_json_path_core.specs.Meaning.{IsResult}
 use Rattle.serde_json_path_core.proofs.Walks.Chains.{stack-started}
@@ -34,7 +34,6 @@ returns-clause-selects g c =
     let first = begun-frame top tree top top segs (frame_view c.start.result) c.segments.ensures.tree
     (sym (ap (λ kind. start_of kind top top) q.rooted)) c.start.ensures in
     let begun = begun-results F top tree top segs (frames_view frames) (frame_view c.start.result) c.segments.ensures.tree (ap frames_view items) first in
-    λ clear.
     subst (IsResult F top tree top) (sym begun ∙ ap (λ segs. rest_of F top (stages segs) (frames_view frames)) c.segments.ensures.tree)
     (computed_result F top tree top (whole-sound F (signatures_of q) tree ∣ c.requires ∣₁ q.typed).0)
 

@@ -9,8 +9,8 @@ use Rattle.serde_json_path_syntax.specs.Tree.{Query, query, current, Segments, s
 use Rattle.serde_json_path_functions.specs.Functions.{FunctionSet}
 use Rattle.serde_json_path_core.specs.Meaning.{IsResult}
 use Rattle.serde_json_path_syntax.specs.Typing.{IsTyped}
-use Rattle.serde_json_path_core.specs.Selected.{beneath}
-use Rattle.serde_json_path_core.specs.Computed.{children, descents, placed, results, results_from, chosen}
+use Rattle.serde_json_path_core.specs.Derivation.{beneath}
+use Rattle.serde_json_path_core.specs.Inside.Computed.{children, descents, placed, results, results_from, chosen}
 use Rattle.serde_json_path_core.specs.Laws.{AreChildren, AreSubtreeResults}
 use Rattle.serde_json_path_core.proofs.Meaning.ChildSteps.{in_children, children_ordered}
 use Rattle.serde_json_path_core.proofs.Meaning.Beneath.{results_beneath}

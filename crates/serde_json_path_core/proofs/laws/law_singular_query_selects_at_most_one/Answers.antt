@@ -8,8 +8,8 @@ use Rattle.serde_json_path_syntax.specs.Typing.{AreTypedSegments, IsTypedSegment
 use Rattle.serde_json_path_functions.specs.Functions.{Signature, FunctionSet}
 use Rattle.serde_json_path_core.specs.Derivation.{start_of}
 use Rattle.serde_json_path_core.specs.Meaning.{IsResult}
-use Rattle.serde_json_path_core.specs.Selected.{child_by, item_at}
-use Rattle.serde_json_path_core.specs.Computed.{chosen, itself, placed, results_from}
+use Rattle.serde_json_path_core.specs.Inside.Selected.{child_by, item_at}
+use Rattle.serde_json_path_core.specs.Inside.Computed.{chosen, itself, placed, results_from}
 use Rattle.serde_json_path_core.proofs.Meaning.Derived.{computed_only}
 use Rattle.serde_json_path_core.proofs.laws.law_singular_query_selects_at_most_one.Goals as goal
 

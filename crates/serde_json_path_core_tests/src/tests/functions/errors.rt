@@ -1,19 +1,18 @@
 //! What a set refuses a call for comes through other sets.
 
-ghost use Rattle.std.specs.Prelude.{map, Some, IfOk};
-ghost use Rattle.serde_json_path_functions.specs.Functions.{Fits, Takes, matching_signature};
+ghost use Rattle.serde_json_path_functions.specs.Functions.{Fits};
 ghost use Rattle.serde_json_path_core_tests.specs.Samples.{refused_names};
-ghost use Rattle.serde_json_path_functions.specs.Terms.{term_view};
 
+use crate::tests::functions::patterns::arguments;
 use serde_json_path_functions::FunctionArgType::Logical;
 use serde_json_path_functions::{
-    Both, Builtin, FunctionArgType, FunctionValue, Functions, QueryError, Signature, ValueType,
+    Both, Builtin, FunctionArgType, FunctionValue, Functions, QueryError, Signature,
 };
 use std::alloc::Global;
 use std::process::Abort;
 use std::test::Fail;
 
-/// `pattern`, which stands for `search`, is refused for its pattern, and `memory` for memory.
+/// `pattern`, which stands for `search`, is refused for its pattern as that is, and `memory` for memory.
 #[derive(Clone, Copy)]
 struct Refusing;
 
@@ -43,20 +42,10 @@ impl Functions for Refusing {
         args: Vec<FunctionValue<'b>>,
     ) -> Result<FunctionValue<'b>, QueryError> {
         match name {
-            "pattern" => Err(QueryError::Pattern),
+            "pattern" => Builtin.call(alloc, "search", args),
             _ => Err(QueryError::Memory),
         }
     }
-}
-
-/// Two arguments of type Value.
-fn two_values<'b>(alloc: Global) -> Result<Vec<FunctionValue<'b>>, Fail>
-    ensures { IfOk result (λ args. Takes (Some matching_signature) (map term_view args.items)) }
-{
-    let mut args = Vec::new(alloc);
-    args.push(FunctionValue::Value(ValueType::Nothing))?;
-    args.push(FunctionValue::Value(ValueType::Nothing))?;
-    Ok(args)
 }
 
 /// Holds a set that has the names of `Refusing` to its errors.
@@ -65,7 +54,8 @@ fn refuses_each<F: Functions>(rt: &impl Abort, alloc: Global, functions: &F) -> 
 {
     let memory = functions.call(alloc, "memory", Vec::new(alloc)).err();
     assert!(rt; memory == Some(QueryError::Memory));
-    let pattern = functions.call(alloc, "pattern", two_values(alloc)?).err();
+    let too_great = arguments(alloc, r#""a""#, r#""a{1000}{1000}""#)?;
+    let pattern = functions.call(alloc, "pattern", too_great).err();
     assert!(rt; pattern == Some(QueryError::Pattern));
     Ok(())
 }

@@ -21,7 +21,11 @@ fn value_of(alloc: Global, json: &str) -> Result<ValueType<'static>, Fail> {
 }
 
 /// Two values as arguments, each a JSON text.
-fn arguments(alloc: Global, text: &str, pattern: &str) -> Result<Vec<FunctionValue<'static>>, Fail>
+pub(crate) fn arguments(
+    alloc: Global,
+    text: &str,
+    pattern: &str,
+) -> Result<Vec<FunctionValue<'static>>, Fail>
     ensures { IfOk result (λ args. Takes (Some matching_signature) (map term_view args.items)) }
 {
     let mut args = Vec::new(alloc);

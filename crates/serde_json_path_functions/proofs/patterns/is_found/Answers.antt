@@ -10,7 +10,7 @@ use Rattle.serde_json_path_functions.proofs.patterns.is_found.Goals as goal
 pub returns-in-Ok-clause-means : goal.returns-in-Ok-clause-means
 returns-in-Ok-clause-means c =
     let made = c.in-Ok.ensures in
-    λ _. c.is_match.ensures.found
+    c.is_match.ensures.found
     ∙ ap (λ re. is_some (find_str re c.args.text.now 0)) c.in_ok-matcher-in-Ok.ensures.pattern
     ∙ found_as_read c.in-Ok.regex _ _ (made.source ∙ c.as_str.ensures.value ∙ c.in_ok-built.ensures) made.config made.read (λ k. (c.type_inv.text k).fits)
 

@@ -2,9 +2,9 @@
 
 ghost use Rattle.std.specs.Prelude.{◌≡◌, ◌==◌, ◌<◌, ◌≤◌, ◌+◌, ◌^◌, ℕ, List, length, true, IfOk, string_bytes};
 ghost use Rattle.std.specs.Char.{IsScalar};
-ghost use Rattle.serde_json_path_parser.specs.Giving.{Gives, MovesTo};
+ghost use Rattle.serde_json_path_parser.specs.Inside.Giving.{Gives, MovesTo};
 ghost use Rattle.serde_json_path_parser.specs.Lexical.{is_at, begins, IsQuote};
-ghost use Rattle.serde_json_path_parser.specs.Reading.{left};
+ghost use Rattle.serde_json_path_parser.specs.Inside.Reading.{left};
 ghost use Rattle.serde_json_path_parser.specs.Strings.{hexadecimal_at, hex4_at, is_high, low_at, unicode_at, escape_at, piece_at, is_inside, string_at};
 
 use crate::error::{Context, Failure, ParseErrorKind};

@@ -4,8 +4,8 @@ ghost use Rattle.std.specs.Prelude.{◌≡◌, true, List, ℕ, length, drop, If
 ghost use Rattle.serde_json_path_syntax.specs.Literals.{literal_view};
 ghost use Rattle.serde_json_path_parser.specs.Filters.{word, past_word};
 ghost use Rattle.serde_json_path_parser.specs.Lexical.{begins, is_small_letter, is_function_char, AllPass};
-ghost use Rattle.serde_json_path_parser.specs.Reading.{left, Moves};
-ghost use Rattle.serde_json_path_parser.specs.Words.{common, literal_word, IsWord, IsKnownOrOther};
+ghost use Rattle.serde_json_path_parser.specs.Inside.Reading.{left, Moves};
+ghost use Rattle.serde_json_path_parser.specs.Inside.Words.{common, literal_word, IsWord, IsKnownOrOther};
 
 use crate::parser::reader::Reader;
 use crate::source::PathSource;

@@ -3,7 +3,7 @@ use Rattle.std.proofs.lemmas.List.{get_or_default}
 use Rattle.std.proofs.Output.{has_written_append, has_written_of_eq}
 use Rattle.serde_json_path_syntax.specs.Flat.{and_at, argument_at, basic_at, call_at, kind_view, pieces, segment_at, selector_at}
 use Rattle.serde_json_path_syntax.specs.Calls.{arguments_of}
-use Rattle.serde_json_path_syntax.specs.Openings.{opening_text}
+use Rattle.serde_json_path_syntax.specs.Inside.Openings.{opening_text}
 use Rattle.serde_json_path_syntax.specs.declared.node.Part.{Part}
 use Rattle.serde_json_path_syntax.specs.Parts.{nodes_in}
 use Rattle.serde_json_path_syntax.specs.Text.{and_text, argument_texts, joined, or_text, query_kind_text}

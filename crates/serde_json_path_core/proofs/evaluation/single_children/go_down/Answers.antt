@@ -6,7 +6,7 @@ use Rattle.serde_json_path_syntax.specs.Parts.{nodes_in}
 use Rattle.serde_json_path_syntax.specs.declared.node.Part.{Part}
 use Rattle.serde_json_path_syntax.proofs.Tree.BoundedParts.{within_get}
 use Rattle.serde_json_path_syntax.proofs.Typing.TypedParts.{typed_segment}
-use Rattle.serde_json_path_core.specs.Views.{child_view}
+use Rattle.serde_json_path_core.specs.Inside.Views.{child_view}
 use Rattle.serde_json_path_core.proofs.Walks.InDocument.{child_stands}
 use Rattle.serde_json_path_core.proofs.Walks.SingleChildren.{child-selected, ends-at, goes_down}
 use Rattle.serde_json_path_core.proofs.evaluation.single_children.go_down.Goals as goal

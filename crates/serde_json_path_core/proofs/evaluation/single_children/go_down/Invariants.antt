@@ -4,8 +4,8 @@ use Rattle.serde_json.specs.View.{view}
 use Rattle.serde_json_path_functions.specs.Functions.{FunctionSet}
 use Rattle.serde_json_path_syntax.specs.Flat.{segments_at}
 use Rattle.serde_json_path_syntax.specs.Parts.{nodes_in}
-use Rattle.serde_json_path_core.specs.Clear.{StandsIn}
-use Rattle.serde_json_path_core.specs.SingleChildren.{values_from}
+use Rattle.serde_json_path_core.specs.PatternCalls.{StandsIn}
+use Rattle.serde_json_path_core.specs.Inside.SingleChildren.{values_from}
 use Rattle.serde_json_path_core.proofs.evaluation.single_children.go_down.Given as goal
 
 abbrev pub invariant-loop-passed : goal.invariant-loop-passed

@@ -6,8 +6,8 @@ use Rattle.serde_json_path_syntax.specs.Literals.{operator_view}
 use Rattle.serde_json_path_syntax.specs.Tree.{and, no_and, no_or, or, relation}
 use Rattle.serde_json_path_syntax.specs.Typing.{IsTypedOr}
 use Rattle.serde_json_path_syntax.specs.declared.node.Part.{Part}
-use Rattle.serde_json_path_core.specs.Evaluates.{Sound}
-use Rattle.serde_json_path_core.specs.Scopes.{nodes_of, query_of, set_of, top_of}
+use Rattle.serde_json_path_core.specs.Inside.Evaluates.{Sound}
+use Rattle.serde_json_path_core.specs.Inside.Scopes.{nodes_of, query_of, set_of, top_of}
 use Rattle.serde_json_path_syntax.proofs.Tree.BoundedParts.{within_get}
 use Rattle.serde_json_path_core.proofs.Sound.Parts.{sound-and, sound-sides}
 use Rattle.serde_json_path_core.proofs.Steps.SingleOperands.{one-comparison, only-comparison}

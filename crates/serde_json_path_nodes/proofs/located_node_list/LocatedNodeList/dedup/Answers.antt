@@ -7,7 +7,7 @@ use Rattle.std.proofs.lemmas.Fn.{always_returns_same, dedup_same}
 use Rattle.std.proofs.lemmas.List.{with_items_is}
 use Rattle.std.proofs.lemmas.List.Sorted.{IsNonDecreasingBy-from_sort_by_key, ranks_by}
 use Rattle.serde_json_path_nodes.specs.Lists.{first_places}
-use Rattle.serde_json_path_nodes.specs.NodeOrder.{node_cmp}
+use Rattle.serde_json_path_nodes.specs.Inside.NodeOrder.{node_cmp}
 use Rattle.serde_json_path_nodes.specs.Same.{same_steps}
 use Rattle.serde_json_path_nodes.specs.Views.{located}
 use Rattle.serde_json_path_nodes.specs.declared.located_node.LocatedNode.{LocatedNode}

@@ -1,5 +1,5 @@
 use Rattle.std.proofs.Common.{inl, inr, sym, ◌∙◌}
-use Rattle.serde_json_path_nodes.specs.StepOrder.{step_cmp}
+use Rattle.serde_json_path_nodes.specs.Inside.StepOrder.{step_cmp}
 use Rattle.serde_json_path_nodes.specs.Views.{step_view}
 use Rattle.serde_json_path_nodes.proofs.Orders.{slice_cmp-tie, lengths-tie, slice_cmp-decided, slice_cmp-ended}
 use Rattle.serde_json_path_nodes.proofs.normalized_path.NormalizedPath.compare.Goals as goal

@@ -1,7 +1,7 @@
 use Rattle.std.proofs.Common.{◌≡◌, length, map, vec_len}
 use Rattle.std.specs.Ordering.{nat_cmp}
 use Rattle.std.specs.Slice.Iter.{iter_rest}
-use Rattle.serde_json_path_nodes.specs.StepOrder.{location_cmp}
+use Rattle.serde_json_path_nodes.specs.Inside.StepOrder.{location_cmp}
 use Rattle.serde_json_path_nodes.specs.Views.{step_view}
 use Rattle.serde_json_path_nodes.proofs.normalized_path.NormalizedPath.compare.Given as goal
 

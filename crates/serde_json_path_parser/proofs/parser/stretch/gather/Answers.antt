@@ -3,7 +3,7 @@ use Rattle.std.specs.Prelude.{slice_get}
 use Rattle.std.proofs.lemmas.List.{length-set}
 use Rattle.std.proofs.lemmas.Option.{slice_get-get_or}
 use Rattle.serde_json_path_parser.specs.Source.{Told}
-use Rattle.serde_json_path_parser.specs.Stretches.{Gathered}
+use Rattle.serde_json_path_parser.specs.Inside.Stretches.{Gathered}
 use Rattle.serde_json_path_parser.proofs.Texts.Stretches.{more_gathered, looked_on}
 use Rattle.serde_json_path_parser.proofs.parser.stretch.gather.Goals as goal
 

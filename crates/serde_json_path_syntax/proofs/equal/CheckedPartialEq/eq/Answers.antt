@@ -1,7 +1,7 @@
 use Rattle.std.proofs.Common.{◌≡◌, ◌∙◌, sym, rules}
 use Rattle.serde_json_path_syntax.specs.Flat.{calls_among}
 use Rattle.serde_json_path_syntax.specs.Parts.{nodes_in, tree_of}
-use Rattle.serde_json_path_syntax.specs.SameLaws.{Decides-same_query}
+use Rattle.serde_json_path_syntax.specs.Inside.SameLaws.{Decides-same_query}
 use Rattle.serde_json_path_syntax.specs.SameTree.{same_query}
 use Rattle.serde_json_path_syntax.specs.Used.{each_once, signature_in}
 use Rattle.serde_json_path_syntax.proofs.Typing.TypedParts.{segments-typed}

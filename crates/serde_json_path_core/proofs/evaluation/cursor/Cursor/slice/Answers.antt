@@ -4,8 +4,8 @@ use Rattle.serde_json.specs.View.{view, items_view}
 use Rattle.serde_json.proofs.Views.{view-Array, items_len-items_view}
 use Rattle.serde_json_path_core.specs.Slices.{step_of}
 use Rattle.serde_json_path_syntax.specs.SliceView.{slice_view}
-use Rattle.serde_json_path_core.specs.Computed.{positions_by, at_positions, sliced}
-use Rattle.serde_json_path_core.specs.PositionViews.{positions_left}
+use Rattle.serde_json_path_core.specs.Inside.Computed.{positions_by, at_positions, sliced}
+use Rattle.serde_json_path_core.specs.Inside.PositionViews.{positions_left}
 use Rattle.serde_json_path_core.proofs.evaluation.cursor.Cursor.slice.Goals as goal
 
 pub returns-in-Array : goal.returns-in-Array

@@ -5,15 +5,15 @@ use Rattle.serde_json_path_nodes.specs.Views.{step_view}
 use Rattle.serde_json_path_syntax.specs.Flat.{segments_at}
 use Rattle.serde_json_path_syntax.specs.Parts.{nodes_in, signatures_of}
 use Rattle.serde_json_path_core.specs.Walks.{set_of, query_of, document_of}
-use Rattle.serde_json_path_core.specs.Rest.{rest_of, IsStack, IsStackIn}
+use Rattle.serde_json_path_core.specs.Inside.Rest.{rest_of, IsStack, IsStackIn}
 use Rattle.serde_json_path_syntax.specs.Stages.{stages, stages_at}
-use Rattle.serde_json_path_core.specs.Frames.{frames_view}
+use Rattle.serde_json_path_core.specs.Inside.Frames.{frames_view}
 use Rattle.serde_json_path_core.proofs.Sound.Parts.{sound-segments}
 use Rattle.serde_json_path_core.proofs.Walks.InDocument.{root_stands}
 use Rattle.serde_json_path_core.proofs.Sound.WholeQueries.{whole-sound}
 use Rattle.serde_json_path_core.proofs.Steps.KnownCases.{found-none, found-some, if-err}
 use Rattle.serde_json_path_syntax.specs.Tree.{segments_of}
-use Rattle.serde_json_path_core.specs.Rest.{node_at, work}
+use Rattle.serde_json_path_core.specs.Inside.Rest.{node_at, work}
 use Rattle.serde_json_path_core.proofs.evaluation.walks.Walk.next.Goals as goal
 
 pub find_next-requires : goal.find_next-requires
@@ -42,18 +42,17 @@ invariant_of-self-in-Break-branch-3 g c = record { stack = ∥∥₁_map c.args.
 
 pub returns-in_err-find_next-clause-unchanged : goal.returns-in_err-find_next-clause-unchanged
 returns-in_err-find_next-clause-unchanged g c =
-    if-err _ c.from_residual.result (λ clear. rw (← c.segments-segments.ensures.tree) (sym (c.find_next.ensures.rest clear)))
+    if-err _ c.from_residual.result (rw (← c.segments-segments.ensures.tree) (sym c.find_next.ensures.rest))
 
 pub returns-in_err-node-in-Some-clause-unchanged : goal.returns-in_err-node-in-Some-clause-unchanged
 returns-in_err-node-in-Some-clause-unchanged g c =
-    if-err _ c.from_residual-in_err-node-in-Some.result (λ clear. rw (← c.segments-segments.ensures.tree) (sym (c.find_next.ensures.rest clear)))
+    if-err _ c.from_residual-in_err-node-in-Some.result (rw (← c.segments-segments.ensures.tree) (sym c.find_next.ensures.rest))
 
 pub returns-in-None-clause-given : goal.returns-in-None-clause-given
 returns-in-None-clause-given g c =
     let w = c.args.self.now in
-    let none = ap frames_view (found-none _ _ c.in_ok-find_next.field-0 c.in-None.is c.in_ok-find_next.ensures.found) in
-    λ clear. (
-      rw (← c.segments-segments.ensures.tree) (c.find_next.ensures.rest clear ∙ ap (rest_of (set_of w) (document_of w) (stages_at (nodes_in w.scope.query.now) c.segments-segments.result.now)) none),
+    let none = ap frames_view (found-none _ _ c.in_ok-find_next.field-0 c.in-None.is c.in_ok-find_next.ensures.found) in (
+      rw (← c.segments-segments.ensures.tree) (c.find_next.ensures.rest ∙ ap (rest_of (set_of w) (document_of w) (stages_at (nodes_in w.scope.query.now) c.segments-segments.result.now)) none),
       ap (rest_of (set_of w) (document_of w) (stages (segments_of (query_of w)))) none,
     )
 
@@ -65,8 +64,8 @@ returns-in_ok-node-in-Some-clause-given g c =
     let frames = c.find_next.new.frames.items in
     let at = found-some _ _ c.in_ok-find_next.field-0 found c.in-Some.is c.in_ok-find_next.ensures.found in
     let node = c.in_ok-node-in-Some.ensures.node ∙ ap (λ fs. node_at (frames_view fs) (option_map step_view found.step) (view found.value.now)) c.as_slice.ensures.value in
-    λ clear. rw (← c.segments-segments.ensures.tree)
-    (c.find_next.ensures.rest clear ∙ at.1.0 clear
+    rw (← c.segments-segments.ensures.tree)
+    (c.find_next.ensures.rest ∙ at.1.0
     ∙ ap (λ left. node_at (frames_view frames) (option_map step_view found.step) (view found.value.now) ∷ rest left) (sym c.pass_found.ensures)
     ∙ ap (λ n. n ∷ rest (frames_view c.pass_found.new.frames.items)) (sym node))
 

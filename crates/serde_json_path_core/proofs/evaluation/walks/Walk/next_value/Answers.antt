@@ -5,14 +5,14 @@ use Rattle.serde_json_path_nodes.specs.Views.{step_view}
 use Rattle.serde_json_path_syntax.specs.Flat.{segments_at}
 use Rattle.serde_json_path_syntax.specs.Parts.{nodes_in, signatures_of}
 use Rattle.serde_json_path_core.specs.Walks.{set_of, query_of, document_of}
-use Rattle.serde_json_path_core.specs.Rest.{rest_of, IsStack, IsStackIn}
+use Rattle.serde_json_path_core.specs.Inside.Rest.{rest_of, IsStack, IsStackIn}
 use Rattle.serde_json_path_syntax.specs.Stages.{stages_at}
-use Rattle.serde_json_path_core.specs.Frames.{frames_view}
+use Rattle.serde_json_path_core.specs.Inside.Frames.{frames_view}
 use Rattle.serde_json_path_core.proofs.Sound.Parts.{sound-segments}
 use Rattle.serde_json_path_core.proofs.Walks.InDocument.{root_stands}
 use Rattle.serde_json_path_core.proofs.Sound.WholeQueries.{whole-sound}
 use Rattle.serde_json_path_core.proofs.Steps.KnownCases.{found-none, found-some}
-use Rattle.serde_json_path_core.specs.Rest.{node_at, work}
+use Rattle.serde_json_path_core.specs.Inside.Rest.{node_at, work}
 use Rattle.serde_json_path_core.proofs.evaluation.walks.Walk.next_value.Goals as goal
 
 pub find_next-requires : goal.find_next-requires
@@ -40,7 +40,7 @@ pub returns-in-None-clause-given : goal.returns-in-None-clause-given
 returns-in-None-clause-given g c =
     let w = c.args.self.now in
     let none = ap frames_view (found-none _ _ c.in_ok-find_next.field-0 c.in-None.is c.in_ok-find_next.ensures.found) in
-    λ clear. rw (← c.segments.ensures.tree) (c.find_next.ensures.rest clear ∙ ap (rest_of (set_of w) (document_of w) (stages_at (nodes_in w.scope.query.now) c.segments.result.now)) none)
+    rw (← c.segments.ensures.tree) (c.find_next.ensures.rest ∙ ap (rest_of (set_of w) (document_of w) (stages_at (nodes_in w.scope.query.now) c.segments.result.now)) none)
 
 pub returns-in-Some-clause-given : goal.returns-in-Some-clause-given
 returns-in-Some-clause-given g c =
@@ -49,7 +49,7 @@ returns-in-Some-clause-given g c =
     let found = c.in-Some.found in
     let at = found-some _ _ c.in_ok-find_next.field-0 found c.in-Some.is c.in_ok-find_next.ensures.found in
     let node = node_at (frames_view c.find_next.new.frames.items) (option_map step_view found.step) (view found.value.now) in
-    λ clear. (node, refl, rw (← c.segments.ensures.tree) (c.find_next.ensures.rest clear ∙ at.1.0 clear ∙ ap (λ left. node ∷ rest left) (sym c.pass_found.ensures)))
+    (node, refl, rw (← c.segments.ensures.tree) (c.find_next.ensures.rest ∙ at.1.0 ∙ ap (λ left. node ∷ rest left) (sym c.pass_found.ensures)))
 
 pub returns-in-Some-clause-nearer : goal.returns-in-Some-clause-nearer
 returns-in-Some-clause-nearer g c =

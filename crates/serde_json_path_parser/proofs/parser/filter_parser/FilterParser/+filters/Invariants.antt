@@ -4,13 +4,13 @@ use Rattle.serde_json_path_syntax.specs.Flat.{parts_in}
 use Rattle.serde_json_path_syntax.specs.Tree.{SegmentKind, Segment, Selector, LogicalAnd, Basic}
 use Rattle.serde_json_path_syntax.specs.Parts.{IsPart, ArePartsOf, AreSelectorsOf, AreOrPartsOf, AreAndPartsOf}
 use Rattle.serde_json_path_syntax.specs.Piece.{an_and, a_basic}
-use Rattle.serde_json_path_parser.specs.Lexical.{are_at, begins}
+use Rattle.serde_json_path_parser.specs.Lexical.{are_at, begins, opens}
 use Rattle.serde_json_path_parser.specs.Filters.{and_list, or_list, next_basic_at, next_and_at}
-use Rattle.serde_json_path_parser.specs.Giving.{Grows, GrowsFrom}
-use Rattle.serde_json_path_parser.specs.Levels.{signatures, deeper, filter_at}
+use Rattle.serde_json_path_parser.specs.Inside.Giving.{Grows, GrowsFrom}
+use Rattle.serde_json_path_parser.specs.Inside.Levels.{signatures, deeper, filter_at}
 use Rattle.serde_json_path_parser.specs.Parsed.{past_blanks, many, byte_count}
-use Rattle.serde_json_path_parser.specs.Parsing.{opens, opens_next, next_selector_at, selectors_at, selector_list, segments_at, segment_list}
-use Rattle.serde_json_path_parser.specs.Reading.{left, Moves}
+use Rattle.serde_json_path_parser.specs.Parsing.{opens_next, next_selector_at, selectors_at, selector_list, segments_at, segment_list}
+use Rattle.serde_json_path_parser.specs.Inside.Reading.{left, Moves}
 use Rattle.serde_json_path_parser.proofs.Grammar.Brackets.{is_comma}
 use Rattle.serde_json_path_parser.proofs.Reading.Many.{with_front}
 use Rattle.serde_json_path_parser.proofs.parser.filter_parser.FilterParser.+filters.Given as goal

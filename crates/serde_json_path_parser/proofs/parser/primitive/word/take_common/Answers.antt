@@ -2,8 +2,8 @@ use Rattle.std.proofs.Common.{◌≡◌, ◌∙◌, ◌+◌, suc, true, drop, ge
 use Rattle.std.proofs.lemmas.Grind.{common_steps}
 use Rattle.std.proofs.lemmas.List.{drop-drop}
 use Rattle.serde_json_path_parser.specs.Lexical.{begins}
-use Rattle.serde_json_path_parser.specs.Reading.{left}
-use Rattle.serde_json_path_parser.specs.Words.{common}
+use Rattle.serde_json_path_parser.specs.Inside.Reading.{left}
+use Rattle.serde_json_path_parser.specs.Inside.Words.{common}
 use Rattle.serde_json_path_parser.proofs.Steps.Words.{common_more}
 use Rattle.serde_json_path_parser.proofs.parser.primitive.word.take_common.Goals as goal
 

@@ -1,0 +1,36 @@
+-- What contracts of private functions, and proofs, cite alone.
+
+-- ---- what the code computes, on plain data
+
+-- the one child that a name or an index selects, computed
+pub mod Selected
+-- what a query selects, computed
+pub mod Computed
+-- the nodes that remain of a walk, from the frames on its stack, the document and the query's segments alone
+pub mod Rest
+-- how a frame moves on
+pub mod Advances
+-- what the evaluation of a part of a query stands on
+pub mod Sound
+-- ---- the code's values as the definitions see them
+
+-- the program's values as the definitions see them
+pub mod Views
+-- slice positions as the definitions see them, and the items at those that are left
+pub mod PositionViews
+-- the children that a cursor has not given yet
+pub mod Cursors
+-- the frames of a walk as the definitions see them
+pub mod Frames
+-- where a query goes on after segments that select one child at most
+pub mod SingleChildren
+-- the sides of a comparison as the definitions see them
+pub mod ComparedValues
+-- what a comparison sees of its sides: the same of a literal and of a value that equals it
+pub mod Sides
+-- filters that are one comparison
+pub mod SingleComparisons
+-- what an evaluation goes by
+pub mod Scopes
+-- the words of the functions that evaluate
+pub mod Evaluates

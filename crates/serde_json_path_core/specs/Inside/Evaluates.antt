@@ -1,0 +1,128 @@
+-- The words of the functions that evaluate: what is asked of a part, and what it computes to where `@` is a value.
+use Rattle.std.specs.Prelude.{ℕ, List, map, Bool, Option}
+use Rattle.serde_json.specs.Data.{Data}
+use Rattle.serde_json_path_nodes.specs.Location.{Step, Located}
+use Rattle.serde_json_path_functions.specs.Functions.{Kind, Signature, Term}
+use Rattle.serde_json_path_syntax.specs.Tree.{Call}
+use Rattle.serde_json_path_syntax.specs.Calls.{calls_of, calls_in_segments, calls_in_segment, calls_in_selector, calls_in_or, calls_in_and, calls_in_basic, calls_in_comparable, calls_from, calls_in_argument}
+use Rattle.serde_json_path_syntax.specs.Typing.{IsTyped, AreTypedSegments, IsTypedSegment, IsTypedSelector, IsTypedOr, IsTypedAnd, IsTypedBasic, IsTypedComparable, IsTypedCall, IsTypedArgument}
+use Rattle.serde_json_path_syntax.specs.declared.node.Part.{Part}
+use Rattle.serde_json_path_syntax.specs.declared.selector_ref.SelectorRef.{SelectorRef}
+use Rattle.serde_json_path_syntax.specs.Flat.{or_at, and_at, basic_at, comparable_at, call_at, argument_at, part_query, segment_at, segments_at}
+use Rattle.serde_json_path_syntax.specs.Literals.{operator_view}
+use Rattle.serde_json_path_syntax.specs.declared.operator.ComparisonOperator.{ComparisonOperator}
+use Rattle.serde_json_path_syntax.specs.Stages.{selector_view, stage_at, stages_at}
+use Rattle.serde_json_path_core.specs.Inside.Advances as advances
+use Rattle.serde_json_path_core.specs.Compared.{Compared}
+use Rattle.serde_json_path_core.specs.Inside.Computed as computed
+use Rattle.serde_json_path_core.specs.Inside.Rest as rest
+use Rattle.serde_json_path_core.specs.Inside.Rest.{Frame}
+use Rattle.serde_json_path_core.specs.Inside.SingleChildren.{values_from}
+use Rattle.serde_json_path_core.specs.Inside.Scopes.{nodes_of, query_of, set_of, top_of}
+use Rattle.serde_json_path_core.specs.Inside.Sound.{IsSound}
+use Rattle.serde_json_path_core.specs.declared.evaluation.scope.Scope.{Scope}
+
+-- ---- the part is well-typed under the set, and its calls are among the query's
+
+abbrev pub Sound : {F : Type 0} {g : _} {A : Type 0} → Scope F g → ((List ℕ → Option Signature) → A → Type 0) → (A → List Call) → A → Type 0
+Sound scope typed calls part = IsSound (set_of scope) (query_of scope) typed calls part
+
+abbrev pub SoundQuery : {F : Type 0} {g : _} → Scope F g → Part → Type 0
+SoundQuery scope part = Sound scope IsTyped calls_of (part_query (nodes_of scope) part)
+
+abbrev pub SoundSegments : {F : Type 0} {g : _} → Scope F g → List Part → Type 0
+SoundSegments scope parts = Sound scope AreTypedSegments calls_in_segments (segments_at (nodes_of scope) parts)
+
+abbrev pub SoundSegment : {F : Type 0} {g : _} → Scope F g → Part → Type 0
+SoundSegment scope part = Sound scope IsTypedSegment calls_in_segment (segment_at (nodes_of scope) part)
+
+abbrev pub SoundSelector : {F : Type 0} {g : _} → Scope F g → SelectorRef → Type 0
+SoundSelector scope selector = Sound scope IsTypedSelector calls_in_selector (selector_view (nodes_of scope) selector)
+
+abbrev pub SoundOr : {F : Type 0} {g : _} → Scope F g → Part → Type 0
+SoundOr scope part = Sound scope IsTypedOr calls_in_or (or_at (nodes_of scope) part)
+
+abbrev pub SoundAnd : {F : Type 0} {g : _} → Scope F g → Part → Type 0
+SoundAnd scope part = Sound scope IsTypedAnd calls_in_and (and_at (nodes_of scope) part)
+
+abbrev pub SoundBasic : {F : Type 0} {g : _} → Scope F g → Part → Type 0
+SoundBasic scope part = Sound scope IsTypedBasic calls_in_basic (basic_at (nodes_of scope) part)
+
+abbrev pub SoundComparable : {F : Type 0} {g : _} → Scope F g → Part → Type 0
+SoundComparable scope part = Sound scope IsTypedComparable calls_in_comparable (comparable_at (nodes_of scope) part)
+
+abbrev pub SoundCall : {F : Type 0} {g : _} → Scope F g → Part → Type 0
+SoundCall scope part = Sound scope IsTypedCall calls_from (call_at (nodes_of scope) part)
+
+-- the same of an argument, as a parameter of that type takes it
+abbrev pub SoundArgument : {F : Type 0} {g : _} → Scope F g → Kind → Part → Type 0
+SoundArgument scope kind part = Sound scope (λ signature a. IsTypedArgument signature a kind) calls_in_argument (argument_at (nodes_of scope) part)
+
+-- ---- what a part computes to
+
+-- whether a logical expression holds
+abbrev pub or_holds : {F : Type 0} {g : _} → Scope F g → Part → Data → Bool
+or_holds scope part v = computed.is_true (set_of scope) (top_of scope) (or_at (nodes_of scope) part) v
+
+abbrev pub and_holds : {F : Type 0} {g : _} → Scope F g → Part → Data → Bool
+and_holds scope part v = computed.all_true (set_of scope) (top_of scope) (and_at (nodes_of scope) part) v
+
+abbrev pub basic_holds : {F : Type 0} {g : _} → Scope F g → Part → Data → Bool
+basic_holds scope part v = computed.basic_true (set_of scope) (top_of scope) (basic_at (nodes_of scope) part) v
+
+-- what a side of a comparison stands for
+abbrev pub compared_at : {F : Type 0} {g : _} → Scope F g → Part → Data → Option Compared
+compared_at scope part v = computed.compared (set_of scope) (top_of scope) (comparable_at (nodes_of scope) part) v
+
+-- whether a comparison of two comparables holds
+abbrev pub relation_holds : {F : Type 0} {g : _} → Scope F g → Part → ComparisonOperator → Part → Data → Bool
+relation_holds scope left operator right v = computed.compare_sides (operator_view operator) (compared_at scope left v) (compared_at scope right v)
+
+-- what a call answers
+abbrev pub answer_at : {F : Type 0} {g : _} → Scope F g → Part → Data → Term
+answer_at scope part v = computed.answer (set_of scope) (top_of scope) (call_at (nodes_of scope) part) v
+
+-- an argument as a parameter of that type takes it
+abbrev pub given_at : {F : Type 0} {g : _} → Scope F g → Part → Kind → Data → Term
+given_at scope part kind v = computed.argument_as (set_of scope) (top_of scope) (argument_at (nodes_of scope) part) kind v
+
+-- the nodes of a query, and their values
+abbrev pub results_at : {F : Type 0} {g : _} → Scope F g → Part → Data → List Located
+results_at scope part v = computed.results (set_of scope) (top_of scope) (part_query (nodes_of scope) part) v
+
+abbrev pub values_at : {F : Type 0} {g : _} → Scope F g → Part → Data → List Data
+values_at scope part v = map (λ (n : Located). n.value) (results_at scope part v)
+
+-- the values of the nodes that segments select from a value
+abbrev pub values_of_segments : {F : Type 0} {g : _} → Scope F g → List Part → Data → List Data
+values_of_segments scope segments v = values_from (set_of scope) (top_of scope) (segments_at (nodes_of scope) segments) v
+
+-- ---- steps of a walk
+
+-- the nodes that remain of these frames
+abbrev pub remaining : {F : Type 0} {g : _} → Scope F g → List Part → List Frame → List Located
+remaining scope segments frames = rest.rest_of (set_of scope) (top_of scope) (stages_at (nodes_of scope) segments) frames
+
+-- how many steps these frames take at most
+abbrev pub work_left : {F : Type 0} {g : _} → Scope F g → List Part → List Frame → ℕ
+work_left scope segments frames = rest.work (stages_at (nodes_of scope) segments) frames
+
+-- of these children some are passed, but none that the selector admits
+abbrev pub Skips : {F : Type 0} {g : _} → Scope F g → SelectorRef → List (Step × Data) → List (Step × Data) → Type 0
+Skips scope selector old new = advances.Skips (set_of scope) (top_of scope) (selector_view (nodes_of scope) selector) old new
+
+-- the first of these children is the next one that the selector admits, if there is one
+abbrev pub IsAtAdmitted : {F : Type 0} {g : _} → Scope F g → SelectorRef → List (Step × Data) → Option (Step × Data) → Type 0
+IsAtAdmitted scope selector left found = advances.IsAtAdmitted (set_of scope) (top_of scope) (selector_view (nodes_of scope) selector) left found
+
+-- the frame has passed some children, but no task
+abbrev pub Passes : {F : Type 0} {g : _} → Scope F g → Part → Frame → Frame → Type 0
+Passes scope segment old new = advances.Passes (set_of scope) (top_of scope) (stage_at (nodes_of scope) segment) old new
+
+-- the first child that is left at the frame is its next task, if there is one
+abbrev pub IsAtTask : {F : Type 0} {g : _} → Scope F g → Part → Frame → Option (ℕ × (Step × Data)) → Type 0
+IsAtTask scope segment p found = advances.IsAtTask (set_of scope) (top_of scope) (stage_at (nodes_of scope) segment) p found
+
+-- the walk has come to a node, at that step from the last frame, with that value
+abbrev pub IsAtNode : {F : Type 0} {g : _} → Scope F g → List Part → List Frame → Option Step → Data → Type 0
+IsAtNode scope segments frames step v = advances.IsAtNode (set_of scope) (top_of scope) (stages_at (nodes_of scope) segments) frames step v

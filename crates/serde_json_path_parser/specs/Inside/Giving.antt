@@ -1,0 +1,196 @@
+-- What a function of the parser returned is what reading gives.
+use Rattle.std.specs.Prelude.{◌≡◌, ℕ, true, length, ◌≤◌, ◌+◌, ◌-◌, List, [], ◌++◌, Option, Some, Result, Ok, Err}
+use Rattle.serde_json_path_syntax.specs.Tree.{query, root, SegmentKind, Segments, Segment, Selector, Call, Arguments, no_arguments, Argument, literal_argument, query_argument, call_argument, logical_argument}
+use Rattle.serde_json_path_syntax.specs.Calls.{names_of, calls_in_segments, calls_in_segment, calls_in_selectors, calls_from, calls_in_arguments, calls_in_argument}
+use Rattle.serde_json_path_syntax.specs.Flat.{parts_in, segment_kind_view}
+use Rattle.serde_json_path_syntax.specs.Literals.{literal_view}
+use Rattle.serde_json_path_syntax.specs.Piece as piece
+use Rattle.serde_json_path_syntax.specs.Piece.{Piece, a_segment, calls_in_piece}
+use Rattle.serde_json_path_syntax.specs.Parts.{IsPart, ArePartsOf, AreSelectorsOf, AreArgumentsOf, KeepsTrees, calls_in, signatures_of, tree_of}
+use Rattle.serde_json_path_syntax.specs.Typing.{result_kind}
+use Rattle.serde_json_path_syntax.specs.Used.{AreCalled, AreDeclared, names_in}
+use Rattle.serde_json_path_functions.specs.Functions.{Signature, FunctionSet, Fits}
+use Rattle.serde_json_path_functions.specs.Terms.{kind_view}
+use Rattle.serde_json_path_functions.specs.declared.types.FunctionArgType.{FunctionArgType}
+use Rattle.serde_json_path_syntax.specs.declared.node.Part.{Part}
+use Rattle.serde_json_path_syntax.specs.declared.parts.Parts.{Parts}
+use Rattle.serde_json_path_syntax.specs.declared.builder.SyntaxBuilder.{SyntaxBuilder}
+use Rattle.serde_json_path_syntax.specs.declared.checked.Checked.{Checked}
+use Rattle.serde_json_path_parser.specs.declared.error.Refusal.{Refusal}
+use Rattle.serde_json_path_parser.specs.declared.error.Failure.{Failure}
+use Rattle.serde_json_path_parser.specs.declared.error.Failure.TheVariants as failures
+use Rattle.serde_json_path_parser.specs.Errors.{is_told_at_next, no_memory}
+use Rattle.serde_json_path_parser.specs.declared.error.ParseError.{ParseError}
+use Rattle.serde_json_path_parser.specs.declared.source.PathSource.{Ghosts}
+use Rattle.serde_json_path_parser.specs.declared.parser.reader.Reader.{Reader}
+use Rattle.serde_json_path_parser.specs.Inside.Reading.{left, seen, told, Moves}
+use Rattle.serde_json_path_parser.specs.Parsed.{Parsed, past_blanks, byte_count}
+use Rattle.serde_json_path_parser.specs.Parsing.{selector_list, segment_list, of_kind}
+use Rattle.serde_json_path_parser.specs.Operands.{Operand, a_literal, a_query, a_call, calls_in_operand}
+use Rattle.serde_json_path_parser.specs.declared.parser.segment.SegmentStart as declared
+use Rattle.serde_json_path_parser.specs.declared.parser.segment.SegmentStart.TheVariants as starts
+use Rattle.serde_json_path_parser.specs.declared.parser.operand.Operand as operands
+use Rattle.serde_json_path_parser.specs.declared.parser.operand.Operand.TheVariants as the_operands
+use Rattle.serde_json_path_parser.specs.declared.parser.call.Argument as arguments
+use Rattle.serde_json_path_parser.specs.declared.parser.call.Argument.TheVariants as the_arguments
+
+-- it stops with what reading refuses, unless memory was refused
+abbrev pub Fails : {Y : Type 0} → Failure → Result Y Refusal → Type 0
+Fails failures.Memory read = Unit {0}
+Fails (failures.Refused r) read = read ≡ Err r
+
+-- The result, seen by view, is what reading gives, and the reader stands after it.
+abbrev pub Gives : {X Y S : Type 0} {g : Ghosts S} → (X → Y) → Result X Failure → Reader S g → Parsed Y → Type 0
+Gives view (Ok x) reader read = read ≡ Ok (view x, left reader)
+Gives view (Err e) reader read = Fails e read
+
+-- The builder has grown by parts that make these calls: each earlier part stays good, with its tree, and the calls that
+-- were made since are these, each with the signature that its name has.
+pub record Grows (signature : List ℕ → Option Signature) (old new : SyntaxBuilder) (calls : List Call) : Type 0 where
+  pub trees : KeepsTrees old new
+  pub names : names_in (calls_in new) ≡ names_in (calls_in old) ++ names_of calls
+  pub declared : AreDeclared signature (calls_in old) → AreDeclared signature (calls_in new)
+
+-- The part that was made stands, as such a piece, for what reading gives.
+abbrev pub Makes : {A S : Type 0} {g : Ghosts S} → (List ℕ → Option Signature) → (A → Piece) → SyntaxBuilder → SyntaxBuilder
+    → Result Part Failure → Reader S g → Parsed A → Type 0
+Makes {A} signature piece old new (Ok part) reader read =
+    (x : A) × IsPart new part (piece x) × (read ≡ Ok (x, left reader)) × Grows signature old new (calls_in_piece (piece x))
+Makes signature piece old new (Err e) reader read = Fails e read
+
+-- What was built since some earlier time made the first calls before the builder grew, and makes the others now.
+abbrev pub GrowsFrom : (List ℕ → Option Signature) → SyntaxBuilder → SyntaxBuilder → List Call → List Call → Type 0
+GrowsFrom signature old new first calls = (before : SyntaxBuilder) → Grows signature before old first → Grows signature before new calls
+
+-- The same, out of a part that makes these calls.
+abbrev pub MakesFrom : {A S : Type 0} {g : Ghosts S} → (List ℕ → Option Signature) → List Call → (A → Piece) → SyntaxBuilder
+    → SyntaxBuilder → Result Part Failure → Reader S g → Parsed A → Type 0
+MakesFrom {A} signature first piece old new (Ok part) reader read =
+    (x : A) × IsPart new part (piece x) × (read ≡ Ok (x, left reader))
+    × GrowsFrom signature old new first (calls_in_piece (piece x))
+MakesFrom signature first piece old new (Err e) reader read = Fails e read
+
+-- A part was made out of one that makes these calls, and makes no others.
+abbrev pub MakesOf : {A S : Type 0} {g : Ghosts S} → List Call → (A → Piece) → SyntaxBuilder → Result Part Failure → Reader S g
+    → Parsed A → Type 0
+MakesOf {A} calls piece new (Ok part) reader read =
+    (x : A) × IsPart new part (piece x) × (read ≡ Ok (x, left reader)) × (calls ≡ calls_in_piece (piece x))
+MakesOf calls piece new (Err e) reader read = Fails e read
+
+-- a segment's piece
+abbrev pub segment_piece : SegmentKind × Segment → Piece
+segment_piece s = a_segment s.0 s.1
+
+-- The parts that were made stand for the selectors that reading gives.
+abbrev pub MakesSelectors : {S : Type 0} {g : Ghosts S} → (List ℕ → Option Signature) → SyntaxBuilder → SyntaxBuilder
+    → Result Parts Failure → Reader S g → Parsed (List Selector) → Type 0
+MakesSelectors signature old new (Ok parts) reader read =
+    (ss : List Selector) × AreSelectorsOf new (parts_in parts) (selector_list ss) × (read ≡ Ok (ss, left reader))
+    × Grows signature old new (calls_in_selectors (selector_list ss))
+MakesSelectors signature old new (Err e) reader read = Fails e read
+
+-- A segment was made, or a bracket begins, after which reading goes on.
+abbrev pub StartsSegment : {S : Type 0} {g : Ghosts S} → (List ℕ → Option Signature) → SyntaxBuilder → SyntaxBuilder
+    → Result declared.SegmentStart Failure → Reader S g → (List ℕ → Parsed Segment) → Parsed (SegmentKind × Segment) → Type 0
+StartsSegment signature old new (Ok (starts.Dotted part)) reader bracket_at read =
+    (s : SegmentKind × Segment) × IsPart new part (segment_piece s) × (read ≡ Ok (s, left reader))
+    × Grows signature old new (calls_in_segment s.1)
+StartsSegment signature old new (Ok (starts.Bracket kind)) reader bracket_at read =
+    (read ≡ of_kind (segment_kind_view kind) (bracket_at (left reader))) × Grows signature old new []
+StartsSegment signature old new (Err e) reader bracket_at read = Fails e read
+
+-- The parts that were made stand for the segments that reading gives. So many bytes are left after the last one, and
+-- the reader stands after the blanks there.
+abbrev pub MakesSegments : {S : Type 0} {g : Ghosts S} → (List ℕ → Option Signature) → SyntaxBuilder → SyntaxBuilder
+    → Result (Parts × ℕ) Failure → Reader S g → Parsed (List (SegmentKind × Segment)) → Type 0
+MakesSegments signature old new (Ok parts) reader read =
+    (ss : List (SegmentKind × Segment)) × (rest : List ℕ) × ArePartsOf new (parts_in parts.0) (segment_list ss)
+    × (parts.1 ≡ byte_count rest) × (left reader ≡ past_blanks rest) × (read ≡ Ok (ss, rest))
+    × Grows signature old new (calls_in_segments (segment_list ss))
+MakesSegments signature old new (Err e) reader read = Fails e read
+
+-- The tree is that of the segments that reading gives, and the signatures are those of the names that it calls.
+abbrev pub GivesQuery : FunctionSet → Result Checked Failure → Result Segments Refusal → Type 0
+GivesQuery F (Ok checked) read =
+    (segs : Segments) × (tree_of checked ≡ query root segs) × (read ≡ Ok segs) × AreCalled (signatures_of checked) (query root segs)
+    × Fits F (signatures_of checked)
+GivesQuery F (Err e) read = Fails e read
+
+-- The operand is the one that reading gives.
+abbrev pub IsOperandOf : (List ℕ → Option Signature) → SyntaxBuilder → operands.Operand → Operand → Type 0
+IsOperandOf signature builder (the_operands.Literal l) (a_literal x) = literal_view l ≡ x
+IsOperandOf signature builder (the_operands.Query part) (a_query q) = IsPart builder part (piece.a_query q)
+IsOperandOf signature builder (the_operands.Call part kind) (a_call c) =
+    IsPart builder part (piece.a_call c) × (result_kind signature c ≡ Some (kind_view kind))
+IsOperandOf signature builder _ _ = ⊥
+
+abbrev pub MakesOperand : {S : Type 0} {g : Ghosts S} → (List ℕ → Option Signature) → SyntaxBuilder → SyntaxBuilder
+    → Result operands.Operand Failure → Reader S g → Parsed Operand → Type 0
+MakesOperand signature old new (Ok o) reader read =
+    (x : Operand) × IsOperandOf signature new o x × (read ≡ Ok (x, left reader)) × Grows signature old new (calls_in_operand x)
+MakesOperand signature old new (Err e) reader read = Fails e read
+
+-- The call is the one that reading gives, and its result is of that type.
+abbrev pub MakesCall : {S : Type 0} {g : Ghosts S} → (List ℕ → Option Signature) → SyntaxBuilder → SyntaxBuilder
+    → Result (Part × FunctionArgType) Failure → Reader S g → Parsed Call → Type 0
+MakesCall signature old new (Ok call) reader read =
+    (c : Call) × IsPart new call.0 (piece.a_call c) × (result_kind signature c ≡ Some (kind_view call.1))
+    × (read ≡ Ok (c, left reader)) × Grows signature old new (calls_from c)
+MakesCall signature old new (Err e) reader read = Fails e read
+
+-- The argument is the one that reading gives.
+abbrev pub IsArgumentOf : (List ℕ → Option Signature) → SyntaxBuilder → arguments.Argument → Argument → Type 0
+IsArgumentOf signature builder (the_arguments.Operand (the_operands.Literal l)) (literal_argument x) = literal_view l ≡ x
+IsArgumentOf signature builder (the_arguments.Operand (the_operands.Query part)) (query_argument q) = IsPart builder part (piece.a_query q)
+IsArgumentOf signature builder (the_arguments.Operand (the_operands.Call part kind)) (call_argument c) =
+    IsPart builder part (piece.a_call c) × (result_kind signature c ≡ Some (kind_view kind))
+IsArgumentOf signature builder (the_arguments.Logical part) (logical_argument e) = IsPart builder part (piece.an_or e)
+IsArgumentOf signature builder _ _ = ⊥
+
+abbrev pub MakesArgument : {S : Type 0} {g : Ghosts S} → (List ℕ → Option Signature) → SyntaxBuilder → SyntaxBuilder
+    → Result arguments.Argument Failure → Reader S g → Parsed Argument → Type 0
+MakesArgument signature old new (Ok a) reader read =
+    (x : Argument) × IsArgumentOf signature new a x × (read ≡ Ok (x, left reader)) × Grows signature old new (calls_in_argument x)
+MakesArgument signature old new (Err e) reader read = Fails e read
+
+-- The parts that were put after others stand for the arguments that reading gives.
+abbrev pub MakesArguments : {S : Type 0} {g : Ghosts S} → (List ℕ → Option Signature) → SyntaxBuilder → SyntaxBuilder → List Part
+    → List Part → Result Unit Failure → Reader S g → Parsed Arguments → Type 0
+MakesArguments signature old new before after (Ok u) reader read =
+    (args : Arguments) × (parts : List Part) × (after ≡ before ++ parts) × AreArgumentsOf new parts args
+    × (read ≡ Ok (args, left reader)) × Grows signature old new (calls_in_arguments args)
+MakesArguments signature old new before after (Err e) reader read = Fails e read
+
+-- the end of the arguments is what reading gives
+abbrev pub GivesEnd : {S : Type 0} {g : Ghosts S} → Result Unit Failure → Reader S g → Parsed Arguments → Type 0
+GivesEnd (Ok u) reader read = read ≡ Ok (no_arguments, left reader)
+GivesEnd (Err e) reader read = Fails e read
+
+-- a refusal, and not want of memory
+abbrev pub IsRefused : Failure → Type 0
+IsRefused failures.Memory = ⊥
+IsRefused (failures.Refused r) = Unit {0}
+
+-- Where a refusal of some kinds is reported at the byte that is next, no byte was seen beyond the one after its place.
+abbrev pub StopsNear : {S : Type 0} {g : Ghosts S} → Failure → Reader S g → Type 0
+StopsNear failures.Memory reader = Unit {0}
+StopsNear (failures.Refused r) reader = is_told_at_next r.kind ≡ true → seen reader + r.left ≤ length (told reader).text + 2
+
+abbrev pub IsNear : {X S : Type 0} {g : Ghosts S} → Result X Failure → Reader S g → Type 0
+IsNear (Ok x) reader = Unit {0}
+IsNear (Err e) reader = StopsNear e reader
+
+-- The reader moved on, and where it stopped with such a refusal no byte was seen beyond the one after its place.
+pub record MovesTo {X S : Type 0} {g : Ghosts S} (result : Result X Failure) (old new : Reader S g) : Type 0 where
+  pub moves : Moves old new
+  pub near : IsNear result new
+
+-- a refusal stands within a text of so many bytes
+abbrev pub IsWithin : Failure → ℕ → Type 0
+IsWithin failures.Memory total = Unit {0}
+IsWithin (failures.Refused r) total = r.left ≤ total
+
+-- the public error of a failure, in a text of so many bytes
+abbrev pub error_of : Failure → ℕ → ParseError
+error_of failures.Memory total = no_memory
+error_of (failures.Refused r) total = record { kind = r.kind; context = r.context; position = total - r.left + 1 }

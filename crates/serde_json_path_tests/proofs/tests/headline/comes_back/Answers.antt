@@ -1,0 +1,23 @@
+use Rattle.std.proofs.Common.{◌≡◌, ◌∙◌, List, ℕ, Option, sym, subst, rules}
+use Rattle.std.specs.Str.{IsUtf8, chars}
+use Rattle.serde_json_path_functions.specs.Functions.{Signature}
+use Rattle.serde_json_path_syntax.specs.Text.{query_text}
+use Rattle.serde_json_path_syntax.specs.Tree.{Query}
+use Rattle.serde_json_path_parser.specs.Accepted.{IsAccepted}
+use Rattle.serde_json_path_parser.specs.Laws.{PrintedTextReadsBack}
+use Rattle.serde_json_path.specs.Paths.{path_tree}
+use Rattle.serde_json_path_tests.proofs.tests.headline.comes_back.Goals as goal
+
+-- where a text is accepted with a tree, so is the tree's own text
+accepted_again : PrintedTextReadsBack → (signature : List ℕ → Option Signature) (text printed : List ℕ) (q : Query) → IsUtf8 text → printed ≡ query_text q
+    → IsAccepted signature (chars text) q → IsAccepted signature (chars printed) q
+accepted_again law signature text printed q utf8 same h =
+    subst (λ t. IsAccepted signature (chars t) q) (sym same)
+    (record { reads = law text q utf8 h.reads; from_root = h.from_root; typed = h.typed; shallow = h.shallow })
+
+pub unreachable-requires : goal.unreachable-requires
+unreachable-requires g c =
+    let tree = path_tree c.in_ok-path.path in
+    let printed : c.as_str.result.now ≡ query_text tree = search rules in
+    c.in-Err.ensures.parse.refused (λ e. c.in_default.not-NoMemory (c.kind.ensures ∙ e)) tree
+    (accepted_again c.law_print.ensures _ _ _ tree c.utf8.text printed c.in_ok-path.ensures.parse.accepted)
