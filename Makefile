@@ -29,11 +29,12 @@ check:
 	rt all check
 
 # The whole gate: each proof from nothing, each test, and each edit that must be refused; then the programs that must not
-# compile, over the libraries that the gate has left; the documents, by the program that it has built, and the list of what
-# must be believed; and the bindings.
+# compile and refused memory, over the libraries and the tests that the gate has left; the documents, by the program that it
+# has built, and the list of what must be believed; and the bindings.
 test:
 	RT_JOBS="$$(tools/lanes)" rt ci
 	tools/must_not_compile
+	tools/refuse_memory --built
 	tools/check_documents
 	tools/trusted --check docs/TRUSTED.md
 	$(MAKE) test-bindings
@@ -46,7 +47,7 @@ documents: bin/jsonpath
 trusted:
 	tools/trusted --write docs/TRUSTED.md
 
-# Refuses each request for memory in turn, and prints what came of it. No part of the gate.
+# Refuses each request for memory in turn, in tests that it proves and builds first, and prints what came of it.
 refused-memory:
 	tools/refuse_memory
 

@@ -1,3 +1,5 @@
+-- the words of definitions, from one place
+pub mod Words
 -- the computed list of a query is its result, and no other list is
 pub mod Meaning
 -- a walk gives the computed list

@@ -1,8 +1,7 @@
 -- The function sets of the tests: what their names mean, and that they keep types and patterns.
 use Rattle.std.proofs.Common.{ℕ, List, [], ◌∷◌, Bool, true, false, ◌||◌, Option, Some, None, bytes_eq, codes, if◌then◌else◌, refl, arith}
 use Rattle.serde_json.specs.Data.{boolean}
-use Rattle.serde_json_path_functions.specs.OwnSets.{Keeps, KeepsPattern, declared_keeps}
-use Rattle.serde_json_path_functions.specs.Inside.BuiltinTypes.{pattern_typed, pattern_kept}
+use Rattle.serde_json_path_functions.specs.OwnSets.{Keeps, KeepsPattern, declared_keeps, pattern_kept, pattern_typed}
 use Rattle.serde_json_path_functions.specs.Functions.{of_value, of_nodes, of_logical, Signature, value, logical, Matching, any_part, FunctionSet, KeepsTypes, matching_signature}
 use Rattle.serde_json_path_functions.specs.Patterns.{pattern_meaning, KeepsPatterns, keeps_no_patterns, meaning_by}
 

@@ -1,3 +1,5 @@
+-- the words of definitions, from one place
+pub mod Words
 -- texts and their bytes
 pub mod Texts
 -- reading lists of characters, whatever is read

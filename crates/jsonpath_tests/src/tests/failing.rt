@@ -188,7 +188,7 @@ fn each_write_of_a_refusal_fails(rt: HostRuntime) -> Result<(), Fail> {
     for &(path, document, wanted, told) in REFUSED {
         for fails_at in 0..100 {
             let err = (told, fails_at);
-            let status = run_writing(&rt, rt.alloc(), (path, document), ("", 0), err)?;
+            let status = run_writing(&rt, rt.alloc(), (path, document), ("", 1000), err)?;
             assert_eq!(rt; status, wanted, "{path}, call {fails_at}");
         }
     }
@@ -200,7 +200,7 @@ fn a_pattern_is_refused(rt: HostRuntime) -> Result<(), Fail> {
     let run = ("$[?match(@,'a{1000}{1000}')]", r#"["a"]"#);
     for fails_at in [1, 1000] {
         let err = ("jsonpath: query: pattern refused\n", fails_at);
-        assert_eq!(rt; run_writing(&rt, rt.alloc(), run, ("", 0), err)?, 3);
+        assert_eq!(rt; run_writing(&rt, rt.alloc(), run, ("", 1000), err)?, 3);
     }
     Ok(())
 }

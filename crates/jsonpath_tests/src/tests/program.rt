@@ -107,6 +107,26 @@ impl Write for Narrow {
     }
 }
 
+/// A writer that has room for so many bytes, and takes none once it is full.
+#[derive(Drop)]
+struct Full {
+    taken: Vec<u8>,
+    room: usize,
+}
+
+impl Write for Full {
+    ghost contents = { λ writer. Some writer.taken.items };
+
+    fn write(&mut self, buf: &[u8]) -> io::Result<usize> {
+        let room = self.room.saturating_sub(self.taken.len());
+        self.taken.write(&buf[..room.min(buf.len())])
+    }
+
+    fn flush(&mut self) -> io::Result<()> {
+        Ok(())
+    }
+}
+
 fn words(alloc: Global, of: &[&str]) -> Result<Vec<String>, std::alloc::AllocError> {
     let mut words = Vec::new(alloc);
     for word in of {
@@ -250,6 +270,30 @@ fn short_and_interrupted_writes(rt: HostRuntime) -> Result<(), Fail> {
         let answer = run(rt.alloc(), &root, &mut Input::of(b"1"), &mut out, &mut err);
         ends(&rt, answer, status);
         wrote(&rt, out.taken.as_slice(), written);
+    }
+    Ok(())
+}
+
+#[test]
+fn full_writers(rt: HostRuntime) -> Result<(), Fail> {
+    let root = words(rt.alloc(), &["$"])?;
+    for (room, status, written, told) in [
+        (4, 0, "$\t1\n", ""),
+        (2, 3, "$\t", "jsonpath:"),
+        (0, 3, "", "jsonpath:"),
+    ] {
+        let mut out = Full {
+            taken: Vec::new(rt.alloc()),
+            room,
+        };
+        let mut err = Full {
+            taken: Vec::new(rt.alloc()),
+            room: 9,
+        };
+        let answer = run(rt.alloc(), &root, &mut Input::of(b"1"), &mut out, &mut err);
+        ends(&rt, answer, status);
+        wrote(&rt, out.taken.as_slice(), written);
+        wrote(&rt, err.taken.as_slice(), told);
     }
     Ok(())
 }

@@ -1,50 +1,26 @@
-use Rattle.std.proofs.Common.{◌≡◌, ◌+◌, length, map, take, [], drop, option_map, refl, sym, subst, ap, ◌∙◌, arith, ◌∷◌, ◌++◌, ◌⊎◌, inl, inr, rules, filter as keep, append_assoc, Option, set, List, Some, slice_get, ◌<◌}
-use Rattle.std.proofs.lemmas.List.{get_or_default, map-append}
-use Rattle.std.proofs.lemmas.Grind.{common_steps}
-use Rattle.std.specs.Option.{option_map_or}
-use Rattle.std.proofs.lemmas.List.{length-set}
-use Rattle.serde_json_path_core.specs.Inside.Advances.{IsAtTask, IsKept}
-use Rattle.std.proofs.Math.Logic.{∥∥₁_map}
-use Rattle.std.specs.Slice.Iter.{iter_rest}
-use Rattle.serde_json.specs.Data.{Data}
-use Rattle.serde_json.specs.View.{view}
-use Rattle.serde_json_path_nodes.specs.Location.{Step, Located}
-use Rattle.serde_json_path_nodes.specs.Views.{node_value, step_view}
-use Rattle.serde_json_path_syntax.specs.Tree.{child, descendant}
-use Rattle.serde_json_path_core.specs.Inside.Cursors.{cursor_left}
-use Rattle.serde_json_path_syntax.specs.Flat.{segment_kind_view, segment_in, segments_at, piece_at, basic_at, comparable_at, or_at, call_at, part_query, pieces}
-use Rattle.serde_json_path_syntax.specs.Literals.{operator_view}
-use Rattle.serde_json_path_functions.specs.Terms.{term_view, kind_view}
-use Rattle.serde_json_path_core.specs.PatternCalls.{StandsIn}
-use Rattle.serde_json_path_core.specs.Inside.Evaluates.{IsAtNode, Sound}
-use Rattle.serde_json_path_syntax.specs.Typing.{IsTypedOr, IsTypedAnd, AreTypedArguments}
-use Rattle.serde_json_path_syntax.specs.Calls.{calls_in_or, calls_in_and, name_of, arguments_of}
-use Rattle.serde_json_path_core.specs.Inside.Scopes.{nodes_of, query_of, set_of, top_of}
-use Rattle.serde_json_path_core.specs.Inside.Frames.{frame_view, frames_view, task_view}
-use Rattle.serde_json_path_core.specs.Inside.Rest.{admitted, node_at, rest_of, work, IsStack, IsStackIn, IsInside}
-use Rattle.serde_json_path_syntax.specs.Stages.{selector_view, stage_at, stages_at}
-use Rattle.serde_json_path_core.specs.Inside.Views.{child_view}
-use Rattle.serde_json_path_core.specs.Inside.SingleChildren.{values_from}
-use Rattle.std.specs.Borrow.{Bor}
-use Rattle.serde_json.specs.declared.value.Value.{Value}
-use Rattle.serde_json_path_syntax.specs.Lists.{IsIn}
+use Rattle.std.proofs.Common.{◌≡◌, ◌+◌, length, map, take, [], drop, option_map, refl, sym, subst, ap, ◌∙◌, arith, ◌∷◌, ◌++◌, ◌⊎◌, inl, inr, rules, filter as keep, append_assoc, Option, List, slice_get, ◌<◌}
+use Rattle.serde_json_path_core.proofs.Words.{get_or_default, map-append, common_steps, option_map_or, length-set, ∥∥₁_map, iter_rest, Data, view, Step}
+use Rattle.serde_json_path_core.proofs.Words.{Located, node_value, step_view, child, descendant, cursor_left, segment_kind_view, segment_in, segments_at}
+use Rattle.serde_json_path_core.proofs.Words.{piece_at, basic_at, comparable_at, or_at, call_at, part_query, pieces, operator_view, term_view, StandsIn, Sound}
+use Rattle.serde_json_path_core.proofs.Words.{IsTypedOr, IsTypedAnd, AreTypedArguments, calls_in_or, calls_in_and, name_of, arguments_of, nodes_of, top_of}
+use Rattle.serde_json_path_core.proofs.Words.{frame_view, frames_view, admitted, node_at, rest_of, work, IsStack, IsStackIn, IsInside, selector_view}
+use Rattle.serde_json_path_core.proofs.Words.{stage_at, stages_at, child_view, values_from, Bor, Value, IsIn, within_get, within_bound, below_length}
+use Rattle.serde_json_path_core.proofs.Words.{past_length, signatures_of, params_of}
+use Rattle.serde_json_path_functions.specs.Terms.{kind_view}
+use Rattle.serde_json_path_core.specs.Inside.Evaluates.{IsKept}
+use Rattle.serde_json_path_core.specs.Inside.Scopes.{query_of, set_of}
 use Rattle.serde_json_path_core.specs.Inside.Computed as computed
 use Rattle.serde_json_path_core.proofs.Steps.Answered.{given-all, answered, by_pattern, if_refused}
-use Rattle.serde_json_path_syntax.proofs.Tree.BoundedParts.{within_get, within_bound}
 use Rattle.serde_json_path_core.proofs.Steps.OperandLists.{keep-no, keep-yes}
 use Rattle.serde_json_path_core.proofs.Walks.FrameSteps.{at_selector, ends-trans, passes-over, passes-skipped, at-onward, at-downward, done, at-none, at-some}
 use Rattle.serde_json_path_core.proofs.Walks.Started.{rest-started}
 use Rattle.serde_json_path_core.proofs.Walks.InDocument.{left_stands, entered-inside, stack-inside, ends-stand}
 use Rattle.serde_json_path_core.proofs.Sound.Parts.{argument-calls, next-calls, side-calls, sound-segment, sound-selector, sound-and, sound-basic, typed-arguments, parameters-known}
-use Rattle.serde_json_path_syntax.proofs.Tree.Bounds.{below_length, past_length}
-use Rattle.serde_json_path_core.proofs.Walks.Turns.{kept-trans, turn-kept}
 use Rattle.serde_json_path_core.proofs.Steps.KnownCases.{found-none, found-some}
 use Rattle.serde_json_path_core.proofs.Walks.LastFrames.{sees_replaced}
-use Rattle.serde_json_path_core.proofs.Walks.LastTurns.{Came, came-dropped, came-entered, came-kept, came-node, came-start}
+use Rattle.serde_json_path_core.proofs.Walks.LastTurns.{came-by, came-dropped, came-entered, came-kept, came-node, came-start, came-turned}
 use Rattle.serde_json_path_core.proofs.Walks.SingleChildren.{first-of-values}
 use Rattle.serde_json_path_core.proofs.Walks.StageLists.{drop-some, drop-none, get-within, missing}
-use Rattle.serde_json_path_syntax.specs.Parts.{signatures_of}
-use Rattle.serde_json_path_core.specs.Meaning.{params_of}
 use Rattle.serde_json_path_core.proofs.+evaluation.Goals as goal
 
 -- ---- frames
@@ -203,276 +179,85 @@ evaluation::stack::find_next-returns-in-None-clause-found g t c =
           (ap (λ f. (frame_view f).value) (c.index.ensures ∙ get_or_default items n _ _ (omega arith) ∙ sym c.index-in-None.ensures)),
     )
 
-pub evaluation::stack::find_next-returns-in_err-next_task-in-Some-get-clause-rest : goal.evaluation::stack::find_next-returns-in_err-next_task-in-Some-get-clause-rest
-evaluation::stack::find_next-returns-in_err-next_task-in-Some-get-clause-rest g t c =
-    let scope = c.args.scope.now in
-    let nodes = nodes_of scope in
-    let frames = c.loop-last.frames in
-    let items = frames.items in
-    let n = c.in-Some.last in
+pub evaluation::stack::find_next-returns-in_err-next_task-in-Some-get-clause-kept : goal.evaluation::stack::find_next-returns-in_err-next_task-in-Some-get-clause-kept
+evaluation::stack::find_next-returns-in_err-next_task-in-Some-get-clause-kept g t c =
     let some = c.in-Some.ensures in
-    let len = c.len.ensures ∙ frames.ok.0 in
-    let long : length items ≡ n + 1 = omega arith in
-    let segment = c.in-Some-get.segment.now in
+    let len = c.len.ensures ∙ c.loop-last.frames.ok.0 in
     let look = c.in-Some-get.ensures.lookup in
-    let seen = c.index.result.now in
-    let old = c.index_mut.result.now in
-    let new = c.next_task.new.self in
-    let came : Came (set_of scope) (top_of scope) nodes c.args.segments.now items n seen old new segment =
-    record { long = long; seen_is = c.index.ensures; old_is = c.index_mut.ensures.value; within = below_length _ _ look.0; at = look.1; passes = c.next_task.ensures.passes } in
-    (kept-trans (set_of scope) (top_of scope) (stages_at nodes c.args.segments.now) _ _ _ c.loop-last.invariant (came-kept (set_of scope) (top_of scope) nodes c.args.segments.now items n seen old new segment came)).0
+    let came = came-by (set_of c.args.scope.now) (top_of c.args.scope.now) (nodes_of c.args.scope.now) c.args.segments.now
+    c.loop-last.frames.items c.in-Some.last c.index.result.now c.index_mut.result.now c.next_task.new.self c.in-Some-get.segment.now (omega arith)
+    c.index.ensures c.index_mut.ensures.value (below_length _ _ look.0, look.1) c.next_task.ensures.passes in
+    came-kept came _ c.loop-last.invariant
 
-pub evaluation::stack::find_next-returns-in_err-next_task-in-Some-get-clause-less : goal.evaluation::stack::find_next-returns-in_err-next_task-in-Some-get-clause-less
-evaluation::stack::find_next-returns-in_err-next_task-in-Some-get-clause-less g t c =
-    let scope = c.args.scope.now in
-    let nodes = nodes_of scope in
-    let frames = c.loop-last.frames in
-    let items = frames.items in
-    let n = c.in-Some.last in
+pub evaluation::stack::find_next-returns-in_err-enter-in-Some-2-clause-kept : goal.evaluation::stack::find_next-returns-in_err-enter-in-Some-2-clause-kept
+evaluation::stack::find_next-returns-in_err-enter-in-Some-2-clause-kept g t c =
     let some = c.in-Some.ensures in
-    let len = c.len.ensures ∙ frames.ok.0 in
-    let long : length items ≡ n + 1 = omega arith in
-    let segment = c.in-Some-get.segment.now in
+    let len = c.len.ensures ∙ c.loop-last.frames.ok.0 in
     let look = c.in-Some-get.ensures.lookup in
-    let seen = c.index.result.now in
-    let old = c.index_mut.result.now in
-    let new = c.next_task.new.self in
-    let came : Came (set_of scope) (top_of scope) nodes c.args.segments.now items n seen old new segment =
-    record { long = long; seen_is = c.index.ensures; old_is = c.index_mut.ensures.value; within = below_length _ _ look.0; at = look.1; passes = c.next_task.ensures.passes } in
-    (kept-trans (set_of scope) (top_of scope) (stages_at nodes c.args.segments.now) _ _ _ c.loop-last.invariant (came-kept (set_of scope) (top_of scope) nodes c.args.segments.now items n seen old new segment came)).1
+    let came = came-by (set_of c.args.scope.now) (top_of c.args.scope.now) (nodes_of c.args.scope.now) c.args.segments.now
+    c.loop-last.frames.items c.in-Some.last c.index.result.now c.index_mut.result.now c.next_task.new.self c.in-Some-get.segment.now (omega arith)
+    c.index.ensures c.index_mut.ensures.value (below_length _ _ look.0, look.1) c.next_task.ensures.passes in
+    subst (IsKept c.args.scope.now c.args.segments.now (frames_view c.args.frames.now.items)) (ap frames_view (sym c.in_err-enter-in-Some-2.ensures.unchanged)) (came-kept came _ c.loop-last.invariant)
 
-pub evaluation::stack::find_next-returns-in_err-next_task-in-Some-get-clause-stack : goal.evaluation::stack::find_next-returns-in_err-next_task-in-Some-get-clause-stack
-evaluation::stack::find_next-returns-in_err-next_task-in-Some-get-clause-stack g t c =
-    let scope = c.args.scope.now in
-    let nodes = nodes_of scope in
-    let frames = c.loop-last.frames in
-    let items = frames.items in
-    let n = c.in-Some.last in
+pub evaluation::stack::find_next-returns-then-task-segments-clause-kept : goal.evaluation::stack::find_next-returns-then-task-segments-clause-kept
+evaluation::stack::find_next-returns-then-task-segments-clause-kept g t c =
     let some = c.in-Some.ensures in
-    let len = c.len.ensures ∙ frames.ok.0 in
-    let long : length items ≡ n + 1 = omega arith in
-    let segment = c.in-Some-get.segment.now in
+    let len = c.len.ensures ∙ c.loop-last.frames.ok.0 in
     let look = c.in-Some-get.ensures.lookup in
-    let seen = c.index.result.now in
-    let old = c.index_mut.result.now in
-    let new = c.next_task.new.self in
-    let came : Came (set_of scope) (top_of scope) nodes c.args.segments.now items n seen old new segment =
-    record { long = long; seen_is = c.index.ensures; old_is = c.index_mut.ensures.value; within = below_length _ _ look.0; at = look.1; passes = c.next_task.ensures.passes } in
-    (kept-trans (set_of scope) (top_of scope) (stages_at nodes c.args.segments.now) _ _ _ c.loop-last.invariant (came-kept (set_of scope) (top_of scope) nodes c.args.segments.now items n seen old new segment came)).2
-
-pub evaluation::stack::find_next-loop-last-smaller-in-None-2 : goal.evaluation::stack::find_next-loop-last-smaller-in-None-2
-evaluation::stack::find_next-loop-last-smaller-in-None-2 g t c =
-    let scope = c.args.scope.now in
-    let nodes = nodes_of scope in
-    let frames = c.loop-last.frames in
-    let items = frames.items in
-    let n = c.in-Some.last in
-    let some = c.in-Some.ensures in
-    let len = c.len.ensures ∙ frames.ok.0 in
-    let long : length items ≡ n + 1 = omega arith in
-    let segment = c.in-Some-get.segment.now in
-    let look = c.in-Some-get.ensures.lookup in
-    let seen = c.index.result.now in
-    let old = c.index_mut.result.now in
-    let new = c.next_task.new.self in
-    let came : Came (set_of scope) (top_of scope) nodes c.args.segments.now items n seen old new segment =
-    record { long = long; seen_is = c.index.ensures; old_is = c.index_mut.ensures.value; within = below_length _ _ look.0; at = look.1; passes = c.next_task.ensures.passes } in
-    (came-dropped (set_of scope) (top_of scope) nodes c.args.segments.now items n seen old new segment came (subst (λ found. IsAtTask (set_of scope) (top_of scope) (stage_at nodes segment) (frame_view new) (option_map task_view found)) c.in-None-2.is c.in_ok-next_task-in-Some-get.ensures.found) c.truncate.new.self.items c.truncate.ensures.items).1
-
-pub evaluation::stack::find_next-loop-last-preserved-in-None-2 : goal.evaluation::stack::find_next-loop-last-preserved-in-None-2
-evaluation::stack::find_next-loop-last-preserved-in-None-2 g t c =
-    let scope = c.args.scope.now in
-    let nodes = nodes_of scope in
-    let frames = c.loop-last.frames in
-    let items = frames.items in
-    let n = c.in-Some.last in
-    let some = c.in-Some.ensures in
-    let len = c.len.ensures ∙ frames.ok.0 in
-    let long : length items ≡ n + 1 = omega arith in
-    let segment = c.in-Some-get.segment.now in
-    let look = c.in-Some-get.ensures.lookup in
-    let seen = c.index.result.now in
-    let old = c.index_mut.result.now in
-    let new = c.next_task.new.self in
-    let came : Came (set_of scope) (top_of scope) nodes c.args.segments.now items n seen old new segment =
-    record { long = long; seen_is = c.index.ensures; old_is = c.index_mut.ensures.value; within = below_length _ _ look.0; at = look.1; passes = c.next_task.ensures.passes } in
-    kept-trans (set_of scope) (top_of scope) (stages_at nodes c.args.segments.now) _ _ _ c.loop-last.invariant (turn-kept (set_of scope) (top_of scope) (stages_at nodes c.args.segments.now) _ _ (came-dropped (set_of scope) (top_of scope) nodes c.args.segments.now items n seen old new segment came (subst (λ found. IsAtTask (set_of scope) (top_of scope) (stage_at nodes segment) (frame_view new) (option_map task_view found)) c.in-None-2.is c.in_ok-next_task-in-Some-get.ensures.found) c.truncate.new.self.items c.truncate.ensures.items))
-
-pub evaluation::stack::find_next-loop-last-smaller : goal.evaluation::stack::find_next-loop-last-smaller
-evaluation::stack::find_next-loop-last-smaller g t c =
-    let scope = c.args.scope.now in
-    let nodes = nodes_of scope in
-    let frames = c.loop-last.frames in
-    let items = frames.items in
-    let n = c.in-Some.last in
-    let some = c.in-Some.ensures in
-    let len = c.len.ensures ∙ frames.ok.0 in
-    let long : length items ≡ n + 1 = omega arith in
-    let segment = c.in-Some-get.segment.now in
-    let look = c.in-Some-get.ensures.lookup in
-    let seen = c.index.result.now in
-    let old = c.index_mut.result.now in
-    let new = c.next_task.new.self in
-    let came : Came (set_of scope) (top_of scope) nodes c.args.segments.now items n seen old new segment =
-    record { long = long; seen_is = c.index.ensures; old_is = c.index_mut.ensures.value; within = below_length _ _ look.0; at = look.1; passes = c.next_task.ensures.passes } in
-    let task = task_view c.in-Some-2.task in
-    (came-entered (set_of scope) (top_of scope) nodes c.args.segments.now items n seen old new segment came task (subst (λ found. IsAtTask (set_of scope) (top_of scope) (stage_at nodes segment) (frame_view new) (option_map task_view found)) c.in-Some-2.is c.in_ok-next_task-in-Some-get.ensures.found) (omega arith) (frames_view c.enter.new.frames.items) c.in_ok-enter-in-Some-2.ensures.ok).1
-
-pub evaluation::stack::find_next-loop-last-preserved : goal.evaluation::stack::find_next-loop-last-preserved
-evaluation::stack::find_next-loop-last-preserved g t c =
-    let scope = c.args.scope.now in
-    let nodes = nodes_of scope in
-    let frames = c.loop-last.frames in
-    let items = frames.items in
-    let n = c.in-Some.last in
-    let some = c.in-Some.ensures in
-    let len = c.len.ensures ∙ frames.ok.0 in
-    let long : length items ≡ n + 1 = omega arith in
-    let segment = c.in-Some-get.segment.now in
-    let look = c.in-Some-get.ensures.lookup in
-    let seen = c.index.result.now in
-    let old = c.index_mut.result.now in
-    let new = c.next_task.new.self in
-    let came : Came (set_of scope) (top_of scope) nodes c.args.segments.now items n seen old new segment =
-    record { long = long; seen_is = c.index.ensures; old_is = c.index_mut.ensures.value; within = below_length _ _ look.0; at = look.1; passes = c.next_task.ensures.passes } in
-    let task = task_view c.in-Some-2.task in
-    kept-trans (set_of scope) (top_of scope) (stages_at nodes c.args.segments.now) _ _ _ c.loop-last.invariant (turn-kept (set_of scope) (top_of scope) (stages_at nodes c.args.segments.now) _ _ (came-entered (set_of scope) (top_of scope) nodes c.args.segments.now items n seen old new segment came task (subst (λ found. IsAtTask (set_of scope) (top_of scope) (stage_at nodes segment) (frame_view new) (option_map task_view found)) c.in-Some-2.is c.in_ok-next_task-in-Some-get.ensures.found) (omega arith) (frames_view c.enter.new.frames.items) c.in_ok-enter-in-Some-2.ensures.ok))
-
-pub evaluation::stack::find_next-returns-in_err-enter-in-Some-2-clause-rest : goal.evaluation::stack::find_next-returns-in_err-enter-in-Some-2-clause-rest
-evaluation::stack::find_next-returns-in_err-enter-in-Some-2-clause-rest g t c =
-    let scope = c.args.scope.now in
-    let nodes = nodes_of scope in
-    let frames = c.loop-last.frames in
-    let items = frames.items in
-    let n = c.in-Some.last in
-    let some = c.in-Some.ensures in
-    let len = c.len.ensures ∙ frames.ok.0 in
-    let long : length items ≡ n + 1 = omega arith in
-    let segment = c.in-Some-get.segment.now in
-    let look = c.in-Some-get.ensures.lookup in
-    let seen = c.index.result.now in
-    let old = c.index_mut.result.now in
-    let new = c.next_task.new.self in
-    let came : Came (set_of scope) (top_of scope) nodes c.args.segments.now items n seen old new segment =
-    record { long = long; seen_is = c.index.ensures; old_is = c.index_mut.ensures.value; within = below_length _ _ look.0; at = look.1; passes = c.next_task.ensures.passes } in
-    (let kept = kept-trans (set_of scope) (top_of scope) (stages_at nodes c.args.segments.now) _ _ _ c.loop-last.invariant (came-kept (set_of scope) (top_of scope) nodes c.args.segments.now items n seen old new segment came) in subst (IsKept (set_of scope) (top_of scope) (stages_at nodes c.args.segments.now) (frames_view c.args.frames.now.items)) (ap frames_view (sym c.in_err-enter-in-Some-2.ensures.unchanged)) kept).0
-
-pub evaluation::stack::find_next-returns-in_err-enter-in-Some-2-clause-less : goal.evaluation::stack::find_next-returns-in_err-enter-in-Some-2-clause-less
-evaluation::stack::find_next-returns-in_err-enter-in-Some-2-clause-less g t c =
-    let scope = c.args.scope.now in
-    let nodes = nodes_of scope in
-    let frames = c.loop-last.frames in
-    let items = frames.items in
-    let n = c.in-Some.last in
-    let some = c.in-Some.ensures in
-    let len = c.len.ensures ∙ frames.ok.0 in
-    let long : length items ≡ n + 1 = omega arith in
-    let segment = c.in-Some-get.segment.now in
-    let look = c.in-Some-get.ensures.lookup in
-    let seen = c.index.result.now in
-    let old = c.index_mut.result.now in
-    let new = c.next_task.new.self in
-    let came : Came (set_of scope) (top_of scope) nodes c.args.segments.now items n seen old new segment =
-    record { long = long; seen_is = c.index.ensures; old_is = c.index_mut.ensures.value; within = below_length _ _ look.0; at = look.1; passes = c.next_task.ensures.passes } in
-    (let kept = kept-trans (set_of scope) (top_of scope) (stages_at nodes c.args.segments.now) _ _ _ c.loop-last.invariant (came-kept (set_of scope) (top_of scope) nodes c.args.segments.now items n seen old new segment came) in subst (IsKept (set_of scope) (top_of scope) (stages_at nodes c.args.segments.now) (frames_view c.args.frames.now.items)) (ap frames_view (sym c.in_err-enter-in-Some-2.ensures.unchanged)) kept).1
-
-pub evaluation::stack::find_next-returns-in_err-enter-in-Some-2-clause-stack : goal.evaluation::stack::find_next-returns-in_err-enter-in-Some-2-clause-stack
-evaluation::stack::find_next-returns-in_err-enter-in-Some-2-clause-stack g t c =
-    let scope = c.args.scope.now in
-    let nodes = nodes_of scope in
-    let frames = c.loop-last.frames in
-    let items = frames.items in
-    let n = c.in-Some.last in
-    let some = c.in-Some.ensures in
-    let len = c.len.ensures ∙ frames.ok.0 in
-    let long : length items ≡ n + 1 = omega arith in
-    let segment = c.in-Some-get.segment.now in
-    let look = c.in-Some-get.ensures.lookup in
-    let seen = c.index.result.now in
-    let old = c.index_mut.result.now in
-    let new = c.next_task.new.self in
-    let came : Came (set_of scope) (top_of scope) nodes c.args.segments.now items n seen old new segment =
-    record { long = long; seen_is = c.index.ensures; old_is = c.index_mut.ensures.value; within = below_length _ _ look.0; at = look.1; passes = c.next_task.ensures.passes } in
-    (let kept = kept-trans (set_of scope) (top_of scope) (stages_at nodes c.args.segments.now) _ _ _ c.loop-last.invariant (came-kept (set_of scope) (top_of scope) nodes c.args.segments.now items n seen old new segment came) in subst (IsKept (set_of scope) (top_of scope) (stages_at nodes c.args.segments.now) (frames_view c.args.frames.now.items)) (ap frames_view (sym c.in_err-enter-in-Some-2.ensures.unchanged)) kept).2
-
-pub evaluation::stack::find_next-returns-then-task-segments-clause-rest : goal.evaluation::stack::find_next-returns-then-task-segments-clause-rest
-evaluation::stack::find_next-returns-then-task-segments-clause-rest g t c =
-    let scope = c.args.scope.now in
-    let nodes = nodes_of scope in
-    let frames = c.loop-last.frames in
-    let items = frames.items in
-    let n = c.in-Some.last in
-    let some = c.in-Some.ensures in
-    let len = c.len.ensures ∙ frames.ok.0 in
-    let long : length items ≡ n + 1 = omega arith in
-    let segment = c.in-Some-get.segment.now in
-    let look = c.in-Some-get.ensures.lookup in
-    let seen = c.index.result.now in
-    let old = c.index_mut.result.now in
-    let new = c.next_task.new.self in
-    let came : Came (set_of scope) (top_of scope) nodes c.args.segments.now items n seen old new segment =
-    record { long = long; seen_is = c.index.ensures; old_is = c.index_mut.ensures.value; within = below_length _ _ look.0; at = look.1; passes = c.next_task.ensures.passes } in
-    (kept-trans (set_of scope) (top_of scope) (stages_at nodes c.args.segments.now) _ _ _ c.loop-last.invariant (came-kept (set_of scope) (top_of scope) nodes c.args.segments.now items n seen old new segment came)).0
-
-pub evaluation::stack::find_next-returns-then-task-segments-clause-less : goal.evaluation::stack::find_next-returns-then-task-segments-clause-less
-evaluation::stack::find_next-returns-then-task-segments-clause-less g t c =
-    let scope = c.args.scope.now in
-    let nodes = nodes_of scope in
-    let frames = c.loop-last.frames in
-    let items = frames.items in
-    let n = c.in-Some.last in
-    let some = c.in-Some.ensures in
-    let len = c.len.ensures ∙ frames.ok.0 in
-    let long : length items ≡ n + 1 = omega arith in
-    let segment = c.in-Some-get.segment.now in
-    let look = c.in-Some-get.ensures.lookup in
-    let seen = c.index.result.now in
-    let old = c.index_mut.result.now in
-    let new = c.next_task.new.self in
-    let came : Came (set_of scope) (top_of scope) nodes c.args.segments.now items n seen old new segment =
-    record { long = long; seen_is = c.index.ensures; old_is = c.index_mut.ensures.value; within = below_length _ _ look.0; at = look.1; passes = c.next_task.ensures.passes } in
-    (kept-trans (set_of scope) (top_of scope) (stages_at nodes c.args.segments.now) _ _ _ c.loop-last.invariant (came-kept (set_of scope) (top_of scope) nodes c.args.segments.now items n seen old new segment came)).1
-
-pub evaluation::stack::find_next-returns-then-task-segments-clause-stack : goal.evaluation::stack::find_next-returns-then-task-segments-clause-stack
-evaluation::stack::find_next-returns-then-task-segments-clause-stack g t c =
-    let scope = c.args.scope.now in
-    let nodes = nodes_of scope in
-    let frames = c.loop-last.frames in
-    let items = frames.items in
-    let n = c.in-Some.last in
-    let some = c.in-Some.ensures in
-    let len = c.len.ensures ∙ frames.ok.0 in
-    let long : length items ≡ n + 1 = omega arith in
-    let segment = c.in-Some-get.segment.now in
-    let look = c.in-Some-get.ensures.lookup in
-    let seen = c.index.result.now in
-    let old = c.index_mut.result.now in
-    let new = c.next_task.new.self in
-    let came : Came (set_of scope) (top_of scope) nodes c.args.segments.now items n seen old new segment =
-    record { long = long; seen_is = c.index.ensures; old_is = c.index_mut.ensures.value; within = below_length _ _ look.0; at = look.1; passes = c.next_task.ensures.passes } in
-    (kept-trans (set_of scope) (top_of scope) (stages_at nodes c.args.segments.now) _ _ _ c.loop-last.invariant (came-kept (set_of scope) (top_of scope) nodes c.args.segments.now items n seen old new segment came)).2
+    let came = came-by (set_of c.args.scope.now) (top_of c.args.scope.now) (nodes_of c.args.scope.now) c.args.segments.now
+    c.loop-last.frames.items c.in-Some.last c.index.result.now c.index_mut.result.now c.next_task.new.self c.in-Some-get.segment.now (omega arith)
+    c.index.ensures c.index_mut.ensures.value (below_length _ _ look.0, look.1) c.next_task.ensures.passes in
+    came-kept came _ c.loop-last.invariant
 
 pub evaluation::stack::find_next-returns-then-task-segments-clause-found : goal.evaluation::stack::find_next-returns-then-task-segments-clause-found
 evaluation::stack::find_next-returns-then-task-segments-clause-found g t c =
-    let scope = c.args.scope.now in
-    let nodes = nodes_of scope in
-    let frames = c.loop-last.frames in
-    let items = frames.items in
-    let n = c.in-Some.last in
     let some = c.in-Some.ensures in
-    let len = c.len.ensures ∙ frames.ok.0 in
-    let long : length items ≡ n + 1 = omega arith in
-    let segment = c.in-Some-get.segment.now in
+    let len = c.len.ensures ∙ c.loop-last.frames.ok.0 in
     let look = c.in-Some-get.ensures.lookup in
-    let seen = c.index.result.now in
-    let old = c.index_mut.result.now in
-    let new = c.next_task.new.self in
-    let came : Came (set_of scope) (top_of scope) nodes c.args.segments.now items n seen old new segment =
-    record { long = long; seen_is = c.index.ensures; old_is = c.index_mut.ensures.value; within = below_length _ _ look.0; at = look.1; passes = c.next_task.ensures.passes } in
-    let task = task_view c.in-Some-2.task in
-    let at : IsAtNode scope c.args.segments.now (frames_view (set items n new)) (Some (step_view c.in-Some-2.task.child.step)) (view c.in-Some-2.task.child.value.now) =
-    came-node (set_of scope) (top_of scope) nodes c.args.segments.now items n seen old new segment came task (subst (λ found. IsAtTask (set_of scope) (top_of scope) (stage_at nodes segment) (frame_view new) (option_map task_view found)) c.in-Some-2.is c.in_ok-next_task-in-Some-get.ensures.found) (omega arith) in
-    (omega (arith, length-set items n new), at)
+    let came = came-by (set_of c.args.scope.now) (top_of c.args.scope.now) (nodes_of c.args.scope.now) c.args.segments.now
+    c.loop-last.frames.items c.in-Some.last c.index.result.now c.index_mut.result.now c.next_task.new.self c.in-Some-get.segment.now (omega arith)
+    c.index.ensures c.index_mut.ensures.value (below_length _ _ look.0, look.1) c.next_task.ensures.passes in
+    (omega (arith, length-set c.loop-last.frames.items c.in-Some.last c.next_task.new.self), came-node came c.in-Some-2.is c.in_ok-next_task-in-Some-get.ensures.found (omega arith))
+
+pub evaluation::stack::find_next-loop-last-smaller-in-None-2 : goal.evaluation::stack::find_next-loop-last-smaller-in-None-2
+evaluation::stack::find_next-loop-last-smaller-in-None-2 g t c =
+    let some = c.in-Some.ensures in
+    let len = c.len.ensures ∙ c.loop-last.frames.ok.0 in
+    let look = c.in-Some-get.ensures.lookup in
+    let came = came-by (set_of c.args.scope.now) (top_of c.args.scope.now) (nodes_of c.args.scope.now) c.args.segments.now
+    c.loop-last.frames.items c.in-Some.last c.index.result.now c.index_mut.result.now c.next_task.new.self c.in-Some-get.segment.now (omega arith)
+    c.index.ensures c.index_mut.ensures.value (below_length _ _ look.0, look.1) c.next_task.ensures.passes in
+    (came-dropped came c.in-None-2.is c.in_ok-next_task-in-Some-get.ensures.found c.truncate.ensures.items).1
+
+pub evaluation::stack::find_next-loop-last-preserved-in-None-2 : goal.evaluation::stack::find_next-loop-last-preserved-in-None-2
+evaluation::stack::find_next-loop-last-preserved-in-None-2 g t c =
+    let some = c.in-Some.ensures in
+    let len = c.len.ensures ∙ c.loop-last.frames.ok.0 in
+    let look = c.in-Some-get.ensures.lookup in
+    let came = came-by (set_of c.args.scope.now) (top_of c.args.scope.now) (nodes_of c.args.scope.now) c.args.segments.now
+    c.loop-last.frames.items c.in-Some.last c.index.result.now c.index_mut.result.now c.next_task.new.self c.in-Some-get.segment.now (omega arith)
+    c.index.ensures c.index_mut.ensures.value (below_length _ _ look.0, look.1) c.next_task.ensures.passes in
+    came-turned came _ _ c.loop-last.invariant (came-dropped came c.in-None-2.is c.in_ok-next_task-in-Some-get.ensures.found c.truncate.ensures.items)
+
+pub evaluation::stack::find_next-loop-last-smaller : goal.evaluation::stack::find_next-loop-last-smaller
+evaluation::stack::find_next-loop-last-smaller g t c =
+    let some = c.in-Some.ensures in
+    let len = c.len.ensures ∙ c.loop-last.frames.ok.0 in
+    let look = c.in-Some-get.ensures.lookup in
+    let came = came-by (set_of c.args.scope.now) (top_of c.args.scope.now) (nodes_of c.args.scope.now) c.args.segments.now
+    c.loop-last.frames.items c.in-Some.last c.index.result.now c.index_mut.result.now c.next_task.new.self c.in-Some-get.segment.now (omega arith)
+    c.index.ensures c.index_mut.ensures.value (below_length _ _ look.0, look.1) c.next_task.ensures.passes in
+    (came-entered came c.in-Some-2.is c.in_ok-next_task-in-Some-get.ensures.found (omega arith) c.in_ok-enter-in-Some-2.ensures.ok).1
+
+pub evaluation::stack::find_next-loop-last-preserved : goal.evaluation::stack::find_next-loop-last-preserved
+evaluation::stack::find_next-loop-last-preserved g t c =
+    let some = c.in-Some.ensures in
+    let len = c.len.ensures ∙ c.loop-last.frames.ok.0 in
+    let look = c.in-Some-get.ensures.lookup in
+    let came = came-by (set_of c.args.scope.now) (top_of c.args.scope.now) (nodes_of c.args.scope.now) c.args.segments.now
+    c.loop-last.frames.items c.in-Some.last c.index.result.now c.index_mut.result.now c.next_task.new.self c.in-Some-get.segment.now (omega arith)
+    c.index.ensures c.index_mut.ensures.value (below_length _ _ look.0, look.1) c.next_task.ensures.passes in
+    came-turned came _ _ c.loop-last.invariant (came-entered came c.in-Some-2.is c.in_ok-next_task-in-Some-get.ensures.found (omega arith) c.in_ok-enter-in-Some-2.ensures.ok)
 
 -- ---- queries in expressions
 
@@ -504,7 +289,7 @@ filter::logic::first_from-returns-in-Some-clause-means g t c =
     let values = map (λ (n : Located). n.value) in
     let found = c.in-Some.found in
     let at = found-some _ _ c.in_ok-found.field-0 found c.in-Some.is c.in_ok-found.ensures.found in
-    ap (λ ns. slice_get (values ns) 0) (sym (sym begins ∙ c.find_next.ensures.rest ∙ at.1.0))
+    ap (λ ns. slice_get (values ns) 0) (sym (sym begins ∙ c.find_next.ensures.kept.0 ∙ at.1.0))
 
 pub filter::logic::first_from-returns-clause-means : goal.filter::logic::first_from-returns-clause-means
 filter::logic::first_from-returns-clause-means g t c =
@@ -516,7 +301,7 @@ filter::logic::first_from-returns-clause-means g t c =
     let values = map (λ (n : Located). n.value) in
     let none = found-none _ _ c.in_ok-found.field-0 c.in-None.is c.in_ok-found.ensures.found in
     ap (λ ns. slice_get (values ns) 0)
-    (sym (sym begins ∙ c.find_next.ensures.rest ∙ ap (λ fs. rest_of (set_of scope) (top_of scope) all (frames_view fs)) none))
+    (sym (sym begins ∙ c.find_next.ensures.kept.0 ∙ ap (λ fs. rest_of (set_of scope) (top_of scope) all (frames_view fs)) none))
 
 pub filter::logic::all_from-values-init : goal.filter::logic::all_from-values-init
 filter::logic::all_from-values-init g t c =
@@ -547,7 +332,7 @@ filter::logic::all_from-values-smaller g t c =
     let node = c.in-Some.node in
     let at = found-some _ _ c.in_ok-node.field-0 node c.in-Some.is c.in_ok-node.ensures.found in
     let fewer = subst (λ left. work all left < work all (frames_view c.find_next.new.frames.items)) (sym c.pass_found.ensures) at.1.1 in
-    let less = c.find_next.ensures.less in
+    let less = c.find_next.ensures.kept.1 in
     omega arith
 
 pub filter::logic::all_from-values-preserved : goal.filter::logic::all_from-values-preserved
@@ -565,10 +350,10 @@ filter::logic::all_from-values-preserved g t c =
       values =
           c.values.invariant.values
           ∙ ap (λ ns. found ++ values ns)
-          (c.find_next.ensures.rest ∙ at.1.0 ∙ ap (λ fs. node_at (frames_view frames) (option_map step_view node.step) (view node.value.now) ∷ rest fs) (sym c.pass_found.ensures))
+          (c.find_next.ensures.kept.0 ∙ at.1.0 ∙ ap (λ fs. node_at (frames_view frames) (option_map step_view node.step) (view node.value.now) ∷ rest fs) (sym c.pass_found.ensures))
           ∙ sym (append_assoc found (view node.value.now ∷ []) left)
           ∙ ap (λ xs. xs ++ left) (sym (ap (map node_value) c.in_ok-push-2.ensures.items ∙ map-append node_value c.values.found.items (node.value ∷ [])));
-      inside = ∥∥₁_map c.values.invariant.inside (λ h. (h.0, h.1, subst (IsStack h.0) (sym c.pass_found.ensures) (at.1.2 h.0 (c.find_next.ensures.stack h.0 h.2))));
+      inside = ∥∥₁_map c.values.invariant.inside (λ h. (h.0, h.1, subst (IsStack h.0) (sym c.pass_found.ensures) (at.1.2 h.0 (c.find_next.ensures.kept.2 h.0 h.2))));
     }
 
 pub filter::logic::first-returns-in-None-clause-means : goal.filter::logic::first-returns-in-None-clause-means

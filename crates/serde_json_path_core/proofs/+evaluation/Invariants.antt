@@ -1,26 +1,13 @@
 use Rattle.std.proofs.Common.{◌≡◌, ◌+◌, ◌-◌, ◌*◌, ◌≤◌, ◌++◌, drop, length, map, max}
 use Rattle.std.specs.Prelude.{filter as keep}
-use Rattle.std.specs.Slice.Iter.{iter_rest}
-use Rattle.serde_json.specs.Data.{Data}
-use Rattle.serde_json.specs.View.{view}
-use Rattle.serde_json_path_nodes.specs.Location.{Step, Located}
-use Rattle.serde_json_path_nodes.specs.Views.{node_value}
-use Rattle.serde_json_path_functions.specs.Functions.{kind_of_term}
-use Rattle.serde_json_path_functions.specs.Terms.{kind_view, term_view}
-use Rattle.serde_json_path_syntax.specs.Calls.{arguments_of, calls_in_arguments, name_of}
-use Rattle.serde_json_path_syntax.specs.Typing.{AreTypedArguments}
-use Rattle.serde_json_path_core.specs.Meaning.{params_of}
+use Rattle.serde_json_path_core.proofs.Words.{iter_rest, Data, view, Step, Located, node_value, kind_of_term, term_view, arguments_of, calls_in_arguments}
+use Rattle.serde_json_path_core.proofs.Words.{name_of, AreTypedArguments, params_of, or_at, and_at, ors_in, ands_in, arguments_in, call_at, pieces}
+use Rattle.serde_json_path_core.proofs.Words.{pieces_named, segments_at, parts_bound, selector_bound, cursor_left, rest_of, work, EndsIn, IsStackIn, Passes}
+use Rattle.serde_json_path_core.proofs.Words.{values_from, stage_at, stages_at, Sound, nodes_of, top_of, frame_view, frames_view}
+use Rattle.serde_json_path_functions.specs.Terms.{kind_view}
 use Rattle.serde_json_path_core.specs.Inside.Computed as computed
-use Rattle.serde_json_path_syntax.specs.Flat.{or_at, and_at, ors_in, ands_in, arguments_in, call_at, pieces, pieces_named, segments_at}
-use Rattle.serde_json_path_syntax.specs.PartBounds.{parts_bound, selector_bound}
-use Rattle.serde_json_path_core.specs.Inside.Cursors.{cursor_left}
-use Rattle.serde_json_path_core.specs.Inside.Rest.{rest_of, work, EndsIn, IsStackIn}
-use Rattle.serde_json_path_core.specs.Inside.Advances.{IsKept, Passes}
-use Rattle.serde_json_path_core.specs.Inside.SingleChildren.{values_from}
-use Rattle.serde_json_path_syntax.specs.Stages.{stage_at, stages_at}
-use Rattle.serde_json_path_core.specs.Inside.Evaluates.{Sound}
-use Rattle.serde_json_path_core.specs.Inside.Scopes.{nodes_of, set_of, top_of}
-use Rattle.serde_json_path_core.specs.Inside.Frames.{frame_view, frames_view}
+use Rattle.serde_json_path_core.specs.Inside.Advances.{IsKept}
+use Rattle.serde_json_path_core.specs.Inside.Scopes.{set_of}
 use Rattle.serde_json_path_core.proofs.+evaluation.Given as goal
 
 abbrev pub decreases-filter::logic::is_true : goal.decreases-filter::logic::is_true

@@ -1,12 +1,6 @@
 -- What segments select from a node is what they select from its value, below its location.
 use Rattle.std.proofs.Common.{◌≡◌, map, sym, ap, ◌∙◌}
-use Rattle.std.proofs.lemmas.Simd.{map-map}
-use Rattle.serde_json.specs.Data.{Data}
-use Rattle.serde_json_path_nodes.specs.Location.{Located}
-use Rattle.serde_json_path_syntax.specs.Tree.{Segments}
-use Rattle.serde_json_path_functions.specs.Functions.{FunctionSet}
-use Rattle.serde_json_path_core.specs.Derivation.{beneath}
-use Rattle.serde_json_path_core.specs.Inside.Computed.{itself, results_from}
+use Rattle.serde_json_path_core.proofs.Words.{map-map, Data, Located, Segments, FunctionSet, beneath, itself, results_from}
 use Rattle.serde_json_path_core.proofs.Meaning.DerivationEnds.{node_at, ends, results-ends}
 
 module _ (F : FunctionSet) (top : Data) where

@@ -1,23 +1,10 @@
 -- The computed children of a value are those that a step leads to, in document order.
 use Rattle.std.proofs.Common.{◌≡◌, ℕ, zero, suc, ◌+◌, ◌<◌, ℤ, List, Ordering, Less, Equal, Greater, nat_cmp, is_eq, Bool, true, false, bytes_eq, Option, Some, ◌↔◌, inl, inr, refl, sym, ap, subst, ◌∙◌, arith, true≢false, option_to_list, ◌-◌, pos, negsuc, None, option_map, option_and_then}
-use Rattle.std.specs.Cmp.Lexicographic.{slice_cmp}
-use Rattle.std.specs.Ordering.{ordering_reverse, match_ordering}
-use Rattle.std.proofs.lemmas.Cmp.{nat_list_cmp_total, tied_itself}
-use Rattle.std.proofs.lemmas.Map.Text.{is_eq-slice_cmp}
-use Rattle.std.proofs.lemmas.Option.{none-some, same_Some}
-use Rattle.std.proofs.lemmas.Slice.Eq.{bytes_eq-Decides}
-use Rattle.serde_json.specs.Data.{Data, array, object, Items, no_items, item, Members, no_members, member, put}
-use Rattle.serde_json.specs.Find.{get_item, get_member}
-use Rattle.serde_json.proofs.Views.{get_member-put, get_member-put_other}
-use Rattle.serde_json_path_nodes.specs.Location.{Step, by_name, by_position, child_at, StepBefore}
-use Rattle.serde_json_path_syntax.specs.Lists.{IsIn, IsInOrder}
-use Rattle.serde_json_path_core.specs.Meaning.{SelectsIndex, IsPositionOf}
-use Rattle.serde_json_path_core.specs.Inside.Selected.{child_by, item_at}
-use Rattle.serde_json_path_core.specs.Inside.Computed.{children, items_from, members_all, in_order}
-use Rattle.serde_json_path_syntax.proofs.Lists.InLists.{in_option}
-use Rattle.std.specs.Prelude.{◌<ℤ◌, ◌+ℤ◌, nat_lt, if◌then◌else◌}
-use Rattle.std.proofs.lemmas.Int.{ints}
-use Rattle.serde_json.specs.Events.{items_len}
+use Rattle.serde_json_path_core.proofs.Words.{slice_cmp, ordering_reverse, match_ordering, nat_list_cmp_total, tied_itself, is_eq-slice_cmp, none-some}
+use Rattle.serde_json_path_core.proofs.Words.{same_Some, bytes_eq-Decides, Data, array, object, Items, no_items, item, Members, no_members, member, put}
+use Rattle.serde_json_path_core.proofs.Words.{get_item, get_member, get_member-put, get_member-put_other, Step, by_name, by_position, child_at, StepBefore}
+use Rattle.serde_json_path_core.proofs.Words.{IsIn, IsInOrder, SelectsIndex, IsPositionOf, child_by, item_at, children, items_from, members_all, in_order}
+use Rattle.serde_json_path_core.proofs.Words.{in_option, ◌<ℤ◌, ◌+ℤ◌, nat_lt, if◌then◌else◌, ints, items_len}
 
 -- ---- the child at a step, and the item of an index
 

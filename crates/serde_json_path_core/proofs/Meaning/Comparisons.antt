@@ -1,18 +1,12 @@
 -- The computed comparisons answer as the definitions say.
 use Rattle.std.proofs.Common.{◌≡◌, ℤ, ◌&&◌, Option, Some, None, Ordering, Less, Equal, Greater, nat_cmp, refl, sym, arith, true≢false, chars, bytes_eq}
-use Rattle.std.specs.Prelude.{◌<ℤ◌, int_lt}
-use Rattle.std.specs.Bool.{Decides}
+use Rattle.serde_json_path_core.proofs.Words.{◌<ℤ◌, int_lt, Decides, slice_cmp, is_lt, Decides-int_eq, Decides-and, Decides-or, Decides-not, ints}
+use Rattle.serde_json_path_core.proofs.Words.{bytes_eq-Decides, Data, null, boolean, number, string, array, object, Items, no_items, item, Members, no_members}
+use Rattle.serde_json_path_core.proofs.Words.{member, as_integer, Operator, equal, not_equal, less, less_or_equal, greater, greater_or_equal, Compared, nothing}
+use Rattle.serde_json_path_core.proofs.Words.{billionths, amount_of, AreEqualAmounts, AreRisingAmounts, EqualData, EqualItems, EqualMembers, AreEqual, IsLess}
+use Rattle.serde_json_path_core.proofs.Words.{Compares, same_amount, rising_amount, same_data, same_items, same_members, is_same, comes_before, compare}
 use Rattle.std.specs.Cmp.{booleans_Decides}
-use Rattle.std.specs.Cmp.Lexicographic.{slice_cmp}
-use Rattle.std.specs.Ordering.{is_lt}
-use Rattle.std.proofs.lemmas.Bool.Decides.{Decides-int_eq, Decides-and, Decides-or, Decides-not}
-use Rattle.std.proofs.lemmas.Int.{ints}
-use Rattle.std.proofs.lemmas.Slice.Eq.{bytes_eq-Decides}
-use Rattle.serde_json.specs.Data.{Data, null, boolean, number, string, array, object, Items, no_items, item, Members, no_members, member}
-use Rattle.serde_json.specs.Find.{as_integer}
-use Rattle.serde_json_path_syntax.specs.Tree.{Operator, equal, not_equal, less, less_or_equal, greater, greater_or_equal}
-use Rattle.serde_json_path_core.specs.Compared.{Compared, nothing, value, billionths, amount_of, AreEqualAmounts, AreRisingAmounts, EqualData, EqualItems, EqualMembers, AreEqual, IsLess, Compares}
-use Rattle.serde_json_path_core.specs.Inside.Computed.{same_amount, rising_amount, same_data, same_items, same_members, is_same, comes_before, compare}
+use Rattle.serde_json_path_core.specs.Compared.{value}
 use Rattle.serde_json_path_syntax.proofs.Lists.Deciding.{always, never}
 
 Decides-int_lt : (a b : ℤ) → Decides (int_lt a b) (a <ℤ b)

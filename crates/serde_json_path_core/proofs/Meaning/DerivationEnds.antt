@@ -1,16 +1,11 @@
 -- The ends of a query's derivations, computed: each derivation with the value that it leads to, in the derivations' order.
 use Rattle.std.proofs.Common.{◌≡◌, ℕ, suc, ◌+◌, ◌<◌, ◌≤◌, List, [], ◌∷◌, ◌++◌, map, flat_map, ◌⊎◌, inl, inr, option_to_list, refl, sym, ap, subst, ◌∙◌, arith, append_assoc}
-use Rattle.std.proofs.lemmas.List.{append-nil, map-append}
-use Rattle.std.proofs.lemmas.List.Folds.{flat_map-map}
-use Rattle.serde_json.specs.Data.{Data}
-use Rattle.serde_json_path_nodes.specs.Location.{Step, by_name, Located, StepBefore, DescentBefore}
-use Rattle.serde_json_path_syntax.specs.Tree.{SegmentKind, child, descendant, Segments, no_segments, segment, Segment, dot_name, dot_wildcard, long_hand, Selectors, no_selectors, selector, Selector, name, wildcard, index, slice, filter}
-use Rattle.serde_json_path_functions.specs.Functions.{FunctionSet}
-use Rattle.serde_json_path_core.specs.Derivation.{Triple, location_of, SelectedBefore, SelectedBeforeBy, TripleBefore, Before, beneath}
-use Rattle.serde_json_path_syntax.specs.Lists.{IsIn, IsInOrder}
-use Rattle.serde_json_path_core.specs.Inside.Selected.{child_by, item_at}
-use Rattle.serde_json_path_core.specs.Inside.Computed.{itself, children, descents, reached, placed, results_from, chosen, chosen_by, selected, is_true}
-use Rattle.serde_json_path_syntax.proofs.Lists.InLists.{in_append, in_map, weaker, in_order-append, in_order-map, in_order-flat_map, in_order-keep, in_order-option, flat_map-same, flat_map-flat_map, map-flat_map}
+use Rattle.serde_json_path_core.proofs.Words.{append-nil, map-append, flat_map-map, Data, Step, by_name, Located, StepBefore, DescentBefore, SegmentKind, child}
+use Rattle.serde_json_path_core.proofs.Words.{descendant, Segments, no_segments, segment, Segment, dot_name, dot_wildcard, long_hand, Selectors, no_selectors}
+use Rattle.serde_json_path_core.proofs.Words.{selector, Selector, name, wildcard, index, slice, filter, FunctionSet, Triple, location_of, SelectedBefore}
+use Rattle.serde_json_path_core.proofs.Words.{SelectedBeforeBy, TripleBefore, Before, beneath, IsIn, IsInOrder, child_by, item_at, itself, children, descents}
+use Rattle.serde_json_path_core.proofs.Words.{reached, placed, results_from, chosen, chosen_by, selected, is_true, in_append, in_map, weaker, in_order-append}
+use Rattle.serde_json_path_core.proofs.Words.{in_order-map, in_order-flat_map, in_order-keep, in_order-option, flat_map-same, flat_map-flat_map, map-flat_map}
 use Rattle.serde_json_path_core.proofs.Meaning.ChildSteps.{children_ordered}
 use Rattle.serde_json_path_core.proofs.Meaning.Descents.{descents_ordered}
 use Rattle.serde_json_path_core.proofs.Meaning.SlicePositions.{sliced_ordered}

@@ -1,16 +1,10 @@
 -- The computed values below a value are those at its locations, in document order.
 use Rattle.std.proofs.Common.{◌≡◌, ℕ, zero, suc, ◌+◌, List, [], ◌∷◌, ◌++◌, map, flat_map, Ordering, Less, Equal, Greater, nat_cmp, Option, Some, option_and_then, ◌↔◌, inl, inr, refl, sym, ap, subst, ◌∙◌}
-use Rattle.std.specs.BTreeMap.{insert_entry}
-use Rattle.std.specs.Cmp.Lexicographic.{slice_cmp}
-use Rattle.std.specs.Ordering.{match_ordering}
-use Rattle.std.proofs.lemmas.Option.{same_Some, none-some, option_and_then_some}
-use Rattle.serde_json.specs.Data.{Data, null, boolean, number, string, array, object, Items, no_items, item, Members, no_members, member, put}
-use Rattle.serde_json.specs.Find.{get_item, get_member}
-use Rattle.serde_json_path_nodes.specs.Location.{Step, by_name, by_position, child_at, at, Located, StepBefore, DescentBefore}
-use Rattle.serde_json_path_syntax.specs.Lists.{IsIn, IsInOrder}
-use Rattle.serde_json_path_core.specs.Derivation.{beneath}
-use Rattle.serde_json_path_core.specs.Inside.Computed.{children, items_from, members_all, in_order, itself, below_member, descents, items_descents, members_descents}
-use Rattle.serde_json_path_syntax.proofs.Lists.InLists.{in_map, map_in, in_flat_map, weaker, in_order-map, in_order-flat_map}
+use Rattle.serde_json_path_core.proofs.Words.{insert_entry, slice_cmp, match_ordering, same_Some, none-some, option_and_then_some, Data, null, boolean, number}
+use Rattle.serde_json_path_core.proofs.Words.{string, array, object, Items, no_items, item, Members, no_members, member, put, get_item, get_member, Step}
+use Rattle.serde_json_path_core.proofs.Words.{by_name, by_position, child_at, at, Located, StepBefore, DescentBefore, IsIn, IsInOrder, beneath, children}
+use Rattle.serde_json_path_core.proofs.Words.{items_from, members_all, in_order, itself, below_member, descents, items_descents, members_descents, in_map}
+use Rattle.serde_json_path_core.proofs.Words.{map_in, in_flat_map, weaker, in_order-map, in_order-flat_map}
 use Rattle.serde_json_path_core.proofs.Meaning.ChildSteps.{in_children, children_ordered}
 
 -- ---- child by child

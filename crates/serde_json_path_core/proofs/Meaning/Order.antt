@@ -1,16 +1,9 @@
 -- Derivations are in an order: never do two stand before each other, and a list in that order is fixed by its members.
 use Rattle.std.proofs.Common.{◌≡◌, ℕ, zero, suc, List, [], ◌∷◌, ◌⊎◌, inl, inr, Less, Greater, refl, sym, ap, subst, ◌∙◌, arith, Some}
-use Rattle.std.specs.List.{AllZip}
-use Rattle.std.specs.Ordering.{ordering_reverse}
-use Rattle.std.proofs.lemmas.Cmp.{nat_list_cmp_total}
-use Rattle.std.proofs.lemmas.Int.{ints}
-use Rattle.serde_json.specs.Data.{Data}
-use Rattle.serde_json_path_nodes.specs.Location.{Step, by_name, by_position, at, StepBefore, DescentBefore, Located}
-use Rattle.serde_json_path_syntax.specs.Tree.{Query, query, Segments, no_segments, segment, Segment, dot_name, dot_wildcard, long_hand, Selectors, no_selectors, selector, Selector, slice}
-use Rattle.serde_json_path_functions.specs.Functions.{FunctionSet}
-use Rattle.serde_json_path_core.specs.Derivation.{Triple, start_of, BelongsTo, SelectedBefore, SelectedBeforeBy, SelectedBeforeIn, TripleBefore, Before}
-use Rattle.serde_json_path_syntax.specs.Lists.{IsIn, IsInOrder}
-use Rattle.serde_json_path_core.specs.Meaning.{IsResult}
+use Rattle.serde_json_path_core.proofs.Words.{AllZip, ordering_reverse, nat_list_cmp_total, ints, Data, Step, by_name, by_position, at, StepBefore}
+use Rattle.serde_json_path_core.proofs.Words.{DescentBefore, Located, Query, query, Segments, no_segments, segment, Segment, dot_name, dot_wildcard, long_hand}
+use Rattle.serde_json_path_core.proofs.Words.{Selectors, no_selectors, selector, Selector, slice, FunctionSet, Triple, start_of, BelongsTo, SelectedBefore}
+use Rattle.serde_json_path_core.proofs.Words.{SelectedBeforeBy, SelectedBeforeIn, TripleBefore, Before, IsIn, IsInOrder, IsResult}
 
 -- ---- never both
 

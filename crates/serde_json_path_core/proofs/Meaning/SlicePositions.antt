@@ -1,21 +1,11 @@
 -- The computed children of a slice are those at the positions that it selects, in its order.
 use Rattle.std.proofs.Common.{◌≡◌, ℕ, zero, suc, ◌+◌, ◌-◌, ◌*◌, ◌<◌, ◌≤◌, ℤ, pos, negsuc, neg_ℤ, nat_abs, [], ◌∷◌, ◌↔◌, inl, inr, Bool, true, false, Option, Some, None, unwrap_or, refl, sym, ap, subst, ◌∙◌, arith, suc-mul, le-div_iff_mul-le, mul-lt-mul_of_pos_right}
-use Rattle.std.specs.Prelude.{◌<ℤ◌, ◌≤ℤ◌, ◌+ℤ◌, ◌-ℤ◌, ◌*ℤ◌}
+use Rattle.serde_json_path_core.proofs.Words.{◌<ℤ◌, ◌≤ℤ◌, ◌+ℤ◌, ◌-ℤ◌, ◌*ℤ◌, option_map_or, ints, clamps, same_Some, none-some, Data, array, Items, no_items}
+use Rattle.serde_json_path_core.proofs.Words.{item, get_item, Step, by_position, child_at, items_len, Slice, slice, step_of, from_end, bound_of}
+use Rattle.serde_json_path_core.proofs.Words.{SelectsPosition, IsIn, IsInOrder, SelectedBefore, IsPositionOf, SlicePositions, count_within, strided, rising}
+use Rattle.serde_json_path_core.proofs.Words.{falling, positions_by, sliced, next_position}
 use Rattle.std.specs.Int.{int_max, int_min}
-use Rattle.std.specs.Option.{option_map_or}
 use Rattle.std.proofs.Math.IntN.{pos-*ℤ-pos, pos-*ℤ-negsuc}
-use Rattle.std.proofs.lemmas.Int.{ints, clamps}
-use Rattle.std.proofs.lemmas.Option.{same_Some, none-some}
-use Rattle.serde_json.specs.Data.{Data, array, Items, no_items, item}
-use Rattle.serde_json.specs.Find.{get_item}
-use Rattle.serde_json_path_nodes.specs.Location.{Step, by_position, child_at}
-use Rattle.serde_json.specs.Events.{items_len}
-use Rattle.serde_json_path_syntax.specs.Tree.{Slice, slice}
-use Rattle.serde_json_path_core.specs.Slices.{step_of, from_end, bound_of, SelectsPosition}
-use Rattle.serde_json_path_syntax.specs.Lists.{IsIn, IsInOrder}
-use Rattle.serde_json_path_core.specs.Derivation.{SelectedBefore}
-use Rattle.serde_json_path_core.specs.Meaning.{IsPositionOf}
-use Rattle.serde_json_path_core.specs.Inside.Computed.{SlicePositions, count_within, strided, rising, falling, positions_by, sliced, next_position}
 
 -- ---- items at positions
 

@@ -1,23 +1,17 @@
 -- What an evaluation stands on of a part, for the parts of that part.
 use Rattle.std.proofs.Common.{◌≡◌, ℕ, zero, suc, ◌<◌, ◌≤◌, List, [], ◌∷◌, ◌++◌, length, get_or, slice_get, Some, refl, sym, subst, arith, ap, ◌∙◌}
-use Rattle.std.proofs.lemmas.Option.{none-some, same_Some}
-use Rattle.serde_json_path_syntax.specs.Tree.{Query, query, Segments, segments_of, Segment, dot_name, dot_wildcard, long_hand, Selectors, no_selectors, selector, Selector, name, wildcard, Operator, LogicalOr, no_or, or, no_and, and, Basic, relation, Comparable, Call, call}
-use Rattle.serde_json_path_functions.specs.Functions.{FunctionSet, Signature, Kind, Fits}
-use Rattle.serde_json_path_syntax.specs.Typing.{IsTyped, AreTypedSegments, IsTypedSegment, AreTypedSelectors, IsTypedSelector, IsTypedOr, IsTypedAnd, IsTypedBasic, IsTypedComparable, IsTypedCall, AreTypedArguments}
-use Rattle.serde_json_path_syntax.specs.Calls.{arguments_of, calls_of, calls_in_segments, calls_in_segment, calls_in_selectors, calls_in_selector, calls_in_or, calls_in_and, calls_in_basic, calls_in_comparable, calls_from, calls_in_arguments, calls_in_argument, name_of}
-use Rattle.serde_json_path_syntax.specs.Lists.{IsIn}
-use Rattle.serde_json_path_syntax.specs.PartBounds.{parts_bound}
-use Rattle.serde_json_path_core.specs.Inside.Rest.{EndsIn}
-use Rattle.serde_json_path_syntax.specs.Piece.{Piece}
-use Rattle.serde_json_path_syntax.specs.Flat.{argument_in, arguments_in, piece_in, pieces_named, segment_in, segments_in, and_in, ors_in, basic_in, ands_in}
-use Rattle.serde_json_path_syntax.specs.Stages.{selectors_list, selectors_of}
+use Rattle.serde_json_path_core.proofs.Words.{none-some, same_Some, Query, query, Segments, segments_of, Segment, dot_name, dot_wildcard, long_hand, Selectors}
+use Rattle.serde_json_path_core.proofs.Words.{no_selectors, selector, Selector, name, wildcard, Operator, LogicalOr, no_or, or, no_and, and, Basic, relation}
+use Rattle.serde_json_path_core.proofs.Words.{Comparable, Call, call, FunctionSet, Signature, Kind, Fits, IsTyped, AreTypedSegments, IsTypedSegment}
+use Rattle.serde_json_path_core.proofs.Words.{AreTypedSelectors, IsTypedSelector, IsTypedOr, IsTypedAnd, IsTypedBasic, IsTypedComparable, IsTypedCall}
+use Rattle.serde_json_path_core.proofs.Words.{AreTypedArguments, arguments_of, calls_of, calls_in_segments, calls_in_segment, calls_in_selectors}
+use Rattle.serde_json_path_core.proofs.Words.{calls_in_selector, calls_in_or, calls_in_and, calls_in_basic, calls_in_comparable, calls_from, calls_in_arguments}
+use Rattle.serde_json_path_core.proofs.Words.{calls_in_argument, name_of, IsIn, parts_bound, EndsIn, Piece, argument_in, arguments_in, piece_in, pieces_named}
+use Rattle.serde_json_path_core.proofs.Words.{segment_in, segments_in, and_in, ors_in, basic_in, ands_in, selectors_list, selectors_of, params_of, ∥∥₁_elim}
+use Rattle.serde_json_path_core.proofs.Words.{AreCallsOf, IsSound, Part}
 use Rattle.serde_json_path_syntax.proofs.Names.InCalls.{in_from, of_both}
-use Rattle.serde_json_path_core.specs.Meaning.{params_of}
-use Rattle.std.proofs.Math.Logic.{∥∥₁_elim}
 use mathlib.Core.List.{is_set}
 use mathlib.Core.Sum.{⊎_set}
-use Rattle.serde_json_path_core.specs.Inside.Sound.{AreCallsOf, IsSound}
-use Rattle.serde_json_path_syntax.specs.declared.node.Part.{Part}
 
 -- ---- calls of the query
 

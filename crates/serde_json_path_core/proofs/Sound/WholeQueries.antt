@@ -1,16 +1,9 @@
 -- A query that fits a set is sound as a whole: what is well-typed under some signatures is so under each that have these.
 use Rattle.std.proofs.Common.{◌≡◌, ℕ, List, sym, [], ◌∷◌, Some, Bool, true, false, bytes_eq, if◌then◌else◌, refl, ap, ◌∙◌}
-use Rattle.std.proofs.Math.Logic.{∥∥₁_map₂}
-use Rattle.serde_json_path_syntax.specs.Tree.{Query}
-use Rattle.serde_json_path_functions.specs.Functions.{Signature, FunctionSet, Fits}
+use Rattle.serde_json_path_core.proofs.Words.{∥∥₁_map₂, Query, Signature, FunctionSet, Fits, IsTyped, calls_of, IsSound, none-some, bytes_eq-Decides}
 use Rattle.serde_json_path_syntax.specs.Used.{signature_in}
-use Rattle.serde_json_path_syntax.specs.Typing.{IsTyped}
-use Rattle.serde_json_path_syntax.specs.Calls.{calls_of}
-use Rattle.serde_json_path_core.specs.Inside.Sound.{IsSound}
 use Rattle.serde_json_path_core.proofs.Sound.Parts.{all-calls}
 use Rattle.serde_json_path_syntax.proofs.Typing.Typings.{typed_recovered}
-use Rattle.std.proofs.lemmas.Option.{none-some}
-use Rattle.std.proofs.lemmas.Slice.Eq.{bytes_eq-Decides}
 use Rattle.serde_json_path_syntax.proofs.Typing.TypedByNames.{typed_by_names}
 
 -- the signatures that the set declares

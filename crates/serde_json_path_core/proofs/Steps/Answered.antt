@@ -1,20 +1,10 @@
 -- A call of a set answers what is computed, and is refused for its pattern only where it goes by one.
 use Rattle.std.proofs.Common.{◌≡◌, ◌⊎◌, ℕ, List, [], ◌∷◌, ◌++◌, length, map, inl, inr, Result, Ok, Err, IfOk, IfErr, refl, sym, ap, subst, ◌∙◌}
-use Rattle.std.proofs.lemmas.List.{append-nil}
-use Rattle.serde_json.specs.Data.{Data}
-use Rattle.serde_json_path_syntax.specs.Tree.{Query, Call, call, Arguments}
-use Rattle.serde_json_path_functions.specs.Functions.{Term, FunctionSet}
-use Rattle.serde_json_path_functions.specs.Terms.{kind_view, term_view}
-use Rattle.serde_json_path_core.specs.Meaning.{params_of}
-use Rattle.serde_json_path_syntax.specs.Typing.{IsTypedCall, AreTypedArguments}
+use Rattle.serde_json_path_core.proofs.Words.{append-nil, Data, Query, Call, call, Arguments, Term, FunctionSet, term_view, params_of, IsTypedCall}
+use Rattle.serde_json_path_core.proofs.Words.{AreTypedArguments, CallsByPattern, StandsIn, IsSound, arguments_of, calls_from, name_of, answer, arguments, Piece}
+use Rattle.serde_json_path_core.proofs.Words.{arguments_in, pieces_named, Part}
+use Rattle.serde_json_path_functions.specs.Terms.{kind_view}
 use Rattle.serde_json_path_functions.specs.Patterns.{MayRefuse}
-use Rattle.serde_json_path_core.specs.PatternCalls.{CallsByPattern, StandsIn}
-use Rattle.serde_json_path_core.specs.Inside.Sound.{IsSound}
-use Rattle.serde_json_path_syntax.specs.Calls.{arguments_of, calls_from, name_of}
-use Rattle.serde_json_path_core.specs.Inside.Computed.{answer, arguments}
-use Rattle.serde_json_path_syntax.specs.Piece.{Piece}
-use Rattle.serde_json_path_syntax.specs.Flat.{arguments_in, pieces_named}
-use Rattle.serde_json_path_syntax.specs.declared.node.Part.{Part}
 use Rattle.serde_json_path_functions.specs.declared.error.QueryError.{QueryError}
 use Rattle.serde_json_path_functions.specs.declared.error.QueryError.TheVariants.{Pattern}
 use Rattle.serde_json_path_functions.specs.declared.types.FunctionArgType.{FunctionArgType}

@@ -1,12 +1,8 @@
 -- A comparison of two sides is that of what is seen of them.
 use Rattle.std.proofs.Common.{◌≡◌, ℤ, pos, ◌*ℤ◌, Bool, false, Option, Some, None, option_map, refl, sym, ap, ap₂, ◌∙◌, ◌||◌, arith}
-use Rattle.std.specs.Ordering.{int_eq}
-use Rattle.std.proofs.lemmas.Bool.Decides.{same_from_decides, Decides-like, Decides-int_eq}
-use Rattle.std.proofs.lemmas.Int.{ints}
-use Rattle.serde_json.specs.Data.{Data, null, boolean, number, string, array, object}
-use Rattle.serde_json.specs.Find.{as_integer}
-use Rattle.serde_json_path_core.specs.Compared.{Compared, nothing, value, billionths}
-use Rattle.serde_json_path_core.specs.Inside.Computed.{same_amount, rising_amount, same_data, is_same, comes_before}
+use Rattle.serde_json_path_core.proofs.Words.{int_eq, same_from_decides, Decides-like, Decides-int_eq, ints, Data, null, boolean, number, string, array, object}
+use Rattle.serde_json_path_core.proofs.Words.{as_integer, Compared, nothing, billionths, same_amount, rising_amount, same_data, is_same, comes_before}
+use Rattle.serde_json_path_core.specs.Compared.{value}
 use Rattle.serde_json_path_core.specs.Inside.Sides.{Seen, seen_data, seen_of, same_seen, less_seen}
 
 -- two whole numbers are equal where their billionths are

@@ -1,17 +1,8 @@
 -- A look-up in a map or a vector finds what the same look-up in their data finds.
 use Rattle.std.proofs.Common.{◌≡◌, ℕ, ◌<◌, ◌≤◌, get_or, ℤ, option_and_then, List, length, Option, Some, None, option_map, Equal, string_bytes, nat_cmp, is_eq, sym, ap, ◌∙◌}
-use Rattle.std.specs.Cmp.Lexicographic.{slice_cmp}
-use Rattle.std.specs.BTreeMap.{is_at}
-use Rattle.std.specs.Map.{lookup}
-use Rattle.std.proofs.lemmas.Map.Text.{is_eq-slice_cmp}
-use Rattle.std.proofs.lemmas.Slice.Eq.{bytes_eq-Decides}
-use Rattle.serde_json.specs.Data.{object, array}
-use Rattle.serde_json.specs.View.{view, items_view, members_view}
-use Rattle.serde_json.specs.declared.value.Value.{Value}
-use Rattle.serde_json.proofs.Views.{Entry, view-lookup, get_item_within, get_item_past, items_len-items_view}
-use Rattle.serde_json.specs.Data.{Data}
-use Rattle.serde_json_path_nodes.specs.Location.{Step, by_name, by_position}
-use Rattle.serde_json_path_core.specs.Inside.Selected.{child_by, item_at, position_in}
+use Rattle.serde_json_path_core.proofs.Words.{slice_cmp, is_at, lookup, is_eq-slice_cmp, bytes_eq-Decides, object, array, view, items_view, members_view, Value}
+use Rattle.serde_json_path_core.proofs.Words.{Entry, view-lookup, get_item_within, get_item_past, items_len-items_view, Data, Step, by_name, by_position}
+use Rattle.serde_json_path_core.proofs.Words.{child_by, item_at, position_in}
 
 same_name : (xs ys : List ℕ) → slice_cmp nat_cmp xs ys ≡ Equal → xs ≡ ys
 same_name xs ys e = (bytes_eq-Decides xs ys).0 (sym (is_eq-slice_cmp xs ys) ∙ ap is_eq e)

@@ -1,11 +1,7 @@
 -- The members of a map stand in order already, as its keys rise.
 use Rattle.std.proofs.Common.{◌≡◌, List, [], ◌∷◌, String, Global, Less, string_cmp, string_bytes}
-use Rattle.std.specs.List.{AllByRecursion}
+use Rattle.serde_json_path_core.proofs.Words.{AllByRecursion, keys_of, members_view, Entry, in_order}
 use Rattle.std.specs.List.Sorted.{IsStrictlySortedBy}
-use Rattle.std.specs.Map.{keys_of}
-use Rattle.serde_json.specs.View.{members_view}
-use Rattle.serde_json.proofs.Views.{Entry}
-use Rattle.serde_json_path_core.specs.Inside.Computed.{in_order}
 use Rattle.serde_json_path_core.proofs.Meaning.ChildSteps.{IsBelow, AreRising, in_order-rising}
 
 below_keys : (key : String Global) (entries : List Entry) → AllByRecursion (λ k. string_cmp key k ≡ Less) (keys_of entries) → IsBelow (string_bytes key) (members_view entries)

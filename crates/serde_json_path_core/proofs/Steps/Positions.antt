@@ -1,17 +1,7 @@
 -- The positions of a slice by the bounds that the code computes, and how they go on by one.
 use Rattle.std.proofs.Common.{◌≡◌, ℕ, zero, suc, ◌+◌, ◌-◌, min, ◌<◌, ◌≤◌, ℤ, pos, nat_abs, List, [], ◌∷◌, drop, length, get_or, Bool, true, false, Option, Some, None, ◌⊎◌, inl, inr, refl, sym, ap, ◌∙◌, arith, true≢false}
-use Rattle.std.specs.Prelude.{◌+ℤ◌, ◌-ℤ◌}
-use Rattle.std.proofs.lemmas.Bool.{cases_lt}
-use Rattle.std.proofs.lemmas.List.{drop_more}
-use Rattle.std.proofs.lemmas.Int.{ints, clamps}
-use Rattle.serde_json.specs.View.{view, items_view}
-use Rattle.serde_json.specs.declared.value.Value.{Value}
-use Rattle.serde_json.specs.declared.value.Value.TheVariants.{Null}
-use Rattle.serde_json.proofs.Views.{get_item_within, get_item_past}
-use Rattle.serde_json_path_nodes.specs.Location.{by_position}
-use Rattle.serde_json_path_syntax.specs.Tree.{Slice}
-use Rattle.serde_json_path_core.specs.Slices.{bound_of}
-use Rattle.serde_json_path_core.specs.Inside.Computed.{SlicePositions, items_from, count_within, strided, falling, next_position}
+use Rattle.serde_json_path_core.proofs.Words.{◌+ℤ◌, ◌-ℤ◌, cases_lt, drop_more, ints, clamps, view, items_view, Value, Null, get_item_within, get_item_past}
+use Rattle.serde_json_path_core.proofs.Words.{by_position, Slice, bound_of, SlicePositions, items_from, count_within, strided, falling, next_position}
 use Rattle.serde_json_path_core.proofs.Meaning.SlicePositions.{next_strided}
 
 -- ---- the positions of a slice

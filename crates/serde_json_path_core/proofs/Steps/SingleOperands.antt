@@ -1,12 +1,7 @@
 -- Logical expressions of one operand, which is a comparison.
 use Rattle.std.proofs.Common.{◌≡◌, ◌<◌, ◌≤◌, List, [], ◌∷◌, length, slice_index_or, Bool, true, false, ◌&&◌, ◌||◌, refl, ap, ◌∙◌, arith}
-use Rattle.serde_json.specs.Data.{Data}
-use Rattle.serde_json_path_functions.specs.Functions.{FunctionSet}
-use Rattle.serde_json_path_syntax.specs.Tree.{LogicalOr, no_or, or, no_and, and, relation, Comparable, Operator}
-use Rattle.serde_json_path_syntax.specs.Flat.{and_in, ands_in, basic_in, ors_in, piece_in, pieces_named}
-use Rattle.serde_json_path_syntax.specs.Piece.{Piece}
-use Rattle.serde_json_path_syntax.specs.declared.node.Part.{Part}
-use Rattle.serde_json_path_core.specs.Inside.Computed.{compare_sides, compared, is_true}
+use Rattle.serde_json_path_core.proofs.Words.{Data, FunctionSet, LogicalOr, no_or, or, no_and, and, relation, Comparable, Operator, and_in, ands_in, basic_in}
+use Rattle.serde_json_path_core.proofs.Words.{ors_in, piece_in, pieces_named, Piece, Part, compare_sides, compared, is_true}
 
 single : (parts : List Part) (d : Part) → 1 ≤ length parts → length parts < 2 → parts ≡ slice_index_or parts 0 d ∷ []
 single [] d low high = absurd (omega arith)

@@ -1,10 +1,6 @@
 -- Stacks of frames, each at a child of the one below: what a step keeps, and how many frames there are at most.
 use Rattle.std.proofs.Common.{◌≡◌, ◌+◌, ◌≤◌, List, [], ◌∷◌, ◌++◌, length, Some, None, sym, ap, subst, ◌∙◌, arith}
-use Rattle.serde_json.specs.Data.{Data}
-use Rattle.serde_json_path_nodes.specs.Location.{Step, child_at}
-use Rattle.serde_json_path_syntax.specs.Stages.{Stage}
-use Rattle.serde_json_path_core.specs.Inside.Rest.{AreChildrenOf, Frame, begun, IsOfValue, IsChain, IsStack}
-use Rattle.serde_json_path_core.specs.Inside.Advances.{IsSameFrame}
+use Rattle.serde_json_path_core.proofs.Words.{Data, Step, child_at, Stage, AreChildrenOf, Frame, begun, IsOfValue, IsChain, IsStack, IsSameFrame}
 use Rattle.serde_json_path_core.proofs.Walks.Heights.{height, height-child_at}
 use Rattle.serde_json_path_core.proofs.Walks.FrameSteps.{opened-of}
 

@@ -1,16 +1,10 @@
 -- The steps of a frame that moves on.
 use Rattle.std.proofs.Common.{◌≡◌, ℕ, ◌+◌, List, [], ◌∷◌, ◌++◌, map, drop, Option, Some, None, option_map, inl, inr, refl, sym, ap, subst, ◌∙◌, append_assoc}
-use Rattle.serde_json.specs.Data.{Data}
-use Rattle.serde_json_path_nodes.specs.Location.{Step, child_at}
-use Rattle.serde_json_path_functions.specs.Functions.{FunctionSet}
-use Rattle.serde_json_path_syntax.specs.Tree.{SegmentKind, child, descendant, Selector, name, wildcard, index, slice, filter}
-use Rattle.serde_json_path_syntax.specs.Stages.{Stage}
-use Rattle.serde_json_path_core.specs.Inside.Rest.{AreChildrenOf, Frame, candidates, admitted, unfiltered, opened, tasks, EndsIn}
-use Rattle.serde_json_path_core.specs.Inside.Advances.{Skips, IsAtAdmitted, Passes, IsDone, IsAtTask}
+use Rattle.serde_json_path_core.proofs.Words.{Data, Step, child_at, FunctionSet, SegmentKind, child, descendant, Selector, name, wildcard, index, slice, filter}
+use Rattle.serde_json_path_core.proofs.Words.{Stage, AreChildrenOf, Frame, candidates, admitted, unfiltered, opened, tasks, EndsIn, Skips, IsAtAdmitted, Passes}
+use Rattle.serde_json_path_core.proofs.Words.{IsDone, IsAtTask, by_name, in_append}
 use Rattle.serde_json_path_core.proofs.Meaning.ChildSteps.{in_children, in_child_by, in_item_at}
 use Rattle.serde_json_path_core.proofs.Meaning.SlicePositions.{in_sliced}
-use Rattle.serde_json_path_nodes.specs.Location.{by_name}
-use Rattle.serde_json_path_syntax.proofs.Lists.InLists.{in_append}
 use Rattle.serde_json_path_core.proofs.Walks.Tasks.{onward, gives_child, skips_over, turns_over, goes_down, is_done}
 
 -- ---- ends of lists

@@ -1,15 +1,9 @@
 -- A document's height, computed.
 use Rattle.std.proofs.Common.{◌≡◌, ℕ, zero, suc, ◌+◌, ◌<◌, ◌≤◌, max, List, [], ◌∷◌, length, Option, Some, None, Ordering, Less, Equal, Greater, nat_cmp, option_and_then, inl, inr, refl, sym, subst, ap, ◌∙◌, arith}
-use Rattle.std.specs.Prelude.{is_some, if◌then◌else◌}
-use Rattle.std.specs.Cmp.Lexicographic.{slice_cmp}
-use Rattle.std.specs.Ordering.{match_ordering}
-use Rattle.std.proofs.lemmas.Bool.{cases_lt}
-use Rattle.std.proofs.lemmas.Grind.{not_there}
+use Rattle.serde_json_path_core.proofs.Words.{is_some, if◌then◌else◌, slice_cmp, match_ordering, cases_lt, not_there, none-some, same_Some, Data, null, boolean}
+use Rattle.serde_json_path_core.proofs.Words.{number, string, array, object, Items, no_items, item, Members, no_members, member, get_item, get_member, Step}
+use Rattle.serde_json_path_core.proofs.Words.{by_name, by_position, child_at, at}
 use Rattle.std.proofs.lemmas.Map.Lookups.{exact_bytes}
-use Rattle.std.proofs.lemmas.Option.{none-some, same_Some}
-use Rattle.serde_json.specs.Data.{Data, null, boolean, number, string, array, object, Items, no_items, item, Members, no_members, member}
-use Rattle.serde_json.specs.Find.{get_item, get_member}
-use Rattle.serde_json_path_nodes.specs.Location.{Step, by_name, by_position, child_at, at}
 use Rattle.serde_json_path_core.specs.Height.{IsHeight}
 use Rattle.serde_json_path_core.proofs.Meaning.ChildSteps.{found_here}
 use Rattle.serde_json_path_core.proofs.Meaning.Descents.{by_children}

@@ -1,17 +1,9 @@
 -- Values that stand in the document: those of a walk's frames, and their children.
 use Rattle.std.proofs.Common.{◌≡◌, List, [], ◌∷◌, ◌++◌, option_and_then, Some, None, inr, refl, sym, ap, subst, ◌∙◌}
-use Rattle.std.proofs.Math.Logic.{∥∥₁_map, ∥∥₁_elim, ∥∥₁_prop}
-use Rattle.serde_json.specs.Data.{Data}
-use Rattle.serde_json_path_nodes.specs.Location.{Step, child_at, at}
-use Rattle.serde_json_path_syntax.specs.Tree.{QueryKind, root, current}
-use Rattle.serde_json_path_syntax.specs.Lists.{IsIn}
-use Rattle.serde_json_path_core.specs.Derivation.{start_of}
-use Rattle.serde_json_path_core.specs.PatternCalls.{StandsIn}
-use Rattle.serde_json_path_core.specs.Inside.Rest.{AreChildrenOf, Frame, entered, EndsIn, IsChain, IsStack, IsStackIn, IsInside, AllStandIn}
-use Rattle.serde_json_path_syntax.specs.Stages.{Stage}
+use Rattle.serde_json_path_core.proofs.Words.{∥∥₁_map, ∥∥₁_elim, ∥∥₁_prop, Data, Step, child_at, at, QueryKind, root, current, IsIn, start_of, StandsIn}
+use Rattle.serde_json_path_core.proofs.Words.{AreChildrenOf, Frame, entered, EndsIn, IsChain, IsStack, IsStackIn, IsInside, AllStandIn, Stage, in_append}
 use Rattle.serde_json_path_core.proofs.Walks.Chains.{stack-started}
 use Rattle.serde_json_path_core.proofs.Meaning.Derived.{at-append}
-use Rattle.serde_json_path_syntax.proofs.Lists.InLists.{in_append}
 
 pub root_stands : (top : Data) → StandsIn top top
 root_stands top = ∣ ([], refl) ∣₁

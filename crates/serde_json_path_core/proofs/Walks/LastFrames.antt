@@ -1,9 +1,8 @@
 -- The last of so many frames.
 use Rattle.std.proofs.Common.{◌≡◌, ℕ, ◌+◌, ◌-◌, ◌<◌, ◌≤◌, List, [], ◌∷◌, ◌++◌, map, take, set, length, get_or, refl, ap, ◌∙◌, sym, arith, append_assoc}
-use Rattle.serde_json_path_core.specs.Inside.Frames.{frame_view, frames_view}
-use Rattle.serde_json_path_core.specs.Inside.Rest.{Frame, last_passed, passed}
+use Rattle.serde_json_path_core.proofs.Words.{frame_view, frames_view, Frame, last_passed, passed, get_or_append_left, take-append-drop, drop_more, drop_all}
+use Rattle.serde_json_path_core.proofs.Words.{set_at, length-take, map-append}
 use Rattle.serde_json_path_core.specs.declared.evaluation.frame.Frame as declared
-use Rattle.std.proofs.lemmas.List.{get_or_append_left, take-append-drop, drop_more, drop_all, set_at, length-take, map-append}
 
 last_is : {A : Type 0} (xs : List A) (d : A) → 0 < length xs → xs ≡ take (length xs - 1) xs ++ get_or xs (length xs - 1) d ∷ []
 last_is xs d h =

@@ -1,30 +1,12 @@
 -- A query goes down by segments that select one child at most: the values that it selects stay.
-use Rattle.std.specs.Prelude.{IfSome}
-use Rattle.std.specs.Borrow.{Bor}
-use Rattle.std.specs.Option.{option_map_or}
+use Rattle.serde_json_path_core.proofs.Words.{IfSome, Bor, option_map_or, none-some, same_Some, append-nil, drop_more, length-drop, take-append-drop, take_all}
+use Rattle.serde_json_path_core.proofs.Words.{flat_map-map, Data, view, Value, Step, Located, FunctionSet, Query, query, kind_of, segments_of, Segments}
+use Rattle.serde_json_path_core.proofs.Words.{no_segments, segment, SegmentKind, child, descendant, Segment, Selector, stage_at, stage_of, Stage, piece_at}
+use Rattle.serde_json_path_core.proofs.Words.{segment_in, segment_kind_in, segments_at, Node, Part, flat_map-same, map-flat_map, chosen, descents, itself}
+use Rattle.serde_json_path_core.proofs.Words.{placed, reached, results, results_from, start_of, beneath, first_value, admitted, candidates, AreChildrenOf}
+use Rattle.serde_json_path_core.proofs.Words.{EndsIn, IsIn, child_at, SelectOnly, single_view, values_from}
 use Rattle.std.proofs.Common.{◌≡◌, ℕ, ◌+◌, ◌<◌, List, [], ◌∷◌, ◌++◌, ◌-◌, ◌≤◌, map, take, drop, flat_map, length, get_or, arith, subst, inl, Option, Some, None, option_to_list, slice_get, slice_index_or, refl, sym, ap, ◌∙◌}
-use Rattle.std.proofs.lemmas.Option.{none-some, same_Some}
-use Rattle.std.proofs.lemmas.List.{append-nil, drop_more, length-drop, take-append-drop, take_all}
-use Rattle.std.proofs.lemmas.List.Folds.{flat_map-map}
-use Rattle.serde_json.specs.Data.{Data}
-use Rattle.serde_json.specs.View.{view}
-use Rattle.serde_json.specs.declared.value.Value.{Value}
-use Rattle.serde_json_path_nodes.specs.Location.{Step, Located}
-use Rattle.serde_json_path_functions.specs.Functions.{FunctionSet}
-use Rattle.serde_json_path_syntax.specs.Tree.{Query, query, kind_of, segments_of, Segments, no_segments, segment, SegmentKind, child, descendant, Segment, Selector}
-use Rattle.serde_json_path_syntax.specs.Stages.{stage_at, stage_of, Stage}
-use Rattle.serde_json_path_syntax.specs.Flat.{piece_at, segment_in, segment_kind_in, segments_at}
-use Rattle.serde_json_path_syntax.specs.declared.node.Node.{Node}
-use Rattle.serde_json_path_syntax.specs.declared.node.Part.{Part}
-use Rattle.serde_json_path_syntax.proofs.Lists.InLists.{flat_map-same, map-flat_map}
-use Rattle.serde_json_path_core.specs.Inside.Computed.{chosen, descents, itself, placed, reached, results, results_from}
-use Rattle.serde_json_path_core.specs.Derivation.{start_of, beneath}
-use Rattle.serde_json_path_core.specs.Meaning.{first_value}
-use Rattle.serde_json_path_core.specs.Inside.Rest.{admitted, candidates, AreChildrenOf, EndsIn}
-use Rattle.serde_json_path_syntax.specs.Lists.{IsIn}
-use Rattle.serde_json_path_nodes.specs.Location.{child_at}
 use Rattle.serde_json_path_core.proofs.Walks.FrameSteps.{candidates-of}
-use Rattle.serde_json_path_core.specs.Inside.SingleChildren.{SelectOnly, single_view, values_from}
 use Rattle.serde_json_path_core.specs.declared.evaluation.single_children.SingleSelector.{SingleSelector}
 use Rattle.serde_json_path_core.specs.declared.evaluation.single_children.SingleSelector.TheVariants as single
 use Rattle.serde_json_path_core.proofs.Walks.Started.{chosen-list}

@@ -1,19 +1,12 @@
 -- What a stack of frames has left, when its last frame gives its node, is dropped, or moves on to a child.
 use Rattle.std.proofs.Common.{◌≡◌, ℕ, ◌+◌, List, [], ◌∷◌, ◌++◌, map, drop, flat_map, Option, Some, option_to_list, refl, ap, ◌∙◌, sym, append_assoc, ◌<◌, ◌≤◌, length, true, arith, length-append}
-use Rattle.std.proofs.lemmas.Grind.{flat_map-append}
-use Rattle.std.proofs.lemmas.List.{append-nil, drop-drop}
-use Rattle.std.proofs.lemmas.List.Folds.{flat_map-map}
+use Rattle.serde_json_path_core.proofs.Words.{flat_map-append, append-nil, drop-drop, flat_map-map, Step, Located, SegmentKind, child, descendant, Selector}
+use Rattle.serde_json_path_core.proofs.Words.{name, wildcard, index, slice, filter, beneath, children, descents, placed, reached, Stage, Frame, candidates}
+use Rattle.serde_json_path_core.proofs.Words.{lower, entered, frame_tasks, is_leaf, here, stack_path, visit, visit_rest, visit_place, visit_stack, admitted}
+use Rattle.serde_json_path_core.proofs.Words.{unfiltered, rest_of, work, flat_map-same, flat_map-flat_map, FunctionSet}
 use Rattle.serde_json.specs.Data.{Data, null as null_data, boolean, number as number_data, string, array, object}
-use Rattle.serde_json_path_nodes.specs.Location.{Step, Located}
-use Rattle.serde_json_path_syntax.specs.Tree.{SegmentKind, child, descendant, Selector, name, wildcard, index, slice, filter}
-use Rattle.serde_json_path_core.specs.Derivation.{beneath}
-use Rattle.serde_json_path_core.specs.Inside.Computed.{children, descents, placed, reached}
-use Rattle.serde_json_path_syntax.specs.Stages.{Stage}
-use Rattle.serde_json_path_core.specs.Inside.Rest.{Frame, candidates, lower, entered, frame_tasks, is_leaf, here, stack_path, visit, visit_rest, visit_place, visit_stack, admitted, unfiltered, rest_of, work}
 use Rattle.serde_json_path_core.proofs.Meaning.Descents.{below_child, descents_are}
-use Rattle.serde_json_path_syntax.proofs.Lists.InLists.{flat_map-same, flat_map-flat_map}
 use Rattle.serde_json_path_core.proofs.Walks.Tasks.{next_opened}
-use Rattle.serde_json_path_functions.specs.Functions.{FunctionSet}
 
 abbrev pub located : List Step → Data → Located
 located above v = record { location = above; value = v }

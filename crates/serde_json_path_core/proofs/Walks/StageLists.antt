@@ -1,11 +1,7 @@
 -- The stages of a query's parts, and what is left of a list after so many elements.
 use Rattle.std.proofs.Common.{◌≡◌, ℕ, zero, suc, ◌+◌, ◌<◌, ◌≤◌, List, [], ◌∷◌, drop, length, slice_get, option_map, Option, Some, None, slice_index_or, refl, ap, sym, ◌∙◌, arith}
-use Rattle.std.proofs.lemmas.Option.{none-some, same_Some, slice_get_read, slice_get_past}
-use Rattle.serde_json_path_syntax.specs.Piece.{Piece}
-use Rattle.serde_json_path_syntax.specs.declared.node.Node.{Node}
-use Rattle.serde_json_path_syntax.specs.declared.node.Part.{Part}
-use Rattle.serde_json_path_syntax.specs.Flat.{piece_in, pieces, pieces_named, segment_in, segment_kind_in, segments_in}
-use Rattle.serde_json_path_syntax.specs.Stages.{stage_of, stages, stage_at, stages_at}
+use Rattle.serde_json_path_core.proofs.Words.{none-some, same_Some, slice_get_read, slice_get_past, Piece, Node, Part, piece_in, pieces, pieces_named}
+use Rattle.serde_json_path_core.proofs.Words.{segment_in, segment_kind_in, segments_in, stage_of, stages, stage_at, stages_at}
 
 -- after so many elements comes the one of that number
 pub drop-some : {A : Type 0} (xs : List A) (i : ℕ) (x : A) → slice_get xs i ≡ Some x → drop i xs ≡ x ∷ drop (i + 1) xs

@@ -1,16 +1,9 @@
 -- What a walk that begins has left is the result of the segments.
 use Rattle.std.proofs.Common.{◌≡◌, [], ◌∷◌, ◌++◌, List, map, flat_map, None, refl, ap, ◌∙◌, sym}
-use Rattle.std.proofs.lemmas.List.{append-nil}
-use Rattle.std.proofs.lemmas.List.Folds.{flat_map-map}
-use Rattle.serde_json.specs.Data.{Data}
-use Rattle.serde_json_path_nodes.specs.Location.{Located}
-use Rattle.serde_json_path_functions.specs.Functions.{FunctionSet}
-use Rattle.serde_json_path_syntax.specs.Tree.{Query, query, kind_of, segments_of, Segments, no_segments, segment, Segment, dot_name, dot_wildcard, long_hand, Selectors, no_selectors, selector, Selector, filter}
-use Rattle.serde_json_path_core.specs.Derivation.{start_of}
-use Rattle.serde_json_path_core.specs.Inside.Computed.{results, placed, reached, results_from, chosen, chosen_by, selected}
-use Rattle.serde_json_path_core.specs.Inside.Rest.{Frame, candidates, admitted, begun, entered, starting_frame, visit, rest_of}
-use Rattle.serde_json_path_syntax.specs.Stages.{selectors_of, selectors_list, stages}
-use Rattle.serde_json_path_syntax.proofs.Lists.InLists.{flat_map-same}
+use Rattle.serde_json_path_core.proofs.Words.{append-nil, flat_map-map, Data, Located, FunctionSet, Query, query, kind_of, segments_of, Segments, no_segments}
+use Rattle.serde_json_path_core.proofs.Words.{segment, Segment, dot_name, dot_wildcard, long_hand, Selectors, no_selectors, selector, Selector, filter}
+use Rattle.serde_json_path_core.proofs.Words.{start_of, results, placed, reached, results_from, chosen, chosen_by, selected, Frame, candidates, admitted, begun}
+use Rattle.serde_json_path_core.proofs.Words.{entered, starting_frame, visit, rest_of, selectors_of, selectors_list, stages, flat_map-same}
 use Rattle.serde_json_path_core.proofs.Walks.Stacks.{enters, located}
 
 -- the frame of these segments at that start is where the query begins

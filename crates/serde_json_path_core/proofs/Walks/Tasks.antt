@@ -1,10 +1,6 @@
 -- The tasks of a frame, a step at a time.
 use Rattle.std.proofs.Common.{◌≡◌, ℕ, ◌+◌, List, [], ◌∷◌, ◌++◌, map, flat_map, refl, ap, ◌∙◌, sym, append_assoc}
-use Rattle.std.proofs.lemmas.List.{map-append}
-use Rattle.serde_json.specs.Data.{Data}
-use Rattle.serde_json_path_nodes.specs.Location.{Step}
-use Rattle.serde_json_path_syntax.specs.Tree.{SegmentKind, child, descendant, Selector}
-use Rattle.serde_json_path_core.specs.Inside.Rest.{candidates, lower, opened, lower_left, tasks}
+use Rattle.serde_json_path_core.proofs.Words.{map-append, Data, Step, SegmentKind, child, descendant, Selector, candidates, lower, opened, lower_left, tasks}
 
 lower_left-same : (kind : SegmentKind) (sel : Selector) (more : List Selector) (cs ds : List (Step × Data)) (v : Data) → lower_left kind (sel ∷ more) cs v ≡ lower_left kind (sel ∷ more) ds v
 lower_left-same child sel more cs ds v = refl

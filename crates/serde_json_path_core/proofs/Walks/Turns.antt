@@ -1,13 +1,8 @@
 -- One turn of a walk: what it gives, and what stays.
 use Rattle.std.proofs.Common.{◌≡◌, ℕ, ◌-◌, ◌<◌, ◌≤◌, List, [], ◌∷◌, ◌++◌, drop, take, length, refl, Bool, true, false, Some, None, sym, ap, subst, ◌∙◌, arith, cond, length-append}
-use Rattle.std.proofs.lemmas.List.{append-nil}
-use Rattle.std.proofs.Math.Seq.{take-append_seam}
-use Rattle.serde_json.specs.Data.{Data}
-use Rattle.serde_json_path_nodes.specs.Location.{Step}
-use Rattle.serde_json_path_functions.specs.Functions.{FunctionSet}
-use Rattle.serde_json_path_syntax.specs.Stages.{Stage}
-use Rattle.serde_json_path_core.specs.Inside.Rest.{Frame, admitted, entered, entering, is_leaf, last_passed, passed, rest_of, stack_path, without_node, work, IsStack}
-use Rattle.serde_json_path_core.specs.Inside.Advances.{ComesTo, IsAtNode, IsDone, IsKept, Passes}
+use Rattle.serde_json_path_core.proofs.Words.{append-nil, take-append_seam, Data, Step, FunctionSet, Stage, Frame, admitted, entered, entering, is_leaf}
+use Rattle.serde_json_path_core.proofs.Words.{last_passed, passed, rest_of, stack_path, without_node, work, IsStack, ComesTo, IsAtNode, IsDone, Passes}
+use Rattle.serde_json_path_core.specs.Inside.Advances.{IsKept}
 use Rattle.serde_json_path_core.proofs.Walks.Chains.{begun-of, stack-front, stack-held, stack-last, stack-moved}
 use Rattle.serde_json_path_core.proofs.Walks.LastFrames.{passes-last}
 use Rattle.serde_json_path_core.proofs.Walks.Stacks.{gives, located, moves, rest-dropped, rest-held, rest-leaf, rest-node, work-dropped, work-given, work-held, work-moved, work-passed}

@@ -15,7 +15,6 @@ use Rattle.serde_json_path_syntax.specs.Stages.{selector_view, stage_at, stages_
 use Rattle.serde_json_path_core.specs.Inside.Advances as advances
 use Rattle.serde_json_path_core.specs.Compared.{Compared}
 use Rattle.serde_json_path_core.specs.Inside.Computed as computed
-use Rattle.serde_json_path_core.specs.Inside.Rest as rest
 use Rattle.serde_json_path_core.specs.Inside.Rest.{Frame}
 use Rattle.serde_json_path_core.specs.Inside.SingleChildren.{values_from}
 use Rattle.serde_json_path_core.specs.Inside.Scopes.{nodes_of, query_of, set_of, top_of}
@@ -99,13 +98,9 @@ values_of_segments scope segments v = values_from (set_of scope) (top_of scope) 
 
 -- ---- steps of a walk
 
--- the nodes that remain of these frames
-abbrev pub remaining : {F : Type 0} {g : _} → Scope F g → List Part → List Frame → List Located
-remaining scope segments frames = rest.rest_of (set_of scope) (top_of scope) (stages_at (nodes_of scope) segments) frames
-
--- how many steps these frames take at most
-abbrev pub work_left : {F : Type 0} {g : _} → Scope F g → List Part → List Frame → ℕ
-work_left scope segments frames = rest.work (stages_at (nodes_of scope) segments) frames
+-- nothing is given, there is no more work than before, and what was a stack is one
+abbrev pub IsKept : {F : Type 0} {g : _} → Scope F g → List Part → List Frame → List Frame → Type 0
+IsKept scope segments old new = advances.IsKept (set_of scope) (top_of scope) (stages_at (nodes_of scope) segments) old new
 
 -- of these children some are passed, but none that the selector admits
 abbrev pub Skips : {F : Type 0} {g : _} → Scope F g → SelectorRef → List (Step × Data) → List (Step × Data) → Type 0

@@ -1,15 +1,14 @@
 //! The stack of a walk's frames, and how it reaches the next node.
 
 ghost use Rattle.std.specs.Prelude.{◌≡◌, ◌<◌, ◌≤◌, [], ◌++◌, None, Ok, IfOk, IfErr, OnOk, OnErr, MatchOption, length, option_map, option_to_list};
-ghost use Rattle.serde_json.specs.Data.{Data};
 ghost use Rattle.serde_json.specs.View.{view};
 ghost use Rattle.serde_json_path_nodes.specs.Views.{located, step_view};
 ghost use Rattle.serde_json_path_syntax.specs.Parts.{nodes_in};
 ghost use Rattle.serde_json_path_syntax.specs.PartBounds.{parts_bound};
 ghost use Rattle.serde_json_path_syntax.specs.Typing.{AreTypedSegments, UnderSome};
-ghost use Rattle.serde_json_path_core.specs.Inside.Evaluates.{IsAtNode, SoundSegments, remaining, work_left};
+ghost use Rattle.serde_json_path_core.specs.Inside.Evaluates.{IsAtNode, IsKept, SoundSegments};
 ghost use Rattle.serde_json_path_core.specs.Inside.Scopes.{MayRefuse, nodes_of, top_of};
-ghost use Rattle.serde_json_path_core.specs.Inside.Rest.{entering, is_leaf, last_passed, stack_path, without_node, IsStack, IsStackIn};
+ghost use Rattle.serde_json_path_core.specs.Inside.Rest.{entering, is_leaf, last_passed, stack_path, without_node, IsStackIn};
 ghost use Rattle.serde_json_path_syntax.specs.Flat.{segments_at};
 ghost use Rattle.serde_json_path_syntax.specs.Stages.{stages_at};
 ghost use Rattle.serde_json_path_core.specs.Inside.Frames.{frames_view, task_view};
@@ -122,16 +121,12 @@ pub(crate) fn find_next<'b, F: Functions>(
     requires below { parts_bound segments.now ≤ length (nodes_of scope.now) }
     requires sound { SoundSegments scope.now segments.now }
     requires inside { ∥ IsStackIn (top_of scope.now) (frames_view frames.old.items) ∥₁ }
-    ensures rest { remaining scope.now segments.now (frames_view frames.old.items)
-        ≡ remaining scope.now segments.now (frames_view frames.new.items) }
-    ensures less { work_left scope.now segments.now (frames_view frames.new.items)
-        ≤ work_left scope.now segments.now (frames_view frames.old.items) }
+    ensures kept { IsKept scope.now segments.now
+        (frames_view frames.old.items) (frames_view frames.new.items) }
     ensures found { IfOk result (λ found. MatchOption found (frames.new.items ≡ [])
         (λ f. (0 < length frames.new.items) × IsAtNode scope.now segments.now
         (frames_view frames.new.items) (option_map step_view f.step) (view f.value.now))) }
     ensures after_end { frames.old.items ≡ [] → result ≡ Ok None }
-    ensures stack { (start : Data) → IsStack start (frames_view frames.old.items)
-        → IsStack start (frames_view frames.new.items) }
     ensures refused { IfErr result (λ e. e ≡ Pattern → MayRefuse scope.now) }
 {
     while let Some(last) = frames.len().checked_sub(1) {

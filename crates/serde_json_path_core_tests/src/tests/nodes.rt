@@ -160,6 +160,11 @@ const COMPARED: &[(&[PathElement<'static>], &[PathElement<'static>], bool)] = &[
     (STEPS, STEPS, true),
     (STEPS, &[PathElement::Name("a")], false),
     (&[PathElement::Name("a")], &[PathElement::Index(7)], false),
+    (
+        &[PathElement::Name("a"), PathElement::Index(7)],
+        &[PathElement::Name("b"), PathElement::Index(7)],
+        false,
+    ),
 ];
 
 #[test]

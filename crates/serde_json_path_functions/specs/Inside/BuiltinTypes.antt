@@ -1,11 +1,9 @@
 -- The built-in functions keep their types, and their patterns.
-use Rattle.std.proofs.Common.{◌≡◌, ℕ, List, [], ◌∷◌, Bool, true, false, true≢false, Option, Some, None, IsSome, bytes_eq, codes, if◌then◌else◌, inl, inr, refl, sym, ap, subst, arith}
+use Rattle.std.proofs.Common.{◌≡◌, ℕ, List, [], ◌∷◌, Bool, true, false, true≢false, Option, Some, None, IsSome, bytes_eq, codes, if◌then◌else◌, inl, inr, refl, sym, subst, arith}
 use Rattle.std.proofs.lemmas.Bool.{cases_Bool}
-use Rattle.std.proofs.lemmas.Option.{same_Some}
 use Rattle.std.proofs.lemmas.Slice.Eq.{bytes_eq-Decides}
-use Rattle.serde_json.specs.Data.{string}
-use Rattle.serde_json_path_functions.specs.OwnSets.{Keeps, KeepsPattern, declared_keeps}
-use Rattle.serde_json_path_functions.specs.Functions.{of_value, of_nodes, of_logical, Signature, Term, value, nodes, logical, kind_of_term, Matching, whole_text, any_part, KeepsTypes, matching_signature, first_signature, length_meaning, count_meaning, value_meaning, plain_meaning, plain_signature, pattern_signature, builtin_by_regex}
+use Rattle.serde_json_path_functions.specs.OwnSets.{Keeps, KeepsPattern, declared_keeps, pattern_kept, pattern_typed}
+use Rattle.serde_json_path_functions.specs.Functions.{of_value, of_nodes, Signature, Term, value, nodes, logical, kind_of_term, Matching, whole_text, any_part, KeepsTypes, matching_signature, first_signature, length_meaning, count_meaning, value_meaning, plain_meaning, plain_signature, pattern_signature, builtin_by_regex}
 use Rattle.serde_json_path_functions.specs.Patterns.{pattern_meaning, KeepsPatterns, meaning_by, builtin_functions}
 
 length_typed : (ts : List Term) → kind_of_term (length_meaning ts) ≡ of_value
@@ -28,10 +26,6 @@ value_typed (nodes ds ∷ []) = refl
 value_typed (nodes ds ∷ t ∷ ts) = refl
 value_typed (value v ∷ ts) = refl
 value_typed (logical b ∷ ts) = refl
-
-pub pattern_typed : (matching : Matching) (ts : List Term) → kind_of_term (pattern_meaning matching ts) ≡ of_logical
-pattern_typed matching (value (Some (string text)) ∷ value (Some (string pattern)) ∷ []) = refl
-pattern_typed matching _ = refl
 
 abbrev plain_by : Bool → Bool → Bool → Option Signature
 plain_by a b c =
@@ -85,10 +79,6 @@ builtin_keeps_types name =
     (plain_without_regex name)
 
 -- ---- patterns
-
-pub pattern_kept : (matching : Matching) (plain : List Term → Term)
-    → KeepsPattern (Some matching_signature) (Some matching) (λ ts. meaning_by (Some matching) (plain ts) ts)
-pattern_kept matching plain other same = (refl, λ ts h. ap (λ m. pattern_meaning m ts) (same_Some matching other same))
 
 patterns_kept : (d e : Bool) (plain : List Term → Term)
     → KeepsPattern (pattern_by d e) (matching_by d e) (λ ts. meaning_by (matching_by d e) (plain ts) ts)

@@ -1,13 +1,10 @@
 -- What is read in a bracket is in the grammar, and what is in the grammar is read.
 use Rattle.std.proofs.Common.{◌≡◌, ℕ, Bool, true, cond, List, [], ◌∷◌, ◌++◌, length, drop, Ok, Err, refl, sym, ap, subst, ◌∙◌, append_assoc, arith}
-use Rattle.std.specs.Prelude.{◌==◌, ◌||◌, codes}
-use Rattle.serde_json_path_syntax.specs.Tree.{SegmentKind, Segment, long_hand, Selectors, no_selectors, selector, Selector, LogicalOr}
-use Rattle.serde_json_path_parser.specs.declared.error.ParseErrorKind.TheVariants.{ExpectedClosingBracket}
+use Rattle.serde_json_path_parser.proofs.Words.{◌==◌, ◌||◌, codes, SegmentKind, Segment, long_hand, Selectors, no_selectors, selector, Selector, LogicalOr}
+use Rattle.serde_json_path_parser.proofs.Words.{ExpectedClosingBracket, is_at, begins, IsBlank, ReadsSegment, ReadSelectors, ReadMoreSelectors}
+use Rattle.serde_json_path_parser.proofs.Words.{dots_before_bracket, Parsed, ◌>>=◌, refusal, past_blanks, many, selector_at, next_selector_at, selectors_at}
+use Rattle.serde_json_path_parser.proofs.Words.{selector_list, bracket_at}
 use Rattle.serde_json_path_parser.specs.declared.error.Context.TheVariants as context
-use Rattle.serde_json_path_parser.specs.Lexical.{is_at, begins, IsBlank}
-use Rattle.serde_json_path_parser.specs.Grammar.{ReadsSegment, ReadSelectors, ReadMoreSelectors, dots_before_bracket}
-use Rattle.serde_json_path_parser.specs.Parsed.{Parsed, ◌>>=◌, refusal, past_blanks, many}
-use Rattle.serde_json_path_parser.specs.Parsing.{selector_at, next_selector_at, selectors_at, selector_list, bracket_at}
 use Rattle.serde_json_path_parser.proofs.Reading.Regrouped.{past_all, blanks_of, are_blank, split_blanks, gathered_after, enclosed, spread}
 use Rattle.serde_json_path_parser.proofs.Reading.Many as m
 use Rattle.serde_json_path_parser.proofs.Reading.Rows as r

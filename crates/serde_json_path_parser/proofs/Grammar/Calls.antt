@@ -1,32 +1,30 @@
 -- Arguments and calls: what is read is a good one, each good one is read, and where a refusal stands.
 use Rattle.std.proofs.Common.{◌≡◌, ℕ, zero, suc, ◌≤◌, inl, inr, Bool, true, false, true≢false, cond, List, [], ◌∷◌, ◌++◌, length, drop, Option, Some, None, Ok, Err, refl, sym, ap, subst, ◌∙◌, append_assoc, arith, ◌+◌, ◌<◌}
-use Rattle.std.specs.Prelude.{◌==◌, ◌||◌, ℤ, pos, negsuc, ◌*ℤ◌, ◌-ℤ◌, ◌+◌, ◌/◌, ◌%◌, codes, ◌*◌}
-use Rattle.std.proofs.lemmas.Bool.{eqb-true, eq-eqb, or_parts}
-use Rattle.std.proofs.lemmas.Int.{ints}
-use Rattle.std.proofs.lemmas.Nat.{div-add-mod'}
-use Rattle.serde_json_path_syntax.specs.Tree.{root, current, LogicalOr, LogicalAnd, Basic, paren, not_paren, relation, exist, not_exist, test, not_test, Call, call, Arguments, no_arguments, argument, Argument, literal_argument, query_argument, call_argument, logical_argument, text, number, truth, null, Operator, no_or, or, no_and, and}
-use Rattle.serde_json_path_syntax.specs.Typing.{result_kind, IsTestKind, TakesResult, IsTypedArgument, AreTypedArguments, IsTypedCall}
-use Rattle.serde_json_path_syntax.specs.Depth.{argument_depth, arguments_depth, call_depth}
-use Rattle.serde_json_path_functions.specs.Functions.{Kind, of_value, of_nodes, of_logical, Signature}
-use Rattle.serde_json_path_parser.specs.declared.error.ParseErrorKind.TheVariants.{ExpectedExpression, ExpectedClosingParenthesis, WrongArgumentType, WrongReturnType, UndefinedFunction, WrongNumberOfArguments}
+use Rattle.serde_json_path_parser.proofs.Words.{◌==◌, ◌||◌, ℤ, pos, negsuc, ◌*ℤ◌, ◌-ℤ◌, ◌+◌, ◌/◌, ◌%◌, codes, ◌*◌, eqb-true, eq-eqb, or_parts, ints}
+use Rattle.serde_json_path_parser.proofs.Words.{div-add-mod', root, current, LogicalOr, LogicalAnd, Basic, paren, not_paren, relation, exist, not_exist, test}
+use Rattle.serde_json_path_parser.proofs.Words.{not_test, Call, call, Arguments, no_arguments, argument, Argument, literal_argument, query_argument}
+use Rattle.serde_json_path_parser.proofs.Words.{call_argument, logical_argument, text, number, truth, null, Operator, no_or, or, no_and, and, result_kind}
+use Rattle.serde_json_path_parser.proofs.Words.{IsTestKind, TakesResult, IsTypedArgument, AreTypedArguments, IsTypedCall, argument_depth, arguments_depth}
+use Rattle.serde_json_path_parser.proofs.Words.{call_depth, Kind, of_value, of_nodes, of_logical, Signature, ExpectedExpression, ExpectedClosingParenthesis}
+use Rattle.serde_json_path_parser.proofs.Words.{WrongArgumentType, WrongReturnType, UndefinedFunction, WrongNumberOfArguments, is_at, are_at, begins}
+use Rattle.serde_json_path_parser.proofs.Words.{begins_both, IsBlank, IsFunctionName, StandsAlone, ReadsArgument, ReadMoreArguments, ReadArguments, Parsed}
+use Rattle.serde_json_path_parser.proofs.Words.{◌>>=◌, refusal, past_blanks, many_at, many, byte_count, Operand, a_literal, a_call, is_result, is_test}
+use Rattle.serde_json_path_parser.proofs.Words.{takes_result, is_whole, fits, begins_call, query_at, operator_at, and_list, or_list, alone, ends_argument}
+use Rattle.serde_json_path_parser.proofs.Words.{Deeper, named_call_at, operand_at, comparable_at, test_at, right_side_at, relation_at, basic_from, paren_at}
+use Rattle.serde_json_path_parser.proofs.Words.{negated_call_at, negated_at, basic_at, next_basic_at, and_from, and_at, next_and_at, or_from, or_at}
+use Rattle.serde_json_path_parser.proofs.Words.{logical_from, argument_at, judged, ended, arguments_at, parameters_at, call_at, mul-mod_left, length-append}
+use Rattle.serde_json_path_parser.proofs.Words.{Refusal}
 use Rattle.serde_json_path_parser.specs.declared.error.Context.TheVariants as context
-use Rattle.serde_json_path_parser.specs.Lexical.{is_at, are_at, begins, begins_both, IsBlank, IsFunctionName}
-use Rattle.serde_json_path_parser.specs.Grammar.{StandsAlone, ReadsArgument, ReadMoreArguments, ReadArguments}
-use Rattle.serde_json_path_parser.specs.Parsed.{Parsed, ◌>>=◌, refusal, past_blanks, many_at, many, byte_count}
-use Rattle.serde_json_path_parser.specs.Operands.{Operand, a_literal, a_query, a_call, is_result, is_test, takes_result, is_whole, fits}
-use Rattle.serde_json_path_parser.specs.Filters.{begins_call, query_at, operator_at, and_list, or_list, alone, ends_argument, Deeper, named_call_at, operand_at, comparable_at, test_at, right_side_at, relation_at, basic_from, paren_at, negated_call_at, negated_at, basic_at, next_basic_at, and_from, and_at, next_and_at, or_from, or_at, logical_from, argument_at, judged, ended, arguments_at, parameters_at, call_at}
+use Rattle.serde_json_path_parser.specs.Operands.{a_query}
 use Rattle.serde_json_path_parser.proofs.Reading.Regrouped.{blanks_of, are_blank, split_blanks, past_some, past_all, gathered_after, spread}
 use Rattle.serde_json_path_parser.proofs.Grammar.LogicalForms.{IsGoodOr, IsGoodQuery, IsGoodCall, DeeperLaws, ReadsAfterName, singular_query, Follows, ends_operand, ends_basic, ends_or, query_singular}
 use Rattle.serde_json_path_parser.proofs.Grammar.LogicalExpressions.{value_result, or_sound, and_from_sound, or_from_sound, basic_from_sound, no_operator, or_again, operand_stands, basic_from_stands, and_from_stands, or_from_stands, or_stands, IsBasicText, IsAndText, IsOrText}
 use Rattle.serde_json_path_parser.proofs.Grammar.Operands.{IsOperandText, operand_sound, operand_again}
 use Rattle.serde_json_path_parser.proofs.Reading.Steps.{Read, Spaced, bind_ok, chosen, guard, done, ok_is, after_one, made_of}
-use Rattle.std.proofs.Math.Nat.{mul-mod_left}
-use Rattle.std.proofs.lemmas.List.{length-append}
 use Rattle.serde_json_path_parser.proofs.Grammar.FirstCharacters.{begins_operand, begins_expression, operand_begins, as_expression, or_begins, no_blank_begins}
 use Rattle.serde_json_path_parser.proofs.Reading.Many.{many_end}
 use Rattle.serde_json_path_parser.proofs.Reading.Rows.{at_sign}
 use Rattle.serde_json_path_parser.proofs.Reading.Runs.{begins_where, differs, begins_differs}
-use Rattle.serde_json_path_parser.specs.declared.error.Refusal.{Refusal}
 use Rattle.serde_json_path_parser.proofs.Reading.Stands.{Plain, Inner, Stands, inside, here, further, bind_stands, guard_stands, no_refusal}
 
 -- ---- what is read is in the grammar

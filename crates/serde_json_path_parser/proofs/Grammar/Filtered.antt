@@ -1,12 +1,7 @@
 -- Trees each of whose filters is good, in one sense or another; and what makes filters be read.
 use Rattle.std.proofs.Common.{◌≡◌, ℕ, true, List, ◌++◌, Option, Ok, Err}
-use Rattle.std.specs.Prelude.{◌==◌, ◌||◌}
-use Rattle.serde_json_path_syntax.specs.Tree.{Segments, no_segments, segment, Segment, dot_name, dot_wildcard, long_hand, Selectors, no_selectors, selector, Selector, filter, LogicalOr}
-use Rattle.serde_json_path_functions.specs.Functions.{Signature}
-use Rattle.serde_json_path_parser.specs.declared.error.Refusal.{Refusal}
-use Rattle.serde_json_path_parser.specs.Lexical.{is_at, begins}
-use Rattle.serde_json_path_parser.specs.Grammar.{ReadsSelector}
-use Rattle.serde_json_path_parser.specs.Parsed.{Parsed, past_blanks}
+use Rattle.serde_json_path_parser.proofs.Words.{◌==◌, ◌||◌, Segments, no_segments, segment, Segment, dot_name, dot_wildcard, long_hand, Selectors, no_selectors}
+use Rattle.serde_json_path_parser.proofs.Words.{selector, Selector, filter, LogicalOr, Signature, Refusal, is_at, begins, ReadsSelector, Parsed, past_blanks}
 use Rattle.serde_json_path_parser.proofs.Reading.Stands.{Inner, Stands}
 use Rattle.serde_json_path_parser.proofs.Reading.Steps.{Read, Spaced}
 

@@ -1,11 +1,7 @@
 -- What is read as a filter is a good one, each is read, and a refusal stands in its text, by what holds one level deeper.
 use Rattle.std.proofs.Common.{◌≡◌, ℕ, true, List, ◌∷◌, ◌++◌, drop, Option, Ok, refl, sym, ap, subst, ◌∙◌, append_assoc, arith}
-use Rattle.std.specs.Prelude.{◌==◌, ◌||◌}
-use Rattle.serde_json_path_syntax.specs.Tree.{Selector, filter, LogicalOr}
-use Rattle.serde_json_path_functions.specs.Functions.{Signature}
-use Rattle.serde_json_path_parser.specs.Lexical.{is_at}
-use Rattle.serde_json_path_parser.specs.Parsed.{past_blanks, byte_count}
-use Rattle.serde_json_path_parser.specs.Filters.{Deeper, filter_at}
+use Rattle.serde_json_path_parser.proofs.Words.{◌==◌, ◌||◌, Selector, filter, LogicalOr, Signature, is_at, past_blanks, byte_count, Deeper}
+use Rattle.serde_json_path_parser.specs.Filters.{filter_at}
 use Rattle.serde_json_path_parser.proofs.Reading.Regrouped.{past_all, blanks_of, are_blank, split_blanks}
 use Rattle.serde_json_path_parser.proofs.Grammar.Filtered.{Closes, IsGoodText, FilterLaws, FiltersStand}
 use Rattle.serde_json_path_parser.proofs.Grammar.FirstCharacters.{or_begins, no_blank_begins}

@@ -1,10 +1,10 @@
 -- How operands and logical expressions begin.
 use Rattle.std.proofs.Common.{◌≡◌, ℕ, Bool, true, false, List, ◌++◌, refl, ap, ◌∙◌, append_assoc, arith}
-use Rattle.std.specs.Prelude.{◌==◌, ◌||◌}
-use Rattle.serde_json_path_syntax.specs.Tree.{Query, query, root, current, LogicalOr, no_or, or, LogicalAnd, no_and, and, Basic, paren, not_paren, relation, exist, not_exist, test, not_test, Comparable, literal, singular, called, Call, call, Literal, text, number, truth, null}
-use Rattle.serde_json_path_parser.specs.Lexical.{begins, is_blank, is_digit, is_small_letter}
-use Rattle.serde_json_path_parser.specs.Grammar.{IsLiteral, Reads, ReadsOr, ReadsAnd, ReadsBasic, ReadsComparable, ReadsCall}
-use Rattle.serde_json_path_parser.specs.Operands.{Operand, a_literal, a_query, a_call}
+use Rattle.serde_json_path_parser.proofs.Words.{◌==◌, ◌||◌, Query, query, root, current, LogicalOr, no_or, or, LogicalAnd, no_and, and, Basic, paren, not_paren}
+use Rattle.serde_json_path_parser.proofs.Words.{relation, exist, not_exist, test, not_test, Comparable, literal, singular, called, Call, call, Literal, text}
+use Rattle.serde_json_path_parser.proofs.Words.{number, truth, null, begins, is_blank, is_digit, is_small_letter, IsLiteral, Reads, ReadsOr, ReadsAnd}
+use Rattle.serde_json_path_parser.proofs.Words.{ReadsBasic, ReadsComparable, ReadsCall, Operand, a_literal, a_call}
+use Rattle.serde_json_path_parser.specs.Operands.{a_query}
 use Rattle.serde_json_path_parser.proofs.Grammar.LogicalForms.{ReadsOperand}
 use Rattle.serde_json_path_parser.proofs.Grammar.Numbers.{number_first}
 use Rattle.serde_json_path_parser.proofs.Reading.Runs.{some_begun, begins_front, begins_where, no_blank}

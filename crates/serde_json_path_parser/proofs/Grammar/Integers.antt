@@ -1,15 +1,9 @@
 -- What is read as an integer is one, each integer is read, and where a refusal of one stands.
 use Rattle.std.proofs.Common.{◌≡◌, ℕ, zero, suc, ◌+◌, ◌-◌, ◌*◌, ◌≤◌, inl, inr, Bool, true, false, cond, List, [], ◌∷◌, ◌++◌, drop, Ok, Err, refl, sym, ap, subst, ◌∙◌, arith}
-use Rattle.std.specs.Prelude.{nat_le, ◌==◌, ℤ, pos, negsuc}
-use Rattle.std.proofs.lemmas.Bool.{and_parts}
-use Rattle.std.proofs.lemmas.Int.{ints}
-use Rattle.serde_json_path_syntax.specs.Tree.{largest}
-use Rattle.serde_json_path_parser.specs.declared.error.ParseErrorKind.TheVariants.{ExpectedSelector, IntegerOutOfRange}
+use Rattle.serde_json_path_parser.proofs.Words.{nat_le, ◌==◌, ℤ, pos, negsuc, and_parts, ints, largest, ExpectedSelector, IntegerOutOfRange, Refusal, is_at}
+use Rattle.serde_json_path_parser.proofs.Words.{begins, is_blank, is_digit, value_from, IsDecimal, IsInt, Parsed, ◌>>=◌, refusal, front, past, byte_count}
+use Rattle.serde_json_path_parser.proofs.Words.{is_first_digit, digits_at, negative, int_at, begins_int}
 use Rattle.serde_json_path_parser.specs.declared.error.Context.TheVariants as context
-use Rattle.serde_json_path_parser.specs.declared.error.Refusal.{Refusal}
-use Rattle.serde_json_path_parser.specs.Lexical.{is_at, begins, is_blank, is_digit, value_from, IsDecimal, IsInt}
-use Rattle.serde_json_path_parser.specs.Parsed.{Parsed, ◌>>=◌, refusal, front, past, byte_count}
-use Rattle.serde_json_path_parser.specs.Parsing.{is_first_digit, digits_at, negative, int_at, begins_int}
 use Rattle.serde_json_path_parser.proofs.Reading.Runs.{begins_where, differs, begins_differs, no_blank, whole, front_each, front_begins, front_begins_not, front_all, past_run, value_least}
 use Rattle.serde_json_path_parser.proofs.Reading.Steps.{Read, bind_ok, chosen, guard, done, ok_is, after_one}
 use Rattle.serde_json_path_parser.proofs.Reading.Stands.{Plain, Stands, bind_stands, guard_stands, no_refusal}

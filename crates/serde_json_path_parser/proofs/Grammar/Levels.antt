@@ -1,13 +1,7 @@
 -- The laws of how filters, parentheses and calls are read hold at every level.
 use Rattle.std.proofs.Common.{◌≡◌, ℕ, zero, suc, inl, List, Option, Ok, Err, refl, arith}
-use Rattle.serde_json_path_syntax.specs.Tree.{LogicalOr, Call, call}
-use Rattle.serde_json_path_functions.specs.Functions.{Signature}
-use Rattle.serde_json_path_parser.specs.declared.error.Refusal.{Refusal}
-use Rattle.serde_json_path_parser.specs.declared.error.ParseErrorKind.TheVariants.{NestedTooDeep}
+use Rattle.serde_json_path_parser.proofs.Words.{LogicalOr, Call, call, Signature, Refusal, NestedTooDeep, ReadsOr, Parsed, refusal, byte_count, level}
 use Rattle.serde_json_path_parser.specs.declared.error.Context.TheVariants as context
-use Rattle.serde_json_path_parser.specs.Grammar.{ReadsOr}
-use Rattle.serde_json_path_parser.specs.Parsed.{Parsed, refusal, byte_count}
-use Rattle.serde_json_path_parser.specs.Filters.{level}
 use Rattle.serde_json_path_parser.proofs.Grammar.Calls.{call_stands, call_again, call_sound}
 use Rattle.serde_json_path_parser.proofs.Grammar.LogicalForms.{IsGoodInside, IsGoodCall, DeeperLaws, ReadsAfterName}
 use Rattle.serde_json_path_parser.proofs.Grammar.LogicalExpressions.{or_stands, or_again, or_sound}

@@ -1,19 +1,21 @@
 -- Logical expressions: what is read is a good one, each good one is read, and where a refusal stands.
 use Rattle.std.proofs.Common.{◌≡◌, ℕ, ◌≤◌, inl, inr, true, false, cond, List, [], ◌∷◌, ◌++◌, length, drop, Option, Some, None, Ok, Err, refl, sym, ap, subst, ◌∙◌, append_assoc, arith, Bool}
-use Rattle.std.specs.Prelude.{◌==◌, codes, bytes_eq}
-use Rattle.std.proofs.lemmas.Bool.{and_parts, eq-eqb}
-use Rattle.std.proofs.lemmas.Option.{same_Some}
-use Rattle.serde_json_path_syntax.specs.Tree.{root, current, LogicalOr, LogicalAnd, Basic, paren, not_paren, relation, exist, not_exist, test, not_test, Comparable, literal, singular, called, Call, call, Operator, equal, not_equal, less, less_or_equal, greater, greater_or_equal, Query, query, no_or, or, no_and, and, QueryKind, truth, null}
-use Rattle.serde_json_path_syntax.specs.Typing.{result_kind, IsTypedOr, IsTypedAnd, IsTypedBasic, IsTypedComparable, IsTestKind}
-use Rattle.serde_json_path_syntax.specs.Depth.{or_depth, and_depth, basic_depth, comparable_depth}
-use Rattle.serde_json_path_functions.specs.Functions.{Kind, of_value, of_nodes, of_logical, Signature}
-use Rattle.serde_json_path_parser.specs.declared.error.ParseErrorKind.TheVariants.{NonSingularQuery, WrongReturnType, ExpectedClosingParenthesis, ExpectedExpression, ExpectedComparisonOperator}
+use Rattle.serde_json_path_parser.proofs.Words.{◌==◌, codes, bytes_eq, and_parts, eq-eqb, same_Some, root, current, LogicalOr, LogicalAnd, Basic, paren}
+use Rattle.serde_json_path_parser.proofs.Words.{not_paren, relation, exist, not_exist, test, not_test, Comparable, literal, singular, called, Call, call}
+use Rattle.serde_json_path_parser.proofs.Words.{Operator, equal, not_equal, less, less_or_equal, greater, greater_or_equal, Query, query, no_or, or, no_and}
+use Rattle.serde_json_path_parser.proofs.Words.{and, QueryKind, truth, null, result_kind, IsTypedOr, IsTypedAnd, IsTypedBasic, IsTypedComparable, IsTestKind}
+use Rattle.serde_json_path_parser.proofs.Words.{or_depth, and_depth, basic_depth, comparable_depth, Kind, of_value, of_nodes, of_logical, Signature}
+use Rattle.serde_json_path_parser.proofs.Words.{NonSingularQuery, WrongReturnType, ExpectedClosingParenthesis, ExpectedExpression, ExpectedComparisonOperator}
+use Rattle.serde_json_path_parser.proofs.Words.{is_at, are_at, begins, begins_both, IsBlank, is_blank, is_small_letter, is_function_char, IsQuote}
+use Rattle.serde_json_path_parser.proofs.Words.{InParentheses, ReadsOr, ReadMoreOrs, ReadsAnd, ReadMoreAnds, ReadsBasic, ReadsComparable, Reads, ReadsCall}
+use Rattle.serde_json_path_parser.proofs.Words.{operator_sign, Parsed, ◌>>=◌, refusal, past_blanks, many, byte_count, Operand, a_literal, a_call, is_singular}
+use Rattle.serde_json_path_parser.proofs.Words.{is_result, begins_call, operator_at, and_list, or_list, Deeper, query_at, named_call_at, operand_at}
+use Rattle.serde_json_path_parser.proofs.Words.{comparable_at, test_at, right_side_at, relation_at, basic_from, paren_at, negated_call_at, negated_at, basic_at}
+use Rattle.serde_json_path_parser.proofs.Words.{next_basic_at, and_from, and_at, next_and_at, or_from, or_at, past_word, word, literal_word_at, text_at}
+use Rattle.serde_json_path_parser.proofs.Words.{Refusal, segments_at, string_at, number_at}
 use Rattle.serde_json_path_parser.specs.declared.error.Context.TheVariants as context
-use Rattle.serde_json_path_parser.specs.Lexical.{is_at, are_at, begins, begins_both, IsBlank, is_blank, is_small_letter, is_function_char, IsQuote}
-use Rattle.serde_json_path_parser.specs.Grammar.{InParentheses, ReadsOr, ReadMoreOrs, ReadsAnd, ReadMoreAnds, ReadsBasic, ReadsComparable, Reads, ReadsCall, operator_sign}
-use Rattle.serde_json_path_parser.specs.Parsed.{Parsed, ◌>>=◌, refusal, past_blanks, many, byte_count}
-use Rattle.serde_json_path_parser.specs.Operands.{Operand, a_literal, a_query, a_call, is_singular, is_result}
-use Rattle.serde_json_path_parser.specs.Filters.{begins_call, operator_at, and_list, or_list, Deeper, query_at, named_call_at, operand_at, comparable_at, test_at, right_side_at, relation_at, basic_from, paren_at, negated_call_at, negated_at, basic_at, next_basic_at, and_from, and_at, next_and_at, or_from, or_at, past_word, filter_at, word, literal_word_at, text_at}
+use Rattle.serde_json_path_parser.specs.Operands.{a_query}
+use Rattle.serde_json_path_parser.specs.Filters.{filter_at}
 use Rattle.serde_json_path_parser.proofs.Reading.Regrouped.{blanks_of, are_blank, split_blanks, past_all, begins_not, gathered, gathered_after, enclosed, spread}
 use Rattle.serde_json_path_parser.proofs.Grammar.LogicalForms.{IsGoodOr, IsGoodInside, IsGoodCall, DeeperLaws, singular_query, Follows, ends_or, ends_and, ends_basic, ends_operand, IsGoodQuery, query_singular}
 use Rattle.serde_json_path_parser.proofs.Grammar.Operands.{IsOperandText, query_sound, named_call_sound, operand_sound, query_again, named_call_again, operand_again, word_is_name}
@@ -23,10 +25,6 @@ use Rattle.serde_json_path_parser.proofs.Reading.Steps.{Read, Spaced, bind_ok, c
 use Rattle.serde_json_path_parser.proofs.Grammar.FirstCharacters.{begins_operand, begins_expression, operand_begins, as_expression, basic_begins, and_begins, or_begins, no_blank_begins}
 use Rattle.serde_json_path_parser.proofs.Reading.Many as m
 use Rattle.serde_json_path_parser.proofs.Reading.Runs.{some_begun, begins_where, differs, begins_differs, whole}
-use Rattle.serde_json_path_parser.specs.declared.error.Refusal.{Refusal}
-use Rattle.serde_json_path_parser.specs.Parsing.{segments_at}
-use Rattle.serde_json_path_parser.specs.Strings.{string_at}
-use Rattle.serde_json_path_parser.specs.Numbers.{number_at}
 use Rattle.serde_json_path_parser.proofs.Reading.Rows.{IsNext}
 use Rattle.serde_json_path_parser.proofs.Grammar.Filters.{filter_laws, filters_stand}
 use Rattle.serde_json_path_parser.proofs.Grammar.Segments.{segments_stand}

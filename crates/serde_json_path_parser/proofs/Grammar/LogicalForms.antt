@@ -1,18 +1,14 @@
 -- What stands in logical expressions and after them: texts of operands, what is good of them at a level, and the
 -- characters that may follow.
 use Rattle.std.proofs.Common.{◌≡◌, ℕ, ◌+◌, ◌≤◌, Bool, true, List, [], ◌∷◌, ◌++◌, Option, Ok, Err, refl, arith}
-use Rattle.std.specs.Prelude.{◌==◌, ◌||◌}
-use Rattle.serde_json_path_syntax.specs.Tree.{Query, query, Segments, no_segments, segment, child, descendant, Segment, dot_name, dot_wildcard, long_hand, Selectors, no_selectors, selector, Selector, name, wildcard, index, slice, filter, LogicalOr, Call, call, Arguments, IsSingularSegment, AreSingular, IsSingular}
-use Rattle.std.proofs.lemmas.Bool.{and_parts}
-use Rattle.serde_json_path_syntax.specs.Typing.{IsTyped, AreTypedSegments, IsTypedSegment, AreTypedSelectors, IsTypedSelector, IsTypedOr, IsTypedCall}
-use Rattle.serde_json_path_syntax.specs.Depth.{depth, segments_depth, segment_depth, selectors_depth, selector_depth, or_depth, call_depth}
-use Rattle.serde_json_path_functions.specs.Functions.{Signature}
-use Rattle.serde_json_path_parser.specs.declared.error.Refusal.{Refusal}
-use Rattle.serde_json_path_parser.specs.Lexical.{begins, IsBlank, IsFunctionName}
-use Rattle.serde_json_path_parser.specs.Grammar.{IsLiteral, Reads, ReadsOr, ReadsCall, ReadArguments}
-use Rattle.serde_json_path_parser.specs.Parsed.{past_blanks, byte_count}
-use Rattle.serde_json_path_parser.specs.Operands.{Operand, a_literal, a_query, a_call, is_singular_segment, are_singular, is_singular}
-use Rattle.serde_json_path_parser.specs.Filters.{Deeper}
+use Rattle.serde_json_path_parser.proofs.Words.{◌==◌, ◌||◌, Query, query, Segments, no_segments, segment, child, descendant, Segment, dot_name, dot_wildcard}
+use Rattle.serde_json_path_parser.proofs.Words.{long_hand, Selectors, no_selectors, selector, Selector, name, wildcard, index, slice, filter, LogicalOr, Call}
+use Rattle.serde_json_path_parser.proofs.Words.{call, Arguments, IsSingularSegment, AreSingular, IsSingular, and_parts, IsTyped, AreTypedSegments}
+use Rattle.serde_json_path_parser.proofs.Words.{IsTypedSegment, AreTypedSelectors, IsTypedSelector, IsTypedOr, IsTypedCall, depth, segments_depth}
+use Rattle.serde_json_path_parser.proofs.Words.{segment_depth, selectors_depth, selector_depth, or_depth, call_depth, Signature, Refusal, begins, IsBlank}
+use Rattle.serde_json_path_parser.proofs.Words.{IsFunctionName, IsLiteral, Reads, ReadsOr, ReadsCall, ReadArguments, past_blanks, byte_count, Operand}
+use Rattle.serde_json_path_parser.proofs.Words.{a_literal, a_call, is_singular_segment, are_singular, is_singular, Deeper}
+use Rattle.serde_json_path_parser.specs.Operands.{a_query}
 use Rattle.serde_json_path_parser.proofs.Grammar.Filtered.{IsGoodSelector, AreGoodSelectors, IsGoodSegment, AreGoodSegments}
 use Rattle.serde_json_path_parser.proofs.Reading.Stands.{Inner, Stands}
 use Rattle.serde_json_path_parser.proofs.Reading.Steps.{Read, Spaced}

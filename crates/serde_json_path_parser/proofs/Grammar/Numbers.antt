@@ -1,25 +1,17 @@
 -- Number literals: what is read is one, each is read, where a refusal stands, and the digits of a fraction.
 use Rattle.std.proofs.Common.{◌≡◌, ℕ, ◌+◌, ◌-◌, ◌*◌, ◌^◌, ◌≤◌, inl, inr, Bool, true, false, cond, List, [], ◌∷◌, ◌++◌, length, drop, Ok, Err, refl, sym, ap, subst, ◌∙◌, append_assoc, arith, suc, ◌<◌, min}
-use Rattle.std.specs.Prelude.{nat_le, ◌==◌, ◌||◌, ℤ, pos, ◌-ℤ◌, encode_utf8}
-use Rattle.std.proofs.lemmas.Int.{ints}
+use Rattle.serde_json_path_parser.proofs.Words.{nat_le, ◌==◌, ◌||◌, ℤ, pos, ◌-ℤ◌, encode_utf8, ints, ExpectedExpression, ExponentOrEmptyFraction}
+use Rattle.serde_json_path_parser.proofs.Words.{FractionTooLong, NumberOutOfRange, Refusal, is_at, AllPass, begins, is_digit, value_from, fraction_of}
+use Rattle.serde_json_path_parser.proofs.Words.{IsDecimal, IsFraction, IsAmount, IsNumber, Parsed, ◌>>=◌, refusal, front, past, byte_count, refusal_at}
+use Rattle.serde_json_path_parser.proofs.Words.{is_first_digit, begins_int, is_exponent, whole_at, digits_after_point_at, fraction_at, amount_at}
+use Rattle.serde_json_path_parser.proofs.Words.{greatest_amount, number_at, mul-le-mul_right, mul-lt-mul_of_pos_right, le-mul_of_pos_right, one-le-pow}
+use Rattle.serde_json_path_parser.proofs.Words.{pow-succ', and_parts, length-append, pow-add, encode_ascii, encode_utf8_all}
 use Rattle.serde_json_path_syntax.specs.WellFormed.{IsLiteralAmount}
-use Rattle.serde_json_path_parser.specs.declared.error.ParseErrorKind.TheVariants.{ExpectedExpression, ExponentOrEmptyFraction, FractionTooLong, NumberOutOfRange}
 use Rattle.serde_json_path_parser.specs.declared.error.Context.TheVariants as context
-use Rattle.serde_json_path_parser.specs.declared.error.Refusal.{Refusal}
-use Rattle.serde_json_path_parser.specs.Lexical.{is_at, AllPass, begins, is_digit, value_from, fraction_of, IsDecimal, IsFraction, IsAmount, IsNumber}
-use Rattle.serde_json_path_parser.specs.Parsed.{Parsed, ◌>>=◌, refusal, front, past, byte_count, refusal_at}
-use Rattle.serde_json_path_parser.specs.Parsing.{is_first_digit, begins_int}
-use Rattle.serde_json_path_parser.specs.Numbers.{is_exponent, whole_at, digits_after_point_at, fraction_at, amount_at, greatest_amount, number_at}
 use Rattle.serde_json_path_parser.proofs.Grammar.Integers.{decimal_read, digit_begins, zero_is, first_digit}
 use Rattle.serde_json_path_parser.proofs.Reading.Runs.{some_begun, begins_front, begins_where, differs, begins_differs, front_begins, front_each, whole, front_all, past_run}
 use Rattle.serde_json_path_parser.proofs.Reading.Steps.{Read, bind_ok, chosen, guard, done, ok_is, after_one}
 use Rattle.serde_json_path_parser.proofs.Reading.Stands.{Plain, Stands, here, bind_stands, guard_stands, no_refusal}
-use Rattle.std.proofs.Math.Nat.{mul-le-mul_right, mul-lt-mul_of_pos_right, le-mul_of_pos_right, one-le-pow, pow-succ'}
-use Rattle.std.proofs.lemmas.Bool.{and_parts}
-use Rattle.std.proofs.lemmas.List.{length-append}
-use Rattle.std.proofs.lemmas.Nat.{pow-add}
-use Rattle.std.proofs.lemmas.Str.{encode_ascii}
-use Rattle.std.specs.Str.{encode_utf8_all}
 
 -- ---- what is read is a number
 

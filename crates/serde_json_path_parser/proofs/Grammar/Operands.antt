@@ -1,20 +1,15 @@
 -- Operands: what is read is a good one, and each good one is read.
 use Rattle.std.proofs.Common.{◌≡◌, ℕ, inl, inr, true, false, List, [], ◌∷◌, ◌++◌, drop, Option, Ok, Err, refl, sym, ap, subst, ◌∙◌, append_assoc, Bool, true≢false, arith}
-use Rattle.std.specs.Prelude.{◌==◌, codes, bytes_eq, ◌||◌, ℤ}
-use Rattle.std.proofs.lemmas.Bool.{and_parts, or_parts, or_left, or_right, false_from_ne_true}
-use Rattle.std.proofs.lemmas.Slice.Eq.{bytes_eq-Decides}
-use Rattle.serde_json_path_syntax.specs.Tree.{QueryKind, root, current, Query, query, Call, Literal, text, number, truth, null, Segments, call}
-use Rattle.serde_json_path_functions.specs.Functions.{Signature}
-use Rattle.serde_json_path_parser.specs.declared.error.ParseErrorKind.TheVariants.{ExpectedExpression}
+use Rattle.serde_json_path_parser.proofs.Words.{◌==◌, codes, bytes_eq, ◌||◌, ℤ, and_parts, or_parts, or_left, or_right, false_from_ne_true, bytes_eq-Decides}
+use Rattle.serde_json_path_parser.proofs.Words.{QueryKind, root, current, Query, query, Call, Literal, text, number, truth, null, Segments, call, Signature}
+use Rattle.serde_json_path_parser.proofs.Words.{ExpectedExpression, is_at, begins, is_small_letter, is_function_char, IsFunctionName, IsQuote, AllPass}
+use Rattle.serde_json_path_parser.proofs.Words.{is_blank, is_name_char, IsNumber, opens, IsLiteral, Reads, ReadsCall, query_sign, Parsed, ◌>>=◌, refusal}
+use Rattle.serde_json_path_parser.proofs.Words.{past_blanks, byte_count, string_at, number_at, segments_at, segment_list, begins_int, opens_next, Operand}
+use Rattle.serde_json_path_parser.proofs.Words.{a_literal, a_call, Deeper, word, past_word, begins_call, literal_word_at, query_at, named_call_at, text_at}
+use Rattle.serde_json_path_parser.proofs.Words.{operand_at, AllByRecursion}
 use Rattle.serde_json_path_parser.specs.declared.error.Context.TheVariants as context
-use Rattle.serde_json_path_parser.specs.Lexical.{is_at, begins, is_small_letter, is_function_char, IsFunctionName, IsQuote, AllPass, is_blank, is_name_char, IsNumber, opens}
-use Rattle.serde_json_path_parser.specs.Grammar.{IsLiteral, Reads, ReadsCall, query_sign}
-use Rattle.serde_json_path_parser.specs.Parsed.{Parsed, ◌>>=◌, refusal, past_blanks, byte_count}
-use Rattle.serde_json_path_parser.specs.Strings.{string_at}
-use Rattle.serde_json_path_parser.specs.Numbers.{number_at}
-use Rattle.serde_json_path_parser.specs.Parsing.{segments_at, segment_list, begins_int, opens_next}
-use Rattle.serde_json_path_parser.specs.Operands.{Operand, a_literal, a_query, a_call}
-use Rattle.serde_json_path_parser.specs.Filters.{Deeper, word, past_word, begins_call, literal_word_at, filter_at, query_at, named_call_at, text_at, operand_at}
+use Rattle.serde_json_path_parser.specs.Operands.{a_query}
+use Rattle.serde_json_path_parser.specs.Filters.{filter_at}
 use Rattle.serde_json_path_parser.proofs.Grammar.Filters.{filter_laws}
 use Rattle.serde_json_path_parser.proofs.Grammar.LogicalForms.{IsGoodInside, IsGoodQuery, IsGoodCall, IsGoodOperand, good_segments, ReadsOperand, DeeperLaws, Follows, ends_operand, segments_good}
 use Rattle.serde_json_path_parser.proofs.Grammar.Numbers.{number_sound, goes_on, number_first, number_again}
@@ -23,7 +18,6 @@ use Rattle.serde_json_path_parser.proofs.Grammar.Segments.{segments_sound, same_
 use Rattle.serde_json_path_parser.proofs.Grammar.Selectors.{with_blanks}
 use Rattle.serde_json_path_parser.proofs.Reading.Steps.{Read, Spaced, bind_ok, chosen, done, ok_is, after_one, made_sound}
 use Rattle.serde_json_path_parser.proofs.Grammar.Strings.{string_sound, string_again}
-use Rattle.std.specs.List.{AllByRecursion}
 use Rattle.serde_json_path_parser.proofs.Reading.Regrouped.{blanks_of, are_blank, split_blanks, begins_not}
 
 -- ---- what is read is in the grammar

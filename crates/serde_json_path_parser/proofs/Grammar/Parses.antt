@@ -1,29 +1,14 @@
 -- What the whole reading says of a text: the promises of a parse.
 use Rattle.std.proofs.Common.{◌≡◌, ◌≢◌, ℕ, ◌+◌, ◌-◌, ◌<◌, ◌≤◌, inl, inr, ◌↔◌, false, true≢false, List, [], ◌∷◌, ◌++◌, length, take, drop, Option, Some, Ok, Err, refl, sym, ap, subst, ◌∙◌, arith}
-use Rattle.std.specs.Prelude.{◌&&◌}
-use Rattle.std.specs.Str.{chars, IsUtf8, IsCharBoundary, encode_utf8_all}
-use Rattle.std.proofs.lemmas.List.{length-append}
-use Rattle.std.proofs.Math.Seq.{take-append_seam, drop-append_seam}
-use Rattle.std.proofs.lemmas.Str.{IsCharBoundary-start, chars-encodes, scalars-chars}
-use Rattle.serde_json_path_syntax.specs.Tree.{Query, query, root, current, Segments}
-use Rattle.serde_json_path_functions.specs.Functions.{Signature}
-use Rattle.serde_json_path_parser.specs.Source.{greatest_usize}
-use Rattle.serde_json_path_parser.specs.declared.error.Refusal.{Refusal}
-use Rattle.serde_json_path_parser.specs.declared.error.Failure.{Failure}
+use Rattle.serde_json_path_parser.proofs.Words.{◌&&◌, chars, IsUtf8, IsCharBoundary, encode_utf8_all, length-append, take-append_seam, drop-append_seam}
+use Rattle.serde_json_path_parser.proofs.Words.{IsCharBoundary-start, chars-encodes, scalars-chars, Query, query, root, current, Segments, Signature}
+use Rattle.serde_json_path_parser.proofs.Words.{greatest_usize, Refusal, Failure, ParseErrorKind, ExpectedRoot, UndefinedFunction, TextAfterPath, NoMemory}
+use Rattle.serde_json_path_parser.proofs.Words.{tree_of, signatures_of, begins, opens, AreCalled, opens_next, opens_after_root, IsUndeclared, Reports, reported}
+use Rattle.serde_json_path_parser.proofs.Words.{path_at, Fails, IsRefused, IsWithin, error_of, is_dollar, NeedsNoMemory, ParsedQuery, Answers, checked_view}
 use Rattle.serde_json_path_parser.specs.declared.error.Failure.TheVariants as failures
-use Rattle.serde_json_path_parser.specs.declared.error.ParseErrorKind.{ParseErrorKind}
-use Rattle.serde_json_path_parser.specs.declared.error.ParseErrorKind.TheVariants.{ExpectedRoot, UndefinedFunction, TextAfterPath, NoMemory}
 use Rattle.serde_json_path_syntax.specs.declared.checked.Checked.{Checked}
-use Rattle.serde_json_path_syntax.specs.Parts.{tree_of, signatures_of}
-use Rattle.serde_json_path_parser.specs.Lexical.{begins, opens}
 use Rattle.serde_json_path_parser.specs.Accepted.{IsAccepted}
 use Rattle.serde_json_path_parser.specs.Laws.{OneTreeAtMost}
-use Rattle.serde_json_path_syntax.specs.Used.{AreCalled}
-use Rattle.serde_json_path_parser.specs.Parsing.{opens_next, opens_after_root}
-use Rattle.serde_json_path_parser.specs.Reported.{IsUndeclared, Reports, reported}
-use Rattle.serde_json_path_parser.specs.Filters.{path_at}
-use Rattle.serde_json_path_parser.specs.Inside.Giving.{Fails, IsRefused, IsWithin, error_of}
-use Rattle.serde_json_path_parser.specs.Parse.{is_dollar, NeedsNoMemory, ParsedQuery, Answers, checked_view}
 use Rattle.serde_json_path_parser.proofs.Reading.Regrouped.{past_all}
 use Rattle.serde_json_path_parser.proofs.Grammar.Paths.{ArePathSegments, path_sound, path_again, NoRoot, TextAfter, SegmentRefused, path_refused, boundary}
 use Rattle.serde_json_path_parser.proofs.Printing.Spelling.{scalars_of}

@@ -1,22 +1,12 @@
 -- Whole paths: what is read is well-typed and at most 128 deep, each of those is read, and where a refusal stands.
 use Rattle.std.proofs.Common.{◌≡◌, ℕ, ◌≤◌, true, false, cond, List, [], ◌∷◌, ◌++◌, length, drop, Option, Result, Ok, Err, refl, sym, ap, subst, ◌∙◌, arith, ◌+◌, ◌-◌, ◌⊎◌, inl, inr, Bool}
-use Rattle.std.specs.Prelude.{◌==◌, encode_utf8}
-use Rattle.std.specs.Str.{encode_utf8_all, all_scalars, chars, IsUtf8, IsCharBoundary}
-use Rattle.std.proofs.lemmas.List.{append-nil, length-append, nil_from_length}
-use Rattle.std.proofs.lemmas.Bool.{eqb-true}
-use Rattle.serde_json_path_syntax.specs.Tree.{SegmentKind, Segments, Segment}
-use Rattle.serde_json_path_syntax.specs.Typing.{AreTypedSegments}
-use Rattle.serde_json_path_syntax.specs.Depth.{segments_depth}
-use Rattle.serde_json_path_syntax.specs.Used.{deepest}
-use Rattle.serde_json_path_functions.specs.Functions.{Signature}
-use Rattle.serde_json_path_parser.specs.declared.error.ParseErrorKind.TheVariants.{ExpectedRoot, TextAfterPath}
+use Rattle.serde_json_path_parser.proofs.Words.{◌==◌, encode_utf8, encode_utf8_all, all_scalars, chars, IsUtf8, IsCharBoundary, append-nil, length-append}
+use Rattle.serde_json_path_parser.proofs.Words.{nil_from_length, eqb-true, SegmentKind, Segments, Segment, AreTypedSegments, segments_depth, deepest, Signature}
+use Rattle.serde_json_path_parser.proofs.Words.{ExpectedRoot, TextAfterPath, Refusal, is_at, begins, ReadSegments, Parsed, ◌>>=◌, refusal, opens_next}
+use Rattle.serde_json_path_parser.proofs.Words.{segments_at, segment_list, opens_after_root, level, path_at, encodes-chars, encodes-append, scalars-chars}
+use Rattle.serde_json_path_parser.proofs.Words.{IsCharBoundary-at_seam}
 use Rattle.serde_json_path_parser.specs.declared.error.Context.TheVariants as context
-use Rattle.serde_json_path_parser.specs.declared.error.Refusal.{Refusal}
-use Rattle.serde_json_path_parser.specs.Lexical.{is_at, begins}
-use Rattle.serde_json_path_parser.specs.Grammar.{ReadSegments}
-use Rattle.serde_json_path_parser.specs.Parsed.{Parsed, ◌>>=◌, refusal}
-use Rattle.serde_json_path_parser.specs.Parsing.{opens_next, segments_at, segment_list, opens_after_root}
-use Rattle.serde_json_path_parser.specs.Filters.{filter_at, level, path_at}
+use Rattle.serde_json_path_parser.specs.Filters.{filter_at}
 use Rattle.serde_json_path_parser.proofs.Texts.Decoding.{some_bytes}
 use Rattle.serde_json_path_parser.proofs.Grammar.Filtered.{FilterLaws}
 use Rattle.serde_json_path_parser.proofs.Grammar.Filters.{filter_laws, filters_stand}
@@ -25,7 +15,6 @@ use Rattle.serde_json_path_parser.proofs.Grammar.LogicalForms.{IsGoodInside, goo
 use Rattle.serde_json_path_parser.proofs.Grammar.Segments.{segments_sound, segments_again, same_segments, no_segments_read, segments_stand}
 use Rattle.serde_json_path_parser.proofs.Printing.Spelling.{scalars_of}
 use Rattle.serde_json_path_parser.proofs.Reading.Steps.{bind_ok, guard, done, ok_is, after_one, chosen}
-use Rattle.std.proofs.lemmas.Str.{encodes-chars, encodes-append, scalars-chars, IsCharBoundary-at_seam}
 use Rattle.serde_json_path_parser.proofs.Reading.Stands.{Inner, Stands, err_is, drop_one}
 
 -- ---- what is read is in the grammar, and what is in the grammar is read

@@ -1,24 +1,18 @@
 -- Segments: what is read is a good one, each of those is read, and where a refusal stands.
 use Rattle.std.proofs.Common.{◌≡◌, ℕ, ◌<◌, inl, inr, true, false, List, [], ◌∷◌, ◌++◌, length, drop, Ok, refl, sym, ap, subst, ◌∙◌, append_assoc, arith, Option, Err}
-use Rattle.std.specs.Prelude.{◌==◌, codes}
-use Rattle.std.specs.Str.{encode_utf8_all}
-use Rattle.std.proofs.lemmas.List.{length-append}
-use Rattle.serde_json_path_syntax.specs.Tree.{SegmentKind, child, descendant, Segments, no_segments, segment, Segment, dot_name, dot_wildcard, long_hand, Selector, LogicalOr}
-use Rattle.serde_json_path_parser.specs.declared.error.ParseErrorKind.TheVariants.{BadMemberName, ExpectedClosingBracket}
+use Rattle.serde_json_path_parser.proofs.Words.{◌==◌, codes, encode_utf8_all, length-append, SegmentKind, child, descendant, Segments, no_segments, segment}
+use Rattle.serde_json_path_parser.proofs.Words.{Segment, dot_name, dot_wildcard, long_hand, Selector, LogicalOr, BadMemberName, ExpectedClosingBracket, is_at}
+use Rattle.serde_json_path_parser.proofs.Words.{begins, is_blank, IsBlank, is_name_first, is_name_char, IsName, Joined, opens, ReadSegments, dots_before_name}
+use Rattle.serde_json_path_parser.proofs.Words.{Parsed, ◌>>=◌, refusal, front, past, past_blanks, many, after_dot, name_at, bracket_at, dotted_at}
+use Rattle.serde_json_path_parser.proofs.Words.{descendant_at, of_kind, dot_at, segment_at, opens_next, next_segment_at, segments_at, segment_list, selector_at}
+use Rattle.serde_json_path_parser.proofs.Words.{next_selector_at, selectors_at, selector_list, Signature, Refusal, ParseErrorKind}
 use Rattle.serde_json_path_parser.specs.declared.error.Context as declared
-use Rattle.serde_json_path_parser.specs.Lexical.{is_at, begins, is_blank, IsBlank, is_name_first, is_name_char, IsName, Joined, opens}
-use Rattle.serde_json_path_parser.specs.Grammar.{ReadSegments, dots_before_name}
-use Rattle.serde_json_path_parser.specs.Parsed.{Parsed, ◌>>=◌, refusal, front, past, past_blanks, many}
-use Rattle.serde_json_path_parser.specs.Parsing.{after_dot, name_at, bracket_at, dotted_at, descendant_at, of_kind, dot_at, segment_at, opens_next, next_segment_at, segments_at, segment_list, selector_at, next_selector_at, selectors_at, selector_list}
 use Rattle.serde_json_path_parser.proofs.Reading.Regrouped.{past_all, blanks_of, are_blank, split_blanks, no_longer, begins_not}
 use Rattle.serde_json_path_parser.proofs.Grammar.Brackets.{IsSegmentText, bracket_sound, bracket_again, is_comma, next_sound, selectors_sound}
 use Rattle.serde_json_path_parser.proofs.Grammar.Filtered.{AreGoodSegments, FilterLaws, IsGoodText, FiltersStand}
 use Rattle.serde_json_path_parser.proofs.Reading.Many as m
 use Rattle.serde_json_path_parser.proofs.Reading.Runs.{some_begun, begins_front, begins_where, begins_differs, no_blank, whole, front_each, front_begins, front_all, past_run}
 use Rattle.serde_json_path_parser.proofs.Reading.Steps.{Read, bind_ok, chosen, guard, done, ok_is, after_one, many_sound, Again, many_again}
-use Rattle.serde_json_path_functions.specs.Functions.{Signature}
-use Rattle.serde_json_path_parser.specs.declared.error.Refusal.{Refusal}
-use Rattle.serde_json_path_parser.specs.declared.error.ParseErrorKind.{ParseErrorKind}
 use Rattle.serde_json_path_parser.specs.declared.error.Context.TheVariants as context
 use Rattle.serde_json_path_parser.proofs.Reading.Rows.{IsNext}
 use Rattle.serde_json_path_parser.proofs.Grammar.Selectors.{selector_stands, selector_sound}

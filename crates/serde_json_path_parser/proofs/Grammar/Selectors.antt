@@ -1,19 +1,13 @@
 -- Selectors: what is read is a good one, each of those is read, and where a refusal stands.
 use Rattle.std.proofs.Common.{◌≡◌, ℕ, inl, inr, false, List, [], ◌∷◌, ◌++◌, drop, Ok, refl, sym, ap, subst, ◌∙◌, append_assoc, Option, Err}
-use Rattle.std.specs.Prelude.{None}
-use Rattle.serde_json_path_syntax.specs.Tree.{Selector, name, wildcard, index, slice, filter, LogicalOr}
-use Rattle.serde_json_path_parser.specs.Lexical.{is_at, begins, is_blank, IsQuote}
-use Rattle.serde_json_path_parser.specs.Parsed.{Parsed, ◌>>=◌, past_blanks}
-use Rattle.serde_json_path_parser.specs.Parsing.{slice_at, position_at, quoted_at, selector_at}
-use Rattle.serde_json_path_parser.specs.Strings.{string_at}
+use Rattle.serde_json_path_parser.proofs.Words.{None, Selector, name, wildcard, index, slice, filter, LogicalOr, is_at, begins, is_blank, IsQuote, Parsed}
+use Rattle.serde_json_path_parser.proofs.Words.{◌>>=◌, past_blanks, slice_at, position_at, quoted_at, selector_at, string_at, Signature, Refusal}
 use Rattle.serde_json_path_parser.proofs.Reading.Regrouped.{blanks_of, are_blank, split_blanks}
 use Rattle.serde_json_path_parser.proofs.Grammar.Integers.{int_no_blank}
 use Rattle.serde_json_path_parser.proofs.Grammar.Filtered.{Closes, IsGoodText, FilterLaws, FiltersStand}
 use Rattle.serde_json_path_parser.proofs.Grammar.Slices.{colon_sound, position_sound, index_again, slice_again, slice_no_blank, slice_stands, position_stands}
 use Rattle.serde_json_path_parser.proofs.Reading.Steps.{Read, Spaced, bind_ok, chosen, ok_is, after_one, made_sound}
 use Rattle.serde_json_path_parser.proofs.Grammar.Strings.{string_sound, string_again, of_quote, string_stands}
-use Rattle.serde_json_path_functions.specs.Functions.{Signature}
-use Rattle.serde_json_path_parser.specs.declared.error.Refusal.{Refusal}
 use Rattle.serde_json_path_parser.proofs.Reading.Stands.{Plain, Inner, Stands, inside, bind_stands, no_refusal, drop_one}
 
 -- ---- what is read is in the grammar, and what is in the grammar is read

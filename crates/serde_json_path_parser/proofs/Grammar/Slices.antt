@@ -1,18 +1,13 @@
 -- Indexes and slices: what is read is one, each is read, and where a refusal of one stands.
 use Rattle.std.proofs.Common.{◌≡◌, ℕ, inl, inr, Bool, true, false, true≢false, List, [], ◌∷◌, ◌++◌, drop, Option, Some, None, Ok, refl, sym, ap, subst, ◌∙◌, append_assoc, Err}
-use Rattle.std.specs.Prelude.{ℤ, ◌==◌, ◌||◌}
-use Rattle.std.proofs.lemmas.List.{append-nil}
-use Rattle.serde_json_path_syntax.specs.Tree.{Slice, Selector, slice, index, LogicalOr}
-use Rattle.serde_json_path_parser.specs.Grammar.{IsBound, IsSliceStep, IsSlice}
-use Rattle.serde_json_path_parser.specs.Lexical.{is_at, begins, is_blank, is_digit, IsBlank, IsInt}
-use Rattle.serde_json_path_parser.specs.Parsed.{Parsed, ◌>>=◌, front, past_blanks}
-use Rattle.serde_json_path_parser.specs.Parsing.{int_at, begins_int, bound_at, step_at, slice_at, position_at, selector_at}
+use Rattle.serde_json_path_parser.proofs.Words.{ℤ, ◌==◌, ◌||◌, append-nil, Slice, Selector, slice, index, LogicalOr, IsBound, IsSliceStep, IsSlice, is_at}
+use Rattle.serde_json_path_parser.proofs.Words.{begins, is_blank, is_digit, IsBlank, IsInt, Parsed, ◌>>=◌, front, past_blanks, int_at, begins_int, bound_at}
+use Rattle.serde_json_path_parser.proofs.Words.{step_at, slice_at, position_at, selector_at, Refusal}
 use Rattle.serde_json_path_parser.proofs.Reading.Regrouped.{past_some}
 use Rattle.serde_json_path_parser.proofs.Grammar.Filtered.{Closes, IsGoodText}
 use Rattle.serde_json_path_parser.proofs.Grammar.Integers.{int_sound, int_again, int_begins, int_not, int_no_blank, int_stands}
 use Rattle.serde_json_path_parser.proofs.Reading.Runs.{differs, no_blank, whole, front_each, past_end}
 use Rattle.serde_json_path_parser.proofs.Reading.Steps.{Read, Spaced, bind_ok, chosen, done, ok_is, after_one}
-use Rattle.serde_json_path_parser.specs.declared.error.Refusal.{Refusal}
 use Rattle.serde_json_path_parser.proofs.Reading.Stands.{Plain, Stands, further, bind_stands, no_refusal, drop_one, drop_blanks}
 
 -- ---- what is read is in the grammar, and what is in the grammar is read

@@ -1,29 +1,20 @@
 -- String literals: what is read is one, each is read, and where a refusal of one stands.
 use Rattle.std.proofs.Common.{◌≡◌, ℕ, ◌+◌, ◌*◌, ◌<◌, ◌⊎◌, inl, inr, Bool, true, false, cond, ◌&&◌, true≢false, List, [], ◌∷◌, ◌++◌, length, drop, Some, None, Ok, Err, refl, sym, ap, subst, ◌∙◌, append_assoc, arith}
-use Rattle.std.specs.Prelude.{nat_le, ◌==◌, not, encode_utf8}
-use Rattle.std.specs.Str.{encode_utf8_all}
-use Rattle.std.specs.List.{AllByRecursion}
+use Rattle.serde_json_path_parser.proofs.Words.{nat_le, ◌==◌, not, encode_utf8, encode_utf8_all, AllByRecursion, eqb-true, eq-eqb, and_parts, eqb_tells}
+use Rattle.serde_json_path_parser.proofs.Words.{length-append, append-nil, same_Some, none-some, ExpectedEndingQuote, BadEscape, ControlCharacter, ◌∈◌, AllPass}
+use Rattle.serde_json_path_parser.proofs.Words.{is_at, begins, is_digit, hexadecimal_of, IsHex4, IsHighSurrogate, IsLowSurrogate, pair_of, escaped_by, is_plain}
+use Rattle.serde_json_path_parser.proofs.Words.{IsPiece, plain, quote_escape, letter_escape, hex_escape, pair_escape, IsQuote, IsString, Parsed, ◌>>=◌, refusal}
+use Rattle.serde_json_path_parser.proofs.Words.{many, byte_count, is_hexadecimal, hexadecimal_value, head, hexadecimal_at, hex4_at, is_high, is_low, low_at}
+use Rattle.serde_json_path_parser.proofs.Words.{unicode_at, is_letter_escape, letter_value, escape_at, is_control, piece_at, is_inside, string_at}
+use Rattle.serde_json_path_parser.proofs.Words.{is_ascii_plain, Stretched, encode_ascii, Refusal, Failure, Fails}
 use Rattle.std.proofs.Math.Bool.{and-false}
-use Rattle.std.proofs.lemmas.Bool.{eqb-true, eq-eqb, and_parts}
-use Rattle.std.proofs.lemmas.Bool.Decides.{eqb_tells}
-use Rattle.std.proofs.lemmas.List.{length-append, append-nil}
-use Rattle.std.proofs.lemmas.Option.{same_Some, none-some}
-use Rattle.serde_json_path_parser.specs.declared.error.ParseErrorKind.TheVariants.{ExpectedEndingQuote, BadEscape, ControlCharacter}
 use Rattle.serde_json_path_parser.specs.declared.error.Context.TheVariants as context
-use Rattle.serde_json_path_parser.specs.Lexical.{◌∈◌, AllPass, is_at, begins, is_digit, hexadecimal_of, IsHex4, IsHighSurrogate, IsLowSurrogate, pair_of, escaped_by, is_plain, IsPiece, plain, quote_escape, letter_escape, hex_escape, pair_escape, IsQuote, IsString}
-use Rattle.serde_json_path_parser.specs.Parsed.{Parsed, ◌>>=◌, refusal, many, byte_count}
-use Rattle.serde_json_path_parser.specs.Strings.{is_hexadecimal, hexadecimal_value, head, hexadecimal_at, hex4_at, is_high, is_low, low_at, unicode_at, is_letter_escape, letter_value, escape_at, is_control, piece_at, is_inside, string_at}
-use Rattle.serde_json_path_parser.specs.Inside.Stretches.{is_ascii_plain, Stretched}
 use Rattle.serde_json_path_parser.proofs.Texts.Stretches.{plain_below_128, plain_of}
-use Rattle.std.proofs.lemmas.Str.{encode_ascii}
 use Rattle.serde_json_path_parser.proofs.Reading.Many as m
 use Rattle.serde_json_path_parser.proofs.Reading.Runs.{some_begun}
 use Rattle.serde_json_path_parser.proofs.Reading.Steps.{Read, bind_ok, chosen, guard, done, ok_is, after_one, many_sound, Again, many_again}
-use Rattle.serde_json_path_parser.specs.declared.error.Refusal.{Refusal}
 use Rattle.serde_json_path_parser.proofs.Reading.Stands.{Plain, Stands, here, further, bind_stands, guard_stands, no_refusal, many_stands}
-use Rattle.serde_json_path_parser.specs.declared.error.Failure.{Failure}
 use Rattle.serde_json_path_parser.specs.declared.error.Failure.TheVariants as failures
-use Rattle.serde_json_path_parser.specs.Inside.Giving.{Fails}
 
 -- ---- what is read is in the grammar, and what is in the grammar is read
 

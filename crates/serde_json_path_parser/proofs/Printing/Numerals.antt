@@ -1,19 +1,12 @@
 -- Integers and number literals, as they are printed, read as themselves.
 use Rattle.std.proofs.Common.{◌≡◌, ◌≤◌, ◌<◌, ◌+◌, ◌-◌, ◌*◌, ◌/◌, ◌%◌, ◌^◌, ◌==◌, ℕ, zero, suc, inl, inr, Bool, true, false, if◌then◌else◌, List, [], ◌∷◌, length, map, get_or, refl, sym, ap, subst, ◌∙◌, arith}
-use Rattle.std.specs.Prelude.{nat_le, ℤ, pos, negsuc, ◌-ℤ◌}
-use Rattle.std.specs.Fmt.{decimal, signed_decimal}
-use Rattle.std.specs.List.{AllByRecursion}
+use Rattle.serde_json_path_parser.proofs.Words.{nat_le, ℤ, pos, negsuc, ◌-ℤ◌, decimal, signed_decimal, AllByRecursion, pow-succ', mul-sub, mul_comm, mul_assoc}
+use Rattle.serde_json_path_parser.proofs.Words.{nat_tests, eqb_tells, ints, pow-add, in_decimal, largest, fraction_digits, fraction_text, amount_text}
+use Rattle.serde_json_path_parser.proofs.Words.{number_text, begins, is_digit, AllPass, value_from, IsDecimal, IsInt, fraction_of, IsFraction, IsAmount}
+use Rattle.serde_json_path_parser.proofs.Words.{IsNumber}
 use Rattle.std.specs.Int.Digits.{digits_of, number_from_digits_after, AllBelowBase}
-use Rattle.std.proofs.Math.Nat.{pow-succ', mul-sub, mul_comm, mul_assoc}
-use Rattle.std.proofs.lemmas.Bool.Decides.{nat_tests, eqb_tells}
 use Rattle.std.proofs.lemmas.Fmt.{decimal_digit, decimal-digits_of}
-use Rattle.std.proofs.lemmas.Int.{ints}
 use Rattle.std.proofs.lemmas.Int.Digits.{all_below_base_digits_of, first_digits_of, number_digits_of}
-use Rattle.std.proofs.lemmas.Nat.{pow-add}
-use Rattle.serde_json_path_nodes.specs.Text.{in_decimal}
-use Rattle.serde_json_path_syntax.specs.Tree.{largest}
-use Rattle.serde_json_path_syntax.specs.Text.{fraction_digits, fraction_text, amount_text, number_text}
-use Rattle.serde_json_path_parser.specs.Lexical.{begins, is_digit, AllPass, value_from, IsDecimal, IsInt, fraction_of, IsFraction, IsAmount, IsNumber}
 use Rattle.serde_json_path_parser.proofs.Grammar.Integers.{zero_is}
 use Rattle.serde_json_path_parser.proofs.Printing.Spelling.{Spells, Spelt, spell_nothing, spell_both, spell_ascii}
 

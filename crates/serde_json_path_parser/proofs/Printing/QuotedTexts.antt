@@ -1,14 +1,10 @@
 -- A text between single quotes, as it is printed, reads as a string of it.
 use Rattle.std.proofs.Common.{◌≡◌, ◌<◌, ◌+◌, ◌-◌, ◌/◌, ◌%◌, ◌==◌, ℕ, inl, inr, nat_lt, nat_le, Bool, true, false, if◌then◌else◌, List, [], ◌∷◌, ◌++◌, Option, Some, None, unwrap_or, encode_utf8, refl, sym, ap, subst, append-nil, arith, eqb-true, ltb-true, ltb-false, lt-ltb}
-use Rattle.std.specs.List.{flat_map, AllByRecursion}
-use Rattle.std.specs.Char.{IsScalar, digit_char}
+use Rattle.serde_json_path_parser.proofs.Words.{flat_map, AllByRecursion, IsScalar, digit_char, chars, all_scalars, IsUtf8, cases_lt, le-ltb, and_parts}
+use Rattle.serde_json_path_parser.proofs.Words.{nat_tests, encodes-chars, scalars-chars, hexadecimal_escape, escape_of, in_quotes, quoted, is_digit}
+use Rattle.serde_json_path_parser.proofs.Words.{hexadecimal_of, IsHex4, pair_of, escaped_by, is_plain, IsPiece, plain, quote_escape, letter_escape, hex_escape}
+use Rattle.serde_json_path_parser.proofs.Words.{pair_escape, ArePieces, IsQuote, IsString, ◌∈◌, between}
 use Rattle.std.specs.Option.{IfSome}
-use Rattle.std.specs.Str.{chars, all_scalars, IsUtf8}
-use Rattle.std.proofs.lemmas.Bool.{cases_lt, le-ltb, and_parts}
-use Rattle.std.proofs.lemmas.Bool.Decides.{nat_tests}
-use Rattle.std.proofs.lemmas.Str.{encodes-chars, scalars-chars}
-use Rattle.serde_json_path_nodes.specs.Text.{hexadecimal_escape, escape_of, in_quotes, quoted}
-use Rattle.serde_json_path_parser.specs.Lexical.{is_digit, hexadecimal_of, IsHex4, pair_of, escaped_by, is_plain, IsPiece, plain, quote_escape, letter_escape, hex_escape, pair_escape, ArePieces, IsQuote, IsString, ◌∈◌, between}
 use Rattle.serde_json_path_parser.proofs.Printing.Spelling.{Spells, Spelt, spell_nothing, scalars_of, spell_both, spell_ascii, spell_between}
 
 -- ---- a character as it is printed

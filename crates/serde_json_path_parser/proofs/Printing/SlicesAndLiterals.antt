@@ -1,11 +1,7 @@
 -- Slices and literals, as they are printed, read as themselves.
 use Rattle.std.proofs.Common.{◌≡◌, ℕ, true, false, List, [], ◌∷◌, ◌++◌, Option, Some, None, inl, codes, refl, sym, append_assoc, append-nil, arith}
-use Rattle.std.specs.Prelude.{ℤ}
-use Rattle.std.specs.Fmt.{signed_decimal}
-use Rattle.std.specs.Str.{all_scalars}
-use Rattle.serde_json_path_syntax.specs.Tree.{Slice, Literal, text, number, truth, null}
-use Rattle.serde_json_path_syntax.specs.Text.{integer_text, slice_step_text, slice_text, literal_text}
-use Rattle.serde_json_path_parser.specs.Grammar.{IsBound, IsSliceStep, IsSlice, IsLiteral}
+use Rattle.serde_json_path_parser.proofs.Words.{ℤ, signed_decimal, all_scalars, Slice, Literal, text, number, truth, null, integer_text, slice_step_text}
+use Rattle.serde_json_path_parser.proofs.Words.{slice_text, literal_text, IsBound, IsSliceStep, IsSlice, IsLiteral}
 use Rattle.serde_json_path_parser.proofs.Printing.Spelling.{Spelt, spell_nothing, spell_both, spell_ascii}
 use Rattle.serde_json_path_parser.proofs.Printing.QuotedTexts.{string_spelt}
 use Rattle.serde_json_path_parser.proofs.Printing.Numerals.{int_spelt, number_spelt}

@@ -1,10 +1,6 @@
 -- Bytes encode characters, part by part.
 use Rattle.std.proofs.Common.{◌≡◌, ◌<◌, ℕ, true, List, [], ◌∷◌, ◌++◌, refl, ap, sym, ◌∙◌, arith, lt-ltb}
-use Rattle.std.specs.List.{AllByRecursion}
-use Rattle.std.specs.Char.{IsScalar}
-use Rattle.std.specs.Str.{encode_utf8_all, all_scalars}
-use Rattle.std.proofs.lemmas.Bool.{and_parts}
-use Rattle.std.proofs.lemmas.Str.{encodes-append, encode_ascii}
+use Rattle.serde_json_path_parser.proofs.Words.{AllByRecursion, IsScalar, encode_utf8_all, all_scalars, and_parts, encodes-append, encode_ascii}
 
 -- the bytes encode these characters
 pub record Spells (bytes text : List ℕ) : Type 0 where

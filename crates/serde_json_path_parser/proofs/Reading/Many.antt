@@ -1,11 +1,7 @@
 -- Reading items one after the other.
 use Rattle.std.proofs.Common.{◌≡◌, ℕ, zero, suc, ◌≤◌, ◌<◌, Bool, true, false, List, [], ◌∷◌, ◌++◌, length, Ok, Err, refl, sym, ap, ◌∙◌, append_assoc, arith}
-use Rattle.std.proofs.lemmas.List.{append-nil}
-use Rattle.serde_json_path_parser.specs.declared.error.Refusal.{Refusal}
-use Rattle.serde_json_path_parser.specs.declared.error.Failure.{Failure}
+use Rattle.serde_json_path_parser.proofs.Words.{append-nil, Refusal, Failure, Fails, Parsed, ◌>>=◌, many_at, many}
 use Rattle.serde_json_path_parser.specs.declared.error.Failure.TheVariants as failures
-use Rattle.serde_json_path_parser.specs.Inside.Giving.{Fails}
-use Rattle.serde_json_path_parser.specs.Parsed.{Parsed, ◌>>=◌, many_at, many}
 
 -- what was read before, and what is still read
 abbrev pub with_front : {A : Type 0} → List A → Parsed (List A) → Parsed (List A)

@@ -1,8 +1,6 @@
 -- Texts: regrouped; blanks at the start; items in a row, with a sign and blanks between them.
 use Rattle.std.proofs.Common.{◌≡◌, ℕ, List, ◌++◌, refl, append_assoc, ◌≤◌, Bool, true, false, [], ◌∷◌, length, ap, ◌∙◌, arith}
-use Rattle.std.proofs.lemmas.List.{length-append}
-use Rattle.serde_json_path_parser.specs.Lexical.{begins, is_blank, IsBlank}
-use Rattle.serde_json_path_parser.specs.Parsed.{front, past_blanks}
+use Rattle.serde_json_path_parser.proofs.Words.{length-append, begins, is_blank, IsBlank, front, past_blanks}
 use Rattle.serde_json_path_parser.proofs.Reading.Runs.{whole, front_each, past_end, past_through}
 
 pub gathered : (a b c d : List ℕ) → a ++ (b ++ (c ++ d)) ≡ (a ++ (b ++ c)) ++ d

@@ -1,10 +1,7 @@
 -- Items in a row, with a sign and blanks between them: as they are read, each with the blanks after it, and as the grammar
 -- has them, with blanks round each sign.
 use Rattle.std.proofs.Common.{◌≡◌, ℕ, ◌<◌, false, List, [], ◌∷◌, ◌++◌, length, ap, refl, ◌∙◌, append_assoc, arith}
-use Rattle.std.proofs.lemmas.List.{append-nil, length-append}
-use Rattle.serde_json_path_parser.specs.Lexical.{begins, is_blank, IsBlank, Joined}
-use Rattle.serde_json_path_parser.specs.Grammar.{IsSign}
-use Rattle.serde_json_path_parser.specs.Parsed.{past_blanks}
+use Rattle.serde_json_path_parser.proofs.Words.{append-nil, length-append, begins, is_blank, IsBlank, Joined, IsSign, past_blanks}
 use Rattle.serde_json_path_parser.proofs.Reading.Regrouped.{past_all, blanks_of, are_blank, split_blanks, gathered, spread}
 use Rattle.serde_json_path_parser.proofs.Reading.Steps.{Read, Spaced}
 

@@ -1,11 +1,7 @@
 -- What begins a list; its front whose elements pass a test, and what is after it; and the value of digits, one by one.
 use Rattle.std.proofs.Common.{◌≡◌, ℕ, ◌+◌, ◌-◌, ◌*◌, ◌<◌, ◌≤◌, min, Bool, true, false, true≢false, List, [], ◌∷◌, ◌++◌, length, refl, sym, ap, ◌∙◌, append_assoc, inl, inr, arith}
-use Rattle.std.proofs.lemmas.Bool.{cases_lt, eqb-true}
-use Rattle.std.specs.Str.{encode_utf8_all}
-use Rattle.std.specs.Prelude.{encode_utf8, ◌==◌}
-use Rattle.std.specs.List.{AllByRecursion}
-use Rattle.serde_json_path_parser.specs.Lexical.{begins, is_blank, is_digit, value_from}
-use Rattle.serde_json_path_parser.specs.Parsed.{front, past}
+use Rattle.serde_json_path_parser.proofs.Words.{cases_lt, eqb-true, encode_utf8_all, encode_utf8, ◌==◌, AllByRecursion, begins, is_blank, is_digit, value_from}
+use Rattle.serde_json_path_parser.proofs.Words.{front, past}
 
 -- ---- what begins a list
 

@@ -1,13 +1,8 @@
 -- Where a refusal stands, step by step, and what its kind tells of the text there.
 use Rattle.std.proofs.Common.{◌≡◌, ℕ, zero, suc, ◌⊎◌, inl, inr, Bool, true, false, cond, List, [], ◌∷◌, ◌++◌, drop, Option, Result, Ok, Err, refl, sym, ap, subst, ◌∙◌, append_assoc}
-use Rattle.serde_json_path_functions.specs.Functions.{Signature}
-use Rattle.serde_json_path_parser.specs.declared.error.Refusal.{Refusal}
-use Rattle.serde_json_path_parser.specs.declared.error.ParseErrorKind.{ParseErrorKind}
-use Rattle.serde_json_path_parser.specs.declared.error.ParseErrorKind.TheVariants.{ExpectedRoot, UndefinedFunction, TextAfterPath, NoMemory}
+use Rattle.serde_json_path_parser.proofs.Words.{Signature, Refusal, ParseErrorKind, ExpectedRoot, UndefinedFunction, TextAfterPath, NoMemory, is_blank}
+use Rattle.serde_json_path_parser.proofs.Words.{IsUndeclared, Parsed, ◌>>=◌, refusal, front, past_blanks, many_at, byte_count}
 use Rattle.serde_json_path_parser.specs.declared.error.Context as declared
-use Rattle.serde_json_path_parser.specs.Lexical.{is_blank}
-use Rattle.serde_json_path_parser.specs.Reported.{IsUndeclared}
-use Rattle.serde_json_path_parser.specs.Parsed.{Parsed, ◌>>=◌, refusal, front, past_blanks, many_at, byte_count}
 use Rattle.serde_json_path_parser.proofs.Reading.Runs.{whole}
 use Rattle.serde_json_path_parser.proofs.Reading.Steps.{Read, chosen, done}
 

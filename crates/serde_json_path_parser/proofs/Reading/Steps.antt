@@ -1,14 +1,8 @@
 -- Steps of reading: what an answer says of each, items one after another, and what stops where a step stops.
 use Rattle.std.proofs.Common.{◌≡◌, ℕ, zero, suc, ◌⊎◌, inl, inr, Bool, true, false, cond, List, [], ◌∷◌, ◌++◌, drop, Result, Ok, Err, refl, sym, ap, subst, ◌∙◌, append_assoc}
-use Rattle.std.specs.Prelude.{◌==◌}
-use Rattle.std.proofs.lemmas.Bool.{eqb-true}
-use Rattle.serde_json_path_parser.specs.declared.error.Refusal.{Refusal}
-use Rattle.serde_json_path_parser.specs.Lexical.{begins, IsBlank, Joined}
-use Rattle.serde_json_path_parser.specs.Parsed.{Parsed, ◌>>=◌, many_at, many}
+use Rattle.serde_json_path_parser.proofs.Words.{◌==◌, eqb-true, Refusal, begins, IsBlank, Joined, Parsed, ◌>>=◌, many_at, many, Failure, Fails}
 use Rattle.serde_json_path_parser.proofs.Reading.Many as m
-use Rattle.serde_json_path_parser.specs.declared.error.Failure.{Failure}
 use Rattle.serde_json_path_parser.specs.declared.error.Failure.TheVariants as failures
-use Rattle.serde_json_path_parser.specs.Inside.Giving.{Fails}
 
 -- ---- one step
 

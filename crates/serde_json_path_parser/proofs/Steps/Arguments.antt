@@ -1,28 +1,14 @@
 -- The steps of the code at arguments.
 use Rattle.std.proofs.Common.{◌≡◌, ℕ, zero, suc, ◌+◌, ◌≤◌, true, false, cond, List, [], ◌∷◌, ◌++◌, length, drop, Option, Result, Ok, Err, refl, sym, ap, ◌∙◌, append_assoc, arith}
-use Rattle.std.specs.Prelude.{◌==◌, ◌||◌}
-use Rattle.std.proofs.lemmas.List.{length-append, nil_from_length, append-nil}
-use Rattle.serde_json_path_syntax.specs.Tree.{LogicalOr, LogicalAnd, Basic, Arguments, no_arguments, argument, Argument, logical_argument}
-use Rattle.serde_json_path_functions.specs.Functions.{Kind, Signature}
-use Rattle.serde_json_path_parser.specs.declared.error.Refusal.{Refusal}
-use Rattle.serde_json_path_parser.specs.declared.error.Failure.{Failure}
+use Rattle.serde_json_path_parser.proofs.Words.{◌==◌, ◌||◌, length-append, nil_from_length, append-nil, LogicalOr, LogicalAnd, Basic, Arguments, no_arguments}
+use Rattle.serde_json_path_parser.proofs.Words.{argument, Argument, logical_argument, Kind, Signature, Refusal, Failure, ExpectedExpression}
+use Rattle.serde_json_path_parser.proofs.Words.{ExpectedClosingParenthesis, WrongNumberOfArguments, WrongArgumentType, calls_in_argument, IsPart, an_argument}
+use Rattle.serde_json_path_parser.proofs.Words.{Part, SyntaxBuilder, Ghosts, Reader, Fails, Grows, GivesEnd, MakesArguments, left, is_at, begins, Parsed, ◌>>=◌}
+use Rattle.serde_json_path_parser.proofs.Words.{refusal, past_blanks, byte_count, refusal_at, whole_at, amount_at, number_at, Operand, fits, Deeper, alone}
+use Rattle.serde_json_path_parser.proofs.Words.{ends_argument, ended, operand_at, basic_from, and_from, or_from, or_at, logical_from, argument_at, judged}
+use Rattle.serde_json_path_parser.proofs.Words.{arguments_at}
 use Rattle.serde_json_path_parser.specs.declared.error.Failure.TheVariants as failures
-use Rattle.serde_json_path_parser.specs.declared.error.ParseErrorKind.TheVariants.{ExpectedExpression, ExpectedClosingParenthesis, WrongNumberOfArguments, WrongArgumentType}
 use Rattle.serde_json_path_parser.specs.declared.error.Context.TheVariants as context
-use Rattle.serde_json_path_syntax.specs.Calls.{calls_in_argument}
-use Rattle.serde_json_path_syntax.specs.Parts.{IsPart}
-use Rattle.serde_json_path_syntax.specs.Piece.{an_argument}
-use Rattle.serde_json_path_syntax.specs.declared.node.Part.{Part}
-use Rattle.serde_json_path_syntax.specs.declared.builder.SyntaxBuilder.{SyntaxBuilder}
-use Rattle.serde_json_path_parser.specs.declared.source.PathSource.{Ghosts}
-use Rattle.serde_json_path_parser.specs.declared.parser.reader.Reader.{Reader}
-use Rattle.serde_json_path_parser.specs.Inside.Giving.{Fails, Grows, GivesEnd, MakesArguments}
-use Rattle.serde_json_path_parser.specs.Inside.Reading.{left}
-use Rattle.serde_json_path_parser.specs.Lexical.{is_at, begins}
-use Rattle.serde_json_path_parser.specs.Parsed.{Parsed, ◌>>=◌, refusal, past_blanks, byte_count, refusal_at}
-use Rattle.serde_json_path_parser.specs.Numbers.{whole_at, amount_at, number_at}
-use Rattle.serde_json_path_parser.specs.Operands.{Operand, fits}
-use Rattle.serde_json_path_parser.specs.Filters.{Deeper, alone, ends_argument, ended, operand_at, basic_from, and_from, or_from, or_at, logical_from, argument_at, judged, arguments_at}
 use Rattle.serde_json_path_parser.proofs.Reading.Regrouped.{no_longer}
 use Rattle.serde_json_path_parser.proofs.Grammar.Calls.{after_argument}
 use Rattle.serde_json_path_parser.proofs.Grammar.LogicalForms.{DeeperLaws}

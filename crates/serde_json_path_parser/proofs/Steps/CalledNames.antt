@@ -1,19 +1,11 @@
 -- The steps of the code at names, calls and operands.
 use Rattle.std.proofs.Common.{◌≡◌, ℕ, zero, suc, ◌-◌, ◌<◌, true, false, List, drop, Option, Some, None, Ok, Err, refl, ap, ◌∙◌, arith}
-use Rattle.std.specs.Prelude.{ℤ}
-use Rattle.serde_json_path_syntax.specs.Tree.{Query, root, current, Call, call, Arguments, Literal, number}
-use Rattle.serde_json_path_syntax.specs.Typing.{result_kind}
-use Rattle.serde_json_path_functions.specs.Functions.{Kind, Signature}
-use Rattle.serde_json_path_parser.specs.declared.error.Failure.{Failure}
-use Rattle.serde_json_path_parser.specs.declared.error.ParseErrorKind.TheVariants.{UndefinedFunction, NestedTooDeep}
+use Rattle.serde_json_path_parser.proofs.Words.{ℤ, Query, root, current, Call, call, Arguments, Literal, number, result_kind, Kind, Signature, Failure}
+use Rattle.serde_json_path_parser.proofs.Words.{UndefinedFunction, NestedTooDeep, Fails, is_at, begins, is_small_letter, past_blanks, byte_count, refusal_at}
+use Rattle.serde_json_path_parser.proofs.Words.{a_literal, a_call, number_at, literal_word, Deeper, word, past_word, begins_call, named_call_at, named_at}
+use Rattle.serde_json_path_parser.proofs.Words.{query_at, operand_at, ended, parameters_at, call_at, level}
 use Rattle.serde_json_path_parser.specs.declared.error.Context.TheVariants as context
-use Rattle.serde_json_path_parser.specs.Inside.Giving.{Fails}
-use Rattle.serde_json_path_parser.specs.Lexical.{is_at, begins, is_small_letter}
-use Rattle.serde_json_path_parser.specs.Parsed.{past_blanks, byte_count, refusal_at}
-use Rattle.serde_json_path_parser.specs.Operands.{a_literal, a_query, a_call}
-use Rattle.serde_json_path_parser.specs.Numbers.{number_at}
-use Rattle.serde_json_path_parser.specs.Inside.Words.{literal_word}
-use Rattle.serde_json_path_parser.specs.Filters.{Deeper, word, past_word, begins_call, named_call_at, named_at, query_at, operand_at, ended, parameters_at, call_at, level}
+use Rattle.serde_json_path_parser.specs.Operands.{a_query}
 use Rattle.serde_json_path_parser.proofs.Reading.Steps.{same_fails, first_fails}
 use Rattle.serde_json_path_parser.proofs.Steps.Words.{literal_word_reads}
 

@@ -1,21 +1,14 @@
 -- What the code says of an argument's type is what its definition says.
 use Rattle.std.proofs.Common.{◌≡◌, ℕ, Bool, true, false, List, Option, refl, sym, ap, subst, ◌∙◌}
-use Rattle.std.specs.Prelude.{◌↔◌, IsTrue}
-use Rattle.serde_json_path_syntax.specs.Literals.{literal_view}
-use Rattle.serde_json_path_syntax.specs.Parts.{IsPart}
+use Rattle.serde_json_path_parser.proofs.Words.{◌↔◌, IsTrue, literal_view, IsPart, Literal, text, number, truth, null, Argument, literal_argument}
+use Rattle.serde_json_path_parser.proofs.Words.{query_argument, call_argument, logical_argument, IsValueLiteral, Part, SyntaxBuilder, of_value, Signature}
+use Rattle.serde_json_path_parser.proofs.Words.{IsArgumentOf, is_value_literal, is_whole, fits}
 use Rattle.serde_json_path_syntax.specs.Piece.{a_query}
 use Rattle.serde_json_path_syntax.specs.Tree as tree
-use Rattle.serde_json_path_syntax.specs.Tree.{Literal, text, number, truth, null, Argument, literal_argument, query_argument, call_argument, logical_argument}
-use Rattle.serde_json_path_syntax.specs.Typing.{IsValueLiteral}
 use Rattle.serde_json_path_syntax.specs.declared.literal.Literal as core
-use Rattle.serde_json_path_syntax.specs.declared.node.Part.{Part}
-use Rattle.serde_json_path_syntax.specs.declared.builder.SyntaxBuilder.{SyntaxBuilder}
-use Rattle.serde_json_path_functions.specs.Functions.{of_value, Signature}
 use Rattle.serde_json_path_parser.specs.declared.parser.call.Argument as declared
 use Rattle.serde_json_path_parser.specs.declared.parser.call.Argument.TheVariants as the_arguments
 use Rattle.serde_json_path_parser.specs.declared.parser.operand.Operand.TheVariants as the_operands
-use Rattle.serde_json_path_parser.specs.Inside.Giving.{IsArgumentOf}
-use Rattle.serde_json_path_parser.specs.Operands.{is_value_literal, is_whole, fits}
 use Rattle.serde_json_path_parser.proofs.Grammar.Calls.{amount_whole, whole_amount}
 use Rattle.serde_json_path_parser.proofs.Steps.Operands.{singular_by}
 

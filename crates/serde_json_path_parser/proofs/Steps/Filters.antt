@@ -1,15 +1,9 @@
 -- The steps of the code at filters and at the queries in them.
 use Rattle.std.proofs.Common.{◌≡◌, ℕ, true, false, List, ◌∷◌, drop, Option, Ok, refl, ap, ◌∙◌}
-use Rattle.std.specs.Prelude.{◌==◌}
-use Rattle.serde_json_path_syntax.specs.Tree.{SegmentKind, Segment, filter, LogicalOr, QueryKind, query}
-use Rattle.serde_json_path_functions.specs.Functions.{Signature}
+use Rattle.serde_json_path_parser.proofs.Words.{◌==◌, SegmentKind, Segment, filter, LogicalOr, QueryKind, query, Signature, Failure, Deeper, query_at, Fails}
+use Rattle.serde_json_path_parser.proofs.Words.{is_at, begins, Parsed, ◌>>=◌, past_blanks, byte_count, selector_at, segments_at, segment_list}
 use Rattle.serde_json_path_parser.specs.declared.error.Context.TheVariants as context
-use Rattle.serde_json_path_parser.specs.declared.error.Failure.{Failure}
-use Rattle.serde_json_path_parser.specs.Filters.{Deeper, filter_at, query_at}
-use Rattle.serde_json_path_parser.specs.Inside.Giving.{Fails}
-use Rattle.serde_json_path_parser.specs.Lexical.{is_at, begins}
-use Rattle.serde_json_path_parser.specs.Parsed.{Parsed, ◌>>=◌, past_blanks, byte_count}
-use Rattle.serde_json_path_parser.specs.Parsing.{selector_at, segments_at, segment_list}
+use Rattle.serde_json_path_parser.specs.Filters.{filter_at}
 use Rattle.serde_json_path_parser.proofs.Reading.Steps.{same_fails, first_fails}
 use Rattle.serde_json_path_parser.proofs.Reading.Runs.{begins_differs}
 

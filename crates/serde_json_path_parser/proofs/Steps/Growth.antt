@@ -1,25 +1,13 @@
 -- How the builder grows, and by which calls.
 use Rattle.std.proofs.Common.{◌≡◌, ◌≤◌, ℕ, List, [], ◌∷◌, ◌++◌, inl, inr, Some, Option, Result, Ok, Err, refl, sym, ap, subst, ◌∙◌, append_assoc}
-use Rattle.std.proofs.lemmas.List.{append-nil, map-append}
-use Rattle.serde_json_path_syntax.specs.Calls.{name_of, names_of, calls_in_segments, calls_in_segment, calls_in_selectors, calls_in_selector, calls_in_or, calls_in_and, calls_in_basic, calls_from, calls_in_arguments}
-use Rattle.serde_json_path_syntax.specs.Parts.{KeepsParts, KeepsTrees, calls_in}
-use Rattle.serde_json_path_syntax.specs.Used.{AreDeclared, MayFinish, deepest, names_in}
-use Rattle.serde_json_path_syntax.specs.Typing.{IsTyped}
-use Rattle.serde_json_path_syntax.specs.Depth.{depth}
+use Rattle.serde_json_path_parser.proofs.Words.{append-nil, map-append, name_of, names_of, calls_in_segments, calls_in_segment, calls_in_selectors}
+use Rattle.serde_json_path_parser.proofs.Words.{calls_in_selector, calls_in_or, calls_in_and, calls_in_basic, calls_from, calls_in_arguments, KeepsParts}
+use Rattle.serde_json_path_parser.proofs.Words.{KeepsTrees, calls_in, AreDeclared, MayFinish, deepest, names_in, IsTyped, depth, Piece, Part, query, root}
+use Rattle.serde_json_path_parser.proofs.Words.{Segments, SegmentKind, Segment, Selector, LogicalAnd, Basic, Call, call, Arguments, SyntaxBuilder, Signature}
+use Rattle.serde_json_path_parser.proofs.Words.{and_list, or_list, Grows, GrowsFrom, Makes, MakesFrom, MakesOf, Parsed, Failure, Reader, Ghosts, selector_list}
+use Rattle.serde_json_path_parser.proofs.Words.{segment_list}
 use Rattle.serde_json_path_syntax.proofs.Names.Finishing.{may_finish}
 use Rattle.serde_json_path_syntax.proofs.Lists.InLists.{in_append}
-use Rattle.serde_json_path_syntax.specs.Piece.{Piece}
-use Rattle.serde_json_path_syntax.specs.declared.node.Part.{Part}
-use Rattle.serde_json_path_syntax.specs.Tree.{query, root, Segments, SegmentKind, Segment, Selector, LogicalAnd, Basic, Call, call, Arguments}
-use Rattle.serde_json_path_syntax.specs.declared.builder.SyntaxBuilder.{SyntaxBuilder}
-use Rattle.serde_json_path_functions.specs.Functions.{Signature}
-use Rattle.serde_json_path_parser.specs.Filters.{and_list, or_list}
-use Rattle.serde_json_path_parser.specs.Inside.Giving.{Grows, GrowsFrom, Makes, MakesFrom, MakesOf}
-use Rattle.serde_json_path_parser.specs.Parsed.{Parsed}
-use Rattle.serde_json_path_parser.specs.declared.error.Failure.{Failure}
-use Rattle.serde_json_path_parser.specs.declared.parser.reader.Reader.{Reader}
-use Rattle.serde_json_path_parser.specs.declared.source.PathSource.{Ghosts}
-use Rattle.serde_json_path_parser.specs.Parsing.{selector_list, segment_list}
 
 module _ {signature : List ℕ → Option Signature} where
   -- it has not grown

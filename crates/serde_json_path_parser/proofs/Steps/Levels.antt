@@ -1,12 +1,10 @@
 -- At a level, each selector and each segment takes at least one character.
 use Rattle.std.proofs.Common.{◌≡◌, ℕ, ◌<◌, true, List, length, Ok}
-use Rattle.serde_json_path_syntax.specs.Tree.{SegmentKind, Segment}
-use Rattle.serde_json_path_functions.specs.Functions.{FunctionSet}
+use Rattle.serde_json_path_parser.proofs.Words.{SegmentKind, Segment, FunctionSet, signatures, deeper, begins, opens, opens_next, next_selector_at, segment_at}
+use Rattle.serde_json_path_parser.proofs.Words.{next_segment_at}
 use Rattle.serde_json_path_parser.specs.declared.error.Context as declared
 use Rattle.serde_json_path_parser.specs.declared.parser.filter_parser.FilterParser.{FilterParser}
-use Rattle.serde_json_path_parser.specs.Inside.Levels.{signatures, deeper, filter_at}
-use Rattle.serde_json_path_parser.specs.Lexical.{begins, opens}
-use Rattle.serde_json_path_parser.specs.Parsing.{opens_next, next_selector_at, segment_at, next_segment_at}
+use Rattle.serde_json_path_parser.specs.Inside.Levels.{filter_at}
 use Rattle.serde_json_path_parser.proofs.Grammar.Brackets as brackets
 use Rattle.serde_json_path_parser.proofs.Grammar.Brackets.{is_comma}
 use Rattle.serde_json_path_parser.proofs.Grammar.Filtered.{FilterLaws}

@@ -1,31 +1,23 @@
 -- The steps of the code at logical expressions.
 use Rattle.std.proofs.Common.{◌≡◌, ℕ, zero, suc, ◌-◌, ◌<◌, ◌⊎◌, inl, inr, Bool, true, false, List, [], ◌∷◌, ◌++◌, length, drop, Option, Some, None, Result, Ok, Err, refl, sym, ap, subst, ◌∙◌, arith}
 use denote.Enum.Bare.{sameb}
-use Rattle.std.specs.Prelude.{◌==◌, codes, bytes_eq}
-use Rattle.std.proofs.lemmas.Bool.{and_parts}
-use Rattle.serde_json_path_syntax.specs.Tree.{root, current, Query, LogicalOr, paren, not_paren, relation, not_exist, not_test, Comparable, Call, Literal, truth, null, Operator}
-use Rattle.serde_json_path_syntax.specs.Typing.{result_kind}
+use Rattle.serde_json_path_parser.proofs.Words.{◌==◌, codes, bytes_eq, and_parts, root, current, Query, LogicalOr, paren, not_paren, relation, not_exist}
+use Rattle.serde_json_path_parser.proofs.Words.{not_test, Comparable, Call, Literal, truth, null, Operator, result_kind, IsPart, Part, SyntaxBuilder, of_value}
+use Rattle.serde_json_path_parser.proofs.Words.{Signature, kind_view, ExpectedExpression, NestedTooDeep, WrongReturnType, Refusal, Failure, word, past_word}
+use Rattle.serde_json_path_parser.proofs.Words.{begins_call, literal_word_at, operator_at, and_list, or_list, Deeper, level, query_at, named_call_at, named_at}
+use Rattle.serde_json_path_parser.proofs.Words.{operand_at, comparable_at, test_at, right_side_at, relation_at, basic_from, paren_at, negated_call_at}
+use Rattle.serde_json_path_parser.proofs.Words.{negated_name_at, negated_at, basic_at, next_basic_at, and_from, and_at, next_and_at, or_from, or_at, Fails}
+use Rattle.serde_json_path_parser.proofs.Words.{IsOperandOf, is_at, begins, begins_both, Operand, a_literal, a_call, is_result, Parsed, ◌>>=◌, refusal}
+use Rattle.serde_json_path_parser.proofs.Words.{past_blanks, many, byte_count, refusal_at}
 use Rattle.serde_json_path_syntax.specs.Piece as piece
-use Rattle.serde_json_path_syntax.specs.Parts.{IsPart}
-use Rattle.serde_json_path_syntax.specs.declared.node.Part.{Part}
-use Rattle.serde_json_path_syntax.specs.declared.builder.SyntaxBuilder.{SyntaxBuilder}
-use Rattle.serde_json_path_functions.specs.Functions.{of_value, Signature}
-use Rattle.serde_json_path_functions.specs.Terms.{kind_view}
 use Rattle.serde_json_path_functions.specs.contracts.types.FunctionArgType.{the_type}
 use Rattle.serde_json_path_functions.specs.declared.types.FunctionArgType.{FunctionArgType}
 use Rattle.serde_json_path_functions.specs.declared.types.FunctionArgType.TheVariants as kinds
-use Rattle.serde_json_path_parser.specs.declared.error.ParseErrorKind.TheVariants.{ExpectedExpression, NestedTooDeep, WrongReturnType}
 use Rattle.serde_json_path_parser.specs.declared.error.Context.TheVariants as context
-use Rattle.serde_json_path_parser.specs.declared.error.Refusal.{Refusal}
-use Rattle.serde_json_path_parser.specs.declared.error.Failure.{Failure}
 use Rattle.serde_json_path_parser.specs.declared.error.Failure.TheVariants as failures
 use Rattle.serde_json_path_parser.specs.declared.parser.operand.Operand as declared
 use Rattle.serde_json_path_parser.specs.declared.parser.operand.Operand.TheVariants as the_operands
-use Rattle.serde_json_path_parser.specs.Filters.{word, past_word, begins_call, literal_word_at, operator_at, and_list, or_list, Deeper, level, query_at, named_call_at, named_at, operand_at, comparable_at, test_at, right_side_at, relation_at, basic_from, paren_at, negated_call_at, negated_name_at, negated_at, basic_at, next_basic_at, and_from, and_at, next_and_at, or_from, or_at}
-use Rattle.serde_json_path_parser.specs.Inside.Giving.{Fails, IsOperandOf}
-use Rattle.serde_json_path_parser.specs.Lexical.{is_at, begins, begins_both}
-use Rattle.serde_json_path_parser.specs.Operands.{Operand, a_literal, a_query, a_call, is_result}
-use Rattle.serde_json_path_parser.specs.Parsed.{Parsed, ◌>>=◌, refusal, past_blanks, many, byte_count, refusal_at}
+use Rattle.serde_json_path_parser.specs.Operands.{a_query}
 use Rattle.serde_json_path_parser.proofs.Grammar.Levels.{level_laws}
 use Rattle.serde_json_path_parser.proofs.Grammar.LogicalExpressions.{IsBasicText, IsAndText, next_basic_sound, next_and_sound}
 use Rattle.serde_json_path_parser.proofs.Reading.Many as m

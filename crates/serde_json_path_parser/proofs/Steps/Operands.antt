@@ -1,23 +1,14 @@
 -- The steps of the code at operands and arguments.
 use Rattle.std.proofs.Common.{◌≡◌, ℕ, Bool, true, false, List, ◌∷◌, Option, Ok, Err, refl, subst}
-use Rattle.std.specs.Prelude.{◌↔◌, IsTrue}
-use Rattle.serde_json_path_syntax.specs.Calls.{calls_in_argument}
+use Rattle.serde_json_path_parser.proofs.Words.{◌↔◌, IsTrue, calls_in_argument, IsPart, Part, SyntaxBuilder, Signature, NonSingularQuery, Deeper, alone}
+use Rattle.serde_json_path_parser.proofs.Words.{comparable_at, text_at, IsOperandOf, IsArgumentOf, past_blanks, refusal_at, string_at}
 use Rattle.serde_json_path_syntax.specs.Tree as tree
 use Rattle.serde_json_path_syntax.specs.Piece.{a_query}
-use Rattle.serde_json_path_syntax.specs.Parts.{IsPart}
-use Rattle.serde_json_path_syntax.specs.declared.node.Part.{Part}
-use Rattle.serde_json_path_syntax.specs.declared.builder.SyntaxBuilder.{SyntaxBuilder}
-use Rattle.serde_json_path_functions.specs.Functions.{Signature}
-use Rattle.serde_json_path_parser.specs.declared.error.ParseErrorKind.TheVariants.{NonSingularQuery}
 use Rattle.serde_json_path_parser.specs.declared.error.Context.TheVariants as context
 use Rattle.serde_json_path_parser.specs.declared.parser.call.Argument.TheVariants as the_arguments
 use Rattle.serde_json_path_parser.specs.declared.parser.operand.Operand as declared
 use Rattle.serde_json_path_parser.specs.declared.parser.operand.Operand.TheVariants as the_operands
-use Rattle.serde_json_path_parser.specs.Filters.{Deeper, alone, comparable_at, text_at}
-use Rattle.serde_json_path_parser.specs.Inside.Giving.{IsOperandOf, IsArgumentOf}
 use Rattle.serde_json_path_parser.specs.Operands.{Operand, a_literal, a_query as query_operand, a_call, calls_in_operand, is_singular}
-use Rattle.serde_json_path_parser.specs.Parsed.{past_blanks, refusal_at}
-use Rattle.serde_json_path_parser.specs.Strings.{string_at}
 use Rattle.serde_json_path_parser.proofs.Grammar.LogicalForms.{singular_query, query_singular}
 
 -- which operand a query's part is

@@ -1,13 +1,9 @@
 -- Parts that stand for selectors, for segments and for what `||` and `&&` join, one after another.
 use Rattle.std.proofs.Common.{◌≡◌, List, [], ◌∷◌, ◌++◌, refl, sym, ap, subst, ◌∙◌}
-use Rattle.serde_json_path_syntax.specs.Tree.{SegmentKind, Segment, Selector, LogicalOr, LogicalAnd, Basic}
-use Rattle.serde_json_path_syntax.specs.Piece.{Piece, a_segment, a_selector, an_and, a_basic}
-use Rattle.serde_json_path_syntax.specs.Parts.{IsPart, ArePartsFor, ArePartsOf, AreSelectorsOf, KeepsTrees, segment_pieces, selector_pieces, AreOrPartsOf, AreAndPartsOf, or_pieces, and_pieces}
-use Rattle.serde_json_path_syntax.specs.declared.node.Part.{Part}
-use Rattle.serde_json_path_syntax.specs.declared.builder.SyntaxBuilder.{SyntaxBuilder}
-use Rattle.serde_json_path_syntax.proofs.Tree.NamedParts.{parts_for_kept, or_parts_for, and_parts_for}
-use Rattle.serde_json_path_parser.specs.Parsing.{selector_list, segment_list}
-use Rattle.serde_json_path_parser.specs.Filters.{and_list, or_list}
+use Rattle.serde_json_path_parser.proofs.Words.{SegmentKind, Segment, Selector, LogicalOr, LogicalAnd, Basic, Piece, a_segment, a_selector, an_and, a_basic}
+use Rattle.serde_json_path_parser.proofs.Words.{IsPart, ArePartsFor, ArePartsOf, AreSelectorsOf, KeepsTrees, segment_pieces, selector_pieces, AreOrPartsOf}
+use Rattle.serde_json_path_parser.proofs.Words.{AreAndPartsOf, or_pieces, and_pieces, Part, SyntaxBuilder, parts_for_kept, or_parts_for, and_parts_for}
+use Rattle.serde_json_path_parser.proofs.Words.{selector_list, segment_list, and_list, or_list}
 
 pub one_more : (builder : SyntaxBuilder) (parts : List Part) (pieces : List Piece) (part : Part) (piece : Piece) → ArePartsFor builder parts pieces → IsPart builder part piece → ArePartsFor builder (parts ++ part ∷ []) (pieces ++ piece ∷ [])
 one_more builder [] [] part piece h p = (p, tt)

@@ -1,13 +1,9 @@
 -- The steps of the code at brackets and segments.
 use Rattle.std.proofs.Common.{◌≡◌, ℕ, true, false, List, [], ◌∷◌, drop, Ok, refl, sym, ap, ◌∙◌}
-use Rattle.std.specs.Prelude.{◌==◌}
-use Rattle.serde_json_path_syntax.specs.Tree.{SegmentKind, Segment, dot_name, dot_wildcard, long_hand, Selector}
+use Rattle.serde_json_path_parser.proofs.Words.{◌==◌, SegmentKind, Segment, dot_name, dot_wildcard, long_hand, Selector, Failure, Fails, begins, Parsed}
+use Rattle.serde_json_path_parser.proofs.Words.{past_blanks, many, name_at, selector_at, next_selector_at, selectors_at, selector_list, bracket_at, dotted_at}
+use Rattle.serde_json_path_parser.proofs.Words.{of_kind, segment_at, next_segment_at}
 use Rattle.serde_json_path_parser.specs.declared.error.Context as declared
-use Rattle.serde_json_path_parser.specs.declared.error.Failure.{Failure}
-use Rattle.serde_json_path_parser.specs.Inside.Giving.{Fails}
-use Rattle.serde_json_path_parser.specs.Lexical.{begins}
-use Rattle.serde_json_path_parser.specs.Parsed.{Parsed, past_blanks, many}
-use Rattle.serde_json_path_parser.specs.Parsing.{name_at, selector_at, next_selector_at, selectors_at, selector_list, bracket_at, dotted_at, of_kind, segment_at, next_segment_at}
 use Rattle.serde_json_path_parser.proofs.Grammar.Brackets.{is_comma}
 use Rattle.serde_json_path_parser.proofs.Reading.Many.{with_front}
 use Rattle.serde_json_path_parser.proofs.Reading.Steps.{same_fails}

@@ -1,18 +1,9 @@
 -- What a word's text has in common with a known one, and which literal a word is.
 use Rattle.std.proofs.Common.{◌≡◌, ℕ, zero, suc, ◌+◌, ◌<◌, ◌≤◌, Bool, true, false, true≢false, List, [], ◌∷◌, ◌++◌, length, get_or, take, drop, Option, Some, None, Ok, Err, refl, sym, ap, ◌∙◌, append-nil, arith}
-use Rattle.std.proofs.Math.Seq.{drop-cons, drop-append_seam}
-use Rattle.std.specs.Prelude.{◌==◌, bytes_eq, codes, if◌then◌else◌}
-use Rattle.std.proofs.lemmas.Bool.{eqb-true, eq-eqb}
-use Rattle.std.proofs.lemmas.List.{take_all}
-use Rattle.std.proofs.lemmas.Slice.Eq.{bytes_eq-Decides}
-use Rattle.serde_json_path_syntax.specs.Tree.{Literal}
-use Rattle.serde_json_path_parser.specs.declared.error.ParseErrorKind.TheVariants.{ExpectedExpression}
+use Rattle.serde_json_path_parser.proofs.Words.{drop-cons, drop-append_seam, ◌==◌, bytes_eq, codes, if◌then◌else◌, eqb-true, eq-eqb, take_all, bytes_eq-Decides}
+use Rattle.serde_json_path_parser.proofs.Words.{Literal, ExpectedExpression, AllPass, begins, is_function_char, Parsed, refusal, front, past, past_blanks}
+use Rattle.serde_json_path_parser.proofs.Words.{Operand, a_literal, word, past_word, literal_word_at, common, literal_word}
 use Rattle.serde_json_path_parser.specs.declared.error.Context.TheVariants as context
-use Rattle.serde_json_path_parser.specs.Lexical.{AllPass, begins, is_function_char}
-use Rattle.serde_json_path_parser.specs.Parsed.{Parsed, refusal, front, past, past_blanks}
-use Rattle.serde_json_path_parser.specs.Operands.{Operand, a_literal}
-use Rattle.serde_json_path_parser.specs.Filters.{word, past_word, literal_word_at}
-use Rattle.serde_json_path_parser.specs.Inside.Words.{common, literal_word}
 use Rattle.serde_json_path_parser.proofs.Reading.Runs.{whole, front_end}
 
 -- ---- what a text has in common with a known one

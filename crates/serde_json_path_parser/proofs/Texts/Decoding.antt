@@ -1,11 +1,8 @@
 -- The character at a place of a text, by its first byte.
 use Rattle.std.proofs.Common.{◌≡◌, ℕ, zero, suc, ◌+◌, ◌*◌, ◌/◌, ◌%◌, ◌<◌, ◌≤◌, inl, inr, true, List, [], ◌∷◌, ◌++◌, length, get_or, drop, Some, refl, sym, ap, subst, ◌∙◌, arith}
-use Rattle.std.specs.Prelude.{slice_get, encode_utf8}
-use Rattle.std.specs.Str.{IsUtf8, encode_utf8_all, all_scalars}
-use Rattle.std.specs.Str.Pattern.{StartsWithChar}
+use Rattle.serde_json_path_parser.proofs.Words.{slice_get, encode_utf8, IsUtf8, encode_utf8_all, all_scalars, StartsWithChar, get_or-drop, length-drop, drop_at}
+use Rattle.serde_json_path_parser.proofs.Words.{length-append, and_parts, cases_lt, lt-ltb, le-ltb}
 use Rattle.std.specs.Char.{IsScalar, encode_utf8 as encode}
-use Rattle.std.proofs.lemmas.List.{get_or-drop, length-drop, drop_at, length-append}
-use Rattle.std.proofs.lemmas.Bool.{and_parts, cases_lt, lt-ltb, le-ltb}
 
 some_within : (xs : List ℕ) (i b : ℕ) → slice_get xs i ≡ Some b → (i < length xs) × (get_or xs i 0 ≡ b)
 some_within [] i b e = absurd cc

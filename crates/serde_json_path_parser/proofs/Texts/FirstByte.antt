@@ -1,13 +1,8 @@
 -- What a reader's fields say of the characters that are left.
 use Rattle.std.proofs.Common.{◌≡◌, ℕ, zero, suc, ◌+◌, ◌<◌, ◌≤◌, true, true≢false, List, [], ◌∷◌, length, get_or, drop, Option, Some, None, refl, sym, ap, subst, ◌∙◌, inl, inr, arith}
-use Rattle.std.specs.Prelude.{slice_get, ◌==◌}
-use Rattle.std.specs.Str.{IsUtf8, is_utf8, chars}
-use Rattle.std.specs.Str.Pattern.{StartsWithChar}
-use Rattle.std.proofs.lemmas.Bool.{cases_lt, eqb-true}
-use Rattle.std.proofs.lemmas.List.{length-drop, drop-drop, drop_all}
-use Rattle.std.proofs.lemmas.Str.{IsUtf8-from_is_utf8, is_utf8-from_IsUtf8, chars-nil, chars_past_char, byte_from_char, char_from_byte}
-use Rattle.serde_json_path_parser.specs.Inside.Ahead.{is_ascii, IsAhead}
-use Rattle.serde_json_path_parser.specs.Lexical.{begins}
+use Rattle.serde_json_path_parser.proofs.Words.{slice_get, ◌==◌, IsUtf8, is_utf8, chars, StartsWithChar, cases_lt, eqb-true, length-drop, drop-drop, drop_all}
+use Rattle.serde_json_path_parser.proofs.Words.{IsUtf8-from_is_utf8, is_utf8-from_IsUtf8, chars-nil, chars_past_char, byte_from_char, char_from_byte, is_ascii}
+use Rattle.serde_json_path_parser.proofs.Words.{IsAhead, begins}
 use Rattle.serde_json_path_parser.proofs.Texts.Decoding as d
 
 none_past : (xs : List ℕ) (i : ℕ) → slice_get xs i ≡ None → drop i xs ≡ []

@@ -1,16 +1,8 @@
 -- ASCII characters that are taken many at a time.
 use Rattle.std.proofs.Common.{◌≡◌, ℕ, zero, suc, ◌+◌, ◌-◌, ◌<◌, ◌≤◌, Bool, true, false, List, [], ◌∷◌, ◌++◌, length, take, drop, set, Some, Result, Ok, Err, is_ok, IfOk, if◌then◌else◌, refl, sym, ap, ◌∙◌, inl, inr, append_assoc, arith}
-use Rattle.std.specs.Prelude.{slice_get, nat_le, nat_lt, ◌^◌, max}
-use Rattle.std.specs.Str.{is_utf8, chars, IsAscii, encode_utf8_all}
-use Rattle.std.proofs.lemmas.Bool.{and_parts, cases_lt}
-use Rattle.std.proofs.lemmas.List.{length-take-le, take_more_set}
-use Rattle.std.proofs.lemmas.Str.{encodes-append, encodes-IsAscii}
-use Rattle.serde_json_path_parser.specs.Lexical.{AllPass, begins, is_name_char, is_plain}
-use Rattle.serde_json_path_parser.specs.Inside.Ahead.{IsAhead}
-use Rattle.serde_json_path_parser.specs.Parsed.{front, past}
-use Rattle.serde_json_path_parser.specs.Source.{Told, one_more, looked}
-use Rattle.serde_json_path_parser.specs.Inside.Looking.{LooksOn}
-use Rattle.serde_json_path_parser.specs.Inside.Stretches.{is_ascii_name_char, is_ascii_plain, Gathered, Stretched}
+use Rattle.serde_json_path_parser.proofs.Words.{slice_get, nat_le, nat_lt, ◌^◌, max, is_utf8, chars, IsAscii, encode_utf8_all, and_parts, cases_lt}
+use Rattle.serde_json_path_parser.proofs.Words.{length-take-le, take_more_set, encodes-append, encodes-IsAscii, AllPass, begins, is_name_char, is_plain}
+use Rattle.serde_json_path_parser.proofs.Words.{IsAhead, front, past, Told, one_more, looked, LooksOn, is_ascii_name_char, is_ascii_plain, Gathered, Stretched}
 use Rattle.serde_json_path_parser.proofs.Texts.FirstByte.{step_one}
 use Rattle.serde_json_path_parser.proofs.Reading.Runs.{past_through}
 

@@ -52,7 +52,7 @@ impl Functions for NowAndThen {
     }
 }
 
-/// The locations that a walk gives over calls of which some are refused, and how many are.
+/// The locations that a walk gives, up to the first `None`, over calls of which some are refused, and how many are.
 fn given(
     alloc: Global,
     walk: &mut Walk<'_, '_, Both<&NowAndThen, Builtin>>,
@@ -62,7 +62,7 @@ fn given(
     for _ in 0..64 {
         match walk.next() {
             Ok(Some(node)) => write!(text, "{} ", node.location())?,
-            Ok(None) => {}
+            Ok(None) => break,
             Err(QueryError::Memory) => refused = refused.saturating_add(1),
             Err(e) => return Err(Fail::from(e)),
         }

@@ -413,7 +413,7 @@ fn next_node<'b, F: Functions>(
     }
 }
 
-/// Holds a walk, of three nodes at most, to its locations. Returns whether a call was refused.
+/// Holds a walk, of three nodes at most, to its locations up to the first `None`. Returns whether a call was refused.
 fn goes_on<F: Functions>(
     rt: &impl Abort,
     alloc: Global,
@@ -425,6 +425,9 @@ fn goes_on<F: Functions>(
     for _ in 0..4 {
         let (node, is_refused) = next_node(walk)?;
         was_refused = was_refused || is_refused;
+        if node.is_none() {
+            break;
+        }
         push_location(&mut text, node)?;
     }
     tells(rt, text.as_str(), places, "a walk");
@@ -506,6 +509,13 @@ fn takes_none_where_the_root_is_missing(rt: HostRuntime) -> Result<(), Fail> {
 fn takes_none_of_the_new_path(rt: HostRuntime) -> Result<(), Fail> {
     let path = JsonPath::new(rt.alloc());
     assert!(rt; path == JsonPath::new(rt.alloc()) && path.fits(&Builtin));
+    Ok(())
+}
+
+#[test]
+fn takes_none_of_the_root_alone(rt: HostRuntime) -> Result<(), Fail> {
+    let parsed = JsonPath::parse(rt.alloc(), "$").ok();
+    assert!(rt; parsed == Some(JsonPath::new(rt.alloc())));
     Ok(())
 }
 

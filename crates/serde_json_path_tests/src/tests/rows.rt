@@ -12,7 +12,7 @@ use std::test::Fail;
 
 /// Holds what was told of a text to what is wanted.
 pub(crate) fn tells(rt: &impl Abort, told: &str, wanted: &str, of: &str) {
-    assert!(rt; told == wanted, "{told} in place of {wanted} of {of:?}");
+    assert!(rt; told == wanted, "{told} where {wanted} is wanted, of {of}");
 }
 
 /// Holds what is said of a text.
@@ -152,7 +152,7 @@ pub(crate) fn counts(
     Ok(())
 }
 
-/// Holds a path to the locations and the values of what it selects from a document.
+/// Holds a path to the locations and the values of what it selects from a document. A failure names both.
 pub(crate) fn selects_nodes(
     rt: &impl Abort,
     alloc: Global,
@@ -162,11 +162,12 @@ pub(crate) fn selects_nodes(
 ) -> Result<(), Fail>
     requires { Fits builtin_functions (path_signatures path.now) }
 {
-    let (places, items) = wanted;
+    let (_, items) = wanted;
+    let row = format!(in alloc; "{path} on {document}")?;
     let document = Value::from_str(alloc, document)?;
     let located = path.query_located(alloc, &document);
-    locates(rt, alloc, located, wanted, places)?;
-    finds(rt, alloc, path.query(alloc, &document), items, places)
+    locates(rt, alloc, located, wanted, row.as_str())?;
+    finds(rt, alloc, path.query(alloc, &document), items, row.as_str())
 }
 
 /// Holds a path to the end of a row: to the locations and the values of what it selects from a document.

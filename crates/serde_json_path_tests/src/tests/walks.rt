@@ -94,7 +94,7 @@ fn gives_item<F: Functions>(
     gives_each(rt, alloc, walk, &[location.as_str()])
 }
 
-/// The walk gives so many items, and keeps two places at most. After the last it keeps none.
+/// The walk gives so many items, and keeps one or two places before each. After the last it keeps none.
 fn keeps_few_places<F: Functions>(
     rt: &impl Abort,
     alloc: Global,
@@ -102,8 +102,8 @@ fn keeps_few_places<F: Functions>(
     number_of_items: usize,
 ) -> Result<(), Fail> {
     for number in 0..number_of_items {
+        assert!(rt; walk.places() == 1 || walk.places() == 2);
         gives_item(rt, alloc, walk, number)?;
-        assert!(rt; walk.places() <= 2);
     }
     gives_each(rt, alloc, walk, &["", ""])?;
     assert!(rt; walk.places() == 0);

@@ -61,33 +61,3 @@ returns-in_err-text-clause-query_last g c = λ e refused.
     let value = c.in_ok-value.value in
     let read : c.document.result ≡ Ok value = ok_before _ _ value _ c.map_err-2.ensures.cases c.in_ok-value.was in
     (view value, rw read at c.document.ensures.ok)
-
-pub returns-in_err-path-clause-path_refused : goal.returns-in_err-path-clause-path_refused
-returns-in_err-path-clause-path_refused c = search rules
-
-pub returns-in_err-walk-clause-path_refused : goal.returns-in_err-walk-clause-path_refused
-returns-in_err-walk-clause-path_refused c = search rules
-
-pub returns-in_err-text-clause-path_refused : goal.returns-in_err-text-clause-path_refused
-returns-in_err-text-clause-path_refused c = search rules
-
-pub returns-in_err-walk-clause-pattern_refused : goal.returns-in_err-walk-clause-pattern_refused
-returns-in_err-walk-clause-pattern_refused c = search rules
-
-pub returns-in_err-value-clause-not_json : goal.returns-in_err-value-clause-not_json
-returns-in_err-value-clause-not_json c = search rules
-
-pub returns-in_err-value-clause-path_first : goal.returns-in_err-value-clause-path_first
-returns-in_err-value-clause-path_first c = search rules
-
-pub walk-requires : goal.walk-requires
-walk-requires c = search rules
-
-pub returns-in_err-walk-clause-path_first : goal.returns-in_err-walk-clause-path_first
-returns-in_err-walk-clause-path_first c = search rules
-
-pub returns-in_err-text-clause-path_first : goal.returns-in_err-text-clause-path_first
-returns-in_err-text-clause-path_first c = search rules
-
-pub returns-clause-path_first : goal.returns-clause-path_first
-returns-clause-path_first c = search rules

@@ -1,4 +1,4 @@
-use Rattle.std.proofs.Common.{codes, Err, inl, inr, refl, sym, ap, subst, ◌∙◌, rules}
+use Rattle.std.proofs.Common.{codes, Err, inl, inr, refl, sym, ap, subst, ◌∙◌}
 use Rattle.serde_json_path_functions.specs.Patterns.{builtin_functions}
 use Rattle.serde_json_path.specs.Paths.{path_view}
 use Rattle.serde_json_path_parser.specs.Errors.{position_of}
@@ -119,24 +119,3 @@ returns-clause-path_first g c = λ path is_word no_path.
     let same = same_word c.args.words.now path c.as_str.result.now is_word one in
     let (e, refused) = c.report.ensures.path_first (subst (λ F. IsNoPath F c.as_str.result.now) (sym (before_itself builtin_functions)) (subst (IsNoPath builtin_functions) same no_path)) in
     inl (c.refuse.ensures.status ∙ ap status_of (same_error c.report.result c.in-Err.e (Path e) c.in-Err.is refused))
-
-pub returns-then-is_err-clause-usage : goal.returns-then-is_err-clause-usage
-returns-then-is_err-clause-usage c = search rules
-
-pub returns-then-is_err-clause-unread : goal.returns-then-is_err-clause-unread
-returns-then-is_err-clause-unread c = search rules
-
-pub returns-in-Ok-clause-usage : goal.returns-in-Ok-clause-usage
-returns-in-Ok-clause-usage c = search rules
-
-pub returns-in-Ok-clause-unread : goal.returns-in-Ok-clause-unread
-returns-in-Ok-clause-unread c = search rules
-
-pub returns-clause-usage : goal.returns-clause-usage
-returns-clause-usage c = search rules
-
-pub returns-clause-unread : goal.returns-clause-unread
-returns-clause-unread c = search rules
-
-pub returns-clause-part_out : goal.returns-clause-part_out
-returns-clause-part_out c = search rules

@@ -1,7 +1,6 @@
 use Rattle.std.proofs.Common.{ap, ◌∙◌, arith, SFits, w64}
-use Rattle.std.proofs.lemmas.Int.{to_z-of_z}
+use Rattle.serde_json_path_core.proofs.Words.{to_z-of_z, position_in}
 use Rattle.serde_json_path_core.proofs.Steps.Lookups.{item_none, item_found, item_past}
-use Rattle.serde_json_path_core.specs.Inside.Selected.{position_in}
 use Rattle.serde_json_path_core.proofs.child.item_of.Goals as goal
 
 pub returns-in-None : goal.returns-in-None

@@ -1,6 +1,5 @@
 use Rattle.std.proofs.Common.{ap, ◌∙◌, Some}
-use Rattle.serde_json.specs.View.{view}
-use Rattle.serde_json_path_nodes.specs.Location.{by_name}
+use Rattle.serde_json_path_core.proofs.Words.{view, by_name}
 use Rattle.serde_json_path_core.proofs.Steps.Lookups.{member_found, member_missing}
 use Rattle.serde_json_path_core.proofs.child.member_of.Goals as goal
 

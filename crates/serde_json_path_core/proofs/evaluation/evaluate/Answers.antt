@@ -1,11 +1,5 @@
 use Rattle.std.proofs.Common.{[], ◌∷◌, ◌++◌, map, sym, subst, ap, ◌∙◌, append_assoc}
-use Rattle.std.proofs.lemmas.List.{map-append}
-use Rattle.serde_json.specs.View.{view}
-use Rattle.serde_json_path_nodes.specs.Location.{Located}
-use Rattle.serde_json_path_nodes.specs.Views.{node_value}
-use Rattle.serde_json_path_core.specs.Meaning.{IsResult}
-use Rattle.serde_json_path_syntax.specs.Parts.{tree_of}
-use Rattle.serde_json_path_core.specs.Walks.{rest}
+use Rattle.serde_json_path_core.proofs.Words.{map-append, view, Located, node_value, IsResult, tree_of, rest}
 use Rattle.serde_json_path_core.proofs.Steps.KnownCases.{found-some}
 use Rattle.serde_json_path_core.proofs.evaluation.evaluate.Goals as goal
 

@@ -1,10 +1,6 @@
 use Rattle.std.proofs.Common.{◌≡◌, ◌++◌, List, map}
-use Rattle.serde_json.specs.View.{view}
-use Rattle.serde_json_path_nodes.specs.Location.{Located}
-use Rattle.serde_json_path_nodes.specs.Views.{node_value}
-use Rattle.serde_json_path_core.specs.Meaning.{IsResult}
-use Rattle.serde_json_path_syntax.specs.Parts.{tree_of}
-use Rattle.serde_json_path_core.specs.Walks.{document_of, query_of, rest, set_of, steps_of}
+use Rattle.serde_json_path_core.proofs.Words.{view, Located, node_value, IsResult, tree_of, document_of, rest, steps_of}
+use Rattle.serde_json_path_core.specs.Walks.{query_of, set_of}
 use Rattle.serde_json_path_core.proofs.evaluation.evaluate.Given as goal
 
 abbrev pub invariant-values : goal.invariant-values

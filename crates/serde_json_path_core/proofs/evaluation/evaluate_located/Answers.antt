@@ -1,10 +1,5 @@
-use Rattle.std.proofs.Common.{[], ◌∷◌, ◌++◌, map, sym, subst, ap, ◌∙◌, append_assoc, rules}
-use Rattle.std.proofs.lemmas.List.{map-append}
-use Rattle.serde_json.specs.View.{view}
-use Rattle.serde_json_path_nodes.specs.Views.{located}
-use Rattle.serde_json_path_core.specs.Meaning.{IsResult}
-use Rattle.serde_json_path_syntax.specs.Parts.{tree_of}
-use Rattle.serde_json_path_core.specs.Walks.{rest}
+use Rattle.std.proofs.Common.{[], ◌∷◌, ◌++◌, map, sym, subst, ap, ◌∙◌, append_assoc}
+use Rattle.serde_json_path_core.proofs.Words.{map-append, view, located, IsResult, tree_of, rest}
 use Rattle.serde_json_path_core.proofs.Steps.KnownCases.{found-some}
 use Rattle.serde_json_path_core.proofs.evaluation.evaluate_located.Goals as goal
 
@@ -24,6 +19,3 @@ nodes-preserved g c =
           let more = ap (map located) c.in_ok-push.ensures.items ∙ map-append located c.nodes.found.items (node ∷ []) in
           subst nodes (ap (λ more. found ++ more) given ∙ sym (append_assoc found (located node ∷ []) left) ∙ ap (λ all. all ++ left) (sym more)) before.selected;
     }
-
-pub returns-clause-selects : goal.returns-clause-selects
-returns-clause-selects c = search rules

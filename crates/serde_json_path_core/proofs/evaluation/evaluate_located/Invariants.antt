@@ -1,9 +1,6 @@
 use Rattle.std.proofs.Common.{◌≡◌, ◌++◌, map}
-use Rattle.serde_json.specs.View.{view}
-use Rattle.serde_json_path_nodes.specs.Views.{located}
-use Rattle.serde_json_path_core.specs.Meaning.{IsResult}
-use Rattle.serde_json_path_syntax.specs.Parts.{tree_of}
-use Rattle.serde_json_path_core.specs.Walks.{document_of, query_of, rest, set_of, steps_of}
+use Rattle.serde_json_path_core.proofs.Words.{view, located, IsResult, tree_of, document_of, rest, steps_of}
+use Rattle.serde_json_path_core.specs.Walks.{query_of, set_of}
 use Rattle.serde_json_path_core.proofs.evaluation.evaluate_located.Given as goal
 
 abbrev pub invariant-nodes : goal.invariant-nodes

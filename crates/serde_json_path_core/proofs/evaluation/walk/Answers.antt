@@ -1,12 +1,6 @@
 use Rattle.std.proofs.Common.{[], ◌∷◌, ◌++◌, sym, subst, ap, ◌∙◌}
-use Rattle.serde_json.specs.View.{view}
-use Rattle.serde_json_path_core.specs.Derivation.{start_of}
-use Rattle.serde_json_path_syntax.specs.Flat.{segments_at}
-use Rattle.serde_json_path_syntax.specs.Parts.{nodes_in, signatures_of, tree_of}
-use Rattle.serde_json_path_core.specs.Inside.Frames.{frame_view, frames_view}
-use Rattle.serde_json_path_core.specs.Inside.Rest.{rest_of, IsStack}
-use Rattle.serde_json_path_syntax.specs.Stages.{stages, stages_at}
-use Rattle.serde_json_path_core.specs.Meaning.{IsResult}
+use Rattle.serde_json_path_core.proofs.Words.{view, start_of, segments_at, nodes_in, signatures_of, tree_of, frame_view, frames_view, rest_of, IsStack, stages}
+use Rattle.serde_json_path_core.proofs.Words.{stages_at, IsResult}
 use Rattle.serde_json_path_core.proofs.Walks.Chains.{stack-started}
 use Rattle.serde_json_path_core.proofs.Meaning.Derived.{computed_result}
 use Rattle.serde_json_path_core.proofs.Sound.Parts.{sound-segments}

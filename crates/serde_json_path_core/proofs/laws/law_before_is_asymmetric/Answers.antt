@@ -1,4 +1,4 @@
-use Rattle.serde_json_path_syntax.specs.Tree.{segments_of}
+use Rattle.serde_json_path_core.proofs.Words.{segments_of}
 use Rattle.serde_json_path_core.proofs.Meaning.Order.{before_once}
 use Rattle.serde_json_path_core.proofs.laws.law_before_is_asymmetric.Goals as goal
 

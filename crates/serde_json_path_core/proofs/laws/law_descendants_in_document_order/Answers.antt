@@ -1,21 +1,11 @@
 -- A descendant segment's nodes are the child segment's at the node, then those of each child's subtree.
 use Rattle.std.proofs.Common.{◌≡◌, List, [], ◌∷◌, ◌++◌, map, flat_map, sym, ap, ◌∙◌}
-use Rattle.std.proofs.lemmas.List.{append-nil, map-id}
-use Rattle.std.proofs.lemmas.List.Folds.{flat_map-map}
-use Rattle.std.proofs.lemmas.Simd.{map-map}
-use Rattle.serde_json.specs.Data.{Data}
-use Rattle.serde_json_path_nodes.specs.Location.{Step, StepBefore, Located}
-use Rattle.serde_json_path_syntax.specs.Tree.{Query, query, current, Segments, segment, child, descendant, Segment}
-use Rattle.serde_json_path_functions.specs.Functions.{FunctionSet}
-use Rattle.serde_json_path_core.specs.Meaning.{IsResult}
-use Rattle.serde_json_path_syntax.specs.Typing.{IsTyped}
-use Rattle.serde_json_path_core.specs.Derivation.{beneath}
-use Rattle.serde_json_path_core.specs.Inside.Computed.{children, descents, placed, results, results_from, chosen}
-use Rattle.serde_json_path_core.specs.Laws.{AreChildren, AreSubtreeResults}
+use Rattle.serde_json_path_core.proofs.Words.{append-nil, map-id, flat_map-map, map-map, Data, Step, StepBefore, Located, Query, query, current, Segments}
+use Rattle.serde_json_path_core.proofs.Words.{segment, child, descendant, Segment, FunctionSet, IsResult, IsTyped, beneath, children, descents, placed, results}
+use Rattle.serde_json_path_core.proofs.Words.{results_from, chosen, AreChildren, AreSubtreeResults, flat_map-same, flat_map-flat_map, map-flat_map}
 use Rattle.serde_json_path_core.proofs.Meaning.ChildSteps.{in_children, children_ordered}
 use Rattle.serde_json_path_core.proofs.Meaning.Beneath.{results_beneath}
 use Rattle.serde_json_path_core.proofs.Meaning.Descents.{below_child, descents_are}
-use Rattle.serde_json_path_syntax.proofs.Lists.InLists.{flat_map-same, flat_map-flat_map, map-flat_map}
 use Rattle.serde_json_path_core.proofs.Meaning.Derived.{computed_only}
 use Rattle.serde_json_path_core.proofs.Meaning.Order.{step_once, in_order_once}
 use Rattle.serde_json_path_core.proofs.laws.law_descendants_in_document_order.Goals as goal

@@ -1,11 +1,6 @@
 use Rattle.std.proofs.Common.{◌≡◌, ◌↔◌, sym, subst, ◌∙◌}
-use Rattle.std.proofs.lemmas.Option.{same_Some}
-use Rattle.serde_json.specs.Data.{Data}
-use Rattle.serde_json_path_syntax.specs.Tree.{relation, equal, not_equal, Comparable}
-use Rattle.serde_json_path_functions.specs.Functions.{FunctionSet, KeepsTypes}
-use Rattle.serde_json_path_core.specs.Compared.{Compared, AreEqual}
-use Rattle.serde_json_path_core.specs.Meaning.{HoldsBasic, IsComparedAs}
-use Rattle.serde_json_path_syntax.specs.Typing.{IsTypedComparable}
+use Rattle.serde_json_path_core.proofs.Words.{same_Some, Data, relation, equal, not_equal, Comparable, FunctionSet, KeepsTypes, Compared, AreEqual, HoldsBasic}
+use Rattle.serde_json_path_core.proofs.Words.{IsComparedAs, IsTypedComparable}
 use Rattle.serde_json_path_core.proofs.Meaning.AnswerKinds.{compared_there}
 use Rattle.serde_json_path_core.proofs.Meaning.Derived.{compared_right}
 use Rattle.serde_json_path_core.proofs.laws.law_not_equal_negates_equal.Goals as goal

@@ -1,4 +1,4 @@
-use Rattle.serde_json_path_core.specs.Inside.Computed.{results}
+use Rattle.serde_json_path_core.proofs.Words.{results}
 use Rattle.serde_json_path_core.proofs.Meaning.Derived.{computed_result}
 use Rattle.serde_json_path_core.proofs.laws.law_result_exists.Goals as goal
 

@@ -1,15 +1,9 @@
 -- The result of a singular query has one node at most: its computed list has.
 use Rattle.std.proofs.Common.{ℕ, ◌≤◌, List, [], ◌∷◌, ◌++◌, length, map, flat_map, Option, Some, None, option_to_list, sym, subst, arith}
-use Rattle.std.proofs.lemmas.List.{append-nil}
-use Rattle.serde_json.specs.Data.{Data}
-use Rattle.serde_json_path_nodes.specs.Location.{by_name, Located}
-use Rattle.serde_json_path_syntax.specs.Tree.{Query, query, Segments, no_segments, segment, child, descendant, Segment, dot_name, long_hand, no_selectors, selector, name, index, IsSingularSegment, AreSingular, IsSingular}
-use Rattle.serde_json_path_syntax.specs.Typing.{AreTypedSegments, IsTypedSegment}
-use Rattle.serde_json_path_functions.specs.Functions.{Signature, FunctionSet}
-use Rattle.serde_json_path_core.specs.Derivation.{start_of}
-use Rattle.serde_json_path_core.specs.Meaning.{IsResult}
-use Rattle.serde_json_path_core.specs.Inside.Selected.{child_by, item_at}
-use Rattle.serde_json_path_core.specs.Inside.Computed.{chosen, itself, placed, results_from}
+use Rattle.serde_json_path_core.proofs.Words.{append-nil, Data, by_name, Located, Query, query, Segments, no_segments, segment, child, descendant, Segment}
+use Rattle.serde_json_path_core.proofs.Words.{dot_name, long_hand, no_selectors, selector, name, index, IsSingularSegment, AreSingular, IsSingular}
+use Rattle.serde_json_path_core.proofs.Words.{AreTypedSegments, IsTypedSegment, Signature, FunctionSet, start_of, IsResult, child_by, item_at, chosen, itself}
+use Rattle.serde_json_path_core.proofs.Words.{placed, results_from}
 use Rattle.serde_json_path_core.proofs.Meaning.Derived.{computed_only}
 use Rattle.serde_json_path_core.proofs.laws.law_singular_query_selects_at_most_one.Goals as goal
 

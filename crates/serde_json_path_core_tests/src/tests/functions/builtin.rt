@@ -109,6 +109,28 @@ fn signatures_have_eight_parameters_at_most(rt: HostRuntime) -> Result<(), Fail>
     Ok(())
 }
 
+/// Parameters and the type of a result, and whether a signature of them is that of `fn(Logical) -> Nodelist`.
+const SIGNATURES: &[(&[FunctionArgType], FunctionArgType, bool)] = &[
+    (&[Logical], Nodelist, true),
+    (&[Logical], Logical, false),
+    (&[Nodelist], Nodelist, false),
+    (&[], Nodelist, false),
+    (&[Logical, Logical], Nodelist, false),
+];
+
+#[test]
+fn signatures_are_the_same_by_their_types(rt: HostRuntime) {
+    for &(params, result, is_same) in SIGNATURES {
+        match (
+            Signature::new(&[Logical], Nodelist),
+            Signature::new(params, result),
+        ) {
+            (Some(one), Some(other)) => assert!(rt; one.is_same(&other) == is_same),
+            _ => assert!(rt; false, "a short signature is refused"),
+        }
+    }
+}
+
 #[test]
 fn types_by_default(rt: HostRuntime) -> Result<(), Fail> {
     assert_eq!(rt; LogicalType::default(), LogicalType::False);

@@ -1,9 +1,5 @@
 use Rattle.std.proofs.Common.{◌≡◌, ◌<◌, length, sym, ap, subst, ◌∙◌, arith, false}
-use Rattle.serde_json_path_parser.specs.Source.{greatest_usize}
-use Rattle.serde_json_path_parser.specs.Filters.{path_at}
-use Rattle.serde_json_path_parser.specs.Parse.{checked_view}
-use Rattle.serde_json_path_parser.specs.Inside.Giving.{Fails, IsRefused}
-use Rattle.serde_json_path_parser.specs.Parsing.{opens_after_root}
+use Rattle.serde_json_path_parser.proofs.Words.{greatest_usize, path_at, checked_view, Fails, IsRefused, opens_after_root}
 use Rattle.serde_json_path_parser.proofs.Grammar.Parses.{too_long, parsed, refused, too_long_reported, parsed_reported, refused_reported, within}
 use Rattle.serde_json_path_parser.proofs.parser.parse.Goals as goal
 

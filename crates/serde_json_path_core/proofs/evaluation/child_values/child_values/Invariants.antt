@@ -1,10 +1,5 @@
 use Rattle.std.proofs.Common.{◌≡◌, ◌++◌, length, map}
-use Rattle.serde_json.specs.View.{view}
-use Rattle.serde_json_path_nodes.specs.Location.{Step}
-use Rattle.serde_json.specs.Data.{Data}
-use Rattle.serde_json_path_nodes.specs.Views.{node_value}
-use Rattle.serde_json_path_core.specs.Inside.Computed.{children}
-use Rattle.serde_json_path_core.specs.Inside.Cursors.{cursor_left}
+use Rattle.serde_json_path_core.proofs.Words.{view, Step, Data, node_value, children, cursor_left}
 use Rattle.serde_json_path_core.proofs.evaluation.child_values.child_values.Given as goal
 
 abbrev pub invariant-loop-child : goal.invariant-loop-child

@@ -1,9 +1,5 @@
-use Rattle.serde_json_path_syntax.specs.Parts.{nodes_in}
-use Rattle.serde_json_path_syntax.proofs.Tree.BoundedParts.{within_bound}
+use Rattle.serde_json_path_core.proofs.Words.{nodes_in, within_bound, pieces, typed_segment, below_length, past_length}
 use Rattle.std.proofs.Common.{arith}
-use Rattle.serde_json_path_syntax.specs.Flat.{pieces}
-use Rattle.serde_json_path_syntax.proofs.Typing.TypedParts.{typed_segment}
-use Rattle.serde_json_path_syntax.proofs.Tree.Bounds.{below_length, past_length}
 use Rattle.serde_json_path_core.proofs.Walks.StageLists.{stages-from, stages-past}
 use Rattle.serde_json_path_core.proofs.evaluation.frame.begin.Goals as goal
 

@@ -1,12 +1,5 @@
 use Rattle.std.proofs.Common.{get_or, None, Some, ◌∙◌, arith}
-use Rattle.std.proofs.lemmas.List.{get_or_default}
-use Rattle.serde_json.specs.View.{view}
-use Rattle.serde_json_path_syntax.specs.Flat.{pieces}
-use Rattle.serde_json_path_syntax.specs.Parts.{nodes_in}
-use Rattle.serde_json_path_syntax.specs.declared.node.Part.{Part}
-use Rattle.serde_json_path_syntax.proofs.Tree.BoundedParts.{within_get}
-use Rattle.serde_json_path_syntax.proofs.Typing.TypedParts.{typed_segment}
-use Rattle.serde_json_path_core.specs.Inside.Views.{child_view}
+use Rattle.serde_json_path_core.proofs.Words.{get_or_default, view, pieces, nodes_in, Part, within_get, typed_segment, child_view}
 use Rattle.serde_json_path_core.proofs.Walks.InDocument.{child_stands}
 use Rattle.serde_json_path_core.proofs.Walks.SingleChildren.{child-selected, ends-at, goes_down}
 use Rattle.serde_json_path_core.proofs.evaluation.single_children.go_down.Goals as goal

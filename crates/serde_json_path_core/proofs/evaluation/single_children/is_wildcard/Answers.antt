@@ -1,8 +1,5 @@
 use Rattle.std.proofs.Common.{◌≡◌, ◌∷◌, [], slice_index_or, subst, refl}
-use Rattle.serde_json_path_syntax.specs.Parts.{nodes_in}
-use Rattle.serde_json_path_syntax.specs.Stages.{selector_view, stage_at}
-use Rattle.serde_json_path_syntax.specs.Tree.{child, wildcard}
-use Rattle.serde_json_path_syntax.specs.declared.node.Part.{Part}
+use Rattle.serde_json_path_core.proofs.Words.{nodes_in, selector_view, stage_at, child, wildcard, Part}
 use Rattle.serde_json_path_syntax.specs.declared.selector_ref.SelectorRef.{SelectorRef}
 use Rattle.serde_json_path_core.proofs.Walks.SingleChildren.{select-only}
 use Rattle.serde_json_path_core.proofs.evaluation.single_children.is_wildcard.Goals as goal

@@ -1,8 +1,5 @@
 use Rattle.std.proofs.Common.{◌-◌, ◌++◌, ◌∷◌, [], Bool, List, Some, drop, ap, sym, ◌∙◌, cond}
-use Rattle.serde_json_path_syntax.specs.Parts.{nodes_in}
-use Rattle.serde_json_path_syntax.specs.Stages.{stages_at}
-use Rattle.serde_json_path_core.specs.Inside.Frames.{frames_view, task_view}
-use Rattle.serde_json_path_core.specs.Inside.Rest.{entered, last_passed, Frame}
+use Rattle.serde_json_path_core.proofs.Words.{nodes_in, stages_at, frames_view, task_view, entered, last_passed, Frame}
 use Rattle.serde_json_path_core.proofs.Walks.LastFrames.{sees_passed_below}
 use Rattle.serde_json_path_core.proofs.evaluation.stack.enter.Goals as goal
 

@@ -1,7 +1,5 @@
 use Rattle.std.proofs.Common.{◌≡◌, [], map, drop}
-use Rattle.serde_json_path_nodes.specs.Views.{step_view}
-use Rattle.serde_json_path_core.specs.Inside.Rest.{stack_path}
-use Rattle.serde_json_path_core.specs.Inside.Frames.{frames_view}
+use Rattle.serde_json_path_core.proofs.Words.{step_view, stack_path, frames_view}
 use Rattle.serde_json_path_core.proofs.evaluation.stack.located_at.Given as goal
 
 abbrev pub invariant-loop-frame : goal.invariant-loop-frame

@@ -1,9 +1,5 @@
 use Rattle.std.proofs.Common.{◌-◌, take, option_map, ap, sym, ◌∙◌}
-use Rattle.std.proofs.lemmas.List.{length-map}
-use Rattle.std.specs.List.{take-map}
-use Rattle.serde_json_path_nodes.specs.Views.{step_view}
-use Rattle.serde_json_path_core.specs.Inside.Frames.{frame_view, frames_view}
-use Rattle.serde_json_path_core.specs.Inside.Rest.{without_node}
+use Rattle.serde_json_path_core.proofs.Words.{length-map, take-map, step_view, frame_view, frames_view, without_node}
 use Rattle.serde_json_path_core.proofs.evaluation.stack.pass_found.Goals as goal
 
 pub returns-in-None : goal.returns-in-None

@@ -1,7 +1,5 @@
 use Rattle.std.proofs.Common.{◌≡◌, length}
-use Rattle.std.specs.Slice.Iter.{iter_rest}
-use Rattle.serde_json.specs.View.{items_view, members_view}
-use Rattle.serde_json_path_core.specs.Inside.Computed.{same_items, same_members}
+use Rattle.serde_json_path_core.proofs.Words.{iter_rest, items_view, members_view, same_items, same_members}
 use Rattle.serde_json_path_core.proofs.filter.equality.+same.Given as goal
 
 abbrev pub invariant-same_items-loop-item : goal.invariant-same_items-loop-item

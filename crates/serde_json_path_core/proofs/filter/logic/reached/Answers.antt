@@ -1,9 +1,7 @@
 use Rattle.std.proofs.Common.{ap, ◌∙◌, arith}
-use Rattle.serde_json.specs.View.{view}
-use Rattle.serde_json_path_syntax.specs.Flat.{part_query, pieces, segments_at, kind_view}
-use Rattle.serde_json_path_core.specs.PatternCalls.{StandsIn}
-use Rattle.serde_json_path_core.specs.Derivation.{start_of}
-use Rattle.serde_json_path_core.specs.Inside.Scopes.{nodes_of, query_of, set_of, top_of}
+use Rattle.serde_json_path_core.proofs.Words.{view, part_query, pieces, segments_at, StandsIn, start_of, nodes_of, top_of}
+use Rattle.serde_json_path_syntax.specs.Flat.{kind_view}
+use Rattle.serde_json_path_core.specs.Inside.Scopes.{query_of, set_of}
 use Rattle.serde_json_path_core.proofs.Sound.Parts.{bound-ends, sound-ends, sound-segments}
 use Rattle.serde_json_path_core.proofs.Walks.InDocument.{start_stands}
 use Rattle.serde_json_path_core.proofs.Walks.SingleChildren.{values-query}

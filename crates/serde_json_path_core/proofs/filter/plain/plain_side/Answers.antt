@@ -1,11 +1,8 @@
 use Rattle.std.proofs.Common.{◌≡◌, ◌∙◌, length, Some, ap, arith, rules}
-use Rattle.serde_json.specs.View.{view}
-use Rattle.serde_json_path_syntax.specs.Flat.{comparable_at, part_query}
-use Rattle.serde_json_path_syntax.specs.Tree.{singular}
-use Rattle.serde_json_path_core.specs.Compared.{value, value_compared}
+use Rattle.serde_json_path_core.proofs.Words.{view, comparable_at, part_query, singular, value_compared, compared_at, nodes_of, top_of}
+use Rattle.serde_json_path_core.specs.Compared.{value}
 use Rattle.serde_json_path_core.specs.Inside.Computed as computed
-use Rattle.serde_json_path_core.specs.Inside.Evaluates.{compared_at}
-use Rattle.serde_json_path_core.specs.Inside.Scopes.{nodes_of, set_of, top_of}
+use Rattle.serde_json_path_core.specs.Inside.Scopes.{set_of}
 use Rattle.serde_json_path_core.proofs.Walks.SingleChildren.{first-reached}
 use Rattle.serde_json_path_core.proofs.filter.plain.plain_side.Goals as goal
 

@@ -1,5 +1,5 @@
-use Rattle.serde_json_path_syntax.specs.Flat.{part_query, segments_at}
-use Rattle.serde_json_path_core.specs.Inside.Scopes.{nodes_of, query_of, set_of}
+use Rattle.serde_json_path_core.proofs.Words.{part_query, segments_at, nodes_of}
+use Rattle.serde_json_path_core.specs.Inside.Scopes.{query_of, set_of}
 use Rattle.serde_json_path_core.proofs.Sound.Parts.{sound-segments}
 use Rattle.serde_json_path_core.proofs.filter.single_comparison.child_of_current.Goals as goal
 

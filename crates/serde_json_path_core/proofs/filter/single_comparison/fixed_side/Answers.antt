@@ -1,8 +1,6 @@
 use Rattle.std.proofs.Common.{◌≡◌, rules, subst}
-use Rattle.serde_json_path_syntax.specs.Flat.{comparable_at, part_query}
-use Rattle.serde_json_path_syntax.specs.Tree.{singular}
-use Rattle.serde_json_path_syntax.specs.Typing.{IsTypedComparable}
-use Rattle.serde_json_path_core.specs.Inside.Scopes.{nodes_of, set_of}
+use Rattle.serde_json_path_core.proofs.Words.{comparable_at, part_query, singular, IsTypedComparable, nodes_of}
+use Rattle.serde_json_path_core.specs.Inside.Scopes.{set_of}
 use Rattle.serde_json_path_core.proofs.filter.single_comparison.fixed_side.Goals as goal
 
 pub part_kind-requires-clause-typed : goal.part_kind-requires-clause-typed

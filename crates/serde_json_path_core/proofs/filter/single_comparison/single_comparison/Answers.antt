@@ -1,14 +1,7 @@
 use Rattle.std.proofs.Common.{◌≡◌, ◌<◌, length, arith, rules, slice_index_or, subst}
-use Rattle.std.proofs.lemmas.Grind.{common_steps}
-use Rattle.serde_json_path_syntax.specs.Calls.{calls_in_or}
-use Rattle.serde_json_path_syntax.specs.Flat.{basic_at, comparable_at, or_at, pieces}
-use Rattle.serde_json_path_syntax.specs.Literals.{operator_view}
-use Rattle.serde_json_path_syntax.specs.Tree.{and, no_and, no_or, or, relation}
-use Rattle.serde_json_path_syntax.specs.Typing.{IsTypedOr}
-use Rattle.serde_json_path_syntax.specs.declared.node.Part.{Part}
-use Rattle.serde_json_path_core.specs.Inside.Evaluates.{Sound}
-use Rattle.serde_json_path_core.specs.Inside.Scopes.{nodes_of, query_of, set_of, top_of}
-use Rattle.serde_json_path_syntax.proofs.Tree.BoundedParts.{within_get}
+use Rattle.serde_json_path_core.proofs.Words.{common_steps, calls_in_or, basic_at, comparable_at, or_at, pieces, operator_view, and, no_and, no_or, or}
+use Rattle.serde_json_path_core.proofs.Words.{relation, IsTypedOr, Part, Sound, nodes_of, top_of, within_get}
+use Rattle.serde_json_path_core.specs.Inside.Scopes.{query_of, set_of}
 use Rattle.serde_json_path_core.proofs.Sound.Parts.{sound-and, sound-sides}
 use Rattle.serde_json_path_core.proofs.Steps.SingleOperands.{one-comparison, only-comparison}
 use Rattle.serde_json_path_core.proofs.filter.single_comparison.single_comparison.Goals as goal

@@ -1,8 +1,6 @@
 use Rattle.std.proofs.Common.{refl, sym, ap, ◌∙◌, Ok}
-use Rattle.std.specs.Prelude.{string_bytes}
+use Rattle.serde_json_path_parser.proofs.Words.{string_bytes, a_literal, left}
 use Rattle.serde_json_path_syntax.specs.Tree as tree
-use Rattle.serde_json_path_parser.specs.Operands.{a_literal}
-use Rattle.serde_json_path_parser.specs.Inside.Reading.{left}
 use Rattle.serde_json_path_parser.proofs.Steps.Growth.{grows_none}
 use Rattle.serde_json_path_parser.proofs.Steps.Operands.{text_reads}
 use Rattle.serde_json_path_parser.proofs.parser.operand.parse_text.Goals as goal

@@ -1,18 +1,10 @@
 use Rattle.std.proofs.Common.{◌≡◌, ◌∙◌, [], true≢false, Ok, sym, ap, subst, arith}
-use Rattle.std.proofs.lemmas.Result.{err_from_is_err_and}
-use Rattle.serde_json_path_syntax.specs.Flat.{parts_in}
-use Rattle.serde_json_path_syntax.specs.Tree.{query, root}
-use Rattle.serde_json_path_syntax.specs.Used.{AreCalled}
-use Rattle.serde_json_path_functions.specs.Functions.{Fits}
+use Rattle.serde_json_path_parser.proofs.Words.{err_from_is_err_and, parts_in, query, root, AreCalled, Fits, segments_at, segment_list, left, calls_in}
+use Rattle.serde_json_path_parser.proofs.Words.{calls_in_segments, Grows}
 use Rattle.serde_json_path_parser.specs.declared.error.Context.TheVariants as context
 use Rattle.serde_json_path_parser.specs.Filters as filters
-use Rattle.serde_json_path_parser.specs.Parsing.{segments_at, segment_list}
-use Rattle.serde_json_path_parser.specs.Inside.Reading.{left}
 use Rattle.serde_json_path_parser.proofs.Steps.PartLists.{no_part, no_segment}
 use Rattle.serde_json_path_parser.proofs.Grammar.Paths.{all_read, none_read, path_ends, path_sound}
-use Rattle.serde_json_path_syntax.specs.Parts.{calls_in}
-use Rattle.serde_json_path_syntax.specs.Calls.{calls_in_segments}
-use Rattle.serde_json_path_parser.specs.Inside.Giving.{Grows}
 use Rattle.serde_json_path_syntax.proofs.Names.Once.{called_once, each_fits, fits_once}
 use Rattle.serde_json_path_parser.proofs.Steps.Growth.{all_declared, finishes}
 use Rattle.serde_json_path_parser.proofs.parser.query.parse_path.Goals as goal

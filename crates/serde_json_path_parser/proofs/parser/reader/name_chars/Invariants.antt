@@ -1,9 +1,6 @@
 use Rattle.std.proofs.Common.{◌≡◌, ◌++◌, length}
-use Rattle.std.specs.Prelude.{None, IsOk, string_bytes}
-use Rattle.std.specs.Str.{encode_utf8_all}
-use Rattle.serde_json_path_parser.specs.Lexical.{is_name_char}
-use Rattle.serde_json_path_parser.specs.Parsed.{front, past}
-use Rattle.serde_json_path_parser.specs.Inside.Reading.{left, Moves}
+use Rattle.std.specs.Prelude.{IsOk}
+use Rattle.serde_json_path_parser.proofs.Words.{None, string_bytes, encode_utf8_all, is_name_char, front, past, left, Moves}
 use Rattle.serde_json_path_parser.proofs.parser.reader.name_chars.Given as goal
 
 abbrev pub invariant-loop-pushed : goal.invariant-loop-pushed

@@ -1,5 +1,5 @@
 use Rattle.std.proofs.Common.{rules}
-use Rattle.serde_json_path_parser.specs.Parsing.{descendant_at}
+use Rattle.serde_json_path_parser.proofs.Words.{descendant_at}
 use Rattle.serde_json_path_parser.proofs.parser.segment.parse_descendant.Goals as goal
 
 pub returns-in_err-segment-clause-gives : goal.returns-in_err-segment-clause-gives

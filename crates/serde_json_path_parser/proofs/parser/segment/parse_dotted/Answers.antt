@@ -1,8 +1,6 @@
 use Rattle.std.proofs.Common.{◌∙◌, sym}
-use Rattle.std.specs.Prelude.{string_bytes}
-use Rattle.serde_json_path_syntax.specs.Flat.{segment_kind_view}
+use Rattle.serde_json_path_parser.proofs.Words.{string_bytes, segment_kind_view, left}
 use Rattle.serde_json_path_syntax.specs.Tree as tree
-use Rattle.serde_json_path_parser.specs.Inside.Reading.{left}
 use Rattle.serde_json_path_parser.proofs.Steps.Growth.{grows_leaf}
 use Rattle.serde_json_path_parser.proofs.Steps.Segments.{wildcard_reads, name_reads}
 use Rattle.serde_json_path_parser.proofs.parser.segment.parse_dotted.Goals as goal

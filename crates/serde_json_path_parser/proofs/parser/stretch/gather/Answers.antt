@@ -1,9 +1,5 @@
 use Rattle.std.proofs.Common.{◌≡◌, ℕ, ◌<◌, ◌+◌, ◌-◌, List, length, set, Some, sym, ap, subst, ◌∙◌, arith}
-use Rattle.std.specs.Prelude.{slice_get}
-use Rattle.std.proofs.lemmas.List.{length-set}
-use Rattle.std.proofs.lemmas.Option.{slice_get-get_or}
-use Rattle.serde_json_path_parser.specs.Source.{Told}
-use Rattle.serde_json_path_parser.specs.Inside.Stretches.{Gathered}
+use Rattle.serde_json_path_parser.proofs.Words.{slice_get, length-set, slice_get-get_or, Told, Gathered}
 use Rattle.serde_json_path_parser.proofs.Texts.Stretches.{more_gathered, looked_on}
 use Rattle.serde_json_path_parser.proofs.parser.stretch.gather.Goals as goal
 

@@ -1,6 +1,5 @@
 use Rattle.std.proofs.Common.{◌≡◌, ◌<◌, ◌≤◌, ◌+◌, ◌-◌, length}
-use Rattle.serde_json_path_parser.specs.Inside.Stretches.{Gathered}
-use Rattle.serde_json_path_parser.specs.Inside.Looking.{LooksOn}
+use Rattle.serde_json_path_parser.proofs.Words.{Gathered, LooksOn}
 use Rattle.serde_json_path_parser.proofs.parser.stretch.gather.Given as goal
 
 abbrev pub invariant-loop-at : goal.invariant-loop-at

@@ -1,5 +1,5 @@
 use Rattle.std.proofs.Common.{ap, sym, ◌∙◌, drop}
-use Rattle.serde_json_path_core.specs.Inside.Cursors.{cursor_left}
+use Rattle.serde_json_path_core.proofs.Words.{cursor_left}
 use Rattle.serde_json_path_core.proofs.Steps.Positions.{items-passed}
 use Rattle.serde_json_path_core.proofs.evaluation.cursor.Cursor.pass.Goals as goal
 

@@ -1,10 +1,6 @@
 use Rattle.std.proofs.Common.{◌≡◌, ap, sym, ◌∙◌}
-use Rattle.serde_json.specs.Events.{items_len}
-use Rattle.serde_json.specs.View.{view, items_view}
-use Rattle.serde_json.proofs.Views.{view-Array, items_len-items_view}
-use Rattle.serde_json_path_core.specs.Slices.{step_of}
-use Rattle.serde_json_path_syntax.specs.SliceView.{slice_view}
-use Rattle.serde_json_path_core.specs.Inside.Computed.{positions_by, at_positions, sliced}
+use Rattle.serde_json_path_core.proofs.Words.{items_len, view, items_view, view-Array, items_len-items_view, step_of, slice_view, positions_by, at_positions}
+use Rattle.serde_json_path_core.proofs.Words.{sliced}
 use Rattle.serde_json_path_core.specs.Inside.PositionViews.{positions_left}
 use Rattle.serde_json_path_core.proofs.evaluation.cursor.Cursor.slice.Goals as goal
 

@@ -1,7 +1,5 @@
 use Rattle.std.proofs.Common.{◌≡◌, pos, SFits, w64, ap, ◌∙◌, sym, rules}
-use Rattle.std.proofs.lemmas.Int.{to_z-of_z}
-use Rattle.serde_json_path_syntax.specs.SliceView.{slice_view}
-use Rattle.serde_json_path_core.specs.Inside.Computed.{count_within}
+use Rattle.serde_json_path_core.proofs.Words.{to_z-of_z, slice_view, count_within}
 use Rattle.serde_json_path_core.proofs.Steps.Positions.{top_of, bottom_of, top_of-none, bottom_of-none, falling-counted}
 use Rattle.serde_json_path_core.proofs.evaluation.slice_positions.SlicePositions.falling.Goals as goal
 use Rattle.serde_json_path_core.proofs.evaluation.slice_positions.SlicePositions.falling.Goals.{in-None, in-Some, in-None-end, in-Some-end}

@@ -1,7 +1,5 @@
 use Rattle.std.proofs.Common.{◌≡◌, ◌-◌, ◌^◌, ◌<◌, length, drop, inl, inr, ap, ◌∙◌, sym, arith, rules}
-use Rattle.serde_json.specs.View.{items_view}
-use Rattle.serde_json.specs.declared.value.Value.TheVariants.{Null}
-use Rattle.serde_json_path_core.specs.Inside.Computed.{strided, next_position}
+use Rattle.serde_json_path_core.proofs.Words.{items_view, Null, strided, next_position}
 use Rattle.serde_json_path_core.proofs.Steps.Positions.{strided-none, strided-first, strided-up, strided-down}
 use Rattle.serde_json_path_core.proofs.evaluation.slice_positions.SlicePositions.pass.Goals as goal
 use Rattle.serde_json_path_core.proofs.evaluation.slice_positions.SlicePositions.pass.Goals.{then-self, else-self}

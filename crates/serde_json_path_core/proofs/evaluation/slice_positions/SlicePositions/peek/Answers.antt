@@ -1,7 +1,5 @@
 use Rattle.std.proofs.Common.{◌-◌, ◌∷◌, inl, inr, ap, ◌∙◌, sym}
-use Rattle.serde_json.specs.View.{view, items_view}
-use Rattle.serde_json_path_nodes.specs.Location.{by_position}
-use Rattle.serde_json_path_core.specs.Inside.Computed.{next_position, strided}
+use Rattle.serde_json_path_core.proofs.Words.{view, items_view, by_position, next_position, strided}
 use Rattle.serde_json_path_core.proofs.Steps.Positions.{first_is, strided-none, strided-first}
 use Rattle.serde_json_path_core.proofs.evaluation.slice_positions.SlicePositions.peek.Goals as goal
 

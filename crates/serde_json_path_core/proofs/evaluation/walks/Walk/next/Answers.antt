@@ -1,19 +1,11 @@
 use Rattle.std.proofs.Common.{◌∷◌, rules, arith, sym, ap, subst, ◌∙◌, ◌<◌, option_map}
-use Rattle.std.proofs.Math.Logic.{∥∥₁_map}
-use Rattle.serde_json.specs.View.{view}
-use Rattle.serde_json_path_nodes.specs.Views.{step_view}
-use Rattle.serde_json_path_syntax.specs.Flat.{segments_at}
-use Rattle.serde_json_path_syntax.specs.Parts.{nodes_in, signatures_of}
-use Rattle.serde_json_path_core.specs.Walks.{set_of, query_of, document_of}
-use Rattle.serde_json_path_core.specs.Inside.Rest.{rest_of, IsStack, IsStackIn}
-use Rattle.serde_json_path_syntax.specs.Stages.{stages, stages_at}
-use Rattle.serde_json_path_core.specs.Inside.Frames.{frames_view}
+use Rattle.serde_json_path_core.proofs.Words.{∥∥₁_map, view, step_view, segments_at, nodes_in, signatures_of, document_of, rest_of, IsStack, IsStackIn, stages}
+use Rattle.serde_json_path_core.proofs.Words.{stages_at, frames_view, segments_of, node_at, work}
+use Rattle.serde_json_path_core.specs.Walks.{set_of, query_of}
 use Rattle.serde_json_path_core.proofs.Sound.Parts.{sound-segments}
 use Rattle.serde_json_path_core.proofs.Walks.InDocument.{root_stands}
 use Rattle.serde_json_path_core.proofs.Sound.WholeQueries.{whole-sound}
 use Rattle.serde_json_path_core.proofs.Steps.KnownCases.{found-none, found-some, if-err}
-use Rattle.serde_json_path_syntax.specs.Tree.{segments_of}
-use Rattle.serde_json_path_core.specs.Inside.Rest.{node_at, work}
 use Rattle.serde_json_path_core.proofs.evaluation.walks.Walk.next.Goals as goal
 
 pub find_next-requires : goal.find_next-requires
@@ -28,31 +20,31 @@ pub pass_found-requires : goal.pass_found-requires
 pass_found-requires g c = (found-some _ _ c.in_ok-find_next.field-0 c.in-Some.found c.in-Some.is c.in_ok-find_next.ensures.found).0
 
 pub invariant_of-self : goal.invariant_of-self
-invariant_of-self g c = record { stack = ∥∥₁_map c.args.self.now.stack (c.find_next.ensures.stack (view c.args.self.now.scope.root.now)) }
+invariant_of-self g c = record { stack = ∥∥₁_map c.args.self.now.stack (c.find_next.ensures.kept.2 (view c.args.self.now.scope.root.now)) }
 
 pub invariant_of-self-in-Some : goal.invariant_of-self-in-Some
 invariant_of-self-in-Some g c =
     let w = c.args.self.now in
     let start = view w.scope.root.now in
     let at = found-some _ _ c.in_ok-find_next.field-0 c.in-Some.found c.in-Some.is c.in_ok-find_next.ensures.found in
-    record { stack = ∥∥₁_map w.stack (λ h. subst (IsStack start) (sym c.pass_found.ensures) (at.1.2 start (c.find_next.ensures.stack start h))) }
+    record { stack = ∥∥₁_map w.stack (λ h. subst (IsStack start) (sym c.pass_found.ensures) (at.1.2 start (c.find_next.ensures.kept.2 start h))) }
 
 pub invariant_of-self-in-Break-branch-3 : goal.invariant_of-self-in-Break-branch-3
-invariant_of-self-in-Break-branch-3 g c = record { stack = ∥∥₁_map c.args.self.now.stack (c.find_next.ensures.stack (view c.args.self.now.scope.root.now)) }
+invariant_of-self-in-Break-branch-3 g c = record { stack = ∥∥₁_map c.args.self.now.stack (c.find_next.ensures.kept.2 (view c.args.self.now.scope.root.now)) }
 
 pub returns-in_err-find_next-clause-unchanged : goal.returns-in_err-find_next-clause-unchanged
 returns-in_err-find_next-clause-unchanged g c =
-    if-err _ c.from_residual.result (rw (← c.segments-segments.ensures.tree) (sym c.find_next.ensures.rest))
+    if-err _ c.from_residual.result (rw (← c.segments-segments.ensures.tree) (sym c.find_next.ensures.kept.0))
 
 pub returns-in_err-node-in-Some-clause-unchanged : goal.returns-in_err-node-in-Some-clause-unchanged
 returns-in_err-node-in-Some-clause-unchanged g c =
-    if-err _ c.from_residual-in_err-node-in-Some.result (rw (← c.segments-segments.ensures.tree) (sym c.find_next.ensures.rest))
+    if-err _ c.from_residual-in_err-node-in-Some.result (rw (← c.segments-segments.ensures.tree) (sym c.find_next.ensures.kept.0))
 
 pub returns-in-None-clause-given : goal.returns-in-None-clause-given
 returns-in-None-clause-given g c =
     let w = c.args.self.now in
     let none = ap frames_view (found-none _ _ c.in_ok-find_next.field-0 c.in-None.is c.in_ok-find_next.ensures.found) in (
-      rw (← c.segments-segments.ensures.tree) (c.find_next.ensures.rest ∙ ap (rest_of (set_of w) (document_of w) (stages_at (nodes_in w.scope.query.now) c.segments-segments.result.now)) none),
+      rw (← c.segments-segments.ensures.tree) (c.find_next.ensures.kept.0 ∙ ap (rest_of (set_of w) (document_of w) (stages_at (nodes_in w.scope.query.now) c.segments-segments.result.now)) none),
       ap (rest_of (set_of w) (document_of w) (stages (segments_of (query_of w)))) none,
     )
 
@@ -65,7 +57,7 @@ returns-in_ok-node-in-Some-clause-given g c =
     let at = found-some _ _ c.in_ok-find_next.field-0 found c.in-Some.is c.in_ok-find_next.ensures.found in
     let node = c.in_ok-node-in-Some.ensures.node ∙ ap (λ fs. node_at (frames_view fs) (option_map step_view found.step) (view found.value.now)) c.as_slice.ensures.value in
     rw (← c.segments-segments.ensures.tree)
-    (c.find_next.ensures.rest ∙ at.1.0
+    (c.find_next.ensures.kept.0 ∙ at.1.0
     ∙ ap (λ left. node_at (frames_view frames) (option_map step_view found.step) (view found.value.now) ∷ rest left) (sym c.pass_found.ensures)
     ∙ ap (λ n. n ∷ rest (frames_view c.pass_found.new.frames.items)) (sym node))
 
@@ -74,5 +66,5 @@ returns-in_ok-node-in-Some-clause-nearer g c =
     let all = stages_at (nodes_in c.args.self.now.scope.query.now) c.segments-segments.result.now in
     let at = found-some _ _ c.in_ok-find_next.field-0 c.in-Some.found c.in-Some.is c.in_ok-find_next.ensures.found in
     let fewer = subst (λ left. work all left < work all (frames_view c.find_next.new.frames.items)) (sym c.pass_found.ensures) at.1.1 in
-    let less = c.find_next.ensures.less in
+    let less = c.find_next.ensures.kept.1 in
     rw (← c.segments-segments.ensures.tree) (omega arith)

@@ -1,18 +1,11 @@
 use Rattle.std.proofs.Common.{◌∷◌, rules, arith, sym, ap, subst, ◌∙◌, ◌<◌, option_map, refl}
-use Rattle.std.proofs.Math.Logic.{∥∥₁_map}
-use Rattle.serde_json.specs.View.{view}
-use Rattle.serde_json_path_nodes.specs.Views.{step_view}
-use Rattle.serde_json_path_syntax.specs.Flat.{segments_at}
-use Rattle.serde_json_path_syntax.specs.Parts.{nodes_in, signatures_of}
-use Rattle.serde_json_path_core.specs.Walks.{set_of, query_of, document_of}
-use Rattle.serde_json_path_core.specs.Inside.Rest.{rest_of, IsStack, IsStackIn}
-use Rattle.serde_json_path_syntax.specs.Stages.{stages_at}
-use Rattle.serde_json_path_core.specs.Inside.Frames.{frames_view}
+use Rattle.serde_json_path_core.proofs.Words.{∥∥₁_map, view, step_view, segments_at, nodes_in, signatures_of, document_of, rest_of, IsStack, IsStackIn}
+use Rattle.serde_json_path_core.proofs.Words.{stages_at, frames_view, node_at, work}
+use Rattle.serde_json_path_core.specs.Walks.{set_of, query_of}
 use Rattle.serde_json_path_core.proofs.Sound.Parts.{sound-segments}
 use Rattle.serde_json_path_core.proofs.Walks.InDocument.{root_stands}
 use Rattle.serde_json_path_core.proofs.Sound.WholeQueries.{whole-sound}
 use Rattle.serde_json_path_core.proofs.Steps.KnownCases.{found-none, found-some}
-use Rattle.serde_json_path_core.specs.Inside.Rest.{node_at, work}
 use Rattle.serde_json_path_core.proofs.evaluation.walks.Walk.next_value.Goals as goal
 
 pub find_next-requires : goal.find_next-requires
@@ -27,20 +20,20 @@ pub pass_found-requires : goal.pass_found-requires
 pass_found-requires g c = (found-some _ _ c.in_ok-find_next.field-0 c.in-Some.found c.in-Some.is c.in_ok-find_next.ensures.found).0
 
 pub invariant_of-self : goal.invariant_of-self
-invariant_of-self g c = record { stack = ∥∥₁_map c.args.self.now.stack (c.find_next.ensures.stack (view c.args.self.now.scope.root.now)) }
+invariant_of-self g c = record { stack = ∥∥₁_map c.args.self.now.stack (c.find_next.ensures.kept.2 (view c.args.self.now.scope.root.now)) }
 
 pub invariant_of-self-in-Some : goal.invariant_of-self-in-Some
 invariant_of-self-in-Some g c =
     let w = c.args.self.now in
     let start = view w.scope.root.now in
     let at = found-some _ _ c.in_ok-find_next.field-0 c.in-Some.found c.in-Some.is c.in_ok-find_next.ensures.found in
-    record { stack = ∥∥₁_map w.stack (λ h. subst (IsStack start) (sym c.pass_found.ensures) (at.1.2 start (c.find_next.ensures.stack start h))) }
+    record { stack = ∥∥₁_map w.stack (λ h. subst (IsStack start) (sym c.pass_found.ensures) (at.1.2 start (c.find_next.ensures.kept.2 start h))) }
 
 pub returns-in-None-clause-given : goal.returns-in-None-clause-given
 returns-in-None-clause-given g c =
     let w = c.args.self.now in
     let none = ap frames_view (found-none _ _ c.in_ok-find_next.field-0 c.in-None.is c.in_ok-find_next.ensures.found) in
-    rw (← c.segments.ensures.tree) (c.find_next.ensures.rest ∙ ap (rest_of (set_of w) (document_of w) (stages_at (nodes_in w.scope.query.now) c.segments.result.now)) none)
+    rw (← c.segments.ensures.tree) (c.find_next.ensures.kept.0 ∙ ap (rest_of (set_of w) (document_of w) (stages_at (nodes_in w.scope.query.now) c.segments.result.now)) none)
 
 pub returns-in-Some-clause-given : goal.returns-in-Some-clause-given
 returns-in-Some-clause-given g c =
@@ -49,12 +42,12 @@ returns-in-Some-clause-given g c =
     let found = c.in-Some.found in
     let at = found-some _ _ c.in_ok-find_next.field-0 found c.in-Some.is c.in_ok-find_next.ensures.found in
     let node = node_at (frames_view c.find_next.new.frames.items) (option_map step_view found.step) (view found.value.now) in
-    (node, refl, rw (← c.segments.ensures.tree) (c.find_next.ensures.rest ∙ at.1.0 ∙ ap (λ left. node ∷ rest left) (sym c.pass_found.ensures)))
+    (node, refl, rw (← c.segments.ensures.tree) (c.find_next.ensures.kept.0 ∙ at.1.0 ∙ ap (λ left. node ∷ rest left) (sym c.pass_found.ensures)))
 
 pub returns-in-Some-clause-nearer : goal.returns-in-Some-clause-nearer
 returns-in-Some-clause-nearer g c =
     let all = stages_at (nodes_in c.args.self.now.scope.query.now) c.segments.result.now in
     let at = found-some _ _ c.in_ok-find_next.field-0 c.in-Some.found c.in-Some.is c.in_ok-find_next.ensures.found in
     let fewer = subst (λ left. work all left < work all (frames_view c.find_next.new.frames.items)) (sym c.pass_found.ensures) at.1.1 in
-    let less = c.find_next.ensures.less in
+    let less = c.find_next.ensures.kept.1 in
     rw (← c.segments.ensures.tree) (omega arith)

@@ -1,7 +1,5 @@
 use Rattle.std.proofs.Common.{◌≡◌, ◌≤◌, ◌+◌, sym, subst, ◌∙◌, arith}
-use Rattle.std.proofs.lemmas.List.{length-map}
-use Rattle.serde_json.specs.View.{view}
-use Rattle.serde_json_path_core.specs.Inside.Frames.{frame_view, frames_view}
+use Rattle.serde_json_path_core.proofs.Words.{length-map, view, frame_view, frames_view}
 use Rattle.serde_json_path_core.proofs.Walks.Chains.{stack-height}
 use Rattle.serde_json_path_core.proofs.Walks.Heights.{height, at_most, computed_height, same_height}
 use Rattle.serde_json_path_core.proofs.evaluation.walks.Walk.places.Goals as goal

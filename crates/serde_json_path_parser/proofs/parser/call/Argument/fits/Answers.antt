@@ -1,7 +1,6 @@
 use Rattle.std.proofs.Common.{sym, ap, ◌∙◌}
-use Rattle.serde_json_path_functions.specs.Terms.{kind_view}
+use Rattle.serde_json_path_parser.proofs.Words.{kind_view, fits}
 use Rattle.serde_json_path_parser.specs.declared.parser.call.Argument.TheVariants as the_arguments
-use Rattle.serde_json_path_parser.specs.Operands.{fits}
 use Rattle.serde_json_path_parser.proofs.Steps.Calls.{literal_fits, query_fits}
 use Rattle.serde_json_path_parser.proofs.parser.call.Argument.fits.Goals as goal
 

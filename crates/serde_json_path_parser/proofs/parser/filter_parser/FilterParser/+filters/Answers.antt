@@ -1,30 +1,21 @@
 use Rattle.serde_json_path_parser.proofs.Reading.Steps.{same_fails}
 use Rattle.std.proofs.Common.{rules, ◌≡◌, ◌∙◌, ◌∷◌, [], true, false, Some, Ok, Err, ◌++◌, ◌≤◌, ◌<◌, length, refl, sym, ap, subst, map, drop, option_map, arith, true≢false}
-use Rattle.std.specs.Prelude.{◌||◌, string_bytes}
-use Rattle.std.proofs.lemmas.List.{nil_from_length, append-nil}
-use Rattle.std.proofs.lemmas.Result.{err_from_is_err_and}
-use Rattle.serde_json_path_syntax.specs.Calls.{calls_in_selector, calls_in_and, calls_in_basic}
-use Rattle.serde_json_path_syntax.specs.Literals.{literal_view, number_amount, operator_view}
-use Rattle.serde_json_path_syntax.specs.Parts.{AreArgumentsOf, ArePartsOf, AreSelectorsOf}
-use Rattle.serde_json_path_syntax.specs.Piece.{an_or, an_and, a_basic, a_comparable}
-use Rattle.serde_json_path_syntax.specs.Tree.{logical_argument, call, number}
-use Rattle.serde_json_path_functions.specs.Terms.{kind_view, signature_view}
-use Rattle.serde_json_path_parser.specs.Filters.{alone, basic_at, or_at, and_at, word, ended, arguments_at, parameters_at, level, and_list, or_list, named_at}
-use Rattle.serde_json_path_parser.specs.Inside.Giving.{MakesOperand, MakesArguments, StartsSegment, Makes, MakesFrom, segment_piece}
-use Rattle.serde_json_path_parser.specs.Inside.Levels.{signatures, deeper, at_level, filter_at}
-use Rattle.serde_json_path_parser.specs.Lexical.{is_at, are_at, begins, opens}
-use Rattle.serde_json_path_parser.specs.Operands.{a_literal, a_query, a_call, calls_in_operand}
-use Rattle.serde_json_path_parser.specs.Parsed.{byte_count, past_blanks}
-use Rattle.serde_json_path_parser.specs.Inside.Reading.{left}
+use Rattle.serde_json_path_parser.proofs.Words.{◌||◌, string_bytes, nil_from_length, append-nil, err_from_is_err_and, calls_in_selector, calls_in_and}
+use Rattle.serde_json_path_parser.proofs.Words.{calls_in_basic, literal_view, number_amount, operator_view, AreArgumentsOf, ArePartsOf, AreSelectorsOf, an_or}
+use Rattle.serde_json_path_parser.proofs.Words.{an_and, a_basic, a_comparable, logical_argument, call, number, kind_view, signature_view, alone, basic_at}
+use Rattle.serde_json_path_parser.proofs.Words.{or_at, and_at, word, ended, arguments_at, parameters_at, level, and_list, or_list, named_at, MakesOperand}
+use Rattle.serde_json_path_parser.proofs.Words.{MakesArguments, StartsSegment, Makes, MakesFrom, segment_piece, signatures, deeper, at_level, is_at, are_at}
+use Rattle.serde_json_path_parser.proofs.Words.{begins, opens, a_literal, a_call, calls_in_operand, byte_count, past_blanks, left, common_steps, parts_kept}
+use Rattle.serde_json_path_parser.proofs.Words.{opens_next, bracket_at, next_selector_at, selectors_at, selector_list, segment_at, next_segment_at, segments_at}
+use Rattle.serde_json_path_parser.proofs.Words.{segment_list}
+use Rattle.serde_json_path_parser.specs.Inside.Levels.{filter_at}
+use Rattle.serde_json_path_parser.specs.Operands.{a_query}
 use Rattle.serde_json_path_parser.proofs.Steps.Arguments as of_arguments
 use Rattle.serde_json_path_parser.proofs.Steps.Operands.{alone_is, alone_calls}
 use Rattle.serde_json_path_parser.proofs.Steps.CalledNames as of_calls
 use Rattle.serde_json_path_parser.proofs.Grammar.Levels.{level_laws}
 use Rattle.serde_json_path_parser.proofs.parser.filter_parser.FilterParser.+filters.Goals.{parse_argument-then-sees-via-then-sees, parse_argument-then-sees-via-else-sees+then-sees-2}
-use Rattle.std.proofs.lemmas.Grind.{common_steps}
 use Rattle.serde_json_path_syntax.specs.Flat.{parts_in, segment_kind_view, kind_view as query_kind_view}
-use Rattle.serde_json_path_syntax.proofs.Tree.NamedParts.{parts_kept}
-use Rattle.serde_json_path_parser.specs.Parsing.{opens_next, bracket_at, next_selector_at, selectors_at, selector_list, segment_at, next_segment_at, segments_at, segment_list}
 use Rattle.serde_json_path_parser.proofs.Reading.Regrouped.{no_longer}
 use Rattle.serde_json_path_parser.proofs.Grammar.Brackets.{is_comma}
 use Rattle.serde_json_path_parser.proofs.Steps.Growth.{grows_none, grows_kept, grows_same, grows_then, grows_call, from_first, made_from, made_then, made_after, more_segments, more_selectors, more_ors, more_ands}

@@ -1,16 +1,10 @@
 use Rattle.std.proofs.Common.{◌≡◌, ◌+◌, ◌*◌, ℕ, List, [], ◌∷◌, false, length}
-use Rattle.serde_json_path_syntax.specs.Calls.{calls_in_segments, calls_in_selectors, calls_in_or, calls_in_and, calls_in_basic}
-use Rattle.serde_json_path_syntax.specs.Flat.{parts_in}
-use Rattle.serde_json_path_syntax.specs.Tree.{SegmentKind, Segment, Selector, LogicalAnd, Basic}
-use Rattle.serde_json_path_syntax.specs.Parts.{IsPart, ArePartsOf, AreSelectorsOf, AreOrPartsOf, AreAndPartsOf}
-use Rattle.serde_json_path_syntax.specs.Piece.{an_and, a_basic}
-use Rattle.serde_json_path_parser.specs.Lexical.{are_at, begins, opens}
-use Rattle.serde_json_path_parser.specs.Filters.{and_list, or_list, next_basic_at, next_and_at}
-use Rattle.serde_json_path_parser.specs.Inside.Giving.{Grows, GrowsFrom}
-use Rattle.serde_json_path_parser.specs.Inside.Levels.{signatures, deeper, filter_at}
-use Rattle.serde_json_path_parser.specs.Parsed.{past_blanks, many, byte_count}
-use Rattle.serde_json_path_parser.specs.Parsing.{opens_next, next_selector_at, selectors_at, selector_list, segments_at, segment_list}
-use Rattle.serde_json_path_parser.specs.Inside.Reading.{left, Moves}
+use Rattle.serde_json_path_parser.proofs.Words.{calls_in_segments, calls_in_selectors, calls_in_or, calls_in_and, calls_in_basic, parts_in, SegmentKind}
+use Rattle.serde_json_path_parser.proofs.Words.{Segment, Selector, LogicalAnd, Basic, IsPart, ArePartsOf, AreSelectorsOf, AreOrPartsOf, AreAndPartsOf, an_and}
+use Rattle.serde_json_path_parser.proofs.Words.{a_basic, are_at, begins, opens, and_list, or_list, next_basic_at, next_and_at, Grows, GrowsFrom, signatures}
+use Rattle.serde_json_path_parser.proofs.Words.{deeper, past_blanks, many, byte_count, opens_next, next_selector_at, selectors_at, selector_list, segments_at}
+use Rattle.serde_json_path_parser.proofs.Words.{segment_list, left, Moves}
+use Rattle.serde_json_path_parser.specs.Inside.Levels.{filter_at}
 use Rattle.serde_json_path_parser.proofs.Grammar.Brackets.{is_comma}
 use Rattle.serde_json_path_parser.proofs.Reading.Many.{with_front}
 use Rattle.serde_json_path_parser.proofs.parser.filter_parser.FilterParser.+filters.Given as goal

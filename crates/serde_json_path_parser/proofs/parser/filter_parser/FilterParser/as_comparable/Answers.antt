@@ -1,9 +1,6 @@
 use Rattle.std.proofs.Common.{◌≡◌, Ok, sym, ap, subst}
 use Rattle.serde_json_path_syntax.specs.Tree as tree
-use Rattle.serde_json_path_parser.specs.Filters.{comparable_at}
-use Rattle.serde_json_path_parser.specs.Inside.Levels.{signatures, deeper}
-use Rattle.serde_json_path_parser.specs.Inside.Reading.{left}
-use Rattle.serde_json_path_parser.specs.Operands.{calls_in_operand}
+use Rattle.serde_json_path_parser.proofs.Words.{comparable_at, signatures, deeper, left, calls_in_operand}
 use Rattle.serde_json_path_parser.proofs.Steps.Operands.{query_is, compared, not_compared}
 use Rattle.serde_json_path_parser.proofs.parser.filter_parser.FilterParser.as_comparable.Goals as goal
 

@@ -1,7 +1,5 @@
 use Rattle.std.proofs.Common.{◌≡◌, sym, ◌∙◌, true, ◌-◌, ◌^◌, arith}
-use Rattle.std.proofs.lemmas.Grind.{common_steps}
-use Rattle.serde_json_path_parser.specs.Inside.Reading.{left}
-use Rattle.serde_json_path_parser.specs.Lexical.{begins, is_digit}
+use Rattle.serde_json_path_parser.proofs.Words.{common_steps, left, begins, is_digit}
 use Rattle.serde_json_path_parser.proofs.Reading.Runs.{digit_taken, past_more}
 use Rattle.serde_json_path_parser.proofs.parser.primitive.decimal.parse_decimal.Goals as goal
 

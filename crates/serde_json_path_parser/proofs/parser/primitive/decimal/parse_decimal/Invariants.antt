@@ -1,7 +1,5 @@
 use Rattle.std.proofs.Common.{◌≡◌, ◌≤◌, ◌^◌, ◌-◌, min, length}
-use Rattle.serde_json_path_parser.specs.Lexical.{is_digit, value_from}
-use Rattle.serde_json_path_parser.specs.Parsed.{front, past}
-use Rattle.serde_json_path_parser.specs.Inside.Reading.{left, Moves}
+use Rattle.serde_json_path_parser.proofs.Words.{is_digit, value_from, front, past, left, Moves}
 use Rattle.serde_json_path_parser.proofs.parser.primitive.decimal.parse_decimal.Given as goal
 
 abbrev pub invariant-loop-reader : goal.invariant-loop-reader

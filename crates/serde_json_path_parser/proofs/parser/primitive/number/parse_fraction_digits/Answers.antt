@@ -1,8 +1,5 @@
 use Rattle.std.proofs.Common.{◌≡◌, ◌-◌, ◌<◌, ◌≤◌, true, false, length, sym, ap, ◌∙◌, arith}
-use Rattle.serde_json_path_parser.specs.Lexical.{begins, is_digit}
-use Rattle.serde_json_path_parser.specs.Numbers.{is_exponent}
-use Rattle.serde_json_path_parser.specs.Parsed.{front, past}
-use Rattle.serde_json_path_parser.specs.Inside.Reading.{left}
+use Rattle.serde_json_path_parser.proofs.Words.{begins, is_digit, is_exponent, front, past, left}
 use Rattle.serde_json_path_parser.proofs.Grammar.Numbers.{counted, fraction_below, fraction_is, too_long, reads}
 use Rattle.serde_json_path_parser.proofs.Reading.Runs.{front_each}
 use Rattle.serde_json_path_parser.proofs.parser.primitive.number.parse_fraction_digits.Goals as goal

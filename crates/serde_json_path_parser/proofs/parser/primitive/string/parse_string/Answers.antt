@@ -1,10 +1,5 @@
 use Rattle.std.proofs.Common.{◌≡◌, true, false, drop, refl, sym, ap, ◌∙◌, arith, is_ok, rules}
-use Rattle.std.specs.Prelude.{string_bytes, ◌==◌}
-use Rattle.std.proofs.lemmas.Grind.{common_steps}
-use Rattle.std.proofs.lemmas.Result.{err_from_is_err_and}
-use Rattle.serde_json_path_parser.specs.Lexical.{begins}
-use Rattle.serde_json_path_parser.specs.Inside.Reading.{left}
-use Rattle.serde_json_path_parser.specs.Strings.{is_inside, string_at}
+use Rattle.serde_json_path_parser.proofs.Words.{string_bytes, ◌==◌, common_steps, err_from_is_err_and, begins, left, is_inside, string_at}
 use Rattle.serde_json_path_parser.proofs.Grammar.Strings.{piece_takes}
 use Rattle.serde_json_path_parser.proofs.Grammar.Strings as t
 use Rattle.serde_json_path_parser.proofs.parser.primitive.string.parse_string.Goals as goal

@@ -1,9 +1,5 @@
 use Rattle.std.proofs.Common.{◌≡◌, length}
-use Rattle.std.specs.Prelude.{string_bytes}
-use Rattle.serde_json_path_parser.specs.Lexical.{begins}
-use Rattle.serde_json_path_parser.specs.Parsed.{many}
-use Rattle.serde_json_path_parser.specs.Inside.Reading.{left, Moves}
-use Rattle.serde_json_path_parser.specs.Strings.{piece_at, is_inside, string_at}
+use Rattle.serde_json_path_parser.proofs.Words.{string_bytes, begins, many, left, Moves, piece_at, is_inside, string_at}
 use Rattle.serde_json_path_parser.proofs.Grammar.Strings.{with_text}
 use Rattle.serde_json_path_parser.proofs.parser.primitive.string.parse_string.Given as goal
 

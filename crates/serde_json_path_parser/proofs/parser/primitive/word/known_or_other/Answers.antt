@@ -1,8 +1,5 @@
 use Rattle.std.proofs.Common.{◌≡◌, ◌++◌, ◌-◌, ◌∙◌, true, false, length, take, ℕ, List, refl, sym, ap, inl, inr, arith}
-use Rattle.std.specs.List.{slice_range}
-use Rattle.serde_json_path_parser.specs.Lexical.{begins, is_function_char}
-use Rattle.serde_json_path_parser.specs.Filters.{word}
-use Rattle.serde_json_path_parser.specs.Inside.Reading.{left}
+use Rattle.serde_json_path_parser.proofs.Words.{slice_range, begins, is_function_char, word, left}
 use Rattle.serde_json_path_parser.proofs.Steps.Words.{ascii_at, common_fits, front_on, past_on, front_known, front_other}
 use Rattle.serde_json_path_parser.proofs.Reading.Runs.{past_end}
 use Rattle.serde_json_path_parser.proofs.parser.primitive.word.known_or_other.Goals as goal

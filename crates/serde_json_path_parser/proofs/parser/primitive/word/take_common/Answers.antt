@@ -1,9 +1,5 @@
 use Rattle.std.proofs.Common.{◌≡◌, ◌∙◌, ◌+◌, suc, true, drop, get_or, ◌==◌, sym, ap, arith}
-use Rattle.std.proofs.lemmas.Grind.{common_steps}
-use Rattle.std.proofs.lemmas.List.{drop-drop}
-use Rattle.serde_json_path_parser.specs.Lexical.{begins}
-use Rattle.serde_json_path_parser.specs.Inside.Reading.{left}
-use Rattle.serde_json_path_parser.specs.Inside.Words.{common}
+use Rattle.serde_json_path_parser.proofs.Words.{common_steps, drop-drop, begins, left, common}
 use Rattle.serde_json_path_parser.proofs.Steps.Words.{common_more}
 use Rattle.serde_json_path_parser.proofs.parser.primitive.word.take_common.Goals as goal
 

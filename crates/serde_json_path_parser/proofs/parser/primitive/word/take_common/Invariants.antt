@@ -1,6 +1,5 @@
 use Rattle.std.proofs.Common.{◌≡◌, ◌+◌, ◌-◌, length, drop}
-use Rattle.serde_json_path_parser.specs.Inside.Reading.{left, Moves}
-use Rattle.serde_json_path_parser.specs.Inside.Words.{common}
+use Rattle.serde_json_path_parser.proofs.Words.{left, Moves, common}
 use Rattle.serde_json_path_parser.proofs.parser.primitive.word.take_common.Given as goal
 
 abbrev pub invariant-loop-count : goal.invariant-loop-count

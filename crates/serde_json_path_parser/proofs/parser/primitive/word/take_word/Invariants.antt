@@ -1,7 +1,5 @@
 use Rattle.std.proofs.Common.{◌≡◌, ◌++◌, length}
-use Rattle.std.specs.Prelude.{string_bytes}
-use Rattle.serde_json_path_parser.specs.Filters.{word, past_word}
-use Rattle.serde_json_path_parser.specs.Inside.Reading.{left, Moves}
+use Rattle.serde_json_path_parser.proofs.Words.{string_bytes, word, past_word, left, Moves}
 use Rattle.serde_json_path_parser.proofs.parser.primitive.word.take_word.Given as goal
 
 abbrev pub invariant-loop-text : goal.invariant-loop-text

@@ -1,6 +1,5 @@
 use Rattle.std.proofs.Common.{refl}
-use Rattle.std.proofs.lemmas.List.{length-drop}
-use Rattle.std.proofs.lemmas.Str.{encodes-chars}
+use Rattle.serde_json_path_parser.proofs.Words.{length-drop, encodes-chars}
 use Rattle.serde_json_path_parser.proofs.Texts.FirstByte.{utf8_of}
 use Rattle.serde_json_path_parser.proofs.parser.reader.Reader.bytes_left.Goals as goal
 

@@ -1,6 +1,5 @@
 use Rattle.std.proofs.Common.{◌≡◌, length}
-use Rattle.serde_json_path_parser.specs.Parsed.{past_blanks}
-use Rattle.serde_json_path_parser.specs.Inside.Reading.{left, Moves}
+use Rattle.serde_json_path_parser.proofs.Words.{past_blanks, left, Moves}
 use Rattle.serde_json_path_parser.proofs.parser.reader.Reader.skip_blanks.Given as goal
 
 abbrev pub invariant-loop-self : goal.invariant-loop-self

@@ -1,0 +1,100 @@
+-- The words of definitions that proofs cite, from one place.
+pub use Rattle.std.proofs.Math.Logic.{∥∥₁_elim, ∥∥₁_map, ∥∥₁_map₂, ∥∥₁_prop}
+pub use Rattle.std.proofs.Math.Seq.{take-append_seam}
+pub use Rattle.std.proofs.lemmas.Bool.{cases_lt}
+pub use Rattle.std.proofs.lemmas.Bool.Decides.{Decides-and, Decides-eqb, Decides-int_eq, Decides-like, Decides-not, Decides-or, same_from_decides}
+pub use Rattle.std.proofs.lemmas.Cmp.{nat_list_cmp_total, tied_itself}
+pub use Rattle.std.proofs.lemmas.Grind.{common_steps, flat_map-append, not_there}
+pub use Rattle.std.proofs.lemmas.Int.{clamps, ints, to_z-of_z}
+pub use Rattle.std.proofs.lemmas.List.{append-nil, drop-drop, drop_all, drop_more, get_or_append_left, get_or_default, length-drop, length-map, length-set}
+pub use Rattle.std.proofs.lemmas.List.{length-take, map-append, map-id, set_at, take-append-drop, take_all}
+pub use Rattle.std.proofs.lemmas.List.Folds.{flat_map-map}
+pub use Rattle.std.proofs.lemmas.Map.Text.{is_eq-slice_cmp}
+pub use Rattle.std.proofs.lemmas.Option.{none-some, option_and_then_some, same_Some, slice_get_past, slice_get_read}
+pub use Rattle.std.proofs.lemmas.Simd.{map-map}
+pub use Rattle.std.proofs.lemmas.Slice.Eq.{bytes_eq-Decides}
+pub use Rattle.std.specs.BTreeMap.{insert_entry, is_at}
+pub use Rattle.std.specs.Bool.{Decides}
+pub use Rattle.std.specs.Borrow.{Bor}
+pub use Rattle.std.specs.Cmp.Lexicographic.{slice_cmp}
+pub use Rattle.std.specs.List.{AllByRecursion, AllZip, take-map}
+pub use Rattle.std.specs.Map.{keys_of, lookup}
+pub use Rattle.std.specs.Option.{option_map_or}
+pub use Rattle.std.specs.Ordering.{int_eq, is_lt, match_ordering, ordering_reverse}
+pub use Rattle.std.specs.Prelude.{IfSome, if◌then◌else◌, int_lt, is_some, nat_lt, ◌*ℤ◌, ◌+ℤ◌, ◌-ℤ◌, ◌<ℤ◌, ◌≤ℤ◌}
+pub use Rattle.std.specs.Slice.Iter.{iter_rest}
+pub use Rattle.serde_json.proofs.Views.{Entry, get_item_past, get_item_within, get_member-put, get_member-put_other, items_len-items_view, view-Array}
+pub use Rattle.serde_json.proofs.Views.{view-lookup}
+pub use Rattle.serde_json.specs.Data.{Data, Items, Members, array, boolean, item, member, no_items, no_members, null, number, object, put, string}
+pub use Rattle.serde_json.specs.Events.{items_len}
+pub use Rattle.serde_json.specs.Find.{as_integer, get_item, get_member}
+pub use Rattle.serde_json.specs.View.{items_view, members_view, view}
+pub use Rattle.serde_json.specs.declared.value.Value.{Value}
+pub use Rattle.serde_json.specs.declared.value.Value.TheVariants.{Null}
+pub use Rattle.serde_json_path_nodes.specs.Location.{DescentBefore, Located, Step, StepBefore, at, by_name, by_position, child_at}
+pub use Rattle.serde_json_path_nodes.specs.Views.{located, node_value, step_view}
+pub use Rattle.serde_json_path_functions.specs.Functions.{Fits, FunctionSet, KeepsTypes, Kind, Signature, Term, kind_of_term, logical, nodes, of_logical}
+pub use Rattle.serde_json_path_functions.specs.Functions.{of_nodes, of_value}
+pub use Rattle.serde_json_path_functions.specs.Terms.{term_view}
+pub use Rattle.serde_json_path_syntax.proofs.Lists.InLists.{flat_map-flat_map, flat_map-same, in_append, in_flat_map, in_keep, in_map, in_option}
+pub use Rattle.serde_json_path_syntax.proofs.Lists.InLists.{in_order-append, in_order-flat_map, in_order-keep, in_order-map, in_order-option, map-flat_map}
+pub use Rattle.serde_json_path_syntax.proofs.Lists.InLists.{map_in, weaker}
+pub use Rattle.serde_json_path_syntax.proofs.Tree.BoundedParts.{within_bound, within_get}
+pub use Rattle.serde_json_path_syntax.proofs.Tree.Bounds.{below_length, past_length}
+pub use Rattle.serde_json_path_syntax.proofs.Typing.TypedParts.{typed_segment}
+pub use Rattle.serde_json_path_syntax.specs.Calls.{arguments_of, calls_from, calls_in_and, calls_in_argument, calls_in_arguments, calls_in_basic}
+pub use Rattle.serde_json_path_syntax.specs.Calls.{calls_in_comparable, calls_in_or, calls_in_segment, calls_in_segments, calls_in_selector, calls_in_selectors}
+pub use Rattle.serde_json_path_syntax.specs.Calls.{calls_of, name_of}
+pub use Rattle.serde_json_path_syntax.specs.Flat.{and_at, and_in, ands_in, argument_in, arguments_in, basic_at, basic_in, call_at, comparable_at, or_at, ors_in}
+pub use Rattle.serde_json_path_syntax.specs.Flat.{part_query, piece_at, piece_in, pieces, pieces_named, segment_in, segment_kind_in, segment_kind_view}
+pub use Rattle.serde_json_path_syntax.specs.Flat.{segments_at, segments_in}
+pub use Rattle.serde_json_path_syntax.specs.Lists.{IsIn, IsInOrder}
+pub use Rattle.serde_json_path_syntax.specs.Literals.{operator_view}
+pub use Rattle.serde_json_path_syntax.specs.PartBounds.{parts_bound, selector_bound}
+pub use Rattle.serde_json_path_syntax.specs.Parts.{nodes_in, signatures_of, tree_of}
+pub use Rattle.serde_json_path_syntax.specs.Piece.{Piece}
+pub use Rattle.serde_json_path_syntax.specs.SliceView.{slice_view}
+pub use Rattle.serde_json_path_syntax.specs.Stages.{Stage, selector_view, selectors_list, selectors_of, stage_at, stage_of, stages, stages_at}
+pub use Rattle.serde_json_path_syntax.specs.Tree.{AreSingular, Argument, Arguments, Basic, Call, Comparable, IsSingular, IsSingularSegment, LogicalAnd}
+pub use Rattle.serde_json_path_syntax.specs.Tree.{LogicalOr, Operator, Query, QueryKind, Segment, SegmentKind, Segments, Selector, Selectors, Slice, and}
+pub use Rattle.serde_json_path_syntax.specs.Tree.{argument, call, call_argument, called, child, current, descendant, dot_name, dot_wildcard, equal, exist}
+pub use Rattle.serde_json_path_syntax.specs.Tree.{filter, greater, greater_or_equal, index, kind_of, less, less_or_equal, literal, literal_argument}
+pub use Rattle.serde_json_path_syntax.specs.Tree.{logical_argument, long_hand, name, no_and, no_arguments, no_or, no_segments, no_selectors, not_equal}
+pub use Rattle.serde_json_path_syntax.specs.Tree.{not_exist, not_paren, not_test, or, paren, query, query_argument, relation, root, segment, segments_of}
+pub use Rattle.serde_json_path_syntax.specs.Tree.{selector, singular, slice, test, wildcard}
+pub use Rattle.serde_json_path_syntax.specs.Typing.{AreTypedArguments, AreTypedSegments, AreTypedSelectors, IsTyped, IsTypedAnd, IsTypedArgument, IsTypedBasic}
+pub use Rattle.serde_json_path_syntax.specs.Typing.{IsTypedCall, IsTypedComparable, IsTypedOr, IsTypedSegment, IsTypedSelector, result_kind}
+pub use Rattle.serde_json_path_syntax.specs.declared.node.Node.{Node}
+pub use Rattle.serde_json_path_syntax.specs.declared.node.Part.{Part}
+pub use Rattle.serde_json_path_core.specs.Compared.{AreEqual, AreEqualAmounts, AreRisingAmounts, Compared, Compares, EqualData, EqualItems, EqualMembers}
+pub use Rattle.serde_json_path_core.specs.Compared.{IsLess, amount_of, billionths, literal_compared, nothing, value_compared}
+pub use Rattle.serde_json_path_core.specs.Derivation.{Before, BelongsTo, SelectedBefore, SelectedBeforeBy, SelectedBeforeIn, Triple, TripleBefore, beneath}
+pub use Rattle.serde_json_path_core.specs.Derivation.{location_of, start_of}
+pub use Rattle.serde_json_path_core.specs.Inside.Advances.{ComesTo, IsAtAdmitted, IsAtNode, IsAtTask, IsDone, IsSameFrame, Passes, Skips}
+pub use Rattle.serde_json_path_core.specs.Inside.Computed.{SlicePositions, all_true, answer, answer_compared, answer_holds, argument_as, arguments}
+pub use Rattle.serde_json_path_core.specs.Inside.Computed.{at_positions, basic_true, below_member, children, chosen, chosen_by, comes_before, compare}
+pub use Rattle.serde_json_path_core.specs.Inside.Computed.{compare_sides, compared, count_within, descents, falling, in_order, is_nonempty, is_same, is_true}
+pub use Rattle.serde_json_path_core.specs.Inside.Computed.{items_descents, items_from, itself, members_all, members_descents, next_position, placed}
+pub use Rattle.serde_json_path_core.specs.Inside.Computed.{positions_by, reached, results, results_from, rising, rising_amount, same_amount, same_data}
+pub use Rattle.serde_json_path_core.specs.Inside.Computed.{same_items, same_members, selected, sliced, strided}
+pub use Rattle.serde_json_path_core.specs.Inside.Cursors.{cursor_left}
+pub use Rattle.serde_json_path_core.specs.Inside.Evaluates.{Sound, compared_at}
+pub use Rattle.serde_json_path_core.specs.Inside.Frames.{frame_view, frames_view, task_view}
+pub use Rattle.serde_json_path_core.specs.Inside.Rest.{AllStandIn, EndsIn, Frame, IsChain, IsInside, IsOfValue, IsStack, IsStackIn, admitted}
+unfoldable pub use Rattle.serde_json_path_core.specs.Inside.Rest.{AreChildrenOf}
+pub use Rattle.serde_json_path_core.specs.Inside.Rest.{begun, candidates, entered, entering, frame_tasks, here, is_leaf, last_passed, lower, lower_left}
+pub use Rattle.serde_json_path_core.specs.Inside.Rest.{node_at, opened, passed, rest_of, stack_path, starting_frame, tasks, unfiltered, visit, visit_place}
+pub use Rattle.serde_json_path_core.specs.Inside.Rest.{visit_rest, visit_stack, without_node, work}
+pub use Rattle.serde_json_path_core.specs.Inside.Scopes.{nodes_of, top_of}
+pub use Rattle.serde_json_path_core.specs.Inside.Selected.{child_by, item_at, position_in}
+pub use Rattle.serde_json_path_core.specs.Inside.SingleChildren.{SelectOnly, single_view, values_from}
+pub use Rattle.serde_json_path_core.specs.Inside.Sound.{IsSound}
+unfoldable pub use Rattle.serde_json_path_core.specs.Inside.Sound.{AreCallsOf}
+pub use Rattle.serde_json_path_core.specs.Inside.Views.{child_view}
+pub use Rattle.serde_json_path_core.specs.Laws.{AreChildren, AreResultsAt, AreSubtreeResults, with_segment}
+pub use Rattle.serde_json_path_core.specs.Meaning.{Admits, AdmitsBy, AdmitsIn, Answers, AnswersYes, AreArguments, Derives, Exists, Holds, HoldsAll, HoldsBasic}
+pub use Rattle.serde_json_path_core.specs.Meaning.{IsArgument, IsComparedAs, IsPositionOf, IsResult, IsTruthOf, MayDescend, SelectsIndex, first_value}
+pub use Rattle.serde_json_path_core.specs.Meaning.{params_of}
+pub use Rattle.serde_json_path_core.specs.PatternCalls.{CallsByPattern, StandsIn}
+pub use Rattle.serde_json_path_core.specs.Slices.{SelectsPosition, bound_of, from_end, step_of}
+pub use Rattle.serde_json_path_core.specs.Walks.{document_of, rest, steps_of}
