@@ -12,5 +12,7 @@ pub mod BoundedParts
 pub mod SingularParts
 -- nodes that are copies one by one
 pub mod Copies
+-- nodes that name pieces of the right kinds
+pub mod Fitting
 -- the parts after the first
 pub mod OtherParts

@@ -32,6 +32,8 @@ pub mod SliceView
 
 -- the trees of a vector of nodes, each of which names earlier ones
 pub mod Flat
+-- the kinds of pieces, and which kind stands at each place of a node
+pub mod Kinds
 -- bounds of the numbers of parts
 pub mod PartBounds
 -- the segments of a tree as a walk takes them: each with its kind and the list of its selectors

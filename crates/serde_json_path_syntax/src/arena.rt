@@ -1,6 +1,7 @@
 //! A growing vector of nodes, in which each node refers to earlier ones.
 
 ghost use Rattle.serde_json_path_syntax.specs.Flat.{IsGrown};
+ghost use Rattle.serde_json_path_syntax.specs.Kinds.{AreFitting};
 
 use crate::copies::copies_of;
 use crate::node::{Node, Part};
@@ -11,12 +12,14 @@ use std::alloc::{AllocError, Global};
 pub(crate) struct Arena {
     nodes: Vec<Node>,
     ghost grown: { IsGrown nodes.items },
+    ghost fitting: { AreFitting nodes.items },
 }
 
 impl Arena {
-    ghost use Rattle.std.specs.Prelude.{ℕ, List, ◌≡◌, ◌<◌, ◌≤◌, ◌++◌, ◌∷◌, [], if◌then◌else◌, IfOk, is_ok, length};
-    ghost use Rattle.serde_json_path_syntax.specs.Flat.{NamesBelow, called_by, calls_among, part_query, piece_at, piece_of, pieces, segments_at};
+    ghost use Rattle.std.specs.Prelude.{ℕ, List, true, ◌≡◌, ◌<◌, ◌≤◌, ◌++◌, ◌∷◌, [], if◌then◌else◌, IfOk, is_ok, length};
+    ghost use Rattle.serde_json_path_syntax.specs.Flat.{NamesBelow, called_by, calls_among, part_query, piece_at, piece_of, pieces, pieces_named, segments_at};
     ghost use Rattle.serde_json_path_functions.specs.Functions.{Signature};
+    ghost use Rattle.serde_json_path_syntax.specs.Kinds.{each_is, fits, is_segment};
     ghost use Rattle.serde_json_path_syntax.specs.Lists.{IsIn};
     ghost use Rattle.serde_json_path_syntax.specs.PartBounds.{parts_bound};
     ghost use Rattle.serde_json_path_syntax.specs.Tree.{Query, segments_of};
@@ -35,7 +38,8 @@ impl Arena {
     // Inlined, so that a caller writes the node straight into the vector.
     #[inline(always)]
     pub(crate) fn push(&mut self, node: Node) -> Result<Part, AllocError>
-        requires { NamesBelow (length self.old.nodes.items) node }
+        requires below { NamesBelow (length self.old.nodes.items) node }
+        requires fits { fits (pieces self.old.nodes.items) node ≡ true }
         ensures number { IfOk result (λ part. part.number ≡ length self.old.nodes.items) }
         ensures nodes { self.new.nodes.items
             ≡ (if is_ok result then self.old.nodes.items ++ node ∷ [] else self.old.nodes.items) }
@@ -72,6 +76,7 @@ impl Arena {
         ensures piece { piece_at self.now.nodes.items part.number
             ≡ piece_of (pieces self.now.nodes.items) result.now }
         ensures below { NamesBelow part.number result.now }
+        ensures fits { fits (pieces self.now.nodes.items) result.now ≡ true }
         ensures called { (u : List ℕ × Signature) → IsIn u (called_by result.now)
             → IsIn u (calls_among self.now.nodes.items) }
     {
@@ -86,6 +91,8 @@ impl Arena {
         ensures tree { segments_at self.now.nodes.items result.now
             ≡ segments_of (part_query self.now.nodes.items query) }
         ensures below { parts_bound result.now ≤ query.number }
+        ensures segments { each_is is_segment
+            (pieces_named (pieces self.now.nodes.items) result.now) ≡ true }
     {
         match self.node(query) {
             Node::Query { segments, .. } => segments.as_slice(),

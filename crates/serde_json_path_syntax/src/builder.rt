@@ -28,12 +28,13 @@ pub struct SyntaxBuilder {
 }
 
 impl SyntaxBuilder {
-    ghost use Rattle.std.specs.Prelude.{◌≡◌, ◌↔◌, ◌++◌, ◌∷◌, [], if◌then◌else◌, IfOk, OnErr, OnOk, IsTrue, is_ok, string_bytes, length};
+    ghost use Rattle.std.specs.Prelude.{true, ◌≡◌, ◌↔◌, ◌++◌, ◌∷◌, [], if◌then◌else◌, IfOk, OnErr, OnOk, IsTrue, is_ok, string_bytes, length};
     ghost use Rattle.serde_json_path_syntax.specs.Tree as tree;
     ghost use Rattle.serde_json_path_syntax.specs.Literals.{literal_view, operator_view};
     ghost use Rattle.serde_json_path_syntax.specs.Piece.{a_query, a_segment, a_selector, an_or, an_and, a_basic, a_comparable, a_call, an_argument};
     ghost use Rattle.serde_json_path_syntax.specs.WellFormed.{IsOptionalInteger};
     ghost use Rattle.serde_json_path_syntax.specs.Flat.{called_by, kind_view, segment_kind_view, NamesBelow, parts_in, piece_of, pieces};
+    ghost use Rattle.serde_json_path_syntax.specs.Kinds.{fits};
     ghost use Rattle.serde_json_path_syntax.specs.SliceView.{slice_view};
     ghost use Rattle.serde_json_path_syntax.specs.Parts.{HasNoParts, IsPart, ArePartsOf, AreSelectorsOf, AreOrPartsOf, AreAndPartsOf, AreArgumentsOf, KeepsParts, KeepsTrees, calls_in, tree_of, signatures_of};
     ghost use Rattle.serde_json_path_syntax.specs.Used.{MayFinish, each_once};
@@ -52,7 +53,8 @@ impl SyntaxBuilder {
     /// Appends a node whose children already exist.
     #[inline(always)]
     fn push(&mut self, node: Node) -> Result<Part, AllocError>
-        requires { NamesBelow (length self.old.arena.nodes.items) node }
+        requires below { NamesBelow (length self.old.arena.nodes.items) node }
+        requires fits { fits (pieces self.old.arena.nodes.items) node ≡ true }
         ensures made { IfOk result (λ part.
             IsPart self.new part (piece_of (pieces self.old.arena.nodes.items) node)) }
         ensures keeps { called_by node ≡ [] → KeepsParts self.old self.new }

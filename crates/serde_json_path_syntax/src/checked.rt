@@ -34,7 +34,8 @@ pub struct Checked {
 }
 
 impl Checked {
-    ghost use Rattle.std.specs.Prelude.{ℕ, List, map, Some, IfOk, string_bytes};
+    ghost use Rattle.std.specs.Prelude.{ℕ, List, true, map, Some, IfOk, string_bytes};
+    ghost use Rattle.serde_json_path_syntax.specs.Kinds.{each_is, fits, is_segment};
     ghost use Rattle.serde_json_path_syntax.specs.Lists.{IsIn};
     ghost use Rattle.serde_json_path_syntax.specs.Tree.{query, no_segments, segments_of};
     ghost use Rattle.serde_json_path_functions.specs.Functions.{FunctionSet, Signature};
@@ -116,6 +117,7 @@ impl Checked {
         ensures piece { piece_at (nodes_in self.now) (number_of part)
             ≡ piece_of (pieces (nodes_in self.now)) result.now }
         ensures below { NamesBelow (number_of part) result.now }
+        ensures fits { fits (pieces (nodes_in self.now)) result.now ≡ true }
         ensures called { (u : List ℕ × Signature) → IsIn u (called_by result.now)
             → IsIn u (calls_among (nodes_in self.now)) }
     {
@@ -134,6 +136,8 @@ impl Checked {
     pub fn segments(&self) -> &[Part]
         ensures tree { segments_at (nodes_in self.now) result.now ≡ segments_of (tree_of self.now) }
         ensures within { parts_bound result.now ≤ length (nodes_in self.now) }
+        ensures segments { each_is is_segment
+            (pieces_named (pieces (nodes_in self.now)) result.now) ≡ true }
     {
         match self.query {
             None => &[],
@@ -163,6 +167,8 @@ impl Checked {
         ensures tree { segments_at (nodes_in self.now) result.now
             ≡ segments_of (part_query (nodes_in self.now) query) }
         ensures below { parts_bound result.now ≤ number_of query }
+        ensures segments { each_is is_segment
+            (pieces_named (pieces (nodes_in self.now)) result.now) ≡ true }
     {
         self.arena.segments(query)
     }

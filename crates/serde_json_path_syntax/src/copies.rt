@@ -2,6 +2,7 @@
 
 ghost use Rattle.std.specs.Prelude.{◌≡◌, List, IfOk};
 ghost use Rattle.serde_json_path_syntax.specs.Inside.Copies.{AreCopies, IsCopy};
+ghost use Rattle.serde_json_path_syntax.specs.Kinds as kinds;
 ghost use Rattle.serde_json_path_syntax.specs.Piece.{Piece};
 
 use crate::node::{Argument, Comparable, Node, Segment, Selector};
@@ -59,6 +60,8 @@ impl Segment {
         ensures piece { IfOk result (λ copy.
             (earlier : List Piece) → segment_of earlier copy ≡ segment_of earlier self.now) }
         ensures parts { IfOk result (λ copy. segment_parts copy ≡ segment_parts self.now) }
+        ensures fits { IfOk result (λ copy. (earlier : List Piece)
+            → kinds.segment_fits earlier copy ≡ kinds.segment_fits earlier self.now) }
     {
         match self {
             Segment::DotName(name) => Ok(Segment::DotName(String::from_str(alloc, name.as_str())?)),
@@ -76,6 +79,8 @@ impl Selector {
         ensures piece { IfOk result (λ copy.
             (earlier : List Piece) → selector_of earlier copy ≡ selector_of earlier self.now) }
         ensures parts { IfOk result (λ copy. selector_parts copy ≡ selector_parts self.now) }
+        ensures fits { IfOk result (λ copy. (earlier : List Piece)
+            → kinds.selector_fits earlier copy ≡ kinds.selector_fits earlier self.now) }
     {
         match self {
             Selector::Name(name) => Ok(Selector::Name(String::from_str(alloc, name.as_str())?)),
@@ -95,6 +100,8 @@ impl Comparable {
         ensures piece { IfOk result (λ copy.
             (earlier : List Piece) → comparable_of earlier copy ≡ comparable_of earlier self.now) }
         ensures parts { IfOk result (λ copy. comparable_parts copy ≡ comparable_parts self.now) }
+        ensures fits { IfOk result (λ copy. (earlier : List Piece)
+            → kinds.comparable_fits earlier copy ≡ kinds.comparable_fits earlier self.now) }
     {
         match self {
             Comparable::Literal(literal) => Ok(Comparable::Literal(literal.try_clone(alloc)?)),
@@ -112,6 +119,8 @@ impl Argument {
         ensures piece { IfOk result (λ copy.
             (earlier : List Piece) → argument_of earlier copy ≡ argument_of earlier self.now) }
         ensures parts { IfOk result (λ copy. argument_parts copy ≡ argument_parts self.now) }
+        ensures fits { IfOk result (λ copy. (earlier : List Piece)
+            → kinds.argument_fits earlier copy ≡ kinds.argument_fits earlier self.now) }
     {
         match self {
             Argument::Value(value) => Ok(Argument::Value(value.clone()?)),

@@ -38,7 +38,7 @@ copied_length [] (copy ∷ copies) h = absurd h
 copied_length (old ∷ olds) [] h = absurd h
 copied_length (old ∷ olds) (copy ∷ copies) h = ap suc (copied_length olds copies h.1)
 
-copied_names : (olds copies : List Node) → AreCopies olds copies → (i : ℕ) (d : Node) → i < length copies
+pub copied_names : (olds copies : List Node) → AreCopies olds copies → (i : ℕ) (d : Node) → i < length copies
     → parts_named (slice_index_or copies i d) ≡ parts_named (slice_index_or olds i d)
 copied_names [] [] h i d below = refl
 copied_names [] (copy ∷ copies) h i d below = absurd h

@@ -41,7 +41,7 @@ earlier_stays earlier (n ∷ nodes) i d h =
     earlier_stays (earlier ++ piece_of earlier n ∷ []) nodes i d (omega (arith, length-append earlier (piece_of earlier n ∷ []))) ∙ grind (arith, common_steps)
 
 -- two lists of pieces that agree below a bound make the same of a node that names numbers below it
-same_named : (a b : List Piece) (bound : ℕ) → ((i : ℕ) → i < bound → piece_in a i ≡ piece_in b i) → (parts : List Part)
+pub same_named : (a b : List Piece) (bound : ℕ) → ((i : ℕ) → i < bound → piece_in a i ≡ piece_in b i) → (parts : List Part)
     → parts_bound parts ≤ bound → pieces_named a parts ≡ pieces_named b parts
 same_named a b bound f [] h = refl
 same_named a b bound f (part ∷ parts) h =
@@ -135,7 +135,7 @@ pushed_is old new n p e f =
       ap (λ nodes. piece_in (pieces_from [] nodes) p) e ∙ ap (λ made. piece_in made p) (pieces_from-push [] old n) ∙ grind (arith, common_steps),
     )
 
-piece_at-push : (nodes : List Node) (n : Node) (i : ℕ) → i < length nodes → piece_at (nodes ++ n ∷ []) i ≡ piece_at nodes i
+pub piece_at-push : (nodes : List Node) (n : Node) (i : ℕ) → i < length nodes → piece_at (nodes ++ n ∷ []) i ≡ piece_at nodes i
 unfolding pieces
 piece_at-push nodes n i h =
     let long : length (pieces_from [] nodes) ≡ 0 + length nodes = length-pieces_from [] nodes in

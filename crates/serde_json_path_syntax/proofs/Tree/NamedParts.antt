@@ -1,10 +1,11 @@
 -- Parts that stand for pieces: their numbers are good, and what is made of them is made of those pieces.
-use Rattle.std.proofs.Common.{arith, ◌≤◌, ◌≡◌, ℕ, zero, suc, List, [], ◌∷◌, length, slice_get, option_map, refl, ap, ◌∙◌}
+use Rattle.std.proofs.Common.{arith, true, ◌≤◌, ◌≡◌, ℕ, zero, suc, List, [], ◌∷◌, length, slice_get, option_map, refl, ap, ◌∙◌}
 use Rattle.serde_json_path_syntax.specs.Tree as tree
 use Rattle.serde_json_path_syntax.specs.Piece.{Piece}
 use Rattle.serde_json_path_syntax.specs.declared.node.Part.{Part}
 use Rattle.serde_json_path_syntax.specs.declared.builder.SyntaxBuilder.{SyntaxBuilder}
 use Rattle.serde_json_path_syntax.specs.Flat.{piece_in, pieces, pieces_named, selector_in, segments_in, selectors_in, ors_in, ands_in, arguments_in}
+use Rattle.serde_json_path_syntax.specs.Kinds.{each_is, is_and, is_argument, is_basic, is_segment, is_selector}
 use Rattle.serde_json_path_syntax.specs.PartBounds.{parts_bound}
 use Rattle.serde_json_path_syntax.specs.Stages.{selectors_list}
 use Rattle.serde_json_path_syntax.specs.Parts.{ArePartsFor, ArePartsOf, AreSelectorsOf, AreOrPartsOf, AreAndPartsOf, AreArgumentsOf, KeepsTrees, segment_pieces, selector_pieces, or_pieces, and_pieces, argument_pieces}
@@ -89,5 +90,42 @@ selectors_get ps [] i = refl
 selectors_get ps (part ∷ parts) zero = refl
 selectors_get ps (part ∷ parts) (suc i) = selectors_get ps parts i
 
+-- ---- their kinds
+
+pub segments_fit : (builder : SyntaxBuilder) (parts : List Part) (segs : tree.Segments) → ArePartsOf builder parts segs → each_is is_segment (pieces_named (pieces builder.arena.nodes.items) parts) ≡ true
+segments_fit builder parts segs h = ap (each_is is_segment) (pieces_of_parts builder parts (segment_pieces segs) h) ∙ each segs
+  where
+    each : (segs : tree.Segments) → each_is is_segment (segment_pieces segs) ≡ true
+    each tree.no_segments = refl
+    each (tree.segment kind seg more) = each more
+
+pub selectors_fit : (builder : SyntaxBuilder) (parts : List Part) (sels : tree.Selectors) → AreSelectorsOf builder parts sels → each_is is_selector (pieces_named (pieces builder.arena.nodes.items) parts) ≡ true
+selectors_fit builder parts sels h = ap (each_is is_selector) (pieces_of_parts builder parts (selector_pieces sels) (selectors_for builder parts sels h)) ∙ each sels
+  where
+    each : (sels : tree.Selectors) → each_is is_selector (selector_pieces sels) ≡ true
+    each tree.no_selectors = refl
+    each (tree.selector sel more) = each more
+
+pub ors_fit : (builder : SyntaxBuilder) (parts : List Part) (e : tree.LogicalOr) → AreOrPartsOf builder parts e → each_is is_and (pieces_named (pieces builder.arena.nodes.items) parts) ≡ true
+ors_fit builder parts e h = ap (each_is is_and) (pieces_of_parts builder parts (or_pieces e) (or_parts_for builder parts e h)) ∙ each e
+  where
+    each : (e : tree.LogicalOr) → each_is is_and (or_pieces e) ≡ true
+    each tree.no_or = refl
+    each (tree.or e more) = each more
+
+pub ands_fit : (builder : SyntaxBuilder) (parts : List Part) (e : tree.LogicalAnd) → AreAndPartsOf builder parts e → each_is is_basic (pieces_named (pieces builder.arena.nodes.items) parts) ≡ true
+ands_fit builder parts e h = ap (each_is is_basic) (pieces_of_parts builder parts (and_pieces e) (and_parts_for builder parts e h)) ∙ each e
+  where
+    each : (e : tree.LogicalAnd) → each_is is_basic (and_pieces e) ≡ true
+    each tree.no_and = refl
+    each (tree.and e more) = each more
+
+pub arguments_fit : (builder : SyntaxBuilder) (parts : List Part) (args : tree.Arguments) → AreArgumentsOf builder parts args → each_is is_argument (pieces_named (pieces builder.arena.nodes.items) parts) ≡ true
+arguments_fit builder parts args h = ap (each_is is_argument) (pieces_of_parts builder parts (argument_pieces args) h) ∙ each args
+  where
+    each : (args : tree.Arguments) → each_is is_argument (argument_pieces args) ≡ true
+    each tree.no_arguments = refl
+    each (tree.argument a more) = each more
+
 -- what a node is made of that names several parts
-pub ruleset of_named_parts = (segments_named, selectors_named, ors_named, ands_named, arguments_named, selectors_for, or_parts_for, and_parts_for, parts_below)
+pub ruleset of_named_parts = (segments_named, selectors_named, ors_named, ands_named, arguments_named, selectors_for, or_parts_for, and_parts_for, parts_below, segments_fit, selectors_fit, ors_fit, ands_fit, arguments_fit)

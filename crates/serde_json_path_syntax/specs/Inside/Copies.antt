@@ -1,13 +1,15 @@
 -- What a copy of a node keeps.
 use Rattle.std.specs.Prelude.{◌≡◌, List, [], ◌∷◌}
 use Rattle.serde_json_path_syntax.specs.Flat.{called_by, parts_named, piece_of}
+use Rattle.serde_json_path_syntax.specs.Kinds.{fits}
 use Rattle.serde_json_path_syntax.specs.Piece.{Piece}
 use Rattle.serde_json_path_syntax.specs.declared.node.Node.{Node}
 
--- the copy makes the same piece of earlier ones, names the same parts and makes the same call
+-- the copy makes the same piece of earlier ones, names the same parts, at the same places, and makes the same call
 pub record IsCopy (old copy : Node) : Type 0 where
   pub piece : (earlier : List Piece) → piece_of earlier copy ≡ piece_of earlier old
   pub parts : parts_named copy ≡ parts_named old
+  pub fits : (earlier : List Piece) → fits earlier copy ≡ fits earlier old
   pub called : called_by copy ≡ called_by old
 
 -- copies of so many nodes, one by one

@@ -1,0 +1,111 @@
+-- The kinds of pieces, and which kind stands at each place of a node.
+use Rattle.std.specs.Prelude.{◌≡◌, ◌<◌, ◌&&◌, ℕ, Bool, true, false, List, [], ◌∷◌, length, slice_index_or}
+use Rattle.serde_json.specs.Data.{Data, null as null_data, boolean, string}
+use Rattle.serde_json.specs.View.{view}
+use Rattle.serde_json_path_syntax.specs.Flat.{parts_in, piece_in, pieces, pieces_named, segment_parts}
+use Rattle.serde_json_path_syntax.specs.Piece.{Piece, a_query, a_segment, a_selector, an_or, an_and, a_basic, a_comparable, a_call, an_argument}
+use Rattle.serde_json_path_syntax.specs.declared.node.Node.{Node}
+use Rattle.serde_json_path_syntax.specs.declared.node.Node.TheVariants as node
+use Rattle.serde_json_path_syntax.specs.declared.node.Segment as segments
+use Rattle.serde_json_path_syntax.specs.declared.node.Selector as selectors
+use Rattle.serde_json_path_syntax.specs.declared.node.Selector.TheVariants as one
+use Rattle.serde_json_path_syntax.specs.declared.node.Basic as basics
+use Rattle.serde_json_path_syntax.specs.declared.node.Basic.TheVariants.{Paren, NotParen, Relation, Exist, NotExist, Test, NotTest}
+use Rattle.serde_json_path_syntax.specs.declared.node.Comparable as comparables
+use Rattle.serde_json_path_syntax.specs.declared.node.Comparable.TheVariants as side
+use Rattle.serde_json_path_syntax.specs.declared.node.Argument as given
+use Rattle.serde_json_path_syntax.specs.declared.node.Argument.TheVariants as given_as
+use Rattle.serde_json_path_syntax.specs.declared.node.Part.{Part}
+
+abbrev pub is_query : Piece → Bool
+is_query (a_query q) = true
+is_query _ = false
+
+abbrev pub is_segment : Piece → Bool
+is_segment (a_segment kind seg) = true
+is_segment _ = false
+
+abbrev pub is_selector : Piece → Bool
+is_selector (a_selector sel) = true
+is_selector _ = false
+
+abbrev pub is_or : Piece → Bool
+is_or (an_or e) = true
+is_or _ = false
+
+abbrev pub is_and : Piece → Bool
+is_and (an_and e) = true
+is_and _ = false
+
+abbrev pub is_basic : Piece → Bool
+is_basic (a_basic b) = true
+is_basic _ = false
+
+abbrev pub is_comparable : Piece → Bool
+is_comparable (a_comparable c) = true
+is_comparable _ = false
+
+abbrev pub is_call : Piece → Bool
+is_call (a_call c) = true
+is_call _ = false
+
+abbrev pub is_argument : Piece → Bool
+is_argument (an_argument a) = true
+is_argument _ = false
+
+-- each of these pieces is of the kind
+abbrev pub each_is : (Piece → Bool) → List Piece → Bool
+each_is is [] = true
+each_is is (p ∷ ps) = is p && each_is is ps
+
+-- ---- the pieces that a node names are of the kinds that their places want
+
+abbrev pub segment_fits : List Piece → segments.Segment → Bool
+segment_fits earlier seg = each_is is_selector (pieces_named earlier (segment_parts seg))
+
+abbrev pub selector_fits : List Piece → selectors.Selector → Bool
+selector_fits earlier (one.Filter part) = is_or (piece_in earlier part.number)
+selector_fits earlier _ = true
+
+abbrev pub basic_fits : List Piece → basics.Basic → Bool
+basic_fits earlier (Paren part) = is_or (piece_in earlier part.number)
+basic_fits earlier (NotParen part) = is_or (piece_in earlier part.number)
+basic_fits earlier (Relation left operator right) = is_comparable (piece_in earlier left.number) && is_comparable (piece_in earlier right.number)
+basic_fits earlier (Exist part) = is_query (piece_in earlier part.number)
+basic_fits earlier (NotExist part) = is_query (piece_in earlier part.number)
+basic_fits earlier (Test part) = is_call (piece_in earlier part.number)
+basic_fits earlier (NotTest part) = is_call (piece_in earlier part.number)
+
+abbrev pub comparable_fits : List Piece → comparables.Comparable → Bool
+comparable_fits earlier (side.Literal l) = true
+comparable_fits earlier (side.Singular part) = is_query (piece_in earlier part.number)
+comparable_fits earlier (side.Called part) = is_call (piece_in earlier part.number)
+
+-- a value that a literal writes: a text, a truth value or null
+abbrev pub is_written : Data → Bool
+is_written (string t) = true
+is_written (boolean b) = true
+is_written null_data = true
+is_written _ = false
+
+abbrev pub argument_fits : List Piece → given.Argument → Bool
+argument_fits earlier (given_as.Value v) = is_written (view v)
+argument_fits earlier (given_as.Number n) = true
+argument_fits earlier (given_as.Query part) = is_query (piece_in earlier part.number)
+argument_fits earlier (given_as.Call part) = is_call (piece_in earlier part.number)
+argument_fits earlier (given_as.Logical part) = is_or (piece_in earlier part.number)
+
+abbrev pub fits : List Piece → Node → Bool
+fits earlier (node.Query start parts) = each_is is_segment (pieces_named earlier (parts_in parts))
+fits earlier (node.Segment kind seg) = segment_fits earlier seg
+fits earlier (node.Selector sel) = selector_fits earlier sel
+fits earlier (node.LogicalOr parts) = each_is is_and (pieces_named earlier (parts_in parts))
+fits earlier (node.LogicalAnd parts) = each_is is_basic (pieces_named earlier (parts_in parts))
+fits earlier (node.Basic b) = basic_fits earlier b
+fits earlier (node.Comparable c) = comparable_fits earlier c
+fits earlier (node.Call k s parts) = each_is is_argument (pieces_named earlier parts.items)
+fits earlier (node.Argument a) = argument_fits earlier a
+
+-- each node of a vector names pieces of the right kinds
+abbrev pub AreFitting : List Node → Type 0
+AreFitting nodes = (i : ℕ) (d : Node) → i < length nodes → fits (pieces nodes) (slice_index_or nodes i d) ≡ true
