@@ -1,21 +1,19 @@
 //! Printed paths: a query as the text that is read back as it.
 
-ghost use Rattle.std.specs.Prelude.{◌<◌, ◌≤◌, ◌++◌, Some, codes, length, option_map};
+ghost use Rattle.std.specs.Prelude.{◌≡◌, ◌<◌, ◌≤◌, ◌++◌, Some, codes, length, map, option_map, true};
 ghost use Rattle.std.specs.Fmt.{WritesOnOk};
-ghost use Rattle.serde_json_path_syntax.specs.Flat.{and_at, argument_at, basic_at, call_at, comparable_at, or_at, part_query, segment_at, segments_at, selector_at, selectors_at, kind_view as query_kind_view, segment_kind_view, piece_at, segment_kind_in};
-ghost use Rattle.serde_json_path_syntax.specs.Calls.{arguments_of};
+ghost use Rattle.serde_json_path_syntax.specs.Flat.{argument_of, argument_parts, basic_of, basic_parts, comparable_of, comparable_parts, kind_view as query_kind_view, piece_at, pieces, pieces_named, segments_at};
+ghost use Rattle.serde_json_path_syntax.specs.Kinds.{argument_fits, basic_fits, comparable_fits, each_is, is_segment, is_selector};
 ghost use Rattle.serde_json_path_syntax.specs.PartBounds.{parts_bound};
 ghost use Rattle.serde_json_path_syntax.specs.Parts.{nodes_in, number_of, tree_of};
-ghost use Rattle.serde_json_path_syntax.specs.Text.{and_text, argument_text, argument_texts, basic_text, call_text, comparable_text, joined, or_text, query_kind_text, query_text, segment_text, segments_text, selector_text, selector_texts, sign_text};
+ghost use Rattle.serde_json_path_syntax.specs.Text.{argument_text, basic_text, comparable_text, joined, piece_text, query_kind_text, query_text, segments_text, sign_text};
 ghost use Rattle.serde_json_path_syntax.specs.Inside.Openings.{opening_text};
-ghost use Rattle.serde_json_path_syntax.specs.Typing.{AreTypedSegments, AreTypedSelectors, IsTyped, IsTypedAnd, IsTypedBasic, IsTypedCall, IsTypedComparable, IsTypedForSome, IsTypedOr, IsTypedSegment, IsTypedSelector, UnderSome};
 
 mod literals;
 mod openings;
 
 use crate::checked::Checked;
-use crate::node::{Argument, Basic, Comparable, Node, Part, QueryKind, Segment};
-use crate::selector_ref::SelectorRef;
+use crate::node::{Argument, Basic, Comparable, Node, Part, QueryKind, Segment, Selector};
 use literals::write_value;
 use openings::{Opening, dots, sign};
 use serde_json_path_nodes::Quoted;
@@ -32,17 +30,6 @@ impl fmt::Display for Checked {
     }
 }
 
-#[cycle(printing)]
-#[inline(always)]
-fn write_query<W: Write>(f: &mut Formatter<W>, tree: &Checked, query: Part) -> fmt::Result
-    requires within { number_of query < length (nodes_in tree.now) }
-    requires typed { UnderSome IsTyped (part_query (nodes_in tree.now) query) }
-    ensures { WritesOnOk W.write_str_gives f.old result
-        (query_text (part_query (nodes_in tree.now) query)) f.new }
-{
-    write_path(f, tree, tree.part_kind(query), tree.part_segments(query))
-}
-
 /// Writes the sign of a query, and its segments. The first segment takes the sign into its first write, since each
 /// write costs.
 #[cycle(printing)]
@@ -53,7 +40,8 @@ fn write_path<W: Write>(
     segments: &[Part],
 ) -> fmt::Result
     requires within { parts_bound segments.now ≤ length (nodes_in tree.now) }
-    requires typed { UnderSome AreTypedSegments (segments_at (nodes_in tree.now) segments.now) }
+    requires are { each_is is_segment
+        (pieces_named (pieces (nodes_in tree.now)) segments.now) ≡ true }
     ensures { WritesOnOk W.write_str_gives f.old result
         (query_kind_text (query_kind_view kind)
         ++ segments_text (segments_at (nodes_in tree.now) segments.now)) f.new }
@@ -70,6 +58,7 @@ fn write_path<W: Write>(
 
 /// Writes a segment, after the sign of its query where it is the first.
 #[cycle(printing)]
+#[tactic(auto, using(crate::proofs::Printing::OfKinds::of_kinds))]
 #[inline(always)]
 fn write_segment<W: Write>(
     f: &mut Formatter<W>,
@@ -78,11 +67,10 @@ fn write_segment<W: Write>(
     start: Option<QueryKind>,
 ) -> fmt::Result
     requires within { number_of segment < length (nodes_in tree.now) }
-    requires typed { UnderSome IsTypedSegment (segment_at (nodes_in tree.now) segment) }
+    requires is { is_segment (piece_at (nodes_in tree.now) (number_of segment)) ≡ true }
     ensures { WritesOnOk W.write_str_gives f.old result
         (sign_text (option_map query_kind_view start)
-        ++ segment_text (segment_at (nodes_in tree.now) segment)
-        (segment_kind_in (piece_at (nodes_in tree.now) (number_of segment)))) f.new }
+        ++ piece_text (piece_at (nodes_in tree.now) (number_of segment))) f.new }
 {
     match tree.node(segment) {
         Node::Segment { kind, segment } => match segment {
@@ -114,10 +102,11 @@ fn write_selectors<W: Write>(
     selectors: &[Part],
 ) -> fmt::Result
     requires within { parts_bound selectors.now ≤ length (nodes_in tree.now) }
-    requires typed { UnderSome AreTypedSelectors (selectors_at (nodes_in tree.now) selectors.now) }
+    requires are { each_is is_selector
+        (pieces_named (pieces (nodes_in tree.now)) selectors.now) ≡ true }
     ensures { WritesOnOk W.write_str_gives f.old result
         (opening_text opening ++ joined (codes ", ")
-        (selector_texts (selectors_at (nodes_in tree.now) selectors.now))) f.new }
+        (map piece_text (pieces_named (pieces (nodes_in tree.now)) selectors.now))) f.new }
 {
     let [first, others @ ..] = selectors else {
         return f.write_str(opening.text());
@@ -131,6 +120,7 @@ fn write_selectors<W: Write>(
 
 /// Writes a selector after its opening.
 #[cycle(printing)]
+#[tactic(auto, using(crate::proofs::Printing::OfKinds::of_kinds))]
 #[inline(always)]
 fn write_selector<W: Write>(
     f: &mut Formatter<W>,
@@ -139,181 +129,175 @@ fn write_selector<W: Write>(
     opening: Opening,
 ) -> fmt::Result
     requires within { number_of selector < length (nodes_in tree.now) }
-    requires typed { UnderSome IsTypedSelector (selector_at (nodes_in tree.now) selector) }
+    requires is { is_selector (piece_at (nodes_in tree.now) (number_of selector)) ≡ true }
     ensures { WritesOnOk W.write_str_gives f.old result
-        (opening_text opening ++ selector_text (selector_at (nodes_in tree.now) selector)) f.new }
+        (opening_text opening
+        ++ piece_text (piece_at (nodes_in tree.now) (number_of selector))) f.new }
 {
-    match tree.selector(selector) {
-        SelectorRef::Name(name) => {
-            f.write_str(opening.text())?;
-            write!(f, "{}", Quoted(name))
-        }
-        SelectorRef::Wildcard => {
-            f.write_str(opening.text())?;
-            f.write_str("*")
-        }
-        SelectorRef::Index(index) => {
-            f.write_str(opening.text())?;
-            write!(f, "{index}")
-        }
-        SelectorRef::Slice(slice) => {
-            f.write_str(opening.text())?;
-            write!(f, "{slice}")
-        }
-        SelectorRef::Filter(expression) => {
-            f.write_str(opening.text_with_filter())?;
-            write_or(f, tree, expression)
-        }
-    }
-}
-
-#[cycle(printing)]
-fn write_or<W: Write>(f: &mut Formatter<W>, tree: &Checked, expression: Part) -> fmt::Result
-    requires within { number_of expression < length (nodes_in tree.now) }
-    requires typed { UnderSome IsTypedOr (or_at (nodes_in tree.now) expression) }
-    ensures { WritesOnOk W.write_str_gives f.old result
-        (or_text (or_at (nodes_in tree.now) expression)) f.new }
-{
-    let [first, others @ ..] = tree.or_parts(expression) else {
-        return Ok(());
-    };
-    write_and(f, tree, *first)?;
-    for operand in others {
-        f.write_str(" || ")?;
-        write_and(f, tree, *operand)?;
-    }
-    Ok(())
-}
-
-#[cycle(printing)]
-#[inline(always)]
-fn write_and<W: Write>(f: &mut Formatter<W>, tree: &Checked, expression: Part) -> fmt::Result
-    requires within { number_of expression < length (nodes_in tree.now) }
-    requires typed { UnderSome IsTypedAnd (and_at (nodes_in tree.now) expression) }
-    ensures { WritesOnOk W.write_str_gives f.old result
-        (and_text (and_at (nodes_in tree.now) expression)) f.new }
-{
-    let [first, others @ ..] = tree.and_parts(expression) else {
-        return Ok(());
-    };
-    write_basic(f, tree, *first)?;
-    for operand in others {
-        f.write_str(" && ")?;
-        write_basic(f, tree, *operand)?;
-    }
-    Ok(())
-}
-
-#[cycle(printing)]
-#[inline(always)]
-fn write_basic<W: Write>(f: &mut Formatter<W>, tree: &Checked, expression: Part) -> fmt::Result
-    requires within { number_of expression < length (nodes_in tree.now) }
-    requires typed { UnderSome IsTypedBasic (basic_at (nodes_in tree.now) expression) }
-    ensures { WritesOnOk W.write_str_gives f.old result
-        (basic_text (basic_at (nodes_in tree.now) expression)) f.new }
-{
-    match tree.node(expression) {
-        Node::Basic(basic) => match basic {
-            Basic::Paren(inner) => {
-                f.write_str("(")?;
-                write_or(f, tree, *inner)?;
-                f.write_str(")")
+    match tree.node(selector) {
+        Node::Selector(selector) => match selector {
+            Selector::Name(name) => {
+                f.write_str(opening.text())?;
+                write!(f, "{}", Quoted(name.as_str()))
             }
-            Basic::NotParen(inner) => {
-                f.write_str("!(")?;
-                write_or(f, tree, *inner)?;
-                f.write_str(")")
+            Selector::Wildcard => {
+                f.write_str(opening.text())?;
+                f.write_str("*")
             }
-            Basic::Relation {
-                left,
-                operator,
-                right,
-            } => {
-                write_comparable(f, tree, *left)?;
-                f.write_str(operator.sign_in_blanks())?;
-                write_comparable(f, tree, *right)
+            Selector::Index(index) => {
+                f.write_str(opening.text())?;
+                write!(f, "{index}")
             }
-            Basic::Exist(query) => write_query(f, tree, *query),
-            Basic::NotExist(query) => {
-                f.write_str("!")?;
-                write_query(f, tree, *query)
+            Selector::Slice(slice) => {
+                f.write_str(opening.text())?;
+                write!(f, "{slice}")
             }
-            Basic::Test(call) => write_call(f, tree, *call),
-            Basic::NotTest(call) => {
-                f.write_str("!")?;
-                write_call(f, tree, *call)
+            Selector::Filter(test) => {
+                f.write_str(opening.text_with_filter())?;
+                write_part(f, tree, *test)
             }
         },
         _ => unreachable!(),
     }
 }
 
+/// Writes a part of any kind.
 #[cycle(printing)]
-#[inline(always)]
-fn write_comparable<W: Write>(f: &mut Formatter<W>, tree: &Checked, comparable: Part) -> fmt::Result
-    requires within { number_of comparable < length (nodes_in tree.now) }
-    requires typed { UnderSome IsTypedComparable (comparable_at (nodes_in tree.now) comparable) }
+#[tactic(auto, using(crate::proofs::Printing::OfKinds::of_kinds))]
+fn write_part<W: Write>(f: &mut Formatter<W>, tree: &Checked, part: Part) -> fmt::Result
+    requires within { number_of part < length (nodes_in tree.now) }
     ensures { WritesOnOk W.write_str_gives f.old result
-        (comparable_text (comparable_at (nodes_in tree.now) comparable)) f.new }
+        (piece_text (piece_at (nodes_in tree.now) (number_of part))) f.new }
 {
-    match tree.node(comparable) {
-        Node::Comparable(comparable) => match comparable {
-            Comparable::Literal(literal) => write!(f, "{literal}"),
-            Comparable::Singular(query) => write_query(f, tree, *query),
-            Comparable::Called(call) => write_call(f, tree, *call),
-        },
-        _ => unreachable!(),
+    match tree.node(part) {
+        Node::Query { kind, segments } => write_path(f, tree, *kind, segments.as_slice()),
+        Node::Segment { .. } => write_segment(f, tree, part, None),
+        Node::Selector(_) => write_selector(f, tree, part, Opening::Nothing),
+        Node::LogicalOr(parts) => write_joined(f, tree, parts.as_slice(), " || "),
+        Node::LogicalAnd(parts) => write_joined(f, tree, parts.as_slice(), " && "),
+        Node::Basic(basic) => write_basic(f, tree, basic),
+        Node::Comparable(comparable) => write_comparable(f, tree, comparable),
+        Node::Call {
+            name,
+            arguments,
+            ..
+        } => {
+            f.write_str(name.as_str())?;
+            f.write_str("(")?;
+            write_joined(f, tree, arguments.as_slice(), ", ")?;
+            f.write_str(")")
+        }
+        Node::Argument(argument) => write_argument(f, tree, argument),
     }
 }
 
+/// Writes parts, with a separator between each two.
 #[cycle(printing)]
-fn write_call<W: Write>(f: &mut Formatter<W>, tree: &Checked, call: Part) -> fmt::Result
-    requires within { number_of call < length (nodes_in tree.now) }
-    requires typed { UnderSome IsTypedCall (call_at (nodes_in tree.now) call) }
+fn write_joined<W: Write>(
+    f: &mut Formatter<W>,
+    tree: &Checked,
+    parts: &[Part],
+    separator: &str,
+) -> fmt::Result
+    requires within { parts_bound parts.now ≤ length (nodes_in tree.now) }
     ensures { WritesOnOk W.write_str_gives f.old result
-        (call_text (call_at (nodes_in tree.now) call)) f.new }
+        (joined separator.now
+        (map piece_text (pieces_named (pieces (nodes_in tree.now)) parts.now))) f.new }
 {
-    f.write_str(tree.called_name(call))?;
-    f.write_str("(")?;
-    write_arguments(f, tree, call)?;
-    f.write_str(")")
-}
-
-/// The arguments of a call.
-#[cycle(printing)]
-fn write_arguments<W: Write>(f: &mut Formatter<W>, tree: &Checked, call: Part) -> fmt::Result
-    requires within { number_of call < length (nodes_in tree.now) }
-    requires typed { UnderSome IsTypedCall (call_at (nodes_in tree.now) call) }
-    ensures { WritesOnOk W.write_str_gives f.old result
-        (joined (codes ", ") (argument_texts (arguments_of (call_at (nodes_in tree.now) call)))) f.new }
-{
-    let [first, others @ ..] = tree.arguments(call) else {
+    let [first, others @ ..] = parts else {
         return Ok(());
     };
-    write_argument(f, tree, *first)?;
-    for argument in others {
-        f.write_str(", ")?;
-        write_argument(f, tree, *argument)?;
+    write_part(f, tree, *first)?;
+    for part in others {
+        f.write_str(separator)?;
+        write_part(f, tree, *part)?;
     }
     Ok(())
 }
 
+/// Writes an operand of `&&`.
 #[cycle(printing)]
+#[tactic(auto, using(crate::proofs::Printing::OfKinds::of_kinds))]
 #[inline(always)]
-fn write_argument<W: Write>(f: &mut Formatter<W>, tree: &Checked, argument: Part) -> fmt::Result
-    requires within { number_of argument < length (nodes_in tree.now) }
-    requires typed { UnderSome IsTypedForSome (argument_at (nodes_in tree.now) argument) }
+fn write_basic<W: Write>(f: &mut Formatter<W>, tree: &Checked, basic: &Basic) -> fmt::Result
+    requires within { parts_bound (basic_parts basic.now) ≤ length (nodes_in tree.now) }
+    requires fits { basic_fits (pieces (nodes_in tree.now)) basic.now ≡ true }
     ensures { WritesOnOk W.write_str_gives f.old result
-        (argument_text (argument_at (nodes_in tree.now) argument)) f.new }
+        (basic_text (basic_of (pieces (nodes_in tree.now)) basic.now)) f.new }
 {
-    match tree.node(argument) {
-        Node::Argument(argument) => match argument {
-            Argument::Value(value) => write_value(f, value),
-            Argument::Number(number) => write!(f, "{number}"),
-            Argument::Query(query) => write_query(f, tree, *query),
-            Argument::Call(call) => write_call(f, tree, *call),
-            Argument::Logical(expression) => write_or(f, tree, *expression),
-        },
-        _ => unreachable!(),
+    match basic {
+        Basic::Paren(inner) => {
+            f.write_str("(")?;
+            write_part(f, tree, *inner)?;
+            f.write_str(")")
+        }
+        Basic::NotParen(inner) => {
+            f.write_str("!(")?;
+            write_part(f, tree, *inner)?;
+            f.write_str(")")
+        }
+        Basic::Relation {
+            left,
+            operator,
+            right,
+        } => {
+            write_part(f, tree, *left)?;
+            f.write_str(operator.sign_in_blanks())?;
+            write_part(f, tree, *right)
+        }
+        Basic::Exist(query) => write_part(f, tree, *query),
+        Basic::NotExist(query) => {
+            f.write_str("!")?;
+            write_part(f, tree, *query)
+        }
+        Basic::Test(call) => write_part(f, tree, *call),
+        Basic::NotTest(call) => {
+            f.write_str("!")?;
+            write_part(f, tree, *call)
+        }
+    }
+}
+
+/// Writes a side of a comparison.
+#[cycle(printing)]
+#[tactic(auto, using(crate::proofs::Printing::OfKinds::of_kinds))]
+#[inline(always)]
+fn write_comparable<W: Write>(
+    f: &mut Formatter<W>,
+    tree: &Checked,
+    comparable: &Comparable,
+) -> fmt::Result
+    requires within { parts_bound (comparable_parts comparable.now) ≤ length (nodes_in tree.now) }
+    requires fits { comparable_fits (pieces (nodes_in tree.now)) comparable.now ≡ true }
+    ensures { WritesOnOk W.write_str_gives f.old result
+        (comparable_text (comparable_of (pieces (nodes_in tree.now)) comparable.now)) f.new }
+{
+    match comparable {
+        Comparable::Literal(literal) => write!(f, "{literal}"),
+        Comparable::Singular(query) => write_part(f, tree, *query),
+        Comparable::Called(call) => write_part(f, tree, *call),
+    }
+}
+
+/// Writes an argument.
+#[cycle(printing)]
+#[tactic(auto, using(crate::proofs::Printing::OfKinds::of_kinds))]
+#[inline(always)]
+fn write_argument<W: Write>(
+    f: &mut Formatter<W>,
+    tree: &Checked,
+    argument: &Argument,
+) -> fmt::Result
+    requires within { parts_bound (argument_parts argument.now) ≤ length (nodes_in tree.now) }
+    requires fits { argument_fits (pieces (nodes_in tree.now)) argument.now ≡ true }
+    ensures { WritesOnOk W.write_str_gives f.old result
+        (argument_text (argument_of (pieces (nodes_in tree.now)) argument.now)) f.new }
+{
+    match argument {
+        Argument::Value(value) => write_value(f, value),
+        Argument::Number(number) => write!(f, "{number}"),
+        Argument::Query(query) => write_part(f, tree, *query),
+        Argument::Call(call) => write_part(f, tree, *call),
+        Argument::Logical(expression) => write_part(f, tree, *expression),
     }
 }

@@ -1,12 +1,12 @@
 //! Literals as a path writes them.
 
-ghost use Rattle.std.specs.Prelude.{◌<◌, ◌/◌, ◌^◌, Some};
+ghost use Rattle.std.specs.Prelude.{◌≡◌, ◌<◌, ◌/◌, ◌^◌, Some, true};
 ghost use Rattle.std.specs.Fmt.{WritesOnOk};
 ghost use Rattle.serde_json.specs.View.{view};
 ghost use Rattle.serde_json_path_syntax.specs.Flat.{literal_of};
 ghost use Rattle.serde_json_path_syntax.specs.Literals.{literal_view, number_amount};
 ghost use Rattle.serde_json_path_syntax.specs.Text.{amount_text, fraction_text, literal_text, number_text};
-ghost use Rattle.serde_json_path_syntax.specs.Typing.{IsValueLiteral};
+ghost use Rattle.serde_json_path_syntax.specs.Kinds.{is_written};
 
 use crate::literal::{Literal, NumberLiteral, ONE};
 use serde_json::Value;
@@ -75,7 +75,7 @@ impl fmt::Display for Literal {
 
 /// A value that stands for a literal.
 pub(crate) fn write_value<W: Write>(f: &mut Formatter<W>, value: &Value) -> fmt::Result
-    requires { IsValueLiteral (literal_of (view value.now)) }
+    requires { is_written (view value.now) ≡ true }
     ensures { WritesOnOk W.write_str_gives f.old result
         (literal_text (literal_of (view value.now))) f.new }
 {

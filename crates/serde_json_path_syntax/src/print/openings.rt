@@ -39,6 +39,8 @@ pub(crate) enum Opening {
     Bracket(Option<QueryKind>, SegmentKind),
     /// A comma.
     Comma,
+    /// Nothing.
+    Nothing,
 }
 
 impl Opening {
@@ -54,6 +56,7 @@ impl Opening {
             Opening::Bracket(Some(QueryKind::Current), SegmentKind::Child) => "@[",
             Opening::Bracket(Some(QueryKind::Current), SegmentKind::Descendant) => "@..[",
             Opening::Comma => ", ",
+            Opening::Nothing => "",
         }
     }
 
@@ -69,6 +72,7 @@ impl Opening {
             Opening::Bracket(Some(QueryKind::Current), SegmentKind::Child) => "@[?",
             Opening::Bracket(Some(QueryKind::Current), SegmentKind::Descendant) => "@..[?",
             Opening::Comma => ", ?",
+            Opening::Nothing => "?",
         }
     }
 }

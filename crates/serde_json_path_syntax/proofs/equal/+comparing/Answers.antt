@@ -1,7 +1,5 @@
 use Rattle.std.proofs.Common.{◌≡◌, false, inl, inr, sym, ◌∙◌, rules}
 use Rattle.std.specs.Slice.Iter.{iter_rest}
-use Rattle.serde_json_path_syntax.specs.Flat.{pieces}
-use Rattle.serde_json_path_syntax.specs.Parts.{nodes_in}
 use Rattle.serde_json_path_syntax.proofs.Equality.OneByOne.{all_left, none_left, uneven, unlike_next}
 use Rattle.serde_json_path_syntax.proofs.equal.+comparing.Goals as goal
 
