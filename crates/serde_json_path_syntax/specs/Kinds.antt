@@ -15,7 +15,6 @@ use Rattle.serde_json_path_syntax.specs.declared.node.Comparable as comparables
 use Rattle.serde_json_path_syntax.specs.declared.node.Comparable.TheVariants as side
 use Rattle.serde_json_path_syntax.specs.declared.node.Argument as given
 use Rattle.serde_json_path_syntax.specs.declared.node.Argument.TheVariants as given_as
-use Rattle.serde_json_path_syntax.specs.declared.node.Part.{Part}
 
 abbrev pub is_query : Piece → Bool
 is_query (a_query q) = true

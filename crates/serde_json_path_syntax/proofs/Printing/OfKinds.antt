@@ -1,5 +1,5 @@
 -- The texts of pieces of one kind are those of their trees.
-use Rattle.std.proofs.Common.{◌≡◌, List, [], ◌∷◌, ◌++◌, map, true, codes, refl, ap, ◌∙◌}
+use Rattle.std.proofs.Common.{◌≡◌, List, [], ◌∷◌, ◌++◌, map, true, codes, refl, ap}
 use Rattle.std.specs.List.{flat_map}
 use Rattle.serde_json_path_syntax.specs.Flat.{ands_in, arguments_in, call_in, comparable_in, or_in, ors_in, query_in, segments_in, selectors_in}
 use Rattle.serde_json_path_syntax.specs.Kinds.{each_is, is_and, is_argument, is_basic, is_call, is_comparable, is_or, is_query, is_segment, is_selector}

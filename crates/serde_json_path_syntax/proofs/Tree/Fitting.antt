@@ -1,10 +1,10 @@
 -- Nodes that name pieces of the right kinds still do after a push, and their copies do too.
-use Rattle.std.proofs.Common.{◌≡◌, ℕ, zero, suc, ◌<◌, ◌≤◌, List, [], ◌∷◌, ◌++◌, length, Bool, true, false, if◌then◌else◌, ◌&&◌, slice_index_or, get_or, inl, inr, refl, sym, ap, ◌∙◌, subst, arith, length-append}
+use Rattle.std.proofs.Common.{◌≡◌, ℕ, zero, suc, ◌<◌, ◌≤◌, List, [], ◌∷◌, ◌++◌, length, Bool, true, false, if◌then◌else◌, ◌&&◌, slice_index_or, inl, inr, refl, sym, ap, ◌∙◌, subst, arith, length-append}
 use Rattle.std.proofs.lemmas.Bool.{cases_lt}
 use Rattle.std.proofs.lemmas.Grind.{common_steps}
-use Rattle.serde_json_path_syntax.specs.Flat.{IsGrown, NamesBelow, parts_in, parts_named, piece_in, piece_of, pieces, pieces_named, segment_parts, selector_parts, basic_parts, comparable_parts, argument_parts}
+use Rattle.serde_json_path_syntax.specs.Flat.{IsGrown, NamesBelow, parts_in, piece_in, pieces, segment_parts, selector_parts, basic_parts, comparable_parts, argument_parts}
 use Rattle.serde_json_path_syntax.specs.Inside.Copies.{AreCopies}
-use Rattle.serde_json_path_syntax.specs.Kinds.{AreFitting, argument_fits, basic_fits, comparable_fits, each_is, fits, is_and, is_argument, is_basic, is_call, is_comparable, is_or, is_query, is_segment, is_selector, segment_fits, selector_fits}
+use Rattle.serde_json_path_syntax.specs.Kinds.{AreFitting, argument_fits, basic_fits, comparable_fits, each_is, fits, is_and, is_argument, is_basic, is_call, is_comparable, is_or, is_query, is_segment, is_selector, selector_fits}
 use Rattle.serde_json_path_syntax.specs.PartBounds.{parts_bound}
 use Rattle.serde_json_path_syntax.specs.Piece.{Piece}
 use Rattle.serde_json_path_syntax.specs.declared.node.Node.{Node}

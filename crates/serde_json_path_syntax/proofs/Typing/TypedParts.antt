@@ -1,12 +1,10 @@
 -- One of several parts that are well-typed is well-typed.
 use Rattle.std.proofs.Common.{arith, ◌<◌, ◌≡◌, ℕ, zero, suc, List, [], ◌∷◌, length, get_or, Option, sym, subst}
-use Rattle.serde_json_path_functions.specs.Functions.{Kind, Signature}
-use Rattle.serde_json_path_syntax.specs.Calls.{arguments_of}
-use Rattle.serde_json_path_syntax.specs.Tree.{Call, call, Query, query, segments_of}
+use Rattle.serde_json_path_functions.specs.Functions.{Signature}
 use Rattle.serde_json_path_syntax.specs.Piece.{Piece}
-use Rattle.serde_json_path_syntax.specs.Typing.{IsTyped, AreTypedArguments, AreTypedSegments, AreTypedSelectors, IsTypedAnd, IsTypedBasic, IsTypedCall, IsTypedForSome, IsTypedOr, IsTypedSegment, IsTypedSelector}
+use Rattle.serde_json_path_syntax.specs.Typing.{AreTypedSegments, AreTypedSelectors, IsTypedSegment, IsTypedSelector}
 use Rattle.serde_json_path_syntax.specs.declared.node.Part.{Part}
-use Rattle.serde_json_path_syntax.specs.Flat.{and_in, ands_in, argument_in, arguments_in, basic_in, ors_in, piece_in, pieces_named, segment_in, segments_in, selector_in, selectors_in}
+use Rattle.serde_json_path_syntax.specs.Flat.{piece_in, pieces_named, segment_in, segments_in, selector_in, selectors_in}
 
 module _ (signature : List ℕ → Option Signature) (ps : List Piece) where
   pub typed_segment : (parts : List Part) (i : ℕ) (part : Part) → i < length parts → part ≡ get_or parts i part
