@@ -24,8 +24,12 @@ pub mod FirstCharacters
 pub mod Filters
 -- operands, by what holds one level deeper
 pub mod Operands
+-- comparisons and tests, by what holds one level deeper
+pub mod Comparisons
 -- logical expressions, by what holds one level deeper
 pub mod LogicalExpressions
+-- arguments, by what holds one level deeper
+pub mod Arguments
 -- calls, by what holds one level deeper
 pub mod Calls
 -- the laws of these pieces hold at every level

@@ -12,3 +12,5 @@ pub mod Rows
 pub mod Steps
 -- where a refusal stands, step by step, and what its kind says of the text there
 pub mod Stands
+-- both answers of a reader at once
+pub mod Outcomes

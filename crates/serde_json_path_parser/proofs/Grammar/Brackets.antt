@@ -1,17 +1,19 @@
 -- What is read in a bracket is in the grammar, and what is in the grammar is read.
-use Rattle.std.proofs.Common.{◌≡◌, ℕ, Bool, true, cond, List, [], ◌∷◌, ◌++◌, length, drop, Ok, Err, refl, sym, ap, subst, ◌∙◌, append_assoc, arith}
+use Rattle.std.proofs.Common.{◌≡◌, ℕ, inl, Bool, true, List, [], ◌∷◌, ◌++◌, length, drop, Option, Ok, refl, sym, ap, ◌∙◌, append_assoc, arith}
 use Rattle.serde_json_path_parser.proofs.Words.{◌==◌, ◌||◌, codes, SegmentKind, Segment, long_hand, Selectors, no_selectors, selector, Selector, LogicalOr}
-use Rattle.serde_json_path_parser.proofs.Words.{ExpectedClosingBracket, is_at, begins, IsBlank, ReadsSegment, ReadSelectors, ReadMoreSelectors}
-use Rattle.serde_json_path_parser.proofs.Words.{dots_before_bracket, Parsed, ◌>>=◌, refusal, past_blanks, many, selector_at, next_selector_at, selectors_at}
+use Rattle.serde_json_path_parser.proofs.Words.{ExpectedClosingBracket, Signature, begins, IsBlank, ReadsSegment, ReadSelectors, ReadMoreSelectors}
+use Rattle.serde_json_path_parser.proofs.Words.{dots_before_bracket, Parsed, past_blanks, many, selector_at, next_selector_at, selectors_at}
 use Rattle.serde_json_path_parser.proofs.Words.{selector_list, bracket_at}
 use Rattle.serde_json_path_parser.specs.declared.error.Context.TheVariants as context
-use Rattle.serde_json_path_parser.proofs.Reading.Regrouped.{past_all, blanks_of, are_blank, split_blanks, gathered_after, enclosed, spread}
+use Rattle.serde_json_path_parser.proofs.Reading.Regrouped.{past_all, blanks_of, are_blank, split_blanks, spread}
 use Rattle.serde_json_path_parser.proofs.Reading.Many as m
 use Rattle.serde_json_path_parser.proofs.Reading.Rows as r
 use Rattle.serde_json_path_parser.proofs.Reading.Runs.{some_begun}
-use Rattle.serde_json_path_parser.proofs.Grammar.Selectors.{selector_sound, selector_again, begins_no_blank}
+use Rattle.serde_json_path_parser.proofs.Grammar.Selectors.{selector_outcome, selector_again, begins_no_blank}
 use Rattle.serde_json_path_parser.proofs.Grammar.Filtered.{Closes, AreGoodSelectors, IsGoodSegment, IsGoodText, FilterLaws}
-use Rattle.serde_json_path_parser.proofs.Reading.Steps.{Read, Spaced, bind_ok, guard, done, ok_is, after_one, many_sound}
+use Rattle.serde_json_path_parser.proofs.Reading.Steps.{Spaced, after_one}
+use Rattle.serde_json_path_parser.proofs.Reading.Stands.{Inner}
+use Rattle.serde_json_path_parser.proofs.Reading.Outcomes.{Outcome, read_so, guarded, past, after, made, many_outcome}
 
 abbrev pub is_comma : ℕ → Bool
 is_comma c = c == 44
@@ -25,7 +27,7 @@ same_selectors no_selectors = refl
 same_selectors (selector sel more) = ap (selector sel) (same_selectors more)
 
 -- filters are read so
-module _ (filter_at : List ℕ → Parsed Selector) (Good : LogicalOr → Type 0) (laws : FilterLaws Good filter_at) where
+module _ {signature : List ℕ → Option Signature} (filter_at : List ℕ → Parsed Selector) (Good : LogicalOr → Type 0) (laws : FilterLaws signature Good filter_at) where
   abbrev IsText : List ℕ → Selector → Type 0
   IsText t sel = IsGoodText Good t sel
 
@@ -34,13 +36,13 @@ module _ (filter_at : List ℕ → Parsed Selector) (Good : LogicalOr → Type 0
 
   -- ---- selectors after the first one
 
-  pub next_sound : (cs : List ℕ) (x : Selector × List ℕ) → begins is_comma cs ≡ true → next_selector_at filter_at cs ≡ Ok x → Read (r.IsNext (codes ",") IsText) cs x
+  next_outcome : (cs : List ℕ) → begins is_comma cs ≡ true → Outcome (r.IsNext (codes ",") IsText) (Inner signature) cs (next_selector_at filter_at cs)
   unfolding next_selector_at
-  next_sound cs x comma e = r.next_of (codes ",") IsText cs (drop 1 cs) x (after_one 44 cs comma) (selector_sound filter_at Good laws (past_blanks (drop 1 cs)) x e)
+  next_outcome cs comma = r.next_outcome (codes ",") IsText cs (drop 1 cs) (after_one 44 cs comma) (selector_outcome filter_at Good laws (past_blanks (drop 1 cs)))
 
   pub next_takes : m.Takes (begins is_comma) (next_selector_at filter_at)
   next_takes = record {
-    shorter = λ cs rest sel comma e. r.next_shorter (codes ",") IsText cs rest sel (omega arith) (next_sound cs (sel, rest) comma e);
+    shorter = λ cs rest sel comma e. r.next_shorter (codes ",") IsText cs rest sel (omega arith) ((next_outcome cs comma).reads (sel, rest) e);
     some = some_begun is_comma;
   }
 
@@ -53,30 +55,20 @@ module _ (filter_at : List ℕ → Parsed Selector) (Good : LogicalOr → Type 0
   abbrev pub AreSelectorsText : List ℕ → List Selector → Type 0
   AreSelectorsText t sels = AreGood (selector_list sels) × ReadSelectors (selector_list sels) t
 
-  pub selectors_sound : (cs : List ℕ) (x : List Selector × List ℕ) → selectors_at filter_at cs ≡ Ok x → Read (Spaced AreSelectorsText) (past_blanks cs) x
+  selectors_outcome : (cs : List ℕ) → Outcome (Spaced AreSelectorsText) (Inner signature) (past_blanks cs) (selectors_at filter_at cs)
   unfolding selectors_at many
-  selectors_sound cs x e =
-      let s = bind_ok (selector_at filter_at (past_blanks cs)) (λ s. many (begins is_comma) (next_selector_at filter_at) s.1 >>= λ ss. Ok (s.0 ∷ ss.0, ss.1)) x e in
-      let ss = bind_ok (many (begins is_comma) (next_selector_at filter_at) s.0.1) (λ ss. Ok (s.0.0 ∷ ss.0, ss.1)) x s.2 in
-      let first = selector_sound filter_at Good laws (past_blanks cs) s.0 s.1 in
-      let rest = many_sound (r.IsNext (codes ",") IsText) (begins is_comma) (next_selector_at filter_at) next_sound (length s.0.1) s.0.1 ss.0 ss.1 in
-      let row = r.row_of (codes ",") IsText ss.0.0 first.is_so.1 rest.text first.is_so.3 rest.is_so in
-      let more = more_reads ss.0.0 row.text row.are in
-      subst (Read (Spaced AreSelectorsText) (past_blanks cs)) (ok_is (s.0.0 ∷ ss.0.0, ss.0.1) x ss.2) (record {
-        text = first.is_so.0 ++ (row.text ++ row.blanks);
-        is_so = (
-          first.is_so.0 ++ row.text,
-          row.blanks,
-          ((first.is_so.2.0, more.0), (first.is_so.0, row.text, first.is_so.2.1, more.1, refl)),
-          row.blank,
-          sym (append_assoc first.is_so.0 row.text row.blanks),
-        );
-        split =
-            first.split ∙ ap (λ (l : List ℕ). l ++ s.0.1) first.is_so.4
-            ∙ ap (λ (l : List ℕ). (first.is_so.0 ++ first.is_so.1) ++ l) rest.split
-            ∙ gathered_after first.is_so.0 first.is_so.1 rest.text ss.0.1
-            ∙ ap (λ (l : List ℕ). (first.is_so.0 ++ l) ++ ss.0.1) row.split;
-      })
+  selectors_outcome cs = after (selector_outcome filter_at Good laws (past_blanks cs)) (λ s _ first.
+      let a = first.is_so.0 in
+      let j = first.is_so.1 in
+      made (λ ss. s.0 ∷ ss) (λ t ss h.
+      let row = r.row_of (codes ",") IsText ss j t first.is_so.3 h in
+      let more = more_reads ss row.text row.are in (
+        a ++ row.text,
+        row.blanks,
+        ((first.is_so.2.0, more.0), (a, row.text, first.is_so.2.1, more.1, refl)),
+        row.blank,
+        ap (λ (l : List ℕ). l ++ t) first.is_so.4 ∙ append_assoc a j t ∙ ap (λ (l : List ℕ). a ++ l) row.split ∙ sym (append_assoc a row.text row.blanks),
+      )) (many_outcome (r.IsNext (codes ",") IsText) (Inner signature) (begins is_comma) (next_selector_at filter_at) next_outcome (length s.1) s.1))
 
   -- ---- the bracket
 
@@ -84,25 +76,30 @@ module _ (filter_at : List ℕ → Parsed Selector) (Good : LogicalOr → Type 0
   abbrev pub IsSegmentText : SegmentKind → List ℕ → Segment → Type 0
   IsSegmentText kind t seg = IsGoodSegment Good seg × ReadsSegment seg kind t
 
-  pub bracket_sound : (kind : SegmentKind) (cs : List ℕ) (x : Segment × List ℕ) → bracket_at filter_at cs ≡ Ok x → Read (IsSegmentText kind) (dots_before_bracket kind ++ (91 ∷ cs)) x
+  pub bracket_outcome : (kind : SegmentKind) (cs : List ℕ) → Outcome (IsSegmentText kind) (Inner signature) (dots_before_bracket kind ++ (91 ∷ cs)) (bracket_at filter_at cs)
   unfolding bracket_at
-  bracket_sound kind cs x e =
-      let ss = bind_ok (selectors_at filter_at cs) (λ ss. cond (is_at "]" ss.1) (Ok (long_hand (selector_list ss.0), drop 1 ss.1)) (Err (refusal ExpectedClosingBracket context.LongHand ss.1))) x e in
-      let g = guard (is_at "]" ss.0.1) (refusal ExpectedClosingBracket context.LongHand ss.0.1) (done (long_hand (selector_list ss.0.0), drop 1 ss.0.1)) x ss.2 in
-      let r = selectors_sound cs ss.0 ss.1 in
+  bracket_outcome kind cs =
       let dots = dots_before_bracket kind in
       let j = blanks_of cs in
+      past (dots ++ (91 ∷ j)) (ap (λ (l : List ℕ). dots ++ (91 ∷ l)) (split_blanks cs) ∙ sym (append_assoc dots (91 ∷ j) (past_blanks cs))) (after (selectors_outcome cs) (λ ss _ r.
       let a = r.is_so.0 in
       let k = r.is_so.1 in
-      let inside : cs ≡ (j ++ (a ++ (k ++ 93 ∷ []))) ++ drop 1 ss.0.1 =
-      split_blanks cs
-      ∙ ap (λ (l : List ℕ). j ++ l) (r.split ∙ ap (λ (l : List ℕ). l ++ ss.0.1) r.is_so.4 ∙ ap (λ (l : List ℕ). (a ++ k) ++ l) (after_one 93 ss.0.1 g.0))
-      ∙ enclosed j a k (codes "]") (drop 1 ss.0.1) in
-      subst (Read (IsSegmentText kind) (dots ++ (91 ∷ cs))) (ok_is (long_hand (selector_list ss.0.0), drop 1 ss.0.1) x g.1) (record {
-        text = dots ++ (91 ∷ (j ++ (a ++ (k ++ 93 ∷ []))));
-        is_so = (r.is_so.2.0, (j, a, k, are_blank cs, r.is_so.2.1, r.is_so.3, refl));
-        split = ap (λ (l : List ℕ). dots ++ (91 ∷ l)) inside ∙ sym (append_assoc dots (91 ∷ (j ++ (a ++ (k ++ 93 ∷ [])))) (drop 1 ss.0.1));
-      })
+      guarded ExpectedClosingBracket context.LongHand (inl refl) (λ e. read_so (long_hand (selector_list ss.0), drop 1 ss.1) (record {
+        text = 93 ∷ [];
+        is_so = (
+          r.is_so.2.0,
+          (
+            j,
+            a,
+            k,
+            are_blank cs,
+            r.is_so.2.1,
+            r.is_so.3,
+            ap (λ (l : List ℕ). (dots ++ (91 ∷ j)) ++ (l ++ 93 ∷ [])) r.is_so.4 ∙ append_assoc dots (91 ∷ j) ((a ++ k) ++ 93 ∷ []) ∙ ap (λ (l : List ℕ). dots ++ (91 ∷ (j ++ l))) (append_assoc a k (93 ∷ [])),
+          ),
+        );
+        split = after_one 93 ss.1 e;
+      }))))
 
   -- ---- each bracket is read
 

@@ -1,9 +1,10 @@
 -- Trees each of whose filters is good, in one sense or another; and what makes filters be read.
-use Rattle.std.proofs.Common.{◌≡◌, ℕ, true, List, ◌++◌, Option, Ok, Err}
+use Rattle.std.proofs.Common.{◌≡◌, ℕ, true, List, ◌++◌, Option, Ok}
 use Rattle.serde_json_path_parser.proofs.Words.{◌==◌, ◌||◌, Segments, no_segments, segment, Segment, dot_name, dot_wildcard, long_hand, Selectors, no_selectors}
-use Rattle.serde_json_path_parser.proofs.Words.{selector, Selector, filter, LogicalOr, Signature, Refusal, is_at, begins, ReadsSelector, Parsed, past_blanks}
-use Rattle.serde_json_path_parser.proofs.Reading.Stands.{Inner, Stands}
-use Rattle.serde_json_path_parser.proofs.Reading.Steps.{Read, Spaced}
+use Rattle.serde_json_path_parser.proofs.Words.{selector, Selector, filter, LogicalOr, Signature, is_at, begins, ReadsSelector, Parsed, past_blanks}
+use Rattle.serde_json_path_parser.proofs.Reading.Stands.{Inner}
+use Rattle.serde_json_path_parser.proofs.Reading.Steps.{Spaced}
+use Rattle.serde_json_path_parser.proofs.Reading.Outcomes.{Outcome}
 
 -- after the blanks stands `,` or `]`
 abbrev pub Closes : List ℕ → Type 0
@@ -31,11 +32,7 @@ module _ (Good : LogicalOr → Type 0) where
   abbrev pub IsGoodText : List ℕ → Selector → Type 0
   IsGoodText t sel = IsGoodSelector sel × ReadsSelector sel t
 
-  -- Filters that are read are good, and each good one is read.
-  pub record FilterLaws (filter_at : List ℕ → Parsed Selector) : Type 0 where
-    pub sound : (cs : List ℕ) (x : Selector × List ℕ) → is_at "?" cs ≡ true → filter_at cs ≡ Ok x → Read (Spaced IsGoodText) cs x
-    pub again : (t : List ℕ) (e : LogicalOr) (rest : List ℕ) → IsGoodText t (filter e) → Closes rest → filter_at (t ++ rest) ≡ Ok (filter e, past_blanks rest)
-
--- each refusal of a filter stands in its text
-abbrev pub FiltersStand : (List ℕ → Option Signature) → (List ℕ → Parsed Selector) → Type 0
-FiltersStand signature filter_at = (cs : List ℕ) (r : Refusal) → is_at "?" cs ≡ true → filter_at cs ≡ Err r → Stands (Inner signature) cs r
+-- Filters that are read are good, each refusal of one stands in its text, and each good one is read.
+pub record FilterLaws (signature : List ℕ → Option Signature) (Good : LogicalOr → Type 0) (filter_at : List ℕ → Parsed Selector) : Type 0 where
+  pub outcome : (cs : List ℕ) → is_at "?" cs ≡ true → Outcome (Spaced (IsGoodText Good)) (Inner signature) cs (filter_at cs)
+  pub again : (t : List ℕ) (e : LogicalOr) (rest : List ℕ) → IsGoodText Good t (filter e) → Closes rest → filter_at (t ++ rest) ≡ Ok (filter e, past_blanks rest)

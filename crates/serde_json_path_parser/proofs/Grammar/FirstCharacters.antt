@@ -47,7 +47,7 @@ operand_begins (a_literal l) t rest h = literal_begins l t rest h
 operand_begins (a_query q) t rest h = query_begins q t rest h
 operand_begins (a_call c) t rest h = call_begins c t rest h
 
-comparable_begins : (a : Comparable) (t rest : List ℕ) → ReadsComparable a t → begins begins_operand (t ++ rest) ≡ true
+pub comparable_begins : (a : Comparable) (t rest : List ℕ) → ReadsComparable a t → begins begins_operand (t ++ rest) ≡ true
 comparable_begins (literal l) t rest h = literal_begins l t rest h
 comparable_begins (singular q) t rest h = query_begins q t rest h.1
 comparable_begins (called c) t rest h = call_begins c t rest h

@@ -1,12 +1,13 @@
 -- What is read as an integer is one, each integer is read, and where a refusal of one stands.
-use Rattle.std.proofs.Common.{◌≡◌, ℕ, zero, suc, ◌+◌, ◌-◌, ◌*◌, ◌≤◌, inl, inr, Bool, true, false, cond, List, [], ◌∷◌, ◌++◌, drop, Ok, Err, refl, sym, ap, subst, ◌∙◌, arith}
-use Rattle.serde_json_path_parser.proofs.Words.{nat_le, ◌==◌, ℤ, pos, negsuc, and_parts, ints, largest, ExpectedSelector, IntegerOutOfRange, Refusal, is_at}
-use Rattle.serde_json_path_parser.proofs.Words.{begins, is_blank, is_digit, value_from, IsDecimal, IsInt, Parsed, ◌>>=◌, refusal, front, past, byte_count}
+use Rattle.std.proofs.Common.{◌≡◌, ℕ, zero, suc, ◌+◌, ◌-◌, ◌*◌, ◌≤◌, inl, inr, Bool, true, false, List, [], ◌∷◌, ◌++◌, drop, Ok, refl, sym, ap, ◌∙◌, arith}
+use Rattle.serde_json_path_parser.proofs.Words.{nat_le, ◌==◌, ℤ, pos, negsuc, and_parts, ints, largest, ExpectedSelector, IntegerOutOfRange, is_at}
+use Rattle.serde_json_path_parser.proofs.Words.{begins, is_blank, is_digit, value_from, IsDecimal, IsInt, front, past, byte_count}
 use Rattle.serde_json_path_parser.proofs.Words.{is_first_digit, digits_at, negative, int_at, begins_int}
 use Rattle.serde_json_path_parser.specs.declared.error.Context.TheVariants as context
 use Rattle.serde_json_path_parser.proofs.Reading.Runs.{begins_where, differs, begins_differs, no_blank, whole, front_each, front_begins, front_begins_not, front_all, past_run, value_least}
-use Rattle.serde_json_path_parser.proofs.Reading.Steps.{Read, bind_ok, chosen, guard, done, ok_is, after_one}
-use Rattle.serde_json_path_parser.proofs.Reading.Stands.{Plain, Stands, bind_stands, guard_stands, no_refusal}
+use Rattle.serde_json_path_parser.proofs.Reading.Steps.{Read, after_one}
+use Rattle.serde_json_path_parser.proofs.Reading.Stands.{Plain}
+use Rattle.serde_json_path_parser.proofs.Reading.Outcomes.{OutcomeIn, Outcome, read_so, choose, guarded, past_in, made}
 
 -- ---- first digits
 
@@ -31,7 +32,7 @@ some_value (c ∷ cs) e =
     let some : 1 ≤ value_from 0 (c ∷ front is_digit cs) = omega (arith, one, least) in
     rw (first_is_digit c e) some
 
--- ---- what is read is an integer
+-- ---- what a reading gives
 
 -- digits that are read whole, the first of them not `0`
 pub decimal_read : (cs : List ℕ) → begins is_first_digit cs ≡ true → Read IsDecimal cs (value_from 0 (front is_digit cs), past is_digit cs)
@@ -46,21 +47,20 @@ decimal_read cs first = record {
   split = whole is_digit cs;
 }
 
-digits_sound : (start cs : List ℕ) (x : ℕ × List ℕ) → begins is_first_digit cs ≡ true → digits_at (byte_count start) cs ≡ Ok x → Read IsDecimal cs x × (1 ≤ x.0) × (x.0 ≤ largest)
-unfolding digits_at
-digits_sound start cs x first e =
-    let n = value_from 0 (front is_digit cs) in
-    let g = guard (nat_le n largest) (refusal IntegerOutOfRange context.LongHand start) (done (n, past is_digit cs)) x e in
-    let most : n ≤ largest = grind (arith, g.0) in
-    subst (λ (y : ℕ × List ℕ). Read IsDecimal cs y × (1 ≤ y.0) × (y.0 ≤ largest)) (ok_is (n, past is_digit cs) x g.1) (
-      decimal_read cs first,
-      some_value cs first,
-      most,
-    )
+-- that many digits, which are not 0, and no more than an integer may be
+abbrev IsAmount : List ℕ → ℕ → Type 0
+IsAmount t n = IsDecimal t n × (1 ≤ n) × (n ≤ largest)
 
-negative_is : (text : List ℕ) (n : ℕ) → IsDecimal text n → 1 ≤ n → n ≤ largest → IsInt (45 ∷ text) (negative n)
-negative_is text zero d some most = absurd (omega (arith, some))
-negative_is text (suc n) d some most = ((text, d, refl), (omega (arith, ints, most), omega (arith, ints, most)))
+digits_outcome : (start cs : List ℕ) → begins is_first_digit cs ≡ true → OutcomeIn IsAmount Plain start cs (digits_at (byte_count start) cs)
+unfolding digits_at
+digits_outcome start cs first = guarded IntegerOutOfRange context.LongHand refl (λ e.
+    let r = decimal_read cs first in
+    let most : value_from 0 (front is_digit cs) ≤ largest = grind (arith, e) in
+    read_so _ (record { text = r.text; is_so = (r.is_so, some_value cs first, most); split = r.split }))
+
+negative_is : (text : List ℕ) (n : ℕ) → IsAmount text n → IsInt (45 ∷ text) (negative n)
+negative_is text zero (d, some, most) = absurd (omega (arith, some))
+negative_is text (suc n) (d, some, most) = ((text, d, refl), (omega (arith, ints, most), omega (arith, ints, most)))
 
 positive_is : (text : List ℕ) (n : ℕ) → IsDecimal text n → n ≤ largest → IsInt text (pos n)
 positive_is text n d most = (d, (omega (arith, ints, most), omega (arith, ints, most)))
@@ -68,39 +68,12 @@ positive_is text n d most = (d, (omega (arith, ints, most), omega (arith, ints, 
 pub zero_is : IsDecimal (48 ∷ []) 0
 zero_is = record { first = refl; each = (refl, tt); plain = inl refl; value_of = refl }
 
-pub int_sound : (cs : List ℕ) (x : ℤ × List ℕ) → int_at cs ≡ Ok x → Read IsInt cs x
+pub int_outcome : (cs : List ℕ) → Outcome IsInt Plain cs (int_at cs)
 unfolding int_at
-int_sound cs x e =
-    let wrong = refusal ExpectedSelector context.LongHand cs in
-    let below : Parsed ℤ = digits_at (byte_count cs) (drop 1 cs) >>= λ n. Ok (negative n.0, n.1) in
-    let above : Parsed ℤ = digits_at (byte_count cs) cs >>= λ n. Ok (pos n.0, n.1) in
-    elim (chosen (is_at "-" cs) (cond (begins is_first_digit (drop 1 cs)) below (Err wrong)) (cond (is_at "0" cs) (Ok (pos 0, drop 1 cs)) (cond (begins is_first_digit cs) above (Err wrong))) (Ok x) e) [
-      | inl a ↦
-          let g = guard (begins is_first_digit (drop 1 cs)) wrong below x a.1 in
-          let n = bind_ok (digits_at (byte_count cs) (drop 1 cs)) (λ n. Ok (negative n.0, n.1)) x g.1 in
-          let r = digits_sound cs (drop 1 cs) n.0 g.0 n.1 in
-          subst (Read IsInt cs) (ok_is (negative n.0.0, n.0.1) x n.2) (record {
-            text = 45 ∷ r.0.text;
-            is_so = negative_is r.0.text n.0.0 r.0.is_so r.1 r.2;
-            split = after_one 45 cs a.0 ∙ ap (λ (l : List ℕ). 45 ∷ l) r.0.split;
-          })
-      | inr a ↦ elim (chosen (is_at "0" cs) (done (pos 0, drop 1 cs)) (cond (begins is_first_digit cs) above (Err wrong)) (Ok x) a.1) [
-        | inl b ↦ subst (Read IsInt cs) (ok_is (pos 0, drop 1 cs) x b.1) (record {
-          text = 48 ∷ [];
-          is_so = positive_is (48 ∷ []) 0 zero_is (omega arith);
-          split = after_one 48 cs b.0;
-        })
-        | inr b ↦
-            let g = guard (begins is_first_digit cs) wrong above x b.1 in
-            let n = bind_ok (digits_at (byte_count cs) cs) (λ n. Ok (pos n.0, n.1)) x g.1 in
-            let r = digits_sound cs cs n.0 g.0 n.1 in
-            subst (Read IsInt cs) (ok_is (pos n.0.0, n.0.1) x n.2) (record {
-              text = r.0.text;
-              is_so = positive_is r.0.text n.0.0 r.0.is_so r.2;
-              split = r.0.split;
-            })
-      ]
-    ]
+int_outcome cs =
+    choose (λ e. guarded ExpectedSelector context.LongHand refl (λ f. past_in (45 ∷ []) (after_one 45 cs e) (made negative negative_is (digits_outcome cs (drop 1 cs) f)))) (λ _.
+    choose (λ e. read_so (pos 0, drop 1 cs) (record { text = 48 ∷ []; is_so = positive_is (48 ∷ []) 0 zero_is (omega arith); split = after_one 48 cs e })) (λ _.
+    guarded ExpectedSelector context.LongHand refl (λ f. made pos (λ t n h. positive_is t n h.0 h.2) (digits_outcome cs cs f))))
 
 -- ---- each integer is read
 
@@ -160,25 +133,3 @@ int_not k t i rest never is = int_first (λ c. c == k) false t i rest (λ c e. d
 
 pub int_no_blank : (t : List ℕ) (i : ℤ) (rest : List ℕ) → IsInt t i → begins is_blank (t ++ rest) ≡ false
 int_no_blank t i rest is = int_first is_blank false t i rest (λ c e. no_blank begins_int c refl refl refl refl e) is
-
--- ---- where a refusal stands
-
-digits_stands : (start cs : List ℕ) (r : Refusal) → digits_at (byte_count start) cs ≡ Err r → Stands Plain start r
-unfolding digits_at
-digits_stands start cs r e =
-    let n = value_from 0 (front is_digit cs) in
-    guard_stands start (nat_le n largest) (done (n, past is_digit cs)) IntegerOutOfRange context.LongHand r refl (no_refusal start _ r) e
-
-pub int_stands : (cs : List ℕ) (r : Refusal) → int_at cs ≡ Err r → Stands Plain cs r
-unfolding int_at
-int_stands cs r e = elim (chosen (is_at "-" cs) _ _ (Err r) e) [
-  | inl a ↦
-      guard_stands cs (begins is_first_digit (drop 1 cs)) _ ExpectedSelector context.LongHand r refl (λ f.
-      bind_stands cs (digits_at (byte_count cs) (drop 1 cs)) _ r (digits_stands cs (drop 1 cs)) (λ n s h. no_refusal cs _ r h) f) a.1
-  | inr a ↦ elim (chosen (is_at "0" cs) (done (pos 0, drop 1 cs)) _ (Err r) a.1) [
-    | inl b ↦ no_refusal cs _ r b.1
-    | inr b ↦
-        guard_stands cs (begins is_first_digit cs) _ ExpectedSelector context.LongHand r refl (λ f.
-        bind_stands cs (digits_at (byte_count cs) cs) _ r (digits_stands cs cs) (λ n s h. no_refusal cs _ r h) f) b.1
-  ]
-]

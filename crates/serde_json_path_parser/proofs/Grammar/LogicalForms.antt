@@ -1,17 +1,20 @@
 -- What stands in logical expressions and after them: texts of operands, what is good of them at a level, and the
 -- characters that may follow.
-use Rattle.std.proofs.Common.{◌≡◌, ℕ, ◌+◌, ◌≤◌, Bool, true, List, [], ◌∷◌, ◌++◌, Option, Ok, Err, refl, arith}
-use Rattle.serde_json_path_parser.proofs.Words.{◌==◌, ◌||◌, Query, query, Segments, no_segments, segment, child, descendant, Segment, dot_name, dot_wildcard}
-use Rattle.serde_json_path_parser.proofs.Words.{long_hand, Selectors, no_selectors, selector, Selector, name, wildcard, index, slice, filter, LogicalOr, Call}
-use Rattle.serde_json_path_parser.proofs.Words.{call, Arguments, IsSingularSegment, AreSingular, IsSingular, and_parts, IsTyped, AreTypedSegments}
-use Rattle.serde_json_path_parser.proofs.Words.{IsTypedSegment, AreTypedSelectors, IsTypedSelector, IsTypedOr, IsTypedCall, depth, segments_depth}
-use Rattle.serde_json_path_parser.proofs.Words.{segment_depth, selectors_depth, selector_depth, or_depth, call_depth, Signature, Refusal, begins, IsBlank}
-use Rattle.serde_json_path_parser.proofs.Words.{IsFunctionName, IsLiteral, Reads, ReadsOr, ReadsCall, ReadArguments, past_blanks, byte_count, Operand}
-use Rattle.serde_json_path_parser.proofs.Words.{a_literal, a_call, is_singular_segment, are_singular, is_singular, Deeper}
+use Rattle.std.proofs.Common.{ℕ, ◌≡◌, ◌+◌, ◌≤◌, Bool, true, List, [], ◌∷◌, ◌++◌, Option, Ok, refl, arith}
+use Rattle.serde_json_path_parser.proofs.Words.{◌==◌, ◌||◌, Query, query, Segments, no_segments, segment, child, descendant, Segment, dot_name}
+use Rattle.serde_json_path_parser.proofs.Words.{long_hand, Selectors, no_selectors, selector, Selector, name, index}
+use Rattle.serde_json_path_parser.proofs.Words.{filter, LogicalOr, Call, call, Arguments, IsSingularSegment, AreSingular, IsSingular, and_parts}
+use Rattle.serde_json_path_parser.proofs.Words.{IsTyped, AreTypedSegments, IsTypedSegment, AreTypedSelectors, IsTypedSelector, IsTypedOr, IsTypedCall}
+use Rattle.serde_json_path_parser.proofs.Words.{depth, segments_depth, segment_depth, selectors_depth, selector_depth, or_depth, call_depth}
+use Rattle.serde_json_path_parser.proofs.Words.{Signature, begins, IsBlank, IsFunctionName, IsLiteral, Reads, ReadsOr, ReadsCall, ReadArguments}
+use Rattle.serde_json_path_parser.proofs.Words.{past_blanks, byte_count, Operand, a_literal, a_call, is_singular_segment, are_singular, is_singular}
+use Rattle.serde_json_path_parser.proofs.Words.{Deeper, Comparable, IsTypedComparable, IsTypedAnd, ReadsAnd, IsTypedBasic, ReadsComparable}
+use Rattle.serde_json_path_parser.proofs.Words.{comparable_depth, basic_depth, LogicalAnd, ReadsBasic, Basic, and_depth}
 use Rattle.serde_json_path_parser.specs.Operands.{a_query}
 use Rattle.serde_json_path_parser.proofs.Grammar.Filtered.{IsGoodSelector, AreGoodSelectors, IsGoodSegment, AreGoodSegments}
-use Rattle.serde_json_path_parser.proofs.Reading.Stands.{Inner, Stands}
-use Rattle.serde_json_path_parser.proofs.Reading.Steps.{Read, Spaced}
+use Rattle.serde_json_path_parser.proofs.Reading.Stands.{Inner}
+use Rattle.serde_json_path_parser.proofs.Reading.Steps.{Spaced}
+use Rattle.serde_json_path_parser.proofs.Reading.Outcomes.{Past, Outcome}
 
 -- ---- what may follow, after blanks
 
@@ -57,40 +60,32 @@ module _ (signature : List ℕ → Option Signature) (n : ℕ) where
 
   -- segments whose filters are good
   good_selector : (sel : Selector) → IsGoodSelector IsGoodInside sel → IsTypedSelector signature sel × (selector_depth sel ≤ n)
-  good_selector (name k) h = (tt, omega arith)
-  good_selector wildcard h = (tt, omega arith)
-  good_selector (index i) h = (tt, omega arith)
-  good_selector (slice s) h = (tt, omega arith)
   good_selector (filter e) h = h
+  good_selector _ h = (tt, omega arith)
 
   good_selectors : (sels : Selectors) → AreGoodSelectors IsGoodInside sels → AreTypedSelectors signature sels × (selectors_depth sels ≤ n)
   good_selectors no_selectors h = (tt, omega arith)
   good_selectors (selector sel more) h = let a = good_selector sel h.0 in let b = good_selectors more h.1 in ((a.0, b.0), omega (arith, a.1, b.1))
 
   good_segment : (seg : Segment) → IsGoodSegment IsGoodInside seg → IsTypedSegment signature seg × (segment_depth seg ≤ n)
-  good_segment (dot_name k) h = (tt, omega arith)
-  good_segment dot_wildcard h = (tt, omega arith)
   good_segment (long_hand sels) h = good_selectors sels h
+  good_segment _ h = (tt, omega arith)
 
   pub good_segments : (segs : Segments) → AreGoodSegments IsGoodInside segs → AreTypedSegments signature segs × (segments_depth segs ≤ n)
   good_segments no_segments h = (tt, omega arith)
   good_segments (segment kind seg more) h = let a = good_segment seg h.0 in let b = good_segments more h.1 in ((a.0, b.0), omega (arith, a.1, b.1))
 
   selector_good : (sel : Selector) → IsTypedSelector signature sel → selector_depth sel ≤ n → IsGoodSelector IsGoodInside sel
-  selector_good (name k) h d = tt
-  selector_good wildcard h d = tt
-  selector_good (index i) h d = tt
-  selector_good (slice s) h d = tt
   selector_good (filter e) h d = (h, d)
+  selector_good _ h d = tt
 
   selectors_good : (sels : Selectors) → AreTypedSelectors signature sels → selectors_depth sels ≤ n → AreGoodSelectors IsGoodInside sels
   selectors_good no_selectors h d = tt
   selectors_good (selector sel more) h d = (selector_good sel h.0 (omega (arith, d)), selectors_good more h.1 (omega (arith, d)))
 
   segment_good : (seg : Segment) → IsTypedSegment signature seg → segment_depth seg ≤ n → IsGoodSegment IsGoodInside seg
-  segment_good (dot_name k) h d = tt
-  segment_good dot_wildcard h d = tt
   segment_good (long_hand sels) h d = selectors_good sels h d
+  segment_good _ h d = tt
 
   pub segments_good : (segs : Segments) → AreTypedSegments signature segs → segments_depth segs ≤ n → AreGoodSegments IsGoodInside segs
   segments_good no_segments h d = tt
@@ -103,47 +98,53 @@ ReadsOperand (a_literal l) t = IsLiteral l t
 ReadsOperand (a_query q) t = Reads q t
 ReadsOperand (a_call c) t = ReadsCall c t
 
--- what stands after the `(` of a call of this name, with its `)`
-abbrev pub ReadsAfterName : List ℕ → Call → List ℕ → Type 0
-ReadsAfterName f c t =
-    (args : Arguments) × (c ≡ call f args) × (j a k : List ℕ) × IsBlank j × ReadArguments args a × IsBlank k × (t ≡ j ++ (a ++ (k ++ 41 ∷ [])))
+-- ---- texts of what is good
+
+module _ (signature : List ℕ → Option Signature) (n : ℕ) where
+  abbrev pub IsOperandText : List ℕ → Operand → Type 0
+  IsOperandText t o = IsGoodOperand signature n o × ReadsOperand o t
+
+  abbrev pub IsComparableText : List ℕ → Comparable → Type 0
+  IsComparableText t a = (IsTypedComparable signature a × (comparable_depth a ≤ n)) × ReadsComparable a t
+
+  abbrev pub IsBasicText : List ℕ → Basic → Type 0
+  IsBasicText t b = (IsTypedBasic signature b × (basic_depth b ≤ n)) × ReadsBasic b t
+
+  abbrev pub IsAndText : List ℕ → LogicalAnd → Type 0
+  IsAndText t e = (IsTypedAnd signature e × (and_depth e ≤ n)) × ReadsAnd e t
+
+  abbrev pub IsOrText : List ℕ → LogicalOr → Type 0
+  IsOrText t e = IsGoodOr signature n e × ReadsOr e t
+
+  abbrev pub IsInsideText : List ℕ → LogicalOr → Type 0
+  IsInsideText t e = IsGoodInside signature n e × ReadsOr e t
+
+  abbrev pub IsCallText : List ℕ → Call → Type 0
+  IsCallText t c = IsGoodCall signature n c × ReadsCall c t
 
 -- ---- how filters, parentheses and calls are read at such a level
 
--- What is read is good and in the grammar, what is good is read, and a refusal stands from where they begin on.
+-- What is read is good and in the grammar, and a refusal stands from where they begin on; and what is good is read.
 pub record DeeperLaws (signature : List ℕ → Option Signature) (n : ℕ) (deeper : Deeper) : Type 0 where
-  pub inside_sound : (start cs : List ℕ) (x : LogicalOr × List ℕ) → deeper.expression (byte_count start) cs ≡ Ok x → Read (Spaced (λ t e. IsGoodInside signature n e × ReadsOr e t)) cs x
+  pub inside_outcome : (before start cs : List ℕ) → start ≡ before ++ cs → Outcome (Spaced (Past before (IsInsideText signature n))) (Inner signature) start (deeper.expression (byte_count start) cs)
   pub inside_again : (start t : List ℕ) (e : LogicalOr) (rest : List ℕ) → IsGoodInside signature n e → ReadsOr e t → Follows ends_or rest → deeper.expression (byte_count start) (t ++ rest) ≡ Ok (e, past_blanks rest)
-  pub inside_stands : (before start cs : List ℕ) (r : Refusal) → start ≡ before ++ cs → deeper.expression (byte_count start) cs ≡ Err r → Stands (Inner signature) start r
-  pub call_sound : (start f cs : List ℕ) (x : Call × List ℕ) → deeper.call_of (byte_count start) f cs ≡ Ok x → Read (Spaced (λ t c. IsGoodCall signature n c × ReadsAfterName f c t)) cs x
-  pub call_again : (start f t : List ℕ) (c : Call) (rest : List ℕ) → IsGoodCall signature n c → ReadsAfterName f c t → deeper.call_of (byte_count start) f (t ++ rest) ≡ Ok (c, past_blanks rest)
-  pub call_stands : (start f cs : List ℕ) (r : Refusal) → IsFunctionName f f → start ≡ f ++ (40 ∷ cs) → deeper.call_of (byte_count start) f cs ≡ Err r → Stands (Inner signature) start r
+  pub call_outcome : (start f cs : List ℕ) → IsFunctionName f f → start ≡ f ++ (40 ∷ cs) → Outcome (Spaced (IsCallText signature n)) (Inner signature) start (deeper.call_of (byte_count start) f cs)
+  pub call_again : (start f : List ℕ) (args : Arguments) (j a k rest : List ℕ) → IsGoodCall signature n (call f args) → IsBlank j → ReadArguments args a → IsBlank k
+      → deeper.call_of (byte_count start) f ((j ++ (a ++ (k ++ 41 ∷ []))) ++ rest) ≡ Ok (call f args, past_blanks rest)
 
 -- ---- singular queries
 
 singular_is : (seg : Segment) → is_singular_segment seg ≡ true → IsSingularSegment seg
 singular_is (dot_name k) e = tt
-singular_is dot_wildcard e = absurd cc
-singular_is (long_hand no_selectors) e = absurd cc
 singular_is (long_hand (selector (name k) no_selectors)) e = tt
-singular_is (long_hand (selector (name k) (selector sel more))) e = absurd cc
 singular_is (long_hand (selector (index i) no_selectors)) e = tt
-singular_is (long_hand (selector (index i) (selector sel more))) e = absurd cc
-singular_is (long_hand (selector wildcard more)) e = absurd cc
-singular_is (long_hand (selector (slice s) more)) e = absurd cc
-singular_is (long_hand (selector (filter f) more)) e = absurd cc
+singular_is _ e = absurd cc
 
 is_singular_so : (seg : Segment) → IsSingularSegment seg → is_singular_segment seg ≡ true
 is_singular_so (dot_name k) h = refl
-is_singular_so dot_wildcard h = absurd h
-is_singular_so (long_hand no_selectors) h = absurd h
 is_singular_so (long_hand (selector (name k) no_selectors)) h = refl
-is_singular_so (long_hand (selector (name k) (selector sel more))) h = absurd h
 is_singular_so (long_hand (selector (index i) no_selectors)) h = refl
-is_singular_so (long_hand (selector (index i) (selector sel more))) h = absurd h
-is_singular_so (long_hand (selector wildcard more)) h = absurd h
-is_singular_so (long_hand (selector (slice s) more)) h = absurd h
-is_singular_so (long_hand (selector (filter f) more)) h = absurd h
+is_singular_so _ h = absurd h
 
 singular_segments : (segs : Segments) → are_singular segs ≡ true → AreSingular segs
 singular_segments no_segments e = tt

@@ -1,8 +1,8 @@
 -- Number literals: what is read is one, each is read, where a refusal stands, and the digits of a fraction.
-use Rattle.std.proofs.Common.{◌≡◌, ℕ, ◌+◌, ◌-◌, ◌*◌, ◌^◌, ◌≤◌, inl, inr, Bool, true, false, cond, List, [], ◌∷◌, ◌++◌, length, drop, Ok, Err, refl, sym, ap, subst, ◌∙◌, append_assoc, arith, suc, ◌<◌, min}
+use Rattle.std.proofs.Common.{◌≡◌, ℕ, ◌+◌, ◌-◌, ◌*◌, ◌^◌, ◌≤◌, inl, inr, Bool, true, false, List, [], ◌∷◌, ◌++◌, length, drop, Ok, Err, refl, sym, ap, ◌∙◌, append_assoc, arith, suc, ◌<◌, min}
 use Rattle.serde_json_path_parser.proofs.Words.{nat_le, ◌==◌, ◌||◌, ℤ, pos, ◌-ℤ◌, encode_utf8, ints, ExpectedExpression, ExponentOrEmptyFraction}
-use Rattle.serde_json_path_parser.proofs.Words.{FractionTooLong, NumberOutOfRange, Refusal, is_at, AllPass, begins, is_digit, value_from, fraction_of}
-use Rattle.serde_json_path_parser.proofs.Words.{IsDecimal, IsFraction, IsAmount, IsNumber, Parsed, ◌>>=◌, refusal, front, past, byte_count, refusal_at}
+use Rattle.serde_json_path_parser.proofs.Words.{FractionTooLong, NumberOutOfRange, is_at, AllPass, begins, is_digit, value_from, fraction_of}
+use Rattle.serde_json_path_parser.proofs.Words.{IsDecimal, IsFraction, IsAmount, IsNumber, front, past, byte_count, refusal_at}
 use Rattle.serde_json_path_parser.proofs.Words.{is_first_digit, begins_int, is_exponent, whole_at, digits_after_point_at, fraction_at, amount_at}
 use Rattle.serde_json_path_parser.proofs.Words.{greatest_amount, number_at, mul-le-mul_right, mul-lt-mul_of_pos_right, le-mul_of_pos_right, one-le-pow}
 use Rattle.serde_json_path_parser.proofs.Words.{pow-succ', and_parts, length-append, pow-add, encode_ascii, encode_utf8_all}
@@ -10,105 +10,51 @@ use Rattle.serde_json_path_syntax.specs.WellFormed.{IsLiteralAmount}
 use Rattle.serde_json_path_parser.specs.declared.error.Context.TheVariants as context
 use Rattle.serde_json_path_parser.proofs.Grammar.Integers.{decimal_read, digit_begins, zero_is, first_digit}
 use Rattle.serde_json_path_parser.proofs.Reading.Runs.{some_begun, begins_front, begins_where, differs, begins_differs, front_begins, front_each, whole, front_all, past_run}
-use Rattle.serde_json_path_parser.proofs.Reading.Steps.{Read, bind_ok, chosen, guard, done, ok_is, after_one}
-use Rattle.serde_json_path_parser.proofs.Reading.Stands.{Plain, Stands, here, bind_stands, guard_stands, no_refusal}
+use Rattle.serde_json_path_parser.proofs.Reading.Steps.{after_one}
+use Rattle.serde_json_path_parser.proofs.Reading.Stands.{Plain}
+use Rattle.serde_json_path_parser.proofs.Reading.Outcomes.{OutcomeIn, Outcome, read_so, refused, choose, guarded, past_in, onward, after_in, made}
 
--- ---- what is read is a number
+-- ---- what a reading gives, of a number that begins at start
 
-whole_sound : (start cs : List ℕ) (x : ℕ × List ℕ) → whole_at (byte_count start) cs ≡ Ok x → Read IsDecimal cs x
+whole_outcome : (start cs : List ℕ) → OutcomeIn IsDecimal Plain start cs (whole_at (byte_count start) cs)
 unfolding whole_at
-whole_sound start cs x e =
-    let wrong = refusal ExpectedExpression context.LongHand start in
-    let digits : Parsed ℕ = Ok (value_from 0 (front is_digit cs), past is_digit cs) in
-    elim (chosen (is_at "0" cs) (done (0, drop 1 cs)) (cond (begins is_first_digit cs) digits (Err wrong)) (Ok x) e) [
-      | inl a ↦ subst (Read IsDecimal cs) (ok_is (0, drop 1 cs) x a.1) (record { text = 48 ∷ []; is_so = zero_is; split = after_one 48 cs a.0 })
-      | inr a ↦
-          let g = guard (begins is_first_digit cs) wrong digits x a.1 in
-          subst (Read IsDecimal cs) (ok_is (value_from 0 (front is_digit cs), past is_digit cs) x g.1) (decimal_read cs g.0)
-    ]
+whole_outcome start cs =
+    choose (λ e. read_so (0, drop 1 cs) (record { text = 48 ∷ []; is_so = zero_is; split = after_one 48 cs e })) (λ _. guarded ExpectedExpression context.LongHand refl (λ e. read_so _ (decimal_read cs e)))
 
--- after a point
-digits_sound : (start cs ds : List ℕ) (x : ℕ × List ℕ) → cs ≡ 46 ∷ ds → digits_after_point_at (byte_count start) ds ≡ Ok x → Read IsFraction cs x
+digits_outcome : (start cs : List ℕ) → OutcomeIn (λ t n. IsFraction (46 ∷ t) n) Plain start cs (digits_after_point_at (byte_count start) cs)
 unfolding digits_after_point_at
-digits_sound start cs ds x point e =
-    let digits = front is_digit ds in
-    let rest = past is_digit ds in
-    let wrong = refusal ExponentOrEmptyFraction context.LongHand start in
-    let long = refusal FractionTooLong context.LongHand start in
-    let judged : Parsed ℕ = cond (nat_le (length digits) 9) (Ok (fraction_of digits, rest)) (Err long) in
-    let g = guard (begins is_digit ds) wrong (cond (begins is_exponent rest) (Err wrong) judged) x e in
-    elim (chosen (begins is_exponent rest) (Err wrong) judged (Ok x) g.1) [
-      | inl a ↦ absurd (let no = a.1 in cc)
-      | inr a ↦
-          let k = guard (nat_le (length digits) 9) long (done (fraction_of digits, rest)) x a.1 in
-          let some : 1 ≤ length digits = some_begun is_digit digits (front_begins is_digit is_digit ds (λ c d. d) g.0) in
-          let few : length digits ≤ 9 = grind (arith, k.0) in
-          subst (Read IsFraction cs) (ok_is (fraction_of digits, rest) x k.1) (record {
-            text = 46 ∷ digits;
-            is_so = inr (digits, refl, front_each is_digit ds, some, few, refl);
-            split = point ∙ ap (λ (l : List ℕ). 46 ∷ l) (whole is_digit ds);
-          })
-    ]
+digits_outcome start cs =
+    guarded ExponentOrEmptyFraction context.LongHand refl (λ some.
+    choose (λ _. refused ExponentOrEmptyFraction context.LongHand refl) (λ _.
+    guarded FractionTooLong context.LongHand refl (λ (few : nat_le (length (front is_digit cs)) 9 ≡ true).
+    let least : 1 ≤ length (front is_digit cs) = some_begun is_digit (front is_digit cs) (front_begins is_digit is_digit cs (λ c d. d) some) in
+    let most : length (front is_digit cs) ≤ 9 = grind (arith, few) in
+    read_so _ (record { text = front is_digit cs; is_so = inr (front is_digit cs, refl, front_each is_digit cs, least, most, refl); split = whole is_digit cs }))))
 
-fraction_sound : (start cs : List ℕ) (x : ℕ × List ℕ) → fraction_at (byte_count start) cs ≡ Ok x → Read IsFraction cs x
+fraction_outcome : (start cs : List ℕ) → OutcomeIn IsFraction Plain start cs (fraction_at (byte_count start) cs)
 unfolding fraction_at
-fraction_sound start cs x e =
-    let wrong = refusal ExponentOrEmptyFraction context.LongHand start in
-    elim (chosen (is_at "." cs) (digits_after_point_at (byte_count start) (drop 1 cs)) (cond (begins is_exponent cs) (Err wrong) (done (0, cs))) (Ok x) e) [
-      | inl a ↦ digits_sound start cs (drop 1 cs) x (after_one 46 cs a.0) a.1
-      | inr a ↦ elim (chosen (begins is_exponent cs) (Err wrong) (done (0, cs)) (Ok x) a.1) [
-        | inl b ↦ absurd (let no = b.1 in cc)
-        | inr b ↦ subst (Read IsFraction cs) (ok_is (0, cs) x b.1) (record { text = []; is_so = inl (refl, refl); split = refl })
-      ]
-    ]
+fraction_outcome start cs =
+    choose (λ e. past_in (46 ∷ []) (after_one 46 cs e) (digits_outcome start (drop 1 cs))) (λ _.
+    choose (λ _. refused ExponentOrEmptyFraction context.LongHand refl) (λ _. read_so (0, cs) (record { text = []; is_so = inl (refl, refl); split = refl })))
 
-amount_sound : (start cs : List ℕ) (x : ℕ × List ℕ) → amount_at (byte_count start) cs ≡ Ok x → Read IsAmount cs x
+amount_outcome : (start cs : List ℕ) → OutcomeIn IsAmount Plain start cs (amount_at (byte_count start) cs)
 unfolding amount_at
-amount_sound start cs x e =
-    let w = bind_ok (whole_at (byte_count start) cs) (λ whole. fraction_at (byte_count start) whole.1 >>= λ fraction. Ok ((whole.0 * 1000000000) + fraction.0, fraction.1)) x e in
-    let f = bind_ok (fraction_at (byte_count start) w.0.1) (λ fraction. Ok ((w.0.0 * 1000000000) + fraction.0, fraction.1)) x w.2 in
-    let a = whole_sound start cs w.0 w.1 in
-    let b = fraction_sound start w.0.1 f.0 f.1 in
-    subst (Read IsAmount cs) (ok_is ((w.0.0 * 1000000000) + f.0.0, f.0.1) x f.2) (record {
-      text = a.text ++ b.text;
-      is_so = (a.text, b.text, w.0.0, f.0.0, a.is_so, b.is_so, refl, refl);
-      split = a.split ∙ ap (λ (l : List ℕ). a.text ++ l) b.split ∙ sym (append_assoc a.text b.text f.0.1);
-    })
+amount_outcome start cs = after_in (whole_outcome start cs) (λ w e r.
+    made (λ n. (w.0 * 1000000000) + n) (λ t n is. (r.text, t, w.0, n, r.is_so, is, refl, refl)) (fraction_outcome start w.1))
 
-negative_in_range : (n : ℕ) → n ≤ 2 ^ 63 * 1000000000 → IsLiteralAmount (pos 0 -ℤ pos n)
-negative_in_range n most = (omega (arith, ints, most), omega (arith, ints, most))
+negative_in_range : (n : ℕ) → nat_le n (2 ^ 63 * 1000000000) ≡ true → IsLiteralAmount (pos 0 -ℤ pos n)
+negative_in_range n e = let most : n ≤ 2 ^ 63 * 1000000000 = grind (arith, e) in (omega (arith, ints, most), omega (arith, ints, most))
 
-positive_in_range : (n : ℕ) → n ≤ greatest_amount → IsLiteralAmount (pos n)
-positive_in_range n most = (omega (arith, ints, most), omega (arith, ints, most))
+positive_in_range : (n : ℕ) → nat_le n greatest_amount ≡ true → IsLiteralAmount (pos n)
+positive_in_range n e = let most : n ≤ greatest_amount = grind (arith, e) in (omega (arith, ints, most), omega (arith, ints, most))
 
-pub number_sound : (cs : List ℕ) (x : ℤ × List ℕ) → number_at cs ≡ Ok x → Read IsNumber cs x
+pub number_outcome : (cs : List ℕ) → Outcome IsNumber Plain cs (number_at cs)
 unfolding number_at
-number_sound cs x e =
-    let wrong = refusal NumberOutOfRange context.LongHand cs in
-    let below : ℕ × List ℕ → Parsed ℤ = λ n. cond (nat_le n.0 (2 ^ 63 * 1000000000)) (Ok (pos 0 -ℤ pos n.0, n.1)) (Err wrong) in
-    let above : ℕ × List ℕ → Parsed ℤ = λ n. cond (nat_le n.0 greatest_amount) (Ok (pos n.0, n.1)) (Err wrong) in
-    elim (chosen (is_at "-" cs) (amount_at (byte_count cs) (drop 1 cs) >>= below) (amount_at (byte_count cs) cs >>= above) (Ok x) e) [
-      | inl a ↦
-          let n = bind_ok (amount_at (byte_count cs) (drop 1 cs)) below x a.1 in
-          let r = amount_sound cs (drop 1 cs) n.0 n.1 in
-          let g = guard (nat_le n.0.0 (2 ^ 63 * 1000000000)) wrong (done (pos 0 -ℤ pos n.0.0, n.0.1)) x n.2 in
-          let most : n.0.0 ≤ 2 ^ 63 * 1000000000 = grind (arith, g.0) in
-          subst (Read IsNumber cs) (ok_is (pos 0 -ℤ pos n.0.0, n.0.1) x g.1) (record {
-            text = 45 ∷ r.text;
-            is_so = ((n.0.0, inr (r.text, r.is_so, refl, refl)), negative_in_range n.0.0 most);
-            split = after_one 45 cs a.0 ∙ ap (λ (l : List ℕ). 45 ∷ l) r.split;
-          })
-      | inr a ↦
-          let n = bind_ok (amount_at (byte_count cs) cs) above x a.1 in
-          let r = amount_sound cs cs n.0 n.1 in
-          let g = guard (nat_le n.0.0 greatest_amount) wrong (done (pos n.0.0, n.0.1)) x n.2 in
-          let most : n.0.0 ≤ greatest_amount = grind (arith, g.0) in
-          subst (Read IsNumber cs) (ok_is (pos n.0.0, n.0.1) x g.1) (record {
-            text = r.text;
-            is_so = ((n.0.0, inl (r.is_so, refl)), positive_in_range n.0.0 most);
-            split = r.split;
-          })
-    ]
+number_outcome cs =
+    choose (λ e. past_in (45 ∷ []) (after_one 45 cs e) (onward (amount_outcome cs (drop 1 cs)) (λ n f r. guarded NumberOutOfRange context.LongHand refl (λ most.
+    read_so _ (record { text = r.text; is_so = ((n.0, inr (r.text, r.is_so, refl, refl)), negative_in_range n.0 most); split = r.split }))))) (λ _.
+    onward (amount_outcome cs cs) (λ n f r. guarded NumberOutOfRange context.LongHand refl (λ most.
+    read_so _ (record { text = r.text; is_so = ((n.0, inl (r.is_so, refl)), positive_in_range n.0 most); split = r.split }))))
 
 -- ---- each number is read
 
@@ -208,57 +154,6 @@ pub number_first : (p : ℕ → Bool) (b : Bool) (t : List ℕ) (amount : ℤ) (
 number_first p b t amount rest h is = elim is.0.1 [
   | inl above ↦ amount_first p b t is.0.0 rest (λ c d. h c (digit_begins c d)) above.0
   | inr below ↦ ap (λ (l : List ℕ). begins p (l ++ rest)) below.2 ∙ h 45 refl
-]
-
--- ---- where a refusal stands
-
-whole_stands : (start cs : List ℕ) (r : Refusal) → whole_at (byte_count start) cs ≡ Err r → Stands Plain start r
-unfolding whole_at
-whole_stands start cs r e = elim (chosen (is_at "0" cs) (done (0, drop 1 cs)) _ (Err r) e) [
-  | inl a ↦ no_refusal start _ r a.1
-  | inr a ↦ guard_stands start (begins is_first_digit cs) _ ExpectedExpression context.LongHand r refl (no_refusal start _ r) a.1
-]
-
-digits_stand : (start cs : List ℕ) (r : Refusal) → digits_after_point_at (byte_count start) cs ≡ Err r → Stands Plain start r
-unfolding digits_after_point_at
-digits_stand start cs r e =
-    let refused : Parsed ℕ = Err (refusal ExponentOrEmptyFraction context.LongHand start) in
-    let digits = front is_digit cs in
-    let rest = past is_digit cs in
-    let judged : Parsed ℕ = cond (nat_le (length digits) 9) (Ok (fraction_of digits, rest)) (Err (refusal FractionTooLong context.LongHand start)) in
-    guard_stands start (begins is_digit cs) (cond (begins is_exponent rest) refused judged) ExponentOrEmptyFraction context.LongHand r refl (λ f.
-    elim (chosen (begins is_exponent rest) refused judged (Err r) f) [
-      | inl a ↦ here ExponentOrEmptyFraction context.LongHand start refused r refl refl a.1
-      | inr a ↦ guard_stands start (nat_le (length digits) 9) _ FractionTooLong context.LongHand r refl (no_refusal start _ r) a.1
-    ]) e
-
-fraction_stands : (start cs : List ℕ) (r : Refusal) → fraction_at (byte_count start) cs ≡ Err r → Stands Plain start r
-unfolding fraction_at
-fraction_stands start cs r e =
-    let refused : Parsed ℕ = Err (refusal ExponentOrEmptyFraction context.LongHand start) in
-    elim (chosen (is_at "." cs) (digits_after_point_at (byte_count start) (drop 1 cs)) (cond (begins is_exponent cs) refused (done (0, cs))) (Err r) e) [
-      | inl a ↦ digits_stand start (drop 1 cs) r a.1
-      | inr a ↦ elim (chosen (begins is_exponent cs) refused (done (0, cs)) (Err r) a.1) [
-        | inl b ↦ here ExponentOrEmptyFraction context.LongHand start refused r refl refl b.1
-        | inr b ↦ no_refusal start _ r b.1
-      ]
-    ]
-
-amount_stands : (start cs : List ℕ) (r : Refusal) → amount_at (byte_count start) cs ≡ Err r → Stands Plain start r
-unfolding amount_at
-amount_stands start cs r e =
-    bind_stands start (whole_at (byte_count start) cs) _ r (whole_stands start cs) (λ whole s f.
-    bind_stands start (fraction_at (byte_count start) whole.1) _ r (fraction_stands start whole.1) (λ fraction t h. no_refusal start _ r h) f) e
-
-pub number_stands : (cs : List ℕ) (r : Refusal) → number_at cs ≡ Err r → Stands Plain cs r
-unfolding number_at
-number_stands cs r e = elim (chosen (is_at "-" cs) _ _ (Err r) e) [
-  | inl a ↦
-      bind_stands cs (amount_at (byte_count cs) (drop 1 cs)) _ r (amount_stands cs (drop 1 cs)) (λ n s f.
-      guard_stands cs (nat_le n.0 (2 ^ 63 * 1000000000)) _ NumberOutOfRange context.LongHand r refl (no_refusal cs _ r) f) a.1
-  | inr a ↦
-      bind_stands cs (amount_at (byte_count cs) cs) _ r (amount_stands cs cs) (λ n s f.
-      guard_stands cs (nat_le n.0 greatest_amount) _ NumberOutOfRange context.LongHand r refl (no_refusal cs _ r) f) a.1
 ]
 
 -- ---- the digits after a point, as the code counts them

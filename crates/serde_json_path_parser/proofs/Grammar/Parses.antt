@@ -1,8 +1,8 @@
 -- What the whole reading says of a text: the promises of a parse.
-use Rattle.std.proofs.Common.{◌≡◌, ◌≢◌, ℕ, ◌+◌, ◌-◌, ◌<◌, ◌≤◌, inl, inr, ◌↔◌, false, true≢false, List, [], ◌∷◌, ◌++◌, length, take, drop, Option, Some, Ok, Err, refl, sym, ap, subst, ◌∙◌, arith}
+use Rattle.std.proofs.Common.{◌≡◌, ◌≢◌, ℕ, ◌+◌, ◌-◌, ◌<◌, ◌≤◌, inl, inr, ◌↔◌, false, true≢false, List, ◌∷◌, ◌++◌, length, take, drop, Option, Some, Ok, Err, refl, sym, ap, subst, ◌∙◌, arith}
 use Rattle.serde_json_path_parser.proofs.Words.{◌&&◌, chars, IsUtf8, IsCharBoundary, encode_utf8_all, length-append, take-append_seam, drop-append_seam}
 use Rattle.serde_json_path_parser.proofs.Words.{IsCharBoundary-start, chars-encodes, scalars-chars, Query, query, root, current, Segments, Signature}
-use Rattle.serde_json_path_parser.proofs.Words.{greatest_usize, Refusal, Failure, ParseErrorKind, ExpectedRoot, UndefinedFunction, TextAfterPath, NoMemory}
+use Rattle.serde_json_path_parser.proofs.Words.{greatest_usize, Refusal, Failure, ExpectedRoot, UndefinedFunction, TextAfterPath, NoMemory}
 use Rattle.serde_json_path_parser.proofs.Words.{tree_of, signatures_of, begins, opens, AreCalled, opens_next, opens_after_root, IsUndeclared, Reports, reported}
 use Rattle.serde_json_path_parser.proofs.Words.{path_at, Fails, IsRefused, IsWithin, error_of, is_dollar, NeedsNoMemory, ParsedQuery, Answers, checked_view}
 use Rattle.serde_json_path_parser.specs.declared.error.Failure.TheVariants as failures
@@ -10,9 +10,8 @@ use Rattle.serde_json_path_syntax.specs.declared.checked.Checked.{Checked}
 use Rattle.serde_json_path_parser.specs.Accepted.{IsAccepted}
 use Rattle.serde_json_path_parser.specs.Laws.{OneTreeAtMost}
 use Rattle.serde_json_path_parser.proofs.Reading.Regrouped.{past_all}
-use Rattle.serde_json_path_parser.proofs.Grammar.Paths.{ArePathSegments, path_sound, path_again, NoRoot, TextAfter, SegmentRefused, path_refused, boundary}
+use Rattle.serde_json_path_parser.proofs.Grammar.Paths.{ArePathSegments, path_outcome, path_again, boundary}
 use Rattle.serde_json_path_parser.proofs.Printing.Spelling.{scalars_of}
-use Rattle.serde_json_path_parser.proofs.Reading.Stands.{is_plain, Inner}
 use Rattle.serde_json_path_parser.proofs.Reading.Steps.{ok_is}
 
 -- what is read is accepted
@@ -66,15 +65,6 @@ text_from text before rest left u split is =
 
 -- ---- what a refusal tells
 
--- what is reported of a segment is neither that the root is missing, nor text after the path, nor want of memory
-inner_differs : (signature : List ℕ → Option Signature) (kind other : ParseErrorKind) (rest : List ℕ) → is_plain other ≡ false → UndefinedFunction ≢ other → Inner signature kind rest → kind ≡ other → ⊥
-inner_differs signature kind other rest outer differs (inl plain) e = true≢false (sym plain ∙ ap is_plain e ∙ outer)
-inner_differs signature kind other rest outer differs (inr undefined) e = differs (sym undefined.0 ∙ e)
-
-undeclared_there : (signature : List ℕ → Option Signature) (kind : ParseErrorKind) (rest : List ℕ) → Inner signature kind rest → kind ≡ UndefinedFunction → IsUndeclared signature rest
-undeclared_there signature kind rest (inl plain) e = absurd (true≢false (sym plain ∙ ap is_plain e))
-undeclared_there signature kind rest (inr undefined) e = undefined.1
-
 record Told (signature : List ℕ → Option Signature) (text : List ℕ) (r : Refusal) : Type 0 where
   no_memory : r.kind ≢ NoMemory
   root_missing : (r.kind ≡ ExpectedRoot) ↔ (begins is_dollar (chars text) ≡ false)
@@ -83,55 +73,21 @@ record Told (signature : List ℕ → Option Signature) (text : List ℕ) (r : R
   placed : (r.left ≤ length text) × IsCharBoundary text (length text - r.left)
 
 module _ (signature : List ℕ → Option Signature) (text : List ℕ) (u : IsUtf8 text) where
-  of_kind : (r : Refusal) (kind other : ParseErrorKind) → kind ≡ r.kind → r.kind ≡ other → kind ≡ other
-  of_kind r kind other e f = e ∙ f
-
-  told_no_root : (r : Refusal) → NoRoot (chars text) r → Told signature text r
-  told_no_root r h =
-      let kind : ExpectedRoot ≡ r.kind = ap (λ (x : Refusal). x.kind) h.is in
-      let b = boundary text [] (chars text) r.left u refl (sym (ap (λ (x : Refusal). x.left) h.is)) in
-      record {
-        no_memory = λ e. let f = of_kind r ExpectedRoot NoMemory kind e in cc;
-        root_missing = ((λ e. h.begins_not), (λ e. sym kind));
-        after = λ e. absurd (let f = of_kind r ExpectedRoot TextAfterPath kind e in cc);
-        undefined = λ e. absurd (let f = of_kind r ExpectedRoot UndefinedFunction kind e in cc);
-        placed = (b.0, b.1);
-      }
-
-  told_text_after : (r : Refusal) → TextAfter signature (chars text) r → Told signature text r
-  told_text_after r h =
-      let kind : TextAfterPath ≡ r.kind = ap (λ (x : Refusal). x.kind) h.is in
-      let left : r.left ≡ length (encode_utf8_all h.rest) = sym (ap (λ (x : Refusal). x.left) h.is) in
-      let b = boundary text (36 ∷ h.path) h.rest r.left u h.split left in
-      record {
-        no_memory = λ e. let f = of_kind r TextAfterPath NoMemory kind e in cc;
-        root_missing = ((λ e. absurd (let f = of_kind r TextAfterPath ExpectedRoot kind e in cc)), (λ e. absurd (true≢false (sym (ap (begins is_dollar) h.split) ∙ e))));
-        after = λ e. (
-          query root h.segments,
-          subst (λ (cs : List ℕ). IsAccepted signature cs (query root h.segments)) (sym (path_before text h.path h.rest r.left u h.split left))
-              (accepted signature (36 ∷ h.path) h.path h.segments refl h.are),
-        );
-        undefined = λ e. absurd (let f = of_kind r TextAfterPath UndefinedFunction kind e in cc);
-        placed = (b.0, b.1);
-      }
-
-  told_segment : (r : Refusal) → SegmentRefused signature (chars text) r → Told signature text r
-  told_segment r h =
-      let b = boundary text h.stands.before h.stands.rest r.left u h.stands.split h.stands.left in
-      record {
-        no_memory = inner_differs signature r.kind NoMemory h.stands.rest refl (λ f. cc) h.stands.tells;
-        root_missing = ((λ e. absurd (inner_differs signature r.kind ExpectedRoot h.stands.rest refl (λ f. cc) h.stands.tells e)), (λ e. absurd (true≢false (sym h.rooted ∙ e))));
-        after = λ e. absurd (inner_differs signature r.kind TextAfterPath h.stands.rest refl (λ f. cc) h.stands.tells e);
-        undefined = λ e.
-            subst (IsUndeclared signature) (sym (text_from text h.stands.before h.stands.rest r.left u h.stands.split h.stands.left)) (undeclared_there signature r.kind h.stands.rest h.stands.tells e);
-        placed = (b.0, b.1);
-      }
-
   told : (r : Refusal) → path_at signature (chars text) ≡ Err r → Told signature text r
-  told r e = elim (path_refused signature (chars text) r e) [
-    | inl h ↦ told_no_root r h
-    | inr h ↦ elim h [ inl g ↦ told_text_after r g | inr g ↦ told_segment r g ]
-  ]
+  told r e =
+      let s = (path_outcome signature (chars text)).stands r e in
+      let b = boundary text s.before s.rest r.left u s.split s.left in
+      record {
+        no_memory = s.tells.no_memory;
+        root_missing = s.tells.root_missing;
+        after = λ e.
+            let h = s.tells.after e in (
+              query root h.1,
+              subst (λ (cs : List ℕ). IsAccepted signature cs (query root h.1)) (sym (path_before text h.0 s.rest r.left u h.3 s.left)) (accepted signature (36 ∷ h.0) h.0 h.1 refl h.2),
+            );
+        undefined = λ e. subst (IsUndeclared signature) (sym (text_from text s.before s.rest r.left u s.split s.left)) (s.tells.undefined e);
+        placed = (b.0, b.1);
+      }
 
   -- where the refusal stands
   pub within : (s : Failure) (total : ℕ) → total ≡ length text → Fails s (path_at signature (chars text)) → IsWithin s total
@@ -153,7 +109,7 @@ module _ (signature : List ℕ → Option Signature) (text : List ℕ) (u : IsUt
 
   pub parsed : (short : length text < greatest_usize) (segs : Segments) (checked : Checked) → tree_of checked ≡ query root segs → AreCalled (signatures_of checked) (query root segs) → path_at signature (chars text) ≡ Ok segs → Answers signature text (Ok (checked_view checked))
   parsed short segs checked tree kept e =
-      let s = path_sound signature (chars text) segs e in
+      let s = (path_outcome signature (chars text)).reads segs e in
       record {
         accepted = subst (IsAccepted signature (chars text)) (sym tree) (accepted signature (chars text) s.0 segs s.2 s.1);
         kept = subst (AreCalled (signatures_of checked)) (sym tree) kept;
@@ -198,7 +154,7 @@ module _ (signature : List ℕ → Option Signature) (text : List ℕ) (u : IsUt
 
   pub parsed_reported : (read : ParsedQuery) (segs : Segments) → path_at signature (chars text) ≡ Ok segs → Reports signature text (Ok read)
   parsed_reported read segs e =
-      let s = path_sound signature (chars text) segs e in
+      let s = (path_outcome signature (chars text)).reads segs e in
       record {
         told = tt;
         missing_root = ((λ h. absurd h), (λ h. true≢false (sym (ap (begins is_dollar) s.2) ∙ h.1)));

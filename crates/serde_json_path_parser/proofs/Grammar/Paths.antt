@@ -1,23 +1,22 @@
 -- Whole paths: what is read is well-typed and at most 128 deep, each of those is read, and where a refusal stands.
-use Rattle.std.proofs.Common.{◌≡◌, ℕ, ◌≤◌, true, false, cond, List, [], ◌∷◌, ◌++◌, length, drop, Option, Result, Ok, Err, refl, sym, ap, subst, ◌∙◌, arith, ◌+◌, ◌-◌, ◌⊎◌, inl, inr, Bool}
+use Rattle.std.proofs.Common.{◌≡◌, ◌≢◌, ℕ, ◌≤◌, ◌↔◌, true, false, true≢false, cond, List, [], ◌∷◌, ◌++◌, length, drop, Option, Result, Ok, Err, refl, sym, ap, subst, ◌∙◌, arith, ◌+◌, ◌-◌, inl, inr}
 use Rattle.serde_json_path_parser.proofs.Words.{◌==◌, encode_utf8, encode_utf8_all, all_scalars, chars, IsUtf8, IsCharBoundary, append-nil, length-append}
 use Rattle.serde_json_path_parser.proofs.Words.{nil_from_length, eqb-true, SegmentKind, Segments, Segment, AreTypedSegments, segments_depth, deepest, Signature}
-use Rattle.serde_json_path_parser.proofs.Words.{ExpectedRoot, TextAfterPath, Refusal, is_at, begins, ReadSegments, Parsed, ◌>>=◌, refusal, opens_next}
+use Rattle.serde_json_path_parser.proofs.Words.{ParseErrorKind, ExpectedRoot, UndefinedFunction, TextAfterPath, NoMemory, IsUndeclared, Refusal, is_at, begins, ReadSegments, Parsed, ◌>>=◌, refusal, opens_next}
 use Rattle.serde_json_path_parser.proofs.Words.{segments_at, segment_list, opens_after_root, level, path_at, encodes-chars, encodes-append, scalars-chars}
 use Rattle.serde_json_path_parser.proofs.Words.{IsCharBoundary-at_seam}
 use Rattle.serde_json_path_parser.specs.declared.error.Context.TheVariants as context
 use Rattle.serde_json_path_parser.specs.Filters.{filter_at}
 use Rattle.serde_json_path_parser.proofs.Texts.Decoding.{some_bytes}
 use Rattle.serde_json_path_parser.proofs.Grammar.Filtered.{FilterLaws}
-use Rattle.serde_json_path_parser.proofs.Grammar.Filters.{filter_laws, filters_stand}
+use Rattle.serde_json_path_parser.proofs.Grammar.Filters.{filter_laws}
 use Rattle.serde_json_path_parser.proofs.Grammar.Levels.{level_laws}
 use Rattle.serde_json_path_parser.proofs.Grammar.LogicalForms.{IsGoodInside, good_segments, segments_good}
-use Rattle.serde_json_path_parser.proofs.Grammar.Segments.{segments_sound, segments_again, same_segments, no_segments_read, segments_stand}
+use Rattle.serde_json_path_parser.proofs.Grammar.Segments.{segments_outcome, segments_again, same_segments, no_segments_read}
 use Rattle.serde_json_path_parser.proofs.Printing.Spelling.{scalars_of}
-use Rattle.serde_json_path_parser.proofs.Reading.Steps.{bind_ok, guard, done, ok_is, after_one, chosen}
-use Rattle.serde_json_path_parser.proofs.Reading.Stands.{Inner, Stands, err_is, drop_one}
-
--- ---- what is read is in the grammar, and what is in the grammar is read
+use Rattle.serde_json_path_parser.proofs.Reading.Steps.{ok_is, after_one}
+use Rattle.serde_json_path_parser.proofs.Reading.Stands.{is_plain, Inner, Stands}
+use Rattle.serde_json_path_parser.proofs.Reading.Outcomes.{Gives, gives, refuses, choose, onward}
 
 -- the end of a text whose segments were read
 abbrev at_end : Parsed (List (SegmentKind × Segment)) → Result Segments Refusal
@@ -37,7 +36,7 @@ module _ (signature : List ℕ → Option Signature) where
   path_segments_at cs = segments_at (filter_at signature (level signature deepest)) context.Path cs
 
   -- how the filters of a path are read
-  pub path_filters : FilterLaws (IsGoodInside signature deepest) (filter_at signature (level signature deepest))
+  pub path_filters : FilterLaws signature (IsGoodInside signature deepest) (filter_at signature (level signature deepest))
   path_filters = filter_laws signature deepest (level signature deepest) (level_laws signature deepest)
 
   -- segments in a row, well-typed and at most 128 deep
@@ -61,22 +60,7 @@ module _ (signature : List ℕ → Option Signature) where
       let empty = no_segments_read (filter_at signature (level signature deepest)) context.Path ds closed in
       ap (λ (x : List (SegmentKind × Segment) × List ℕ). x.0) (ok_is (ss, rest) ([], ds) (sym read ∙ empty))
 
-  -- ---- the whole text
-
-  pub path_segments_sound : (cs : List ℕ) (x : List (SegmentKind × Segment) × List ℕ) → path_segments_at cs ≡ Ok x → (t : List ℕ) × ArePathSegments t (segment_list x.0) × (cs ≡ t ++ x.1)
-  path_segments_sound cs x e =
-      let r = segments_sound (filter_at signature (level signature deepest)) (IsGoodInside signature deepest) path_filters context.Path cs x e in
-      (r.text, (good_segments signature deepest (segment_list x.0) r.is_so.0, r.is_so.1), r.split)
-
-  pub path_sound : (cs : List ℕ) (segs : Segments) → path_at signature cs ≡ Ok segs → (a : List ℕ) × ArePathSegments a segs × (cs ≡ 36 ∷ a)
-  unfolding path_at
-  path_sound cs segs e =
-      let g = guard (is_at "$" cs) (refusal ExpectedRoot context.Path cs) (at_end (path_segments_at (drop 1 cs))) segs e in
-      let b = bind_ok (path_segments_at (drop 1 cs)) (λ ss. cond (length ss.1 == 0) (Ok (segment_list ss.0)) (Err (refusal TextAfterPath context.Path ss.1))) segs g.1 in
-      let k = guard (length b.0.1 == 0) (refusal TextAfterPath context.Path b.0.1) (done (segment_list b.0.0)) segs b.2 in
-      let r = path_segments_sound (drop 1 cs) b.0 b.1 in
-      subst (λ (ss : Segments). (a : List ℕ) × ArePathSegments a ss × (cs ≡ 36 ∷ a)) (ok_is (segment_list b.0.0) segs k.1)
-      (r.0, r.1, after_one 36 cs g.0 ∙ ap (λ (l : List ℕ). 36 ∷ l) (r.2 ∙ ap (λ (l : List ℕ). r.0 ++ l) (nothing b.0.1 k.0) ∙ append-nil r.0))
+  -- ---- each path is read
 
   pub path_again : (t a : List ℕ) (segs : Segments) → ArePathSegments a segs → t ≡ 36 ∷ a → path_at signature t ≡ Ok segs
   unfolding path_at
@@ -86,66 +70,66 @@ module _ (signature : List ℕ → Option Signature) where
       let all = ap path_segments_at (sym (append-nil a)) ∙ again in
       ap (path_at signature) e ∙ rw all (ap (λ (ss : Segments). Ok ss) (same_segments segs))
 
--- ---- where a refusal stands
+-- ---- what a reading gives
 
--- ---- the whole text
+-- what is reported of a segment is neither that the root is missing, nor text after the path, nor want of memory
+inner_differs : (signature : List ℕ → Option Signature) (kind other : ParseErrorKind) (rest : List ℕ) → is_plain other ≡ false → UndefinedFunction ≢ other → Inner signature kind rest → kind ≡ other → ⊥
+inner_differs signature kind other rest outer differs (inl plain) e = true≢false (sym plain ∙ ap is_plain e ∙ outer)
+inner_differs signature kind other rest outer differs (inr undefined) e = differs (sym undefined.0 ∙ e)
 
--- there is no root
-pub record NoRoot (cs : List ℕ) (r : Refusal) : Type 0 where
-  pub begins_not : is_at "$" cs ≡ false
-  pub is : refusal ExpectedRoot context.Path cs ≡ r
+undeclared_there : (signature : List ℕ → Option Signature) (kind : ParseErrorKind) (rest : List ℕ) → Inner signature kind rest → kind ≡ UndefinedFunction → IsUndeclared signature rest
+undeclared_there signature kind rest (inl plain) e = absurd (true≢false (sym plain ∙ ap is_plain e))
+undeclared_there signature kind rest (inr undefined) e = undefined.1
 
 module _ (signature : List ℕ → Option Signature) where
-  -- a path, and more after it
-  pub record TextAfter (cs : List ℕ) (r : Refusal) : Type 0 where
-    pub path : List ℕ
-    pub rest : List ℕ
-    pub segments : Segments
-    pub split : cs ≡ 36 ∷ (path ++ rest)
-    pub are : ArePathSegments signature path segments
-    pub is : refusal TextAfterPath context.Path rest ≡ r
+  -- what a kind tells of the whole text, and of its rest from the refusal on
+  pub record PathTells (cs : List ℕ) (kind : ParseErrorKind) (rest : List ℕ) : Type 0 where
+    pub no_memory : kind ≢ NoMemory
+    pub root_missing : (kind ≡ ExpectedRoot) ↔ (is_at "$" cs ≡ false)
+    pub after : kind ≡ TextAfterPath → (path : List ℕ) × (segs : Segments) × ArePathSegments signature path segs × (cs ≡ 36 ∷ (path ++ rest))
+    pub undefined : kind ≡ UndefinedFunction → IsUndeclared signature rest
 
-  -- a refusal of a segment
-  pub record SegmentRefused (cs : List ℕ) (r : Refusal) : Type 0 where
-    pub rooted : is_at "$" cs ≡ true
-    pub stands : Stands (Inner signature) cs r
-    pub some : opens_next (drop 1 cs) ≡ true
+  in_segment : (cs : List ℕ) (kind : ParseErrorKind) (rest : List ℕ) → is_at "$" cs ≡ true → Inner signature kind rest → PathTells cs kind rest
+  in_segment cs kind rest rooted h = record {
+    no_memory = inner_differs signature kind NoMemory rest refl (λ f. cc) h;
+    root_missing = ((λ e. absurd (inner_differs signature kind ExpectedRoot rest refl (λ f. cc) h e)), (λ e. absurd (true≢false (sym rooted ∙ e))));
+    after = λ e. absurd (inner_differs signature kind TextAfterPath rest refl (λ f. cc) h e);
+    undefined = undeclared_there signature kind rest h;
+  }
 
-  no_segment_refused : (cs : List ℕ) (r : Refusal) → path_segments_at signature cs ≡ Err r → (b : Bool) → opens_next cs ≡ b → opens_next cs ≡ true
-  no_segment_refused cs r e true t = t
-  no_segment_refused cs r e false t =
-      let none = no_segments_read (filter_at signature (level signature deepest)) context.Path cs t in
-      let f : done {A = List (SegmentKind × Segment) × List ℕ} ([], cs) ≡ Err r = sym none ∙ e in
-      absurd cc
-
-  pub path_refused : (cs : List ℕ) (r : Refusal) → path_at signature cs ≡ Err r → NoRoot cs r ⊎ (TextAfter cs r ⊎ SegmentRefused cs r)
+  pub path_outcome : (cs : List ℕ) → Gives (λ segs. (a : List ℕ) × ArePathSegments signature a segs × (cs ≡ 36 ∷ a)) (Stands (PathTells cs) cs) (path_at signature cs)
   unfolding path_at
-  path_refused cs r e = elim (chosen (is_at "$" cs) _ _ (Err r) e) [
-    | inr a ↦ inl (record { begins_not = a.0; is = err_is {A = Segments} (refusal ExpectedRoot context.Path cs) r (Err (refusal ExpectedRoot context.Path cs)) refl a.1 })
-    | inl a ↦ inr (after_root a.0 (path_segments_at signature (drop 1 cs)) refl a.1)
-  ]
-    where
-      after_root : is_at "$" cs ≡ true → (read : Parsed (List (SegmentKind × Segment))) → path_segments_at signature (drop 1 cs) ≡ read
-          → (read >>= λ ss. cond (length ss.1 == 0) (done (segment_list ss.0)) (Err (refusal TextAfterPath context.Path ss.1))) ≡ Err r → TextAfter cs r ⊎ SegmentRefused cs r
-      after_root root (Err d) is h =
-          let same : d ≡ r = cc in
-          let refused = is ∙ ap (λ (x : Refusal). Err x) same in
-          let refusals = filters_stand signature deepest (level signature deepest) (level_laws signature deepest) in
-          let stands = segments_stand signature (filter_at signature (level signature deepest)) (IsGoodInside signature deepest) (path_filters signature) refusals context.Path (drop 1 cs) r refused in
-          inr (record { rooted = root; stands = drop_one cs r stands; some = no_segment_refused (drop 1 cs) r refused (opens_next (drop 1 cs)) refl })
-      after_root root (Ok ss) is h = elim (chosen (length ss.1 == 0) _ _ (Err r) h) [
-        | inl b ↦ absurd (let k = b.1 in cc)
-        | inr b ↦
-            let read = path_segments_sound signature (drop 1 cs) ss is in
-            inl (record {
-              path = read.0;
-              rest = ss.1;
-              segments = segment_list ss.0;
-              split = after_one 36 cs root ∙ ap (λ (l : List ℕ). 36 ∷ l) read.2;
-              are = read.1;
-              is = err_is {A = Segments} (refusal TextAfterPath context.Path ss.1) r (Err (refusal TextAfterPath context.Path ss.1)) refl b.1;
-            })
-      ]
+  path_outcome cs = choose (λ root.
+      let begun = after_one 36 cs root in
+      let segments = segments_outcome (filter_at signature (level signature deepest)) (IsGoodInside signature deepest) (path_filters signature) context.Path (drop 1 cs) in
+      onward (record {
+        reads = segments.reads;
+        stands = λ r e.
+            let s = segments.stands r e in
+            record { before = 36 ∷ s.before; rest = s.rest; split = begun ∙ ap (λ (l : List ℕ). 36 ∷ l) s.split; left = s.left; tells = in_segment cs r.kind s.rest root s.tells };
+      }) (λ ss _ r.
+      let split : cs ≡ 36 ∷ (r.text ++ ss.1) = begun ∙ ap (λ (l : List ℕ). 36 ∷ l) r.split in
+      let are : ArePathSegments signature r.text (segment_list ss.0) = (good_segments signature deepest (segment_list ss.0) r.is_so.0, r.is_so.1) in
+      choose (λ e. gives (segment_list ss.0) (r.text, are, split ∙ ap (λ (l : List ℕ). 36 ∷ (r.text ++ l)) (nothing ss.1 e) ∙ ap (λ (l : List ℕ). 36 ∷ l) (append-nil r.text))) (λ e.
+      refuses (refusal TextAfterPath context.Path ss.1) (record {
+        before = 36 ∷ r.text;
+        rest = ss.1;
+        split = split;
+        left = refl;
+        tells = record {
+          no_memory = λ e. cc;
+          root_missing = ((λ e. absurd cc), (λ e. absurd (true≢false (sym root ∙ e))));
+          after = λ e. (r.text, segment_list ss.0, are, split);
+          undefined = λ e. absurd cc;
+        };
+      })))) (λ none.
+      refuses (refusal ExpectedRoot context.Path cs) (record {
+        before = [];
+        rest = cs;
+        split = refl;
+        left = refl;
+        tells = record { no_memory = λ e. cc; root_missing = ((λ e. none), (λ e. refl)); after = λ e. absurd cc; undefined = λ e. absurd cc };
+      }))
 
 -- ---- the place in bytes
 

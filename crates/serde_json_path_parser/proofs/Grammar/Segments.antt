@@ -1,39 +1,33 @@
 -- Segments: what is read is a good one, each of those is read, and where a refusal stands.
-use Rattle.std.proofs.Common.{◌≡◌, ℕ, ◌<◌, inl, inr, true, false, List, [], ◌∷◌, ◌++◌, length, drop, Ok, refl, sym, ap, subst, ◌∙◌, append_assoc, arith, Option, Err}
-use Rattle.serde_json_path_parser.proofs.Words.{◌==◌, codes, encode_utf8_all, length-append, SegmentKind, child, descendant, Segments, no_segments, segment}
-use Rattle.serde_json_path_parser.proofs.Words.{Segment, dot_name, dot_wildcard, long_hand, Selector, LogicalOr, BadMemberName, ExpectedClosingBracket, is_at}
+use Rattle.std.proofs.Common.{◌≡◌, ℕ, ◌<◌, true, false, List, [], ◌∷◌, ◌++◌, length, drop, Ok, refl, sym, ap, ◌∙◌, append_assoc, arith, Option}
+use Rattle.serde_json_path_parser.proofs.Words.{◌==◌, length-append, SegmentKind, child, descendant, Segments, no_segments, segment}
+use Rattle.serde_json_path_parser.proofs.Words.{Segment, dot_name, dot_wildcard, long_hand, Selector, LogicalOr, BadMemberName, is_at}
 use Rattle.serde_json_path_parser.proofs.Words.{begins, is_blank, IsBlank, is_name_first, is_name_char, IsName, Joined, opens, ReadSegments, dots_before_name}
-use Rattle.serde_json_path_parser.proofs.Words.{Parsed, ◌>>=◌, refusal, front, past, past_blanks, many, after_dot, name_at, bracket_at, dotted_at}
-use Rattle.serde_json_path_parser.proofs.Words.{descendant_at, of_kind, dot_at, segment_at, opens_next, next_segment_at, segments_at, segment_list, selector_at}
-use Rattle.serde_json_path_parser.proofs.Words.{next_selector_at, selectors_at, selector_list, Signature, Refusal, ParseErrorKind}
+use Rattle.serde_json_path_parser.proofs.Words.{Parsed, front, past_blanks, many, after_dot, name_at, dotted_at}
+use Rattle.serde_json_path_parser.proofs.Words.{descendant_at, dot_at, segment_at, opens_next, next_segment_at, segments_at, segment_list}
+use Rattle.serde_json_path_parser.proofs.Words.{Signature}
 use Rattle.serde_json_path_parser.specs.declared.error.Context as declared
 use Rattle.serde_json_path_parser.proofs.Reading.Regrouped.{past_all, blanks_of, are_blank, split_blanks, no_longer, begins_not}
-use Rattle.serde_json_path_parser.proofs.Grammar.Brackets.{IsSegmentText, bracket_sound, bracket_again, is_comma, next_sound, selectors_sound}
-use Rattle.serde_json_path_parser.proofs.Grammar.Filtered.{AreGoodSegments, FilterLaws, IsGoodText, FiltersStand}
+use Rattle.serde_json_path_parser.proofs.Grammar.Brackets.{IsSegmentText, bracket_outcome, bracket_again}
+use Rattle.serde_json_path_parser.proofs.Grammar.Filtered.{AreGoodSegments, FilterLaws}
 use Rattle.serde_json_path_parser.proofs.Reading.Many as m
 use Rattle.serde_json_path_parser.proofs.Reading.Runs.{some_begun, begins_front, begins_where, begins_differs, no_blank, whole, front_each, front_begins, front_all, past_run}
-use Rattle.serde_json_path_parser.proofs.Reading.Steps.{Read, bind_ok, chosen, guard, done, ok_is, after_one, many_sound, Again, many_again}
-use Rattle.serde_json_path_parser.specs.declared.error.Context.TheVariants as context
-use Rattle.serde_json_path_parser.proofs.Reading.Rows.{IsNext}
-use Rattle.serde_json_path_parser.proofs.Grammar.Selectors.{selector_stands, selector_sound}
-use Rattle.serde_json_path_parser.proofs.Reading.Stands.{Plain, Inner, Stands, inside, further, bind_stands, guard_stands, no_refusal, drop_one, drop_blanks, many_stands}
-
--- ---- what is read is in the grammar, and what is in the grammar is read
+use Rattle.serde_json_path_parser.proofs.Reading.Steps.{after_one, Again, many_again}
+use Rattle.serde_json_path_parser.proofs.Reading.Stands.{Plain, Inner}
+use Rattle.serde_json_path_parser.proofs.Reading.Outcomes.{Outcome, read_so, choose, guarded, weaker, past, along, made, inner, many_outcome}
 
 -- ---- member names
 
 start_is_char : (c : ℕ) → is_name_first c ≡ true → is_name_char c ≡ true
 start_is_char c e = rw e refl
 
-name_sound : (here : declared.Context) (cs : List ℕ) (x : List ℕ × List ℕ) → name_at here cs ≡ Ok x → Read IsName cs x
+name_outcome : (at : declared.Context) (cs : List ℕ) → Outcome IsName Plain cs (name_at at cs)
 unfolding name_at
-name_sound here cs x e =
-    let g = guard (begins is_name_first cs) (refusal BadMemberName here cs) (done (encode_utf8_all (front is_name_char cs), past is_name_char cs)) x e in
-    subst (Read IsName cs) (ok_is _ x g.1) (record {
-      text = front is_name_char cs;
-      is_so = record { first = front_begins is_name_char is_name_first cs start_is_char g.0; each = front_each is_name_char cs; bytes_of = refl };
-      split = whole is_name_char cs;
-    })
+name_outcome at cs = guarded BadMemberName at refl (λ e. read_so _ (record {
+  text = front is_name_char cs;
+  is_so = record { first = front_begins is_name_char is_name_first cs start_is_char e; each = front_each is_name_char cs; bytes_of = refl };
+  split = whole is_name_char cs;
+}))
 
 name_again : (here : declared.Context) (t n rest : List ℕ) → IsName t n → begins is_name_char rest ≡ false → name_at here (t ++ rest) ≡ Ok (n, rest)
 unfolding name_at
@@ -76,37 +70,23 @@ pub no_segments_read : (filter_at : List ℕ → Parsed Selector) (here : declar
 no_segments_read filter_at here cs e = m.many_end opens_next (next_segment_at filter_at here) cs e
 
 -- filters are read so, in segments that stand here
-module _ (filter_at : List ℕ → Parsed Selector) (Good : LogicalOr → Type 0) (laws : FilterLaws Good filter_at) (here : declared.Context) where
+module _ {signature : List ℕ → Option Signature} (filter_at : List ℕ → Parsed Selector) (Good : LogicalOr → Type 0) (laws : FilterLaws signature Good filter_at) (here : declared.Context) where
   -- a good segment of that kind
   abbrev IsSegment : SegmentKind → List ℕ → Segment → Type 0
   IsSegment kind t seg = IsSegmentText filter_at Good laws kind t seg
 
   -- ---- after the dots
 
-  dotted_sound : (kind : SegmentKind) (at : declared.Context) (cs : List ℕ) (x : Segment × List ℕ) → dotted_at at cs ≡ Ok x → Read (IsSegment kind) (dots_before_name kind ++ cs) x
+  dotted_outcome : (kind : SegmentKind) (at : declared.Context) (cs : List ℕ) → Outcome (IsSegment kind) Plain (dots_before_name kind ++ cs) (dotted_at at cs)
   unfolding dotted_at
-  dotted_sound kind at cs x e = elim (chosen (is_at "*" cs) (done (dot_wildcard, drop 1 cs)) (name_at at cs >>= λ n. Ok (dot_name n.0, n.1)) (Ok x) e) [
-    | inl a ↦ subst (Read (IsSegment kind) (dots_before_name kind ++ cs)) (ok_is (dot_wildcard, drop 1 cs) x a.1) (record {
-      text = dots_before_name kind ++ (42 ∷ []);
-      is_so = (tt, refl);
-      split = ap (λ (l : List ℕ). dots_before_name kind ++ l) (after_one 42 cs a.0) ∙ sym (append_assoc (dots_before_name kind) (42 ∷ []) (drop 1 cs));
-    })
-    | inr a ↦
-        let n = bind_ok (name_at at cs) (λ n. Ok (dot_name n.0, n.1)) x a.1 in
-        let r = name_sound at cs n.0 n.1 in
-        subst (Read (IsSegment kind) (dots_before_name kind ++ cs)) (ok_is (dot_name n.0.0, n.0.1) x n.2) (record {
-          text = dots_before_name kind ++ r.text;
-          is_so = (tt, (r.text, r.is_so, refl));
-          split = ap (λ (l : List ℕ). dots_before_name kind ++ l) r.split ∙ sym (append_assoc (dots_before_name kind) r.text n.0.1);
-        })
-  ]
+  dotted_outcome kind at cs =
+      past (dots_before_name kind) refl
+      (choose (λ e. read_so (dot_wildcard, drop 1 cs) (record { text = 42 ∷ []; is_so = (tt, refl); split = after_one 42 cs e })) (λ _. made (λ n. dot_name n) (λ t n is. (tt, (t, is, refl))) (name_outcome at cs)))
 
-  descendant_sound : (cs : List ℕ) (x : Segment × List ℕ) → descendant_at filter_at here cs ≡ Ok x → Read (IsSegment descendant) (46 ∷ 46 ∷ cs) x
+  descendant_outcome : (cs : List ℕ) → Outcome (IsSegment descendant) (Inner signature) (46 ∷ 46 ∷ cs) (descendant_at filter_at here cs)
   unfolding descendant_at
-  descendant_sound cs x e = elim (chosen (is_at "[" cs) (bracket_at filter_at (drop 1 cs)) (dotted_at here cs) (Ok x) e) [
-    | inl a ↦ subst (λ (l : List ℕ). Read (IsSegment descendant) (46 ∷ 46 ∷ l) x) (sym (after_one 91 cs a.0)) (bracket_sound filter_at Good laws descendant (drop 1 cs) x a.1)
-    | inr a ↦ dotted_sound descendant here cs x a.1
-  ]
+  descendant_outcome cs =
+      choose (λ e. along (ap (λ (l : List ℕ). 46 ∷ 46 ∷ l) (after_one 91 cs e)) (bracket_outcome filter_at Good laws descendant (drop 1 cs))) (λ _. inner (dotted_outcome descendant here cs))
 
   -- ---- segments
 
@@ -114,39 +94,25 @@ module _ (filter_at : List ℕ → Parsed Selector) (Good : LogicalOr → Type 0
   abbrev pub IsItem : List ℕ → (SegmentKind × Segment) → Type 0
   IsItem t x = IsSegment x.0 t x.1
 
-  kind_sound : (kind : SegmentKind) (cs : List ℕ) (read : Parsed Segment) (x : (SegmentKind × Segment) × List ℕ) → ((s : Segment × List ℕ) → read ≡ Ok s → Read (IsSegment kind) cs s) → of_kind kind read ≡ Ok x → Read IsItem cs x
-  kind_sound kind cs read x sound e =
-      let s = bind_ok read (λ s. Ok ((kind, s.0), s.1)) x e in
-      let r = sound s.0 s.1 in
-      subst (Read IsItem cs) (ok_is ((kind, s.0.0), s.0.1) x s.2) (record { text = r.text; is_so = r.is_so; split = r.split })
-
-  dot_sound : (cs : List ℕ) (x : (SegmentKind × Segment) × List ℕ) → dot_at filter_at here cs ≡ Ok x → Read IsItem (46 ∷ cs) x
+  dot_outcome : (cs : List ℕ) → Outcome IsItem (Inner signature) (46 ∷ cs) (dot_at filter_at here cs)
   unfolding dot_at
-  dot_sound cs x e = elim (chosen (is_at "." cs) (of_kind descendant (descendant_at filter_at here (drop 1 cs))) (of_kind child (dotted_at (after_dot here) cs)) (Ok x) e) [
-    | inl a ↦ subst (λ (l : List ℕ). Read IsItem (46 ∷ l) x) (sym (after_one 46 cs a.0)) (kind_sound descendant (46 ∷ 46 ∷ drop 1 cs) (descendant_at filter_at here (drop 1 cs)) x (descendant_sound (drop 1 cs)) a.1)
-    | inr a ↦ kind_sound child (46 ∷ cs) (dotted_at (after_dot here) cs) x (dotted_sound child (after_dot here) cs) a.1
-  ]
+  dot_outcome cs =
+      choose (λ e. along (ap (λ (l : List ℕ). 46 ∷ l) (after_one 46 cs e)) (made (λ s. (descendant, s)) (λ t s is. is) (descendant_outcome (drop 1 cs)))) (λ _.
+      made (λ s. (child, s)) (λ t s is. is) (inner (dotted_outcome child (after_dot here) cs)))
 
-  segment_sound : (cs : List ℕ) (x : (SegmentKind × Segment) × List ℕ) → begins opens cs ≡ true → segment_at filter_at here cs ≡ Ok x → Read IsItem cs x
+  segment_outcome : (cs : List ℕ) → begins opens cs ≡ true → Outcome IsItem (Inner signature) cs (segment_at filter_at here cs)
   unfolding segment_at
-  segment_sound cs x o e = elim (chosen (is_at "." cs) (dot_at filter_at here (drop 1 cs)) (of_kind child (bracket_at filter_at (drop 1 cs))) (Ok x) e) [
-    | inl a ↦ subst (λ (l : List ℕ). Read IsItem l x) (sym (after_one 46 cs a.0)) (dot_sound (drop 1 cs) x a.1)
-    | inr a ↦ subst (λ (l : List ℕ). Read IsItem l x) (sym (after_one 91 cs (one_of cs o a.0))) (kind_sound child (91 ∷ drop 1 cs) (bracket_at filter_at (drop 1 cs)) x (bracket_sound filter_at Good laws child (drop 1 cs)) a.1)
-  ]
+  segment_outcome cs o =
+      choose (λ e. along (after_one 46 cs e) (dot_outcome (drop 1 cs))) (λ e.
+      along (after_one 91 cs (one_of cs o e)) (made (λ s. (child, s)) (λ t s is. is) (bracket_outcome filter_at Good laws child (drop 1 cs))))
 
   -- blanks and a segment
   abbrev pub IsNextItem : List ℕ → (SegmentKind × Segment) → Type 0
   IsNextItem t x = (k a : List ℕ) × IsBlank k × IsItem a x × (t ≡ k ++ a)
 
-  pub next_segment_sound : (cs : List ℕ) (x : (SegmentKind × Segment) × List ℕ) → opens_next cs ≡ true → next_segment_at filter_at here cs ≡ Ok x → Read IsNextItem cs x
+  next_outcome : (cs : List ℕ) → opens_next cs ≡ true → Outcome IsNextItem (Inner signature) cs (next_segment_at filter_at here cs)
   unfolding next_segment_at
-  next_segment_sound cs x o e =
-      let r = segment_sound (past_blanks cs) x o e in
-      record {
-        text = blanks_of cs ++ r.text;
-        is_so = (blanks_of cs, r.text, are_blank cs, r.is_so, refl);
-        split = split_blanks cs ∙ ap (λ (l : List ℕ). blanks_of cs ++ l) r.split ∙ sym (append_assoc (blanks_of cs) r.text x.1);
-      }
+  next_outcome cs o = past (blanks_of cs) (split_blanks cs) (weaker (λ t x is. (blanks_of cs, t, are_blank cs, is, refl)) (segment_outcome (past_blanks cs) o))
 
   -- ---- how a segment's text begins
 
@@ -195,7 +161,7 @@ module _ (filter_at : List ℕ → Parsed Selector) (Good : LogicalOr → Type 0
 
   pub segment_shorter : (cs rest : List ℕ) (x : SegmentKind × Segment) → begins opens cs ≡ true → segment_at filter_at here cs ≡ Ok (x, rest) → length rest < length cs
   segment_shorter cs rest x o e =
-      let r = segment_sound cs (x, rest) o e in
+      let r = (segment_outcome cs o).reads (x, rest) e in
       omega (arith, ap length r.split, length-append r.text rest, some_begun opens (r.text ++ []) (item_begins r.text x [] r.is_so), length-append r.text [])
 
   pub next_takes : m.Takes opens_next (next_segment_at filter_at here)
@@ -221,11 +187,9 @@ module _ (filter_at : List ℕ → Parsed Selector) (Good : LogicalOr → Type 0
         (first.0, first.1, h.1, first.2, first.3.1, rest.1, h.4 ∙ ap (λ (l : List ℕ). l ++ h.1) first.4 ∙ append_assoc first.0 first.1 h.1),
       )
 
-  pub segments_sound : (cs : List ℕ) (x : List (SegmentKind × Segment) × List ℕ) → segments_at filter_at here cs ≡ Ok x → Read (λ t (ss : List (SegmentKind × Segment)). AreSegmentsText t (segment_list ss)) cs x
+  pub segments_outcome : (cs : List ℕ) → Outcome (λ t (ss : List (SegmentKind × Segment)). AreSegmentsText t (segment_list ss)) (Inner signature) cs (segments_at filter_at here cs)
   unfolding many
-  segments_sound cs x e =
-      let r = many_sound IsNextItem opens_next (next_segment_at filter_at here) next_segment_sound (length cs) cs x e in
-      record { text = r.text; is_so = listed r.text x.0 r.is_so; split = r.split }
+  segments_outcome cs = weaker listed (many_outcome IsNextItem (Inner signature) opens_next (next_segment_at filter_at here) next_outcome (length cs) cs)
 
   are_joined : (t : List ℕ) (segs : Segments) → AreSegmentsText t segs → Joined IsNextItem t (segments_in segs)
   are_joined t no_segments h = h.1
@@ -234,82 +198,3 @@ module _ (filter_at : List ℕ → Parsed Selector) (Good : LogicalOr → Type 0
 
   pub segments_again : (t : List ℕ) (segs : Segments) (rest : List ℕ) → AreSegmentsText t segs → begins is_name_char rest ≡ false → opens_next rest ≡ false → segments_at filter_at here (t ++ rest) ≡ Ok (segments_in segs, rest)
   segments_again t segs rest h s e = many_again IsNextItem opens_next (next_segment_at filter_at here) (λ rest. begins is_name_char rest ≡ false) segments_law t (segments_in segs) rest (are_joined t segs h) s e
-
--- ---- where a refusal stands
-
--- ---- names
-
-name_stands : (at : declared.Context) (cs : List ℕ) (r : Refusal) → name_at at cs ≡ Err r → Stands Plain cs r
-unfolding name_at
-name_stands at cs r e = guard_stands cs (begins is_name_first cs) (done (encode_utf8_all (front is_name_char cs), past is_name_char cs)) BadMemberName at r refl (no_refusal cs _ r) e
-
-dotted_stands : (at : declared.Context) (cs : List ℕ) (r : Refusal) → dotted_at at cs ≡ Err r → Stands Plain cs r
-unfolding dotted_at
-dotted_stands at cs r e = elim (chosen (is_at "*" cs) (done (dot_wildcard, drop 1 cs)) (name_at at cs >>= λ n. Ok (dot_name n.0, n.1)) (Err r) e) [
-  | inl a ↦ no_refusal cs _ r a.1
-  | inr a ↦ bind_stands cs (name_at at cs) _ r (name_stands at cs) (λ n f h. no_refusal cs _ r h) a.1
-]
-
-kind_stands : {Tells : ParseErrorKind → List ℕ → Type 0} (kind : SegmentKind) (cs : List ℕ) (read : Parsed Segment) (r : Refusal) → ((d : Refusal) → read ≡ Err d → Stands Tells cs d)
-    → of_kind kind read ≡ Err r → Stands Tells cs r
-kind_stands kind cs read r stands e = bind_stands cs read _ r stands (λ s f h. no_refusal cs _ r h) e
-
--- filters are read so, in segments that stand here
-module _ (signature : List ℕ → Option Signature) (filter_at : List ℕ → Parsed Selector) (Good : LogicalOr → Type 0) (laws : FilterLaws Good filter_at) (filters_stand : FiltersStand signature filter_at)
-    (here_at : declared.Context) where
-  -- ---- brackets
-
-  next_stands : (cs : List ℕ) (r : Refusal) → next_selector_at filter_at cs ≡ Err r → Stands (Inner signature) cs r
-  unfolding next_selector_at
-  next_stands cs r e = drop_one cs r (drop_blanks (drop 1 cs) r (selector_stands signature filter_at filters_stand (past_blanks (drop 1 cs)) r e))
-
-  more_stand : (cs : List ℕ) (r : Refusal) → many (begins is_comma) (next_selector_at filter_at) cs ≡ Err r → Stands (Inner signature) cs r
-  unfolding many
-  more_stand cs r e = many_stands (IsNext (codes ",") (IsGoodText Good)) (begins is_comma) (next_selector_at filter_at) (next_sound filter_at Good laws) next_stands (length cs) cs r e
-
-  selectors_stand : (cs : List ℕ) (r : Refusal) → selectors_at filter_at cs ≡ Err r → Stands (Inner signature) cs r
-  unfolding selectors_at
-  selectors_stand cs r e = drop_blanks cs r
-      (bind_stands (past_blanks cs) (selector_at filter_at (past_blanks cs)) _ r (selector_stands signature filter_at filters_stand (past_blanks cs)) (λ s f h.
-      let read = selector_sound filter_at Good laws (past_blanks cs) s f in
-      further (past_blanks cs) read.text s.1 r read.split
-      (bind_stands s.1 (many (begins is_comma) (next_selector_at filter_at) s.1) _ r (more_stand s.1) (λ ss g k. no_refusal s.1 _ r k) h)) e)
-
-  bracket_stands : (cs : List ℕ) (r : Refusal) → bracket_at filter_at cs ≡ Err r → Stands (Inner signature) cs r
-  unfolding bracket_at
-  bracket_stands cs r e = bind_stands cs (selectors_at filter_at cs) _ r (selectors_stand cs) (λ ss f h.
-      let read = selectors_sound filter_at Good laws cs ss f in
-      drop_blanks cs r
-      (further (past_blanks cs) read.text ss.1 r read.split
-      (guard_stands ss.1 (is_at "]" ss.1) (done (long_hand (selector_list ss.0), drop 1 ss.1)) ExpectedClosingBracket context.LongHand r (inl refl) (no_refusal ss.1 _ r) h))) e
-
-  -- ---- segments
-
-  descendant_stands : (cs : List ℕ) (r : Refusal) → descendant_at filter_at here_at cs ≡ Err r → Stands (Inner signature) cs r
-  unfolding descendant_at
-  descendant_stands cs r e = elim (chosen (is_at "[" cs) (bracket_at filter_at (drop 1 cs)) (dotted_at here_at cs) (Err r) e) [
-    | inl a ↦ drop_one cs r (bracket_stands (drop 1 cs) r a.1)
-    | inr a ↦ inside cs r (dotted_stands here_at cs r a.1)
-  ]
-
-  dot_stands : (cs : List ℕ) (r : Refusal) → dot_at filter_at here_at cs ≡ Err r → Stands (Inner signature) cs r
-  unfolding dot_at
-  dot_stands cs r e = elim (chosen (is_at "." cs) (of_kind descendant (descendant_at filter_at here_at (drop 1 cs))) (of_kind child (dotted_at (after_dot here_at) cs)) (Err r) e) [
-    | inl a ↦ drop_one cs r (kind_stands descendant (drop 1 cs) (descendant_at filter_at here_at (drop 1 cs)) r (descendant_stands (drop 1 cs)) a.1)
-    | inr a ↦ kind_stands child cs (dotted_at (after_dot here_at) cs) r (λ d f. inside cs d (dotted_stands (after_dot here_at) cs d f)) a.1
-  ]
-
-  segment_stands : (cs : List ℕ) (r : Refusal) → segment_at filter_at here_at cs ≡ Err r → Stands (Inner signature) cs r
-  unfolding segment_at
-  segment_stands cs r e = elim (chosen (is_at "." cs) (dot_at filter_at here_at (drop 1 cs)) (of_kind child (bracket_at filter_at (drop 1 cs))) (Err r) e) [
-    | inl a ↦ drop_one cs r (dot_stands (drop 1 cs) r a.1)
-    | inr a ↦ drop_one cs r (kind_stands child (drop 1 cs) (bracket_at filter_at (drop 1 cs)) r (bracket_stands (drop 1 cs)) a.1)
-  ]
-
-  next_segment_stands : (cs : List ℕ) (r : Refusal) → next_segment_at filter_at here_at cs ≡ Err r → Stands (Inner signature) cs r
-  unfolding next_segment_at
-  next_segment_stands cs r e = drop_blanks cs r (segment_stands (past_blanks cs) r e)
-
-  pub segments_stand : (cs : List ℕ) (r : Refusal) → segments_at filter_at here_at cs ≡ Err r → Stands (Inner signature) cs r
-  unfolding many
-  segments_stand cs r e = many_stands (IsNextItem filter_at Good laws here_at) opens_next (next_segment_at filter_at here_at) (next_segment_sound filter_at Good laws here_at) next_segment_stands (length cs) cs r e

@@ -1,60 +1,34 @@
 -- Selectors: what is read is a good one, each of those is read, and where a refusal stands.
-use Rattle.std.proofs.Common.{◌≡◌, ℕ, inl, inr, false, List, [], ◌∷◌, ◌++◌, drop, Ok, refl, sym, ap, subst, ◌∙◌, append_assoc, Option, Err}
-use Rattle.serde_json_path_parser.proofs.Words.{None, Selector, name, wildcard, index, slice, filter, LogicalOr, is_at, begins, is_blank, IsQuote, Parsed}
-use Rattle.serde_json_path_parser.proofs.Words.{◌>>=◌, past_blanks, slice_at, position_at, quoted_at, selector_at, string_at, Signature, Refusal}
-use Rattle.serde_json_path_parser.proofs.Reading.Regrouped.{blanks_of, are_blank, split_blanks}
+use Rattle.std.proofs.Common.{◌≡◌, ℕ, inl, inr, false, List, [], ◌∷◌, ◌++◌, drop, Option, Ok, refl, sym, ap, ◌∙◌}
+use Rattle.serde_json_path_parser.proofs.Words.{None, Selector, name, wildcard, index, slice, filter, LogicalOr, begins, is_blank, IsQuote, Parsed}
+use Rattle.serde_json_path_parser.proofs.Words.{past_blanks, quoted_at, selector_at, string_at, Signature}
 use Rattle.serde_json_path_parser.proofs.Grammar.Integers.{int_no_blank}
-use Rattle.serde_json_path_parser.proofs.Grammar.Filtered.{Closes, IsGoodText, FilterLaws, FiltersStand}
-use Rattle.serde_json_path_parser.proofs.Grammar.Slices.{colon_sound, position_sound, index_again, slice_again, slice_no_blank, slice_stands, position_stands}
-use Rattle.serde_json_path_parser.proofs.Reading.Steps.{Read, Spaced, bind_ok, chosen, ok_is, after_one, made_sound}
-use Rattle.serde_json_path_parser.proofs.Grammar.Strings.{string_sound, string_again, of_quote, string_stands}
-use Rattle.serde_json_path_parser.proofs.Reading.Stands.{Plain, Inner, Stands, inside, bind_stands, no_refusal, drop_one}
+use Rattle.serde_json_path_parser.proofs.Grammar.Filtered.{Closes, IsGoodText, FilterLaws}
+use Rattle.serde_json_path_parser.proofs.Grammar.Slices.{slice_outcome, position_outcome, index_again, slice_again, slice_no_blank}
+use Rattle.serde_json_path_parser.proofs.Reading.Steps.{Spaced, after_one}
+use Rattle.serde_json_path_parser.proofs.Grammar.Strings.{string_outcome, string_again, of_quote}
+use Rattle.serde_json_path_parser.proofs.Reading.Stands.{Plain, Inner}
+use Rattle.serde_json_path_parser.proofs.Reading.Outcomes.{Outcome, read_so, choose, made_spaced, remade, along, inner, with_blanks}
 
--- ---- what is read is in the grammar, and what is in the grammar is read
+-- ---- what a reading gives
 
--- ---- what is read is a selector
-
--- what was read, and the blanks after it
-pub with_blanks : {A : Type 0} (is : List ℕ → A → Type 0) (cs : List ℕ) (x : A × List ℕ) → Read is cs x → Read (Spaced is) cs (x.0, past_blanks x.1)
-with_blanks is cs x r = record {
-  text = r.text ++ blanks_of x.1;
-  is_so = (r.text, blanks_of x.1, r.is_so, are_blank x.1, refl);
-  split = r.split ∙ ap (λ (l : List ℕ). r.text ++ l) (split_blanks x.1) ∙ sym (append_assoc r.text (blanks_of x.1) (past_blanks x.1));
-}
-
-quoted_sound : (Good : LogicalOr → Type 0) (quote : ℕ) (cs : List ℕ) (x : Selector × List ℕ) → IsQuote quote → quoted_at quote cs ≡ Ok x → Read (Spaced (IsGoodText Good)) (quote ∷ cs) x
+quoted_outcome : (Good : LogicalOr → Type 0) (quote : ℕ) (cs : List ℕ) → IsQuote quote → Outcome (Spaced (IsGoodText Good)) Plain (quote ∷ cs) (quoted_at quote cs)
 unfolding quoted_at
-quoted_sound Good quote cs x is e =
-    let text = bind_ok (string_at quote cs) (λ text. Ok (name text.0, past_blanks text.1)) x e in
-    let r = string_sound quote cs text.0 is text.1 in
-    subst (Read (Spaced (IsGoodText Good)) (quote ∷ cs)) (ok_is (name text.0.0, past_blanks text.0.1) x text.2)
-    (with_blanks (IsGoodText Good) (quote ∷ cs) (name text.0.0, text.0.1) (record { text = r.text; is_so = (tt, r.is_so); split = r.split }))
+quoted_outcome Good quote cs is = made_spaced (λ bytes. name bytes) (λ t bytes h. (tt, h)) (string_outcome quote is cs)
 
 -- filters are read so
-module _ (filter_at : List ℕ → Parsed Selector) (Good : LogicalOr → Type 0) (laws : FilterLaws Good filter_at) where
+module _ {signature : List ℕ → Option Signature} (filter_at : List ℕ → Parsed Selector) (Good : LogicalOr → Type 0) (laws : FilterLaws signature Good filter_at) where
+  pub selector_outcome : (cs : List ℕ) → Outcome (Spaced (IsGoodText Good)) (Inner signature) cs (selector_at filter_at cs)
+  unfolding selector_at
+  selector_outcome cs =
+      choose (λ e. inner (along (after_one 39 cs e) (quoted_outcome Good 39 (drop 1 cs) (inl refl)))) (λ _.
+      choose (λ e. inner (along (after_one 34 cs e) (quoted_outcome Good 34 (drop 1 cs) (inr refl)))) (λ _.
+      choose (λ e. read_so (wildcard, past_blanks (drop 1 cs)) (with_blanks (IsGoodText Good) cs (wildcard, drop 1 cs) (record { text = 42 ∷ []; is_so = (tt, refl); split = after_one 42 cs e }))) (λ _.
+      choose (λ e. inner (along (after_one 58 cs e) (remade (λ s. slice s) (λ t s is. (tt, is)) (slice_outcome None [] (drop 1 cs) refl)))) (λ _.
+      choose (λ e. laws.outcome cs e) (λ _. inner (position_outcome Good cs))))))
+
   abbrev IsText : List ℕ → Selector → Type 0
   IsText t sel = IsGoodText Good t sel
-
-  pub selector_sound : (cs : List ℕ) (x : Selector × List ℕ) → selector_at filter_at cs ≡ Ok x → Read (Spaced IsText) cs x
-  unfolding selector_at
-  selector_sound cs x e =
-      let star : Parsed Selector = Ok (wildcard, past_blanks (drop 1 cs)) in
-      let colon : Parsed Selector = slice_at None (drop 1 cs) >>= λ s. Ok (slice s.0, s.1) in
-      elim (chosen (is_at "'" cs) (quoted_at 39 (drop 1 cs)) _ (Ok x) e) [
-        | inl a ↦ subst (λ (l : List ℕ). Read (Spaced IsText) l x) (sym (after_one 39 cs a.0)) (quoted_sound Good 39 (drop 1 cs) x (inl refl) a.1)
-        | inr a ↦ elim (chosen (is_at "\"" cs) (quoted_at 34 (drop 1 cs)) _ (Ok x) a.1) [
-          | inl b ↦ subst (λ (l : List ℕ). Read (Spaced IsText) l x) (sym (after_one 34 cs b.0)) (quoted_sound Good 34 (drop 1 cs) x (inr refl) b.1)
-          | inr b ↦ elim (chosen (is_at "*" cs) star _ (Ok x) b.1) [
-            | inl d ↦ subst (Read (Spaced IsText) cs) (ok_is (wildcard, past_blanks (drop 1 cs)) x d.1)
-                (with_blanks IsText cs (wildcard, drop 1 cs) (record { text = 42 ∷ []; is_so = (tt, refl); split = after_one 42 cs d.0 }))
-            | inr d ↦ elim (chosen (is_at ":" cs) colon _ (Ok x) d.1) [
-              | inr f ↦ elim (chosen (is_at "?" cs) (filter_at cs) (position_at cs) (Ok x) f.1) [ inl g ↦ laws.sound cs x g.0 g.1 | inr g ↦ position_sound Good cs x g.1 ]
-              | inl f ↦ subst (λ (l : List ℕ). Read (Spaced IsText) l x) (sym (after_one 58 cs f.0))
-                  (made_sound _ IsText (λ s. slice s) (58 ∷ drop 1 cs) (slice_at None (drop 1 cs)) x (λ t s is. (tt, is)) (λ s. colon_sound (drop 1 cs) s) f.1)
-            ]
-          ]
-        ]
-      ]
 
   -- ---- each selector is read
 
@@ -82,30 +56,3 @@ module _ (filter_at : List ℕ → Parsed Selector) (Good : LogicalOr → Type 0
   begins_no_blank t (index i) rest h = int_no_blank t i rest h.1
   begins_no_blank t (slice s) rest h = slice_no_blank t s rest h.1
   begins_no_blank t (filter f) rest (good, (k, a, blank, is, e)) = ap (λ (l : List ℕ). begins is_blank (l ++ rest)) e
-
--- ---- where a refusal stands
-
-quoted_stands : (quote : ℕ) → IsQuote quote → (cs : List ℕ) (r : Refusal) → quoted_at quote cs ≡ Err r → Stands Plain cs r
-unfolding quoted_at
-quoted_stands quote is cs r e = bind_stands cs (string_at quote cs) _ r (string_stands quote is cs) (λ text f h. no_refusal cs _ r h) e
-
--- refusals of filters stand so
-module _ (signature : List ℕ → Option Signature) (filter_at : List ℕ → Parsed Selector) (filters_stand : FiltersStand signature filter_at) where
-  pub selector_stands : (cs : List ℕ) (r : Refusal) → selector_at filter_at cs ≡ Err r → Stands (Inner signature) cs r
-  unfolding selector_at
-  selector_stands cs r e =
-      let star : Parsed Selector = Ok (wildcard, past_blanks (drop 1 cs)) in
-      let colon : Parsed Selector = slice_at None (drop 1 cs) >>= λ s. Ok (slice s.0, s.1) in
-      elim (chosen (is_at "'" cs) (quoted_at 39 (drop 1 cs)) _ (Err r) e) [
-        | inl a ↦ inside cs r (drop_one cs r (quoted_stands 39 (inl refl) (drop 1 cs) r a.1))
-        | inr a ↦ elim (chosen (is_at "\"" cs) (quoted_at 34 (drop 1 cs)) _ (Err r) a.1) [
-          | inl b ↦ inside cs r (drop_one cs r (quoted_stands 34 (inr refl) (drop 1 cs) r b.1))
-          | inr b ↦ elim (chosen (is_at "*" cs) star _ (Err r) b.1) [
-            | inl d ↦ no_refusal cs _ r d.1
-            | inr d ↦ elim (chosen (is_at ":" cs) colon _ (Err r) d.1) [
-              | inr f ↦ elim (chosen (is_at "?" cs) (filter_at cs) (position_at cs) (Err r) f.1) [ inl g ↦ filters_stand cs r g.0 g.1 | inr g ↦ inside cs r (position_stands cs r g.1) ]
-              | inl f ↦ inside cs r (drop_one cs r (bind_stands (drop 1 cs) (slice_at None (drop 1 cs)) _ r (slice_stands None (drop 1 cs)) (λ s g h. no_refusal (drop 1 cs) _ r h) f.1))
-            ]
-          ]
-        ]
-      ]

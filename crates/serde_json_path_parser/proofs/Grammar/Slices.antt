@@ -1,116 +1,51 @@
 -- Indexes and slices: what is read is one, each is read, and where a refusal of one stands.
-use Rattle.std.proofs.Common.{◌≡◌, ℕ, inl, inr, Bool, true, false, true≢false, List, [], ◌∷◌, ◌++◌, drop, Option, Some, None, Ok, refl, sym, ap, subst, ◌∙◌, append_assoc, Err}
-use Rattle.serde_json_path_parser.proofs.Words.{ℤ, ◌==◌, ◌||◌, append-nil, Slice, Selector, slice, index, LogicalOr, IsBound, IsSliceStep, IsSlice, is_at}
-use Rattle.serde_json_path_parser.proofs.Words.{begins, is_blank, is_digit, IsBlank, IsInt, Parsed, ◌>>=◌, front, past_blanks, int_at, begins_int, bound_at}
-use Rattle.serde_json_path_parser.proofs.Words.{step_at, slice_at, position_at, selector_at, Refusal}
-use Rattle.serde_json_path_parser.proofs.Reading.Regrouped.{past_some}
+use Rattle.std.proofs.Common.{◌≡◌, ℕ, inl, inr, Bool, true, false, true≢false, List, [], ◌∷◌, ◌++◌, drop, Option, Some, None, Ok, refl, sym, ap, subst, ◌∙◌, append_assoc}
+use Rattle.serde_json_path_parser.proofs.Words.{ℤ, ◌==◌, ◌||◌, append-nil, Slice, Selector, slice, index, LogicalOr, IsBound, IsSliceStep, IsSlice}
+use Rattle.serde_json_path_parser.proofs.Words.{begins, is_blank, is_digit, IsBlank, IsInt, Parsed, past_blanks, begins_int, bound_at}
+use Rattle.serde_json_path_parser.proofs.Words.{step_at, slice_at, position_at, selector_at}
+use Rattle.serde_json_path_parser.proofs.Reading.Regrouped.{past_some, blanks_of, are_blank, split_blanks}
 use Rattle.serde_json_path_parser.proofs.Grammar.Filtered.{Closes, IsGoodText}
-use Rattle.serde_json_path_parser.proofs.Grammar.Integers.{int_sound, int_again, int_begins, int_not, int_no_blank, int_stands}
-use Rattle.serde_json_path_parser.proofs.Reading.Runs.{differs, no_blank, whole, front_each, past_end}
-use Rattle.serde_json_path_parser.proofs.Reading.Steps.{Read, Spaced, bind_ok, chosen, done, ok_is, after_one}
-use Rattle.serde_json_path_parser.proofs.Reading.Stands.{Plain, Stands, further, bind_stands, no_refusal, drop_one, drop_blanks}
+use Rattle.serde_json_path_parser.proofs.Grammar.Integers.{int_outcome, int_again, int_begins, int_not, int_no_blank}
+use Rattle.serde_json_path_parser.proofs.Reading.Runs.{differs, no_blank, past_end}
+use Rattle.serde_json_path_parser.proofs.Reading.Steps.{Spaced, after_one}
+use Rattle.serde_json_path_parser.proofs.Reading.Stands.{Plain}
+use Rattle.serde_json_path_parser.proofs.Reading.Outcomes.{Outcome, read_so, choose, weaker, past, past_spaced, along, onward, after_spaced, remade, with_blanks, after_sign}
 
--- ---- what is read is in the grammar, and what is in the grammar is read
+-- ---- what a reading gives
 
--- ---- what is read is in the grammar
-
--- a text and what was read after it
-longer : (a b c rest : List ℕ) → b ≡ c ++ rest → a ++ b ≡ (a ++ c) ++ rest
-longer a b c rest e = ap (λ (l : List ℕ). a ++ l) e ∙ sym (append_assoc a c rest)
-
-pub bound_sound : (cs : List ℕ) (x : Option ℤ × List ℕ) → bound_at cs ≡ Ok x → Read (λ t i. IsBound i t) cs x
+pub bound_outcome : (cs : List ℕ) → Outcome (λ t i. IsBound i t) Plain cs (bound_at cs)
 unfolding bound_at
-bound_sound cs x e = elim (chosen (begins begins_int cs) (int_at cs >>= λ i. Ok (Some i.0, past_blanks i.1)) (done (None, cs)) (Ok x) e) [
-  | inl a ↦
-      let i = bind_ok (int_at cs) (λ i. Ok (Some i.0, past_blanks i.1)) x a.1 in
-      let r = int_sound cs i.0 i.1 in
-      let blanks = front is_blank i.0.1 in
-      subst (Read (λ t i. IsBound i t) cs) (ok_is (Some i.0.0, past_blanks i.0.1) x i.2) (record {
-        text = r.text ++ blanks;
-        is_so = (r.text, blanks, r.is_so, front_each is_blank i.0.1, refl);
-        split = r.split ∙ longer r.text i.0.1 blanks (past_blanks i.0.1) (whole is_blank i.0.1);
-      })
-  | inr a ↦ subst (Read (λ t i. IsBound i t) cs) (ok_is (None, cs) x a.1) (record { text = []; is_so = refl; split = refl })
-]
+bound_outcome cs =
+    choose (λ _. onward (int_outcome cs) (λ i _ r. let s = with_blanks IsInt cs i r in read_so (Some i.0, past_blanks i.1) (record { text = s.text; is_so = s.is_so; split = s.split }))) (λ _.
+    read_so (None, cs) (record { text = []; is_so = refl; split = refl }))
 
 -- a bound after a second colon
 step_is : (t k : List ℕ) (i : Option ℤ) → IsBlank k → IsBound i t → Spaced (λ t i. IsSliceStep i t) (58 ∷ (k ++ t)) i
 step_is t k None blank e = (58 ∷ [], k, inr refl, blank, ap (λ (l : List ℕ). 58 ∷ (k ++ l)) e ∙ ap (λ (l : List ℕ). 58 ∷ l) (append-nil k))
 step_is t k (Some i) blank b =
-    (58 ∷ (k ++ b.0), b.1, (k, b.0, blank, b.2, refl), b.3, ap (λ (l : List ℕ). 58 ∷ l) (longer k t b.0 b.1 b.4))
+    (58 ∷ (k ++ b.0), b.1, (k, b.0, blank, b.2, refl), b.3, ap (λ (l : List ℕ). 58 ∷ (k ++ l)) b.4 ∙ sym (append_assoc (58 ∷ k) b.0 b.1))
 
-step_sound : (cs : List ℕ) (x : Option ℤ × List ℕ) → step_at cs ≡ Ok x → Read (Spaced (λ t i. IsSliceStep i t)) cs x
+step_outcome : (cs : List ℕ) → Outcome (Spaced (λ t i. IsSliceStep i t)) Plain cs (step_at cs)
 unfolding step_at
-step_sound cs x e = elim (chosen (is_at ":" cs) (bound_at (past_blanks (drop 1 cs))) (done (None, cs)) (Ok x) e) [
-  | inl a ↦
-      let blanks = front is_blank (drop 1 cs) in
-      let r = bound_sound (past_blanks (drop 1 cs)) x a.1 in
-      record {
-        text = 58 ∷ (blanks ++ r.text);
-        is_so = step_is r.text blanks x.0 (front_each is_blank (drop 1 cs)) r.is_so;
-        split = after_one 58 cs a.0 ∙ ap (λ (l : List ℕ). 58 ∷ l) (whole is_blank (drop 1 cs) ∙ longer blanks (past_blanks (drop 1 cs)) r.text x.1 r.split);
-      }
-  | inr a ↦ subst (Read (Spaced (λ t i. IsSliceStep i t)) cs) (ok_is (None, cs) x a.1) (record {
-    text = [];
-    is_so = ([], [], inl refl, tt, refl);
-    split = refl;
-  })
-]
+step_outcome cs =
+    choose (λ e. past (58 ∷ blanks_of (drop 1 cs)) (after_sign 58 cs e) (weaker (λ t i b. step_is t (blanks_of (drop 1 cs)) i (are_blank (drop 1 cs)) b) (bound_outcome (past_blanks (drop 1 cs))))) (λ _.
+    read_so (None, cs) (record { text = []; is_so = ([], [], inl refl, tt, refl); split = refl }))
 
--- the parts of a slice and the blanks after them
-regrouped : (a k b c j rest : List ℕ) → a ++ (58 ∷ (k ++ (b ++ ((c ++ j) ++ rest)))) ≡ ((a ++ (58 ∷ (k ++ (b ++ c)))) ++ j) ++ rest
-regrouped a k b c j rest = simp append_assoc refl
-
-slice_sound : (start : Option ℤ) (a cs : List ℕ) (x : Slice × List ℕ) → IsBound start a → slice_at start cs ≡ Ok x → Read (Spaced (λ t s. IsSlice s t)) (a ++ (58 ∷ cs)) x
+-- after the first bound and the colon
+pub slice_outcome : (start : Option ℤ) (a cs : List ℕ) → IsBound start a → Outcome (Spaced (λ t s. IsSlice s t)) Plain (a ++ (58 ∷ cs)) (slice_at start cs)
 unfolding slice_at
-slice_sound start a cs x first e =
-    let k = front is_blank cs in
-    let end = bind_ok (bound_at (past_blanks cs)) _ x e in
-    let step = bind_ok (step_at end.0.1) _ x end.2 in
-    let b = bound_sound (past_blanks cs) end.0 end.1 in
-    let c = step_sound end.0.1 step.0 step.1 in
-    let past_end : end.0.1 ≡ (c.is_so.0 ++ c.is_so.1) ++ step.0.1 = c.split ∙ ap (λ (l : List ℕ). l ++ step.0.1) c.is_so.4 in
-    let after_colon : cs ≡ k ++ (b.text ++ ((c.is_so.0 ++ c.is_so.1) ++ step.0.1)) =
-    whole is_blank cs ∙ ap (λ (l : List ℕ). k ++ l) (b.split ∙ ap (λ (l : List ℕ). b.text ++ l) past_end) in
-    subst (Read (Spaced (λ t s. IsSlice s t)) (a ++ (58 ∷ cs))) (ok_is (record { start = start; end = end.0.0; step = step.0.0 }, step.0.1) x step.2) (record {
-      text = (a ++ (58 ∷ (k ++ (b.text ++ c.is_so.0)))) ++ c.is_so.1;
-      is_so = (
-        a ++ (58 ∷ (k ++ (b.text ++ c.is_so.0))),
-        c.is_so.1,
-        (a, k, b.text, c.is_so.0, first, front_each is_blank cs, b.is_so, c.is_so.2, refl),
-        c.is_so.3,
-        refl,
-      );
-      split = ap (λ (l : List ℕ). a ++ (58 ∷ l)) after_colon ∙ regrouped a k b.text c.is_so.0 c.is_so.1 step.0.1;
-    })
+slice_outcome start a cs first =
+    let k = blanks_of cs in
+    past_spaced (a ++ (58 ∷ k)) (ap (λ (l : List ℕ). a ++ (58 ∷ l)) (split_blanks cs) ∙ sym (append_assoc a (58 ∷ k) (past_blanks cs))) (after_spaced (bound_outcome (past_blanks cs)) (λ end _ b.
+    remade (λ step. record { start = start; end = end.0; step = step }) (λ c step h. (a, k, b.text, c, first, are_blank cs, b.is_so, h, append_assoc a (58 ∷ k) (b.text ++ c))) (step_outcome end.1)))
 
--- after the colon that begins a slice
-pub colon_sound : (cs : List ℕ) (x : Slice × List ℕ) → slice_at None cs ≡ Ok x → Read (Spaced (λ t s. IsSlice s t)) (58 ∷ cs) x
-colon_sound cs x e = slice_sound None [] cs x refl e
-
-pub position_sound : (Good : LogicalOr → Type 0) (cs : List ℕ) (x : Selector × List ℕ) → position_at cs ≡ Ok x → Read (Spaced (IsGoodText Good)) cs x
+pub position_outcome : (Good : LogicalOr → Type 0) (cs : List ℕ) → Outcome (Spaced (IsGoodText Good)) Plain cs (position_at cs)
 unfolding position_at
-position_sound Good cs x e =
-    let i = bind_ok (int_at cs) _ x e in
-    let r = int_sound cs i.0 i.1 in
-    let blanks = front is_blank i.0.1 in
-    let rest = past_blanks i.0.1 in
-    let split : cs ≡ (r.text ++ blanks) ++ rest = r.split ∙ longer r.text i.0.1 blanks rest (whole is_blank i.0.1) in
-    elim (chosen (is_at ":" rest) (slice_at (Some i.0.0) (drop 1 rest) >>= λ s. Ok (slice s.0, s.1)) (done (index i.0.0, rest)) (Ok x) i.2) [
-      | inl a ↦
-          let s = bind_ok (slice_at (Some i.0.0) (drop 1 rest)) (λ s. Ok (slice s.0, s.1)) x a.1 in
-          let t = slice_sound (Some i.0.0) (r.text ++ blanks) (drop 1 rest) s.0 (r.text, blanks, r.is_so, front_each is_blank i.0.1, refl) s.1 in
-          subst (Read (Spaced (IsGoodText Good)) cs) (ok_is (slice s.0.0, s.0.1) x s.2) (record {
-            text = t.text;
-            is_so = (t.is_so.0, t.is_so.1, (tt, t.is_so.2), t.is_so.3, t.is_so.4);
-            split = split ∙ ap (λ (l : List ℕ). (r.text ++ blanks) ++ l) (after_one 58 rest a.0) ∙ t.split;
-          })
-      | inr a ↦ subst (Read (Spaced (IsGoodText Good)) cs) (ok_is (index i.0.0, rest) x a.1) (record {
-        text = r.text ++ blanks;
-        is_so = (r.text, blanks, (tt, r.is_so), front_each is_blank i.0.1, refl);
-        split = split;
-      })
-    ]
+position_outcome Good cs = onward (int_outcome cs) (λ i _ r.
+    let rest = past_blanks i.1 in
+    let s = with_blanks IsInt cs i r in
+    choose (λ e. along (s.split ∙ ap (λ (l : List ℕ). s.text ++ l) (after_one 58 rest e)) (remade (λ s. slice s) (λ t s is. (tt, is)) (slice_outcome (Some i.0) s.text (drop 1 rest) s.is_so))) (λ _.
+    read_so _ (record { text = s.text; is_so = (s.is_so.0, s.is_so.1, (tt, s.is_so.2), s.is_so.3, s.is_so.4); split = s.split })))
 
 -- ---- each is read again
 
@@ -227,38 +162,3 @@ module _ (filter_at : List ℕ → Parsed Selector) where
           let tail = 58 ∷ (k ++ (b ++ (c ++ rest))) in
           let begun : t ++ rest ≡ n ++ (j ++ tail) = here ∙ ap (λ (l : List ℕ). l ++ tail) text ∙ append_assoc n j tail in
           ap (selector_at filter_at) begun ∙ at_position n i (j ++ tail) is ∙ begun_again n j i (k ++ (b ++ (c ++ rest))) s (past_blanks rest) is gap (parts (Some i) same)
-
--- ---- where a refusal stands
-
-bound_stands : (cs : List ℕ) (r : Refusal) → bound_at cs ≡ Err r → Stands Plain cs r
-unfolding bound_at
-bound_stands cs r e = elim (chosen (begins begins_int cs) _ (done (None, cs)) (Err r) e) [
-  | inl a ↦ bind_stands cs (int_at cs) _ r (int_stands cs) (λ i s f. no_refusal cs _ r f) a.1
-  | inr a ↦ no_refusal cs _ r a.1
-]
-
-step_stands : (cs : List ℕ) (r : Refusal) → step_at cs ≡ Err r → Stands Plain cs r
-unfolding step_at
-step_stands cs r e = elim (chosen (is_at ":" cs) (bound_at (past_blanks (drop 1 cs))) (done (None, cs)) (Err r) e) [
-  | inl a ↦ drop_one cs r (drop_blanks (drop 1 cs) r (bound_stands (past_blanks (drop 1 cs)) r a.1))
-  | inr a ↦ no_refusal cs _ r a.1
-]
-
-pub slice_stands : (start : Option ℤ) (cs : List ℕ) (r : Refusal) → slice_at start cs ≡ Err r → Stands Plain cs r
-unfolding slice_at
-slice_stands start cs r e =
-    let here = past_blanks cs in
-    drop_blanks cs r (bind_stands here (bound_at here) _ r (bound_stands here) (λ end s f.
-    let read = bound_sound here end s in
-    further here read.text end.1 r read.split (bind_stands end.1 (step_at end.1) _ r (step_stands end.1) (λ step t g. no_refusal end.1 _ r g) f)) e)
-
-pub position_stands : (cs : List ℕ) (r : Refusal) → position_at cs ≡ Err r → Stands Plain cs r
-unfolding position_at
-position_stands cs r e = bind_stands cs (int_at cs) _ r (int_stands cs) (λ i s f.
-    let read = int_sound cs i s in
-    let rest = past_blanks i.1 in
-    let whole : Parsed Selector = slice_at (Some i.0) (drop 1 rest) >>= λ x. Ok (slice x.0, x.1) in
-    further cs read.text i.1 r read.split (drop_blanks i.1 r (elim (chosen (is_at ":" rest) whole (done (index i.0, rest)) (Err r) f) [
-      | inl a ↦ drop_one rest r (bind_stands (drop 1 rest) (slice_at (Some i.0) (drop 1 rest)) _ r (slice_stands (Some i.0) (drop 1 rest)) (λ x t g. no_refusal (drop 1 rest) _ r g) a.1)
-      | inr a ↦ no_refusal rest _ r a.1
-    ]))) e

@@ -1,20 +1,17 @@
 -- Texts: regrouped; blanks at the start; items in a row, with a sign and blanks between them.
-use Rattle.std.proofs.Common.{◌≡◌, ℕ, List, ◌++◌, refl, append_assoc, ◌≤◌, Bool, true, false, [], ◌∷◌, length, ap, ◌∙◌, arith}
+use Rattle.std.proofs.Common.{◌≡◌, ℕ, List, ◌++◌, refl, append_assoc, ◌≤◌, Bool, true, false, [], ◌∷◌, length, sym, ap, ◌∙◌, arith}
 use Rattle.serde_json_path_parser.proofs.Words.{length-append, begins, is_blank, IsBlank, front, past_blanks}
 use Rattle.serde_json_path_parser.proofs.Reading.Runs.{whole, front_each, past_end, past_through}
 
 pub gathered : (a b c d : List ℕ) → a ++ (b ++ (c ++ d)) ≡ (a ++ (b ++ c)) ++ d
 gathered a b c d = simp append_assoc refl
 
-pub gathered_after : (a b c d : List ℕ) → (a ++ b) ++ (c ++ d) ≡ (a ++ (b ++ c)) ++ d
-gathered_after a b c d = simp append_assoc refl
-
--- an end, as a sign that closes, too
-pub enclosed : (a b c s d : List ℕ) → a ++ ((b ++ c) ++ (s ++ d)) ≡ (a ++ (b ++ (c ++ s))) ++ d
-enclosed a b c s d = simp append_assoc refl
-
 pub spread : (a b c s d : List ℕ) → (a ++ (b ++ (c ++ s))) ++ d ≡ a ++ (b ++ (c ++ (s ++ d)))
 spread a b c s d = simp append_assoc refl
+
+-- a text split once more
+pub split_again : {whole cs : List ℕ} (a b rest : List ℕ) → whole ≡ a ++ cs → cs ≡ b ++ rest → whole ≡ (a ++ b) ++ rest
+split_again a b rest first second = first ∙ ap (λ (l : List ℕ). a ++ l) second ∙ sym (append_assoc a b rest)
 
 -- ---- blanks at the start of a text
 

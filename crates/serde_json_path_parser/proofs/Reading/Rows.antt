@@ -1,9 +1,10 @@
 -- Items in a row, with a sign and blanks between them: as they are read, each with the blanks after it, and as the grammar
 -- has them, with blanks round each sign.
-use Rattle.std.proofs.Common.{◌≡◌, ℕ, ◌<◌, false, List, [], ◌∷◌, ◌++◌, length, ap, refl, ◌∙◌, append_assoc, arith}
-use Rattle.serde_json_path_parser.proofs.Words.{append-nil, length-append, begins, is_blank, IsBlank, Joined, IsSign, past_blanks}
-use Rattle.serde_json_path_parser.proofs.Reading.Regrouped.{past_all, blanks_of, are_blank, split_blanks, gathered, spread}
+use Rattle.std.proofs.Common.{◌≡◌, ℕ, ◌<◌, false, List, [], ◌∷◌, ◌++◌, length, sym, ap, refl, ◌∙◌, append_assoc, arith}
+use Rattle.serde_json_path_parser.proofs.Words.{append-nil, length-append, begins, is_blank, IsBlank, Joined, IsSign, Parsed, ParseErrorKind, past_blanks}
+use Rattle.serde_json_path_parser.proofs.Reading.Regrouped.{past_all, blanks_of, are_blank, split_blanks, spread}
 use Rattle.serde_json_path_parser.proofs.Reading.Steps.{Read, Spaced}
+use Rattle.serde_json_path_parser.proofs.Reading.Outcomes.{Outcome, weaker, past}
 
 -- a sign and what follows, after the blanks
 pub at_sign : (sign t s j k a b rest : List ℕ) → ((cs : List ℕ) → begins is_blank (sign ++ cs) ≡ false) → IsBlank j → s ≡ j ++ (sign ++ k) → t ≡ s ++ (a ++ b)
@@ -27,14 +28,18 @@ module _ {A : Type 0} (sign : List ℕ) (is : List ℕ → A → Type 0) where
     pub joined : t ≡ sign ++ (before ++ (text ++ after))
 
   -- an item that is read after a sign and blanks
-  pub next_of : (cs rest : List ℕ) (x : A × List ℕ) → cs ≡ sign ++ rest → Read (Spaced is) (past_blanks rest) x → Read IsNext cs x
-  next_of cs rest x begun read =
+  pub next_outcome : {Tells : ParseErrorKind → List ℕ → Type 0} (cs rest : List ℕ) {answer : Parsed A} → cs ≡ sign ++ rest → Outcome (Spaced is) Tells (past_blanks rest) answer → Outcome IsNext Tells cs answer
+  next_outcome cs rest begun h =
       let k = blanks_of rest in
-      record {
-        text = sign ++ (k ++ read.text);
-        is_so = record { before = k; text = read.is_so.0; after = read.is_so.1; blank_before = are_blank rest; is_so = read.is_so.2; blank_after = read.is_so.3; joined = ap (λ (l : List ℕ). sign ++ (k ++ l)) read.is_so.4 };
-        split = begun ∙ ap (λ (l : List ℕ). sign ++ l) (split_blanks rest ∙ ap (λ (l : List ℕ). k ++ l) read.split) ∙ gathered sign k read.text x.1;
-      }
+      past (sign ++ k) (begun ∙ ap (λ (l : List ℕ). sign ++ l) (split_blanks rest) ∙ sym (append_assoc sign k (past_blanks rest))) (weaker (λ t x s. record {
+        before = k;
+        text = s.0;
+        after = s.1;
+        blank_before = are_blank rest;
+        is_so = s.2;
+        blank_after = s.3;
+        joined = append_assoc sign k t ∙ ap (λ (l : List ℕ). sign ++ (k ++ l)) s.4;
+      }) h)
 
   pub next_shorter : (cs rest : List ℕ) (x : A) → 0 < length sign → Read IsNext cs (x, rest) → length rest < length cs
   next_shorter cs rest x some read =

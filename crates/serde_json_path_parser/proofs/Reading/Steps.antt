@@ -1,6 +1,6 @@
 -- Steps of reading: what an answer says of each, items one after another, and what stops where a step stops.
-use Rattle.std.proofs.Common.{◌≡◌, ℕ, zero, suc, ◌⊎◌, inl, inr, Bool, true, false, cond, List, [], ◌∷◌, ◌++◌, drop, Result, Ok, Err, refl, sym, ap, subst, ◌∙◌, append_assoc}
-use Rattle.serde_json_path_parser.proofs.Words.{◌==◌, eqb-true, Refusal, begins, IsBlank, Joined, Parsed, ◌>>=◌, many_at, many, Failure, Fails}
+use Rattle.std.proofs.Common.{◌≡◌, ℕ, ◌⊎◌, inl, inr, Bool, true, false, cond, List, [], ◌∷◌, ◌++◌, drop, Result, Ok, Err, refl, sym, ap, subst, ◌∙◌, append_assoc}
+use Rattle.serde_json_path_parser.proofs.Words.{◌==◌, eqb-true, and_parts, Refusal, begins, begins_both, IsBlank, Joined, Parsed, ◌>>=◌, many, Failure, Fails}
 use Rattle.serde_json_path_parser.proofs.Reading.Many as m
 use Rattle.serde_json_path_parser.specs.declared.error.Failure.TheVariants as failures
 
@@ -16,11 +16,6 @@ pub chosen : {A : Type 0} (b : Bool) (x y z : A) → cond b x y ≡ z → ((b �
 chosen true x y z e = inl (refl, e)
 chosen false x y z e = inr (refl, e)
 
--- a test whose other branch is a refusal
-pub guard : {A : Type 0} (b : Bool) (d : Refusal) (x : Result A Refusal) (y : A) → cond b x (Err d) ≡ Ok y → (b ≡ true) × (x ≡ Ok y)
-guard true d x y e = (refl, e)
-guard false d x y e = absurd cc
-
 abbrev pub done : {A : Type 0} → A → Result A Refusal
 done x = Ok x
 
@@ -30,6 +25,12 @@ ok_is x y e = cc
 pub after_one : (k : ℕ) (cs : List ℕ) → begins (λ c. c == k) cs ≡ true → cs ≡ k ∷ drop 1 cs
 after_one k [] e = absurd cc
 after_one k (c ∷ cs) e = ap (λ (x : ℕ). x ∷ cs) (eqb-true c k e)
+
+pub after_two : (a b : ℕ) (cs : List ℕ) → begins_both a b cs ≡ true → cs ≡ a ∷ b ∷ drop 2 cs
+after_two a b [] e = absurd cc
+after_two a b (c ∷ cs) e =
+    let parts = and_parts (c == a) (begins (λ d. d == b) cs) e in
+    after_one a (c ∷ cs) parts.0 ∙ ap (λ (l : List ℕ). a ∷ l) (after_one b cs parts.1)
 
 -- ---- what was read
 
@@ -42,37 +43,6 @@ pub record Read {A : Type 0} (is : List ℕ → A → Type 0) (cs : List ℕ) (x
 -- a text and the blanks after it
 abbrev pub Spaced : {A : Type 0} → (List ℕ → A → Type 0) → List ℕ → A → Type 0
 Spaced is t x = (a k : List ℕ) × is a x × IsBlank k × (t ≡ a ++ k)
-
--- what was read is also something else, or made something else
-pub made_of : {A B : Type 0} (is : List ℕ → A → Type 0) (is_made : List ℕ → B → Type 0) (make : A → B) (cs : List ℕ) (x : A × List ℕ) → ((t : List ℕ) → is t x.0 → is_made t (make x.0))
-    → Read (Spaced is) cs x → Read (Spaced is_made) cs (make x.0, x.1)
-made_of is is_made make cs x good r = record { text = r.text; is_so = (r.is_so.0, r.is_so.1, good r.is_so.0 r.is_so.2, r.is_so.3, r.is_so.4); split = r.split }
-
--- a step that makes something of what is read
-pub made_sound : {A B : Type 0} (is : List ℕ → A → Type 0) (is_made : List ℕ → B → Type 0) (make : A → B) (cs : List ℕ) (read : Parsed A) (x : B × List ℕ)
-    → ((t : List ℕ) (a : A) → is t a → is_made t (make a)) → ((a : A × List ℕ) → read ≡ Ok a → Read (Spaced is) cs a) → (read >>= λ a. Ok (make a.0, a.1)) ≡ Ok x → Read (Spaced is_made) cs x
-made_sound is is_made make cs read x good sound e =
-    let a = bind_ok read (λ a. Ok (make a.0, a.1)) x e in
-    subst (Read (Spaced is_made) cs) (ok_is (make a.0.0, a.0.1) x a.2) (made_of is is_made make cs a.0 (λ t h. good t a.0.0 h) (sound a.0 a.1))
-
--- many items, one after the other
-module _ {A : Type 0} (is : List ℕ → A → Type 0) (more : List ℕ → Bool) (item : List ℕ → Parsed A) (sound : (cs : List ℕ) (x : A × List ℕ) → more cs ≡ true → item cs ≡ Ok x → Read is cs x) where
-  pub many_sound : (n : ℕ) (cs : List ℕ) (x : List A × List ℕ) → many_at more item n cs ≡ Ok x → Read (Joined is) cs x
-  unfolding many_at
-  many_sound zero cs x e = subst (Read (Joined is) cs) (ok_is ([], cs) x e) (record { text = []; is_so = refl; split = refl })
-  many_sound (suc n) cs x e = elim (chosen (more cs) (item cs >>= λ a. many_at more item n a.1 >>= λ b. Ok (a.0 ∷ b.0, b.1)) (done ([], cs)) (Ok x) e) [
-    | inr a ↦ subst (Read (Joined is) cs) (ok_is ([], cs) x a.1) (record { text = []; is_so = refl; split = refl })
-    | inl a ↦
-        let p = bind_ok (item cs) (λ a. many_at more item n a.1 >>= λ b. Ok (a.0 ∷ b.0, b.1)) x a.1 in
-        let q = bind_ok (many_at more item n p.0.1) (λ b. Ok (p.0.0 ∷ b.0, b.1)) x p.2 in
-        let r = sound cs p.0 a.0 p.1 in
-        let t = many_sound n p.0.1 q.0 q.1 in
-        subst (Read (Joined is) cs) (ok_is (p.0.0 ∷ q.0.0, q.0.1) x q.2) (record {
-          text = r.text ++ t.text;
-          is_so = (r.text, t.text, r.is_so, t.is_so, refl);
-          split = r.split ∙ ap (λ (l : List ℕ). r.text ++ l) t.split ∙ sym (append_assoc r.text t.text q.0.1);
-        })
-  ]
 
 -- What makes a list of items be read again: each is, where it stops; each begins as an item; and before each an item stops.
 pub record Again {A : Type 0} (is : List ℕ → A → Type 0) (more : List ℕ → Bool) (item : List ℕ → Parsed A) (Stops : List ℕ → Type 0) : Type 0 where

@@ -10,7 +10,7 @@ use Rattle.serde_json_path_parser.proofs.Words.{arguments_at}
 use Rattle.serde_json_path_parser.specs.declared.error.Failure.TheVariants as failures
 use Rattle.serde_json_path_parser.specs.declared.error.Context.TheVariants as context
 use Rattle.serde_json_path_parser.proofs.Reading.Regrouped.{no_longer}
-use Rattle.serde_json_path_parser.proofs.Grammar.Calls.{after_argument}
+use Rattle.serde_json_path_parser.proofs.Grammar.Arguments.{argument_outcome}
 use Rattle.serde_json_path_parser.proofs.Grammar.LogicalForms.{DeeperLaws}
 use Rattle.serde_json_path_parser.proofs.Reading.Steps.{same_fails, first_fails}
 use Rattle.serde_json_path_parser.proofs.Reading.Stands.{err_is}
@@ -134,8 +134,8 @@ module _ (signature : List ℕ → Option Signature) (deeper : Deeper) where
 
             pub enough_after : (n : ℕ) (laws : DeeperLaws signature n deeper) → is_at "," rest ≡ true → length (past_blanks (drop 1 rest)) ≤ fuel_after
             enough_after n laws comma =
-                let b = after_argument signature n deeper laws cs (a, rest) read in
-                omega (arith, enough, in_rests.1, ap length b.1, length-append b.0 rest, no_longer (drop 1 rest), one_less rest comma)
+                let b = (argument_outcome signature n deeper laws cs).reads (a, rest) read in
+                omega (arith, enough, in_rests.1, ap length b.split, length-append b.text rest, no_longer (drop 1 rest), one_less rest comma)
 
             pub more_fail : (s : Failure) → is_at "," rest ≡ true → Fails s (arguments_at signature deeper fuel_after start more (past_blanks (drop 1 rest))) → Fails s (arguments_at signature deeper fuel start kinds cs)
             more_fail s comma h =

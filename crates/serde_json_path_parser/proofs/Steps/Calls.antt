@@ -9,7 +9,7 @@ use Rattle.serde_json_path_syntax.specs.declared.literal.Literal as core
 use Rattle.serde_json_path_parser.specs.declared.parser.call.Argument as declared
 use Rattle.serde_json_path_parser.specs.declared.parser.call.Argument.TheVariants as the_arguments
 use Rattle.serde_json_path_parser.specs.declared.parser.operand.Operand.TheVariants as the_operands
-use Rattle.serde_json_path_parser.proofs.Grammar.Calls.{amount_whole, whole_amount}
+use Rattle.serde_json_path_parser.proofs.Grammar.Arguments.{amount_whole, whole_amount}
 use Rattle.serde_json_path_parser.proofs.Steps.Operands.{singular_by}
 
 -- a test that says whether a literal is one for a parameter of values

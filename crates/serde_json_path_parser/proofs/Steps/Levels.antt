@@ -15,7 +15,7 @@ use Rattle.serde_json_path_parser.proofs.Reading.Many as m
 use Rattle.serde_json_path_parser.proofs.Grammar.Segments as segments
 
 module _ {F : Type 0} (set : F → FunctionSet) (l : FilterParser F) where
-  laws : FilterLaws (IsGoodInside (signatures set l) l.depth) (filter_at set l)
+  laws : FilterLaws (signatures set l) (IsGoodInside (signatures set l) l.depth) (filter_at set l)
   laws = filter_laws (signatures set l) l.depth (deeper set l) (level_laws (signatures set l) l.depth)
 
   pub selector_takes : m.Takes (begins is_comma) (next_selector_at (filter_at set l))

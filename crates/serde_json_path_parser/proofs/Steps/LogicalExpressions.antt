@@ -1,13 +1,13 @@
 -- The steps of the code at logical expressions.
 use Rattle.std.proofs.Common.{◌≡◌, ℕ, zero, suc, ◌-◌, ◌<◌, ◌⊎◌, inl, inr, Bool, true, false, List, [], ◌∷◌, ◌++◌, length, drop, Option, Some, None, Result, Ok, Err, refl, sym, ap, subst, ◌∙◌, arith}
 use denote.Enum.Bare.{sameb}
-use Rattle.serde_json_path_parser.proofs.Words.{◌==◌, codes, bytes_eq, and_parts, root, current, Query, LogicalOr, paren, not_paren, relation, not_exist}
+use Rattle.serde_json_path_parser.proofs.Words.{codes, bytes_eq, root, current, Query, LogicalOr, paren, not_paren, relation, not_exist}
 use Rattle.serde_json_path_parser.proofs.Words.{not_test, Comparable, Call, Literal, truth, null, Operator, result_kind, IsPart, Part, SyntaxBuilder, of_value}
 use Rattle.serde_json_path_parser.proofs.Words.{Signature, kind_view, ExpectedExpression, NestedTooDeep, WrongReturnType, Refusal, Failure, word, past_word}
 use Rattle.serde_json_path_parser.proofs.Words.{begins_call, literal_word_at, operator_at, and_list, or_list, Deeper, level, query_at, named_call_at, named_at}
 use Rattle.serde_json_path_parser.proofs.Words.{operand_at, comparable_at, test_at, right_side_at, relation_at, basic_from, paren_at, negated_call_at}
 use Rattle.serde_json_path_parser.proofs.Words.{negated_name_at, negated_at, basic_at, next_basic_at, and_from, and_at, next_and_at, or_from, or_at, Fails}
-use Rattle.serde_json_path_parser.proofs.Words.{IsOperandOf, is_at, begins, begins_both, Operand, a_literal, a_call, is_result, Parsed, ◌>>=◌, refusal}
+use Rattle.serde_json_path_parser.proofs.Words.{IsOperandOf, is_at, begins_both, Operand, a_literal, a_call, is_result, Parsed, ◌>>=◌, refusal}
 use Rattle.serde_json_path_parser.proofs.Words.{past_blanks, many, byte_count, refusal_at}
 use Rattle.serde_json_path_syntax.specs.Piece as piece
 use Rattle.serde_json_path_functions.specs.contracts.types.FunctionArgType.{the_type}
@@ -19,12 +19,10 @@ use Rattle.serde_json_path_parser.specs.declared.parser.operand.Operand as decla
 use Rattle.serde_json_path_parser.specs.declared.parser.operand.Operand.TheVariants as the_operands
 use Rattle.serde_json_path_parser.specs.Operands.{a_query}
 use Rattle.serde_json_path_parser.proofs.Grammar.Levels.{level_laws}
-use Rattle.serde_json_path_parser.proofs.Grammar.LogicalExpressions.{IsBasicText, IsAndText, next_basic_sound, next_and_sound}
+use Rattle.serde_json_path_parser.proofs.Grammar.LogicalExpressions.{next_basic_takes, next_and_takes}
 use Rattle.serde_json_path_parser.proofs.Reading.Many as m
 use Rattle.serde_json_path_parser.proofs.Reading.Many.{with_front}
 use Rattle.serde_json_path_parser.proofs.Reading.Steps.{first_fails, chosen, done, ok_is, bind_ok}
-use Rattle.serde_json_path_parser.proofs.Reading.Rows as r
-use Rattle.serde_json_path_parser.proofs.Reading.Runs.{some_begun}
 
 -- ---- one step
 
@@ -83,9 +81,6 @@ module _ {A B : Type 0} {sign : ℕ} {item next : List ℕ → Parsed A} {join :
       row.whole_is first start ∙ with_first first (read_more start)
       ∙ ap (λ (read : Parsed (List A)). read >>= joined) (m.is_done (begins_both sign sign) next row.takes before cs (with_front (first ∷ []) (read_more start)) t h)
 
-some_both : (sign : ℕ) (cs : List ℕ) → begins_both sign sign cs ≡ true → 0 < length cs
-some_both sign cs t = some_begun (λ c. c == sign) cs (and_parts (begins (λ c. c == sign) cs) (begins (λ c. c == sign) (drop 1 cs)) t).0
-
 module _ (signature : List ℕ → Option Signature) (n : ℕ) where
   abbrev here : Deeper
   here = level signature n
@@ -95,10 +90,7 @@ module _ (signature : List ℕ → Option Signature) (n : ℕ) where
   ands = record {
     next_is = λ cs. refl;
     whole_is = λ b cs. refl;
-    takes = record {
-      shorter = λ cs rest b t e. r.next_shorter (codes "&&") (IsBasicText signature n here (level_laws signature n)) cs rest b (omega arith) (next_basic_sound signature n here (level_laws signature n) cs (b, rest) t e);
-      some = some_both 38;
-    };
+    takes = next_basic_takes signature n here (level_laws signature n);
   }
 
   pub ors : IsRow 124 (and_at signature here) (next_and_at signature here) or_list (or_from signature here)
@@ -106,10 +98,7 @@ module _ (signature : List ℕ → Option Signature) (n : ℕ) where
   ors = record {
     next_is = λ cs. refl;
     whole_is = λ a cs. refl;
-    takes = record {
-      shorter = λ cs rest a t e. r.next_shorter (codes "||") (IsAndText signature n here (level_laws signature n)) cs rest a (omega arith) (next_and_sound signature n here (level_laws signature n) cs (a, rest) t e);
-      some = some_both 124;
-    };
+    takes = next_and_takes signature n here (level_laws signature n);
   }
 
 -- ---- one level deeper

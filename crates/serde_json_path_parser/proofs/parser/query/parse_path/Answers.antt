@@ -4,7 +4,7 @@ use Rattle.serde_json_path_parser.proofs.Words.{calls_in_segments, Grows}
 use Rattle.serde_json_path_parser.specs.declared.error.Context.TheVariants as context
 use Rattle.serde_json_path_parser.specs.Filters as filters
 use Rattle.serde_json_path_parser.proofs.Steps.PartLists.{no_part, no_segment}
-use Rattle.serde_json_path_parser.proofs.Grammar.Paths.{all_read, none_read, path_ends, path_sound}
+use Rattle.serde_json_path_parser.proofs.Grammar.Paths.{all_read, none_read, path_ends, path_outcome}
 use Rattle.serde_json_path_syntax.proofs.Names.Once.{called_once, each_fits, fits_once}
 use Rattle.serde_json_path_parser.proofs.Steps.Growth.{all_declared, finishes}
 use Rattle.serde_json_path_parser.proofs.parser.query.parse_path.Goals as goal
@@ -53,7 +53,7 @@ finish-requires g c =
     let ended = all_read gives.1 c.in_ok-parts.rest gives.3 (omega (arith, c.if-rest-ne0.false)) in
     let whole = path_ends F.signature (left c.args.reader.now) after gives.1 c.take_char.result gives.0 rooted c.take_char.ensures.value read ended in
     let grown = subst (λ fs. Grows (g.F.Functions.set fs).signature c.new-builder.result c.parse_segments.new.builder (calls_in_segments (segment_list gives.0))) c.outermost.ensures.functions gives.6 in
-    let sound = path_sound F.signature (left c.args.reader.now) (segment_list gives.0) whole in
+    let sound = (path_outcome F.signature (left c.args.reader.now)).reads (segment_list gives.0) whole in
     let is = c.in_ok-part.ensures.made (segment_list gives.0) gives.2 in
     (query root (segment_list gives.0), is, finishes F.signature c.new-builder.result c.parse_segments.new.builder c.query.new.self (segment_list gives.0) c.new-builder.ensures.silent grown c.query.ensures.keeps sound.1.0.0 sound.1.0.1)
 
@@ -70,7 +70,7 @@ returns-clause-gives g c =
     let is = c.in_ok-part.ensures.made (segment_list gives.0) gives.2 in
     let q = query root (segment_list gives.0) in
     let grown = subst (λ fs. Grows (g.F.Functions.set fs).signature c.new-builder.result c.parse_segments.new.builder (calls_in_segments (segment_list gives.0))) c.outermost.ensures.functions gives.6 in
-    let sound = path_sound F.signature (left c.args.reader.now) (segment_list gives.0) whole in
+    let sound = (path_outcome F.signature (left c.args.reader.now)).reads (segment_list gives.0) whole in
     let finished = finishes F.signature c.new-builder.result c.parse_segments.new.builder c.query.new.self (segment_list gives.0) c.new-builder.ensures.silent grown c.query.ensures.keeps sound.1.0.0 sound.1.0.1 in
     let declared = all_declared F.signature c.new-builder.result c.parse_segments.new.builder c.query.new.self (segment_list gives.0) c.new-builder.ensures.silent grown c.query.ensures.keeps in (
       segment_list gives.0,
