@@ -1,6 +1,8 @@
 //! Tests of the lower crates by their public calls alone: lists and locations, functions, syntax trees, what these select,
-//! and walks.
+//! and walks. The tables of all tests hold their rows by [`rows`], and tell what comes of these by [`texts`].
 #![tactic(auto)]
 
+pub mod rows;
 #[cfg(test)]
 mod tests;
+pub mod texts;

@@ -20,7 +20,6 @@ mod messages;
 mod names;
 mod nesting;
 mod normal_paths;
-mod now_and_then;
 mod numbers;
 mod operators;
 mod paths;

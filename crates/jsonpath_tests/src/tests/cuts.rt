@@ -1,10 +1,11 @@
 //! Documents cut at each byte.
 
-use crate::tests::reports::{BOOKSTORE, READINGS};
+use crate::tests::reports::READINGS;
 use jsonpath_report::report::{DocumentError, ReportError, report};
 use serde_json_path::functions::Builtin;
+use serde_json_path_core_tests::rows::{Table, holds};
+use serde_json_path_core_tests::texts::BOOKSTORE;
 use std::alloc::Global;
-use std::process::Abort;
 use std::test::Fail;
 
 /// Documents of the other tests, and of the language's examples.
@@ -41,38 +42,35 @@ fn is_line(text: &str) -> bool {
     }
 }
 
-/// Asserts that a text is one line.
-fn holds_line(rt: &impl Abort, text: &str) {
-    assert!(rt; is_line(text), "{text:?}");
-}
-
-/// Asserts that the report of a document under `$` is one line, or that it is no JSON text.
-fn is_line_or_no_json(rt: &impl Abort, alloc: Global, document: &[u8]) {
+/// Fails where the report of a document under `$` is not one line, and the document is a JSON text.
+fn is_line_or_no_json(alloc: Global, document: &[u8]) -> Result<(), Fail> {
     match report(alloc, "$", document, &Builtin) {
-        Ok(lines) => holds_line(rt, lines.as_str()),
-        Err(ReportError::Document(DocumentError::NotJson)) => {}
-        Err(e) => assert!(rt; false, "{e}"),
+        Ok(lines) => holds(is_line(lines.as_str()), lines.as_str()),
+        Err(ReportError::Document(DocumentError::NotJson)) => Ok(()),
+        Err(e) => Err(Fail::from(e)),
     }
 }
 
 /// Reports on each beginning of a document.
-pub(crate) fn cut(rt: &impl Abort, alloc: Global, document: &[u8]) {
+fn cut(alloc: Global, document: &[u8]) -> Result<String, Fail> {
     for end in 0..document.len() + 1 {
         if let Some(start) = document.get(..end) {
-            is_line_or_no_json(rt, alloc, start);
+            is_line_or_no_json(alloc, start)?;
         }
     }
+    Ok(String::new(alloc))
 }
 
 /// Reports on each beginning of each document.
-fn cut_each(rt: &impl Abort, alloc: Global, documents: &[&str]) {
+pub(crate) fn cut_each(rt: &impl Eprint, alloc: Global, documents: &[&str]) -> Result<(), Fail> {
+    let mut table = Table::new();
     for &document in documents {
-        cut(rt, alloc, document.as_bytes());
+        table.hold(rt, ("cut", document, ""), cut(alloc, document.as_bytes()));
     }
+    table.end()
 }
 
 #[test]
 fn cuts_documents(rt: HostRuntime) -> Result<(), Fail> {
-    cut_each(&rt, rt.alloc(), DOCUMENTS);
-    Ok(())
+    cut_each(&rt, rt.alloc(), DOCUMENTS)
 }

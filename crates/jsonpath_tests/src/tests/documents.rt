@@ -1,10 +1,10 @@
 //! Documents that are no JSON, and documents with unusual names and texts.
 
-use crate::tests::cuts::cut;
-use jsonpath_report::report::{DocumentError, ReportError, report};
+use crate::tests::cuts::cut_each;
+use crate::tests::reports::{hold_reports, refusal};
 use serde_json_path::functions::Builtin;
-use std::alloc::Global;
-use std::process::Abort;
+use serde_json_path_core_tests::rows::Table;
+use serde_json_path_core_tests::texts::long;
 use std::test::Fail;
 
 /// Bytes that are no JSON text.
@@ -39,20 +39,15 @@ const NO_JSON: &[&[u8]] = &[
     b"null\0",
 ];
 
-/// Whether the report of a document is refused for the document.
-fn is_no_json(alloc: Global, document: &[u8]) -> bool {
-    match report(alloc, "$", document, &Builtin) {
-        Err(ReportError::Document(DocumentError::NotJson)) => true,
-        _ => false,
-    }
-}
-
 #[test]
 fn refuses_what_is_no_json(rt: HostRuntime) -> Result<(), Fail> {
+    let mut table = Table::new();
     for &document in NO_JSON {
-        assert!(rt; is_no_json(rt.alloc(), document), "{document:?}");
+        let given = format!(in rt.alloc(); "{document:?}")?;
+        let came = refusal(rt.alloc(), "$", document);
+        table.hold(&rt, ("documents", given.as_str(), "not JSON"), came);
     }
-    Ok(())
+    table.end()
 }
 
 /// A path, a document, and the lines of their report.
@@ -78,49 +73,23 @@ const UNUSUAL: &[(&str, &str, &str)] = &[
     ("$.*", r#"{"":1}"#, "$['']\t1\n"),
 ];
 
-/// Holds the report of a path and a document to its lines.
-fn reports(
-    rt: &impl Abort,
-    alloc: Global,
-    (path, document, lines): (&str, &str, &str),
-) -> Result<(), Fail> {
-    let text = report(alloc, path, document.as_bytes(), &Builtin)?;
-    assert_eq!(rt; text.as_str(), lines, "of {path} on {document}");
-    Ok(())
-}
-
 #[test]
 fn reports_unusual_names_and_texts(rt: HostRuntime) -> Result<(), Fail> {
-    for &row in UNUSUAL {
-        reports(&rt, rt.alloc(), row)?;
-    }
-    Ok(())
-}
-
-/// A text of a million letters in quotes, with what is to be before and after it.
-fn million(alloc: Global, before: &str, after: &str) -> Result<String, std::alloc::AllocError> {
-    let mut text = String::from_str(alloc, before)?;
-    for _ in 0..100_000 {
-        text.push_str("abcdefghij")?;
-    }
-    text.push_str(after)?;
-    Ok(text)
+    hold_reports(&rt, rt.alloc(), &Builtin, UNUSUAL)
 }
 
 #[test]
 fn reports_a_million_letters(rt: HostRuntime) -> Result<(), Fail> {
-    let document = million(rt.alloc(), "[\"", "\"]")?;
-    let lines = million(rt.alloc(), "$[0]\t\"", "\"\n")?;
-    reports(&rt, rt.alloc(), ("$[0]", document.as_str(), lines.as_str()))
+    let document = long(rt.alloc(), "[\"", "abcdefghij", 100_000, "\"]")?;
+    let lines = long(rt.alloc(), "$[0]\t\"", "abcdefghij", 100_000, "\"\n")?;
+    let row = ("$[0]", document.as_str(), lines.as_str());
+    hold_reports(&rt, rt.alloc(), &Builtin, &[row])
 }
 
 #[test]
 fn cuts_unusual_documents(rt: HostRuntime) -> Result<(), Fail> {
     for &(_, document, _) in UNUSUAL {
-        cut(&rt, rt.alloc(), document.as_bytes());
+        cut_each(&rt, rt.alloc(), &[document])?;
     }
-    for document in [r#"{"a":1}"#, "[1,2]"] {
-        cut(&rt, rt.alloc(), document.as_bytes());
-    }
-    Ok(())
+    cut_each(&rt, rt.alloc(), &[r#"{"a":1}"#, "[1,2]"])
 }

@@ -2,8 +2,9 @@
 
 ghost use Rattle.std.specs.Prelude.{Some, None};
 
+use crate::tests::program::{words, wrote};
 use jsonpath_report::run::run;
-use std::alloc::{AllocError, Global};
+use std::alloc::Global;
 use std::io;
 use std::io::{Read, Write};
 use std::process::Abort;
@@ -11,10 +12,20 @@ use std::test::Fail;
 
 /// A reader that gives one byte at a time, is interrupted before each, and fails at one of its calls.
 #[derive(Drop)]
-struct Reader<'a> {
+pub(crate) struct Reader<'a> {
     left: &'a [u8],
-    calls: usize,
+    pub(crate) calls: usize,
     fails_at: usize,
+}
+
+impl<'a> Reader<'a> {
+    pub(crate) fn new(left: &'a [u8], fails_at: usize) -> Reader<'a> {
+        Reader {
+            left,
+            calls: 0,
+            fails_at,
+        }
+    }
 }
 
 impl Read for Reader<'_> {
@@ -36,21 +47,29 @@ impl Read for Reader<'_> {
     }
 }
 
-/// A writer that takes one byte at a time, is interrupted before each, and fails at one of its calls alone.
+/// A writer that takes one byte at a time, is interrupted before each, and fails at one of its calls, and then on unless it
+/// recovers.
 #[derive(Drop)]
-struct Writer {
-    taken: Vec<u8>,
+pub(crate) struct Writer {
+    pub(crate) taken: Vec<u8>,
     calls: usize,
     fails_at: usize,
+    recovers: bool,
 }
 
 impl Writer {
-    fn new(alloc: Global, fails_at: usize) -> Writer {
+    pub(crate) fn new(alloc: Global, fails_at: usize, recovers: bool) -> Writer {
         Writer {
             taken: Vec::new(alloc),
             calls: 0,
             fails_at,
+            recovers,
         }
+    }
+
+    /// Whether the call of that number fails.
+    fn fails(&self, call: usize) -> bool {
+        call == self.fails_at || (call > self.fails_at && !self.recovers)
     }
 }
 
@@ -60,7 +79,7 @@ impl Write for Writer {
     fn write(&mut self, buf: &[u8]) -> io::Result<usize> {
         let call = self.calls;
         self.calls = call.saturating_add(1);
-        if call == self.fails_at {
+        if self.fails(call) {
             return Err(io::Error::from(io::ErrorKind::BrokenPipe));
         }
         if call % 2 == 0 {
@@ -75,23 +94,11 @@ impl Write for Writer {
     fn flush(&mut self) -> io::Result<()> {
         let call = self.calls;
         self.calls = call.saturating_add(1);
-        if call == self.fails_at {
+        if self.fails(call) {
             return Err(io::Error::from(io::ErrorKind::BrokenPipe));
         }
         Ok(())
     }
-}
-
-/// One word.
-fn word(alloc: Global, of: &str) -> Result<Vec<String>, AllocError> {
-    let mut words = Vec::new(alloc);
-    words.push(String::from_str(alloc, of)?)?;
-    Ok(words)
-}
-
-/// Holds bytes to the text that is wanted.
-fn holds(rt: &impl Abort, bytes: &[u8], wanted: &[u8]) {
-    assert!(rt; bytes == wanted, "{bytes:?} in place of {wanted:?}");
 }
 
 /// The status of a run whose reader fails at a call, and whether that call was made. What is said is held to the status.
@@ -101,12 +108,8 @@ fn run_reading(
     path: &str,
     fails_at: usize,
 ) -> Result<(u8, bool), Fail> {
-    let words = word(alloc, path)?;
-    let mut input = Reader {
-        left: b"[1, 2]",
-        calls: 0,
-        fails_at,
-    };
+    let words = words(alloc, &[path])?;
+    let mut input = Reader::new(b"[1, 2]", fails_at);
     let mut out = Vec::new(alloc);
     let mut err = Vec::new(alloc);
     let status = run(alloc, &words, &mut input, &mut out, &mut err);
@@ -115,8 +118,8 @@ fn run_reading(
         1 => ("", "jsonpath: path: at position 1, expected '$'\n"),
         _ => ("", "jsonpath: document: cannot be read\n"),
     };
-    holds(rt, out.as_slice(), lines.as_bytes());
-    holds(rt, err.as_slice(), told.as_bytes());
+    wrote(rt, out.as_slice(), lines);
+    wrote(rt, err.as_slice(), told);
     Ok((status, input.calls > fails_at))
 }
 
@@ -135,44 +138,51 @@ fn each_read_fails(rt: HostRuntime) -> Result<(), Fail> {
 
 /// Holds what a writer took that failed at a call to the beginning of a text that ends with a flush.
 fn holds_taken(rt: &impl Abort, writer: &Writer, text: &str) {
-    let (taken, _) = text
-        .as_bytes()
-        .split_at(text.len().min(writer.fails_at / 2));
-    holds(rt, writer.taken.as_slice(), taken);
+    let taken = text.get(..text.len().min(writer.fails_at / 2));
+    wrote(rt, writer.taken.as_slice(), taken.unwrap_or(text));
 }
 
-/// Holds a run whose two writers fail at a call each to its status and to what they took.
+/// Holds a run whose two writers fail at a call each to what they took, and returns its status.
 fn run_writing(
     rt: &impl Abort,
     alloc: Global,
     (path, document): (&str, &str),
-    (lines, out_fails_at): (&str, usize),
-    (told, err_fails_at): (&str, usize),
+    (lines, mut out): (&str, Writer),
+    (told, mut err): (&str, Writer),
 ) -> Result<u8, Fail> {
-    let words = word(alloc, path)?;
+    let words = words(alloc, &[path])?;
     let mut input = document.as_bytes();
-    let mut out = Writer::new(alloc, out_fails_at);
-    let mut err = Writer::new(alloc, err_fails_at);
     let status = run(alloc, &words, &mut input, &mut out, &mut err);
     holds_taken(rt, &out, lines);
     holds_taken(rt, &err, told);
     Ok(status)
 }
 
-/// The four bytes of the lines take eight calls, and the flush is the ninth.
+/// Holds a run to its status whose output, of four bytes, fails at a call: these take eight calls, and the flush is the ninth.
+fn fails_to_write(
+    rt: &impl Abort,
+    alloc: Global,
+    fails_at: usize,
+    recovers: bool,
+) -> Result<(), Fail> {
+    let (told, wanted) = match fails_at < 9 {
+        true => ("jsonpath: output failed\n", 3),
+        false => ("", 0),
+    };
+    for err_fails_at in [fails_at, 1000] {
+        let out = ("$\t1\n", Writer::new(alloc, fails_at, recovers));
+        let err = (told, Writer::new(alloc, err_fails_at, recovers));
+        let status = run_writing(rt, alloc, ("$", "1"), out, err)?;
+        assert_eq!(rt; status, wanted, "call {fails_at}");
+    }
+    Ok(())
+}
+
 #[test]
 fn each_write_fails(rt: HostRuntime) -> Result<(), Fail> {
     for fails_at in 0..12 {
-        let (told, wanted) = match fails_at < 9 {
-            true => ("jsonpath: output failed\n", 3),
-            false => ("", 0),
-        };
-        let run = ("$", "1");
-        let out = ("$\t1\n", fails_at);
-        let status = run_writing(&rt, rt.alloc(), run, out, (told, 1000))?;
-        assert_eq!(rt; status, wanted, "call {fails_at}");
-        let status = run_writing(&rt, rt.alloc(), run, out, (told, fails_at))?;
-        assert_eq!(rt; status, wanted, "call {fails_at}, twice");
+        fails_to_write(&rt, rt.alloc(), fails_at, true)?;
+        fails_to_write(&rt, rt.alloc(), fails_at, false)?;
     }
     Ok(())
 }
@@ -187,8 +197,9 @@ const REFUSED: &[(&str, &str, u8, &str)] = &[
 fn each_write_of_a_refusal_fails(rt: HostRuntime) -> Result<(), Fail> {
     for &(path, document, wanted, told) in REFUSED {
         for fails_at in 0..100 {
-            let err = (told, fails_at);
-            let status = run_writing(&rt, rt.alloc(), (path, document), ("", 1000), err)?;
+            let out = ("", Writer::new(rt.alloc(), 1000, true));
+            let err = (told, Writer::new(rt.alloc(), fails_at, true));
+            let status = run_writing(&rt, rt.alloc(), (path, document), out, err)?;
             assert_eq!(rt; status, wanted, "{path}, call {fails_at}");
         }
     }
@@ -199,8 +210,10 @@ fn each_write_of_a_refusal_fails(rt: HostRuntime) -> Result<(), Fail> {
 fn a_pattern_is_refused(rt: HostRuntime) -> Result<(), Fail> {
     let run = ("$[?match(@,'a{1000}{1000}')]", r#"["a"]"#);
     for fails_at in [1, 1000] {
-        let err = ("jsonpath: query: pattern refused\n", fails_at);
-        assert_eq!(rt; run_writing(&rt, rt.alloc(), run, ("", 1000), err)?, 3);
+        let out = ("", Writer::new(rt.alloc(), 1000, true));
+        let told = "jsonpath: query: pattern refused\n";
+        let err = (told, Writer::new(rt.alloc(), fails_at, true));
+        assert_eq!(rt; run_writing(&rt, rt.alloc(), run, out, err)?, 3);
     }
     Ok(())
 }

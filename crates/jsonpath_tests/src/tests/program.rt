@@ -3,109 +3,16 @@
 ghost use Rattle.std.specs.Prelude.{◌≡◌, ◌++◌, [], Some, ℕ, List};
 ghost use Rattle.jsonpath_report.specs.Run.{IsReportOfRun};
 
+use crate::tests::failing::{Reader, Writer};
 use jsonpath_report::report::ReportError;
 use jsonpath_report::run::{refuse, run};
 use serde_json_path::QueryError;
-use std::alloc::Global;
+use serde_json_path_core_tests::rows::{Table, holds};
+use std::alloc::{AllocError, Global};
 use std::io;
-use std::io::{Read, Write};
+use std::io::Write;
 use std::process::Abort;
 use std::test::Fail;
-
-/// A reader that counts its reads and may fail at one of them.
-#[derive(Drop)]
-struct Input<'a> {
-    left: &'a [u8],
-    reads: usize,
-    fails_at: usize,
-}
-
-impl<'a> Input<'a> {
-    fn of(left: &'a [u8]) -> Input<'a> {
-        Input {
-            left,
-            reads: 0,
-            fails_at: usize::MAX,
-        }
-    }
-}
-
-impl Read for Input<'_> {
-    ghost remaining = { λ input. Some input.left.now };
-
-    fn read(&mut self, buf: &mut [u8]) -> io::Result<usize> {
-        let read = self.reads;
-        self.reads = read.saturating_add(1);
-        if read == self.fails_at {
-            return Err(io::Error::from(io::ErrorKind::InvalidData));
-        }
-        self.left.read(buf)
-    }
-}
-
-/// A writer whose writes fail.
-#[derive(Drop)]
-struct Broken;
-
-impl Write for Broken {
-    ghost contents = { λ _. Some [] };
-
-    fn write(&mut self, _buf: &[u8]) -> io::Result<usize> {
-        Err(io::Error::from(io::ErrorKind::BrokenPipe))
-    }
-
-    fn flush(&mut self) -> io::Result<()> {
-        Ok(())
-    }
-}
-
-/// A writer that takes all bytes, and fails to flush them.
-#[derive(Drop)]
-struct Unflushed {
-    taken: Vec<u8>,
-}
-
-impl Write for Unflushed {
-    ghost contents = { λ writer. Some writer.taken.items };
-
-    fn write(&mut self, buf: &[u8]) -> io::Result<usize> {
-        self.taken.write(buf)
-    }
-
-    fn flush(&mut self) -> io::Result<()> {
-        Err(io::Error::from(io::ErrorKind::BrokenPipe))
-    }
-}
-
-/// A writer that takes one byte at a time, is interrupted before each, and fails once it is full.
-#[derive(Drop)]
-struct Narrow {
-    taken: Vec<u8>,
-    room: usize,
-    is_interrupted: bool,
-}
-
-impl Write for Narrow {
-    ghost contents = { λ writer. Some writer.taken.items };
-
-    fn write(&mut self, buf: &[u8]) -> io::Result<usize> {
-        self.is_interrupted = !self.is_interrupted;
-        if self.is_interrupted {
-            return Err(io::Error::from(io::ErrorKind::Interrupted));
-        }
-        if self.taken.len() >= self.room {
-            return Err(io::Error::from(io::ErrorKind::StorageFull));
-        }
-        match buf.first() {
-            Some(&byte) => self.taken.write(&[byte]),
-            None => Ok(0),
-        }
-    }
-
-    fn flush(&mut self) -> io::Result<()> {
-        Ok(())
-    }
-}
 
 /// A writer that has room for so many bytes, and takes none once it is full.
 #[derive(Drop)]
@@ -127,7 +34,7 @@ impl Write for Full {
     }
 }
 
-fn words(alloc: Global, of: &[&str]) -> Result<Vec<String>, std::alloc::AllocError> {
+pub(crate) fn words(alloc: Global, of: &[&str]) -> Result<Vec<String>, AllocError> {
     let mut words = Vec::new(alloc);
     for word in of {
         words.push(String::from_str(alloc, word)?)?;
@@ -141,74 +48,61 @@ fn ends(rt: &impl Abort, status: u8, wanted: u8) {
 }
 
 /// Asserts what was written.
-fn wrote(rt: &impl Abort, written: &[u8], wanted: &str) {
+pub(crate) fn wrote(rt: &impl Abort, written: &[u8], wanted: &str) {
     assert!(rt;
         written == wanted.as_bytes(),
         "{written:?} in place of {wanted:?}"
     );
 }
 
-/// The words, the input, the status, and the texts on the output and on the output of errors.
-const RUNS: &[(&[&str], &str, u8, &str, &str)] = &[
-    (&["$.a"], r#"{"a":[1]}"#, 0, "$['a']\t[1]\n", ""),
+/// The words, the input, and the status and the texts on the output and on the output of errors.
+const RUNS: &[(&[&str], &str, &str)] = &[
+    (&["$.a"], r#"{"a":[1]}"#, "0, $['a']\t[1]\n, "),
     (
         &["$['a','a']"],
         r#"{"a":[1]}"#,
-        0,
-        "$['a']\t[1]\n$['a']\t[1]\n",
-        "",
+        "0, $['a']\t[1]\n$['a']\t[1]\n, ",
     ),
-    (&["$.b"], r#"{"a":[1]}"#, 0, "", ""),
-    (&["$"], "null", 0, "$\tnull\n", ""),
-    (&["$.a"], "{", 2, "", "jsonpath: document: not JSON\n"),
-    (&["$"], "1 2", 2, "", "jsonpath: document: not JSON\n"),
+    (&["$.b"], r#"{"a":[1]}"#, "0, , "),
+    (&["$"], "null", "0, $\tnull\n, "),
+    (&["$.a"], "{", "2, , jsonpath: document: not JSON\n"),
+    (&["$"], "1 2", "2, , jsonpath: document: not JSON\n"),
     (
         &["x"],
         "{",
-        1,
-        "",
-        "jsonpath: path: at position 1, expected '$'\n",
+        "1, , jsonpath: path: at position 1, expected '$'\n",
     ),
     (
         &[""],
         "null",
-        1,
-        "",
-        "jsonpath: path: at position 1, expected '$'\n",
+        "1, , jsonpath: path: at position 1, expected '$'\n",
     ),
-    (&[], "null", 64, "", "usage: jsonpath PATH\n"),
-    (&["$", "$"], "null", 64, "", "usage: jsonpath PATH\n"),
+    (&[], "null", "64, , usage: jsonpath PATH\n"),
+    (&["$", "$"], "null", "64, , usage: jsonpath PATH\n"),
 ];
 
-/// Asserts the status and the texts of a run, and that its input is read but where words are wrong.
-fn runs(
-    rt: &impl Abort,
-    alloc: Global,
-    words: &[String],
-    document: &str,
-    (status, printed, reported): (u8, &str, &str),
-) {
-    let mut input = Input::of(document.as_bytes());
+/// The status and the texts of a run. Fails where it reads its input and words are wrong, or does not and they are right.
+fn ran(alloc: Global, words: &[String], document: &str) -> Result<String, Fail> {
+    let mut input = Reader::new(document.as_bytes(), usize::MAX);
     let mut out = Vec::new(alloc);
     let mut err = Vec::new(alloc);
-    ends(
-        rt,
-        run(alloc, words, &mut input, &mut out, &mut err),
-        status,
-    );
-    wrote(rt, out.as_slice(), printed);
-    wrote(rt, err.as_slice(), reported);
-    assert!(rt; (input.reads == 0) == (status == 64), "{document}");
+    let status = run(alloc, words, &mut input, &mut out, &mut err);
+    holds((input.calls == 0) == (status == 64), "the input is read")?;
+    let out = str::from_utf8(out.as_slice())?;
+    let err = str::from_utf8(err.as_slice())?;
+    Ok(format!(in alloc; "{status}, {out}, {err}")?)
 }
 
 #[test]
 fn statuses_and_texts(rt: HostRuntime) -> Result<(), Fail> {
-    for &(given, document, status, printed, reported) in RUNS {
+    let mut table = Table::new();
+    for &(given, document, wanted) in RUNS {
+        let name = format!(in rt.alloc(); "{given:?}")?;
         let words = words(rt.alloc(), given)?;
-        let wanted = (status, printed, reported);
-        runs(&rt, rt.alloc(), &words, document, wanted);
+        let came = ran(rt.alloc(), &words, document);
+        table.hold(&rt, (document, name.as_str(), wanted), came);
     }
-    Ok(())
+    table.end()
 }
 
 /// Runs the program on the bytes of a document. What its contract says of readers and writers that tell their bytes is
@@ -243,31 +137,14 @@ fn runs_on_bytes(rt: HostRuntime) -> Result<(), Fail> {
     Ok(())
 }
 
-#[test]
-fn failing_flushes(rt: HostRuntime) -> Result<(), Fail> {
-    let root = words(rt.alloc(), &["$"])?;
-    let mut out = Unflushed {
-        taken: Vec::new(rt.alloc()),
-    };
-    let mut err = Vec::new(rt.alloc());
-    let status = run(rt.alloc(), &root, &mut Input::of(b"1"), &mut out, &mut err);
-    ends(&rt, status, 3);
-    wrote(&rt, out.taken.as_slice(), "$\t1\n");
-    wrote(&rt, err.as_slice(), "jsonpath: output failed\n");
-    Ok(())
-}
-
+/// The writer takes a byte at each odd call, and fails from one of these on.
 #[test]
 fn short_and_interrupted_writes(rt: HostRuntime) -> Result<(), Fail> {
     let root = words(rt.alloc(), &["$"])?;
-    for (room, status, written) in [(9, 0, "$\t1\n"), (2, 3, "$\t"), (0, 3, "")] {
-        let mut out = Narrow {
-            taken: Vec::new(rt.alloc()),
-            room,
-            is_interrupted: false,
-        };
+    for (fails_at, status, written) in [(19, 0, "$\t1\n"), (5, 3, "$\t"), (1, 3, "")] {
+        let mut out = Writer::new(rt.alloc(), fails_at, false);
         let mut err = Vec::new(rt.alloc());
-        let answer = run(rt.alloc(), &root, &mut Input::of(b"1"), &mut out, &mut err);
+        let answer = run(rt.alloc(), &root, &mut "1".as_bytes(), &mut out, &mut err);
         ends(&rt, answer, status);
         wrote(&rt, out.taken.as_slice(), written);
     }
@@ -290,45 +167,11 @@ fn full_writers(rt: HostRuntime) -> Result<(), Fail> {
             taken: Vec::new(rt.alloc()),
             room: 9,
         };
-        let answer = run(rt.alloc(), &root, &mut Input::of(b"1"), &mut out, &mut err);
+        let answer = run(rt.alloc(), &root, &mut "1".as_bytes(), &mut out, &mut err);
         ends(&rt, answer, status);
         wrote(&rt, out.taken.as_slice(), written);
         wrote(&rt, err.taken.as_slice(), told);
     }
-    Ok(())
-}
-
-/// A run over an input that cannot be read.
-fn fails_to_read(rt: &impl Abort, alloc: Global, path: &[String]) {
-    let mut input = Input::of(b"null");
-    input.fails_at = 0;
-    let mut out = Vec::new(alloc);
-    let mut err = Vec::new(alloc);
-    ends(rt, run(alloc, path, &mut input, &mut out, &mut err), 2);
-    wrote(rt, out.as_slice(), "");
-    wrote(rt, err.as_slice(), "jsonpath: document: cannot be read\n");
-}
-
-/// Runs whose output cannot be written, and then their output of errors neither.
-fn fails_to_write(rt: &impl Abort, alloc: Global, root: &[String]) {
-    let mut err = Vec::new(alloc);
-    let mut input = Input::of(b"1");
-    ends(rt, run(alloc, root, &mut input, &mut Broken, &mut err), 3);
-    wrote(rt, err.as_slice(), "jsonpath: output failed\n");
-    let mut input = Input::of(b"1");
-    ends(
-        rt,
-        run(alloc, root, &mut input, &mut Broken, &mut Broken),
-        3,
-    );
-}
-
-#[test]
-fn failing_reads_and_writes(rt: HostRuntime) -> Result<(), Fail> {
-    let path = words(rt.alloc(), &["x"])?;
-    fails_to_read(&rt, rt.alloc(), &path);
-    let root = words(rt.alloc(), &["$"])?;
-    fails_to_write(&rt, rt.alloc(), &root);
     Ok(())
 }
 

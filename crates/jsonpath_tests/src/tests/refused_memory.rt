@@ -1,20 +1,17 @@
 //! Reports, and calls under a set, that are refused a request for memory. `tools/refuse_memory` refuses each request of each
 //! of these tests in turn, and reads how the test ends.
 //!
-//! A call that answers no memory is called again, and then answers as its row says.
-
-ghost use Rattle.serde_json_path_functions.specs.Functions.{Fits};
-ghost use Rattle.serde_json_path_functions.specs.Patterns.{before_builtin};
-ghost use Rattle.serde_json_path.specs.Paths.{path_signatures};
+//! A call that answers no memory is made again, and then answers as its row says.
 
 use crate::tests::reports::READINGS;
 use jsonpath_report::report::{DocumentError, ReportError, report};
 use jsonpath_report::samples::Samples;
 use serde_json::Value;
-use serde_json_path::functions::{Both, Builtin, Functions};
-use serde_json_path::{JsonPath, LocatedNodeList, NodeList, ParseErrorKind, QueryError, Walk};
+use serde_json_path::functions::{Builtin, Functions};
+use serde_json_path::{JsonPath, ParseErrorKind, QueryError};
+use serde_json_path_core_tests::rows::{Table, hold_answers, hold_rows, holds};
+use serde_json_path_core_tests::texts::{of_calls, of_located, of_nodes, of_walk};
 use std::alloc::Global;
-use std::process::Abort;
 use std::test::Fail;
 
 /// Where a report met a refused request.
@@ -27,26 +24,34 @@ fn refused_at(e: &ReportError) -> Option<&'static str> {
     }
 }
 
-/// Holds the report of a path and a document under a set to its lines.
-fn reports<F: Functions>(
-    rt: &impl Abort,
+/// The report of a path and a document under a set. It is made again where memory is refused.
+fn reported<F: Functions>(
     alloc: Global,
     functions: &F,
-    (path, document, lines): (&str, &str, &str),
-) -> Result<(), Fail> {
+    (path, document): (&str, &str),
+) -> Result<String, Fail> {
     let place = match report(alloc, path, document.as_bytes(), functions) {
-        Ok(text) => {
-            assert_eq!(rt; text.as_str(), lines);
-            return Ok(());
-        }
+        Ok(text) => return Ok(text),
         Err(e) => match refused_at(&e) {
             Some(place) => place,
             None => return Err(Fail::new(format_args!("refused otherwise: {e}"))),
         },
     };
     let text = report(alloc, path, document.as_bytes(), functions)?;
-    assert_eq!(rt; text.as_str(), lines);
-    Err(Fail::new(format_args!("no memory for the {place}, and then the right answer")))
+    Ok(format!(in alloc; "{text}, after no memory for the {place}")?)
+}
+
+/// Holds the report of a path and a document under a set to its lines.
+fn hold_report<F: Functions>(
+    rt: &impl Eprint,
+    alloc: Global,
+    functions: &F,
+    (path, document, lines): (&str, &str, &str),
+) -> Result<(), Fail> {
+    let mut table = Table::new();
+    let came = reported(alloc, functions, (path, document));
+    table.hold(rt, (document, path, lines), came);
+    table.end()
 }
 
 #[test]
@@ -56,19 +61,19 @@ fn report_of_descendants(rt: HostRuntime) -> Result<(), Fail> {
         r#"{"foo":{"bar":{"baz":1},"baz":2},"baz":3}"#,
         "$['foo']['baz']\t2\n$['foo']['bar']['baz']\t1\n",
     );
-    reports(&rt, rt.alloc(), &Builtin, row)
+    hold_report(&rt, rt.alloc(), &Builtin, row)
 }
 
 #[test]
 fn report_of_an_escaped_name(rt: HostRuntime) -> Result<(), Fail> {
     let row = ("$.*", r#"{"a'b\\\u000b":1}"#, "$['a\\'b\\\\\\u000b']\t1\n");
-    reports(&rt, rt.alloc(), &Builtin, row)
+    hold_report(&rt, rt.alloc(), &Builtin, row)
 }
 
 #[test]
 fn report_of_a_set(rt: HostRuntime) -> Result<(), Fail> {
     let row = ("$[?first(@.*) == 4]", SQUARE, "$[1]\t[4,5,6]\n");
-    reports(&rt, rt.alloc(), &Samples, row)
+    hold_report(&rt, rt.alloc(), &Samples, row)
 }
 
 #[test]
@@ -78,7 +83,7 @@ fn report_of_filters(rt: HostRuntime) -> Result<(), Fail> {
         r#"{"min":3,"x":{"a":[1,5]},"y":{"a":[2]}}"#,
         "$['x']\t{\"a\":[1,5]}\n",
     );
-    reports(&rt, rt.alloc(), &Builtin, row)
+    hold_report(&rt, rt.alloc(), &Builtin, row)
 }
 
 #[test]
@@ -88,227 +93,133 @@ fn report_of_readings(rt: HostRuntime) -> Result<(), Fail> {
         READINGS,
         "$['readings'][2]['msg']\t\"biz\"\n$['readings'][3]['msg']\t\"bop\"\n",
     );
-    reports(&rt, rt.alloc(), &Builtin, row)
+    hold_report(&rt, rt.alloc(), &Builtin, row)
 }
 
 #[test]
 fn report_of_nothing(rt: HostRuntime) -> Result<(), Fail> {
     let path = "$.foo['bar'][1:10][?@.baz > 10 && @.foo.bar < 20]";
-    reports(&rt, rt.alloc(), &Builtin, (path, "null", ""))
+    hold_report(&rt, rt.alloc(), &Builtin, (path, "null", ""))
 }
 
 /// Three rows of three numbers.
 const SQUARE: &str = "[[1,2,3],[4,5,6],[7,8,9]]";
-/// A path that selects the second of the rows, by a function of the samples.
-const FIRST: &str = "$[?first(@.*) == 4]";
 
-/// Holds the answer of a call to what is wanted. Returns whether there is one, which there is not where memory is refused.
-fn is_answered(rt: &impl Abort, answer: Option<String>, wanted: &str) -> bool {
-    match answer {
-        Some(text) => {
-            assert_eq!(rt; text.as_str(), wanted);
-            true
-        }
-        None => false,
-    }
-}
-
-/// Ends a test of which a call was refused and gave the right answer when it was called again.
-fn called_again() -> Result<(), Fail> {
-    Err(Fail::from("no memory, and then the right answer"))
-}
-
-/// Holds a call that was refused, and is called again, to what is wanted. Ends the test.
-fn answers_again(rt: &impl Abort, answer: Option<String>, wanted: &str) -> Result<(), Fail> {
-    assert!(rt; is_answered(rt, answer, wanted), "refused twice");
-    called_again()
-}
+/// A path of the samples, and the text that it prints.
+const TEXTS: &[&str] = &["$[?first(@.*) == 4] -> $[?first(@.*) == 4]"];
 
 /// The text of a path that fits the samples alone.
-fn of_path(rt: &impl Abort, alloc: Global, path: &JsonPath) -> Result<Option<String>, Fail> {
-    assert!(rt; path.fits(&Samples) && !path.fits(&Builtin));
+fn of_path(alloc: Global, path: &JsonPath) -> Result<Option<String>, Fail> {
+    holds(
+        path.fits(&Samples) && !path.fits(&Builtin),
+        "fits another set",
+    )?;
     Ok(Some(path.to_text(alloc)?))
 }
 
 /// The text of a path that is read under the samples, or nothing where memory is refused.
-fn parsed(rt: &impl Abort, alloc: Global) -> Result<Option<String>, Fail> {
-    match JsonPath::parse_with(alloc, FIRST, &Samples) {
+fn parsed(alloc: Global, text: &str) -> Result<Option<String>, Fail> {
+    match JsonPath::parse_with(alloc, text, &Samples) {
         Err(e) if e.kind() == ParseErrorKind::NoMemory => Ok(None),
-        answer => of_path(rt, alloc, &answer?),
+        answer => of_path(alloc, &answer?),
     }
 }
 
 #[test]
 fn parse_with(rt: HostRuntime) -> Result<(), Fail> {
-    if !is_answered(&rt, parsed(&rt, rt.alloc())?, FIRST) {
-        return answers_again(&rt, parsed(&rt, rt.alloc())?, FIRST);
-    }
-    Ok(())
+    hold_answers(&rt, rt.alloc(), TEXTS, parsed)
 }
 
-/// A call on a path under the samples.
-#[derive(Clone, Copy)]
-enum Call {
-    TryClone,
-    ToText,
-    ToJson,
-    QueryWith,
-    QueryLocatedWith,
-    Walk,
-}
-
-/// The value that a query gives, or nothing where memory is refused.
-fn of_nodes(
-    alloc: Global,
-    answer: Result<NodeList<'_>, QueryError>,
-) -> Result<Option<String>, Fail> {
-    match answer {
-        Err(QueryError::Memory) => Ok(None),
-        answer => Ok(Some(answer?.exactly_one()?.to_string(alloc)?)),
+/// The text of a copy, or nothing where memory is refused.
+fn copied(alloc: Global, text: &str) -> Result<Option<String>, Fail> {
+    match JsonPath::parse_with(alloc, text, &Samples)?.try_clone(alloc) {
+        Ok(copy) => of_path(alloc, &copy),
+        Err(_) => Ok(None),
     }
-}
-
-/// The location that a query gives, or nothing where memory is refused.
-fn of_located(
-    alloc: Global,
-    answer: Result<LocatedNodeList<'_>, QueryError>,
-) -> Result<Option<String>, Fail> {
-    match answer {
-        Err(QueryError::Memory) => Ok(None),
-        answer => Ok(Some(answer?.exactly_one()?.location().to_text(alloc)?)),
-    }
-}
-
-/// The location that a walk gives first, or nothing where memory is refused at its beginning.
-fn of_walk<F: Functions>(
-    alloc: Global,
-    answer: Result<Walk<'_, '_, Both<&F, Builtin>>, QueryError>,
-) -> Result<Option<String>, Fail> {
-    let mut walk = match answer {
-        Err(QueryError::Memory) => return Ok(None),
-        answer => answer?,
-    };
-    match walk.next()? {
-        Some(node) => Ok(Some(node.location().to_text(alloc)?)),
-        None => Err(Fail::from("no node")),
-    }
-}
-
-/// What a call on a path gives, or nothing where memory is refused.
-fn called<F: Functions>(
-    rt: &impl Abort,
-    alloc: Global,
-    call: Call,
-    path: &JsonPath,
-    document: &Value,
-    functions: &F,
-) -> Result<Option<String>, Fail>
-    requires { Fits (before_builtin (F.set functions.now)) (path_signatures path.now) }
-{
-    match call {
-        Call::TryClone => match path.try_clone(alloc) {
-            Ok(copy) => of_path(rt, alloc, &copy),
-            Err(_) => Ok(None),
-        },
-        Call::ToText => Ok(path.to_text(alloc).ok()),
-        Call::ToJson => match path.to_json(alloc) {
-            Ok(Value::String(text)) => Ok(Some(text)),
-            _ => Ok(None),
-        },
-        Call::QueryWith => of_nodes(alloc, path.query_with(alloc, document, functions)),
-        Call::QueryLocatedWith => {
-            of_located(alloc, path.query_located_with(alloc, document, functions))
-        }
-        Call::Walk => of_walk(alloc, path.walk(alloc, document, functions)),
-    }
-}
-
-/// Holds a call on the path under the samples to what is wanted.
-fn calls(rt: &impl Abort, alloc: Global, call: Call, wanted: &str) -> Result<(), Fail> {
-    let path = JsonPath::parse_with(alloc, FIRST, &Samples)?;
-    let document = Value::from_str(alloc, SQUARE)?;
-    if is_answered(
-        rt,
-        called(rt, alloc, call, &path, &document, &Samples)?,
-        wanted,
-    ) {
-        return Ok(());
-    }
-    answers_again(
-        rt,
-        called(rt, alloc, call, &path, &document, &Samples)?,
-        wanted,
-    )
 }
 
 #[test]
 fn try_clone(rt: HostRuntime) -> Result<(), Fail> {
-    calls(&rt, rt.alloc(), Call::TryClone, FIRST)
+    hold_answers(&rt, rt.alloc(), TEXTS, copied)
+}
+
+/// The text that a path prints, or nothing where memory is refused.
+fn printed(alloc: Global, text: &str) -> Result<Option<String>, Fail> {
+    Ok(
+        JsonPath::parse_with(alloc, text, &Samples)?
+            .to_text(alloc)
+            .ok(),
+    )
 }
 
 #[test]
 fn to_text(rt: HostRuntime) -> Result<(), Fail> {
-    calls(&rt, rt.alloc(), Call::ToText, FIRST)
+    hold_answers(&rt, rt.alloc(), TEXTS, printed)
+}
+
+/// The string that a path is in JSON, or nothing where memory is refused.
+fn json_form(alloc: Global, text: &str) -> Result<Option<String>, Fail> {
+    match JsonPath::parse_with(alloc, text, &Samples)?.to_json(alloc) {
+        Ok(Value::String(text)) => Ok(Some(text)),
+        _ => Ok(None),
+    }
 }
 
 #[test]
 fn to_json(rt: HostRuntime) -> Result<(), Fail> {
-    calls(&rt, rt.alloc(), Call::ToJson, FIRST)
+    hold_answers(&rt, rt.alloc(), TEXTS, json_form)
+}
+
+/// A path of the samples, and the value of what it selects from [`SQUARE`].
+const VALUES: &[&str] = &["$[?first(@.*) == 4] -> [4,5,6]"];
+
+/// The values that a path selects, or nothing where memory is refused.
+fn selected(alloc: Global, path: &str) -> Result<Option<String>, Fail> {
+    let path = JsonPath::parse_with(alloc, path, &Samples)?;
+    let document = Value::from_str(alloc, SQUARE)?;
+    of_nodes(alloc, path.query_with(alloc, &document, &Samples))
 }
 
 #[test]
 fn query_with(rt: HostRuntime) -> Result<(), Fail> {
-    calls(&rt, rt.alloc(), Call::QueryWith, "[4,5,6]")
+    hold_answers(&rt, rt.alloc(), VALUES, selected)
+}
+
+/// A path of the samples, and the location of what it selects from [`SQUARE`].
+const LOCATIONS: &[&str] = &["$[?first(@.*) == 4] -> $[1]"];
+
+/// The locations that a path selects, or nothing where memory is refused.
+fn located(alloc: Global, path: &str) -> Result<Option<String>, Fail> {
+    let path = JsonPath::parse_with(alloc, path, &Samples)?;
+    let document = Value::from_str(alloc, SQUARE)?;
+    of_located(alloc, path.query_located_with(alloc, &document, &Samples))
 }
 
 #[test]
 fn query_located_with(rt: HostRuntime) -> Result<(), Fail> {
-    calls(&rt, rt.alloc(), Call::QueryLocatedWith, "$[1]")
+    hold_answers(&rt, rt.alloc(), LOCATIONS, located)
+}
+
+/// The locations that a walk gives, or nothing where memory is refused.
+fn walked(alloc: Global, path: &str) -> Result<Option<String>, Fail> {
+    let path = JsonPath::parse_with(alloc, path, &Samples)?;
+    let document = Value::from_str(alloc, SQUARE)?;
+    of_walk(alloc, path.walk(alloc, &document, &Samples))
 }
 
 #[test]
 fn walk(rt: HostRuntime) -> Result<(), Fail> {
-    calls(&rt, rt.alloc(), Call::Walk, "$[1]")
+    hold_answers(&rt, rt.alloc(), LOCATIONS, walked)
 }
 
-/// The next node's location, or an empty text for none, from a walk that goes on where it is refused, and whether it was.
-fn next_location<F: Functions>(
-    alloc: Global,
-    walk: &mut Walk<'_, '_, Both<&F, Builtin>>,
-) -> Result<(String, bool), Fail> {
-    let (node, was_refused) = match walk.next() {
-        Err(QueryError::Memory) => (walk.next()?, true),
-        answer => (answer?, false),
-    };
-    match node {
-        Some(node) => Ok((node.location().to_text(alloc)?, was_refused)),
-        None => Ok((String::new(alloc), was_refused)),
-    }
-}
-
-/// Holds a walk to locations, with an empty text for none. Returns whether a call was refused.
-fn gives_each<F: Functions>(
-    rt: &impl Abort,
-    alloc: Global,
-    walk: &mut Walk<'_, '_, Both<&F, Builtin>>,
-    wanted: &[&str],
-) -> Result<bool, Fail> {
-    let mut was_refused = false;
-    for &want in wanted {
-        let (location, is_refused) = next_location(alloc, walk)?;
-        assert_eq!(rt; location.as_str(), want);
-        was_refused = was_refused || is_refused;
-    }
-    Ok(was_refused)
+/// The locations that a walk gives, of which a call that is refused is made again.
+fn of_next(alloc: Global, path: &str) -> Result<String, Fail> {
+    let path = JsonPath::parse_with(alloc, path, &Samples)?;
+    let document = Value::from_str(alloc, SQUARE)?;
+    of_calls(alloc, &mut path.walk(alloc, &document, &Samples)?)
 }
 
 #[test]
 fn next(rt: HostRuntime) -> Result<(), Fail> {
-    let path = JsonPath::parse_with(rt.alloc(), FIRST, &Samples)?;
-    let document = Value::from_str(rt.alloc(), SQUARE)?;
-    let mut walk = path.walk(rt.alloc(), &document, &Samples)?;
-    if gives_each(&rt, rt.alloc(), &mut walk, &["$[1]", ""])? {
-        return called_again();
-    }
-    Ok(())
+    hold_rows(&rt, rt.alloc(), LOCATIONS, of_next)
 }

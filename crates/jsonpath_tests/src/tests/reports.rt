@@ -1,21 +1,11 @@
 //! The lines of reports, and refusals of paths and documents.
 
 use jsonpath_report::report::{LineForm, report, report_in};
-use serde_json_path::functions::Builtin;
+use serde_json_path::functions::{Builtin, Functions};
+use serde_json_path_core_tests::rows::Table;
+use serde_json_path_core_tests::texts::{BOOKSTORE, long};
 use std::alloc::{AllocError, Global};
-use std::process::Abort;
 use std::test::Fail;
-
-/// The bookstore of RFC 9535, section 1.5.
-pub(crate) const BOOKSTORE: &str = concat!(
-    r#"{"store":{"book":[{"category":"reference","author":"Nigel Rees","#,
-    r#""title":"Sayings of the Century","price":8.95},"#,
-    r#"{"category":"fiction","author":"Evelyn Waugh","title":"Sword of Honour","price":12.99},"#,
-    r#"{"category":"fiction","author":"Herman Melville","title":"Moby Dick","#,
-    r#""isbn":"0-553-21311-3","price":8.99},"#,
-    r#"{"category":"fiction","author":"J. R. R. Tolkien","title":"The Lord of the Rings","#,
-    r#""isbn":"0-395-19395-8","price":22.99}],"bicycle":{"color":"red","price":399}}}"#
-);
 
 /// Readings with messages, and a threshold.
 pub(crate) const READINGS: &str = concat!(
@@ -79,23 +69,24 @@ const LINES: &[(&str, &str, &str)] = &[
     ),
 ];
 
-/// Compares what was told of a text with what is wanted.
-pub(crate) fn tells(rt: &impl Abort, told: &str, wanted: &str, of: &str) {
-    assert!(rt; told == wanted, "{told:?} in place of {wanted:?} of {of}");
-}
-
-/// Compares the report of each row's path and document with its lines.
-fn reports_each(rt: &impl Abort, alloc: Global, rows: &[(&str, &str, &str)]) -> Result<(), Fail> {
+/// Holds the report of each path and document under a set to its lines.
+pub(crate) fn hold_reports<F: Functions>(
+    rt: &impl Eprint,
+    alloc: Global,
+    functions: &F,
+    rows: &[(&str, &str, &str)],
+) -> Result<(), Fail> {
+    let mut table = Table::new();
     for &(path, document, lines) in rows {
-        let text = report(alloc, path, document.as_bytes(), &Builtin)?;
-        tells(rt, text.as_str(), lines, path);
+        let came = report(alloc, path, document.as_bytes(), functions).map_err(Fail::from);
+        table.hold(rt, (document, path, lines), came);
     }
-    Ok(())
+    table.end()
 }
 
 #[test]
 fn lines_of_paths(rt: HostRuntime) -> Result<(), Fail> {
-    reports_each(&rt, rt.alloc(), LINES)
+    hold_reports(&rt, rt.alloc(), &Builtin, LINES)
 }
 
 /// A path, a document, the lines of its locations, and those of its values.
@@ -116,17 +107,22 @@ const HALVES: &[(&str, &str, &str, &str)] = &[
     ),
 ];
 
+/// The report of a path and a document in one form.
+fn report_of(alloc: Global, form: LineForm, path: &str, document: &str) -> Result<String, Fail> {
+    Ok(report_in(alloc, form, path, document.as_bytes(), &Builtin)?)
+}
+
 #[test]
 fn locations_alone_and_values_alone(rt: HostRuntime) -> Result<(), Fail> {
     let alloc = rt.alloc();
+    let mut table = Table::new();
     for &(path, document, locations, values) in HALVES {
-        let bytes = document.as_bytes();
-        let text = report_in(alloc, LineForm::Location, path, bytes, &Builtin)?;
-        tells(&rt, text.as_str(), locations, path);
-        let text = report_in(alloc, LineForm::Value, path, bytes, &Builtin)?;
-        tells(&rt, text.as_str(), values, path);
+        let came = report_of(alloc, LineForm::Location, path, document);
+        table.hold(&rt, (document, path, locations), came);
+        let came = report_of(alloc, LineForm::Value, path, document);
+        table.hold(&rt, (document, path, values), came);
     }
-    Ok(())
+    table.end()
 }
 
 /// A path, the bytes of a document, and the text of the refusal.
@@ -148,48 +144,32 @@ const REFUSED: &[(&str, &[u8], &str)] = &[
     ),
 ];
 
-/// Compares the refusal of a path and a document with its text.
-fn refuses(
-    rt: &impl Abort,
-    alloc: Global,
-    path: &str,
-    document: &[u8],
-    text: &str,
-) -> Result<(), Fail> {
+/// Why the report of a path and a document is refused, or `accepted`.
+pub(crate) fn refusal(alloc: Global, path: &str, document: &[u8]) -> Result<String, Fail> {
     match report(alloc, path, document, &Builtin) {
-        Ok(_) => assert!(rt; false, "{path} is not refused"),
-        Err(e) => tells(rt, e.to_string(alloc)?.as_str(), text, path),
+        Ok(_) => Ok(String::from_str(alloc, "accepted")?),
+        Err(e) => Ok(e.to_string(alloc)?),
     }
-    Ok(())
-}
-
-/// Compares the refusal of each row's path and document with its text.
-fn refuses_each(rt: &impl Abort, alloc: Global, rows: &[(&str, &[u8], &str)]) -> Result<(), Fail> {
-    for &(path, document, text) in rows {
-        refuses(rt, alloc, path, document, text)?;
-    }
-    Ok(())
 }
 
 #[test]
 fn refusals_of_paths_and_documents(rt: HostRuntime) -> Result<(), Fail> {
-    refuses_each(&rt, rt.alloc(), REFUSED)
-}
-
-/// Appends a character `times` times.
-fn push_times(text: &mut String, c: char, times: usize) -> Result<(), AllocError> {
-    for _ in 0..times {
-        text.push(c)?;
+    let mut table = Table::new();
+    for &(path, document, text) in REFUSED {
+        let of = format!(in rt.alloc(); "{document:?}")?;
+        table.hold(
+            &rt,
+            (of.as_str(), path, text),
+            refusal(rt.alloc(), path, document),
+        );
     }
-    Ok(())
+    table.end()
 }
 
-/// `depth` empty arrays within each other.
+/// So many empty arrays within each other.
 fn nested(alloc: Global, depth: usize) -> Result<String, AllocError> {
-    let mut text = String::new(alloc);
-    push_times(&mut text, '[', depth)?;
-    push_times(&mut text, ']', depth)?;
-    Ok(text)
+    let opened = long(alloc, "", "[", depth, "")?;
+    long(alloc, opened.as_str(), "]", depth, "")
 }
 
 #[test]
@@ -199,5 +179,7 @@ fn nested_arrays(rt: HostRuntime) -> Result<(), Fail> {
     let lines = report(alloc, "$", most.as_str().as_bytes(), &Builtin)?;
     assert!(rt; lines.len() == 2 + 2 * 127 + 1);
     let more = nested(alloc, 128)?;
-    refuses(&rt, alloc, "$", more.as_str().as_bytes(), "not JSON")
+    let refused = refusal(alloc, "$", more.as_str().as_bytes())?;
+    assert!(rt; refused.as_str() == "not JSON");
+    Ok(())
 }

@@ -1,15 +1,12 @@
 //! The sample functions, as filters call them.
 
-use crate::tests::reports::tells;
-use jsonpath_report::report::report;
+use crate::tests::reports::hold_reports;
 use jsonpath_report::samples::Samples;
 use serde_json::Value;
-use serde_json_path::ParseErrorKind::{
-    ExpectedComparisonOperator, UndefinedFunction, WrongArgumentType, WrongNumberOfArguments,
-    WrongReturnType,
-};
-use serde_json_path::functions::Builtin;
-use serde_json_path::{JsonPath, LocatedNodeList, ParseError, ParseErrorKind};
+use serde_json_path::JsonPath;
+use serde_json_path::functions::{Builtin, Functions};
+use serde_json_path_core_tests::rows::Table;
+use serde_json_path_core_tests::texts::locations;
 use std::alloc::Global;
 use std::process::Abort;
 use std::test::Fail;
@@ -24,44 +21,35 @@ const BOOKS: &str = concat!(
 
 /// A path, a document, and the locations of what the path selects there.
 const SELECTED: &[(&str, &str, &str)] = &[
-    ("$[?first(@.*) == 4]", "[[1,2,3],[4,5,6],[7,8,9]]", " $[1]"),
+    ("$[?first(@.*) == 4]", "[[1,2,3],[4,5,6],[7,8,9]]", "$[1]"),
     (
         "$[? first(@.books.*.author) == 'Alexandre Dumas']",
         BOOKS,
-        " $[0]",
+        "$[0]",
     ),
-    ("$[? length(first(@.books.*.title)) == 18 ]", BOOKS, " $[1]"),
+    ("$[? length(first(@.books.*.title)) == 18 ]", BOOKS, "$[1]"),
     (
         "$[?first(@.*) == @.x]",
         r#"[{},{"x":1},{"y":1}]"#,
-        " $[0] $[1]",
+        "$[0] $[1]",
     ),
     (
         "$[?both(@.a, @.b > 1)]",
         r#"[{"a":1,"b":2},{"a":1,"b":1},{"b":3}]"#,
-        " $[0]",
+        "$[0]",
     ),
     (
         "$[?both(both(@.a, @.b), !@.c)]",
         r#"[{"a":1,"b":1},{"a":1,"b":1,"c":1}]"#,
-        " $[0]",
+        "$[0]",
     ),
     (
         "$[?both((@.a), @.b || @.c)]",
         r#"[{"a":0,"c":0},{"a":0}]"#,
-        " $[0]",
+        "$[0]",
     ),
-    ("$[?none() == @.x]", r#"[{},{"x":1}]"#, " $[0]"),
+    ("$[?none() == @.x]", r#"[{},{"x":1}]"#, "$[0]"),
 ];
-
-/// The locations of nodes, with a space before each.
-fn locations(alloc: Global, nodes: &LocatedNodeList<'_>) -> Result<String, Fail> {
-    let mut text = String::new(alloc);
-    for location in nodes.locations() {
-        write!(text, " {location}")?;
-    }
-    Ok(text)
-}
 
 /// The locations of what a path selects from a document, where its filters call the samples.
 fn selected(alloc: Global, path: &str, document: &str) -> Result<String, Fail> {
@@ -73,68 +61,72 @@ fn selected(alloc: Global, path: &str, document: &str) -> Result<String, Fail> {
 
 #[test]
 fn filters_call_the_samples(rt: HostRuntime) -> Result<(), Fail> {
+    let mut table = Table::new();
     for &(path, document, wanted) in SELECTED {
-        let locations = selected(rt.alloc(), path, document)?;
-        tells(&rt, locations.as_str(), wanted, path);
+        table.hold(
+            &rt,
+            (document, path, wanted),
+            selected(rt.alloc(), path, document),
+        );
     }
-    Ok(())
+    table.end()
 }
+
+/// A path, a document, and the lines of their report.
+const REPORTED: &[(&str, &str, &str)] = &[
+    ("$[?first(@.*) == 4]", "[[4],[5,5],[5]]", "$[0]\t[4]\n"),
+    (
+        "$[?first(@.*) == 5 && length(@) == 1]",
+        "[[4],[5,5],[5]]",
+        "$[2]\t[5]\n",
+    ),
+];
 
 #[test]
 fn reports_call_the_samples(rt: HostRuntime) -> Result<(), Fail> {
-    let document = b"[[4],[5,5],[5]]";
-    for (path, lines) in [
-        ("$[?first(@.*) == 4]", "$[0]\t[4]\n"),
-        ("$[?first(@.*) == 5 && length(@) == 1]", "$[2]\t[5]\n"),
-    ] {
-        let text = report(rt.alloc(), path, document, &Samples)?;
-        tells(&rt, text.as_str(), lines, path);
-    }
-    Ok(())
-}
-
-/// Asserts that a parse was refused with this kind and at this position.
-fn refuses(
-    rt: &impl Abort,
-    text: &str,
-    read: Result<JsonPath, ParseError>,
-    kind: ParseErrorKind,
-    position: usize,
-) {
-    match read {
-        Ok(_) => assert!(rt; false, "{text} is accepted"),
-        Err(e) => {
-            assert!(rt; e.kind() == kind, "{:?} of {text}", e.kind());
-            assert!(rt; e.position() == position, "{} of {text}", e.position());
-        }
-    }
+    hold_reports(&rt, rt.alloc(), &Samples, REPORTED)
 }
 
 /// A text, and the kind and the position of its refusal.
-const REFUSED: &[(&str, ParseErrorKind, usize)] = &[
-    ("$[?both(true, @)]", WrongArgumentType, 9),
-    ("$[?both(@.a, none())]", WrongArgumentType, 14),
-    ("$[?both(length(@), @)]", WrongArgumentType, 9),
-    ("$[?both(length(@) && @, @)]", WrongReturnType, 9),
-    ("$[?both(@.a && 1, @)]", ExpectedComparisonOperator, 17),
-    ("$[?both((1), @)]", ExpectedComparisonOperator, 11),
-    ("$[?first(@.*)]", WrongReturnType, 4),
-    ("$[?none()]", WrongReturnType, 4),
-    ("$[?none(@) == 1]", WrongNumberOfArguments, 4),
-    ("$[?third(@.*) == 4]", UndefinedFunction, 4),
+const REFUSED: &[&str] = &[
+    "$[?both(true, @)] -> WrongArgumentType 9",
+    "$[?both(@.a, none())] -> WrongArgumentType 14",
+    "$[?both(length(@), @)] -> WrongArgumentType 9",
+    "$[?both(length(@) && @, @)] -> WrongReturnType 9",
+    "$[?both(@.a && 1, @)] -> ExpectedComparisonOperator 17",
+    "$[?both((1), @)] -> ExpectedComparisonOperator 11",
+    "$[?first(@.*)] -> WrongReturnType 4",
+    "$[?none()] -> WrongReturnType 4",
+    "$[?none(@) == 1] -> WrongNumberOfArguments 4",
+    "$[?third(@.*) == 4] -> UndefinedFunction 4",
 ];
+
+/// The same, of the built-in functions alone.
+const NOT_BUILTIN: &[&str] = &["$[?first(@.*) == 4] -> UndefinedFunction 4"];
+
+/// The kind and the position of a text's refusal under a set.
+fn refusal<F: Functions>(alloc: Global, functions: &F, text: &str) -> Result<String, Fail> {
+    match JsonPath::parse_with(alloc, text, functions) {
+        Ok(_) => Ok(String::from_str(alloc, "accepted")?),
+        Err(e) => Ok(format!(in alloc; "{:?} {}", e.kind(), e.position())?),
+    }
+}
 
 #[test]
 fn typed_calls_of_the_samples(rt: HostRuntime) -> Result<(), Fail> {
     let alloc = rt.alloc();
-    for &(text, kind, position) in REFUSED {
-        let read = JsonPath::parse_with(alloc, text, &Samples);
-        refuses(&rt, text, read, kind, position);
-    }
-    let text = "$[?first(@.*) == 4]";
-    let read = JsonPath::parse(alloc, text);
-    refuses(&rt, text, read, UndefinedFunction, 4);
-    Ok(())
+    let mut table = Table::new();
+    table.hold_each(&rt, alloc, "samples", REFUSED, |alloc, text| {
+        refusal(alloc, &Samples, text)
+    });
+    table.hold_each(
+        &rt,
+        alloc,
+        "built-in functions",
+        NOT_BUILTIN,
+        |alloc, text| { refusal(alloc, &Builtin, text) },
+    );
+    table.end()
 }
 
 /// Asserts that a path fits the samples, and whether it fits the built-in functions alone.

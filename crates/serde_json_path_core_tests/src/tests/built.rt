@@ -5,13 +5,14 @@ ghost use Rattle.serde_json_path_syntax.specs.Parts.{IsPart, calls_in, signature
 ghost use Rattle.serde_json_path_syntax.specs.Piece.{a_selector};
 ghost use Rattle.serde_json_path_syntax.specs.Tree.{name};
 
+use crate::rows::Table;
+use crate::texts::located;
 use serde_json::Value;
 use serde_json_path_core::{
     Checked, Part, Parts, QueryKind, SegmentKind, Slice, SyntaxBuilder, Walk, evaluate,
     evaluate_located, walk,
 };
 use serde_json_path_functions::{Builtin, QueryError};
-use serde_json_path_nodes::LocatedNodeList;
 use std::alloc::Global;
 use std::process::Abort;
 use std::test::Fail;
@@ -88,47 +89,28 @@ fn all_and_all_but_the_first(alloc: Global) -> Result<Checked, Fail>
     Ok(builder.finish(query))
 }
 
-/// Holds what is told to what is wanted.
-fn tells(rt: &impl Abort, told: &str, wanted: &str) {
-    assert_eq!(rt; told, wanted);
-}
-
-/// The nodes' locations and values, with a `;` after each.
-fn printed(alloc: Global, nodes: &LocatedNodeList) -> Result<String, Fail> {
-    let mut text = String::new(alloc);
-    for node in nodes.iter() {
-        write!(text, "{} {};", node.location(), node.node())?;
-    }
-    Ok(text)
-}
-
-/// Holds a query to what it selects in a document.
-fn selects(
-    rt: &impl Abort,
-    alloc: Global,
-    query: &Checked,
-    document: &str,
-    wanted: &str,
-) -> Result<(), Fail>
+/// What a query selects in a document.
+fn selected(alloc: Global, query: &Checked, document: &str) -> Result<String, Fail>
     requires { signatures_of query.now ≡ [] }
 {
     let root = Value::from_str(alloc, document)?;
-    let nodes = evaluate_located(alloc, query, &root, Builtin)?;
-    tells(rt, printed(alloc, &nodes)?.as_str(), wanted);
-    Ok(())
+    located(alloc, &evaluate_located(alloc, query, &root, Builtin)?)
 }
 
 #[test]
 fn selects_by_parts(rt: HostRuntime) -> Result<(), Fail> {
     let alloc = rt.alloc();
-    let first = first_of_member(alloc)?;
-    selects(&rt, alloc, &first, r#"{"a":[1,2]}"#, "$['a'][0] 1;")?;
-    let both = made_from_the_end(alloc)?;
-    let in_order = "$['a'] 1;$['b'] 2;";
-    selects(&rt, alloc, &both, r#"{"b":2,"a":1}"#, in_order)?;
-    let all = all_and_all_but_the_first(alloc)?;
-    let twice = "$[0][0] 1;$[0][1] 2;$[0][1] 2;";
-    selects(&rt, alloc, &all, "[[1,2]]", twice)
+    let mut table = Table::new();
+    let row = (r#"{"a":[1,2]}"#, "$.a[0]", "$['a'][0] ~ 1");
+    let query = first_of_member(alloc)?;
+    table.hold(&rt, row, selected(alloc, &query, row.0));
+    let row = (r#"{"b":2,"a":1}"#, "$['a', 'b']", "$['a'] $['b'] ~ 1 2");
+    let query = made_from_the_end(alloc)?;
+    table.hold(&rt, row, selected(alloc, &query, row.0));
+    let row = ("[[1,2]]", "$..*[*,1:]", "$[0][0] $[0][1] $[0][1] ~ 1 2 2");
+    let query = all_and_all_but_the_first(alloc)?;
+    table.hold(&rt, row, selected(alloc, &query, row.0));
+    table.end()
 }
 
 /// Holds a walk to one node, and to one place at most.
@@ -140,25 +122,33 @@ fn gives_one(rt: &impl Abort, walk: &mut Walk<'_, '_, Builtin>) -> Result<(), Qu
     Ok(())
 }
 
-/// Holds a query to the one node that it selects in `{"a":[1]}`, as a list, as values and in a walk.
-fn selects_one(rt: &impl Abort, alloc: Global, query: &Checked, wanted: &str) -> Result<(), Fail>
+/// The one node that a query selects in a document, as a list, as values and in a walk.
+fn selected_alone(
+    rt: &impl Abort,
+    alloc: Global,
+    query: &Checked,
+    document: &str,
+) -> Result<String, Fail>
     requires { signatures_of query.now ≡ [] }
 {
-    let document = r#"{"a":[1]}"#;
-    selects(rt, alloc, query, document, wanted)?;
     let root = Value::from_str(alloc, document)?;
     let count = evaluate(alloc, query, &root, Builtin)?.len();
     assert!(rt; count == 1);
     gives_one(rt, &mut walk(alloc, query, &root, Builtin)?)?;
-    Ok(())
+    selected(alloc, query, document)
 }
 
 #[test]
 fn gives_one_node_in_each_way(rt: HostRuntime) -> Result<(), Fail> {
     let alloc = rt.alloc();
-    let whole = Checked::new(alloc);
-    selects_one(&rt, alloc, &whole, r#"$ {"a":[1]};"#)?;
-    selects_one(&rt, alloc, &first_of_member(alloc)?, "$['a'][0] 1;")
+    let mut table = Table::new();
+    let row = (r#"{"a":[1]}"#, "$", r#"$ ~ {"a":[1]}"#);
+    let query = Checked::new(alloc);
+    table.hold(&rt, row, selected_alone(&rt, alloc, &query, row.0));
+    let row = (r#"{"a":[1]}"#, "$.a[0]", "$['a'][0] ~ 1");
+    let query = first_of_member(alloc)?;
+    table.hold(&rt, row, selected_alone(&rt, alloc, &query, row.0));
+    table.end()
 }
 
 #[test]
@@ -169,16 +159,11 @@ fn tells_a_singular_query(rt: HostRuntime) -> Result<(), Fail> {
     Ok(())
 }
 
-/// Holds a query to its text, in both ways.
-fn prints(rt: &impl Abort, alloc: Global, query: &Checked, wanted: &str) -> Result<(), Fail> {
-    tells(rt, query.to_text(alloc)?.as_str(), wanted);
-    tells(rt, query.to_string(alloc)?.as_str(), wanted);
-    Ok(())
-}
-
-/// Holds two queries to whether they are equal.
-fn are_equal(rt: &impl Abort, one: &Checked, other: &Checked, is_equal: bool) {
-    assert!(rt; (one == other) == is_equal);
+/// Whether a query prints a text, in both ways.
+fn prints(alloc: Global, query: &Checked, wanted: &str) -> Result<bool, Fail> {
+    let text = query.to_text(alloc)?;
+    let other = query.to_string(alloc)?;
+    Ok(text.as_str() == wanted && other == text)
 }
 
 #[test]
@@ -186,10 +171,10 @@ fn prints_and_copies_by_the_tree(rt: HostRuntime) -> Result<(), Fail> {
     let alloc = rt.alloc();
     let query = made_in_order(alloc)?;
     let other = made_from_the_end(alloc)?;
-    prints(&rt, alloc, &query, "$['a', 'b']")?;
-    prints(&rt, alloc, &other, "$['a', 'b']")?;
-    are_equal(&rt, &query, &other, true);
-    are_equal(&rt, &query, &query.try_clone(alloc)?, true);
-    are_equal(&rt, &query, &first_of_member(alloc)?, false);
+    assert!(rt; prints(alloc, &query, "$['a', 'b']")?);
+    assert!(rt; prints(alloc, &other, "$['a', 'b']")?);
+    assert!(rt; query == other);
+    assert!(rt; query == query.try_clone(alloc)?);
+    assert!(rt; query != first_of_member(alloc)?);
     Ok(())
 }

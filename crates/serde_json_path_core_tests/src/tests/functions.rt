@@ -5,14 +5,9 @@ mod builtin;
 mod errors;
 mod patterns;
 
+use crate::rows::Table;
 use serde_json_path_functions::QueryError;
-use std::process::Abort;
 use std::test::Fail;
-
-/// Holds what a row tells to what is wanted.
-fn holds(rt: &impl Abort, row: &str, told: &str, wanted: &str) {
-    assert!(rt; told == wanted, "{told} of {row}");
-}
 
 /// An error, and the text that it prints.
 const ERRORS: &[(QueryError, &str)] = &[
@@ -22,9 +17,10 @@ const ERRORS: &[(QueryError, &str)] = &[
 
 #[test]
 fn prints_errors(rt: HostRuntime) -> Result<(), Fail> {
+    let mut table = Table::new();
     for &(error, text) in ERRORS {
-        let told = error.to_string(rt.alloc())?;
-        holds(&rt, text, told.as_str(), text);
+        let came = error.to_string(rt.alloc()).map_err(Fail::from);
+        table.hold(&rt, ("errors", text, text), came);
     }
-    Ok(())
+    table.end()
 }

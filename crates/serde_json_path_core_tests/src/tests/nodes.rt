@@ -1,8 +1,11 @@
 //! Lists and locations: that calls succeed, and the texts that readers of the RFC expect.
 
+use crate::rows::{Table, holds};
+use crate::texts::locations;
 use serde_json::Value;
+use serde_json_path_nodes::PathElement::{Index, Name};
 use serde_json_path_nodes::{
-    ExactlyOneError, LocatedNode, LocatedNodeList, NodeList, NormalizedPath, PathElement, escaped,
+    LocatedNode, LocatedNodeList, NodeList, NormalizedPath, PathElement, escaped,
     law_texts_tell_locations,
 };
 use std::alloc::{AllocError, Global};
@@ -27,120 +30,91 @@ fn located<'b>(
 ) -> Result<LocatedNodeList<'b>, AllocError> {
     let mut nodes = Vec::new(alloc);
     for position in positions {
-        let steps = [PathElement::Index(*position)];
+        let steps = [Index(*position)];
         nodes.push(LocatedNode::new(location(alloc, &steps)?, node))?;
     }
     Ok(LocatedNodeList::from(nodes))
 }
 
-// The texts of a list's locations, one after the other.
-fn texts(alloc: Global, list: &LocatedNodeList<'_>) -> Result<String, AllocError> {
-    let mut text = String::new(alloc);
-    for location in list.locations() {
-        text.push_str(&location.to_text(alloc)?)?;
-    }
-    Ok(text)
-}
-
-// Holds a text to what is wanted.
-fn prints(rt: &impl Abort, told: &str, wanted: &str) {
-    assert!(rt; told == wanted, "{told} in place of {wanted}");
-}
-
 // A character, and what stands for it in a normalised path.
-const ESCAPES: &[(char, Option<&str>)] = &[
-    ('\'', Some("\\'")),
-    ('\\', Some("\\\\")),
-    ('\u{8}', Some("\\b")),
-    ('\t', Some("\\t")),
-    ('\n', Some("\\n")),
-    ('\u{c}', Some("\\f")),
-    ('\r', Some("\\r")),
-    ('\u{0}', Some("\\u0000")),
-    ('\u{b}', Some("\\u000b")),
-    ('\u{10}', Some("\\u0010")),
-    ('\u{1f}', Some("\\u001f")),
-    (' ', None),
-    ('"', None),
-    ('/', None),
-    ('a', None),
-    ('\u{7f}', None),
-    ('\u{1f600}', None),
+const ESCAPES: &[(char, &str)] = &[
+    ('\'', "\\'"),
+    ('\\', "\\\\"),
+    ('\u{8}', "\\b"),
+    ('\t', "\\t"),
+    ('\n', "\\n"),
+    ('\u{c}', "\\f"),
+    ('\r', "\\r"),
+    ('\u{0}', "\\u0000"),
+    ('\u{b}', "\\u000b"),
+    ('\u{10}', "\\u0010"),
+    ('\u{1f}', "\\u001f"),
+    (' ', "itself"),
+    ('"', "itself"),
+    ('/', "itself"),
+    ('a', "itself"),
+    ('\u{7f}', "itself"),
+    ('\u{1f600}', "itself"),
 ];
 
 #[test]
-fn characters_print_as_the_rfc_says(rt: HostRuntime) {
-    for &(character, printed) in ESCAPES {
-        assert!(rt; escaped(character) == printed, "at {character:?}");
+fn characters_print_as_the_rfc_says(rt: HostRuntime) -> Result<(), Fail> {
+    let mut table = Table::new();
+    for &(character, wanted) in ESCAPES {
+        let given = format!(in rt.alloc(); "{character:?}")?;
+        let came = String::from_str(rt.alloc(), escaped(character).unwrap_or("itself"));
+        table.hold(
+            &rt,
+            ("escapes", given.as_str(), wanted),
+            came.map_err(Fail::from),
+        );
     }
+    table.end()
 }
 
 // A document with names that are escaped.
 const NAMED: &str = "{\"a/~\":[1],\"a'b\\\\\\u000b\":2,\"é\":{\"\":3},\"plain é'\\n😀 text\\\\\":4}";
 
-// Steps, the normalised path and the JSON pointer of their location, and the number there, if it is one.
-const POINTED: &[(&[PathElement<'static>], &str, &str, Option<u64>)] = &[
-    (&[], "$", "", None),
-    (&[PathElement::Name("a/~")], "$['a/~']", "/a~1~0", None),
+// Steps, and the normalised path and the JSON pointer of their location, and the number there, if it is one.
+const POINTED: &[(&[PathElement<'static>], &str)] = &[
+    (&[], "$ ~  ~ None"),
+    (&[Name("a/~")], "$['a/~'] ~ /a~1~0 ~ None"),
+    (&[Name("a/~"), Index(0)], "$['a/~'][0] ~ /a~1~0/0 ~ Some(1)"),
     (
-        &[PathElement::Name("a/~"), PathElement::Index(0)],
-        "$['a/~'][0]",
-        "/a~1~0/0",
-        Some(1),
+        &[Name("a'b\\\u{b}")],
+        "$['a\\'b\\\\\\u000b'] ~ /a'b\\\u{b} ~ Some(2)",
     ),
+    (&[Name("é"), Name("")], "$['é'][''] ~ /é/ ~ Some(3)"),
     (
-        &[PathElement::Name("a'b\\\u{b}")],
-        "$['a\\'b\\\\\\u000b']",
-        "/a'b\\\u{b}",
-        Some(2),
-    ),
-    (
-        &[PathElement::Name("é"), PathElement::Name("")],
-        "$['é']['']",
-        "/é/",
-        Some(3),
-    ),
-    (
-        &[PathElement::Name("plain é'\n😀 text\\")],
-        "$['plain é\\'\\n😀 text\\\\']",
-        "/plain é'\n😀 text\\",
-        Some(4),
+        &[Name("plain é'\n😀 text\\")],
+        "$['plain é\\'\\n😀 text\\\\'] ~ /plain é'\n😀 text\\ ~ Some(4)",
     ),
 ];
 
-// The number that a JSON pointer leads to, if there is one.
-fn number_at(document: &Value, pointer: &str) -> Result<Option<u64>, Fail> {
-    match document.pointer(pointer) {
-        Some(node) => Ok(node.as_u64()),
-        None => Err(Fail::from("no node")),
-    }
-}
-
-// Holds a location to its normalised path and its JSON pointer.
-fn points(
-    rt: &impl Abort,
-    alloc: Global,
-    location: &NormalizedPath<'_>,
-    (normal, pointer): (&str, &str),
-) -> Result<(), AllocError> {
-    prints(rt, location.to_text(alloc)?.as_str(), normal);
-    prints(rt, location.to_json_pointer(alloc)?.as_str(), pointer);
-    Ok(())
+// The normalised path and the JSON pointer of a location, and the number there, if it is one.
+fn pointed(alloc: Global, location: &NormalizedPath<'_>, document: &Value) -> Result<String, Fail> {
+    let pointer = location.to_json_pointer(alloc)?;
+    let number = match document.pointer(pointer.as_str()) {
+        Some(node) => node.as_u64(),
+        None => return Err(Fail::from("no node")),
+    };
+    Ok(format!(in alloc; "{location} ~ {pointer} ~ {number:?}")?)
 }
 
 #[test]
 fn locations_print_and_point(rt: HostRuntime) -> Result<(), Fail> {
     let document = Value::from_str(rt.alloc(), NAMED)?;
-    for &(steps, normal, pointer, number) in POINTED {
+    let mut table = Table::new();
+    for &(steps, wanted) in POINTED {
         let location = location(rt.alloc(), steps)?;
-        points(&rt, rt.alloc(), &location, (normal, pointer))?;
-        assert!(rt; number_at(&document, pointer)? == number, "at {normal}");
+        let came = pointed(rt.alloc(), &location, &document);
+        table.hold(&rt, (NAMED, wanted, wanted), came);
     }
-    Ok(())
+    table.end()
 }
 
 // Two steps.
-const STEPS: &[PathElement<'static>] = &[PathElement::Name("a"), PathElement::Index(7)];
+const STEPS: &[PathElement<'static>] = &[Name("a"), Index(7)];
 
 // Holds a location to its two steps.
 fn are_steps(rt: &impl Abort, location: &NormalizedPath<'_>) {
@@ -156,45 +130,56 @@ fn locations_are_lists_of_steps(rt: HostRuntime) -> Result<(), Fail> {
 }
 
 // Steps of two locations, and whether these are equal.
-const COMPARED: &[(&[PathElement<'static>], &[PathElement<'static>], bool)] = &[
-    (STEPS, STEPS, true),
-    (STEPS, &[PathElement::Name("a")], false),
-    (&[PathElement::Name("a")], &[PathElement::Index(7)], false),
-    (
-        &[PathElement::Name("a"), PathElement::Index(7)],
-        &[PathElement::Name("b"), PathElement::Index(7)],
-        false,
-    ),
+const COMPARED: &[(&[PathElement<'static>], &[PathElement<'static>], &str)] = &[
+    (STEPS, STEPS, "true"),
+    (STEPS, &[Name("a")], "false"),
+    (&[Name("a")], &[Index(7)], "false"),
+    (&[Name("a"), Index(7)], &[Name("b"), Index(7)], "false"),
 ];
+
+// Two locations, and whether they are equal.
+fn compared(
+    alloc: Global,
+    one: &NormalizedPath<'_>,
+    other: &NormalizedPath<'_>,
+) -> Result<(String, String), AllocError> {
+    let given = format!(in alloc; "{one} {other}")?;
+    let is_equal = one == other;
+    Ok((given, format!(in alloc; "{is_equal}")?))
+}
 
 #[test]
 fn locations_are_equal_by_their_steps(rt: HostRuntime) -> Result<(), Fail> {
     law_texts_tell_locations();
-    for &(one, other, is_equal) in COMPARED {
+    let mut table = Table::new();
+    for &(one, other, wanted) in COMPARED {
         let one = location(rt.alloc(), one)?;
         let other = location(rt.alloc(), other)?;
-        assert!(rt; (one == other) == is_equal);
+        let (given, came) = compared(rt.alloc(), &one, &other)?;
+        table.hold(&rt, ("steps", given.as_str(), wanted), Ok(came));
     }
-    Ok(())
+    table.end()
 }
 
-// Positions, and the locations that are left of them, one after the other.
+// Positions, and the locations that are left of them.
 const REPEATED: &[(&[usize], &str)] = &[
     (&[], ""),
     (&[4, 4], "$[4]"),
-    (&[1, 0, 1, 0], "$[1]$[0]"),
-    (&[2, 1, 2, 3, 1, 0], "$[2]$[1]$[3]$[0]"),
+    (&[1, 0, 1, 0], "$[1] $[0]"),
+    (&[2, 1, 2, 3, 1, 0], "$[2] $[1] $[3] $[0]"),
 ];
 
 #[test]
 fn repeated_locations_leave_their_first_place(rt: HostRuntime) -> Result<(), Fail> {
-    let alloc = rt.alloc();
     let node = Value::Null;
+    let mut table = Table::new();
     for &(positions, kept) in REPEATED {
-        let list = located(alloc, &node, positions)?.dedup();
-        prints(&rt, texts(alloc, &list)?.as_str(), kept);
+        let given = locations(rt.alloc(), &located(rt.alloc(), &node, positions)?)?;
+        let list = located(rt.alloc(), &node, positions)?.dedup();
+        let came = locations(rt.alloc(), &list);
+        table.hold(&rt, ("items", given.as_str(), kept), came);
     }
-    Ok(())
+    table.end()
 }
 
 // A list that has the node so many times.
@@ -204,6 +189,14 @@ fn repeated(alloc: Global, node: &Value, times: usize) -> Result<NodeList<'_>, A
         nodes.push(node)?;
     }
     Ok(NodeList::from(nodes))
+}
+
+// Whether a list has so many nodes, by each call that tells of their number.
+fn has(list: &NodeList<'_>, count: usize) -> bool {
+    list.len() == count
+        && list.iter().count() == count
+        && list.is_empty() == (count == 0)
+        && list.first().is_some() == (count > 0)
 }
 
 // What a list answers where at most one node is expected.
@@ -223,47 +216,40 @@ fn exactly(alloc: Global, list: &NodeList<'_>) -> Result<String, Fail> {
     }
 }
 
-// Whether a list has so many nodes, by each call that tells of their number.
-fn has(list: &NodeList<'_>, count: usize) -> bool {
-    list.len() == count
-        && list.iter().count() == count
-        && list.is_empty() == (count == 0)
-        && list.first().is_some() == (count > 0)
+// What a list answers where at most one node is expected, and where one is. Fails where it has not so many nodes.
+fn answered(alloc: Global, list: NodeList<'_>, count: usize) -> Result<String, Fail> {
+    let most = at_most(alloc, &list)?;
+    let one = exactly(alloc, &list)?;
+    holds(
+        has(&list, count) && list.all().len() == count,
+        "another number",
+    )?;
+    Ok(format!(in alloc; "{most}; {one}")?)
 }
 
 // A number of nodes, and what the list answers where at most one is expected, and where one is.
-const COUNTED: &[(usize, &str, &str)] = &[
-    (0, "none", "one node expected, found none"),
-    (1, "one", "one"),
+const COUNTED: &[(usize, &str)] = &[
+    (0, "none; one node expected, found none"),
+    (1, "one; one"),
     (
         2,
-        "at most one node expected, found 2",
-        "one node expected, found 2",
+        "at most one node expected, found 2; one node expected, found 2",
     ),
 ];
-
-// Holds a list of so many nodes to what it answers where at most one node is expected, and where one is.
-fn answers(
-    rt: &impl Abort,
-    alloc: Global,
-    list: NodeList<'_>,
-    count: usize,
-    (most, one): (&str, &str),
-) -> Result<(), Fail> {
-    prints(rt, at_most(alloc, &list)?.as_str(), most);
-    prints(rt, exactly(alloc, &list)?.as_str(), one);
-    assert!(rt; has(&list, count) && list.all().len() == count);
-    Ok(())
-}
 
 #[test]
 fn lists_answer_by_their_length(rt: HostRuntime) -> Result<(), Fail> {
     let node = Value::Null;
-    for &(count, most, one) in COUNTED {
+    let mut table = Table::new();
+    for &(count, wanted) in COUNTED {
         let list = repeated(rt.alloc(), &node, count)?;
-        answers(&rt, rt.alloc(), list, count, (most, one))?;
+        table.hold(
+            &rt,
+            ("nulls", wanted, wanted),
+            answered(rt.alloc(), list, count),
+        );
     }
-    Ok(())
+    table.end()
 }
 
 // Whether a list has so many pairs, by each call that tells of their number.
@@ -290,26 +276,35 @@ fn located_lists_answer_as_lists_of_pairs(rt: HostRuntime) -> Result<(), Fail> {
     let node = Value::Null;
     let list = located(rt.alloc(), &node, &[5, 6])?;
     are_pairs(&rt, &list);
-    prints(&rt, texts(rt.alloc(), &list)?.as_str(), "$[5]$[6]");
+    assert!(rt; locations(rt.alloc(), &list)?.as_str() == "$[5] $[6]");
     assert!(rt; list.all().len() == 2);
     Ok(())
 }
 
-// Positions, and why a list of the nodes there is not exactly one node.
-const LOCATED: &[(&[usize], Option<ExactlyOneError>)] = &[
-    (&[], Some(ExactlyOneError::Empty)),
-    (&[5], None),
-    (&[5, 6], Some(ExactlyOneError::MoreThanOne(2))),
+// Positions, and why a list of the nodes there is not exactly one node, and not one at most.
+const LOCATED: &[(&[usize], &str)] = &[
+    (&[], "Some(Empty), None"),
+    (&[5], "None, None"),
+    (&[5, 6], "Some(MoreThanOne(2)), Some(AtMostOneError(2))"),
 ];
+
+// Why a list of the nodes at positions is not exactly one node, and not one at most.
+fn refused(alloc: Global, positions: &[usize]) -> Result<String, Fail> {
+    let node = Value::Null;
+    let one = located(alloc, &node, positions)?.exactly_one().err();
+    let most = located(alloc, &node, positions)?.at_most_one().err();
+    Ok(format!(in alloc; "{one:?}, {most:?}")?)
+}
 
 #[test]
 fn located_lists_answer_by_their_length(rt: HostRuntime) -> Result<(), Fail> {
-    let node = Value::Null;
-    for &(positions, refusal) in LOCATED {
-        let most = located(rt.alloc(), &node, positions)?.at_most_one();
-        assert!(rt; most.is_err() == (positions.len() > 1));
-        let one = located(rt.alloc(), &node, positions)?.exactly_one();
-        assert!(rt; one.err() == refusal);
+    let mut table = Table::new();
+    for &(positions, wanted) in LOCATED {
+        table.hold(
+            &rt,
+            ("nulls", wanted, wanted),
+            refused(rt.alloc(), positions),
+        );
     }
-    Ok(())
+    table.end()
 }

@@ -1,36 +1,48 @@
 //! Errors, as a user of `std::error::Error` takes them.
 
 use serde_json_path::{AtMostOneError, ExactlyOneError, FromJsonError, JsonPath, QueryError};
+use serde_json_path_core_tests::rows::Table;
 use std::alloc::Global;
 use std::error::Error;
-use std::process::Abort;
 use std::test::Fail;
 
 /// Holds an error to its text.
-fn tells<E: Error>(rt: &impl Abort, alloc: Global, error: &E, wanted: &str) -> Result<(), Fail> {
-    let text = format!(in alloc; "{error}")?;
-    assert_eq!(rt; text.as_str(), wanted);
-    Ok(())
+fn tells<E: Error>(table: &mut Table, rt: &impl Eprint, alloc: Global, error: &E, wanted: &str) {
+    let text = format!(in alloc; "{error}").map_err(Fail::from);
+    table.hold(rt, ("errors", wanted, wanted), text);
 }
 
 #[test]
 fn are_errors(rt: HostRuntime) -> Result<(), Fail> {
     let alloc = rt.alloc();
-    let at_most_one = AtMostOneError(2);
+    let mut table = Table::new();
+    let two = "at most one node expected, found 2";
+    tells(&mut table, &rt, alloc, &AtMostOneError(2), two);
+    let none = "one node expected, found none";
+    tells(&mut table, &rt, alloc, &ExactlyOneError::Empty, none);
     tells(
+        &mut table,
         &rt,
         alloc,
-        &at_most_one,
-        "at most one node expected, found 2",
-    )?;
-    let none = ExactlyOneError::Empty;
-    tells(&rt, alloc, &none, "one node expected, found none")?;
-    let refused_query = QueryError::Pattern;
-    tells(&rt, alloc, &refused_query, "pattern refused")?;
-    let no_string = FromJsonError::NotAString;
-    tells(&rt, alloc, &no_string, "not a string")?;
+        &QueryError::Pattern,
+        "pattern refused",
+    );
+    tells(
+        &mut table,
+        &rt,
+        alloc,
+        &FromJsonError::NotAString,
+        "not a string",
+    );
     if let Err(refused) = JsonPath::parse(alloc, "x") {
-        return tells(&rt, alloc, &refused, "at position 1, expected '$'");
+        tells(
+            &mut table,
+            &rt,
+            alloc,
+            &refused,
+            "at position 1, expected '$'",
+        );
+        return table.end();
     }
     Err(Fail::new("the text is accepted"))
 }

@@ -7,12 +7,12 @@ ghost use Rattle.serde_json_path_core.specs.Selects.{SelectsValues};
 ghost use Rattle.serde_json_path_functions.specs.Patterns.{before_builtin, builtin_functions};
 ghost use Rattle.serde_json_path.specs.Paths.{path_tree};
 
-use crate::tests::rows::finds;
 use serde_json::Value;
 use serde_json_path::functions::{Builtin, Functions};
 use serde_json_path::{JsonPath, NodeList, QueryError, law_set_before_itself};
+use serde_json_path_core_tests::rows::Table;
+use serde_json_path_core_tests::texts::values;
 use std::alloc::Global;
-use std::process::Abort;
 use std::test::Fail;
 
 /// The nodes that a path selects, if it fits the built-in functions.
@@ -49,26 +49,24 @@ fn query_with_if_it_fits<'b, F: Functions>(
     Ok(Some(nodes))
 }
 
-/// Holds an answer to the texts of the values that it gives.
-fn gives(
-    rt: &impl Abort,
-    alloc: Global,
-    answer: Result<Option<NodeList<'_>>, QueryError>,
-    wanted: &str,
-) -> Result<(), Fail> {
+/// The values that an answer gives, or `nothing` where the path does not fit.
+fn given(alloc: Global, answer: Result<Option<NodeList<'_>>, QueryError>) -> Result<String, Fail> {
     match answer? {
-        Some(nodes) => finds(rt, alloc, Ok(nodes), wanted, "a path that fits"),
-        None => Err(Fail::new(format_args!("the path does not fit"))),
+        Some(nodes) => values(alloc, nodes.iter()),
+        None => Ok(String::from_str(alloc, "nothing")?),
     }
 }
 
 #[test]
 fn queries_where_the_path_fits(rt: HostRuntime) -> Result<(), Fail> {
     let alloc = rt.alloc();
-    let document = Value::from_str(alloc, r#"[[1,2],[3]]"#)?;
-    let path = JsonPath::parse(alloc, "$[?length(@) == 2]")?;
+    let row = ("[[1,2],[3]]", "$[?length(@) == 2]", "[1,2]");
+    let document = Value::from_str(alloc, row.0)?;
+    let path = JsonPath::parse(alloc, row.1)?;
+    let mut table = Table::new();
     let nodes = query_if_it_fits(alloc, &path, &document);
-    gives(&rt, alloc, nodes, "[1,2]")?;
+    table.hold(&rt, row, given(alloc, nodes));
     let nodes = query_with_if_it_fits(alloc, &path, &document, &Builtin);
-    gives(&rt, alloc, nodes, "[1,2]")
+    table.hold(&rt, row, given(alloc, nodes));
+    table.end()
 }

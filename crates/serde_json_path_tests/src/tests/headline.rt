@@ -12,15 +12,16 @@ ghost use Rattle.serde_json_path_core.specs.Laws.{AreResultsAt, with_segment};
 ghost use Rattle.serde_json_path.specs.Laws.{ArePositionsWritten};
 ghost use Rattle.serde_json_path.specs.Paths.{path_signatures, path_tree};
 
-use crate::tests::rows::{are_located, holds, located_selection};
+use crate::tests::rows::count;
 use serde_json::Value;
 use serde_json_path::functions::{Builtin, Functions};
 use serde_json_path::{
     JsonPath, LocatedNodeList, NormalizedPath, ParseErrorKind, PathElement, QueryError, law_append,
     law_locations_are_proper, law_normal, law_print, law_result_is_unique,
 };
+use serde_json_path_core_tests::rows::{Table, fields, hold_rows, holds};
+use serde_json_path_core_tests::texts::located;
 use std::alloc::Global;
-use std::process::Abort;
 use std::test::Fail;
 
 /// The greatest index that a path can write: 2^53 - 1.
@@ -104,11 +105,7 @@ fn lead_back<F: Functions>(
 
 /// Whether a path that is parsed, printed and parsed again under one function set is equal to the first: always, by the
 /// contracts of these calls. The second parse is refused for nothing but memory.
-pub(crate) fn comes_back<F: Functions>(
-    alloc: Global,
-    text: &str,
-    functions: &F,
-) -> Result<bool, Fail>
+fn comes_back<F: Functions>(alloc: Global, text: &str, functions: &F) -> Result<bool, Fail>
     ensures { IfOk result IsTrue }
 {
     law_print();
@@ -151,53 +148,42 @@ fn append<'b, F: Functions>(
 }
 
 /// A path, a document, and how many nodes the path selects from it.
-const FOUND: &[(&str, &str, usize)] = &[
-    ("$", r#"[{"a":7}]"#, 1),
-    ("$[1]", "[null,true]", 1),
-    ("$..*", r#"{"it's":[1,{"\\":2}],"\u0001":[]}"#, 5),
-    (
-        "$[?@.a == 1 && !match(@.b, 'c.*')]['a','b']",
-        r#"[{"a":1,"b":"d"},{"a":1,"b":"cd"}]"#,
-        2,
-    ),
+const FOUND: &[&str] = &[
+    r#"$ ~ [{"a":7}] -> 1"#,
+    "$[1] ~ [null,true] -> 1",
+    r#"$..* ~ {"it's":[1,{"\\":2}],"\u0001":[]} -> 5"#,
+    r#"$[?@.a == 1 && !match(@.b, 'c.*')]['a','b'] ~ [{"a":1,"b":"d"},{"a":1,"b":"cd"}] -> 2"#,
 ];
 
-/// Holds what a path selects to how many nodes there are, and each of them to be found again.
-fn finds_each_again(
-    rt: &impl Abort,
-    alloc: Global,
-    (path, document, count): (&str, &str, usize),
-) -> Result<(), Fail> {
-    let document = Value::from_str(alloc, document)?;
-    let nodes = located_selection(alloc, path, &document)?;
-    holds(rt, nodes.len() == count, path);
-    holds(rt, lead_back(alloc, path, &document, &Builtin)?, path);
-    holds(rt, comes_back(alloc, path, &Builtin)?, path);
-    Ok(())
+/// How many nodes a path selects. Fails where one of them is not found again, or where the path does not come back.
+fn found_again(alloc: Global, given: &str) -> Result<String, Fail> {
+    let (path, text) = fields(given)?;
+    let document = Value::from_str(alloc, text)?;
+    holds(lead_back(alloc, path, &document, &Builtin)?, "no way back")?;
+    holds(comes_back(alloc, path, &Builtin)?, "another path")?;
+    count(alloc, path, text)
 }
 
 #[test]
 fn leads_back_from_each_node(rt: HostRuntime) -> Result<(), Fail> {
-    for &row in FOUND {
-        finds_each_again(&rt, rt.alloc(), row)?;
-    }
-    Ok(())
+    hold_rows(&rt, rt.alloc(), FOUND, found_again)
 }
 
 #[test]
 fn appends_a_segment(rt: HostRuntime) -> Result<(), Fail> {
     let alloc = rt.alloc();
-    let document = Value::from_str(alloc, r#"[{"a":1},{"b":2},{"a":3}]"#)?;
+    let text = r#"[{"a":1},{"b":2},{"a":3}]"#;
+    let document = Value::from_str(alloc, text)?;
     let shorter = JsonPath::parse_with(alloc, "$[*]", &Builtin)?;
     let longer = JsonPath::parse_with(alloc, "$[*].a", &Builtin)?;
     let (nodes, more) = append(alloc, &shorter, &longer, &document, &Builtin)?;
-    let all = ("$[0] $[1] $[2]", r#"{"a":1} {"b":2} {"a":3}"#);
-    are_located(&rt, alloc, &nodes, all, "the shorter path")?;
-    are_located(
+    let all = r#"$[0] $[1] $[2] ~ {"a":1} {"b":2} {"a":3}"#;
+    let mut table = Table::new();
+    table.hold(&rt, (text, "$[*]", all), located(alloc, &nodes));
+    table.hold(
         &rt,
-        alloc,
-        &more,
-        ("$[0]['a'] $[2]['a']", "1 3"),
-        "the longer path",
-    )
+        (text, "$[*].a", "$[0]['a'] $[2]['a'] ~ 1 3"),
+        located(alloc, &more),
+    );
+    table.end()
 }

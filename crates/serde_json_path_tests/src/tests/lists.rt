@@ -1,24 +1,37 @@
 //! What the lists of a query answer.
 
-use crate::tests::rows::{gives, located_selection, locations, selection};
+use crate::tests::rows::{located_nodes, nodes};
 use serde_json::Value;
-use serde_json_path::{AtMostOneError, ExactlyOneError, LocatedNodeList, NodeList};
+use serde_json_path::LocatedNodeList;
+use serde_json_path_core_tests::rows::{fields, hold_rows};
+use serde_json_path_core_tests::texts::locations;
 use std::alloc::Global;
-use std::process::Abort;
 use std::test::Fail;
 
-/// Holds what a path selects, each location once, in the order of their first places, to the locations.
-fn once(
-    rt: &impl Abort,
-    alloc: Global,
-    path: &str,
-    document: &str,
-    wanted: &str,
-) -> Result<(), Fail> {
+/// A path, a document, and the locations of what the path selects, each once, in the order of their first places.
+const ONCE: &[&str] = &[
+    r#"$['a','a'] ~ {"a":1} -> $['a']"#,
+    r#"$[1,0,1,0] ~ ["a","b"] -> $[1] $[0]"#,
+];
+
+/// The locations of what a path selects from a document, each once.
+fn once(alloc: Global, given: &str) -> Result<String, Fail> {
+    let (path, document) = fields(given)?;
     let document = Value::from_str(alloc, document)?;
-    let nodes = located_selection(alloc, path, &document)?.dedup();
-    gives(rt, locations(alloc, &nodes), wanted, path)
+    let nodes = located_nodes(alloc, path, &document)?.dedup();
+    locations(alloc, &nodes)
 }
+
+#[test]
+fn keeps_each_location_once(rt: HostRuntime) -> Result<(), Fail> {
+    hold_rows(&rt, rt.alloc(), ONCE, once)
+}
+
+/// A path, a document, and the JSON pointers of what the path selects, with a `;` after each.
+const POINTED: &[&str] = &[
+    r#"$..* ~ {"a/~":[0]} -> /a~1~0;/a~1~0/0;"#,
+    r#"$ ~ {"a/~":[0]} -> ;"#,
+];
 
 /// The JSON pointers of nodes, with a `;` after each.
 fn pointers(alloc: Global, nodes: &LocatedNodeList<'_>) -> Result<String, Fail> {
@@ -30,58 +43,35 @@ fn pointers(alloc: Global, nodes: &LocatedNodeList<'_>) -> Result<String, Fail> 
     Ok(text)
 }
 
-/// Holds what a path selects to the JSON pointers.
-fn points(
-    rt: &impl Abort,
-    alloc: Global,
-    path: &str,
-    document: &str,
-    wanted: &str,
-) -> Result<(), Fail> {
+/// The JSON pointers of what a path selects from a document.
+fn pointed(alloc: Global, given: &str) -> Result<String, Fail> {
+    let (path, document) = fields(given)?;
     let document = Value::from_str(alloc, document)?;
-    let nodes = located_selection(alloc, path, &document)?;
-    gives(rt, pointers(alloc, &nodes), wanted, path)
+    pointers(alloc, &located_nodes(alloc, path, &document)?)
 }
 
 #[test]
-fn tells_locations(rt: HostRuntime) -> Result<(), Fail> {
-    let alloc = rt.alloc();
-    once(&rt, alloc, "$['a','a']", r#"{"a":1}"#, "$['a']")?;
-    once(&rt, alloc, "$[1,0,1,0]", r#"["a","b"]"#, "$[1] $[0]")?;
-    points(&rt, alloc, "$..*", r#"{"a/~":[0]}"#, "/a~1~0;/a~1~0/0;")?;
-    points(&rt, alloc, "$", r#"{"a/~":[0]}"#, ";")
+fn points_at_each_node(rt: HostRuntime) -> Result<(), Fail> {
+    hold_rows(&rt, rt.alloc(), POINTED, pointed)
 }
 
-/// Holds a list to its length, and to how it refuses to be exactly one node and to be one at most.
-fn counts(
-    rt: &impl Abort,
-    nodes: &NodeList<'_>,
-    number: usize,
-    exactly_one: ExactlyOneError,
-    at_most_one: Option<AtMostOneError>,
-) {
-    assert!(rt; nodes.len() == number);
-    assert!(rt; nodes.exactly_one().err() == Some(exactly_one));
-    assert!(rt; nodes.at_most_one().err() == at_most_one);
-}
-
-/// A path, how many nodes it selects from an object of two members, and how the list of these refuses.
-const COUNTED: &[(&str, usize, ExactlyOneError, Option<AtMostOneError>)] = &[
-    (
-        "$.*",
-        2,
-        ExactlyOneError::MoreThanOne(2),
-        Some(AtMostOneError(2)),
-    ),
-    ("$.c", 0, ExactlyOneError::Empty, None),
+/// A path, how many nodes it selects from an object of two members, and how their list refuses to be exactly one node and
+/// to be one at most.
+const COUNTED: &[&str] = &[
+    "$.* -> 2, Some(MoreThanOne(2)), Some(AtMostOneError(2))",
+    "$.c -> 0, Some(Empty), None",
 ];
 
+/// How many nodes a path selects from an object of two members, and how their list refuses.
+fn counted(alloc: Global, path: &str) -> Result<String, Fail> {
+    let document = Value::from_str(alloc, r#"{"a":1,"b":2}"#)?;
+    let nodes = nodes(alloc, path, &document)?;
+    let one = nodes.exactly_one().err();
+    let most = nodes.at_most_one().err();
+    Ok(format!(in alloc; "{}, {one:?}, {most:?}", nodes.len())?)
+}
+
 #[test]
-fn counts_nodes(rt: HostRuntime) -> Result<(), Fail> {
-    let document = Value::from_str(rt.alloc(), r#"{"a":1,"b":2}"#)?;
-    for &(path, number, exactly_one, at_most_one) in COUNTED {
-        let nodes = selection(rt.alloc(), path, &document)?;
-        counts(&rt, &nodes, number, exactly_one, at_most_one);
-    }
-    Ok(())
+fn refuses_by_the_number_of_nodes(rt: HostRuntime) -> Result<(), Fail> {
+    hold_rows(&rt, rt.alloc(), COUNTED, counted)
 }

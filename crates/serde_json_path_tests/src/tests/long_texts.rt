@@ -1,36 +1,33 @@
 //! Long texts, of paths and of documents.
 
-use crate::tests::nesting::{CALLS, COMPARED, FILTERS, Nesting, PARENTHESES, nested};
-use crate::tests::rows::{counts, fields, gives, holds, parses, prints, selects_nodes, told};
+use crate::tests::nesting::{CALLS, COMPARED, FILTERS, Nesting, PARENTHESES, hold_nested, nested};
+use crate::tests::rows::{count, parsed, selected, told};
 use serde_json_path::functions::Builtin;
 use serde_json_path::{JsonPath, PathSource, TextSource, parse_source};
-use std::alloc::{AllocError, Global};
-use std::process::Abort;
+use serde_json_path_core_tests::rows::{Table, alike, fields, hold_rows, holds};
+use serde_json_path_core_tests::texts::long;
+use std::alloc::Global;
 use std::test::Fail;
 
-/// The beginning, a text so many times, and the end.
-pub(crate) fn long(
-    alloc: Global,
-    beginning: &str,
-    repeated: &str,
-    times: usize,
-    end: &str,
-) -> Result<String, AllocError> {
-    let mut text = String::from_str(alloc, beginning)?;
-    for _ in 0..times {
-        text.push_str(repeated)?;
-    }
-    text.push_str(end)?;
-    Ok(text)
-}
-
 /// The beginning of a text, what stands in it so many times, its end, and what its parse answers.
-const LONG: &[(&str, &str, usize, &str, &str)] = &[
+type Long = (
+    &'static str,
+    &'static str,
+    usize,
+    &'static str,
+    &'static str,
+);
+
+/// Texts that are cut, too.
+pub(crate) const CUT: &[Long] = &[
     ("$[", "9", 10_000, "]", "IntegerOutOfRange 3"),
     ("$[?@ == ", "9", 10_000, "]", "NumberOutOfRange 9"),
-    ("$[?@ == 0.", "0", 10_000, "]", "FractionTooLong 9"),
     ("$", " ", 10_000, "x", "TextAfterPath 2"),
-    // Nesting that ends is not counted.
+];
+
+/// Texts, of which the nesting of the last three ends and is not counted.
+const LONG: &[Long] = &[
+    ("$[?@ == 0.", "0", 10_000, "]", "FractionTooLong 9"),
     ("$[?(@)", " && (@)", 200, "]", "accepted"),
     (
         "$[?count(@) == 1",
@@ -42,123 +39,124 @@ const LONG: &[(&str, &str, usize, &str, &str)] = &[
     ("$", "[?@]", 200, "", "accepted"),
 ];
 
-#[test]
-fn parses_long_texts(rt: HostRuntime) -> Result<(), Fail> {
-    let alloc = rt.alloc();
-    for &(beginning, repeated, times, end, wanted) in LONG {
+/// Holds what comes of each long text to what its parse answers.
+pub(crate) fn hold_long<F: Fn(Global, &str) -> Result<String, Fail>>(
+    rt: &impl Eprint,
+    alloc: Global,
+    rows: &[Long],
+    came: F,
+) -> Result<(), Fail>
+    requires { F.IsAlwaysCallable came }
+{
+    let mut table = Table::new();
+    for &(beginning, repeated, times, end, wanted) in rows {
         let text = long(alloc, beginning, repeated, times, end)?;
-        parses(&rt, alloc, text.as_str(), wanted)?;
+        table.hold(
+            rt,
+            ("a long text", beginning, wanted),
+            came(alloc, text.as_str()),
+        );
     }
-    Ok(())
+    table.end()
 }
 
-/// Holds a path, which prints itself, to the one node that it selects from a document.
-fn selects_one(
-    rt: &impl Abort,
-    alloc: Global,
-    text: &str,
-    document: &str,
-    wanted: (&str, &str),
-) -> Result<(), Fail> {
-    let path = JsonPath::parse(alloc, text)?;
-    prints(rt, path.to_text(alloc), text, "a path")?;
-    selects_nodes(rt, alloc, &path, document, wanted)
+#[test]
+fn parses_long_texts(rt: HostRuntime) -> Result<(), Fail> {
+    hold_long(&rt, rt.alloc(), CUT, parsed)?;
+    hold_long(&rt, rt.alloc(), LONG, parsed)
+}
+
+/// What a path, which prints itself, selects from a document.
+fn of_path(alloc: Global, path: &str, document: &str) -> Result<String, Fail> {
+    let printed = JsonPath::parse(alloc, path)?.to_text(alloc)?;
+    holds(printed.as_str() == path, "the path prints otherwise")?;
+    selected(alloc, &Builtin, path, document)
 }
 
 #[test]
 fn selects_deep_nodes(rt: HostRuntime) -> Result<(), Fail> {
-    let alloc = rt.alloc();
-    let document = nested(alloc, ("", "[", "0", "]", ""), 20)?;
-    let path = long(alloc, "$", "[0]", 20, "")?;
-    let path = path.as_str();
-    selects_one(&rt, alloc, path, document.as_str(), (path, "0"))
+    let document = nested(rt.alloc(), ("", "[", "0", "]", ""), 20)?;
+    let path = long(rt.alloc(), "$", "[0]", 20, "")?;
+    let wanted = long(rt.alloc(), "$", "[0]", 20, " ~ 0")?;
+    let came = of_path(rt.alloc(), path.as_str(), document.as_str());
+    let mut table = Table::new();
+    table.hold(
+        &rt,
+        (document.as_str(), path.as_str(), wanted.as_str()),
+        came,
+    );
+    table.end()
 }
 
 /// Texts of which a thousand make a long name, each as it is in quotes of a path, and as it is in JSON.
 const REPEATED: &[&str] = &[
-    "a ~ a",
-    "é ~ é",
-    r"\' ~ '",
-    r#"\n ~ \n"#,
-    r#"" ~ \""#,
-    "😀 ~ 😀",
+    "a ~ a -> selected",
+    "é ~ é -> selected",
+    r"\' ~ ' -> selected",
+    r#"\n ~ \n -> selected"#,
+    r#"" ~ \" -> selected"#,
+    "😀 ~ 😀 -> selected",
 ];
 
-/// Holds a path to the member that it selects by a long name.
-fn selects_by_name(
-    rt: &impl Abort,
-    alloc: Global,
-    in_path: &str,
-    in_json: &str,
-) -> Result<(), Fail> {
+/// Fails where a path does not select the member of a long name.
+fn is_named(alloc: Global, in_path: &str, in_json: &str) -> Result<(), Fail> {
     let path = long(alloc, "$['", in_path, 1000, "']")?;
     let document = long(alloc, "{\"", in_json, 1000, "\":1}")?;
-    let path = path.as_str();
-    selects_one(rt, alloc, path, document.as_str(), (path, "1"))
+    let wanted = long(alloc, "$['", in_path, 1000, "'] ~ 1")?;
+    let _text = alike(of_path(alloc, path.as_str(), document.as_str())?, wanted)?;
+    Ok(())
 }
 
-/// Holds a path to the item that it selects by a comparison with a long literal.
-fn selects_by_literal(
-    rt: &impl Abort,
-    alloc: Global,
-    in_path: &str,
-    in_json: &str,
-) -> Result<(), Fail> {
+/// Fails where a path does not select the item that is equal to a long literal.
+fn is_literal(alloc: Global, in_path: &str, in_json: &str) -> Result<(), Fail> {
     let path = long(alloc, "$[?@ == '", in_path, 1000, "']")?;
     let document = long(alloc, "[0,\"", in_json, 1000, "\"]")?;
-    let text = long(alloc, "\"", in_json, 1000, "\"")?;
-    let node = ("$[1]", text.as_str());
-    selects_one(rt, alloc, path.as_str(), document.as_str(), node)
+    let wanted = long(alloc, "$[1] ~ \"", in_json, 1000, "\"")?;
+    let _text = alike(of_path(alloc, path.as_str(), document.as_str())?, wanted)?;
+    Ok(())
+}
+
+/// Selects by a name and a literal of a thousand such texts.
+fn of_repeated(alloc: Global, given: &str) -> Result<String, Fail> {
+    let (in_path, in_json) = fields(given)?;
+    is_named(alloc, in_path, in_json)?;
+    is_literal(alloc, in_path, in_json)?;
+    Ok(String::from_str(alloc, "selected")?)
 }
 
 #[test]
 fn selects_by_long_names_and_literals(rt: HostRuntime) -> Result<(), Fail> {
-    for &row in REPEATED {
-        let (in_path, in_json) = fields(row)?;
-        selects_by_name(&rt, rt.alloc(), in_path, in_json)?;
-        selects_by_literal(&rt, rt.alloc(), in_path, in_json)?;
-    }
-    Ok(())
+    hold_rows(&rt, rt.alloc(), REPEATED, of_repeated)
 }
 
 #[test]
 fn counts_a_thousand_items(rt: HostRuntime) -> Result<(), Fail> {
     let zeros = long(rt.alloc(), "[0", ",0", 999, "]")?;
-    counts(&rt, rt.alloc(), "$..*", zeros.as_str(), 1000)
+    let mut table = Table::new();
+    let came = count(rt.alloc(), "$..*", zeros.as_str());
+    table.hold(&rt, ("a thousand zeros", "$..*", "1000"), came);
+    table.end()
 }
 
-/// Holds a parse to what it answers, and to one look at each byte of a text of that length.
-fn looks_once(
-    rt: &impl Abort,
-    alloc: Global,
-    text: &str,
-    wanted: &str,
-    length: usize,
-) -> Result<(), Fail> {
+/// What a parse answers, and the length of its text. Fails where it looks at a byte twice.
+fn of_looks(alloc: Global, text: &str) -> Result<String, Fail> {
     let mut source = TextSource::new(text);
-    let answer = told(alloc, parse_source(alloc, &mut source, &Builtin));
-    gives(rt, answer, wanted, text)?;
-    holds(rt, source.len() == length, text);
-    holds(rt, source.looks() <= length as u128, text);
-    Ok(())
+    let told = told(alloc, parse_source(alloc, &mut source, &Builtin))?;
+    holds(source.looks() <= source.len() as u128, "looks twice")?;
+    Ok(format!(in alloc; "{told}, {} bytes", source.len())?)
 }
 
 /// What nests, how often, what the parse of that text answers, and the length of the text.
-const LOOKED: &[(Nesting<'static>, usize, &str, usize)] = &[
-    (("", "", "", "", ""), 0, "ExpectedRoot 1", 0),
-    (("$.", "a", "", "", ""), 1000, "accepted", 1002),
-    (PARENTHESES, 127, "accepted", 259),
-    (FILTERS, 128, "accepted", 513),
-    (COMPARED, 127, "NonSingularQuery 4", 518),
-    (CALLS, 127, "accepted", 1026),
+const LOOKED: &[(Nesting<'static>, usize, &str)] = &[
+    (("", "", "", "", ""), 0, "ExpectedRoot 1, 0 bytes"),
+    (("$.", "a", "", "", ""), 1000, "accepted, 1002 bytes"),
+    (PARENTHESES, 127, "accepted, 259 bytes"),
+    (FILTERS, 128, "accepted, 513 bytes"),
+    (COMPARED, 127, "NonSingularQuery 4, 518 bytes"),
+    (CALLS, 127, "accepted, 1026 bytes"),
 ];
 
 #[test]
 fn looks_at_texts(rt: HostRuntime) -> Result<(), Fail> {
-    let alloc = rt.alloc();
-    for &(nesting, times, wanted, length) in LOOKED {
-        let text = nested(alloc, nesting, times)?;
-        looks_once(&rt, alloc, text.as_str(), wanted, length)?;
-    }
-    Ok(())
+    hold_nested(&rt, rt.alloc(), LOOKED, of_looks)
 }

@@ -5,38 +5,37 @@ ghost use Rattle.serde_json_path_parser.specs.Errors.{kind_of};
 ghost use Rattle.serde_json_path_parser.specs.declared.error.ParseErrorKind.TheVariants.{NoMemory};
 
 use crate::tests::nesting::{PARENTHESES, nested};
-use crate::tests::rows::{fields, prints};
 use serde_json_path::{JsonPath, ParseError};
+use serde_json_path_core_tests::rows::{Table, alike};
 use std::alloc::Global;
-use std::process::Abort;
 use std::test::Fail;
 
 /// A text, and the message of its refusal.
 const TOLD: &[&str] = &[
-    "x ~ at position 1, expected '$'",
-    "$. ~ at position 3, in dot member name, must start with a letter, '_' or a non-ASCII character",
-    "$.. ~ at position 4, must start with a letter, '_' or a non-ASCII character",
-    "$[ ~ at position 3, in long-hand segment, expected a selector",
-    "$['a' ~ at position 6, in long-hand segment, expected closing ']'",
-    "$['a ~ at position 5, in long-hand segment, expected an ending quote",
-    r#"$["\u ~ at position 4, in long-hand segment, bad escape"#,
-    "$['a\t'] ~ at position 5, in long-hand segment, control character in a string",
-    "$[9007199254740992] ~ at position 3, in long-hand segment, integer out of range",
-    "$.a['b']tail ~ at position 9, text after the path",
-    "$[0]. ~ at position 6, in dot member name, must start with a letter, '_' or a non-ASCII character",
-    "$[?@.] ~ at position 6, in long-hand segment, must start with a letter, '_' or a non-ASCII character",
-    "$[?@ == 1.] ~ at position 9, in long-hand segment, exponent or empty fraction not supported",
-    "$[?@ == 1.5e3] ~ at position 9, in long-hand segment, exponent or empty fraction not supported",
-    "$[?@ == 0.0000000001] ~ at position 9, in long-hand segment, fraction of more than 9 digits",
-    "$[?@ == 18446744073709551616] ~ at position 9, in long-hand segment, number out of range",
-    "$[?@.a == ] ~ at position 11, in long-hand segment, expected an expression",
-    "$[?(@.a] ~ at position 8, in long-hand segment, expected closing ')'",
-    "$[?true] ~ at position 8, in long-hand segment, expected a comparison operator",
-    "$[?@.* == 1] ~ at position 4, in long-hand segment, non-singular query in a comparison",
-    "$[?first(@.*) == 4] ~ at position 4, in long-hand segment, undefined function",
-    "$[?count() == 1] ~ at position 4, in long-hand segment, wrong number of arguments",
-    "$[?count(1) == 1] ~ at position 10, in long-hand segment, argument of the wrong type",
-    "$[?length(@.author)] ~ at position 4, in long-hand segment, function with incorrect return type used",
+    "x -> at position 1, expected '$'",
+    "$. -> at position 3, in dot member name, must start with a letter, '_' or a non-ASCII character",
+    "$.. -> at position 4, must start with a letter, '_' or a non-ASCII character",
+    "$[ -> at position 3, in long-hand segment, expected a selector",
+    "$['a' -> at position 6, in long-hand segment, expected closing ']'",
+    "$['a -> at position 5, in long-hand segment, expected an ending quote",
+    r#"$["\u -> at position 4, in long-hand segment, bad escape"#,
+    "$['a\t'] -> at position 5, in long-hand segment, control character in a string",
+    "$[9007199254740992] -> at position 3, in long-hand segment, integer out of range",
+    "$.a['b']tail -> at position 9, text after the path",
+    "$[0]. -> at position 6, in dot member name, must start with a letter, '_' or a non-ASCII character",
+    "$[?@.] -> at position 6, in long-hand segment, must start with a letter, '_' or a non-ASCII character",
+    "$[?@ == 1.] -> at position 9, in long-hand segment, exponent or empty fraction not supported",
+    "$[?@ == 1.5e3] -> at position 9, in long-hand segment, exponent or empty fraction not supported",
+    "$[?@ == 0.0000000001] -> at position 9, in long-hand segment, fraction of more than 9 digits",
+    "$[?@ == 18446744073709551616] -> at position 9, in long-hand segment, number out of range",
+    "$[?@.a == ] -> at position 11, in long-hand segment, expected an expression",
+    "$[?(@.a] -> at position 8, in long-hand segment, expected closing ')'",
+    "$[?true] -> at position 8, in long-hand segment, expected a comparison operator",
+    "$[?@.* == 1] -> at position 4, in long-hand segment, non-singular query in a comparison",
+    "$[?first(@.*) == 4] -> at position 4, in long-hand segment, undefined function",
+    "$[?count() == 1] -> at position 4, in long-hand segment, wrong number of arguments",
+    "$[?count(1) == 1] -> at position 10, in long-hand segment, argument of the wrong type",
+    "$[?length(@.author)] -> at position 4, in long-hand segment, function with incorrect return type used",
 ];
 
 /// How two calls refuse a text: alike, by their contracts, but where memory is refused.
@@ -53,23 +52,21 @@ fn refused_twice(alloc: Global, text: &str) -> Option<(ParseError, ParseError)>
     Some((refused, again))
 }
 
-/// Holds a text that is refused to the message.
-fn refuses(rt: &impl Abort, alloc: Global, text: &str, message: &str) -> Result<(), Fail> {
-    let Some((refused, again)) = refused_twice(alloc, text) else {
-        return Err(Fail::new(format_args!("{text:?} is accepted")));
-    };
-    prints(rt, refused.to_string(alloc), message, text)?;
-    prints(rt, again.to_string(alloc), message, text)
+/// The message of a text's refusal, the same of both calls.
+fn message(alloc: Global, text: &str) -> Result<String, Fail> {
+    match refused_twice(alloc, text) {
+        Some((refused, again)) => alike(refused.to_string(alloc)?, again.to_string(alloc)?),
+        None => Err(Fail::new("accepted")),
+    }
 }
 
 #[test]
 fn tells_refusals(rt: HostRuntime) -> Result<(), Fail> {
-    let alloc = rt.alloc();
-    for &row in TOLD {
-        let (text, message) = fields(row)?;
-        refuses(&rt, alloc, text, message)?;
-    }
-    let deep = nested(alloc, PARENTHESES, 128)?;
-    let message = "at position 131, in long-hand segment, nested more than 128 deep";
-    refuses(&rt, alloc, deep.as_str(), message)
+    let mut table = Table::new();
+    table.hold_each(&rt, rt.alloc(), "built-in functions", TOLD, message);
+    let deep = nested(rt.alloc(), PARENTHESES, 128)?;
+    let wanted = "at position 131, in long-hand segment, nested more than 128 deep";
+    let told = message(rt.alloc(), deep.as_str());
+    table.hold(&rt, ("built-in functions", deep.as_str(), wanted), told);
+    table.end()
 }

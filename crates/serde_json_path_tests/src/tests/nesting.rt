@@ -1,11 +1,12 @@
 //! Filters, parentheses and calls within each other (RFC 9535, section 2.3.5.1), of which 128 are taken.
 
 use crate::tests::cuts::cut;
-use crate::tests::long_texts::long;
-use crate::tests::printed::prints_again;
-use crate::tests::rows::{fields, parses};
+use crate::tests::printed::reads_back;
+use crate::tests::rows::parsed;
+use serde_json_path::functions::Builtin;
+use serde_json_path_core_tests::rows::{Table, hold_rows};
+use serde_json_path_core_tests::texts::long;
 use std::alloc::{AllocError, Global};
-use std::process::Abort;
 use std::test::Fail;
 
 /// The beginning, the opening, the middle, the closing and the end of a text, in which opening and closing stand as often.
@@ -52,55 +53,66 @@ const NESTED: &[(Nesting<'static>, usize, &str)] = &[
     (CALLS, 128, "NestedTooDeep 893"),
 ];
 
-/// Holds a text to what its parse answers. Then prints the path and reads it from that text again, or cuts the refused text
-/// at each character.
-fn holds_text(rt: &impl Abort, alloc: Global, text: &str, wanted: &str) -> Result<(), Fail> {
-    parses(rt, alloc, text, wanted)?;
-    match wanted {
-        "accepted" => prints_again(rt, alloc, text),
-        _ => {
-            cut(rt, alloc, text);
-            Ok(())
-        }
+/// What the parse of a text answers. A path reads back, and a refused text is cut at each character.
+fn of_text(alloc: Global, text: &str) -> Result<String, Fail> {
+    let told = parsed(alloc, text)?;
+    if told.as_str() == "accepted" {
+        reads_back(alloc, &Builtin, text)?;
+    } else {
+        cut(alloc, &Builtin, text)?;
     }
+    Ok(told)
+}
+
+/// Holds what comes of each nested text to what is wanted.
+pub(crate) fn hold_nested<F: Fn(Global, &str) -> Result<String, Fail>>(
+    rt: &impl Eprint,
+    alloc: Global,
+    rows: &[(Nesting<'static>, usize, &str)],
+    came: F,
+) -> Result<(), Fail>
+    requires { F.IsAlwaysCallable came }
+{
+    let mut table = Table::new();
+    for &(nesting, times, wanted) in rows {
+        let text = nested(alloc, nesting, times)?;
+        let row = ("built-in functions", text.as_str(), wanted);
+        table.hold(rt, row, came(alloc, text.as_str()));
+    }
+    table.end()
 }
 
 #[test]
 fn nests(rt: HostRuntime) -> Result<(), Fail> {
-    let alloc = rt.alloc();
-    for &(nesting, times, wanted) in NESTED {
-        let text = nested(alloc, nesting, times)?;
-        holds_text(&rt, alloc, text.as_str(), wanted)?;
-    }
-    Ok(())
+    hold_nested(&rt, rt.alloc(), NESTED, of_text)
 }
 
 /// A segment that stands within 126 filters, parentheses and calls in turn, and what the parse of that text answers. Where
 /// the segment nests three times more, the third opening comes after the others.
 const IN_TURN: &[&str] = &[
-    "[?@] ~ accepted",
-    "[?(@)] ~ accepted",
-    "[?!(@)] ~ accepted",
-    "[?count(@) == 1] ~ accepted",
-    "[?@[?@]] ~ accepted",
-    "[?((@))] ~ NestedTooDeep 425",
-    "[?(!(@))] ~ NestedTooDeep 426",
-    "[?(count(@) == 1)] ~ NestedTooDeep 425",
-    "[?(none(@))] ~ NestedTooDeep 425",
-    "[?(@[?@])] ~ NestedTooDeep 427",
-    "[?@[?(@)]] ~ NestedTooDeep 427",
-    "[?@[?@[?@]]] ~ NestedTooDeep 429",
-    "[?count(@[?@]) == 1] ~ NestedTooDeep 432",
+    "[?@] -> accepted",
+    "[?(@)] -> accepted",
+    "[?!(@)] -> accepted",
+    "[?count(@) == 1] -> accepted",
+    "[?@[?@]] -> accepted",
+    "[?((@))] -> NestedTooDeep 425",
+    "[?(!(@))] -> NestedTooDeep 426",
+    "[?(count(@) == 1)] -> NestedTooDeep 425",
+    "[?(none(@))] -> NestedTooDeep 425",
+    "[?(@[?@])] -> NestedTooDeep 427",
+    "[?@[?(@)]] -> NestedTooDeep 427",
+    "[?@[?@[?@]]] -> NestedTooDeep 429",
+    "[?count(@[?@]) == 1] -> NestedTooDeep 432",
 ];
+
+/// What the parse of a text answers, in which the segment stands within the others.
+fn within(alloc: Global, segment: &str) -> Result<String, Fail> {
+    let nesting = ("$", "[?(count(@", segment, ") == 1)]", "");
+    let text = nested(alloc, nesting, 42)?;
+    parsed(alloc, text.as_str())
+}
 
 #[test]
 fn nests_all_in_turn(rt: HostRuntime) -> Result<(), Fail> {
-    let alloc = rt.alloc();
-    for &row in IN_TURN {
-        let (segment, wanted) = fields(row)?;
-        let nesting = ("$", "[?(count(@", segment, ") == 1)]", "");
-        let text = nested(alloc, nesting, 42)?;
-        parses(&rt, alloc, text.as_str(), wanted)?;
-    }
-    Ok(())
+    hold_rows(&rt, rt.alloc(), IN_TURN, within)
 }

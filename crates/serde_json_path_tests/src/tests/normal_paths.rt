@@ -1,19 +1,27 @@
 //! The way back from a location: its normalised path, parsed and queried, gives the node there alone.
 
 use crate::tests::headline::find_again;
-use crate::tests::rows::are_located;
 use serde_json::Value;
 use serde_json_path::functions::Builtin;
 use serde_json_path::{NormalizedPath, PathElement};
+use serde_json_path_core_tests::rows::Table;
+use serde_json_path_core_tests::texts::located;
 use std::test::Fail;
 
 #[test]
 fn finds_the_root_again(rt: HostRuntime) -> Result<(), Fail> {
     let alloc = rt.alloc();
     let root = NormalizedPath::from_steps(Vec::new(alloc));
-    let document = Value::from_str(alloc, r#"[{"a":7}]"#)?;
+    let text = r#"[{"a":7}]"#;
+    let document = Value::from_str(alloc, text)?;
     let nodes = find_again(alloc, &root, &document, &Builtin)?;
-    are_located(&rt, alloc, &nodes, ("$", r#"[{"a":7}]"#), "the root")
+    let mut table = Table::new();
+    table.hold(
+        &rt,
+        (text, "the root", r#"$ ~ [{"a":7}]"#),
+        located(alloc, &nodes),
+    );
+    table.end()
 }
 
 #[test]
@@ -27,5 +35,11 @@ fn finds_an_item_again(rt: HostRuntime) -> Result<(), Fail> {
     steps.push(PathElement::Index(1))?;
     let location = NormalizedPath::from_steps(steps);
     let nodes = find_again(alloc, &location, &document, &Builtin)?;
-    are_located(&rt, alloc, &nodes, ("$[1]", "true"), "the item")
+    let mut table = Table::new();
+    table.hold(
+        &rt,
+        ("[null,true]", "the second item", "$[1] ~ true"),
+        located(alloc, &nodes),
+    );
+    table.end()
 }

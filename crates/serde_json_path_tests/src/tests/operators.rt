@@ -2,17 +2,17 @@
 
 /// A text, and the kind and the position of its refusal: after the operator that is read.
 pub(crate) const OPERATORS: &[&str] = &[
-    "$[?@ <== 1] ~ ExpectedExpression 8",
-    "$[?@ << 1] ~ ExpectedExpression 7",
-    "$[?@ > = 1] ~ ExpectedExpression 8",
-    "$[?@ <é] ~ ExpectedExpression 7",
+    "$[?@ <== 1] -> ExpectedExpression 8",
+    "$[?@ << 1] -> ExpectedExpression 7",
+    "$[?@ > = 1] -> ExpectedExpression 8",
+    "$[?@ <é] -> ExpectedExpression 7",
 ];
 
 /// A text, and the kind and the position of its refusal: where no operator is read.
 pub(crate) const NO_OPERATORS: &[&str] = &[
-    "$[?1 ! ~ ExpectedComparisonOperator 6",
-    "$[?@ => 1] ~ ExpectedClosingBracket 6",
-    "$[?@ = = 1] ~ ExpectedClosingBracket 6",
-    "$[?@ !é= 1] ~ ExpectedClosingBracket 6",
-    "$[?1 a] ~ ExpectedComparisonOperator 6",
+    "$[?1 ! -> ExpectedComparisonOperator 6",
+    "$[?@ => 1] -> ExpectedClosingBracket 6",
+    "$[?@ = = 1] -> ExpectedClosingBracket 6",
+    "$[?@ !é= 1] -> ExpectedClosingBracket 6",
+    "$[?1 a] -> ExpectedComparisonOperator 6",
 ];

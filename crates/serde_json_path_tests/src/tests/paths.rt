@@ -1,36 +1,46 @@
 //! The ways to make a path.
 
-use crate::tests::rows::selects;
+use crate::tests::rows::{queried, told};
 use serde_json_path::JsonPath;
+use serde_json_path_core_tests::rows::{Table, alike, fields};
 use std::alloc::Global;
-use std::process::Abort;
 use std::test::Fail;
-
-/// Holds `from_str` to the refusal of `parse`.
-fn refuses_alike(rt: &impl Abort, alloc: Global, text: &str) {
-    let refusal = JsonPath::parse(alloc, text).err();
-    assert!(rt; refusal.is_some(), "{text:?} is accepted");
-    assert_eq!(rt;
-        JsonPath::from_str(alloc, text).err(),
-        refusal,
-        "of {text:?}"
-    );
-}
 
 #[test]
 fn the_new_path_is_the_root(rt: HostRuntime) -> Result<(), Fail> {
-    let alloc = rt.alloc();
-    let path = JsonPath::new(alloc);
-    selects(&rt, alloc, &path, r#"{"a":[1]}"#, r#"$ ~ {"a":[1]}"#)
+    let row = (r#"{"a":[1]}"#, "the new path", r#"$ ~ {"a":[1]}"#);
+    let path = JsonPath::new(rt.alloc());
+    let mut table = Table::new();
+    table.hold(&rt, row, queried(rt.alloc(), &path, row.0));
+    table.end()
+}
+
+/// A path, a document, and the locations and the values of what the path selects there.
+const SELECTED: &[&str] = &[r#"$.a[-1] ~ {"a":[1,2]} -> $['a'][1] ~ 2"#];
+
+/// What a path selects, where `from_str` reads it.
+fn selected(alloc: Global, given: &str) -> Result<String, Fail> {
+    let (path, document) = fields(given)?;
+    queried(alloc, &JsonPath::from_str(alloc, path)?, document)
+}
+
+/// A text, and the kind and the position of its refusal.
+const REFUSED: &[&str] = &[
+    " -> ExpectedRoot 1",
+    "$. -> BadMemberName 3",
+    "$['a -> ExpectedEndingQuote 5",
+];
+
+/// How `parse` and `from_str` refuse a text alike.
+fn refused(alloc: Global, text: &str) -> Result<String, Fail> {
+    let one = told(alloc, JsonPath::parse(alloc, text))?;
+    alike(one, told(alloc, JsonPath::from_str(alloc, text))?)
 }
 
 #[test]
 fn from_str_reads_as_parse(rt: HostRuntime) -> Result<(), Fail> {
-    let alloc = rt.alloc();
-    let path = JsonPath::from_str(alloc, "$.a[-1]")?;
-    selects(&rt, alloc, &path, r#"{"a":[1,2]}"#, "$['a'][1] ~ 2")?;
-    refuses_alike(&rt, alloc, "");
-    refuses_alike(&rt, alloc, "$.");
-    refuses_alike(&rt, alloc, "$['a");
-    Ok(())
+    let mut table = Table::new();
+    table.hold_each(&rt, rt.alloc(), "built-in functions", SELECTED, selected);
+    table.hold_each(&rt, rt.alloc(), "built-in functions", REFUSED, refused);
+    table.end()
 }

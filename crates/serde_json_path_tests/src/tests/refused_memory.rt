@@ -1,82 +1,62 @@
 //! Calls that are refused a request for memory. `tools/refuse_memory` refuses each request of each of these tests in turn,
 //! and reads how the test ends.
 //!
-//! A call that answers no memory is called again, and then answers as its row says. A test whose name begins with
+//! A call that answers no memory is made again, and then answers as its row says. A test whose name begins with
 //! `takes_none` makes requests only for what it hands in.
 
 ghost use Rattle.serde_json_path_functions.specs.Functions.{Fits};
 ghost use Rattle.serde_json_path_functions.specs.Patterns.{builtin_functions};
 ghost use Rattle.serde_json_path.specs.Paths.{path_signatures};
 
-use crate::tests::long_texts::long;
-use crate::tests::rows::{
-    fields, located_selection, locations, selected, selection, tells, values,
-};
+use crate::tests::rows::{located_nodes, nodes};
 use serde_json::Value;
-use serde_json_path::functions::{
-    Both, Builtin, FunctionArgType, Functions, LogicalType, Signature,
-};
+use serde_json_path::functions::{Builtin, FunctionArgType, Functions, LogicalType, Signature};
 use serde_json_path::{
-    FromJsonError, JsonPath, JsonPathExt, LocatedNode, LocatedNodeList, NodeList, NormalizedPath,
-    ParseError, ParseErrorKind, PathSource, QueryError, TextSource, Walk, law_set_before_itself,
-    parse_source,
+    FromJsonError, JsonPath, JsonPathExt, LocatedNode, LocatedNodeList, NodeList, ParseErrorKind,
+    PathSource, TextSource, law_set_before_itself, parse_source,
 };
+use serde_json_path_core_tests::rows::{fields, hold_answers, hold_rows, holds};
+use serde_json_path_core_tests::texts::{long, of_calls, of_located, of_nodes, of_walk};
 use serde_json_path_nodes::escaped;
 use serde_json_path_syntax::{Checked, SyntaxBuilder};
-use std::alloc::{AllocError, Global};
+use std::alloc::Global;
 use std::process::Abort;
 use std::test::Fail;
 
-/// Holds the answer of a call to what is wanted. Returns whether there is one, which there is not where memory is refused.
-fn is_answered(rt: &impl Abort, answer: Option<String>, wanted: &str) -> bool {
-    match answer {
-        Some(text) => {
-            tells(rt, text.as_str(), wanted, "a call");
-            true
-        }
-        None => false,
-    }
-}
-
-/// Ends a test of which a call was refused and gave the right answer when it was called again.
-fn called_again() -> Result<(), Fail> {
-    Err(Fail::from("no memory, and then the right answer"))
-}
-
-/// A call that reads a path from a text.
+/// A call that reads a path from a text, or that makes a copy or a text of a path.
 #[derive(Clone, Copy)]
-enum Reading {
+enum Call {
     Parse,
     FromStr,
     ParseWith,
     ParseSource,
     FromJson,
+    TryClone,
+    ToText,
+    ToJson,
 }
 
 /// A text, and the text that its path prints, or the refusal.
 const TEXTS: &[&str] = &[
-    "$.foo..baz ~ $.foo..baz",
-    "$.* ~ $.*",
-    "$[?@.a[?@ > $.min]] ~ $[?@.a[?@ > $.min]]",
-    "$.readings[? @.val > $.threshold ].msg ~ $.readings[?@.val > $.threshold].msg",
-    "$.foo['bar'][1:10][?@.baz > 10 && @.foo.bar < 20] ~ $.foo['bar'][1:10][?@.baz > 10 && @.foo.bar < 20]",
-    "$[?first(@.*) == 4] ~ at position 4, in long-hand segment, undefined function",
+    "$.foo..baz -> $.foo..baz",
+    "$.* -> $.*",
+    "$[?@.a[?@ > $.min]] -> $[?@.a[?@ > $.min]]",
+    "$.readings[? @.val > $.threshold ].msg -> $.readings[?@.val > $.threshold].msg",
+    "$.foo['bar'][1:10][?@.baz > 10 && @.foo.bar < 20] -> $.foo['bar'][1:10][?@.baz > 10 && @.foo.bar < 20]",
+    "$[?first(@.*) == 4] -> at position 4, in long-hand segment, undefined function",
 ];
 
-/// A parse that looks at the text no more than the bound says.
-fn parse_looking(rt: &impl Abort, alloc: Global, text: &str) -> Result<JsonPath, ParseError> {
-    let mut source = TextSource::new(text);
-    let answer = parse_source(alloc, &mut source, &Builtin);
-    let bound = 32 * (text.len() as u128 + 1);
-    assert!(rt; source.looks() <= bound, "{} looks", source.looks());
-    answer
-}
+/// A text, and what its path prints.
+const PRINTED: &[&str] = &[
+    "$.foo..baz -> $.foo..baz",
+    "$.* -> $.*",
+    "$[?@.a[?@ > $.min]] -> $[?@.a[?@ > $.min]]",
+    "$.readings[?@.val > $.threshold].msg -> $.readings[?@.val > $.threshold].msg",
+    "$.foo['bar'][1:10][?@.baz > 10 && @.foo.bar < 20] -> $.foo['bar'][1:10][?@.baz > 10 && @.foo.bar < 20]",
+];
 
 /// The text of what is read, or nothing where memory is refused.
-fn told(
-    alloc: Global,
-    answer: Result<JsonPath, FromJsonError>,
-) -> Result<Option<String>, AllocError> {
+fn told(alloc: Global, answer: Result<JsonPath, FromJsonError>) -> Result<Option<String>, Fail> {
     match answer {
         Ok(path) => Ok(Some(path.to_text(alloc)?)),
         Err(FromJsonError::Path(e)) if e.kind() == ParseErrorKind::NoMemory => Ok(None),
@@ -84,152 +64,102 @@ fn told(
     }
 }
 
-/// What a call reads from a text, as [`told`] gives it.
-fn read(
-    rt: &impl Abort,
-    alloc: Global,
-    reading: Reading,
-    text: &str,
-) -> Result<Option<String>, AllocError> {
-    let answer = match reading {
-        Reading::Parse => JsonPath::parse(alloc, text),
-        Reading::FromStr => JsonPath::from_str(alloc, text),
-        Reading::ParseWith => JsonPath::parse_with(alloc, text, &Builtin),
-        Reading::ParseSource => parse_looking(rt, alloc, text),
-        Reading::FromJson => {
-            let value = Value::String(String::from_str(alloc, text)?);
-            return told(alloc, JsonPath::from_json(alloc, &value));
-        }
-    };
+/// What is read from a JSON string, as [`told`] gives it.
+fn from_json_string(alloc: Global, text: &str) -> Result<Option<String>, Fail> {
+    let value = Value::String(String::from_str(alloc, text)?);
+    told(alloc, JsonPath::from_json(alloc, &value))
+}
+
+/// What is read from a source, as [`told`] gives it. Fails where it looks at the source more often than the bound says.
+fn from_source(alloc: Global, text: &str) -> Result<Option<String>, Fail> {
+    let mut source = TextSource::new(text);
+    let answer = parse_source(alloc, &mut source, &Builtin);
+    holds(
+        source.looks() <= 32 * (text.len() as u128 + 1),
+        "too many looks",
+    )?;
     told(alloc, answer.map_err(FromJsonError::Path))
 }
 
-/// Holds the text of a row to what a call reads from it. Returns whether the call was refused and made again.
-fn reads(rt: &impl Abort, alloc: Global, reading: Reading, row: &str) -> Result<bool, Fail> {
-    let (text, wanted) = fields(row)?;
-    if is_answered(rt, read(rt, alloc, reading, text)?, wanted) {
-        return Ok(false);
-    }
-    assert!(rt; is_answered(rt, read(rt, alloc, reading, text)?, wanted));
-    Ok(true)
-}
-
-/// Holds each text to what a call reads from it.
-fn reads_each(rt: &impl Abort, alloc: Global, reading: Reading) -> Result<(), Fail> {
-    for &row in TEXTS {
-        if reads(rt, alloc, reading, row)? {
-            return called_again();
-        }
-    }
-    Ok(())
-}
-
-#[test]
-fn parse(rt: HostRuntime) -> Result<(), Fail> {
-    reads_each(&rt, rt.alloc(), Reading::Parse)
-}
-
-#[test]
-fn from_str(rt: HostRuntime) -> Result<(), Fail> {
-    reads_each(&rt, rt.alloc(), Reading::FromStr)
-}
-
-#[test]
-fn parse_with(rt: HostRuntime) -> Result<(), Fail> {
-    reads_each(&rt, rt.alloc(), Reading::ParseWith)
-}
-
-#[test]
-fn parses_a_source(rt: HostRuntime) -> Result<(), Fail> {
-    reads_each(&rt, rt.alloc(), Reading::ParseSource)
-}
-
-#[test]
-fn from_json(rt: HostRuntime) -> Result<(), Fail> {
-    reads_each(&rt, rt.alloc(), Reading::FromJson)
-}
-
-/// A call that makes a copy or a text of a path.
-#[derive(Clone, Copy)]
-enum Writing {
-    TryClone,
-    ToText,
-    ToJson,
-}
-
-/// Texts that paths print.
-const PRINTED: &[&str] = &[
-    "$.foo..baz",
-    "$.*",
-    "$[?@.a[?@ > $.min]]",
-    "$.readings[?@.val > $.threshold].msg",
-    "$.foo['bar'][1:10][?@.baz > 10 && @.foo.bar < 20]",
-];
-
 /// The text of a copy, which is equal to its path and fits the same set.
-fn copied(
-    rt: &impl Abort,
-    alloc: Global,
-    path: &JsonPath,
-    copy: &JsonPath,
-) -> Result<Option<String>, AllocError> {
-    assert!(rt; copy == path && copy.fits(&Builtin));
+fn copied(alloc: Global, path: &JsonPath, copy: &JsonPath) -> Result<Option<String>, Fail> {
+    holds(copy == path && copy.fits(&Builtin), "another path")?;
     Ok(Some(copy.to_text(alloc)?))
 }
 
+/// The text of what a call reads or makes of a text, or nothing where memory is refused.
+fn called(alloc: Global, call: Call, text: &str) -> Result<Option<String>, Fail> {
+    let answer = match call {
+        Call::ParseSource => return from_source(alloc, text),
+        Call::FromJson => return from_json_string(alloc, text),
+        Call::FromStr => JsonPath::from_str(alloc, text),
+        Call::ParseWith => JsonPath::parse_with(alloc, text, &Builtin),
+        _ => JsonPath::parse(alloc, text),
+    };
+    match call {
+        Call::TryClone | Call::ToText | Call::ToJson => written(alloc, call, &answer?),
+        _ => told(alloc, answer.map_err(FromJsonError::Path)),
+    }
+}
+
 /// The text that a call makes of a path, or nothing where memory is refused.
-fn written(
-    rt: &impl Abort,
-    alloc: Global,
-    writing: Writing,
-    path: &JsonPath,
-) -> Result<Option<String>, AllocError> {
-    match writing {
-        Writing::TryClone => match path.try_clone(alloc) {
-            Ok(copy) => copied(rt, alloc, path, &copy),
+fn written(alloc: Global, call: Call, path: &JsonPath) -> Result<Option<String>, Fail> {
+    match call {
+        Call::TryClone => match path.try_clone(alloc) {
+            Ok(copy) => copied(alloc, path, &copy),
             Err(_) => Ok(None),
         },
-        Writing::ToText => Ok(path.to_text(alloc).ok()),
-        Writing::ToJson => match path.to_json(alloc) {
+        Call::ToText => Ok(path.to_text(alloc).ok()),
+        _ => match path.to_json(alloc) {
             Ok(Value::String(text)) => Ok(Some(text)),
             _ => Ok(None),
         },
     }
 }
 
-/// Holds the path of a text to the text that a call makes of it. Returns whether the call was refused and made again.
-fn writes(rt: &impl Abort, alloc: Global, writing: Writing, text: &str) -> Result<bool, Fail> {
-    let path = JsonPath::parse(alloc, text)?;
-    if is_answered(rt, written(rt, alloc, writing, &path)?, text) {
-        return Ok(false);
-    }
-    assert!(rt; is_answered(rt, written(rt, alloc, writing, &path)?, text));
-    Ok(true)
+/// Holds each row to the text of what a call reads or makes.
+fn hold_texts(rt: &impl Eprint, alloc: Global, call: Call, rows: &[&str]) -> Result<(), Fail> {
+    hold_answers(rt, alloc, rows, |alloc, text| called(alloc, call, text))
 }
 
-/// Holds each printed path to the text that a call makes of it.
-fn writes_each(rt: &impl Abort, alloc: Global, writing: Writing) -> Result<(), Fail> {
-    for &text in PRINTED {
-        if writes(rt, alloc, writing, text)? {
-            return called_again();
-        }
-    }
-    Ok(())
+#[test]
+fn parse(rt: HostRuntime) -> Result<(), Fail> {
+    hold_texts(&rt, rt.alloc(), Call::Parse, TEXTS)
+}
+
+#[test]
+fn from_str(rt: HostRuntime) -> Result<(), Fail> {
+    hold_texts(&rt, rt.alloc(), Call::FromStr, TEXTS)
+}
+
+#[test]
+fn parse_with(rt: HostRuntime) -> Result<(), Fail> {
+    hold_texts(&rt, rt.alloc(), Call::ParseWith, TEXTS)
+}
+
+#[test]
+fn parses_a_source(rt: HostRuntime) -> Result<(), Fail> {
+    hold_texts(&rt, rt.alloc(), Call::ParseSource, TEXTS)
+}
+
+#[test]
+fn from_json(rt: HostRuntime) -> Result<(), Fail> {
+    hold_texts(&rt, rt.alloc(), Call::FromJson, TEXTS)
 }
 
 #[test]
 fn try_clone(rt: HostRuntime) -> Result<(), Fail> {
-    writes_each(&rt, rt.alloc(), Writing::TryClone)
+    hold_texts(&rt, rt.alloc(), Call::TryClone, PRINTED)
 }
 
 #[test]
 fn to_text(rt: HostRuntime) -> Result<(), Fail> {
-    writes_each(&rt, rt.alloc(), Writing::ToText)
+    hold_texts(&rt, rt.alloc(), Call::ToText, PRINTED)
 }
 
 #[test]
 fn to_json(rt: HostRuntime) -> Result<(), Fail> {
-    writes_each(&rt, rt.alloc(), Writing::ToJson)
+    hold_texts(&rt, rt.alloc(), Call::ToJson, PRINTED)
 }
 
 /// A call that gives the nodes of a path, as values or with their locations.
@@ -243,68 +173,23 @@ enum Querying {
     Walk,
 }
 
-/// A path, a document, and the locations and the values of what the path selects there.
-const ROWS: &[&str] = &[
-    r#"$.foo..baz ~ {"foo":{"bar":{"baz":1},"baz":2},"baz":3} ~ $['foo']['baz'] $['foo']['bar']['baz'] ~ 2 1"#,
-    r#"$.* ~ {"a'b\\\u000b":1} ~ $['a\'b\\\u000b'] ~ 1"#,
-    r#"$[?@.a[?@ > $.min]] ~ {"min":3,"x":{"a":[1,5]},"y":{"a":[2]}} ~ $['x'] ~ {"a":[1,5]}"#,
-    r#"$.readings[? @.val > $.threshold ].msg ~ {"threshold":40,"readings":[{"val":35,"msg":"foo"},{"val":40,"msg":"bar"},{"val":42,"msg":"biz"},{"val":48,"msg":"bop"}]} ~ $['readings'][2]['msg'] $['readings'][3]['msg'] ~ "biz" "bop""#,
-    "$.foo['bar'][1:10][?@.baz > 10 && @.foo.bar < 20] ~ null ~ nothing",
+/// A path, a document, and the locations of what the path selects there.
+const LOCATIONS: &[&str] = &[
+    r#"$.foo..baz ~ {"foo":{"bar":{"baz":1},"baz":2},"baz":3} -> $['foo']['baz'] $['foo']['bar']['baz']"#,
+    r#"$.* ~ {"a'b\\\u000b":1} -> $['a\'b\\\u000b']"#,
+    r#"$[?@.a[?@ > $.min]] ~ {"min":3,"x":{"a":[1,5]},"y":{"a":[2]}} -> $['x']"#,
+    r#"$.readings[? @.val > $.threshold ].msg ~ {"threshold":40,"readings":[{"val":35,"msg":"foo"},{"val":40,"msg":"bar"},{"val":42,"msg":"biz"},{"val":48,"msg":"bop"}]} -> $['readings'][2]['msg'] $['readings'][3]['msg']"#,
+    "$.foo['bar'][1:10][?@.baz > 10 && @.foo.bar < 20] ~ null -> ",
 ];
 
-/// A row's path, its document, and the locations and the values.
-fn cells(row: &str) -> Result<(&str, &str, (&str, &str)), Fail> {
-    let (text, rest) = fields(row)?;
-    let (document, end) = fields(rest)?;
-    Ok((text, document, selected(end)?))
-}
-
-/// The values that a query gives, or nothing where memory is refused.
-fn of_nodes(
-    alloc: Global,
-    answer: Result<NodeList<'_>, QueryError>,
-) -> Result<Option<String>, Fail> {
-    match answer {
-        Err(QueryError::Memory) => Ok(None),
-        answer => Ok(Some(values(alloc, answer?.iter())?)),
-    }
-}
-
-/// The locations that a query gives, or nothing where memory is refused.
-fn of_located(
-    alloc: Global,
-    answer: Result<LocatedNodeList<'_>, QueryError>,
-) -> Result<Option<String>, Fail> {
-    match answer {
-        Err(QueryError::Memory) => Ok(None),
-        answer => Ok(Some(locations(alloc, &answer?)?)),
-    }
-}
-
-/// Appends the location of a node, after a space where it is not the first.
-fn push_location(text: &mut String, node: Option<LocatedNode<'_>>) -> Result<(), Fail> {
-    if let Some(node) = node {
-        let before = if text.is_empty() { "" } else { " " };
-        write!(text, "{before}{}", node.location())?;
-    }
-    Ok(())
-}
-
-/// The locations that a walk of three nodes at most gives, or nothing where memory is refused at its beginning.
-fn of_walk<F: Functions>(
-    alloc: Global,
-    answer: Result<Walk<'_, '_, Both<&F, Builtin>>, QueryError>,
-) -> Result<Option<String>, Fail> {
-    let mut walk = match answer {
-        Err(QueryError::Memory) => return Ok(None),
-        answer => answer?,
-    };
-    let mut text = String::new(alloc);
-    for _ in 0..4 {
-        push_location(&mut text, walk.next()?)?;
-    }
-    Ok(Some(text))
-}
+/// A path, a document, and the values of what the path selects there.
+const VALUES: &[&str] = &[
+    r#"$.foo..baz ~ {"foo":{"bar":{"baz":1},"baz":2},"baz":3} -> 2 1"#,
+    r#"$.* ~ {"a'b\\\u000b":1} -> 1"#,
+    r#"$[?@.a[?@ > $.min]] ~ {"min":3,"x":{"a":[1,5]},"y":{"a":[2]}} -> {"a":[1,5]}"#,
+    r#"$.readings[? @.val > $.threshold ].msg ~ {"threshold":40,"readings":[{"val":35,"msg":"foo"},{"val":40,"msg":"bar"},{"val":42,"msg":"biz"},{"val":48,"msg":"bop"}]} -> "biz" "bop""#,
+    "$.foo['bar'][1:10][?@.baz > 10 && @.foo.bar < 20] ~ null -> ",
+];
 
 /// What a query gives, as values or as locations, or nothing where memory is refused.
 fn queried(
@@ -328,169 +213,90 @@ fn queried(
     }
 }
 
-/// Whether a query gives locations.
-fn is_located(query: Querying) -> bool {
-    match query {
-        Querying::Query | Querying::QueryWith | Querying::JsonPath => false,
-        Querying::QueryLocated | Querying::QueryLocatedWith | Querying::Walk => true,
-    }
+/// What a query by a path gives of a document, as [`queried`] does.
+fn of_query(alloc: Global, query: Querying, row: &str) -> Result<Option<String>, Fail> {
+    let (path, document) = fields(row)?;
+    let path = JsonPath::parse(alloc, path)?;
+    queried(alloc, query, &path, &Value::from_str(alloc, document)?)
 }
 
-/// Holds a query to what it selects. Returns whether it was refused and made again.
-fn selects(
-    rt: &impl Abort,
+/// Holds each row to what a query gives.
+fn hold_queries(
+    rt: &impl Eprint,
     alloc: Global,
     query: Querying,
-    path: &JsonPath,
-    document: &Value,
-    wanted: &str,
-) -> Result<bool, Fail>
-    requires { Fits builtin_functions (path_signatures path.now) }
-{
-    if is_answered(rt, queried(alloc, query, path, document)?, wanted) {
-        return Ok(false);
-    }
-    assert!(rt; is_answered(rt, queried(alloc, query, path, document)?, wanted));
-    Ok(true)
-}
-
-/// Holds a query by the path of a row to what it selects, as [`selects`] does.
-fn queries(rt: &impl Abort, alloc: Global, query: Querying, row: &str) -> Result<bool, Fail> {
-    let (text, document, (places, items)) = cells(row)?;
-    let wanted = if is_located(query) { places } else { items };
-    let path = JsonPath::parse(alloc, text)?;
-    let document = Value::from_str(alloc, document)?;
-    selects(rt, alloc, query, &path, &document, wanted)
-}
-
-/// Holds a query by the path of each row to what it selects.
-fn queries_each(rt: &impl Abort, alloc: Global, query: Querying) -> Result<(), Fail> {
-    for &row in ROWS {
-        if queries(rt, alloc, query, row)? {
-            return called_again();
-        }
-    }
-    Ok(())
-}
-
-#[test]
-fn query(rt: HostRuntime) -> Result<(), Fail> {
-    queries_each(&rt, rt.alloc(), Querying::Query)
-}
-
-#[test]
-fn query_with(rt: HostRuntime) -> Result<(), Fail> {
-    queries_each(&rt, rt.alloc(), Querying::QueryWith)
-}
-
-#[test]
-fn json_path(rt: HostRuntime) -> Result<(), Fail> {
-    queries_each(&rt, rt.alloc(), Querying::JsonPath)
-}
-
-#[test]
-fn query_located(rt: HostRuntime) -> Result<(), Fail> {
-    queries_each(&rt, rt.alloc(), Querying::QueryLocated)
-}
-
-#[test]
-fn query_located_with(rt: HostRuntime) -> Result<(), Fail> {
-    queries_each(&rt, rt.alloc(), Querying::QueryLocatedWith)
-}
-
-#[test]
-fn walk(rt: HostRuntime) -> Result<(), Fail> {
-    queries_each(&rt, rt.alloc(), Querying::Walk)
-}
-
-/// The next node of a walk, which goes on where it is refused, and whether it was.
-fn next_node<'b, F: Functions>(
-    walk: &mut Walk<'_, 'b, Both<&F, Builtin>>,
-) -> Result<(Option<LocatedNode<'b>>, bool), QueryError> {
-    match walk.next() {
-        Err(QueryError::Memory) => Ok((walk.next()?, true)),
-        answer => Ok((answer?, false)),
-    }
-}
-
-/// Holds a walk, of three nodes at most, to its locations up to the first `None`. Returns whether a call was refused.
-fn goes_on<F: Functions>(
-    rt: &impl Abort,
-    alloc: Global,
-    walk: &mut Walk<'_, '_, Both<&F, Builtin>>,
-    places: &str,
-) -> Result<bool, Fail> {
-    let mut was_refused = false;
-    let mut text = String::new(alloc);
-    for _ in 0..4 {
-        let (node, is_refused) = next_node(walk)?;
-        was_refused = was_refused || is_refused;
-        if node.is_none() {
-            break;
-        }
-        push_location(&mut text, node)?;
-    }
-    tells(rt, text.as_str(), places, "a walk");
-    Ok(was_refused)
-}
-
-/// Holds a walk by the path of a row to its locations. Returns whether a call was refused.
-fn walks(rt: &impl Abort, alloc: Global, row: &str) -> Result<bool, Fail> {
-    let (text, document, (places, _)) = cells(row)?;
-    let path = JsonPath::parse_with(alloc, text, &Builtin)?;
-    let document = Value::from_str(alloc, document)?;
-    goes_on(
+    rows: &[&str],
+) -> Result<(), Fail> {
+    hold_answers(
         rt,
         alloc,
-        &mut path.walk(alloc, &document, &Builtin)?,
-        places,
+        rows,
+        |alloc, given| of_query(alloc, query, given),
     )
 }
 
 #[test]
+fn query(rt: HostRuntime) -> Result<(), Fail> {
+    hold_queries(&rt, rt.alloc(), Querying::Query, VALUES)
+}
+
+#[test]
+fn query_with(rt: HostRuntime) -> Result<(), Fail> {
+    hold_queries(&rt, rt.alloc(), Querying::QueryWith, VALUES)
+}
+
+#[test]
+fn json_path(rt: HostRuntime) -> Result<(), Fail> {
+    hold_queries(&rt, rt.alloc(), Querying::JsonPath, VALUES)
+}
+
+#[test]
+fn query_located(rt: HostRuntime) -> Result<(), Fail> {
+    hold_queries(&rt, rt.alloc(), Querying::QueryLocated, LOCATIONS)
+}
+
+#[test]
+fn query_located_with(rt: HostRuntime) -> Result<(), Fail> {
+    hold_queries(&rt, rt.alloc(), Querying::QueryLocatedWith, LOCATIONS)
+}
+
+#[test]
+fn walk(rt: HostRuntime) -> Result<(), Fail> {
+    hold_queries(&rt, rt.alloc(), Querying::Walk, LOCATIONS)
+}
+
+/// The locations that a walk gives, of which a call that is refused is made again.
+fn of_next(alloc: Global, row: &str) -> Result<String, Fail> {
+    let (path, document) = fields(row)?;
+    let path = JsonPath::parse_with(alloc, path, &Builtin)?;
+    let document = Value::from_str(alloc, document)?;
+    of_calls(alloc, &mut path.walk(alloc, &document, &Builtin)?)
+}
+
+#[test]
 fn next(rt: HostRuntime) -> Result<(), Fail> {
-    for &row in ROWS {
-        if walks(&rt, rt.alloc(), row)? {
-            return called_again();
-        }
-    }
-    Ok(())
+    hold_rows(&rt, rt.alloc(), LOCATIONS, of_next)
 }
 
 /// A path, a document, and the pointer of the one node that the path selects there.
 const POINTED: &[&str] = &[
-    r#"$.foo.bar.baz ~ {"foo":{"bar":{"baz":1},"baz":2},"baz":3} ~ /foo/bar/baz"#,
-    "$.* ~ {\"a'b\\\\\\u000b\":1} ~ /a'b\\\u{b}",
-    r#"$[?@.a[?@ > $.min]] ~ {"min":3,"x":{"a":[1,5]},"y":{"a":[2]}} ~ /x"#,
-    r#"$[0] ~ [0] ~ /0"#,
+    r#"$.foo.bar.baz ~ {"foo":{"bar":{"baz":1},"baz":2},"baz":3} -> /foo/bar/baz"#,
+    "$.* ~ {\"a'b\\\\\\u000b\":1} -> /a'b\\\u{b}",
+    r#"$[?@.a[?@ > $.min]] ~ {"min":3,"x":{"a":[1,5]},"y":{"a":[2]}} -> /x"#,
+    r#"$[0] ~ [0] -> /0"#,
 ];
 
-/// Holds the pointer of a location to its text. Returns whether the call was refused and made again.
-fn points(rt: &impl Abort, alloc: Global, location: &NormalizedPath<'_>, wanted: &str) -> bool {
-    if is_answered(rt, location.to_json_pointer(alloc).ok(), wanted) {
-        return false;
-    }
-    assert!(rt; is_answered(rt, location.to_json_pointer(alloc).ok(), wanted));
-    true
-}
-
-/// Holds the location that the path of a row selects to its pointer, as [`points`] does.
-fn points_at(rt: &impl Abort, alloc: Global, row: &str) -> Result<bool, Fail> {
-    let (text, rest) = fields(row)?;
-    let (document, wanted) = fields(rest)?;
+/// The pointer of the one node that a path selects from a document, or nothing where memory is refused.
+fn pointed(alloc: Global, row: &str) -> Result<Option<String>, Fail> {
+    let (path, document) = fields(row)?;
     let document = Value::from_str(alloc, document)?;
-    let node = located_selection(alloc, text, &document)?.exactly_one()?;
-    Ok(points(rt, alloc, node.location(), wanted))
+    let node = located_nodes(alloc, path, &document)?.exactly_one()?;
+    Ok(node.location().to_json_pointer(alloc).ok())
 }
 
 #[test]
 fn to_json_pointer(rt: HostRuntime) -> Result<(), Fail> {
-    for &row in POINTED {
-        if points_at(&rt, rt.alloc(), row)? {
-            return called_again();
-        }
-    }
-    Ok(())
+    hold_answers(&rt, rt.alloc(), POINTED, pointed)
 }
 
 /// Texts without a root.
@@ -565,7 +371,7 @@ fn two_texts(alloc: Global) -> Result<Value, Fail> {
 #[test]
 fn takes_none_of_nodes(rt: HostRuntime) -> Result<(), Fail> {
     let document = two_texts(rt.alloc())?;
-    let nodes = selection(rt.alloc(), "$[1,0,1,0]", &document)?;
+    let nodes = nodes(rt.alloc(), "$[1,0,1,0]", &document)?;
     asks_nodes(&rt, &nodes);
     assert_eq!(rt; nodes.all().len(), 4);
     Ok(())
@@ -574,10 +380,10 @@ fn takes_none_of_nodes(rt: HostRuntime) -> Result<(), Fail> {
 #[test]
 fn takes_none_of_located_nodes(rt: HostRuntime) -> Result<(), Fail> {
     let document = two_texts(rt.alloc())?;
-    let nodes = located_selection(rt.alloc(), "$[1,0,1,0]", &document)?;
+    let nodes = located_nodes(rt.alloc(), "$[1,0,1,0]", &document)?;
     asks_located(&rt, &nodes);
     assert!(rt; nodes.at_most_one().is_err());
-    let nodes = located_selection(rt.alloc(), "$[1,0,1,0]", &document)?;
+    let nodes = located_nodes(rt.alloc(), "$[1,0,1,0]", &document)?;
     assert_eq!(rt; nodes.all().len(), 4);
     Ok(())
 }
@@ -585,7 +391,7 @@ fn takes_none_of_located_nodes(rt: HostRuntime) -> Result<(), Fail> {
 #[test]
 fn takes_none_of_nodes_once(rt: HostRuntime) -> Result<(), Fail> {
     let document = two_texts(rt.alloc())?;
-    let nodes = located_selection(rt.alloc(), "$[1,0,1,0]", &document)?.dedup();
+    let nodes = located_nodes(rt.alloc(), "$[1,0,1,0]", &document)?.dedup();
     assert!(rt; nodes.len() == 2 && nodes.exactly_one().is_err());
     Ok(())
 }

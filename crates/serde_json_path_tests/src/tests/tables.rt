@@ -1,82 +1,71 @@
-//! The tables of rows, and what is held of each row.
+//! The tables of rows, and what comes of their rows.
 
 use crate::tests::cuts::cut;
-use crate::tests::printed::prints_again;
-use crate::tests::rows::{fields, parses, selects};
+use crate::tests::printed::reads_back;
+use crate::tests::rows::{selected, told};
 use crate::tests::{
     blanks, bookstore, calls, comparisons, descendants, filter_refusals, filters, literals, names,
     numbers, operators, refusals, slices, strings, words,
 };
 use serde_json_path::JsonPath;
+use serde_json_path::functions::{Builtin, Functions};
+use serde_json_path_core_tests::rows::{Table, fields};
+use serde_json_path_core_tests::texts::BOOKSTORE;
 use std::alloc::Global;
-use std::process::Abort;
 use std::test::Fail;
 
-/// Holds a path to what a row says that it selects from the document. Then cuts the path's text at each character, prints
-/// the path, and reads it from that text again.
-fn holds_path(
-    rt: &impl Abort,
+/// What a path selects from a document under a set. The path's text is cut at each character, and what it prints reads back.
+pub(crate) fn of_path<F: Functions>(
     alloc: Global,
+    functions: &F,
+    path: &str,
+    document: &str,
+) -> Result<String, Fail> {
+    cut(alloc, functions, path)?;
+    reads_back(alloc, functions, path)?;
+    selected(alloc, functions, path, document)
+}
+
+/// What a path selects from a document, the two fields of a row, as [`of_path`] gives it.
+pub(crate) fn of_path_and_document<F: Functions>(
+    alloc: Global,
+    functions: &F,
+    given: &str,
+) -> Result<String, Fail> {
+    let (path, document) = fields(given)?;
+    of_path(alloc, functions, path, document)
+}
+
+/// What the parse of a text answers under a set. The text is cut at each character.
+pub(crate) fn of_refusal<F: Functions>(
+    alloc: Global,
+    functions: &F,
     text: &str,
-    document: &str,
-    end: &str,
-) -> Result<(), Fail> {
-    cut(rt, alloc, text);
-    prints_again(rt, alloc, text)?;
-    let path = JsonPath::parse(alloc, text)?;
-    selects(rt, alloc, &path, document, end)
+) -> Result<String, Fail> {
+    cut(alloc, functions, text)?;
+    told(alloc, JsonPath::parse_with(alloc, text, functions))
 }
 
-/// Holds the path of each row, which has a path, a document, and the locations and the values of what the path selects
-/// there.
-fn holds_each(rt: &impl Abort, alloc: Global, rows: &[&str]) -> Result<(), Fail> {
-    for &row in rows {
-        let (text, rest) = fields(row)?;
-        let (document, end) = fields(rest)?;
-        holds_path(rt, alloc, text, document, end)?;
-    }
-    Ok(())
-}
-
-/// Holds the path of each row of each table, as [`holds_each`] says.
-fn holds_all(rt: &impl Abort, alloc: Global, tables: &[&[&str]]) -> Result<(), Fail> {
+/// Holds the paths of each table, as [`of_path_and_document`] gives what they select.
+fn hold_paths(rt: &impl Eprint, alloc: Global, tables: &[&[&str]]) -> Result<(), Fail> {
+    let mut table = Table::new();
     for &rows in tables {
-        holds_each(rt, alloc, rows)?;
+        table.hold_each(rt, alloc, "built-in functions", rows, |alloc, given| {
+            of_path_and_document(alloc, &Builtin, given)
+        });
     }
-    Ok(())
+    table.end()
 }
 
-/// Holds the path of each row, which has a path, and the locations and the values of what it selects from the document.
-fn holds_each_of(
-    rt: &impl Abort,
-    alloc: Global,
-    document: &str,
-    rows: &[&str],
-) -> Result<(), Fail> {
-    for &row in rows {
-        let (text, end) = fields(row)?;
-        holds_path(rt, alloc, text, document, end)?;
-    }
-    Ok(())
-}
-
-/// Holds the text of each row, which has a text, and the kind and the position of its refusal. Then cuts the text at each
-/// character.
-fn refuses_each(rt: &impl Abort, alloc: Global, rows: &[&str]) -> Result<(), Fail> {
-    for &row in rows {
-        let (text, refusal) = fields(row)?;
-        parses(rt, alloc, text, refusal)?;
-        cut(rt, alloc, text);
-    }
-    Ok(())
-}
-
-/// Holds the text of each row of each table, as [`refuses_each`] says.
-fn refuses_all(rt: &impl Abort, alloc: Global, tables: &[&[&str]]) -> Result<(), Fail> {
+/// Holds the texts of each table, as [`of_refusal`] gives how they are refused.
+fn hold_refusals(rt: &impl Eprint, alloc: Global, tables: &[&[&str]]) -> Result<(), Fail> {
+    let mut table = Table::new();
     for &rows in tables {
-        refuses_each(rt, alloc, rows)?;
+        table.hold_each(rt, alloc, "built-in functions", rows, |alloc, text| {
+            of_refusal(alloc, &Builtin, text)
+        });
     }
-    Ok(())
+    table.end()
 }
 
 /// The tables of names, indexes, wildcards, slices and descendants.
@@ -92,7 +81,7 @@ const SELECTORS: &[&[&str]] = &[
 
 #[test]
 fn selects_by_names_and_indexes(rt: HostRuntime) -> Result<(), Fail> {
-    holds_all(&rt, rt.alloc(), SELECTORS)
+    hold_paths(&rt, rt.alloc(), SELECTORS)
 }
 
 /// The tables of filters.
@@ -106,7 +95,7 @@ const FILTERS: &[&[&str]] = &[
 
 #[test]
 fn selects_by_filters(rt: HostRuntime) -> Result<(), Fail> {
-    holds_all(&rt, rt.alloc(), FILTERS)
+    hold_paths(&rt, rt.alloc(), FILTERS)
 }
 
 /// The tables of literals.
@@ -120,12 +109,12 @@ const LITERALS: &[&[&str]] = &[
 
 #[test]
 fn selects_by_literals(rt: HostRuntime) -> Result<(), Fail> {
-    holds_all(&rt, rt.alloc(), LITERALS)
+    hold_paths(&rt, rt.alloc(), LITERALS)
 }
 
 /// A document, and the table of its paths.
 const DOCUMENTS: &[(&str, &[&str])] = &[
-    (bookstore::BOOKSTORE, bookstore::BOOKS),
+    (BOOKSTORE, bookstore::BOOKS),
     (filters::EXAMPLE, filters::EXAMPLES),
     (filters::ITEMS, filters::OF_ITEMS),
     (filters::MEMBERS, filters::OF_MEMBERS),
@@ -137,10 +126,13 @@ const DOCUMENTS: &[(&str, &[&str])] = &[
 
 #[test]
 fn selects_from_documents(rt: HostRuntime) -> Result<(), Fail> {
+    let mut table = Table::new();
     for &(document, rows) in DOCUMENTS {
-        holds_each_of(&rt, rt.alloc(), document, rows)?;
+        table.hold_each(&rt, rt.alloc(), document, rows, |alloc, path| {
+            of_path(alloc, &Builtin, path, document)
+        });
     }
-    Ok(())
+    table.end()
 }
 
 /// The tables of texts that are refused outside filters.
@@ -159,7 +151,7 @@ const REFUSALS: &[&[&str]] = &[
 
 #[test]
 fn refuses_texts(rt: HostRuntime) -> Result<(), Fail> {
-    refuses_all(&rt, rt.alloc(), REFUSALS)
+    hold_refusals(&rt, rt.alloc(), REFUSALS)
 }
 
 /// The tables of texts that are refused in filters.
@@ -173,5 +165,5 @@ const FILTER_REFUSALS: &[&[&str]] = &[
 
 #[test]
 fn refuses_texts_of_filters(rt: HostRuntime) -> Result<(), Fail> {
-    refuses_all(&rt, rt.alloc(), FILTER_REFUSALS)
+    hold_refusals(&rt, rt.alloc(), FILTER_REFUSALS)
 }

@@ -1,77 +1,87 @@
 //! Walks, one node at a time.
 
-use crate::tests::rows::gives;
+use crate::tests::sets::Own;
 use serde_json::Value;
 use serde_json_path::functions::{Both, Builtin, Functions};
-use serde_json_path::{JsonPath, QueryError, Walk};
+use serde_json_path::{JsonPath, PathElement, QueryError, Walk};
+use serde_json_path_core_tests::rows::{Table, fields, hold_rows};
 use std::alloc::Global;
 use std::process::Abort;
 use std::test::Fail;
 
-/// The location of the next node that the walk gives, or an empty text for none.
-fn next_location<F: Functions>(
+/// What a walk answers to so many calls: locations, `none` for none, and how many of the calls are refused memory.
+fn walked<F: Functions>(
     alloc: Global,
     walk: &mut Walk<'_, '_, Both<&F, Builtin>>,
+    calls: u32,
 ) -> Result<String, Fail> {
-    match walk.next()? {
-        Some(node) => Ok(format!(in alloc; "{}", node.location())?),
-        None => Ok(String::new(alloc)),
+    let mut text = String::new(alloc);
+    let mut refused = 0_u32;
+    for _ in 0..calls {
+        match walk.next() {
+            Ok(Some(node)) => write!(text, "{}, ", node.location())?,
+            Ok(None) => text.push_str("none, ")?,
+            Err(QueryError::Memory) => refused = refused.saturating_add(1),
+            Err(e) => return Err(Fail::from(e)),
+        }
     }
+    write!(text, "{refused} refused")?;
+    Ok(text)
 }
 
-/// The walk gives nodes at these locations, one after the other, with an empty text for none.
-pub(crate) fn gives_each<F: Functions>(
-    rt: &impl Abort,
+/// What the walk of a path over a document answers to so many calls, as [`walked`] gives it.
+pub(crate) fn of_walk<F: Functions>(
     alloc: Global,
-    walk: &mut Walk<'_, '_, Both<&F, Builtin>>,
-    wanted: &[&str],
-) -> Result<(), Fail> {
-    for &want in wanted {
-        gives(rt, next_location(alloc, walk), want, "a walk")?;
-    }
-    Ok(())
-}
-
-/// The walk, if it begins, gives nodes at these locations, as [`gives_each`] says.
-fn begins<F: Functions>(
-    rt: &impl Abort,
-    alloc: Global,
-    answer: Result<Walk<'_, '_, Both<&F, Builtin>>, QueryError>,
-    wanted: &[&str],
-) -> Result<(), Fail> {
-    let mut walk = answer?;
-    gives_each(rt, alloc, &mut walk, wanted)
-}
-
-/// Holds the walk of a path over a document to the locations that it gives.
-fn walks(
-    rt: &impl Abort,
-    alloc: Global,
-    path: &str,
-    document: &str,
-    wanted: &[&str],
-) -> Result<(), Fail> {
+    functions: &F,
+    (path, document): (&str, &str),
+    calls: u32,
+) -> Result<String, Fail> {
     let document = Value::from_str(alloc, document)?;
-    let path = JsonPath::parse_with(alloc, path, &Builtin)?;
-    begins(rt, alloc, path.walk(alloc, &document, &Builtin), wanted)
+    let path = JsonPath::parse_with(alloc, path, functions)?;
+    let mut walk = path.walk(alloc, &document, functions)?;
+    walked(alloc, &mut walk, calls)
 }
+
+/// A path, a document, and what five calls of the walk answer.
+const WALKED: &[&str] = &[
+    r#"$['a','a'] ~ {"a":1} -> $['a'], $['a'], none, none, none, 0 refused"#,
+    "$[?@ > 1] ~ [1,2,3] -> $[1], $[2], none, none, none, 0 refused",
+    r#"$..baz ~ {"foo":{"bar":{"baz":1},"baz":2},"baz":3} -> $['baz'], $['foo']['baz'], $['foo']['bar']['baz'], none, none, 0 refused"#,
+];
 
 #[test]
 fn walks_give_one_node_after_the_other(rt: HostRuntime) -> Result<(), Fail> {
+    hold_rows(&rt, rt.alloc(), WALKED, |alloc, given| {
+        of_walk(alloc, &Builtin, fields(given)?, 5)
+    })
+}
+
+/// Which calls of `kids` are refused, and how many are before the sixth that is not: the filter is asked of six items.
+const REFUSED: &[(u64, u32)] = &[
+    (0, 0),
+    (1, 1),
+    (0b10, 1),
+    (0b1111, 4),
+    (0b0101_0101_0101, 6),
+    (0b0110_1101_1011, 8),
+];
+
+#[test]
+fn walks_go_on_where_memory_was_refused(rt: HostRuntime) -> Result<(), Fail> {
     let alloc = rt.alloc();
-    let twice = &["$['a']", "$['a']", "", ""];
-    walks(&rt, alloc, "$['a','a']", r#"{"a":1}"#, twice)?;
-    let greater = &["$[1]", "$[2]", "", ""];
-    walks(&rt, alloc, "$[?@ > 1]", "[1,2,3]", greater)?;
-    let below = &[
-        "$['baz']",
-        "$['foo']['baz']",
-        "$['foo']['bar']['baz']",
-        "",
-        "",
-    ];
-    let document = r#"{"foo":{"bar":{"baz":1},"baz":2},"baz":3}"#;
-    walks(&rt, alloc, "$..baz", document, below)
+    let given = ("$[?kids(@.*)]", "[[],[1],[[]],[],0,[2]]");
+    let mut table = Table::new();
+    for &(refused, times) in REFUSED {
+        let wanted = format!(in alloc; "$[1], $[2], $[5], none, {times} refused")?;
+        let came = of_walk(
+            alloc,
+            &Own::refusing(refused),
+            given,
+            times.saturating_add(4),
+        );
+        table.hold(&rt, ("a set that refuses", given.0, wanted.as_str()), came);
+    }
+    table.end()
 }
 
 /// An array of so many zeros.
@@ -83,30 +93,28 @@ fn zeros(alloc: Global, number: usize) -> Result<Value, Fail> {
     Ok(Value::Array(items))
 }
 
-/// The walk gives the item of that number next.
+/// Whether the walk gives the item of that number next.
 fn gives_item<F: Functions>(
-    rt: &impl Abort,
-    alloc: Global,
     walk: &mut Walk<'_, '_, Both<&F, Builtin>>,
     number: usize,
-) -> Result<(), Fail> {
-    let location = format!(in alloc; "$[{number}]")?;
-    gives_each(rt, alloc, walk, &[location.as_str()])
+) -> Result<bool, QueryError> {
+    match walk.next()? {
+        Some(node) => Ok(node.location().get(0) == Some(PathElement::Index(number))),
+        None => Ok(false),
+    }
 }
 
 /// The walk gives so many items, and keeps one or two places before each. After the last it keeps none.
 fn keeps_few_places<F: Functions>(
     rt: &impl Abort,
-    alloc: Global,
     walk: &mut Walk<'_, '_, Both<&F, Builtin>>,
     number_of_items: usize,
 ) -> Result<(), Fail> {
     for number in 0..number_of_items {
         assert!(rt; walk.places() == 1 || walk.places() == 2);
-        gives_item(rt, alloc, walk, number)?;
+        assert!(rt; gives_item(walk, number)?);
     }
-    gives_each(rt, alloc, walk, &["", ""])?;
-    assert!(rt; walk.places() == 0);
+    assert!(rt; walk.next()?.is_none() && walk.places() == 0);
     Ok(())
 }
 
@@ -116,5 +124,5 @@ fn walks_keep_few_places(rt: HostRuntime) -> Result<(), Fail> {
     let document = zeros(alloc, 1000)?;
     let path = JsonPath::parse_with(alloc, "$..*", &Builtin)?;
     let mut walk = path.walk(alloc, &document, &Builtin)?;
-    keeps_few_places(&rt, alloc, &mut walk, 1000)
+    keeps_few_places(&rt, &mut walk, 1000)
 }

@@ -3,7 +3,7 @@
 ghost use Rattle.std.specs.Prelude.{◌≡◌, [], ◌∷◌, Some};
 ghost use Rattle.serde_json_path_functions.specs.Functions.{of_nodes, of_value, plain_signature};
 
-use crate::tests::functions::holds;
+use crate::rows::{Table, hold_rows};
 use serde_json::Value;
 use serde_json_path_functions::FunctionArgType::{Logical, Nodelist};
 use serde_json_path_functions::{
@@ -50,55 +50,53 @@ fn answer_to<'b>(
 }
 
 /// A value, and its length.
-const LENGTHS: &[(&str, &str)] = &[
-    (r#""""#, "0"),
-    (r#""a\u00e9\ud834\udd1e""#, "3"),
-    ("[]", "0"),
-    ("[1,[2,3]]", "2"),
-    (r#"{"a":1,"b":{"c":2}}"#, "2"),
-    ("12", "Nothing"),
-    ("true", "Nothing"),
-    ("null", "Nothing"),
+const LENGTHS: &[&str] = &[
+    r#""" -> 0"#,
+    r#""a\u00e9\ud834\udd1e" -> 3"#,
+    "[] -> 0",
+    "[1,[2,3]] -> 2",
+    r#"{"a":1,"b":{"c":2}} -> 2"#,
+    "12 -> Nothing",
+    "true -> Nothing",
+    "null -> Nothing",
 ];
 
 /// The length of a value, printed.
-fn length_of(alloc: Global, value: &Value) -> Result<String, Fail> {
+fn length_of(alloc: Global, document: &str) -> Result<String, Fail> {
+    let value = Value::from_str(alloc, document)?;
     let mut args = Vec::new(alloc);
-    args.push(FunctionValue::Value(ValueType::Node(value)))?;
+    args.push(FunctionValue::Value(ValueType::Node(&value)))?;
     let answer = Builtin.call(alloc, "length", args)?;
     printed_answer(alloc, &answer)
 }
 
 #[test]
 fn length_of_values(rt: HostRuntime) -> Result<(), Fail> {
-    let alloc = rt.alloc();
-    for &(document, length) in LENGTHS {
-        let value = Value::from_str(alloc, document)?;
-        let told = length_of(alloc, &value)?;
-        holds(&rt, document, told.as_str(), length);
-    }
-    Ok(())
+    hold_rows(&rt, rt.alloc(), LENGTHS, length_of)
 }
 
 /// A number of nodes, and what `count` and `value` answer to so many.
-const NODES: &[(usize, &str, &str)] = &[(0, "0", "Nothing"), (1, "1", "true"), (2, "2", "Nothing")];
+const NODES: &[&str] = &["0 -> 0, Nothing", "1 -> 1, true", "2 -> 2, Nothing"];
+
+/// What `count` and `value` answer to so many nodes.
+fn answers_to(alloc: Global, number: &str) -> Result<String, Fail> {
+    let number = number.parse::<usize>()?;
+    let document = Value::from(true);
+    let count = answer_to(alloc, "count", &document, number)?;
+    let value = answer_to(alloc, "value", &document, number)?;
+    Ok(format!(in alloc; "{count}, {value}")?)
+}
 
 #[test]
 fn count_and_value_of_nodes(rt: HostRuntime) -> Result<(), Fail> {
-    let document = Value::from(true);
-    for &(number, count, value) in NODES {
-        let counted = answer_to(rt.alloc(), "count", &document, number)?;
-        holds(&rt, "count", counted.as_str(), count);
-        let valued = answer_to(rt.alloc(), "value", &document, number)?;
-        holds(&rt, "value", valued.as_str(), value);
-    }
-    Ok(())
+    hold_rows(&rt, rt.alloc(), NODES, answers_to)
 }
 
 #[test]
 fn signatures_have_eight_parameters_at_most(rt: HostRuntime) -> Result<(), Fail> {
     let params = [Logical; 9];
     assert!(rt; Signature::new(&params, Nodelist).is_none());
+    assert!(rt; Signature::new(&[FunctionArgType::Value; 9], Logical).is_none());
     match Signature::new(&params[..8], Nodelist) {
         Some(signature) => {
             assert_eq!(rt; signature.params(), &params[..8]);
@@ -110,25 +108,33 @@ fn signatures_have_eight_parameters_at_most(rt: HostRuntime) -> Result<(), Fail>
 }
 
 /// Parameters and the type of a result, and whether a signature of them is that of `fn(Logical) -> Nodelist`.
-const SIGNATURES: &[(&[FunctionArgType], FunctionArgType, bool)] = &[
-    (&[Logical], Nodelist, true),
-    (&[Logical], Logical, false),
-    (&[Nodelist], Nodelist, false),
-    (&[], Nodelist, false),
-    (&[Logical, Logical], Nodelist, false),
+const SIGNATURES: &[(&[FunctionArgType], FunctionArgType, &str)] = &[
+    (&[Logical], Nodelist, "Some(true)"),
+    (&[Logical], Logical, "Some(false)"),
+    (&[Nodelist], Nodelist, "Some(false)"),
+    (&[], Nodelist, "Some(false)"),
+    (&[Logical, Logical], Nodelist, "Some(false)"),
 ];
 
-#[test]
-fn signatures_are_the_same_by_their_types(rt: HostRuntime) {
-    for &(params, result, is_same) in SIGNATURES {
-        match (
-            Signature::new(&[Logical], Nodelist),
-            Signature::new(params, result),
-        ) {
-            (Some(one), Some(other)) => assert!(rt; one.is_same(&other) == is_same),
-            _ => assert!(rt; false, "a short signature is refused"),
-        }
+/// Whether two signatures are the same, where there are both.
+fn are_same(one: Option<Signature>, other: Option<Signature>) -> Option<bool> {
+    match (one, other) {
+        (Some(one), Some(other)) => Some(one.is_same(&other)),
+        _ => None,
     }
+}
+
+#[test]
+fn signatures_are_the_same_by_their_types(rt: HostRuntime) -> Result<(), Fail> {
+    let mut table = Table::new();
+    for &(params, result, wanted) in SIGNATURES {
+        let one = Signature::new(&[Logical], Nodelist);
+        let is_same = are_same(one, Signature::new(params, result));
+        let given = format!(in rt.alloc(); "{params:?} {result:?}")?;
+        let came = format!(in rt.alloc(); "{is_same:?}").map_err(Fail::from);
+        table.hold(&rt, ("signatures", given.as_str(), wanted), came);
+    }
+    table.end()
 }
 
 #[test]

@@ -4,12 +4,10 @@ ghost use Rattle.std.specs.Prelude.{◌≡◌, map, Some, IfOk};
 ghost use Rattle.serde_json_path_functions.specs.Functions.{Takes, matching_signature, builtin_signature};
 ghost use Rattle.serde_json_path_functions.specs.Terms.{term_view};
 
+use crate::rows::{Table, fields, hold_rows};
 use serde_json::Value;
-use serde_json_path_functions::{
-    Builtin, FunctionValue, Functions, LogicalType, QueryError, ValueType,
-};
+use serde_json_path_functions::{Builtin, FunctionValue, Functions, LogicalType, ValueType};
 use std::alloc::Global;
-use std::process::Abort;
 use std::test::Fail;
 
 /// The value of a JSON text, or Nothing for the empty text.
@@ -34,91 +32,93 @@ pub(crate) fn arguments(
     Ok(args)
 }
 
-/// The answer of a function to two values, each a JSON text.
-fn answer_to(alloc: Global, name: &str, text: &str, pattern: &str) -> Result<bool, Fail>
+/// What a function answers to two values, each a JSON text: whether they match, or that the pattern is refused.
+fn answer_to(alloc: Global, name: &str, given: &str) -> Result<String, Fail>
     requires { builtin_signature name.now ≡ Some matching_signature }
 {
-    match Builtin.call(alloc, name, arguments(alloc, text, pattern)?)? {
-        FunctionValue::Logical(truth) => Ok(truth == LogicalType::True),
-        _ => Err(Fail::from("another type")),
+    let (text, pattern) = fields(given)?;
+    match Builtin.call(alloc, name, arguments(alloc, text, pattern)?) {
+        Ok(FunctionValue::Logical(truth)) => {
+            let is_true = truth == LogicalType::True;
+            Ok(format!(in alloc; "{is_true}")?)
+        }
+        Ok(_) => Err(Fail::from("another type")),
+        Err(e) => Ok(e.to_string(alloc)?),
     }
-}
-
-/// Whether a function refuses a pattern, a JSON text, as one that is not built.
-fn is_refused(alloc: Global, name: &str, pattern: &str) -> Result<bool, Fail>
-    requires { builtin_signature name.now ≡ Some matching_signature }
-{
-    let refused = Builtin
-        .call(alloc, name, arguments(alloc, r#""a""#, pattern)?)
-        .err();
-    Ok(refused == Some(QueryError::Pattern))
-}
-
-/// Tries each row: a text, a pattern, and whether the name's answer to them is true.
-fn rows_of(
-    rt: &impl Abort,
-    alloc: Global,
-    name: &str,
-    rows: &[(&str, &str, bool)],
-) -> Result<(), Fail>
-    requires { builtin_signature name.now ≡ Some matching_signature }
-{
-    for &(text, pattern, wanted) in rows {
-        let answer = answer_to(alloc, name, text, pattern)?;
-        assert!(rt; answer == wanted, "not {wanted} of {pattern}");
-    }
-    Ok(())
 }
 
 /// A text, a pattern, and whether `match` is true of them.
-const MATCHES: &[(&str, &str, bool)] = &[
-    (r#""a""#, r#""a""#, true),
-    (r#""ab""#, r#""a""#, false),
-    (r#""ax""#, r#""a)|(b""#, true),
-    (r#""xb""#, r#""a)|(b""#, true),
-    (r#""xbx""#, r#""a)|(b""#, false),
-    (r#""bar""#, r#""|""#, false),
-    (r#""""#, r#""|""#, true),
-    (r#""x""#, r#""(""#, false),
-    (r#""\n""#, r#"".""#, false),
-    (r#""\r""#, r#"".""#, false),
-    (r#""\u2028""#, r#"".""#, true),
-    ("1", r#""a""#, false),
-    (r#""a""#, "1", false),
-    ("", r#""a""#, false),
-    (r#""a""#, "", false),
-    (r#""Marge Simpson""#, r#""M[A-Za-z ]*Simpson""#, true),
-    (r#""Bart Simpson""#, r#""M[A-Za-z ]*Simpson""#, false),
+const MATCHES: &[&str] = &[
+    r#""a" ~ "a" -> true"#,
+    r#""ab" ~ "a" -> false"#,
+    r#""ax" ~ "a)|(b" -> true"#,
+    r#""xb" ~ "a)|(b" -> true"#,
+    r#""xbx" ~ "a)|(b" -> false"#,
+    r#""bar" ~ "|" -> false"#,
+    r#""" ~ "|" -> true"#,
+    r#""x" ~ "(" -> false"#,
+    r#""\n" ~ "." -> false"#,
+    r#""\r" ~ "." -> false"#,
+    r#""\u2028" ~ "." -> true"#,
+    r#"1 ~ "a" -> false"#,
+    r#""a" ~ 1 -> false"#,
+    r#" ~ "a" -> false"#,
+    r#""a" ~  -> false"#,
+    r#""Marge Simpson" ~ "M[A-Za-z ]*Simpson" -> true"#,
+    r#""Bart Simpson" ~ "M[A-Za-z ]*Simpson" -> false"#,
 ];
 
 /// A text, a pattern, and whether `search` is true of them.
-const SEARCHES: &[(&str, &str, bool)] = &[
-    (r#""bab""#, r#""a""#, true),
-    (r#""x""#, r#""(""#, false),
-    ("1", r#""a""#, false),
-    (r#""a""#, "1", false),
-    ("", r#""a""#, false),
-    (r#""Ned Flanders""#, r#""Flanders""#, true),
-    (r#""Marge Simpson""#, r#""Flanders""#, false),
+const SEARCHES: &[&str] = &[
+    r#""bab" ~ "a" -> true"#,
+    r#""x" ~ "(" -> false"#,
+    r#"1 ~ "a" -> false"#,
+    r#""a" ~ 1 -> false"#,
+    r#" ~ "a" -> false"#,
+    r#""Ned Flanders" ~ "Flanders" -> true"#,
+    r#""Marge Simpson" ~ "Flanders" -> false"#,
 ];
 
 #[test]
 fn matches_the_whole_text(rt: HostRuntime) -> Result<(), Fail> {
-    rows_of(&rt, rt.alloc(), "match", MATCHES)
+    hold_rows(
+        &rt,
+        rt.alloc(),
+        MATCHES,
+        |alloc, given| answer_to(alloc, "match", given),
+    )
 }
 
 #[test]
 fn searches_in_the_text(rt: HostRuntime) -> Result<(), Fail> {
-    rows_of(&rt, rt.alloc(), "search", SEARCHES)
+    hold_rows(
+        &rt,
+        rt.alloc(),
+        SEARCHES,
+        |alloc, given| answer_to(alloc, "search", given),
+    )
 }
 
-/// A pattern that would be too great is refused; one that `regex` cannot read is not found.
+/// A text, a pattern, and what `match` and `search` answer: one that would be too great is refused, and one that `regex`
+/// cannot read is not found.
+const GREAT: &[&str] = &[
+    r#""a" ~ "a{1000}{1000}" -> pattern refused"#,
+    r#""a" ~ "a{1000}{1000" -> false"#,
+];
+
 #[test]
 fn refuses_patterns_that_are_too_great(rt: HostRuntime) -> Result<(), Fail> {
     let alloc = rt.alloc();
-    assert!(rt; is_refused(alloc, "match", r#""a{1000}{1000}""#)?);
-    assert!(rt; is_refused(alloc, "search", r#""a{1000}{1000}""#)?);
-    assert!(rt; !answer_to(alloc, "match", r#""a""#, r#""a{1000}{1000""#)?);
-    assert!(rt; !answer_to(alloc, "search", r#""a""#, r#""a{1000}{1000""#)?);
-    Ok(())
+    let mut table = Table::new();
+    table.hold_each(
+        &rt,
+        alloc,
+        "`match`",
+        GREAT,
+        |alloc, given| answer_to(alloc, "match", given),
+    );
+    table.hold_each(&rt, alloc, "`search`", GREAT, |alloc, given| {
+        answer_to(alloc, "search", given)
+    });
+    table.end()
 }

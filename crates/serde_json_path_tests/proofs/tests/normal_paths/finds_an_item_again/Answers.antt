@@ -9,7 +9,7 @@ use Rattle.serde_json_path_nodes.specs.declared.path_element.PathElement.TheVari
 use Rattle.serde_json_path_tests.proofs.tests.normal_paths.finds_an_item_again.Goals as goal
 
 pub find_again-requires-clause-there : goal.find_again-requires-clause-there
-find_again-requires-clause-there g c =
+find_again-requires-clause-there c =
     let made = c.push-2.new.self in
     let items : made.items ≡ value.Null ∷ value.Bool true ∷ [] =
     c.in_ok-push-2.ensures.items ∙ ap (λ vs. vs ++ value.Bool true ∷ []) (c.in_ok-push.ensures.items ∙ ap (λ vs. vs ++ value.Null ∷ []) c.new-items.ensures.items) in
