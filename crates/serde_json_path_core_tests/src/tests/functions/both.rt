@@ -7,7 +7,7 @@ ghost use Rattle.serde_json_path_core_tests.specs.Samples.{own_functions};
 ghost use Rattle.serde_json_path_functions.specs.Terms.{term_view};
 
 use serde_json::Value;
-use serde_json_path_functions::FunctionArgType::Nodelist;
+use serde_json_path_functions::FunctionArgType::{Logical, Nodelist};
 use serde_json_path_functions::{
     Both, Builtin, FunctionArgType, FunctionValue, Functions, NodesType, QueryError, Signature,
     ValueType,
@@ -15,8 +15,10 @@ use serde_json_path_functions::{
 use std::alloc::Global;
 use std::test::Fail;
 
-/// `match` and `own`, which answer true to any list of nodes.
-struct Own;
+/// `match` and `own` answer true to any list of nodes. `pattern`, which stands for `search`, is refused for its pattern as
+/// that is, and `memory` for memory.
+#[derive(Clone, Copy)]
+pub(crate) struct Own;
 
 impl Functions for Own {
     ghost use Rattle.serde_json_path_core_tests.specs.Samples.{own_keeps_types, own_keeps_patterns};
@@ -29,7 +31,11 @@ impl Functions for Own {
 
     fn signature(&self, name: &str) -> Option<Signature> {
         match name {
+            "pattern" => {
+                Signature::new(&[FunctionArgType::Value, FunctionArgType::Value], Logical)
+            }
             "match" | "own" => Signature::new(&[Nodelist], FunctionArgType::Value),
+            "memory" => Signature::new(&[], Logical),
             _ => None,
         }
     }
@@ -40,7 +46,11 @@ impl Functions for Own {
         name: &str,
         args: Vec<FunctionValue<'b>>,
     ) -> Result<FunctionValue<'b>, QueryError> {
-        Ok(FunctionValue::Value(ValueType::Value(Value::from(true))))
+        match name {
+            "pattern" => Builtin.call(alloc, "search", args),
+            "memory" => Err(QueryError::Memory),
+            _ => Ok(FunctionValue::Value(ValueType::Value(Value::from(true)))),
+        }
     }
 }
 

@@ -3,52 +3,14 @@
 ghost use Rattle.serde_json_path_functions.specs.Functions.{Fits};
 ghost use Rattle.serde_json_path_core_tests.specs.Samples.{refused_names};
 
+use crate::tests::functions::both::Own;
 use crate::tests::functions::patterns::arguments;
-use serde_json_path_functions::FunctionArgType::Logical;
-use serde_json_path_functions::{
-    Both, Builtin, FunctionArgType, FunctionValue, Functions, QueryError, Signature,
-};
+use serde_json_path_functions::{Both, Builtin, Functions, QueryError};
 use std::alloc::Global;
 use std::process::Abort;
 use std::test::Fail;
 
-/// `pattern`, which stands for `search`, is refused for its pattern as that is, and `memory` for memory.
-#[derive(Clone, Copy)]
-struct Refusing;
-
-impl Functions for Refusing {
-    ghost use Rattle.serde_json_path_core_tests.specs.Samples.{refusing_functions, refusing_keeps_types, refusing_keeps_patterns};
-
-    ghost set = { λ _. refusing_functions };
-
-    ghost typed = { λ _. refusing_keeps_types };
-
-    ghost patterned = { λ _. refusing_keeps_patterns };
-
-    fn signature(&self, name: &str) -> Option<Signature> {
-        match name {
-            "pattern" => {
-                Signature::new(&[FunctionArgType::Value, FunctionArgType::Value], Logical)
-            }
-            "memory" => Signature::new(&[], Logical),
-            _ => None,
-        }
-    }
-
-    fn call<'b>(
-        &self,
-        alloc: Global,
-        name: &str,
-        args: Vec<FunctionValue<'b>>,
-    ) -> Result<FunctionValue<'b>, QueryError> {
-        match name {
-            "pattern" => Builtin.call(alloc, "search", args),
-            _ => Err(QueryError::Memory),
-        }
-    }
-}
-
-/// Holds a set that has the names of `Refusing` to its errors.
+/// Holds a set that has the names of `Own` to its errors.
 fn refuses_each<F: Functions>(rt: &impl Abort, alloc: Global, functions: &F) -> Result<(), Fail>
     requires { Fits (F.set functions.now) refused_names }
 {
@@ -63,9 +25,9 @@ fn refuses_each<F: Functions>(rt: &impl Abort, alloc: Global, functions: &F) -> 
 #[test]
 fn errors_come_through_other_sets(rt: HostRuntime) -> Result<(), Fail> {
     let alloc = rt.alloc();
-    refuses_each(&rt, alloc, &Refusing)?;
-    refuses_each(&rt, alloc, &&Refusing)?;
-    refuses_each(&rt, alloc, &Both(Refusing, Builtin))?;
-    refuses_each(&rt, alloc, &Both(Builtin, Refusing))?;
-    refuses_each(&rt, alloc, &Both(&Builtin, Both(&Refusing, &Builtin)))
+    refuses_each(&rt, alloc, &Own)?;
+    refuses_each(&rt, alloc, &&Own)?;
+    refuses_each(&rt, alloc, &Both(Own, Builtin))?;
+    refuses_each(&rt, alloc, &Both(Builtin, Own))?;
+    refuses_each(&rt, alloc, &Both(&Builtin, Both(&Own, &Builtin)))
 }
