@@ -37,6 +37,7 @@ test:
 	tools/refuse_memory --built
 	tools/check_documents
 	tools/trusted --check docs/TRUSTED.md
+	tools/plot_ratios --check
 	$(MAKE) test-bindings
 
 # Runs each command that the documents show, and looks for each of their snippets in the code.
