@@ -1,5 +1,7 @@
 -- What the exports answer, and what they write.
-use Rattle.std.specs.Prelude.{◌≡◌, ◌≢◌, ◌<◌, ℕ, List, ◌++◌, drop, length, Err}
+use Rattle.std.specs.Prelude.{◌≡◌, ◌≢◌, ◌<◌, ◌≤◌, ◌⊎◌, ◌↔◌, ℕ, List, ◌++◌, drop, length, Err}
+use Rattle.std.specs.Str.{IsUtf8}
+use Rattle.serde_json.specs.Data.{Data}
 use Rattle.serde_json_path.specs.Paths.{path_view}
 use Rattle.serde_json_path_functions.specs.Patterns.{builtin_functions}
 use Rattle.serde_json_path_parser.specs.Errors.{kind_of, position_of}
@@ -8,6 +10,8 @@ use Rattle.serde_json_path_parser.specs.Reported.{ReportsFirst}
 use Rattle.serde_json_path_parser.specs.declared.error.ParseError.{ParseError}
 use Rattle.serde_json_path_parser.specs.declared.error.ParseErrorKind.{ParseErrorKind}
 use Rattle.serde_json_path_parser.specs.declared.error.ParseErrorKind.TheVariants.{ExpectedRoot, BadMemberName, ExpectedClosingBracket, ExpectedEndingQuote, BadEscape, ControlCharacter, ExpectedSelector, IntegerOutOfRange, ExponentOrEmptyFraction, NumberOutOfRange, ExpectedExpression, ExpectedClosingParenthesis, ExpectedComparisonOperator, NonSingularQuery, UndefinedFunction, WrongNumberOfArguments, WrongArgumentType, WrongReturnType, NestedTooDeep, TextAfterPath, FractionTooLong, NoMemory}
+use Rattle.jsonpath_report.specs.Report.{ReadsAs, IsNoPath, CallsByPatternOn, IsReportIn}
+use Rattle.jsonpath_report.specs.declared.report.LineForm.{LineForm}
 use Rattle.jsonpath_c.specs.declared.refusal.Refusal.{Refusal}
 
 -- A text is put: it is the first bytes of what is there then, the others are as before, and the size is its own.
@@ -63,3 +67,19 @@ IsRefusalOf path refusal = IsRefusalBy IsRefusedWith path refusal
 -- and it is the refusal that the parse reports
 abbrev pub IsReportedRefusalOf : List ℕ → Refusal → Type 0
 IsReportedRefusalOf path refusal = IsRefusalBy IsReportedWith path refusal
+
+-- What an export of lines answers, with what it was lent before and after: `out`, `size` and `refusal`.
+pub record AnswersLines (form : LineForm) (path document old_out new_out : List ℕ) (old_size new_size : ℕ) (old_refusal new_refusal : Refusal) (status : ℕ) : Type 0 where
+  pub statuses : status ≤ 6
+  pub done : status ≡ 0 → (text : List ℕ) × IsReportIn form builtin_functions path document text × IsPut text old_out new_out new_size
+  pub no_room : status ≡ 5 → (text : List ℕ) × IsReportIn form builtin_functions path document text × FindsNoRoom text old_out new_size
+  pub path_refused : status ≡ 1 → IsRefusalOf path new_refusal
+  pub path_reported : status ≡ 1 → IsReportedRefusalOf path new_refusal
+  pub path_first : IsUtf8 path → IsNoPath builtin_functions path → (status ≡ 1) ⊎ (status ≡ 4)
+  pub not_json : status ≡ 2 → (d : Data) → ReadsAs document d → ⊥
+  pub pattern_refused : status ≡ 3 → CallsByPatternOn builtin_functions path document
+  pub query_last : status ≡ 3 → (d : Data) × ReadsAs document d
+  pub not_utf8 : (status ≡ 6) ↔ (IsUtf8 path → ⊥)
+  pub kept_out : status ≢ 0 → new_out ≡ old_out
+  pub kept_size : status ≢ 0 → status ≢ 5 → new_size ≡ old_size
+  pub kept_refusal : status ≢ 1 → new_refusal ≡ old_refusal

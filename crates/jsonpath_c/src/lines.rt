@@ -1,11 +1,6 @@
 //! The lines that a path selects from a document.
 
-ghost use Rattle.std.specs.Prelude.{◌≡◌, ◌≢◌, ◌≤◌, ◌⊎◌, ◌↔◌, ℕ, List};
-ghost use Rattle.std.specs.Str.{IsUtf8};
-ghost use Rattle.serde_json.specs.Data.{Data};
-ghost use Rattle.serde_json_path_functions.specs.Patterns.{builtin_functions};
-ghost use Rattle.jsonpath_report.specs.Report.{ReadsAs, IsNoPath, CallsByPatternOn, IsReportIn};
-ghost use Rattle.jsonpath_c.specs.Exports.{IsPut, FindsNoRoom, IsRefusalOf, IsReportedRefusalOf};
+ghost use Rattle.jsonpath_c.specs.Exports.{AnswersLines};
 
 use crate::put::put;
 use crate::refusal::{Refusal, refuse};
@@ -25,25 +20,8 @@ fn lines(
     size: &mut usize,
     refusal: &mut Refusal,
 ) -> u8
-    ensures statuses { result ≤ 6 }
-    ensures done { result ≡ 0 → (text : List ℕ)
-        × IsReportIn form builtin_functions path.now document.now text
-        × IsPut text out.old out.new size.new }
-    ensures no_room { result ≡ 5 → (text : List ℕ)
-        × IsReportIn form builtin_functions path.now document.now text
-        × FindsNoRoom text out.old size.new }
-    ensures path_refused { result ≡ 1 → IsRefusalOf path.now refusal.new }
-    ensures path_reported { result ≡ 1 → IsReportedRefusalOf path.now refusal.new }
-    ensures path_first { IsUtf8 path.now → IsNoPath builtin_functions path.now
-        → (result ≡ 1) ⊎ (result ≡ 4) }
-    ensures not_json { result ≡ 2 → (d : Data) → ReadsAs document.now d → ⊥ }
-    ensures pattern_refused { result ≡ 3
-        → CallsByPatternOn builtin_functions path.now document.now }
-    ensures query_last { result ≡ 3 → (d : Data) × ReadsAs document.now d }
-    ensures not_utf8 { (result ≡ 6) ↔ (IsUtf8 path.now → ⊥) }
-    ensures kept_out { result ≢ 0 → out.new ≡ out.old }
-    ensures kept_size { result ≢ 0 → result ≢ 5 → size.new ≡ size.old }
-    ensures kept_refusal { result ≢ 1 → refusal.new ≡ refusal.old }
+    ensures { AnswersLines form path.now document.now out.old out.new size.old size.new
+        refusal.old refusal.new result }
 {
     let Ok(path) = str::from_utf8(path) else {
         return NOT_UTF8;
@@ -69,25 +47,8 @@ pub extern "C" fn jsonpath_report(
     size: &mut usize,
     refusal: &mut Refusal,
 ) -> u8
-    ensures statuses { result ≤ 6 }
-    ensures done { result ≡ 0 → (text : List ℕ)
-        × IsReportIn LineForm.LocationAndValue builtin_functions path.now document.now text
-        × IsPut text out.old out.new size.new }
-    ensures no_room { result ≡ 5 → (text : List ℕ)
-        × IsReportIn LineForm.LocationAndValue builtin_functions path.now document.now text
-        × FindsNoRoom text out.old size.new }
-    ensures path_refused { result ≡ 1 → IsRefusalOf path.now refusal.new }
-    ensures path_reported { result ≡ 1 → IsReportedRefusalOf path.now refusal.new }
-    ensures path_first { IsUtf8 path.now → IsNoPath builtin_functions path.now
-        → (result ≡ 1) ⊎ (result ≡ 4) }
-    ensures not_json { result ≡ 2 → (d : Data) → ReadsAs document.now d → ⊥ }
-    ensures pattern_refused { result ≡ 3
-        → CallsByPatternOn builtin_functions path.now document.now }
-    ensures query_last { result ≡ 3 → (d : Data) × ReadsAs document.now d }
-    ensures not_utf8 { (result ≡ 6) ↔ (IsUtf8 path.now → ⊥) }
-    ensures kept_out { result ≢ 0 → out.new ≡ out.old }
-    ensures kept_size { result ≢ 0 → result ≢ 5 → size.new ≡ size.old }
-    ensures kept_refusal { result ≢ 1 → refusal.new ≡ refusal.old }
+    ensures { AnswersLines LineForm.LocationAndValue path.now document.now out.old out.new size.old size.new
+        refusal.old refusal.new result }
 {
     lines(
         alloc,
@@ -110,25 +71,8 @@ pub extern "C" fn jsonpath_values(
     size: &mut usize,
     refusal: &mut Refusal,
 ) -> u8
-    ensures statuses { result ≤ 6 }
-    ensures done { result ≡ 0 → (text : List ℕ)
-        × IsReportIn LineForm.Value builtin_functions path.now document.now text
-        × IsPut text out.old out.new size.new }
-    ensures no_room { result ≡ 5 → (text : List ℕ)
-        × IsReportIn LineForm.Value builtin_functions path.now document.now text
-        × FindsNoRoom text out.old size.new }
-    ensures path_refused { result ≡ 1 → IsRefusalOf path.now refusal.new }
-    ensures path_reported { result ≡ 1 → IsReportedRefusalOf path.now refusal.new }
-    ensures path_first { IsUtf8 path.now → IsNoPath builtin_functions path.now
-        → (result ≡ 1) ⊎ (result ≡ 4) }
-    ensures not_json { result ≡ 2 → (d : Data) → ReadsAs document.now d → ⊥ }
-    ensures pattern_refused { result ≡ 3
-        → CallsByPatternOn builtin_functions path.now document.now }
-    ensures query_last { result ≡ 3 → (d : Data) × ReadsAs document.now d }
-    ensures not_utf8 { (result ≡ 6) ↔ (IsUtf8 path.now → ⊥) }
-    ensures kept_out { result ≢ 0 → out.new ≡ out.old }
-    ensures kept_size { result ≢ 0 → result ≢ 5 → size.new ≡ size.old }
-    ensures kept_refusal { result ≢ 1 → refusal.new ≡ refusal.old }
+    ensures { AnswersLines LineForm.Value path.now document.now out.old out.new size.old size.new
+        refusal.old refusal.new result }
 {
     lines(alloc, LineForm::Value, path, document, out, size, refusal)
 }
@@ -143,25 +87,8 @@ pub extern "C" fn jsonpath_locations(
     size: &mut usize,
     refusal: &mut Refusal,
 ) -> u8
-    ensures statuses { result ≤ 6 }
-    ensures done { result ≡ 0 → (text : List ℕ)
-        × IsReportIn LineForm.Location builtin_functions path.now document.now text
-        × IsPut text out.old out.new size.new }
-    ensures no_room { result ≡ 5 → (text : List ℕ)
-        × IsReportIn LineForm.Location builtin_functions path.now document.now text
-        × FindsNoRoom text out.old size.new }
-    ensures path_refused { result ≡ 1 → IsRefusalOf path.now refusal.new }
-    ensures path_reported { result ≡ 1 → IsReportedRefusalOf path.now refusal.new }
-    ensures path_first { IsUtf8 path.now → IsNoPath builtin_functions path.now
-        → (result ≡ 1) ⊎ (result ≡ 4) }
-    ensures not_json { result ≡ 2 → (d : Data) → ReadsAs document.now d → ⊥ }
-    ensures pattern_refused { result ≡ 3
-        → CallsByPatternOn builtin_functions path.now document.now }
-    ensures query_last { result ≡ 3 → (d : Data) × ReadsAs document.now d }
-    ensures not_utf8 { (result ≡ 6) ↔ (IsUtf8 path.now → ⊥) }
-    ensures kept_out { result ≢ 0 → out.new ≡ out.old }
-    ensures kept_size { result ≢ 0 → result ≢ 5 → size.new ≡ size.old }
-    ensures kept_refusal { result ≢ 1 → refusal.new ≡ refusal.old }
+    ensures { AnswersLines LineForm.Location path.now document.now out.old out.new size.old size.new
+        refusal.old refusal.new result }
 {
     lines(
         alloc,

@@ -1,9 +1,7 @@
--- The lines of some nodes, with the line of another node after them; what a walk gave; what a write leaves.
-use Rattle.std.proofs.Common.{◌≡◌, ℕ, List, [], ◌∷◌, ◌++◌, if◌then◌else◌, Option, Some, None, MatchOption, Result, Ok, Err, is_ok, OnOk, refl, subst, sym, ap, ◌∙◌, append_assoc}
+-- The lines of some nodes, with the line of another node after them; what a write leaves.
+use Rattle.std.proofs.Common.{◌≡◌, ℕ, List, [], ◌∷◌, ◌++◌, if◌then◌else◌, Result, Ok, Err, is_ok, OnOk, refl, sym, ap, ◌∙◌, append_assoc}
 use Rattle.std.proofs.lemmas.List.{append-nil}
 use Rattle.serde_json_path_nodes.specs.Location.{Located}
-use Rattle.serde_json_path_nodes.specs.Views.{located}
-use Rattle.serde_json_path_nodes.specs.declared.located_node.LocatedNode.{LocatedNode}
 use Rattle.jsonpath_report.specs.Report.{IsLineIn, AreLinesIn}
 use Rattle.jsonpath_report.specs.declared.report.LineForm.{LineForm}
 
@@ -11,18 +9,6 @@ pub lines_pushed : (form : LineForm) (ns : List Located) (text line : List ℕ) 
 lines_pushed form [] text line n h l = (line, [], l, refl, ap (λ (t : List ℕ). t ++ line) h ∙ sym (append-nil line))
 lines_pushed form (m ∷ ns) text line n h l =
     (h.0, h.1 ++ line, h.2, lines_pushed form ns h.1 line n h.3 l, ap (λ (t : List ℕ). t ++ line) h.4 ∙ append_assoc h.0 h.1 line)
-
--- what remained of a walk is the node that it gave, and what remains then
-pub given_node : (next : Option LocatedNode) (node : LocatedNode) (before after : List Located) → next ≡ Some node
-    → MatchOption next ((before ≡ []) × (after ≡ [])) (λ n. before ≡ located n ∷ after) → before ≡ located node ∷ after
-given_node next node before after is given = subst (λ o. MatchOption o ((before ≡ []) × (after ≡ [])) (λ n. before ≡ located n ∷ after)) is given
-
--- nothing remained of a walk that gave no node
-pub given_none : (next : Option LocatedNode) (before after : List Located) → next ≡ None
-    → MatchOption next ((before ≡ []) × (after ≡ [])) (λ n. before ≡ located n ∷ after) → before ≡ []
-given_none next before after is given =
-    let ended : (before ≡ []) × (after ≡ []) = subst (λ o. MatchOption o ((before ≡ []) × (after ≡ [])) (λ n. before ≡ located n ∷ after)) is given in
-    ended.0
 
 -- what a write of a text leaves where it is done
 pub appended : {A E : Type 0} (r : Result A E) (old part new : List ℕ) → new ≡ (if is_ok r then old ++ part else old) → OnOk r (new ≡ old ++ part)

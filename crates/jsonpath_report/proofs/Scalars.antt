@@ -8,7 +8,7 @@ use Rattle.json.specs.Tree as tree
 use Rattle.json.proofs.Printed.Decimals.{IsNumber-decimal, IsNumber-signed_decimal}
 use Rattle.json.proofs.Printed.Tokens.{tokens-print}
 use Rattle.json.proofs.Printed.Trees.{value-json_tokens, ArePrintable-json_tokens}
-use Rattle.serde_json.specs.Data.{Data, unsigned, negative, float, null, boolean, number, string, array, object}
+use Rattle.serde_json.specs.Data.{Data, unsigned, negative, null, boolean, number}
 use Rattle.serde_json.specs.Find.{as_number, as_u64, as_i64}
 use Rattle.serde_json.specs.Read.{read, of_json, max_depth}
 use Rattle.serde_json.specs.View.{view}
@@ -29,10 +29,10 @@ reads_back d numbers same shallow =
     ∙ ap whole (ap (json.value max_depth) (tokens-print ts (ArePrintable-json_tokens (outline d) numbers) ∙ sym (append-nil ts)) ∙ value-json_tokens (outline d) max_depth [] shallow)
     ∙ same
 
-pub null_json : IsJsonOf null (compact_text null)
+null_json : IsJsonOf null (compact_text null)
 null_json = (λ _. refl, λ _. reads_back null tt refl (omega arith), λ float. absurd cc)
 
-pub boolean_json : (b : Bool) → IsJsonOf (boolean b) (compact_text (boolean b))
+boolean_json : (b : Bool) → IsJsonOf (boolean b) (compact_text (boolean b))
 boolean_json b = (λ _. refl, λ _. reads_back (boolean b) tt refl (omega arith), λ float. absurd cc)
 
 unsigned_json : (n : ℕ) → n < 2 ^ 64 → IsJsonOf (number (unsigned n)) (decimal n)
@@ -50,32 +50,25 @@ not_unsigned : (small : Bool) (m n : ℕ) → (if small then Some (pos m) else N
 not_unsigned true m n e = cc
 not_unsigned false m n e = cc
 
--- what a value without parts is seen as
-pub seen_null : null ≡ view value.Null
-seen_null = search (rules, value.the_lemmas)
+-- a value without parts
+pub json_of_null : (v : value.Value) → v ≡ value.Null → IsJsonOf (view v) (compact_text null)
+json_of_null v is =
+    let seen : null ≡ view value.Null = search (rules, value.the_lemmas) in
+    rw (is, ← seen) null_json
 
-pub seen_boolean : (b : Bool) → boolean b ≡ view (value.Bool b)
-seen_boolean b = search (rules, value.the_lemmas)
+pub json_of_boolean : (v : value.Value) (held b : Bool) → v ≡ value.Bool held → held ≡ b → IsJsonOf (view v) (compact_text (boolean b))
+json_of_boolean v held b is same =
+    let seen : boolean b ≡ view (value.Bool b) = search (rules, value.the_lemmas) in
+    rw (is, same, ← seen) (boolean_json b)
 
 -- a value that is held as an unsigned integer
 pub json_of_u64 : (d : Data) (n : ℕ) → n < 2 ^ 64 → option_and_then as_u64 (as_number d) ≡ Some n → IsJsonOf d (decimal n)
 json_of_u64 (number (unsigned m)) n h e = let same : m ≡ n = cc in rw same (unsigned_json n h)
-json_of_u64 (number (negative z)) n h e = absurd cc
-json_of_u64 (number (float x)) n h e = absurd cc
-json_of_u64 null n h e = absurd cc
-json_of_u64 (boolean b) n h e = absurd cc
-json_of_u64 (string s) n h e = absurd cc
-json_of_u64 (array ds) n h e = absurd cc
-json_of_u64 (object ms) n h e = absurd cc
+json_of_u64 _ n h e = absurd cc
 
 -- a value that is held as a negative integer
 pub json_of_i64 : (d : Data) (z : ℤ) → SFits w64 z → int_lt z (pos 0) ≡ true → option_and_then as_i64 (as_number d) ≡ Some z → IsJsonOf d (signed_decimal z)
 json_of_i64 d (pos n) fits below e = absurd (grind arith)
 json_of_i64 (number (unsigned m)) (negsuc n) fits below e = absurd (not_unsigned (nat_lt m (2 ^ 63)) m n e)
 json_of_i64 (number (negative z)) (negsuc n) fits below e = let same : z ≡ negsuc n = cc in rw same (negative_json n (grind arith))
-json_of_i64 (number (float x)) (negsuc n) fits below e = absurd cc
-json_of_i64 null (negsuc n) fits below e = absurd cc
-json_of_i64 (boolean b) (negsuc n) fits below e = absurd cc
-json_of_i64 (string s) (negsuc n) fits below e = absurd cc
-json_of_i64 (array ds) (negsuc n) fits below e = absurd cc
-json_of_i64 (object ms) (negsuc n) fits below e = absurd cc
+json_of_i64 _ (negsuc n) fits below e = absurd cc

@@ -11,14 +11,9 @@ use Rattle.serde_json_path_functions.specs.contracts.types.FunctionArgTypePartia
 
 pub kinds_decided : (a b : FunctionArgType) → Decides (eq-value.it a b) (kind_view a ≡ kind_view b)
 kinds_decided kind.Value kind.Value = (λ e. refl, λ e. refl)
-kinds_decided kind.Value kind.Nodelist = (λ e. absurd (true≢false (sym e)), λ e. absurd cc)
-kinds_decided kind.Value kind.Logical = (λ e. absurd (true≢false (sym e)), λ e. absurd cc)
-kinds_decided kind.Nodelist kind.Value = (λ e. absurd (true≢false (sym e)), λ e. absurd cc)
 kinds_decided kind.Nodelist kind.Nodelist = (λ e. refl, λ e. refl)
-kinds_decided kind.Nodelist kind.Logical = (λ e. absurd (true≢false (sym e)), λ e. absurd cc)
-kinds_decided kind.Logical kind.Value = (λ e. absurd (true≢false (sym e)), λ e. absurd cc)
-kinds_decided kind.Logical kind.Nodelist = (λ e. absurd (true≢false (sym e)), λ e. absurd cc)
 kinds_decided kind.Logical kind.Logical = (λ e. refl, λ e. refl)
+kinds_decided _ _ = (λ e. absurd (true≢false (sym e)), λ e. absurd cc)
 
 same_list : (a b : Kind) (xs ys : List Kind) (s r : Bool) → Decides s (a ≡ b) → Decides r (xs ≡ ys) → Decides (s && r) ((a ∷ xs) ≡ (b ∷ ys))
 same_list a b xs ys s r d e =

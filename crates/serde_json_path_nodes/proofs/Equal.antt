@@ -12,14 +12,13 @@ use Rattle.serde_json_path_nodes.specs.contracts.path_element.PathElementPartial
 eq-value-same_step : (a b : PathElement) → eq-value.it a b ≡ same_step (step_view a) (step_view b)
 eq-value-same_step (Name a) (Name b) = refl
 eq-value-same_step (Index i) (Index j) = refl
-eq-value-same_step (Name a) (Index j) = refl
-eq-value-same_step (Index i) (Name b) = refl
+eq-value-same_step _ _ = refl
 
 pub elements-same_steps : (a b : List PathElement) → pointwise eq-value.it a b ≡ same_steps (map step_view a) (map step_view b)
 elements-same_steps [] [] = refl
 elements-same_steps [] (b ∷ bs) = refl
-elements-same_steps (a ∷ as_) [] = refl
 elements-same_steps (a ∷ as_) (b ∷ bs) = rw (eq-value-same_step a b, elements-same_steps as_ bs)
+elements-same_steps _ _ = refl
 
 -- lists that are alike are alike at each index
 alike-slice_get : (a b : List PathElement) (n : ℕ) → pointwise eq-value.it a b ≡ true → option_eq eq-value.it (slice_get a n) (slice_get b n) ≡ true
@@ -33,8 +32,8 @@ alike-slice_get (x ∷ xs) (y ∷ ys) (suc n) alike = alike-slice_get xs ys n ((
 option_eq-now : (r s : Option (Bor PathElement)) → option_eq (λ x y. eq-value.it x.now y.now) r s ≡ option_eq eq-value.it (option_copied r) (option_copied s)
 option_eq-now None None = refl
 option_eq-now None (Some y) = refl
-option_eq-now (Some x) None = refl
 option_eq-now (Some x) (Some y) = refl
+option_eq-now _ _ = refl
 
 -- a test that is never true answers false
 false_unless : (test : Bool) → (test ≡ true → ⊥) → false ≡ test

@@ -1,15 +1,14 @@
 -- In a list of numbered nodes, those that no node of a lower number shares its location with are `first_places`.
-use Rattle.std.proofs.Common.{◌≡◌, ℕ, suc, ◌+◌, ◌<◌, ◌≤◌, Bool, true, false, not, cond, ◌||◌, ◌&&◌, ltb, if◌then◌else◌, List, [], ◌∷◌, ◌++◌, length, get_or, map, refl, ap, sym, ◌∙◌, arith, append_assoc}
+use Rattle.std.proofs.Common.{◌≡◌, ℕ, suc, ◌+◌, ◌<◌, ◌≤◌, Bool, true, false, not, cond, if◌then◌else◌, List, [], ◌∷◌, ◌++◌, length, get_or, map, refl, ap, sym, ◌∙◌, arith, append_assoc}
 use Rattle.std.specs.List.{All, AllByRecursion, filter, list_any}
-use Rattle.std.specs.Ordering.{is_eq, on}
-use Rattle.std.proofs.lemmas.Bool.{and_right, le-ltb, lt-ltb, or_from}
+use Rattle.std.specs.Ordering.{on}
+use Rattle.std.proofs.lemmas.Bool.Decides.{nat_tests}
 use Rattle.std.proofs.lemmas.List.{map_push}
 use Rattle.std.proofs.lemmas.List.Elements.{All-nil, All-push, All-weaker, recursion_from_All}
 use Rattle.std.proofs.lemmas.List.Folds.{list_any-append}
 use Rattle.std.specs.declared.cmp.Ordering.{Ordering}
 use Rattle.serde_json_path_nodes.specs.Lists.{is_among, first_places, first_places_after}
 use Rattle.serde_json_path_nodes.specs.Inside.NodeOrder.{AreNumbered}
-use Rattle.serde_json_path_nodes.specs.Same.{same_steps}
 use Rattle.serde_json_path_nodes.specs.Inside.StepOrder.{location_cmp}
 use Rattle.serde_json_path_nodes.specs.Views.{located, location_of}
 use Rattle.serde_json_path_nodes.specs.declared.located_node.LocatedNode.{LocatedNode}
@@ -36,32 +35,21 @@ numbered_from start (node ∷ nodes) numbers = (
   numbered_from (start + 1) nodes (λ k d within. omega (arith, numbers (suc k) d (omega arith))),
 )
 
-and_known : (test known : Bool) → known ≡ true → (test && known) ≡ test
-and_known true known holds = holds
-and_known false known holds = refl
-
-or_known : (test known : Bool) → known ≡ false → (test || known) ≡ test
-or_known true known fails = refl
-or_known false known fails = fails
-
 -- later nodes are no reason to leave one out
 none_later : (node : LocatedNode) (start : ℕ) (nodes : List LocatedNode) → node.number ≤ start → AreNumberedFrom start nodes
     → list_any (repeats by_location number_of node) nodes ≡ false
 none_later node start [] low numbered = refl
 none_later node start (next ∷ nodes) low numbered =
-    or_from (repeats by_location number_of node next) (list_any (repeats by_location number_of node) nodes)
-    (let above : node.number ≤ next.number = omega (arith, numbered.0) in and_right (is_eq (by_location node next)) (ltb next.number node.number) (le-ltb next.number node.number above))
-    (none_later node (start + 1) nodes (omega arith) numbered.1)
+    let below : node.number ≤ next.number = omega (arith, numbered.0) in
+    grind (arith, nat_tests, below, none_later node (start + 1) nodes (omega arith) numbered.1)
 
 -- earlier nodes are, where they have its location
 among_earlier : (node : LocatedNode) (nodes : List LocatedNode) → AllByRecursion (λ before. before.number < node.number) nodes
     → list_any (repeats by_location number_of node) nodes ≡ is_among node.location (map location_of (map located nodes))
 among_earlier node [] earlier = refl
 among_earlier node (before ∷ nodes) earlier =
-    let same : repeats by_location number_of node before ≡ same_steps node.location before.location =
-    and_known (is_eq (by_location node before)) (ltb before.number node.number) (lt-ltb before.number node.number earlier.0)
-    ∙ sym (location_cmp-ties node.location before.location) in
-    λ i. same i || among_earlier node nodes earlier.1 i
+    let below : before.number < node.number = earlier.0 in
+    grind (arith, nat_tests, below, location_cmp-ties node.location before.location, among_earlier node nodes earlier.1)
 
 -- one node first: it is kept unless its location is among the earlier ones
 one_more : (among : Bool) (node : LocatedNode) (nodes : List LocatedNode)
@@ -79,10 +67,13 @@ first_places_from all before (node ∷ nodes) start split earlier numbered =
     let rest = filter (is_first_among by_location number_of all) nodes in
     let low : All (λ other. other.number < node.number) before = All-weaker (λ other. other.number < start) (λ other. other.number < node.number) (λ other below. omega (arith, below, numbered.0)) before earlier in
     let among : list_any (repeats by_location number_of node) all ≡ is_among node.location seen =
-    ap (list_any (repeats by_location number_of node)) split
-    ∙ list_any-append (repeats by_location number_of node) before (node ∷ nodes)
-    ∙ or_known (list_any (repeats by_location number_of node) before) _ (none_later node start (node ∷ nodes) (omega (arith, numbered.0)) numbered)
-    ∙ among_earlier node before (recursion_from_All (λ other. other.number < node.number) before low) in
+    rw split (grind (
+      arith,
+      nat_tests,
+      list_any-append (repeats by_location number_of node) before (node ∷ nodes),
+      none_later node start (node ∷ nodes) (omega (arith, numbered.0)) numbered,
+      among_earlier node before (recursion_from_All (λ other. other.number < node.number) before low),
+    )) in
     let further = first_places_from all (before ++ node ∷ []) nodes (start + 1) (split ∙ sym (append_assoc before (node ∷ []) nodes))
     (All-push (λ other. other.number < start + 1) before node
     (All-weaker (λ other. other.number < start) (λ other. other.number < start + 1) (λ other below. omega (arith, below)) before earlier) (omega (arith, numbered.0))) numbered.1 in

@@ -1,56 +1,47 @@
 -- Numbered elements are sorted by an order and then by number, those that tie with their neighbour are removed, and the
 -- others are sorted back by number: what is left are the elements that no earlier one ties with, in their order.
-use Rattle.std.proofs.Common.{◌≡◌, ℕ, zero, suc, ◌+◌, ◌<◌, ◌≤◌, Bool, true, false, cond, not, ◌&&◌, ◌||◌, ltb, nat_eq, true≢false, List, [], ◌∷◌, length, get_or, refl, ap, sym, ◌∙◌, arith, inl, inr}
-use Rattle.std.specs.Cmp.{IsTotalOrder, unsigned_ties}
-use Rattle.std.specs.List.{All, AllByRecursion, AllPairs, IsDistinct, dedup, dedup_from, filter, list_any, sum_by}
+use Rattle.std.proofs.Common.{◌≡◌, ℕ, suc, ◌+◌, ◌<◌, ◌≤◌, Bool, true, false, cond, not, ◌&&◌, ◌||◌, ltb, nat_eq, true≢false, List, [], ◌∷◌, length, get_or, refl, ap, sym, ◌∙◌, arith, inl, inr}
+use Rattle.std.specs.Cmp.{Equal-is, IsTotalOrder, unsigned_ties}
+use Rattle.std.specs.List.{All, AllByRecursion, IsDistinct, dedup, dedup_from, filter, list_any, sum_by}
 use Rattle.std.specs.List.Sorted.{IsNonDecreasingBy, IsPermutation, IsSortedBy, IsStrictlySortedBy}
 use Rattle.std.specs.Ordering.{eq_by_cmp, is_eq, is_gt, is_lt, nat_cmp, on, ordering_reverse, ordering_then, then_cmp}
 use Rattle.std.specs.declared.cmp.Ordering.{Ordering}
 use Rattle.std.specs.declared.cmp.Ordering.TheVariants.{Less, Equal, Greater}
-use Rattle.std.proofs.lemmas.Bool.{and_from, and_parts, and_right, cases_lt, false_from_ne_true, le-ltb, lt-ltb, ltb-true, ne_eqb, or_from, or_left}
+use Rattle.std.proofs.lemmas.Bool.{and_from, and_parts, cases_lt, false_from_ne_true, le-ltb, lt-ltb, ne_eqb, or_left}
+use Rattle.std.proofs.lemmas.Bool.Decides.{nat_tests}
 use Rattle.std.proofs.lemmas.Cmp.{alike_right, nat_cmp_total, nat_eq_equiv, on_total, ranked, then_total, tied_back}
 use Rattle.std.proofs.lemmas.List.{get_or_default}
-use Rattle.std.proofs.lemmas.List.Elements.{All-filter, All-same, All-tail, filter_agree, recursion_from_All}
+use Rattle.std.proofs.lemmas.List.Elements.{All-filter, All-same, All-tail, filter_agree}
 use Rattle.std.proofs.lemmas.List.Kept.{IsNonDecreasingBy-filter}
-use Rattle.std.proofs.lemmas.List.Sorted.{All-permutation, list_any-IsPermutation, ranks_by, sorted_far, sum_by-IsPermutation}
+use Rattle.std.proofs.lemmas.List.Sorted.{All-permutation, list_any-IsPermutation, sum_by-IsPermutation}
 use Rattle.std.proofs.lemmas.List.Sums.{sum_by-cons, sum_by-le}
-use Rattle.std.proofs.lemmas.Map.Keys.{apart_from_distinct, IsDistinct-from_apart, IsDistinct-IsPermutation}
+use Rattle.std.proofs.lemmas.Map.Keys.{sorted_from_all_adjacent, apart_from_distinct, IsDistinct-from_apart, IsDistinct-IsPermutation}
 
 -- ---- orderings
 
 -- two orders in turn, of which the second decides where the first ties
 not_greater : (first next : Ordering) → ordering_then first next ≡ Less → is_gt first ≡ false
-not_greater Less next less = refl
-not_greater Equal next less = refl
 not_greater Greater next less = cc
+not_greater _ next less = refl
 
 next_less : (first next : Ordering) → ordering_then first next ≡ Less → is_eq first ≡ true → next ≡ Less
-next_less Less next less tie = cc
 next_less Equal next less tie = less
-next_less Greater next less tie = cc
-
-equal_from : (order : Ordering) → is_eq order ≡ true → order ≡ Equal
-equal_from Less tie = cc
-equal_from Equal tie = refl
-equal_from Greater tie = cc
+next_less _ next less tie = cc
 
 -- what is neither less nor a tie the other way round is less
 less_from : (forth back : Ordering) → forth ≡ ordering_reverse back → is_lt back ≡ false → is_eq back ≡ false → forth ≡ Less
-less_from forth Less reversed not_less no_tie = cc
-less_from forth Equal reversed not_less no_tie = cc
 less_from forth Greater reversed not_less no_tie = reversed
+less_from forth _ reversed not_less no_tie = cc
 
 -- of two that do not tie, one is greater than the other
 no_cycle : (forth back : Ordering) → forth ≡ ordering_reverse back → is_gt forth ≡ false → is_gt back ≡ false → is_eq back ≡ false → ⊥
 no_cycle forth Less reversed low high no_tie = cc
-no_cycle forth Equal reversed low high no_tie = cc
-no_cycle forth Greater reversed low high no_tie = cc
+no_cycle forth _ reversed low high no_tie = cc
 
 -- numbers that differ do not tie
 no_tie_by_next : (first : Ordering) (m n : ℕ) → nat_eq m n ≡ false → is_eq (ordering_then first (nat_cmp m n)) ≡ false
-no_tie_by_next Less m n differ = refl
 no_tie_by_next Equal m n differ = sym (unsigned_ties m n) ∙ differ
-no_tie_by_next Greater m n differ = refl
+no_tie_by_next _ m n differ = refl
 
 -- a test that implies another one adds nothing to it
 absorbed : (first next rest : Bool) → (next ≡ true → first ≡ true) → (first || (next || rest)) ≡ (first || rest)
@@ -73,9 +64,7 @@ module _ {X : Type 0} where
   sum_by-filter : (f : X → ℕ) (p : X → Bool) (xs : List X) → sum_by f (filter p xs) ≡ sum_by (λ x. cond (p x) (f x) 0) xs
   sum_by-filter f p [] = refl
   sum_by-filter f p (x ∷ xs) =
-      let more : (b : Bool) → sum_by f (cond b (x ∷ filter p xs) (filter p xs)) ≡ cond b (f x) 0 + sum_by f (filter p xs) =
-      λ b. elim b as (λ c. sum_by f (cond c (x ∷ filter p xs) (filter p xs)) ≡ cond c (f x) 0 + sum_by f (filter p xs)) [ true ↦ sum_by-cons f x (filter p xs) | false ↦ omega arith ] in
-      more (p x) ∙ ap (λ n. cond (p x) (f x) 0 + n) (sum_by-filter f p xs) ∙ sym (sum_by-cons (λ y. cond (p y) (f y) 0) x xs)
+      grind (arith, nat_tests, sum_by-cons f x (filter p xs), sum_by-cons (λ y. cond (p y) (f y) 0) x xs, sum_by-filter f p xs)
 
 -- ---- a list that is sorted by number is determined by its elements
 
@@ -139,47 +128,29 @@ module _ {X : Type 0} (order : X → X → Ordering) (number : X → ℕ) where
   later x y less tie = ranked (number x) (number y) Less (sym (next_less (order x y) (nat_cmp (number x) (number y)) less tie))
 
   repeats_none : (x y : X) → order_then_number x y ≡ Less → repeats x y ≡ false
-  repeats_none x y less =
-      let known : (b : Bool) → is_eq (order x y) ≡ b → (b && ltb (number y) (number x)) ≡ false =
-      λ b. elim b as (λ c. is_eq (order x y) ≡ c → (c && ltb (number y) (number x)) ≡ false) [
-        | true ↦ λ tie. let below : number x < number y = later x y less tie in le-ltb (number y) (number x) (omega arith)
-        | false ↦ λ no_tie. refl
-      ] in
-      known (is_eq (order x y)) refl
+  repeats_none x y less = grind (arith, nat_tests, later x y less)
 
   -- nothing repeats an element that comes later
   repeats_no_later : (x : X) (xs : List X) → AllByRecursion (λ y. order_then_number x y ≡ Less) xs → list_any (repeats x) xs ≡ false
   repeats_no_later x [] above = refl
-  repeats_no_later x (y ∷ ys) above = or_from (repeats x y) (list_any (repeats x) ys) (repeats_none x y above.0) (repeats_no_later x ys above.1)
+  repeats_no_later x (y ∷ ys) above = rw (repeats_none x y above.0) (repeats_no_later x ys above.1)
 
   first_is_first : (x : X) (xs : List X) → AllByRecursion (λ y. order_then_number x y ≡ Less) xs → is_first_among (x ∷ xs) x ≡ true
-  first_is_first x xs above =
-      ap not (or_from (repeats x x) (list_any (repeats x) xs)
-      (and_right (is_eq (order x x)) (ltb (number x) (number x)) (le-ltb (number x) (number x) (omega arith)))
-      (repeats_no_later x xs above))
-
-  strict_from_pairs : (xs : List X) → AllPairs (λ x y. order_then_number x y ≡ Less) xs → IsStrictlySortedBy order_then_number xs
-  unfolding IsStrictlySortedBy
-  strict_from_pairs [] pairs = tt
-  strict_from_pairs (x ∷ xs) pairs = (
-    recursion_from_All (λ y. order_then_number x y ≡ Less) xs (λ k d within. pairs zero (suc k) d (omega arith) (omega arith)),
-    strict_from_pairs xs (λ i j d below within. pairs (suc i) (suc j) d (omega arith) (omega arith)),
-  )
+  first_is_first x xs above = grind (arith, nat_tests, repeats_no_later x xs above)
 
   module _ (total : IsTotalOrder order) where
     -- what repeats an element that repeats an earlier one repeats the earlier one
     repeats_through : (x y z : X) → order_then_number x y ≡ Less → is_eq (order y x) ≡ true → repeats z y ≡ true → repeats z x ≡ true
     repeats_through x y z less tie repeat =
         let parts = and_parts (is_eq (order z y)) (ltb (number y) (number z)) repeat in
-        let level : order y x ≡ Equal = equal_from (order y x) tie in
+        let level : order y x ≡ Equal = (Equal-is (order y x)).0 tie in
         let below : number x < number y = later x y less (ap is_eq (tied_back total y x level)) in
-        let above : number y < number z = ltb-true (number y) (number z) parts.1 in
-        and_from (is_eq (order z x)) (ltb (number x) (number z)) (ap is_eq (sym (alike_right total y x z level)) ∙ parts.0) (lt-ltb (number x) (number z) (omega arith))
+        grind (arith, nat_tests, alike_right total y x z level, parts)
 
     -- two elements with another between them that does not tie with the first
     apart : (x y z : X) → order_then_number x y ≡ Less → is_eq (order y x) ≡ false → order_then_number y z ≡ Less → is_eq (order z x) ≡ false
     apart x y z less no_tie less_again = false_from_ne_true (is_eq (order z x)) (λ tie.
-        let same : order y z ≡ order y x = alike_right total z x y (equal_from (order z x) tie) in
+        let same : order y z ≡ order y x = alike_right total z x y ((Equal-is (order z x)).0 tie) in
         no_cycle (order x y) (order y x) (total.antisymm x y) (not_greater (order x y) (nat_cmp (number x) (number y)) less)
         (ap is_gt (sym same) ∙ not_greater (order y z) (nat_cmp (number y) (number z)) less_again) no_tie)
 
@@ -204,7 +175,7 @@ module _ {X : Type 0} (order : X → X → Ordering) (number : X → ℕ) where
         λ b. elim b as (λ c. is_eq (order y x) ≡ c
         → cond c (dedup_from (eq_by_cmp order) x ys) (x ∷ dedup_from (eq_by_cmp order) y ys) ≡ filter (is_first_among all) all) [
           | true ↦ λ tie.
-              let below : number x < number y = later x y rise.0.0 (ap is_eq (tied_back total y x (equal_from (order y x) tie))) in
+              let below : number x < number y = later x y rise.0.0 (ap is_eq (tied_back total y x ((Equal-is (order y x)).0 tie))) in
               let repeat : repeats y x ≡ true = and_from (is_eq (order y x)) (ltb (number x) (number y)) tie (lt-ltb (number x) (number y) below) in
               dedup_from_is x ys (rise.0.1, rise.1.1)
               ∙ filter_agree (is_first_among (x ∷ ys)) (is_first_among all)
@@ -228,12 +199,14 @@ module _ {X : Type 0} (order : X → X → Ordering) (number : X → ℕ) where
     -- where numbers differ, a sorted list rises strictly
     strict_from_sorted : (xs : List X) → IsSortedBy (λ x y. is_lt (order_then_number x y)) xs → IsDistinct (on number nat_eq) xs
         → IsStrictlySortedBy order_then_number xs
-    strict_from_sorted xs up distinct = strict_from_pairs xs (λ i j d below within.
-        let x = get_or xs i d in
-        let y = get_or xs j d in
-        less_from (order_then_number x y) (order_then_number y x) (order_then_number-total.antisymm x y)
-        (sorted_far (λ a b. is_lt (order_then_number a b)) (ranks_by order_then_number-total (λ a. a)) xs up i j d (omega arith) within)
-        (no_tie_by_next (order y x) (number y) (number x) (nat_eq_equiv.symm (number y) (number x) ∙ apart_from_distinct (on number nat_eq) xs i j d distinct below within)))
+    unfolding IsStrictlySortedBy
+    strict_from_sorted [] up distinct = tt
+    strict_from_sorted (first ∷ others) up distinct = sorted_from_all_adjacent order_then_number-total (first ∷ others) first (λ k within.
+        let x = get_or (first ∷ others) k first in
+        let y = get_or (first ∷ others) (k + 1) first in
+        less_from (order_then_number x y) (order_then_number y x) (order_then_number-total.antisymm x y) (up k first (omega arith) within)
+        (no_tie_by_next (order y x) (number y) (number x) (nat_eq_equiv.symm (number y) (number x)
+        ∙ apart_from_distinct (on number nat_eq) (first ∷ others) k (k + 1) first distinct (omega arith) within)))
 
     -- numbered elements are sorted, freed of repeats and sorted back
     module _ (numbered sorted back : List X) (numbers : (k : ℕ) (d : X) → k < length numbered → number (get_or numbered k d) ≡ k)

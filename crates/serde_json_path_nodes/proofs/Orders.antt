@@ -13,26 +13,19 @@ use Rattle.serde_json_path_nodes.specs.Inside.StepOrder.{step_cmp, location_cmp}
 
 step_cmp-antisymm : (s t : Step) → step_cmp s t ≡ ordering_reverse (step_cmp t s)
 step_cmp-antisymm (by_name a) (by_name b) = nat_list_cmp_total.antisymm a b
-step_cmp-antisymm (by_name a) (by_position j) = refl
-step_cmp-antisymm (by_position i) (by_name b) = refl
 step_cmp-antisymm (by_position i) (by_position j) = nat_cmp_total.antisymm i j
+step_cmp-antisymm _ _ = refl
 
 step_cmp-trans : (s t u : Step) → step_cmp s t ≡ Less → step_cmp t u ≡ Less → step_cmp s u ≡ Less
 step_cmp-trans (by_name a) (by_name b) (by_name c) first second = nat_list_cmp_total.trans a b c first second
-step_cmp-trans (by_name a) (by_name b) (by_position k) first second = refl
-step_cmp-trans (by_name a) (by_position j) (by_name c) first second = cc
-step_cmp-trans (by_name a) (by_position j) (by_position k) first second = refl
-step_cmp-trans (by_position i) (by_name b) u first second = cc
-step_cmp-trans (by_position i) (by_position j) (by_name c) first second = cc
 step_cmp-trans (by_position i) (by_position j) (by_position k) first second = nat_cmp_total.trans i j k first second
+step_cmp-trans (by_name a) (by_position j) (by_position k) first second = refl
+step_cmp-trans _ _ _ first second = cc
 
 step_cmp-congr : (s t u : Step) → step_cmp s t ≡ Equal → step_cmp s u ≡ step_cmp t u
 step_cmp-congr (by_name a) (by_name b) (by_name c) tie = nat_list_cmp_total.congr a b c tie
-step_cmp-congr (by_name a) (by_name b) (by_position k) tie = refl
-step_cmp-congr (by_name a) (by_position j) u tie = cc
-step_cmp-congr (by_position i) (by_name b) u tie = cc
-step_cmp-congr (by_position i) (by_position j) (by_name c) tie = refl
 step_cmp-congr (by_position i) (by_position j) (by_position k) tie = nat_cmp_total.congr i j k tie
+step_cmp-congr _ _ _ tie = cc
 
 pub location_cmp-total : IsTotalOrder location_cmp
 location_cmp-total = lists_total (record { antisymm = step_cmp-antisymm; trans = step_cmp-trans; congr = step_cmp-congr })
@@ -40,9 +33,8 @@ location_cmp-total = lists_total (record { antisymm = step_cmp-antisymm; trans =
 -- equal steps tie
 step_cmp-ties : (s t : Step) → same_step s t ≡ eq_by_cmp step_cmp s t
 step_cmp-ties (by_name a) (by_name b) = lists_ties nat_cmp unsigned_ties a b
-step_cmp-ties (by_name a) (by_position j) = refl
-step_cmp-ties (by_position i) (by_name b) = refl
 step_cmp-ties (by_position i) (by_position j) = unsigned_ties i j
+step_cmp-ties _ _ = refl
 
 -- and so do locations
 pub location_cmp-ties : (a b : List Step) → same_steps a b ≡ eq_by_cmp location_cmp a b
@@ -81,3 +73,6 @@ slice_cmp-ended R f [] [] ended = refl
 slice_cmp-ended R f [] (y ∷ ys) ended = grind (arith, nat_tests)
 slice_cmp-ended R f (x ∷ xs) [] ended = grind (arith, nat_tests)
 slice_cmp-ended R f (x ∷ xs) (y ∷ ys) ended = absurd (elim ended [ inl none ↦ omega arith | inr none ↦ omega arith ])
+
+-- two lists, step by step
+pub ruleset of_lists = (slice_cmp-tie, lengths-tie, slice_cmp-decided, slice_cmp-ended)

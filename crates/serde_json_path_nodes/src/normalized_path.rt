@@ -98,6 +98,7 @@ impl<'b> NormalizedPath<'b> {
     }
 
     /// A total order in which only equal locations tie.
+    #[tactic(auto, using(crate::proofs::Orders::of_lists))]
     pub(crate) fn compare(&self, other: &NormalizedPath<'b>) -> Ordering
         ensures { result ≡ location_cmp self.now other.now }
     {
@@ -209,6 +210,7 @@ impl Printed {
 }
 
 /// Appends a name as a JSON pointer writes it: `~` as `~0`, `/` as `~1`.
+#[tactic(auto, using(crate::proofs::Pointers::pointer_more))]
 fn push_in_pointer(text: &mut String, name: &str) -> Result<(), AllocError>
     ensures { OnOk result (string_bytes text.new
         ≡ string_bytes text.old ++ flat_map in_pointer name.now) }

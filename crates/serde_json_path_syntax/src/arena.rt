@@ -16,7 +16,7 @@ pub(crate) struct Arena {
 }
 
 impl Arena {
-    ghost use Rattle.std.specs.Prelude.{ℕ, List, true, ◌≡◌, ◌<◌, ◌≤◌, ◌++◌, ◌∷◌, [], if◌then◌else◌, IfOk, is_ok, length};
+    ghost use Rattle.std.specs.Prelude.{ℕ, List, true, ◌≡◌, ◌<◌, ◌≤◌, ◌++◌, ◌∷◌, [], IfOk, OnErr, OnOk, length};
     ghost use Rattle.serde_json_path_syntax.specs.Flat.{NamesBelow, called_by, calls_among, part_query, piece_at, piece_of, pieces, pieces_named, segments_at};
     ghost use Rattle.serde_json_path_functions.specs.Functions.{Signature};
     ghost use Rattle.serde_json_path_syntax.specs.Kinds.{each_is, fits, is_segment};
@@ -37,12 +37,13 @@ impl Arena {
     /// Appends a node whose children already exist.
     // Inlined, so that a caller writes the node straight into the vector.
     #[inline(always)]
+    #[tactic(auto, using(crate::proofs::Tree::Fitting::fitting_pushed))]
     pub(crate) fn push(&mut self, node: Node) -> Result<Part, AllocError>
         requires below { NamesBelow (length self.old.nodes.items) node }
         requires fits { fits (pieces self.old.nodes.items) node ≡ true }
         ensures number { IfOk result (λ part. part.number ≡ length self.old.nodes.items) }
-        ensures nodes { self.new.nodes.items
-            ≡ (if is_ok result then self.old.nodes.items ++ node ∷ [] else self.old.nodes.items) }
+        ensures pushed { OnOk result (self.new.nodes.items ≡ self.old.nodes.items ++ node ∷ []) }
+        ensures refused { OnErr result (self.new.nodes.items ≡ self.old.nodes.items) }
     {
         let number = self.nodes.len();
         self.nodes.push(node)?;

@@ -28,7 +28,7 @@ pub struct SyntaxBuilder {
 }
 
 impl SyntaxBuilder {
-    ghost use Rattle.std.specs.Prelude.{true, ◌≡◌, ◌↔◌, ◌++◌, ◌∷◌, [], if◌then◌else◌, IfOk, OnErr, OnOk, IsTrue, is_ok, string_bytes, length};
+    ghost use Rattle.std.specs.Prelude.{true, ◌≡◌, ◌↔◌, ◌++◌, ◌∷◌, [], IfOk, OnErr, OnOk, IsTrue, string_bytes, length};
     ghost use Rattle.serde_json_path_syntax.specs.Tree as tree;
     ghost use Rattle.serde_json_path_syntax.specs.Literals.{literal_view, operator_view};
     ghost use Rattle.serde_json_path_syntax.specs.Piece.{a_query, a_segment, a_selector, an_or, an_and, a_basic, a_comparable, a_call, an_argument};
@@ -59,8 +59,8 @@ impl SyntaxBuilder {
             IsPart self.new part (piece_of (pieces self.old.arena.nodes.items) node)) }
         ensures keeps { called_by node ≡ [] → KeepsParts self.old self.new }
         ensures trees { KeepsTrees self.old self.new }
-        ensures calls { calls_in self.new
-            ≡ (if is_ok result then calls_in self.old ++ called_by node else calls_in self.old) }
+        ensures calls { OnOk result (calls_in self.new ≡ calls_in self.old ++ called_by node) }
+        ensures unchanged { OnErr result (calls_in self.new ≡ calls_in self.old) }
     {
         self.arena.push(node)
     }

@@ -35,7 +35,7 @@ pub struct Checked {
 
 impl Checked {
     ghost use Rattle.std.specs.Prelude.{ℕ, List, true, map, Some, IfOk, string_bytes};
-    ghost use Rattle.serde_json_path_syntax.specs.Kinds.{each_is, fits, is_segment};
+    ghost use Rattle.serde_json_path_syntax.specs.Kinds.{each_is, fits, is_segment, is_selector};
     ghost use Rattle.serde_json_path_syntax.specs.Lists.{IsIn};
     ghost use Rattle.serde_json_path_syntax.specs.Tree.{query, no_segments, segments_of};
     ghost use Rattle.serde_json_path_functions.specs.Functions.{FunctionSet, Signature};
@@ -261,7 +261,7 @@ impl Checked {
     #[inline]
     pub(crate) fn selector(&self, part: Part) -> SelectorRef<'_>
         requires within { part.number < length (nodes_in self.now) }
-        requires typed { UnderSome IsTypedSelector (selector_at (nodes_in self.now) part) }
+        requires is { is_selector (piece_at (nodes_in self.now) part.number) ≡ true }
         ensures selector_ref { selector_view (nodes_in self.now) result
             ≡ selector_at (nodes_in self.now) part }
         ensures below { selector_bound result ≤ part.number }
@@ -280,10 +280,11 @@ impl Checked {
 
     /// The selector at that index, from 0, among those in brackets.
     #[inline]
+    #[tactic(auto, using(crate::proofs::Tree::NamedParts::of_one_selector))]
     fn bracketed(&self, selectors: &[Part], number: usize) -> Option<SelectorRef<'_>>
         requires within { parts_bound selectors.now ≤ length (nodes_in self.now) }
-        requires typed { UnderSome AreTypedSelectors
-            (selectors_at (nodes_in self.now) selectors.now) }
+        requires are { each_is is_selector
+            (pieces_named (pieces (nodes_in self.now)) selectors.now) ≡ true }
         ensures more { IsSome result → number + 1 < 2 ^ 64 }
         ensures below { IfSome result (λ selector_ref.
             selector_bound selector_ref ≤ parts_bound selectors.now) }

@@ -1,9 +1,8 @@
 //! Copies of nodes. An error comes only where memory is refused.
 
-ghost use Rattle.std.specs.Prelude.{◌≡◌, List, IfOk};
-ghost use Rattle.serde_json_path_syntax.specs.Inside.Copies.{AreCopies, IsCopy};
+ghost use Rattle.std.specs.Prelude.{IfOk};
+ghost use Rattle.serde_json_path_syntax.specs.Inside.Copies.{AreCopies, IsCopy, IsCopyIn};
 ghost use Rattle.serde_json_path_syntax.specs.Kinds as kinds;
-ghost use Rattle.serde_json_path_syntax.specs.Piece.{Piece};
 
 use crate::node::{Argument, Comparable, Node, Segment, Selector};
 use std::alloc::{AllocError, Global};
@@ -57,11 +56,8 @@ impl Segment {
 
     /// A copy of the segment.
     fn try_clone(&self, alloc: Global) -> Result<Segment, AllocError>
-        ensures piece { IfOk result (λ copy.
-            (earlier : List Piece) → segment_of earlier copy ≡ segment_of earlier self.now) }
-        ensures parts { IfOk result (λ copy. segment_parts copy ≡ segment_parts self.now) }
-        ensures fits { IfOk result (λ copy. (earlier : List Piece)
-            → kinds.segment_fits earlier copy ≡ kinds.segment_fits earlier self.now) }
+        ensures { IfOk result (λ copy.
+            IsCopyIn segment_of kinds.segment_fits segment_parts self.now copy) }
     {
         match self {
             Segment::DotName(name) => Ok(Segment::DotName(String::from_str(alloc, name.as_str())?)),
@@ -76,11 +72,8 @@ impl Selector {
 
     /// A copy of the selector.
     fn try_clone(&self, alloc: Global) -> Result<Selector, AllocError>
-        ensures piece { IfOk result (λ copy.
-            (earlier : List Piece) → selector_of earlier copy ≡ selector_of earlier self.now) }
-        ensures parts { IfOk result (λ copy. selector_parts copy ≡ selector_parts self.now) }
-        ensures fits { IfOk result (λ copy. (earlier : List Piece)
-            → kinds.selector_fits earlier copy ≡ kinds.selector_fits earlier self.now) }
+        ensures { IfOk result (λ copy.
+            IsCopyIn selector_of kinds.selector_fits selector_parts self.now copy) }
     {
         match self {
             Selector::Name(name) => Ok(Selector::Name(String::from_str(alloc, name.as_str())?)),
@@ -97,11 +90,8 @@ impl Comparable {
 
     /// A copy of the side.
     fn try_clone(&self, alloc: Global) -> Result<Comparable, AllocError>
-        ensures piece { IfOk result (λ copy.
-            (earlier : List Piece) → comparable_of earlier copy ≡ comparable_of earlier self.now) }
-        ensures parts { IfOk result (λ copy. comparable_parts copy ≡ comparable_parts self.now) }
-        ensures fits { IfOk result (λ copy. (earlier : List Piece)
-            → kinds.comparable_fits earlier copy ≡ kinds.comparable_fits earlier self.now) }
+        ensures { IfOk result (λ copy.
+            IsCopyIn comparable_of kinds.comparable_fits comparable_parts self.now copy) }
     {
         match self {
             Comparable::Literal(literal) => Ok(Comparable::Literal(literal.try_clone(alloc)?)),
@@ -116,11 +106,8 @@ impl Argument {
 
     /// A copy of the argument.
     fn try_clone(&self) -> Result<Argument, AllocError>
-        ensures piece { IfOk result (λ copy.
-            (earlier : List Piece) → argument_of earlier copy ≡ argument_of earlier self.now) }
-        ensures parts { IfOk result (λ copy. argument_parts copy ≡ argument_parts self.now) }
-        ensures fits { IfOk result (λ copy. (earlier : List Piece)
-            → kinds.argument_fits earlier copy ≡ kinds.argument_fits earlier self.now) }
+        ensures { IfOk result (λ copy.
+            IsCopyIn argument_of kinds.argument_fits argument_parts self.now copy) }
     {
         match self {
             Argument::Value(value) => Ok(Argument::Value(value.clone()?)),

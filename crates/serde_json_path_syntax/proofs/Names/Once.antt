@@ -1,5 +1,6 @@
 -- A list of names with their signatures, and the same with each name at its first place alone.
-use Rattle.std.proofs.Common.{◌≡◌, ◌≢◌, ◌↔◌, ℕ, List, [], ◌∷◌, ◌++◌, filter, not, inl, inr, Bool, true, false, Option, Some, bytes_eq, if◌then◌else◌, refl, sym, ap, subst, ◌∙◌, true≢false}
+use Rattle.std.proofs.Common.{arith, ◌≡◌, ◌≢◌, ◌↔◌, ℕ, List, [], ◌∷◌, ◌++◌, filter, not, inl, inr, Bool, true, false, Option, Some, bytes_eq, if◌then◌else◌, refl, sym, ap, subst, ◌∙◌, true≢false}
+use Rattle.std.proofs.lemmas.Bool.Decides.{nat_tests}
 use Rattle.std.proofs.lemmas.Option.{none-some, same_Some}
 use Rattle.std.proofs.lemmas.Slice.Eq.{bytes_eq-Decides}
 use Rattle.serde_json_path_functions.specs.Functions.{Signature, FunctionSet, Fits}
@@ -44,21 +45,12 @@ named_once (v ∷ used) f (inr i) = found ((in_map (λ (u : Named). u.0) f (each
 -- another name keeps its signature where those of one name are left out
 signature-without : (used : List Named) (g f : List ℕ) → bytes_eq g f ≡ false → signature_in (filter (is_other g) used) f ≡ signature_in used f
 signature-without [] g f other = refl
-signature-without (u ∷ used) g f other = by (bytes_eq u.0 g) refl (signature-without used g f other)
-  where
-    by : (b : Bool) → bytes_eq u.0 g ≡ b → signature_in (filter (is_other g) used) f ≡ signature_in used f → signature_in (if not b then u ∷ filter (is_other g) used else filter (is_other g) used) f ≡ signature_in (u ∷ used) f
-    by true same later = later ∙ ap (λ b. if b then Some u.1 else signature_in used f) (sym (ap (λ k. bytes_eq k f) ((bytes_eq-Decides u.0 g).0 same) ∙ other))
-    by false differ later = ap (λ s. if bytes_eq u.0 f then Some u.1 else s) later
+signature-without (u ∷ used) g f other = grind (arith, nat_tests, other, (bytes_eq-Decides u.0 g).0, signature-without used g f other)
 
 -- and the signature of a name is the same in both
 pub signature-once : (used : List Named) (f : List ℕ) → signature_in (each_once used) f ≡ signature_in used f
 signature-once [] f = refl
-signature-once (u ∷ used) f = by (bytes_eq u.0 f) refl (signature-once used f)
-  where
-    by : (b : Bool) → bytes_eq u.0 f ≡ b → signature_in (each_once used) f ≡ signature_in used f
-        → (if b then Some u.1 else signature_in (filter (is_other u.0) (each_once used)) f) ≡ (if b then Some u.1 else signature_in used f)
-    by true same later = refl
-    by false other later = signature-without (each_once used) u.0 f other ∙ later
+signature-once (u ∷ used) f = grind (arith, nat_tests, signature-without (each_once used) u.0 f, signature-once used f)
 
 -- ---- each name once
 

@@ -5,10 +5,14 @@ use Rattle.serde_json_path_syntax.specs.Piece.{Piece}
 use Rattle.serde_json_path_syntax.specs.declared.node.Part.{Part}
 use Rattle.serde_json_path_syntax.specs.declared.builder.SyntaxBuilder.{SyntaxBuilder}
 use Rattle.serde_json_path_syntax.specs.Flat.{piece_in, pieces, pieces_named, selector_in, segments_in, selectors_in, ors_in, ands_in, arguments_in}
+use Rattle.std.proofs.lemmas.Option.{slice_get_read, slice_get_past}
+use Rattle.serde_json_path_syntax.proofs.Tree.BoundedParts.{within_bound}
+use Rattle.serde_json_path_syntax.proofs.Tree.Bounds.{below_length, past_length}
+use Rattle.serde_json_path_syntax.proofs.Tree.OtherParts.{one_is}
 use Rattle.serde_json_path_syntax.specs.Kinds.{each_is, is_and, is_argument, is_basic, is_segment, is_selector}
 use Rattle.serde_json_path_syntax.specs.PartBounds.{parts_bound}
 use Rattle.serde_json_path_syntax.specs.Stages.{selectors_list}
-use Rattle.serde_json_path_syntax.specs.Parts.{ArePartsFor, ArePartsOf, AreSelectorsOf, AreOrPartsOf, AreAndPartsOf, AreArgumentsOf, KeepsTrees, segment_pieces, selector_pieces, or_pieces, and_pieces, argument_pieces}
+use Rattle.serde_json_path_syntax.specs.Parts.{ArePartsFor, ArePartsOf, AreSelectorsOf, AreOrPartsOf, AreAndPartsOf, KeepsTrees, segment_pieces, selector_pieces, or_pieces, and_pieces, argument_pieces}
 
 pub parts_below : (builder : SyntaxBuilder) (parts : List Part) (ps : List Piece) → ArePartsFor builder parts ps → parts_bound parts ≤ length builder.arena.nodes.items
 parts_below builder [] ps h = omega arith
@@ -18,41 +22,59 @@ parts_below builder (part ∷ parts) (p ∷ ps) h =
     let later = parts_below builder parts ps h.1 in
     omega arith
 
-pieces_of_parts : (builder : SyntaxBuilder) (parts : List Part) (ps : List Piece) → ArePartsFor builder parts ps → pieces_named (pieces builder.arena.nodes.items) parts ≡ ps
+pub pieces_of_parts : (builder : SyntaxBuilder) (parts : List Part) (ps : List Piece) → ArePartsFor builder parts ps → pieces_named (pieces builder.arena.nodes.items) parts ≡ ps
 pieces_of_parts builder [] [] h = refl
 pieces_of_parts builder [] (p ∷ ps) h = absurd h
 pieces_of_parts builder (part ∷ parts) [] h = absurd h
 pieces_of_parts builder (part ∷ parts) (p ∷ ps) h = ap (λ piece. piece ∷ pieces_named (pieces builder.arena.nodes.items) parts) h.0.1 ∙ ap (λ more. p ∷ more) (pieces_of_parts builder parts ps h.1)
 
-segments_are : (segs : tree.Segments) → segments_in (segment_pieces segs) ≡ segs
+-- ---- what is made of the pieces of trees, and their kinds
+
+pub segments_are : (segs : tree.Segments) → segments_in (segment_pieces segs) ≡ segs
 segments_are tree.no_segments = refl
 segments_are (tree.segment kind seg more) = ap (tree.segment kind seg) (segments_are more)
 
-selectors_are : (sels : tree.Selectors) → selectors_in (selector_pieces sels) ≡ sels
+pub segments_fit : (segs : tree.Segments) → each_is is_segment (segment_pieces segs) ≡ true
+segments_fit tree.no_segments = refl
+segments_fit (tree.segment kind seg more) = segments_fit more
+
+pub selectors_are : (sels : tree.Selectors) → selectors_in (selector_pieces sels) ≡ sels
 selectors_are tree.no_selectors = refl
 selectors_are (tree.selector sel more) = ap (tree.selector sel) (selectors_are more)
 
--- the segments of parts are those that they stand for
-pub segments_named : (builder : SyntaxBuilder) (parts : List Part) (segs : tree.Segments) → ArePartsOf builder parts segs → segments_in (pieces_named (pieces builder.arena.nodes.items) parts) ≡ segs
-segments_named builder parts segs h = ap segments_in (pieces_of_parts builder parts (segment_pieces segs) h) ∙ segments_are segs
+pub selectors_fit : (sels : tree.Selectors) → each_is is_selector (selector_pieces sels) ≡ true
+selectors_fit tree.no_selectors = refl
+selectors_fit (tree.selector sel more) = selectors_fit more
 
--- the parts of selectors in brackets stand for their pieces
+pub ors_are : (e : tree.LogicalOr) → ors_in (or_pieces e) ≡ e
+ors_are tree.no_or = refl
+ors_are (tree.or e more) = ap (tree.or e) (ors_are more)
+
+pub ors_fit : (e : tree.LogicalOr) → each_is is_and (or_pieces e) ≡ true
+ors_fit tree.no_or = refl
+ors_fit (tree.or e more) = ors_fit more
+
+pub ands_are : (e : tree.LogicalAnd) → ands_in (and_pieces e) ≡ e
+ands_are tree.no_and = refl
+ands_are (tree.and e more) = ap (tree.and e) (ands_are more)
+
+pub ands_fit : (e : tree.LogicalAnd) → each_is is_basic (and_pieces e) ≡ true
+ands_fit tree.no_and = refl
+ands_fit (tree.and e more) = ands_fit more
+
+pub arguments_are : (args : tree.Arguments) → arguments_in (argument_pieces args) ≡ args
+arguments_are tree.no_arguments = refl
+arguments_are (tree.argument a more) = ap (tree.argument a) (arguments_are more)
+
+pub arguments_fit : (args : tree.Arguments) → each_is is_argument (argument_pieces args) ≡ true
+arguments_fit tree.no_arguments = refl
+arguments_fit (tree.argument a more) = arguments_fit more
+
+-- parts of which there is one at least stand for their pieces
 pub selectors_for : (builder : SyntaxBuilder) (parts : List Part) (sels : tree.Selectors) → AreSelectorsOf builder parts sels → ArePartsFor builder parts (selector_pieces sels)
 selectors_for builder [] sels h = absurd h
 selectors_for builder (part ∷ parts) sels h = h
 
-pub selectors_named : (builder : SyntaxBuilder) (parts : List Part) (sels : tree.Selectors) → AreSelectorsOf builder parts sels → selectors_in (pieces_named (pieces builder.arena.nodes.items) parts) ≡ sels
-selectors_named builder parts sels h = ap selectors_in (pieces_of_parts builder parts (selector_pieces sels) (selectors_for builder parts sels h)) ∙ selectors_are sels
-
-ors_are : (e : tree.LogicalOr) → ors_in (or_pieces e) ≡ e
-ors_are tree.no_or = refl
-ors_are (tree.or e more) = ap (tree.or e) (ors_are more)
-
-ands_are : (e : tree.LogicalAnd) → ands_in (and_pieces e) ≡ e
-ands_are tree.no_and = refl
-ands_are (tree.and e more) = ap (tree.and e) (ands_are more)
-
--- the parts of a logical expression stand for their pieces
 pub or_parts_for : (builder : SyntaxBuilder) (parts : List Part) (e : tree.LogicalOr) → AreOrPartsOf builder parts e → ArePartsFor builder parts (or_pieces e)
 or_parts_for builder [] e h = absurd h
 or_parts_for builder (part ∷ parts) e h = h
@@ -61,18 +83,24 @@ pub and_parts_for : (builder : SyntaxBuilder) (parts : List Part) (e : tree.Logi
 and_parts_for builder [] e h = absurd h
 and_parts_for builder (part ∷ parts) e h = h
 
-pub ors_named : (builder : SyntaxBuilder) (parts : List Part) (e : tree.LogicalOr) → AreOrPartsOf builder parts e → ors_in (pieces_named (pieces builder.arena.nodes.items) parts) ≡ e
-ors_named builder parts e h = ap ors_in (pieces_of_parts builder parts (or_pieces e) (or_parts_for builder parts e h)) ∙ ors_are e
-
-pub ands_named : (builder : SyntaxBuilder) (parts : List Part) (e : tree.LogicalAnd) → AreAndPartsOf builder parts e → ands_in (pieces_named (pieces builder.arena.nodes.items) parts) ≡ e
-ands_named builder parts e h = ap ands_in (pieces_of_parts builder parts (and_pieces e) (and_parts_for builder parts e h)) ∙ ands_are e
-
-arguments_are : (args : tree.Arguments) → arguments_in (argument_pieces args) ≡ args
-arguments_are tree.no_arguments = refl
-arguments_are (tree.argument a more) = ap (tree.argument a) (arguments_are more)
-
-pub arguments_named : (builder : SyntaxBuilder) (parts : List Part) (args : tree.Arguments) → AreArgumentsOf builder parts args → arguments_in (pieces_named (pieces builder.arena.nodes.items) parts) ≡ args
-arguments_named builder parts args h = ap arguments_in (pieces_of_parts builder parts (argument_pieces args) h) ∙ arguments_are args
+-- what a node is made of that names several parts
+pub ruleset of_named_parts = (
+  parts_below,
+  pieces_of_parts,
+  selectors_for,
+  or_parts_for,
+  and_parts_for,
+  segments_are,
+  selectors_are,
+  ors_are,
+  ands_are,
+  arguments_are,
+  segments_fit,
+  selectors_fit,
+  ors_fit,
+  ands_fit,
+  arguments_fit,
+)
 
 pub parts_for_kept : (old new : SyntaxBuilder) → KeepsTrees old new → (parts : List Part) (ps : List Piece) → ArePartsFor old parts ps → ArePartsFor new parts ps
 parts_for_kept old new keeps [] [] h = tt
@@ -90,42 +118,5 @@ selectors_get ps [] i = refl
 selectors_get ps (part ∷ parts) zero = refl
 selectors_get ps (part ∷ parts) (suc i) = selectors_get ps parts i
 
--- ---- their kinds
-
-pub segments_fit : (builder : SyntaxBuilder) (parts : List Part) (segs : tree.Segments) → ArePartsOf builder parts segs → each_is is_segment (pieces_named (pieces builder.arena.nodes.items) parts) ≡ true
-segments_fit builder parts segs h = ap (each_is is_segment) (pieces_of_parts builder parts (segment_pieces segs) h) ∙ each segs
-  where
-    each : (segs : tree.Segments) → each_is is_segment (segment_pieces segs) ≡ true
-    each tree.no_segments = refl
-    each (tree.segment kind seg more) = each more
-
-pub selectors_fit : (builder : SyntaxBuilder) (parts : List Part) (sels : tree.Selectors) → AreSelectorsOf builder parts sels → each_is is_selector (pieces_named (pieces builder.arena.nodes.items) parts) ≡ true
-selectors_fit builder parts sels h = ap (each_is is_selector) (pieces_of_parts builder parts (selector_pieces sels) (selectors_for builder parts sels h)) ∙ each sels
-  where
-    each : (sels : tree.Selectors) → each_is is_selector (selector_pieces sels) ≡ true
-    each tree.no_selectors = refl
-    each (tree.selector sel more) = each more
-
-pub ors_fit : (builder : SyntaxBuilder) (parts : List Part) (e : tree.LogicalOr) → AreOrPartsOf builder parts e → each_is is_and (pieces_named (pieces builder.arena.nodes.items) parts) ≡ true
-ors_fit builder parts e h = ap (each_is is_and) (pieces_of_parts builder parts (or_pieces e) (or_parts_for builder parts e h)) ∙ each e
-  where
-    each : (e : tree.LogicalOr) → each_is is_and (or_pieces e) ≡ true
-    each tree.no_or = refl
-    each (tree.or e more) = each more
-
-pub ands_fit : (builder : SyntaxBuilder) (parts : List Part) (e : tree.LogicalAnd) → AreAndPartsOf builder parts e → each_is is_basic (pieces_named (pieces builder.arena.nodes.items) parts) ≡ true
-ands_fit builder parts e h = ap (each_is is_basic) (pieces_of_parts builder parts (and_pieces e) (and_parts_for builder parts e h)) ∙ each e
-  where
-    each : (e : tree.LogicalAnd) → each_is is_basic (and_pieces e) ≡ true
-    each tree.no_and = refl
-    each (tree.and e more) = each more
-
-pub arguments_fit : (builder : SyntaxBuilder) (parts : List Part) (args : tree.Arguments) → AreArgumentsOf builder parts args → each_is is_argument (pieces_named (pieces builder.arena.nodes.items) parts) ≡ true
-arguments_fit builder parts args h = ap (each_is is_argument) (pieces_of_parts builder parts (argument_pieces args) h) ∙ each args
-  where
-    each : (args : tree.Arguments) → each_is is_argument (argument_pieces args) ≡ true
-    each tree.no_arguments = refl
-    each (tree.argument a more) = each more
-
--- what a node is made of that names several parts
-pub ruleset of_named_parts = (segments_named, selectors_named, ors_named, ands_named, arguments_named, selectors_for, or_parts_for, and_parts_for, parts_below, segments_fit, selectors_fit, ors_fit, ands_fit, arguments_fit)
+-- one of several selectors
+pub ruleset of_one_selector = (selectors_get, one_is, within_bound, slice_get_read, slice_get_past, below_length, past_length)

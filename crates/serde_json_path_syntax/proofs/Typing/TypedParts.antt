@@ -1,10 +1,10 @@
--- One of several parts that are well-typed is well-typed.
+-- One of several segments that are well-typed is well-typed.
 use Rattle.std.proofs.Common.{arith, ◌<◌, ◌≡◌, ℕ, zero, suc, List, [], ◌∷◌, length, get_or, Option, sym, subst}
 use Rattle.serde_json_path_functions.specs.Functions.{Signature}
 use Rattle.serde_json_path_syntax.specs.Piece.{Piece}
-use Rattle.serde_json_path_syntax.specs.Typing.{AreTypedSegments, AreTypedSelectors, IsTypedSegment, IsTypedSelector}
+use Rattle.serde_json_path_syntax.specs.Typing.{AreTypedSegments, IsTypedSegment}
 use Rattle.serde_json_path_syntax.specs.declared.node.Part.{Part}
-use Rattle.serde_json_path_syntax.specs.Flat.{piece_in, pieces_named, segment_in, segments_in, selector_in, selectors_in}
+use Rattle.serde_json_path_syntax.specs.Flat.{piece_in, pieces_named, segment_in, segments_in}
 
 module _ (signature : List ℕ → Option Signature) (ps : List Piece) where
   pub typed_segment : (parts : List Part) (i : ℕ) (part : Part) → i < length parts → part ≡ get_or parts i part
@@ -12,9 +12,3 @@ module _ (signature : List ℕ → Option Signature) (ps : List Piece) where
   typed_segment [] i part h e typed = absurd (omega (arith, h))
   typed_segment (p ∷ parts) zero part h e typed = subst (λ (x : Part). IsTypedSegment signature (segment_in (piece_in ps x.number))) (sym e) typed.0
   typed_segment (p ∷ parts) (suc i) part h e typed = typed_segment parts i part (omega (arith, h)) e typed.1
-
-  pub typed_selector : (parts : List Part) (i : ℕ) (part : Part) → i < length parts → part ≡ get_or parts i part
-      → AreTypedSelectors signature (selectors_in (pieces_named ps parts)) → IsTypedSelector signature (selector_in (piece_in ps part.number))
-  typed_selector [] i part h e typed = absurd (omega (arith, h))
-  typed_selector (p ∷ parts) zero part h e typed = subst (λ (x : Part). IsTypedSelector signature (selector_in (piece_in ps x.number))) (sym e) typed.0
-  typed_selector (p ∷ parts) (suc i) part h e typed = typed_selector parts i part (omega (arith, h)) e typed.1

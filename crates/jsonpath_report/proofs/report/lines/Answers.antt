@@ -2,7 +2,7 @@ use Rattle.std.proofs.Common.{[], ◌∷◌, ◌++◌, string_bytes, sym, ap, su
 use Rattle.serde_json_path_nodes.specs.Views.{located}
 use Rattle.serde_json_path_core.specs.Walks.{rest}
 use Rattle.jsonpath_report.specs.Report.{AreLinesIn}
-use Rattle.jsonpath_report.proofs.Lines.{lines_pushed, given_node, given_none}
+use Rattle.jsonpath_report.proofs.Lines.{lines_pushed}
 use Rattle.jsonpath_report.proofs.report.lines.Goals as goal
 
 pub nodes-preserved : goal.nodes-preserved
@@ -19,8 +19,7 @@ nodes-preserved g c =
       written = (
         done ++ located node ∷ [],
         subst (AreLinesIn c.args.form (done ++ located node ∷ [])) (sym pushed.2) (lines_pushed c.args.form done (string_bytes c.nodes.text) pushed.0 (located node) before.written.1 pushed.1),
-        let given = given_node c.in_ok-node.field-0 node _ left c.in-Some.is c.in_ok-node.ensures.given in
-            before.written.2 ∙ ap (λ more. done ++ more) given ∙ sym (append_assoc done (located node ∷ []) left),
+        before.written.2 ∙ ap (λ more. done ++ more) (rw c.in-Some.is at c.in_ok-node.ensures.given) ∙ sym (append_assoc done (located node ∷ []) left),
       );
     }
 
@@ -30,6 +29,5 @@ returns-clause-lines g c =
     let done = before.written.0 in (
       done,
       before.written.1,
-      let ended = given_none c.in_ok-node.field-0 _ (rest c.next.new.self) c.in_default.is c.in_ok-node.ensures.given in
-          sym (before.written.2 ∙ ap (λ more. done ++ more) ended ∙ append-nil done),
+      let ended = rw c.in_default.is at c.in_ok-node.ensures.given in sym (before.written.2 ∙ ap (λ more. done ++ more) ended.0 ∙ append-nil done),
     )

@@ -1,18 +1,7 @@
-use Rattle.std.proofs.Common.{◌≡◌, ℕ, List, [], ◌∷◌, Option, Some, None, refl, sym, ◌∙◌}
-use Rattle.serde_json_path_functions.specs.Functions.{FunctionSet, Signature, Fits, both, first_signature}
+use Rattle.std.proofs.Common.{subst, sym}
+use Rattle.serde_json_path_functions.specs.Functions.{Fits}
+use Rattle.serde_json_path_functions.proofs.Sets.{before_itself}
 use Rattle.serde_json_path.proofs.laws.law_set_before_itself.Goals as goal
 
-itself : (o : Option Signature) → first_signature o o ≡ o
-itself None = refl
-itself (Some s) = refl
-
-alone : (F : FunctionSet) (used : List (List ℕ × Signature)) → Fits (both F F) used → Fits F used
-alone F [] h = tt
-alone F (u ∷ used) h = (sym (itself (F.signature u.0)) ∙ h.0, alone F used h.1)
-
-twice : (F : FunctionSet) (used : List (List ℕ × Signature)) → Fits F used → Fits (both F F) used
-twice F [] h = tt
-twice F (u ∷ used) h = (itself (F.signature u.0) ∙ h.0, twice F used h.1)
-
 pub returns : goal.returns
-returns c = λ F used. (alone F used, twice F used)
+returns c = λ F used. (subst (λ G. Fits G used) (before_itself F), subst (λ G. Fits G used) (sym (before_itself F)))

@@ -1,8 +1,8 @@
 use Rattle.std.proofs.Common.{◌∙◌, ap, length, subst, sym}
+use Rattle.std.proofs.lemmas.Slice.Zip.{AllZip-long}
 use Rattle.serde_json_path_syntax.specs.Flat.{IsGrown, calls_among, pieces}
 use Rattle.serde_json_path_syntax.specs.Kinds.{AreFitting}
-use Rattle.serde_json_path_syntax.proofs.Tree.Fitting.{copied_fitting}
-use Rattle.serde_json_path_syntax.proofs.Tree.Copies.{copied_calls, copied_grown, copied_length, copied_pieces}
+use Rattle.serde_json_path_syntax.proofs.Tree.Copies.{copied_calls, copied_fitting, copied_grown, copied_pieces}
 use Rattle.serde_json_path_syntax.proofs.arena.Arena.try_clone.Goals as goal
 
 pub invariant_of-result : goal.invariant_of-result
@@ -18,4 +18,4 @@ pub returns-clause-calls : goal.returns-clause-calls
 returns-clause-calls c = copied_calls c.as_slice.result.now c.in_ok-nodes.nodes.items c.in_ok-nodes.ensures ∙ ap calls_among c.as_slice.ensures.value
 
 pub returns-clause-length : goal.returns-clause-length
-returns-clause-length c = copied_length c.as_slice.result.now c.in_ok-nodes.nodes.items c.in_ok-nodes.ensures ∙ ap length c.as_slice.ensures.value
+returns-clause-length c = AllZip-long _ c.as_slice.result.now c.in_ok-nodes.nodes.items c.in_ok-nodes.ensures ∙ ap length c.as_slice.ensures.value
