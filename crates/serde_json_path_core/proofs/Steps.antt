@@ -8,8 +8,6 @@ pub mod Lookups
 pub mod MapOrder
 -- the positions of a slice by the bounds that the code computes, and how they go on by one
 pub mod Positions
--- a comparison of two sides is that of what is seen of them
-pub mod ComparedSides
 -- parts of logical expressions one by one, and the first of the nodes that a query selects
 pub mod OperandLists
 -- what is so of an option whose case is known

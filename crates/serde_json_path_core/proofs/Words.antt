@@ -2,12 +2,12 @@
 pub use Rattle.std.proofs.Math.Logic.{∥∥₁_elim, ∥∥₁_map, ∥∥₁_map₂, ∥∥₁_prop}
 pub use Rattle.std.proofs.Math.Seq.{take-append_seam}
 pub use Rattle.std.proofs.lemmas.Bool.{cases_lt}
-pub use Rattle.std.proofs.lemmas.Bool.Decides.{Decides-and, Decides-eqb, Decides-int_eq, Decides-like, Decides-not, Decides-or, same_from_decides}
+pub use Rattle.std.proofs.lemmas.Bool.Decides.{Decides-and, Decides-eqb, Decides-int_eq, Decides-not, Decides-or, same_from_decides}
 pub use Rattle.std.proofs.lemmas.Cmp.{nat_list_cmp_total, tied_itself}
 pub use Rattle.std.proofs.lemmas.Grind.{common_steps, flat_map-append, not_there}
 pub use Rattle.std.proofs.lemmas.Int.{clamps, ints, to_z-of_z}
 pub use Rattle.std.proofs.lemmas.List.{append-nil, drop-drop, drop_all, drop_more, get_or_append_left, get_or_default, length-drop, length-map, length-set}
-pub use Rattle.std.proofs.lemmas.List.{length-take, map-append, map-id, set_at, take-append-drop, take_all}
+pub use Rattle.std.proofs.lemmas.List.{map-append, map-id, take-append-drop, take_all}
 pub use Rattle.std.proofs.lemmas.List.Folds.{flat_map-map}
 pub use Rattle.std.proofs.lemmas.Map.Text.{is_eq-slice_cmp}
 pub use Rattle.std.proofs.lemmas.Option.{none-some, option_and_then_some, same_Some, slice_get_past, slice_get_read}
@@ -20,7 +20,7 @@ pub use Rattle.std.specs.Cmp.Lexicographic.{slice_cmp}
 pub use Rattle.std.specs.List.{AllByRecursion, AllZip, take-map}
 pub use Rattle.std.specs.Map.{keys_of, lookup}
 pub use Rattle.std.specs.Option.{option_map_or}
-pub use Rattle.std.specs.Ordering.{int_eq, is_lt, match_ordering, ordering_reverse}
+pub use Rattle.std.specs.Ordering.{is_lt, match_ordering, ordering_reverse}
 pub use Rattle.std.specs.Prelude.{IfSome, if◌then◌else◌, int_lt, is_some, nat_lt, ◌*ℤ◌, ◌+ℤ◌, ◌-ℤ◌, ◌<ℤ◌, ◌≤ℤ◌}
 pub use Rattle.std.specs.Slice.Iter.{iter_rest}
 pub use Rattle.serde_json.proofs.Views.{Entry, get_item_past, get_item_within, get_member-put, get_member-put_other, items_len-items_view, view-Array}
@@ -78,12 +78,12 @@ pub use Rattle.serde_json_path_core.specs.Inside.Computed.{items_descents, items
 pub use Rattle.serde_json_path_core.specs.Inside.Computed.{positions_by, reached, results, results_from, rising, rising_amount, same_amount, same_data}
 pub use Rattle.serde_json_path_core.specs.Inside.Computed.{same_items, same_members, selected, sliced, strided}
 pub use Rattle.serde_json_path_core.specs.Inside.Cursors.{cursor_left}
-pub use Rattle.serde_json_path_core.specs.Inside.Evaluates.{Sound, compared_at}
+pub use Rattle.serde_json_path_core.specs.Inside.Evaluates.{Sound}
 pub use Rattle.serde_json_path_core.specs.Inside.Frames.{frame_view, frames_view, task_view}
-pub use Rattle.serde_json_path_core.specs.Inside.Rest.{AllStandIn, EndsIn, Frame, IsChain, IsInside, IsOfValue, IsStack, IsStackIn, admitted}
+pub use Rattle.serde_json_path_core.specs.Inside.Rest.{AllStandIn, EndsIn, Frame, IsAtChild, IsAtStart, IsChain, IsInside, IsOfValue, IsStack, IsStackIn, admitted}
 unfoldable pub use Rattle.serde_json_path_core.specs.Inside.Rest.{AreChildrenOf}
 pub use Rattle.serde_json_path_core.specs.Inside.Rest.{begun, candidates, entered, entering, frame_tasks, here, is_leaf, last_passed, lower, lower_left}
-pub use Rattle.serde_json_path_core.specs.Inside.Rest.{node_at, opened, passed, rest_of, stack_path, starting_frame, tasks, unfiltered, visit, visit_place}
+pub use Rattle.serde_json_path_core.specs.Inside.Rest.{node_at, opened, passed, rest_of, stack_path, tasks, unfiltered, visit, visit_place}
 pub use Rattle.serde_json_path_core.specs.Inside.Rest.{visit_rest, visit_stack, without_node, work}
 pub use Rattle.serde_json_path_core.specs.Inside.Scopes.{nodes_of, top_of}
 pub use Rattle.serde_json_path_core.specs.Inside.Selected.{child_by, item_at, position_in}

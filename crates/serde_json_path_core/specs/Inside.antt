@@ -25,8 +25,6 @@ pub mod Frames
 -- where a query goes on after segments that select one child at most
 pub mod SingleChildren
 -- the sides of a comparison as the definitions see them
-pub mod ComparedValues
--- what a comparison sees of its sides: the same of a literal and of a value that equals it
 pub mod Sides
 -- filters that are one comparison
 pub mod SingleComparisons

@@ -20,9 +20,10 @@ ghost use Rattle.serde_json_path_core.specs.Walks.{rest, query_of, set_of, docum
 ghost use Rattle.serde_json_path_syntax.specs.Parts.{signatures_of, tree_of};
 ghost use Rattle.serde_json_path_functions.specs.declared.error.QueryError.TheVariants.{Memory};
 
-use crate::evaluation::frame::Frame;
+use crate::evaluation::frame::started;
 use crate::evaluation::scope::Scope;
 use crate::evaluation::walks::Walk;
+use crate::filter::logic::all_from;
 use serde_json::Value;
 use serde_json_path_functions::{Functions, QueryError};
 use serde_json_path_nodes::{LocatedNodeList, NodeList};
@@ -66,8 +67,7 @@ pub fn walk<'q, 'b, F: Functions + Drop>(
     ensures document { IfOk result (λ walk. document_of walk ≡ view document.now) }
     ensures refused { IfErr result (λ e. e ≡ Memory) }
 {
-    let mut frames = Vec::new(alloc);
-    frames.push(Frame::start(query, query.segments(), document))?;
+    let frames = started(alloc, query, query.segments(), document)?;
     let scope = Scope {
         alloc,
         query,
@@ -121,10 +121,12 @@ pub fn evaluate<'b, F: Functions + Drop>(
     ensures refused { OnlyMemoryOrPattern (F.set functions) (tree_of query.now)
         (view document.now) result }
 {
-    let mut walk = walk(alloc, query, document, functions)?;
-    let mut found = Vec::new(alloc);
-    'values: while let Some(value) = walk.next_value()? {
-        found.push(value)?;
-    }
+    let scope = Scope {
+        alloc,
+        query,
+        root: document,
+        functions,
+    };
+    let found = all_from(&scope, query.segments(), document)?;
     Ok(NodeList::from(found))
 }

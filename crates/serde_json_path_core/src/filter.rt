@@ -2,9 +2,7 @@
 
 pub(crate) mod call;
 pub(crate) mod compare;
-pub(crate) mod compared_value;
 mod equality;
 pub(crate) mod logic;
-mod plain;
 mod side;
 pub(crate) mod single_comparison;

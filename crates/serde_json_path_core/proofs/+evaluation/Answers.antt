@@ -1,6 +1,7 @@
-use Rattle.std.proofs.Common.{◌≡◌, ◌+◌, length, map, take, [], drop, option_map, refl, sym, subst, ap, ◌∙◌, arith, ◌∷◌, ◌++◌, ◌⊎◌, inl, inr, rules, filter as keep, append_assoc, Option, List, slice_get, ◌<◌}
+use Rattle.std.proofs.Common.{◌≡◌, ◌+◌, length, map, take, [], drop, option_map, refl, sym, subst, ap, ◌∙◌, arith, ◌∷◌, ◌++◌, ◌⊎◌, inl, inr, rules, filter as keep, append_assoc, Option, Some, List, slice_get, ◌<◌}
+use Rattle.std.proofs.lemmas.Option.{slice_get_within}
 use Rattle.serde_json_path_core.proofs.Words.{get_or_default, map-append, common_steps, option_map_or, length-set, ∥∥₁_map, iter_rest, Data, view, Step}
-use Rattle.serde_json_path_core.proofs.Words.{Located, node_value, step_view, child, descendant, cursor_left, segment_kind_view, segment_in, segments_at}
+use Rattle.serde_json_path_core.proofs.Words.{Located, node_value, Passes, step_view, child, descendant, cursor_left, segment_kind_view, segment_in, segments_at}
 use Rattle.serde_json_path_core.proofs.Words.{piece_at, basic_at, comparable_at, or_at, call_at, part_query, pieces, operator_view, term_view, StandsIn, Sound}
 use Rattle.serde_json_path_core.proofs.Words.{IsTypedOr, IsTypedAnd, AreTypedArguments, calls_in_or, calls_in_and, name_of, arguments_of, nodes_of, top_of}
 use Rattle.serde_json_path_core.proofs.Words.{frame_view, frames_view, admitted, node_at, rest_of, work, IsStack, IsStackIn, IsInside, selector_view}
@@ -12,35 +13,57 @@ use Rattle.serde_json_path_core.specs.Inside.Scopes.{query_of, set_of}
 use Rattle.serde_json_path_core.specs.Inside.Computed as computed
 use Rattle.serde_json_path_core.proofs.Steps.Answered.{given-all, answered, by_pattern, if_refused}
 use Rattle.serde_json_path_core.proofs.Steps.OperandLists.{keep-no, keep-yes}
-use Rattle.serde_json_path_core.proofs.Walks.FrameSteps.{at_selector, ends-trans, passes-over, passes-skipped, at-onward, at-downward, done, at-none, at-some}
+use Rattle.serde_json_path_core.proofs.Walks.FrameSteps.{at_selector, ends-trans, passes-over, passes-skipped, at-onward, at-downward, done}
 use Rattle.serde_json_path_core.proofs.Walks.Started.{rest-started}
 use Rattle.serde_json_path_core.proofs.Walks.InDocument.{left_stands, entered-inside, stack-inside, ends-stand}
 use Rattle.serde_json_path_core.proofs.Sound.Parts.{argument-calls, next-calls, side-calls, sound-segment, sound-selector, sound-and, sound-basic, typed-arguments, parameters-known}
 use Rattle.serde_json_path_core.proofs.Steps.KnownCases.{found-none, found-some}
 use Rattle.serde_json_path_core.proofs.Walks.LastFrames.{sees_replaced}
-use Rattle.serde_json_path_core.proofs.Walks.LastTurns.{came-by, came-dropped, came-entered, came-kept, came-node, came-start, came-turned}
+use Rattle.serde_json_path_core.proofs.Walks.LastTurns.{Came, came-dropped, came-entered, came-kept, came-node, came-start, came-turned}
 use Rattle.serde_json_path_core.proofs.Walks.SingleChildren.{first-of-values}
-use Rattle.serde_json_path_core.proofs.Walks.StageLists.{drop-some, drop-none, get-within, missing}
+use Rattle.serde_json_path_core.proofs.Walks.StageLists.{drop-some, drop-none, missing}
+use Rattle.serde_json_path_core.proofs.+evaluation.Goals.{evaluation::frame::Frame::next_task-In-Some, evaluation::frame::Frame::next_task-In_default, evaluation::frame::Frame::next_task-After-next_admitted}
+use Rattle.serde_json_path_core.proofs.+evaluation.Goals.{evaluation::stack::find_next-After-next_task}
 use Rattle.serde_json_path_core.proofs.+evaluation.Goals as goal
 
 -- ---- frames
 
-pub evaluation::frame::Frame::next_task-next_admitted-requires : goal.evaluation::frame::Frame::next_task-next_admitted-requires
-evaluation::frame::Frame::next_task-next_admitted-requires g t c =
+-- the selector of that number is the one at work
+at_work : (g : _) (t : _) (c : evaluation::frame::Frame::next_task-In-Some g t)
+    → slice_get (stage_at (nodes_of c.args.scope.now) c.args.segment).selectors c.loop-selector_ref.self.selector ≡ Some (selector_view (nodes_of c.args.scope.now) c.in-Some.selector_ref)
+at_work g t c = sym (ap (option_map (selector_view (nodes_of c.args.scope.now))) (sym c.in-Some.is) ∙ c.selector_ref.ensures.selector_ref)
+
+-- no selector is left
+none_at_work : (g : _) (t : _) (c : evaluation::frame::Frame::next_task-In_default g t) → drop c.loop-selector_ref.self.selector (stage_at (nodes_of c.args.scope.now) c.args.segment).selectors ≡ []
+none_at_work g t c =
+    let stage = stage_at (nodes_of c.args.scope.now) c.args.segment in
+    drop-none stage.selectors c.loop-selector_ref.self.selector (missing (selector_view (nodes_of c.args.scope.now)) c.selector_ref.result _ c.in_default.not-Some c.selector_ref.ensures.selector_ref)
+
+-- the selector at work passes children that it does not admit
+skipped : (g : _) (t : _) (c : evaluation::frame::Frame::next_task-After-next_admitted g t) → slice_get (stage_at (nodes_of c.args.scope.now) c.args.segment).selectors c.loop-selector_ref.self.selector ≡ Some (selector_view (nodes_of c.args.scope.now) c.in-Some.selector_ref)
+    → Passes (set_of c.args.scope.now) (top_of c.args.scope.now) (stage_at (nodes_of c.args.scope.now) c.args.segment) (frame_view c.args.self.now)
+    (at_selector (frame_view c.loop-selector_ref.self) c.loop-selector_ref.self.selector (cursor_left c.next_admitted.new.cursor))
+skipped g t c here =
     let scope = c.args.scope.now in
     let stage = stage_at (nodes_of scope) c.args.segment in
     let sel = selector_view (nodes_of scope) c.in-Some.selector_ref in
+    let mid = frame_view c.loop-selector_ref.self in
+    passes-skipped (set_of scope) (top_of scope) stage (frame_view c.args.self.now) mid sel (drop (mid.selector + 1) stage.selectors) (cursor_left c.next_admitted.new.cursor)
+    c.loop-selector_ref.invariant.1 (drop-some stage.selectors mid.selector sel here) c.next_admitted.ensures.skips
+
+pub evaluation::frame::Frame::next_task-next_admitted-requires : goal.evaluation::frame::Frame::next_task-next_admitted-requires
+evaluation::frame::Frame::next_task-next_admitted-requires g t c =
+    let scope = c.args.scope.now in
     let same = c.loop-selector_ref.invariant.1.0 in
-    let sound =
-    sound-selector (set_of scope) (query_of scope) (segment_in (piece_at (nodes_of scope) c.args.segment.number)) c.loop-selector_ref.self.selector sel
-    (sym (ap (option_map (selector_view (nodes_of scope))) (sym c.in-Some.is) ∙ c.selector_ref.ensures.selector_ref)) c.requires.sound in
+    let here = at_work g t (goal.at.evaluation::frame::Frame::next_task-next_admitted-requires g t c).In-Some in
+    let sound = sound-selector (set_of scope) (query_of scope) (segment_in (piece_at (nodes_of scope) c.args.segment.number)) c.loop-selector_ref.self.selector _ here c.requires.sound in
     let inside = left_stands (top_of scope) (frame_view c.loop-selector_ref.self) (∥∥₁_map c.requires.inside (λ h. (subst (StandsIn (top_of scope)) (sym same.1) h.0, same.3 h.1))) in
     search rules
 
 pub evaluation::frame::Frame::next_task-loop-selector_ref-smaller : goal.evaluation::frame::Frame::next_task-loop-selector_ref-smaller
 evaluation::frame::Frame::next_task-loop-selector_ref-smaller g t c =
     let stage = stage_at (nodes_of c.args.scope.now) c.args.segment in
-    let within = get-within stage.selectors c.loop-selector_ref.self.selector (selector_view (nodes_of c.args.scope.now) c.in-Some.selector_ref) (sym (ap (option_map (selector_view (nodes_of c.args.scope.now))) (sym c.in-Some.is) ∙ c.selector_ref.ensures.selector_ref)) in
+    let within = slice_get_within stage.selectors c.loop-selector_ref.self.selector _ (at_work g t (goal.at.evaluation::frame::Frame::next_task-loop-selector_ref-smaller g t c).In-Some) in
     omega arith
 
 pub evaluation::frame::Frame::next_task-loop-selector_ref-preserved : goal.evaluation::frame::Frame::next_task-loop-selector_ref-preserved
@@ -50,29 +73,19 @@ evaluation::frame::Frame::next_task-loop-selector_ref-preserved g t c =
     let sel = selector_view (nodes_of scope) c.in-Some.selector_ref in
     let mid = frame_view c.loop-selector_ref.self in
     let left = cursor_left c.next_admitted.new.cursor in
-    let here = drop-some stage.selectors mid.selector sel (sym (ap (option_map (selector_view (nodes_of scope))) (sym c.in-Some.is) ∙ c.selector_ref.ensures.selector_ref)) in
-    let none : admitted (set_of scope) (top_of scope) sel mid.left ≡ [] = c.next_admitted.ensures.skips.0 ∙ at-none (set_of scope) (top_of scope) stage child_view sel left c.in_ok-child.field-0 c.in-None.is c.in_ok-child.ensures.found in
+    let here = drop-some stage.selectors mid.selector sel (at_work g t (goal.at.evaluation::frame::Frame::next_task-loop-selector_ref-preserved g t c).In-Some) in
+    let none : admitted (set_of scope) (top_of scope) sel mid.left ≡ [] = c.next_admitted.ensures.skips.0 ∙ found-none _ _ _ (ap (option_map child_view) c.in-None.is) c.in_ok-child.ensures.found in
     (c.loop-selector_ref.invariant.0, passes-over (set_of scope) (top_of scope) stage (frame_view c.args.self.now) mid sel (cursor_left c.open-self.result) c.loop-selector_ref.invariant.1 here none c.open-self.ensures)
 
 pub evaluation::frame::Frame::next_task-returns-in_err-child-clause-passes : goal.evaluation::frame::Frame::next_task-returns-in_err-child-clause-passes
 evaluation::frame::Frame::next_task-returns-in_err-child-clause-passes g t c =
-    let scope = c.args.scope.now in
-    let stage = stage_at (nodes_of scope) c.args.segment in
-    let sel = selector_view (nodes_of scope) c.in-Some.selector_ref in
-    let mid = frame_view c.loop-selector_ref.self in
-    let left = cursor_left c.next_admitted.new.cursor in
-    let here = drop-some stage.selectors mid.selector sel (sym (ap (option_map (selector_view (nodes_of scope))) (sym c.in-Some.is) ∙ c.selector_ref.ensures.selector_ref)) in
-    passes-skipped (set_of scope) (top_of scope) stage (frame_view c.args.self.now) mid sel (drop (mid.selector + 1) stage.selectors) left c.loop-selector_ref.invariant.1 here c.next_admitted.ensures.skips
+    let at = goal.at.evaluation::frame::Frame::next_task-returns-in_err-child-clause-passes g t c in
+    skipped g t at.After-next_admitted (at_work g t at.In-Some)
 
 pub evaluation::frame::Frame::next_task-returns-in-Some-2-clause-passes : goal.evaluation::frame::Frame::next_task-returns-in-Some-2-clause-passes
 evaluation::frame::Frame::next_task-returns-in-Some-2-clause-passes g t c =
-    let scope = c.args.scope.now in
-    let stage = stage_at (nodes_of scope) c.args.segment in
-    let sel = selector_view (nodes_of scope) c.in-Some.selector_ref in
-    let mid = frame_view c.loop-selector_ref.self in
-    let left = cursor_left c.next_admitted.new.cursor in
-    let here = drop-some stage.selectors mid.selector sel (sym (ap (option_map (selector_view (nodes_of scope))) (sym c.in-Some.is) ∙ c.selector_ref.ensures.selector_ref)) in
-    passes-skipped (set_of scope) (top_of scope) stage (frame_view c.args.self.now) mid sel (drop (mid.selector + 1) stage.selectors) left c.loop-selector_ref.invariant.1 here c.next_admitted.ensures.skips
+    let at = goal.at.evaluation::frame::Frame::next_task-returns-in-Some-2-clause-passes g t c in
+    skipped g t at.After-next_admitted (at_work g t at.In-Some)
 
 pub evaluation::frame::Frame::next_task-returns-in-Some-2-clause-found : goal.evaluation::frame::Frame::next_task-returns-in-Some-2-clause-found
 evaluation::frame::Frame::next_task-returns-in-Some-2-clause-found g t c =
@@ -81,15 +94,15 @@ evaluation::frame::Frame::next_task-returns-in-Some-2-clause-found g t c =
     let sel = selector_view (nodes_of scope) c.in-Some.selector_ref in
     let mid = frame_view c.loop-selector_ref.self in
     let left = cursor_left c.next_admitted.new.cursor in
-    let here = drop-some stage.selectors mid.selector sel (sym (ap (option_map (selector_view (nodes_of scope))) (sym c.in-Some.is) ∙ c.selector_ref.ensures.selector_ref)) in
+    let here = drop-some stage.selectors mid.selector sel (at_work g t (goal.at.evaluation::frame::Frame::next_task-returns-in-Some-2-clause-found g t c).In-Some) in
     at-onward (set_of scope) (top_of scope) stage (at_selector mid mid.selector left) sel (drop (mid.selector + 1) stage.selectors) (child_view c.in-Some-2.child) here
-    (at-some (set_of scope) (top_of scope) stage child_view sel left c.in_ok-child.field-0 c.in-Some-2.child c.in-Some-2.is c.in_ok-child.ensures.found)
+    (found-some _ _ _ (child_view c.in-Some-2.child) (ap (option_map child_view) c.in-Some-2.is) c.in_ok-child.ensures.found)
 
 pub evaluation::frame::Frame::next_task-returns-in-Child-clause-found : goal.evaluation::frame::Frame::next_task-returns-in-Child-clause-found
 evaluation::frame::Frame::next_task-returns-in-Child-clause-found g t c =
     let scope = c.args.scope.now in
     let stage = stage_at (nodes_of scope) c.args.segment in
-    let here = drop-none stage.selectors c.loop-selector_ref.self.selector (missing (selector_view (nodes_of scope)) c.selector_ref.result _ c.in_default.not-Some c.selector_ref.ensures.selector_ref) in
+    let here = none_at_work g t (goal.at.evaluation::frame::Frame::next_task-returns-in-Child-clause-found g t c).In_default in
     done (set_of scope) (top_of scope) stage (frame_view c.loop-selector_ref.self) here
     (λ kind. let no : child ≡ descendant = sym (ap segment_kind_view c.in-Child.is) ∙ c.segment_kind.ensures ∙ kind in absurd cc)
 
@@ -97,14 +110,14 @@ pub evaluation::frame::Frame::next_task-returns-in-None-peek-clause-found : goal
 evaluation::frame::Frame::next_task-returns-in-None-peek-clause-found g t c =
     let scope = c.args.scope.now in
     let stage = stage_at (nodes_of scope) c.args.segment in
-    let here = drop-none stage.selectors c.loop-selector_ref.self.selector (missing (selector_view (nodes_of scope)) c.selector_ref.result _ c.in_default.not-Some c.selector_ref.ensures.selector_ref) in
+    let here = none_at_work g t (goal.at.evaluation::frame::Frame::next_task-returns-in-None-peek-clause-found g t c).In_default in
     done (set_of scope) (top_of scope) stage (frame_view c.loop-selector_ref.self) here (λ kind. c.in-None-peek.ensures)
 
 pub evaluation::frame::Frame::next_task-returns-in-Some-peek-clause-found : goal.evaluation::frame::Frame::next_task-returns-in-Some-peek-clause-found
 evaluation::frame::Frame::next_task-returns-in-Some-peek-clause-found g t c =
     let scope = c.args.scope.now in
     let stage = stage_at (nodes_of scope) c.args.segment in
-    let here = drop-none stage.selectors c.loop-selector_ref.self.selector (missing (selector_view (nodes_of scope)) c.selector_ref.result _ c.in_default.not-Some c.selector_ref.ensures.selector_ref) in
+    let here = none_at_work g t (goal.at.evaluation::frame::Frame::next_task-returns-in-Some-peek-clause-found g t c).In_default in
     at-downward (set_of scope) (top_of scope) stage (frame_view c.loop-selector_ref.self) (child_view c.in-Some-peek.child) here (sym c.segment_kind.ensures ∙ ap segment_kind_view c.in-Descendant.is)
     c.in-Some-peek.ensures
 
@@ -179,113 +192,84 @@ evaluation::stack::find_next-returns-in-None-clause-found g t c =
           (ap (λ f. (frame_view f).value) (c.index.ensures ∙ get_or_default items n _ _ (omega arith) ∙ sym c.index-in-None.ensures)),
     )
 
-pub evaluation::stack::find_next-returns-in_err-next_task-in-Some-get-clause-kept : goal.evaluation::stack::find_next-returns-in_err-next_task-in-Some-get-clause-kept
-evaluation::stack::find_next-returns-in_err-next_task-in-Some-get-clause-kept g t c =
+came_by : (g : _) (t : _) (c : evaluation::stack::find_next-After-next_task g t)
+    → Came (set_of c.args.scope.now) (top_of c.args.scope.now) (nodes_of c.args.scope.now) c.args.segments.now
+    c.loop-last.frames.items c.in-Some.last c.index.result.now c.index_mut.result.now c.next_task.new.self c.in-Some-get.segment.now
+came_by g t c =
     let some = c.in-Some.ensures in
     let len = c.len.ensures ∙ c.loop-last.frames.ok.0 in
     let look = c.in-Some-get.ensures.lookup in
-    let came = came-by (set_of c.args.scope.now) (top_of c.args.scope.now) (nodes_of c.args.scope.now) c.args.segments.now
-    c.loop-last.frames.items c.in-Some.last c.index.result.now c.index_mut.result.now c.next_task.new.self c.in-Some-get.segment.now (omega arith)
-    c.index.ensures c.index_mut.ensures.value (below_length _ _ look.0, look.1) c.next_task.ensures.passes in
+    record {
+      long = omega arith;
+      seen_is = c.index.ensures;
+      old_is = c.index_mut.ensures.value;
+      within = below_length _ _ look.0;
+      at = look.1;
+      passes = c.next_task.ensures.passes;
+    }
+
+pub evaluation::stack::find_next-returns-in_err-next_task-in-Some-get-clause-kept : goal.evaluation::stack::find_next-returns-in_err-next_task-in-Some-get-clause-kept
+evaluation::stack::find_next-returns-in_err-next_task-in-Some-get-clause-kept g t c =
+    let came = came_by g t (goal.at.evaluation::stack::find_next-returns-in_err-next_task-in-Some-get-clause-kept g t c).After-next_task in
     came-kept came _ c.loop-last.invariant
 
 pub evaluation::stack::find_next-returns-in_err-enter-in-Some-2-clause-kept : goal.evaluation::stack::find_next-returns-in_err-enter-in-Some-2-clause-kept
 evaluation::stack::find_next-returns-in_err-enter-in-Some-2-clause-kept g t c =
-    let some = c.in-Some.ensures in
-    let len = c.len.ensures ∙ c.loop-last.frames.ok.0 in
-    let look = c.in-Some-get.ensures.lookup in
-    let came = came-by (set_of c.args.scope.now) (top_of c.args.scope.now) (nodes_of c.args.scope.now) c.args.segments.now
-    c.loop-last.frames.items c.in-Some.last c.index.result.now c.index_mut.result.now c.next_task.new.self c.in-Some-get.segment.now (omega arith)
-    c.index.ensures c.index_mut.ensures.value (below_length _ _ look.0, look.1) c.next_task.ensures.passes in
+    let came = came_by g t (goal.at.evaluation::stack::find_next-returns-in_err-enter-in-Some-2-clause-kept g t c).After-next_task in
     subst (IsKept c.args.scope.now c.args.segments.now (frames_view c.args.frames.now.items)) (ap frames_view (sym c.in_err-enter-in-Some-2.ensures.unchanged)) (came-kept came _ c.loop-last.invariant)
 
 pub evaluation::stack::find_next-returns-then-task-segments-clause-kept : goal.evaluation::stack::find_next-returns-then-task-segments-clause-kept
 evaluation::stack::find_next-returns-then-task-segments-clause-kept g t c =
-    let some = c.in-Some.ensures in
-    let len = c.len.ensures ∙ c.loop-last.frames.ok.0 in
-    let look = c.in-Some-get.ensures.lookup in
-    let came = came-by (set_of c.args.scope.now) (top_of c.args.scope.now) (nodes_of c.args.scope.now) c.args.segments.now
-    c.loop-last.frames.items c.in-Some.last c.index.result.now c.index_mut.result.now c.next_task.new.self c.in-Some-get.segment.now (omega arith)
-    c.index.ensures c.index_mut.ensures.value (below_length _ _ look.0, look.1) c.next_task.ensures.passes in
+    let came = came_by g t (goal.at.evaluation::stack::find_next-returns-then-task-segments-clause-kept g t c).After-next_task in
     came-kept came _ c.loop-last.invariant
 
 pub evaluation::stack::find_next-returns-then-task-segments-clause-found : goal.evaluation::stack::find_next-returns-then-task-segments-clause-found
 evaluation::stack::find_next-returns-then-task-segments-clause-found g t c =
-    let some = c.in-Some.ensures in
-    let len = c.len.ensures ∙ c.loop-last.frames.ok.0 in
-    let look = c.in-Some-get.ensures.lookup in
-    let came = came-by (set_of c.args.scope.now) (top_of c.args.scope.now) (nodes_of c.args.scope.now) c.args.segments.now
-    c.loop-last.frames.items c.in-Some.last c.index.result.now c.index_mut.result.now c.next_task.new.self c.in-Some-get.segment.now (omega arith)
-    c.index.ensures c.index_mut.ensures.value (below_length _ _ look.0, look.1) c.next_task.ensures.passes in
+    let came = came_by g t (goal.at.evaluation::stack::find_next-returns-then-task-segments-clause-found g t c).After-next_task in
     (omega (arith, length-set c.loop-last.frames.items c.in-Some.last c.next_task.new.self), came-node came c.in-Some-2.is c.in_ok-next_task-in-Some-get.ensures.found (omega arith))
 
 pub evaluation::stack::find_next-loop-last-smaller-in-None-2 : goal.evaluation::stack::find_next-loop-last-smaller-in-None-2
 evaluation::stack::find_next-loop-last-smaller-in-None-2 g t c =
-    let some = c.in-Some.ensures in
-    let len = c.len.ensures ∙ c.loop-last.frames.ok.0 in
-    let look = c.in-Some-get.ensures.lookup in
-    let came = came-by (set_of c.args.scope.now) (top_of c.args.scope.now) (nodes_of c.args.scope.now) c.args.segments.now
-    c.loop-last.frames.items c.in-Some.last c.index.result.now c.index_mut.result.now c.next_task.new.self c.in-Some-get.segment.now (omega arith)
-    c.index.ensures c.index_mut.ensures.value (below_length _ _ look.0, look.1) c.next_task.ensures.passes in
+    let came = came_by g t (goal.at.evaluation::stack::find_next-loop-last-smaller-in-None-2 g t c).After-next_task in
     (came-dropped came c.in-None-2.is c.in_ok-next_task-in-Some-get.ensures.found c.truncate.ensures.items).1
 
 pub evaluation::stack::find_next-loop-last-preserved-in-None-2 : goal.evaluation::stack::find_next-loop-last-preserved-in-None-2
 evaluation::stack::find_next-loop-last-preserved-in-None-2 g t c =
-    let some = c.in-Some.ensures in
-    let len = c.len.ensures ∙ c.loop-last.frames.ok.0 in
-    let look = c.in-Some-get.ensures.lookup in
-    let came = came-by (set_of c.args.scope.now) (top_of c.args.scope.now) (nodes_of c.args.scope.now) c.args.segments.now
-    c.loop-last.frames.items c.in-Some.last c.index.result.now c.index_mut.result.now c.next_task.new.self c.in-Some-get.segment.now (omega arith)
-    c.index.ensures c.index_mut.ensures.value (below_length _ _ look.0, look.1) c.next_task.ensures.passes in
+    let came = came_by g t (goal.at.evaluation::stack::find_next-loop-last-preserved-in-None-2 g t c).After-next_task in
     came-turned came _ _ c.loop-last.invariant (came-dropped came c.in-None-2.is c.in_ok-next_task-in-Some-get.ensures.found c.truncate.ensures.items)
 
 pub evaluation::stack::find_next-loop-last-smaller : goal.evaluation::stack::find_next-loop-last-smaller
 evaluation::stack::find_next-loop-last-smaller g t c =
-    let some = c.in-Some.ensures in
-    let len = c.len.ensures ∙ c.loop-last.frames.ok.0 in
-    let look = c.in-Some-get.ensures.lookup in
-    let came = came-by (set_of c.args.scope.now) (top_of c.args.scope.now) (nodes_of c.args.scope.now) c.args.segments.now
-    c.loop-last.frames.items c.in-Some.last c.index.result.now c.index_mut.result.now c.next_task.new.self c.in-Some-get.segment.now (omega arith)
-    c.index.ensures c.index_mut.ensures.value (below_length _ _ look.0, look.1) c.next_task.ensures.passes in
+    let came = came_by g t (goal.at.evaluation::stack::find_next-loop-last-smaller g t c).After-next_task in
     (came-entered came c.in-Some-2.is c.in_ok-next_task-in-Some-get.ensures.found (omega arith) c.in_ok-enter-in-Some-2.ensures.ok).1
 
 pub evaluation::stack::find_next-loop-last-preserved : goal.evaluation::stack::find_next-loop-last-preserved
 evaluation::stack::find_next-loop-last-preserved g t c =
-    let some = c.in-Some.ensures in
-    let len = c.len.ensures ∙ c.loop-last.frames.ok.0 in
-    let look = c.in-Some-get.ensures.lookup in
-    let came = came-by (set_of c.args.scope.now) (top_of c.args.scope.now) (nodes_of c.args.scope.now) c.args.segments.now
-    c.loop-last.frames.items c.in-Some.last c.index.result.now c.index_mut.result.now c.next_task.new.self c.in-Some-get.segment.now (omega arith)
-    c.index.ensures c.index_mut.ensures.value (below_length _ _ look.0, look.1) c.next_task.ensures.passes in
+    let came = came_by g t (goal.at.evaluation::stack::find_next-loop-last-preserved g t c).After-next_task in
     came-turned came _ _ c.loop-last.invariant (came-entered came c.in-Some-2.is c.in_ok-next_task-in-Some-get.ensures.found (omega arith) c.in_ok-enter-in-Some-2.ensures.ok)
 
 -- ---- queries in expressions
 
-pub filter::logic::first_from-start-requires-clause-typed : goal.filter::logic::first_from-start-requires-clause-typed
-filter::logic::first_from-start-requires-clause-typed g t c =
+pub filter::logic::first_from-started-requires-clause-typed : goal.filter::logic::first_from-started-requires-clause-typed
+filter::logic::first_from-started-requires-clause-typed g t c =
     ((set_of c.args.scope.now).signature, c.requires.sound.0)
 
-pub filter::logic::all_from-start-requires-clause-typed : goal.filter::logic::all_from-start-requires-clause-typed
-filter::logic::all_from-start-requires-clause-typed g t c =
+pub filter::logic::all_from-started-requires-clause-typed : goal.filter::logic::all_from-started-requires-clause-typed
+filter::logic::all_from-started-requires-clause-typed g t c =
     ((set_of c.args.scope.now).signature, c.requires.sound.0)
 
 pub filter::logic::first_from-find_next-requires : goal.filter::logic::first_from-find_next-requires
 filter::logic::first_from-find_next-requires g t c =
     let scope = c.args.scope.now in
-    let v = view c.args.value.now in
-    let all = stages_at (nodes_of scope) c.args.segments.now in
-    let items = ap frames_view (c.in_ok-push.ensures.items ∙ ap (λ frames. frames ++ c.start.result ∷ []) c.new-frames.ensures.items) in
-    let inside : ∥ IsStackIn (top_of scope) (frames_view c.push.new.self.items) ∥₁ =
-    ∣ entered-inside (top_of scope) v all (frames_view c.push.new.self.items) (frame_view c.start.result) c.requires.inside items c.start.ensures ∣₁ in
+    let frames = frames_view c.in_ok-frames.frames.items in
+    let inside : ∥ IsStackIn (top_of scope) frames ∥₁ =
+    ∣ entered-inside (top_of scope) (view c.args.value.now) (stages_at (nodes_of scope) c.args.segments.now) frames c.requires.inside c.in_ok-frames.ensures ∣₁ in
     search rules
 
 pub filter::logic::first_from-returns-in-Some-clause-means : goal.filter::logic::first_from-returns-in-Some-clause-means
 filter::logic::first_from-returns-in-Some-clause-means g t c =
     let scope = c.args.scope.now in
-    let v = view c.args.value.now in
-    let all = stages_at (nodes_of scope) c.args.segments.now in
-    let items = ap frames_view (c.in_ok-push.ensures.items ∙ ap (λ frames. frames ++ c.start.result ∷ []) c.new-frames.ensures.items) in
-    let begins = ap (rest_of (set_of scope) (top_of scope) all) (items ∙ ap (λ f. f ∷ []) c.start.ensures) ∙ rest-started (set_of scope) (top_of scope) (segments_at (nodes_of scope) c.args.segments.now) v in
+    let begins = rest-started (set_of scope) (top_of scope) (segments_at (nodes_of scope) c.args.segments.now) (view c.args.value.now) _ c.in_ok-frames.ensures in
     let values = map (λ (n : Located). n.value) in
     let found = c.in-Some.found in
     let at = found-some _ _ c.in_ok-found.field-0 found c.in-Some.is c.in_ok-found.ensures.found in
@@ -294,10 +278,8 @@ filter::logic::first_from-returns-in-Some-clause-means g t c =
 pub filter::logic::first_from-returns-clause-means : goal.filter::logic::first_from-returns-clause-means
 filter::logic::first_from-returns-clause-means g t c =
     let scope = c.args.scope.now in
-    let v = view c.args.value.now in
     let all = stages_at (nodes_of scope) c.args.segments.now in
-    let items = ap frames_view (c.in_ok-push.ensures.items ∙ ap (λ frames. frames ++ c.start.result ∷ []) c.new-frames.ensures.items) in
-    let begins = ap (rest_of (set_of scope) (top_of scope) all) (items ∙ ap (λ f. f ∷ []) c.start.ensures) ∙ rest-started (set_of scope) (top_of scope) (segments_at (nodes_of scope) c.args.segments.now) v in
+    let begins = rest-started (set_of scope) (top_of scope) (segments_at (nodes_of scope) c.args.segments.now) (view c.args.value.now) _ c.in_ok-frames.ensures in
     let values = map (λ (n : Located). n.value) in
     let none = found-none _ _ c.in_ok-found.field-0 c.in-None.is c.in_ok-found.ensures.found in
     ap (λ ns. slice_get (values ns) 0)
@@ -306,24 +288,18 @@ filter::logic::first_from-returns-clause-means g t c =
 pub filter::logic::all_from-values-init : goal.filter::logic::all_from-values-init
 filter::logic::all_from-values-init g t c =
     let scope = c.args.scope.now in
-    let v = view c.args.value.now in
     let all = stages_at (nodes_of scope) c.args.segments.now in
-    let items = ap frames_view (c.in_ok-push.ensures.items ∙ ap (λ frames. frames ++ c.start.result ∷ []) c.new-frames.ensures.items) in
-    let begins = ap (rest_of (set_of scope) (top_of scope) all) (items ∙ ap (λ f. f ∷ []) c.start.ensures) ∙ rest-started (set_of scope) (top_of scope) (segments_at (nodes_of scope) c.args.segments.now) v in
+    let begins = rest-started (set_of scope) (top_of scope) (segments_at (nodes_of scope) c.args.segments.now) (view c.args.value.now) _ c.in_ok-frames.ensures in
+    let frames = frames_view c.in_ok-frames.frames.items in
     let values = map (λ (n : Located). n.value) in
     record {
       values =
-          ap values (sym begins) ∙ ap (λ found. map node_value found ++ values (rest_of (set_of scope) (top_of scope) all (frames_view c.push.new.self.items))) (sym c.new-found.ensures.items);
-      inside = ∣ entered-inside (top_of scope) v all (frames_view c.push.new.self.items) (frame_view c.start.result) c.requires.inside items c.start.ensures ∣₁;
+          ap values (sym begins) ∙ ap (λ found. map node_value found ++ values (rest_of (set_of scope) (top_of scope) all frames)) (sym c.new-found.ensures.items);
+      inside = ∣ entered-inside (top_of scope) (view c.args.value.now) all frames c.requires.inside c.in_ok-frames.ensures ∣₁;
     }
 
 pub filter::logic::all_from-pass_found-requires : goal.filter::logic::all_from-pass_found-requires
-filter::logic::all_from-pass_found-requires g t c =
-    let scope = c.args.scope.now in
-    let all = stages_at (nodes_of scope) c.args.segments.now in
-    let node = c.in-Some.node in
-    let at = found-some _ _ c.in_ok-node.field-0 node c.in-Some.is c.in_ok-node.ensures.found in
-    at.0
+filter::logic::all_from-pass_found-requires g t c = (found-some _ _ c.in_ok-node.field-0 c.in-Some.node c.in-Some.is c.in_ok-node.ensures.found).0
 
 pub filter::logic::all_from-values-smaller : goal.filter::logic::all_from-values-smaller
 filter::logic::all_from-values-smaller g t c =
@@ -352,7 +328,7 @@ filter::logic::all_from-values-preserved g t c =
           ∙ ap (λ ns. found ++ values ns)
           (c.find_next.ensures.kept.0 ∙ at.1.0 ∙ ap (λ fs. node_at (frames_view frames) (option_map step_view node.step) (view node.value.now) ∷ rest fs) (sym c.pass_found.ensures))
           ∙ sym (append_assoc found (view node.value.now ∷ []) left)
-          ∙ ap (λ xs. xs ++ left) (sym (ap (map node_value) c.in_ok-push-2.ensures.items ∙ map-append node_value c.values.found.items (node.value ∷ [])));
+          ∙ ap (λ xs. xs ++ left) (sym (ap (map node_value) c.in_ok-push.ensures.items ∙ map-append node_value c.values.found.items (node.value ∷ [])));
       inside = ∥∥₁_map c.values.invariant.inside (λ h. (h.0, h.1, subst (IsStack h.0) (sym c.pass_found.ensures) (at.1.2 h.0 (c.find_next.ensures.kept.2 h.0 h.2))));
     }
 
@@ -388,8 +364,8 @@ filter::logic::all_true-basic_true-requires g t c =
     (subst (Sound scope IsTypedAnd calls_in_and) c.and_parts-part-items.ensures.tree c.requires.sound) in
     search rules
 
-pub filter::logic::basic_true-plain_relation-requires : goal.filter::logic::basic_true-plain_relation-requires
-filter::logic::basic_true-plain_relation-requires g t c =
+pub filter::logic::basic_true-decided-requires : goal.filter::logic::basic_true-decided-requires
+filter::logic::basic_true-decided-requires g t c =
     let scope = c.args.scope.now in
     let sides = side-calls (query_of scope) (comparable_at (nodes_of scope) c.in-Basic-Relation.left) (operator_view c.in-Basic-Relation.operator) (comparable_at (nodes_of scope) c.in-Basic-Relation.right) (basic_at (nodes_of scope) c.args.expression)
     (search rules) c.requires.sound.1 in

@@ -1,7 +1,7 @@
 -- The computed values below a value are those at its locations, in document order.
-use Rattle.std.proofs.Common.{◌≡◌, ℕ, zero, suc, ◌+◌, List, [], ◌∷◌, ◌++◌, map, flat_map, Ordering, Less, Equal, Greater, nat_cmp, Option, Some, option_and_then, ◌↔◌, inl, inr, refl, sym, ap, subst, ◌∙◌}
-use Rattle.serde_json_path_core.proofs.Words.{insert_entry, slice_cmp, match_ordering, same_Some, none-some, option_and_then_some, Data, null, boolean, number}
-use Rattle.serde_json_path_core.proofs.Words.{string, array, object, Items, no_items, item, Members, no_members, member, put, get_item, get_member, Step}
+use Rattle.std.proofs.Common.{◌≡◌, ℕ, zero, suc, ◌+◌, ◌≤◌, max, length, List, [], ◌∷◌, ◌++◌, map, flat_map, Ordering, Less, Equal, Greater, nat_cmp, Some, option_and_then, ◌↔◌, inl, inr, refl, sym, ap, subst, ◌∙◌, arith}
+use Rattle.serde_json_path_core.proofs.Words.{insert_entry, slice_cmp, match_ordering, same_Some, option_and_then_some, Data}
+use Rattle.serde_json_path_core.proofs.Words.{array, object, Items, no_items, item, Members, no_members, member, put, Step}
 use Rattle.serde_json_path_core.proofs.Words.{by_name, by_position, child_at, at, Located, StepBefore, DescentBefore, IsIn, IsInOrder, beneath, children}
 use Rattle.serde_json_path_core.proofs.Words.{items_from, members_all, in_order, itself, below_member, descents, items_descents, members_descents, in_map}
 use Rattle.serde_json_path_core.proofs.Words.{map_in, in_flat_map, weaker, in_order-map, in_order-flat_map}
@@ -50,39 +50,6 @@ descents_are (object ms) =
     ap (λ ns. itself (object ms) ∷ ns) (ap (flat_map below_member) (members_descents-in_order ms) ∙ blocks-children (in_order ms))
 descents_are _ = refl
 
-module _ (P : Data → Type 0) (step : (v : Data) → ((s : Step) (c : Data) → child_at v s ≡ Some c → P c) → P v) where
-  among : (o : Ordering) (a : Option Data) (d c : Data) → P d → (a ≡ Some c → P c) → match_ordering o a (Some d) a ≡ Some c → P c
-  among Less a d c here later e = later e
-  among Equal a d c here later e = subst P (same_Some d c e) here
-  among Greater a d c here later e = later e
-
-  of_array : (items : Items) → ((p : ℕ) (c : Data) → get_item p items ≡ Some c → P c) → (s : Step) (c : Data) → child_at (array items) s ≡ Some c → P c
-  of_array items each (by_position p) c e = each p c e
-  of_array items each (by_name k) c e = absurd (none-some c e)
-
-  of_object : (ms : Members) → ((k : List ℕ) (c : Data) → get_member k ms ≡ Some c → P c) → (s : Step) (c : Data) → child_at (object ms) s ≡ Some c → P c
-  of_object ms each (by_name k) c e = each k c e
-  of_object ms each (by_position p) c e = absurd (none-some c e)
-
-  mutual
-    -- what holds of a value wherever it holds of all its children holds of each value
-    pub by_children : (v : Data) → P v
-    by_children (array items) = step (array items) (of_array items (by_items items))
-    by_children (object ms) = step (object ms) (of_object ms (by_members ms))
-    by_children null = step null (λ s c e. absurd (none-some c e))
-    by_children (boolean b) = step (boolean b) (λ s c e. absurd (none-some c e))
-    by_children (number n) = step (number n) (λ s c e. absurd (none-some c e))
-    by_children (string t) = step (string t) (λ s c e. absurd (none-some c e))
-
-    by_items : (items : Items) (p : ℕ) (c : Data) → get_item p items ≡ Some c → P c
-    by_items no_items p c e = absurd (none-some c e)
-    by_items (item d more) zero c e = subst P (same_Some d c e) (by_children d)
-    by_items (item d more) (suc p) c e = by_items more p c e
-
-    by_members : (ms : Members) (k : List ℕ) (c : Data) → get_member k ms ≡ Some c → P c
-    by_members no_members k c e = absurd (none-some c e)
-    by_members (member l d more) k c e = among (slice_cmp nat_cmp k l) (get_member k more) d c (by_children d) (by_members more k c) e
-
 -- ---- membership
 
 -- the list has each value with its location
@@ -130,12 +97,29 @@ in_descents v n =
     let there = located_in n.location v n.value in
     (λ h. there.0 (subst (IsIn n) (descents_are v) h), λ e. subst (IsIn n) (sym (descents_are v)) (there.1 e))
 
+-- ---- the longest location
+
+abbrev pub longest : List Located → ℕ
+longest [] = 0
+longest (n ∷ ns) = max (length n.location) (longest ns)
+
+none_longer : (ns : List Located) (n : Located) → IsIn n ns → length n.location ≤ longest ns
+none_longer [] n h = absurd h
+none_longer (m ∷ ns) n (inl e) = let same : length n.location ≡ length m.location = ap (λ (x : Located). length x.location) e in omega arith
+none_longer (m ∷ ns) n (inr h) = let later = none_longer ns n h in omega arith
+
+-- no location in the value is longer
+pub no_longer : (v : Data) (location : List Step) (w : Data) → at v location ≡ Some w → length location ≤ longest (descents v)
+no_longer v location w e = let n : Located = record { location = location; value = w } in none_longer (descents v) n ((in_descents v n).1 e)
+
 -- ---- order
 
--- the values below a value stand in document order
-pub descents_ordered : (v : Data) → IsInOrder (λ (m n : Located). DescentBefore m.location n.location) (descents v)
-descents_ordered = by_children (λ v. IsInOrder (λ (m n : Located). DescentBefore m.location n.location) (descents v))
-    (λ v below. subst (IsInOrder (λ (m n : Located). DescentBefore m.location n.location)) (sym (descents_are v)) (first v, rest v below))
+abbrev IsOrdered : Data → Type 0
+IsOrdered v = IsInOrder (λ (m n : Located). DescentBefore m.location n.location) (descents v)
+
+-- the values below a value stand in document order where those below each child do
+ordered_by_children : (v : Data) → ((s : Step) (c : Data) → child_at v s ≡ Some c → IsOrdered c) → IsOrdered v
+ordered_by_children v below = subst (IsInOrder (λ (m n : Located). DescentBefore m.location n.location)) (sym (descents_are v)) (first v, rest v below)
   where
     first : (v : Data) (n : Located) → IsIn n (flat_map below_child (children v)) → DescentBefore [] n.location
     first v n h =
@@ -150,7 +134,7 @@ descents_ordered = by_children (λ v. IsInOrder (λ (m n : Located). DescentBefo
         subst (λ (k : Located). DescentBefore k.location b.location) (sym m.2)
         (subst (λ (k : Located). DescentBefore (x.0 ∷ m.0.location) k.location) (sym n.2) (inl before))
 
-    rest : (v : Data) → ((s : Step) (c : Data) → child_at v s ≡ Some c → IsInOrder (λ (m n : Located). DescentBefore m.location n.location) (descents c))
+    rest : (v : Data) → ((s : Step) (c : Data) → child_at v s ≡ Some c → IsOrdered c)
         → IsInOrder (λ (m n : Located). DescentBefore m.location n.location) (flat_map below_child (children v))
     rest v below =
         in_order-flat_map (λ (a b : Step × Data). StepBefore a.0 b.0) (λ (m n : Located). DescentBefore m.location n.location) below_child (children v) (children_ordered v)
@@ -158,3 +142,12 @@ descents_ordered = by_children (λ v. IsInOrder (λ (m n : Located). DescentBefo
         (weaker (λ (m n : Located). DescentBefore m.location n.location) (λ m n. DescentBefore (c.0 ∷ m.location) (c.0 ∷ n.location)) (descents c.1)
         (λ m n before. inr (refl, before)) (below c.0 c.1 ((in_children v c).0 h))))
         apart
+
+ordered_within : (most : ℕ) (v : Data) → ((location : List Step) (w : Data) → at v location ≡ Some w → length location ≤ most) → IsOrdered v
+ordered_within zero v within = ordered_by_children v (λ s c leads. let long = within (s ∷ []) c (ap (option_and_then (λ d. at d [])) leads) in absurd (omega arith))
+ordered_within (suc most) v within =
+    ordered_by_children v
+    (λ s c leads. ordered_within most c (λ location w there. let long = within (s ∷ location) w (ap (option_and_then (λ d. at d location)) leads ∙ there) in omega arith))
+
+pub descents_ordered : (v : Data) → IsInOrder (λ (m n : Located). DescentBefore m.location n.location) (descents v)
+descents_ordered v = ordered_within (longest (descents v)) v (no_longer v)

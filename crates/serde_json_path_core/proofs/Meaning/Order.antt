@@ -1,7 +1,7 @@
 -- Derivations are in an order: never do two stand before each other, and a list in that order is fixed by its members.
-use Rattle.std.proofs.Common.{◌≡◌, ℕ, zero, suc, List, [], ◌∷◌, ◌⊎◌, inl, inr, Less, Greater, refl, sym, ap, subst, ◌∙◌, arith, Some}
+use Rattle.std.proofs.Common.{◌≡◌, ℕ, zero, suc, ◌<◌, List, [], ◌∷◌, ◌⊎◌, inl, inr, Less, Greater, refl, sym, ap, subst, ◌∙◌, arith, Some}
 use Rattle.serde_json_path_core.proofs.Words.{AllZip, ordering_reverse, nat_list_cmp_total, ints, Data, Step, by_name, by_position, at, StepBefore}
-use Rattle.serde_json_path_core.proofs.Words.{DescentBefore, Located, Query, query, Segments, no_segments, segment, Segment, dot_name, dot_wildcard, long_hand}
+use Rattle.serde_json_path_core.proofs.Words.{DescentBefore, Located, Query, query, Segments, no_segments, segment, Segment, long_hand}
 use Rattle.serde_json_path_core.proofs.Words.{Selectors, no_selectors, selector, Selector, slice, FunctionSet, Triple, start_of, BelongsTo, SelectedBefore}
 use Rattle.serde_json_path_core.proofs.Words.{SelectedBeforeBy, SelectedBeforeIn, TripleBefore, Before, IsIn, IsInOrder, IsResult}
 
@@ -13,14 +13,18 @@ step_once (by_position i) (by_position j) h g = absurd (omega arith)
 step_once (by_name k) (by_position j) h g = h
 step_once (by_position i) (by_name l) h g = h
 
+-- where what comes first decides, and otherwise what follows
+first_once : {A P Q : Type 0} (R : A → A → Type 0) (once : (x y : A) → R x y → R y x → ⊥) (x y : A) → (x ≡ y → P → Q → ⊥) → R x y ⊎ ((x ≡ y) × P) → R y x ⊎ ((y ≡ x) × Q) → ⊥
+first_once R once x y rest (inl h) (inl g) = once x y h g
+first_once R once x y rest (inl h) (inr g) = let k = subst (R x) g.0 h in once x x k k
+first_once R once x y rest (inr h) (inl g) = let k = subst (R y) h.0 g in once y y k k
+first_once R once x y rest (inr h) (inr g) = rest h.0 h.1 g.1
+
 descent_once : (xs ys : List Step) → DescentBefore xs ys → DescentBefore ys xs → ⊥
 descent_once [] [] h g = h
 descent_once [] (t ∷ ts) h g = g
 descent_once (s ∷ ss) [] h g = h
-descent_once (s ∷ ss) (t ∷ ts) (inl h) (inl g) = step_once s t h g
-descent_once (s ∷ ss) (t ∷ ts) (inl h) (inr g) = let k = subst (StepBefore s) g.0 h in step_once s s k k
-descent_once (s ∷ ss) (t ∷ ts) (inr h) (inl g) = let k = subst (StepBefore t) h.0 g in step_once t t k k
-descent_once (s ∷ ss) (t ∷ ts) (inr h) (inr g) = descent_once ss ts h.1 g.1
+descent_once (s ∷ ss) (t ∷ ts) h g = first_once StepBefore step_once s t (λ e. descent_once ss ts) h g
 
 selected_once : (sel : Selector) (s t : Step) → SelectedBefore sel s t → SelectedBefore sel t s → ⊥
 selected_once (slice sl) s t (inl h) (inl g) = step_once s t h.1 g.1
@@ -35,18 +39,14 @@ selected_once_by (selector sel more) zero s t h g = selected_once sel s t h g
 selected_once_by (selector sel more) (suc n) s t h g = selected_once_by more n s t h g
 
 selected_once_in : (seg : Segment) (n : ℕ) (s t : Step) → SelectedBeforeIn seg n s t → SelectedBeforeIn seg n t s → ⊥
-selected_once_in (dot_name k) n s t h g = step_once s t h g
-selected_once_in dot_wildcard n s t h g = step_once s t h g
 selected_once_in (long_hand sels) n s t h g = selected_once_by sels n s t h g
+selected_once_in _ n s t h g = step_once s t h g
 
 pub triple_once : (seg : Segment) (x y : Triple) → TripleBefore seg x y → TripleBefore seg y x → ⊥
-triple_once seg x y (inl h) (inl g) = descent_once x.descent y.descent h g
-triple_once seg x y (inl h) (inr g) = let k = subst (DescentBefore x.descent) g.0 h in descent_once x.descent x.descent k k
-triple_once seg x y (inr h) (inl g) = let k = subst (DescentBefore y.descent) h.0 g in descent_once y.descent y.descent k k
-triple_once seg x y (inr (d, inl h)) (inr (e, inl g)) = absurd (omega arith)
-triple_once seg x y (inr (d, inl h)) (inr (e, inr g)) = let k = g.0 in absurd (omega arith)
-triple_once seg x y (inr (d, inr h)) (inr (e, inl g)) = let k = h.0 in absurd (omega arith)
-triple_once seg x y (inr (d, inr h)) (inr (e, inr g)) = selected_once_in seg x.number x.step y.step h.1 (subst (λ n. SelectedBeforeIn seg n y.step x.step) g.0 g.1)
+triple_once seg x y h g =
+    first_once DescentBefore descent_once x.descent y.descent
+    (λ same. first_once ◌<◌ (λ m n h g. absurd (omega arith)) x.number y.number
+    (λ e h g. selected_once_in seg x.number x.step y.step h (subst (λ n. SelectedBeforeIn seg n y.step x.step) (sym e) g))) h g
 
 -- of two lists of triples never both stand before the other
 pub before_once : (segs : Segments) (xs ys : List Triple) → Before segs xs ys → Before segs ys xs → ⊥
@@ -54,10 +54,7 @@ before_once no_segments xs ys h g = h
 before_once (segment kind seg more) [] [] h g = h
 before_once (segment kind seg more) [] (y ∷ ys) h g = h
 before_once (segment kind seg more) (x ∷ xs) [] h g = h
-before_once (segment kind seg more) (x ∷ xs) (y ∷ ys) (inl h) (inl g) = triple_once seg x y h g
-before_once (segment kind seg more) (x ∷ xs) (y ∷ ys) (inl h) (inr g) = let k = subst (TripleBefore seg x) g.0 h in triple_once seg x x k k
-before_once (segment kind seg more) (x ∷ xs) (y ∷ ys) (inr h) (inl g) = let k = subst (TripleBefore seg y) h.0 g in triple_once seg y y k k
-before_once (segment kind seg more) (x ∷ xs) (y ∷ ys) (inr h) (inr g) = before_once more xs ys h.1 g.1
+before_once (segment kind seg more) (x ∷ xs) (y ∷ ys) h g = first_once (TripleBefore seg) (triple_once seg) x y (λ e. before_once more xs ys) h g
 
 -- ---- a list in order is fixed by its members
 

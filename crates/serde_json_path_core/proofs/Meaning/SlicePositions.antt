@@ -1,5 +1,5 @@
 -- The computed children of a slice are those at the positions that it selects, in its order.
-use Rattle.std.proofs.Common.{◌≡◌, ℕ, zero, suc, ◌+◌, ◌-◌, ◌*◌, ◌<◌, ◌≤◌, ℤ, pos, negsuc, neg_ℤ, nat_abs, [], ◌∷◌, ◌↔◌, inl, inr, Bool, true, false, Option, Some, None, unwrap_or, refl, sym, ap, subst, ◌∙◌, arith, suc-mul, le-div_iff_mul-le, mul-lt-mul_of_pos_right}
+use Rattle.std.proofs.Common.{◌≡◌, ℕ, zero, suc, ◌+◌, ◌-◌, ◌*◌, ◌<◌, ◌≤◌, ℤ, pos, negsuc, neg_ℤ, nat_abs, [], ◌∷◌, ◌↔◌, inl, inr, Bool, true, false, Option, Some, unwrap_or, refl, sym, ap, subst, ◌∙◌, arith, suc-mul, le-div_iff_mul-le, mul-lt-mul_of_pos_right}
 use Rattle.serde_json_path_core.proofs.Words.{◌<ℤ◌, ◌≤ℤ◌, ◌+ℤ◌, ◌-ℤ◌, ◌*ℤ◌, option_map_or, ints, clamps, same_Some, none-some, Data, array, Items, no_items}
 use Rattle.serde_json_path_core.proofs.Words.{item, get_item, Step, by_position, child_at, items_len, Slice, slice, step_of, from_end, bound_of}
 use Rattle.serde_json_path_core.proofs.Words.{SelectsPosition, IsIn, IsInOrder, SelectedBefore, IsPositionOf, SlicePositions, count_within, strided, rising}
@@ -40,20 +40,16 @@ pub next_strided : (count : ℕ) (upwards : Bool) (first stride : ℕ) (items : 
 next_strided count upwards first stride items o e =
     ap (λ x. option_map_or (λ d. (by_position first, d) ∷ strided count upwards (next_position upwards first stride) stride items) x []) e
 
-strided_sound : (count : ℕ) (upwards : Bool) (first stride : ℕ) (items : Items) (c : Step × Data) → IsIn c (strided count upwards first stride items) → IsPlaced count upwards first stride items c
-strided_sound zero upwards first stride items c h = absurd h
-strided_sound (suc count) upwards first stride items c h =
-    by (get_item first items) refl (strided_sound count upwards (next_position upwards first stride) stride items c)
-  where
-    from : (d : Data) → get_item first items ≡ Some d → (IsIn c (strided count upwards (next_position upwards first stride) stride items) → IsPlaced count upwards (next_position upwards first stride) stride items c)
-        → IsIn c ((by_position first, d) ∷ strided count upwards (next_position upwards first stride) stride items) → IsPlaced (suc count) upwards first stride items c
-    from d e later (inl f) = (0, omega arith, ap (λ (x : Step × Data). x.0) f, e ∙ ap (λ (x : Step × Data). Some x.1) (sym f))
-    from d e later (inr g) = let k = later g in (suc k.0, omega arith, k.2, k.3)
-
-    by : (o : Option Data) → get_item first items ≡ o → (IsIn c (strided count upwards (next_position upwards first stride) stride items) → IsPlaced count upwards (next_position upwards first stride) stride items c)
-        → IsPlaced (suc count) upwards first stride items c
-    by None e later = absurd (subst (IsIn c) (next_strided count upwards first stride items None e) h)
-    by (Some d) e later = from d e later (subst (IsIn c) (next_strided count upwards first stride items (Some d) e) h)
+strided_sound : (count : ℕ) (upwards : Bool) (first stride : ℕ) (items : Items) → ((j : ℕ) → j < count → frame upwards first stride j < items_len items)
+    → (c : Step × Data) → IsIn c (strided count upwards first stride items) → IsPlaced count upwards first stride items c
+strided_sound zero upwards first stride items there c h = absurd h
+strided_sound (suc count) upwards first stride items there c h =
+    let later = strided_sound count upwards (next_position upwards first stride) stride items (λ j k. there (suc j) (omega arith)) c in
+    let d = item_there items first (there 0 (omega arith)) in
+    elim (subst (IsIn c) (next_strided count upwards first stride items (Some d.0) d.1) h) [
+      | inl f ↦ (0, omega arith, ap (λ (x : Step × Data). x.0) f, d.1 ∙ ap (λ (x : Step × Data). Some x.1) (sym f))
+      | inr g ↦ let k = later g in (suc k.0, omega arith, k.2, k.3)
+    ]
 
 strided_complete : (count : ℕ) (upwards : Bool) (first stride : ℕ) (items : Items) → ((j : ℕ) → j < count → frame upwards first stride j < items_len items)
     → (c : Step × Data) → IsPlaced count upwards first stride items c → IsIn c (strided count upwards first stride items)
@@ -70,22 +66,19 @@ strided_complete (suc count) upwards first stride items there c h =
     by d e later zero k f g = let same = same_Some c.1 d (sym g ∙ e) in inl (λ i. (f i, same i))
     by d e later (suc j) k f g = inr (later c (j, omega arith, f, g))
 
-strided_ordered : (R : Step → Step → Type 0) (count : ℕ) (upwards : Bool) (first stride : ℕ) (items : Items)
+strided_ordered : (R : Step → Step → Type 0) (count : ℕ) (upwards : Bool) (first stride : ℕ) (items : Items) → ((j : ℕ) → j < count → frame upwards first stride j < items_len items)
     → ((j k : ℕ) → j < k → k < count → R (by_position (frame upwards first stride j)) (by_position (frame upwards first stride k)))
     → IsInOrder (λ (a b : Step × Data). R a.0 b.0) (strided count upwards first stride items)
-strided_ordered R zero upwards first stride items before = tt
-strided_ordered R (suc count) upwards first stride items before =
-    by (get_item first items) refl (strided_ordered R count upwards (next_position upwards first stride) stride items (λ j k h g. before (suc j) (suc k) (omega arith) (omega arith)))
-  where
-    by : (o : Option Data) → get_item first items ≡ o → IsInOrder (λ (a b : Step × Data). R a.0 b.0) (strided count upwards (next_position upwards first stride) stride items)
-        → IsInOrder (λ (a b : Step × Data). R a.0 b.0) (strided (suc count) upwards first stride items)
-    by None e later = subst (IsInOrder (λ (a b : Step × Data). R a.0 b.0)) (sym (next_strided count upwards first stride items None e)) tt
-    by (Some d) e later =
-        subst (IsInOrder (λ (a b : Step × Data). R a.0 b.0)) (sym (next_strided count upwards first stride items (Some d) e)) (
-          (λ c h. let k = strided_sound count upwards (next_position upwards first stride) stride items c h in
-              subst (R (by_position first)) (sym k.2) (before 0 (suc k.0) (omega arith) (omega arith))),
-          later,
-        )
+strided_ordered R zero upwards first stride items there before = tt
+strided_ordered R (suc count) upwards first stride items there before =
+    let next = next_position upwards first stride in
+    let fewer : (j : ℕ) → j < count → frame upwards next stride j < items_len items = λ j k. there (suc j) (omega arith) in
+    let d = item_there items first (there 0 (omega arith)) in
+    subst (IsInOrder (λ (a b : Step × Data). R a.0 b.0)) (sym (next_strided count upwards first stride items (Some d.0) d.1)) (
+      (λ c h. let k = strided_sound count upwards next stride items fewer c h in
+          subst (R (by_position first)) (sym k.2) (before 0 (suc k.0) (omega arith) (omega arith))),
+      strided_ordered R count upwards next stride items fewer (λ j k h g. before (suc j) (suc k) (omega arith) (omega arith)),
+    )
 
 -- ---- courses
 
@@ -266,9 +259,10 @@ in_sliced s (array items) x = (forth, λ h. back h.0.0 h.0.1 h.0.2 h.0.3 h.0.4 h
     forth : IsIn x (sliced s (array items)) → IsPositionOf (SelectsPosition s) (array items) x.0 × (child_at (array items) x.0 ≡ Some x.1)
     forth h =
         let c = positions_by (step_of s) s (items_len items) in
-        let k = strided_sound c.count c.upwards c.first c.stride items x h in
+        let good = is_course (step_of s) s (items_len items) refl in
+        let k = strided_sound c.count c.upwards c.first c.stride items good.there x h in
         let p = frame c.upwards c.first c.stride k.0 in
-        ((items, refl, p, k.2, ((is_course (step_of s) s (items_len items) refl).selects p).1 (k.0, k.1, refl)), ap (child_at (array items)) k.2 ∙ k.3)
+        ((items, refl, p, k.2, (good.selects p).1 (k.0, k.1, refl)), ap (child_at (array items)) k.2 ∙ k.3)
 
     back : (same : Items) → Some items ≡ Some same → (p : ℕ) → x.0 ≡ by_position p → SelectsPosition s (items_len same) p → child_at (array items) x.0 ≡ Some x.1 → IsIn x (sliced s (array items))
     back same e p is selects found =
@@ -283,5 +277,6 @@ in_sliced s _ x = (λ h. absurd h, λ h. absurd (none-some h.0.0 h.0.1))
 pub sliced_ordered : (s : Slice) (v : Data) → IsInOrder (λ (a b : Step × Data). SelectedBefore (slice s) a.0 b.0) (sliced s v)
 sliced_ordered s (array items) =
     let c = positions_by (step_of s) s (items_len items) in
-    strided_ordered (SelectedBefore (slice s)) c.count c.upwards c.first c.stride items (is_course (step_of s) s (items_len items) refl).before
+    let good = is_course (step_of s) s (items_len items) refl in
+    strided_ordered (SelectedBefore (slice s)) c.count c.upwards c.first c.stride items good.there good.before
 sliced_ordered s _ = tt

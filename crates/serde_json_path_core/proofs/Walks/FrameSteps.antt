@@ -1,11 +1,11 @@
 -- The steps of a frame that moves on.
-use Rattle.std.proofs.Common.{◌≡◌, ℕ, ◌+◌, List, [], ◌∷◌, ◌++◌, map, drop, Option, Some, None, option_map, inl, inr, refl, sym, ap, subst, ◌∙◌, append_assoc}
+use Rattle.std.proofs.Common.{◌≡◌, ℕ, ◌+◌, List, [], ◌∷◌, ◌++◌, map, drop, Some, inl, inr, refl, sym, ap, subst, ◌∙◌, append_assoc}
 use Rattle.serde_json_path_core.proofs.Words.{Data, Step, child_at, FunctionSet, SegmentKind, child, descendant, Selector, name, wildcard, index, slice, filter}
 use Rattle.serde_json_path_core.proofs.Words.{Stage, AreChildrenOf, Frame, candidates, admitted, unfiltered, opened, tasks, EndsIn, Skips, IsAtAdmitted, Passes}
 use Rattle.serde_json_path_core.proofs.Words.{IsDone, IsAtTask, by_name, in_append}
 use Rattle.serde_json_path_core.proofs.Meaning.ChildSteps.{in_children, in_child_by, in_item_at}
 use Rattle.serde_json_path_core.proofs.Meaning.SlicePositions.{in_sliced}
-use Rattle.serde_json_path_core.proofs.Walks.Tasks.{onward, gives_child, skips_over, turns_over, goes_down, is_done}
+use Rattle.serde_json_path_core.proofs.Walks.Tasks.{onward, skips_over, turns_over, goes_down, is_done}
 
 -- ---- ends of lists
 
@@ -73,8 +73,8 @@ module _ (F : FunctionSet) (top : Data) (stage : Stage) where
       → drop p.selector stage.selectors ≡ sel ∷ more → IsAtAdmitted F top sel p.left (Some c) → IsAtTask F top stage p (Some (p.segment + 1, c))
   at-onward p sel more c here at = (
     (refl, refl, refl, λ h. end-of p.value (c ∷ []) (drop 1 p.left) (subst (AreChildrenOf p.value) at.0 h)),
-    gives_child (admitted F top) p.segment stage.kind p.value (drop p.selector stage.selectors) sel more p.left (drop 1 p.left) [] c here at.1,
-    ([], gives_child unfiltered p.segment stage.kind p.value (drop p.selector stage.selectors) sel more p.left (drop 1 p.left) [] c here at.0),
+    skips_over (admitted F top) p.segment stage.kind p.value (drop p.selector stage.selectors) sel more p.left (drop 1 p.left) (c ∷ []) here at.1,
+    ([], skips_over unfiltered p.segment stage.kind p.value (drop p.selector stage.selectors) sel more p.left (drop 1 p.left) (c ∷ []) here at.0),
     λ h. first-of p.value c (drop 1 p.left) (subst (AreChildrenOf p.value) at.0 h),
   )
 
@@ -91,12 +91,3 @@ module _ (F : FunctionSet) (top : Data) (stage : Stage) where
   -- after the last selector there is nothing left to go down to
   pub done : (p : Frame) → drop p.selector stage.selectors ≡ [] → (stage.kind ≡ descendant → p.left ≡ []) → IsDone F top stage p
   done p here none = is_done (admitted F top) p.segment stage.kind p.value (drop p.selector stage.selectors) p.left here none
-
-  -- what a look for the next child says where there is none, and where there is one
-  pub at-none : {A : Type 0} (see : A → Step × Data) (sel : Selector) (left : List (Step × Data)) (found : Option A) → found ≡ None → IsAtAdmitted F top sel left (option_map see found)
-      → admitted F top sel left ≡ []
-  at-none see sel left found e h = subst (λ o. IsAtAdmitted F top sel left (option_map see o)) e h
-
-  pub at-some : {A : Type 0} (see : A → Step × Data) (sel : Selector) (left : List (Step × Data)) (found : Option A) (c : A) → found ≡ Some c → IsAtAdmitted F top sel left (option_map see found)
-      → IsAtAdmitted F top sel left (Some (see c))
-  at-some see sel left found c e h = subst (λ o. IsAtAdmitted F top sel left (option_map see o)) e h

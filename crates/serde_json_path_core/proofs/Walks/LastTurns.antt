@@ -1,11 +1,13 @@
 -- What comes of the last of a walk's frames once its next task was looked for.
 use Rattle.std.proofs.Common.{◌≡◌, ℕ, ◌+◌, ◌<◌, ◌≤◌, List, [], ◌∷◌, ◌++◌, Some, None, drop, take, set, length, get_or, option_map, Option, sym, ap, subst, ◌∙◌, arith}
-use Rattle.serde_json_path_core.proofs.Words.{get_or_default, length-take, take-append_seam, Data, view, FunctionSet, stage_at, stages_at, Stage, Node}
+use Rattle.std.proofs.lemmas.List.{take-set}
+use Rattle.serde_json_path_core.proofs.Words.{get_or_default, Data, view, FunctionSet, stage_at, stages_at, Stage, Node}
 use Rattle.serde_json_path_core.proofs.Words.{Part, IsAtNode, IsAtTask, Passes, frame_view, frames_view, task_view, entering, Frame}
 use Rattle.serde_json_path_core.specs.Inside.Advances.{IsKept}
 use Rattle.serde_json_path_core.specs.declared.evaluation.frame.Frame as declared
 use Rattle.serde_json_path_core.specs.declared.evaluation.frame.Task.{Task}
-use Rattle.serde_json_path_core.proofs.Walks.LastFrames.{sees_replaced, replaced}
+use Rattle.serde_json_path_core.proofs.Steps.KnownCases.{found-none, found-some}
+use Rattle.serde_json_path_core.proofs.Walks.LastFrames.{sees_replaced}
 use Rattle.serde_json_path_core.proofs.Walks.StageLists.{stages-from, stages-past}
 use Rattle.serde_json_path_core.proofs.Walks.Turns.{at-child, at-start, held, kept-trans, kept-turn, turn-dropped, turn-entered, turn-kept, IsTurn}
 
@@ -24,13 +26,6 @@ module _ (F : FunctionSet) (top : Data) (nodes : List Node) (segments : List Par
       let first : Part = record { number = 0 } in
       let part = get_or segments i first in
       (stage_at nodes part, drop (i + 1) (stages_at nodes segments), stages-from nodes segments i part within (get_or_default segments i first part within))
-
-  -- so it is once the code has looked up the frame and its segment
-  pub came-by : (items : List declared.Frame) (n : ℕ) (seen old new : declared.Frame) (segment : Part) → length items ≡ n + 1
-      → seen ≡ get_or items n seen → old ≡ get_or items n old → (seen.segment < length segments) × (segment ≡ get_or segments seen.segment segment)
-      → Passes F top (stage_at nodes segment) (frame_view old) (frame_view new) → Came items n seen old new segment
-  came-by items n seen old new segment long seen_is old_is look passes =
-      record { long = long; seen_is = seen_is; old_is = old_is; within = look.0; at = look.1; passes = passes }
 
 module _ {F : FunctionSet} {top : Data} {nodes : List Node} {segments : List Part} {items : List declared.Frame} {n : ℕ} {seen old new : declared.Frame} {segment : Part}
     (came : Came F top nodes segments items n seen old new segment) where
@@ -52,7 +47,8 @@ module _ {F : FunctionSet} {top : Data} {nodes : List Node} {segments : List Par
   views = sees_replaced items n old new came.long came.old_is
 
   passing : IsKept F top all (frames_view items) (frames_view (set items n new))
-  passing = held F top all _ _ (frames_view (take n items)) (frame_view old) (frame_view new) (stage_at nodes segment) _ views.0 views.1 old_stage came.passes
+  passing =
+      rw views.0 (rw views.1 (held F top all (frames_view (take n items)) (frame_view old) (frame_view new) (stage_at nodes segment) _ old_stage came.passes))
 
   -- what was kept until then is
   pub came-kept : (start : List Frame) → IsKept F top all start (frames_view items) → IsKept F top all start (frames_view (set items n new))
@@ -65,32 +61,29 @@ module _ {F : FunctionSet} {top : Data} {nodes : List Node} {segments : List Par
   pub came-dropped : {found : Option Task} → found ≡ None → IsAtTask F top (stage_at nodes segment) (frame_view new) (option_map task_view found)
       → {left : List declared.Frame} → left ≡ take n (set items n new) → IsTurn F top all (frames_view items) (frames_view left)
   came-dropped none at {left} is =
-      let done = subst (λ found. IsAtTask F top (stage_at nodes segment) (frame_view new) (option_map task_view found)) none at in
-      let moved = replaced items n old new came.long came.old_is in
-      let front : left ≡ take n items = is ∙ ap (take n) moved ∙ (let long = came.long in let short = length-take n items in let e : length (take n items) ≡ n = omega arith in
-      ap (λ k. take k (take n items ++ new ∷ [])) (sym e) ∙ take-append_seam (take n items) (new ∷ [])) in
-      kept-turn F top all _ _ _ passing
-      (turn-dropped F top all _ _ (frames_view (take n items)) (frame_view new) (stage_at nodes segment) _ views.1 (ap frames_view front) new_stage done)
+      let done = found-none _ _ _ (ap (option_map task_view) none) at in
+      let front : left ≡ take n items = is ∙ take-set items n new in
+      kept-turn F top all _ _ _ passing (rw views.1 (rw front (turn-dropped F top all (frames_view (take n items)) (frame_view new) (stage_at nodes segment) _ new_stage done)))
 
   -- its next task is at another segment
   pub came-entered : {found : Option Task} {task : Task} → found ≡ Some task → IsAtTask F top (stage_at nodes segment) (frame_view new) (option_map task_view found)
       → task.segment < length segments → {frames : List Frame} → frames ≡ entering all (frames_view (set items n new)) (task_view task) → IsTurn F top all (frames_view items) frames
   came-entered {found} {task} some here below is =
-      let at = subst (λ found. IsAtTask F top (stage_at nodes segment) (frame_view new) (option_map task_view found)) some here in
+      let at = found-some _ _ _ (task_view task) (ap (option_map task_view) some) here in
       let next = inner F top nodes segments task.segment below in
       kept-turn F top all _ _ _ passing
-      (turn-entered F top all _ _ (frames_view (take n items)) (frame_view new) (stage_at nodes segment) _ task.segment (task_view task).1 next.0 next.1 views.1 is new_stage at next.2)
+      (rw is (rw views.1 (turn-entered F top all (frames_view (take n items)) (frame_view new) (stage_at nodes segment) _ task.segment (task_view task).1 next.0 next.1 new_stage at next.2)))
 
   -- its next task is a node
   pub came-node : {found : Option Task} {task : Task} → found ≡ Some task → IsAtTask F top (stage_at nodes segment) (frame_view new) (option_map task_view found)
       → length segments ≤ task.segment → IsAtNode F top all (frames_view (set items n new)) (Some (task_view task).1.0) (task_view task).1.1
   came-node {found} {task} some here past =
-      let at = subst (λ found. IsAtTask F top (stage_at nodes segment) (frame_view new) (option_map task_view found)) some here in
-      at-child F top all _ (frames_view (take n items)) (frame_view new) (stage_at nodes segment) _ task.segment (task_view task).1 views.1 new_stage at (stages-past nodes segments task.segment past)
+      let at = found-some _ _ _ (task_view task) (ap (option_map task_view) some) here in
+      rw views.1 (at-child F top all (frames_view (take n items)) (frame_view new) (stage_at nodes segment) _ task.segment (task_view task).1 new_stage at (stages-past nodes segments task.segment past))
 
 module _ (F : FunctionSet) (top : Data) (nodes : List Node) (segments : List Part) where
   -- the last frame is past the last segment
   pub came-start : (items : List declared.Frame) (n : ℕ) (last : declared.Frame) (v : Data) → length items ≡ n + 1 → last ≡ get_or items n last → length segments ≤ last.segment → view last.value.now ≡ v
       → IsAtNode F top (stages_at nodes segments) (frames_view items) None v
   came-start items n last v long is past same =
-      at-start F top (stages_at nodes segments) _ (frames_view (take n items)) (frame_view last) v (sees_replaced items n last last long is).0 (stages-past nodes segments last.segment past) same
+      rw (sees_replaced items n last last long is).0 (rw (sym same) (at-start F top (stages_at nodes segments) (frames_view (take n items)) (frame_view last) (stages-past nodes segments last.segment past)))

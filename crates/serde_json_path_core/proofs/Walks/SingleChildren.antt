@@ -80,27 +80,15 @@ module _ (F : FunctionSet) (top : Data) where
       ∙ ap (flat_map (of_children seg more)) (sym (values-reached kind n))
       ∙ sym (from_node kind seg more (λ m. values-anywhere more m) (itself n.value))
 
-  -- the values that come of a child, if there is one
-  abbrev pub of_child : Segments → Option (Step × Data) → List Data
-  of_child more None = []
-  of_child more (Some c) = values_from F top more c.1
-
   plain : (s : SingleSelector) (cs : List (Step × Data)) → admitted F top (single_view s) cs ≡ cs
   plain (single.Name k) cs = refl
   plain (single.Index i) cs = refl
 
-  child_only : (more : Segments) (found : Option (Step × Data)) → flat_map (λ (c : Step × Data). values_from F top more c.1) (option_to_list found) ≡ of_child more found
+  -- the values that come of a child, if there is one
+  child_only : (more : Segments) (found : Option (Step × Data))
+      → flat_map (λ (c : Step × Data). values_from F top more c.1) (option_to_list found) ≡ option_map_or (λ c. values_from F top more c.1) found []
   child_only more None = refl
   child_only more (Some c) = append-nil (values_from F top more c.1)
-
-  -- the children of a segment of one selector, which admits all
-  chosen-only : (kind : SegmentKind) (seg : Segment) (v : Data) (sel : Selector) → stage_of kind seg ≡ record { kind = child; selectors = sel ∷ [] }
-      → ((cs : List (Step × Data)) → admitted F top sel cs ≡ cs) → chosen F top seg v ≡ candidates sel v
-  chosen-only kind seg v sel is all =
-      sym (chosen-list F top seg v)
-      ∙ ap (flat_map (λ sel. admitted F top sel (candidates sel v))) (ap (λ (stage : Stage). stage.selectors) is)
-      ∙ append-nil (admitted F top sel (candidates sel v))
-      ∙ all (candidates sel v)
 
   -- the values that come of a child segment of one selector, which admits all
   values-only : (kind : SegmentKind) (seg : Segment) (more : Segments) (v : Data) (sel : Selector) → stage_of kind seg ≡ record { kind = child; selectors = sel ∷ [] }
@@ -110,29 +98,20 @@ module _ (F : FunctionSet) (top : Data) where
       from_node kind seg more (λ m. values-anywhere more m) (itself v)
       ∙ ap (λ k. flat_map (of_children seg more) (map value_of (reached k (itself v)))) (ap (λ (stage : Stage). stage.kind) is)
       ∙ append-nil (of_children seg more v)
-      ∙ ap (flat_map (λ (c : Step × Data). values_from F top more c.1)) (chosen-only kind seg v sel is all)
-
-  -- a child segment of one name or one index
-  pub values-single : (kind : SegmentKind) (seg : Segment) (more : Segments) (v : Data) (s : SingleSelector) (found : Option (Step × Data))
-      → stage_of kind seg ≡ record { kind = child; selectors = single_view s ∷ [] } → option_to_list found ≡ candidates (single_view s) v
-      → values_from F top (segment kind seg more) v ≡ of_child more found
-  values-single kind seg more v s found is_single is =
-      values-only kind seg more v (single_view s) is_single (plain s)
-      ∙ ap (flat_map (λ (c : Step × Data). values_from F top more c.1)) (sym is)
-      ∙ child_only more found
-
-  -- a child segment of one selector, which admits all, and no segment after it
-  last-only : (kind : SegmentKind) (seg : Segment) (v : Data) (sel : Selector) → stage_of kind seg ≡ record { kind = child; selectors = sel ∷ [] }
-      → ((cs : List (Step × Data)) → admitted F top sel cs ≡ cs) → values_from F top (segment kind seg no_segments) v ≡ map (λ (c : Step × Data). c.1) (candidates sel v)
-  last-only kind seg v sel is all = values-only kind seg no_segments v sel is all ∙ each-alone (candidates sel v)
+      ∙ ap (flat_map (λ (c : Step × Data). values_from F top more c.1))
+      (sym (chosen-list F top seg v)
+      ∙ ap (flat_map (λ sel. admitted F top sel (candidates sel v))) (ap (λ (stage : Stage). stage.selectors) is)
+      ∙ append-nil (admitted F top sel (candidates sel v)) ∙ all (candidates sel v))
 
   -- one part more of so many
   pub goes_down : (nodes : List Node) (parts : List Part) (i : ℕ) (part : Part) (v : Data) (s : SingleSelector) (found : Option (Step × Data)) → i < length parts → part ≡ get_or parts i part
       → stage_at nodes part ≡ record { kind = child; selectors = single_view s ∷ [] } → option_to_list found ≡ candidates (single_view s) v
-      → values_from F top (segments_at nodes (drop i parts)) v ≡ of_child (segments_at nodes (drop (i + 1) parts)) found
+      → values_from F top (segments_at nodes (drop i parts)) v ≡ option_map_or (λ c. values_from F top (segments_at nodes (drop (i + 1) parts)) c.1) found []
   goes_down nodes parts i part v s found within is stage selects =
       ap (λ ps. values_from F top (segments_at nodes ps) v) (drop_more parts i part within ∙ ap (λ p. p ∷ drop (i + 1) parts) (sym is))
-      ∙ values-single (segment_kind_in (piece_at nodes part.number)) (segment_in (piece_at nodes part.number)) (segments_at nodes (drop (i + 1) parts)) v s found stage selects
+      ∙ values-only (segment_kind_in (piece_at nodes part.number)) (segment_in (piece_at nodes part.number)) (segments_at nodes (drop (i + 1) parts)) v (single_view s) stage (plain s)
+      ∙ ap (flat_map (λ (c : Step × Data). values_from F top (segments_at nodes (drop (i + 1) parts)) c.1)) (sym selects)
+      ∙ child_only (segments_at nodes (drop (i + 1) parts)) found
 
   -- a query's values are those that its segments select from its start
   pub values-query : (q : Query) (v start : Data) (segs : Segments) → segs ≡ segments_of q → start ≡ start_of (kind_of q) top v → map value_of (results F top q v) ≡ values_from F top segs start
@@ -157,7 +136,7 @@ pub select-only : (nodes : List Node) (parts : List Part) (d : Part) (sel : Sele
     → ((F : FunctionSet) (top : Data) (cs : List (Step × Data)) → admitted F top sel cs ≡ cs) → SelectOnly nodes parts sel
 select-only nodes [] d sel some one is all = absurd (omega arith)
 select-only nodes (part ∷ []) d sel some one is all =
-    λ F top v. last-only F top (segment_kind_in (piece_at nodes part.number)) (segment_in (piece_at nodes part.number)) v sel is (all F top)
+    λ F top v. values-only F top (segment_kind_in (piece_at nodes part.number)) (segment_in (piece_at nodes part.number)) no_segments v sel is (all F top) ∙ each-alone (candidates sel v)
 select-only nodes (part ∷ second ∷ more) d sel some one is all = absurd (omega arith)
 
 -- the same of a name or an index, if the selector is one

@@ -1,10 +1,10 @@
 -- What a stack of frames has left, when its last frame gives its node, is dropped, or moves on to a child.
 use Rattle.std.proofs.Common.{◌≡◌, ℕ, ◌+◌, List, [], ◌∷◌, ◌++◌, map, drop, flat_map, Option, Some, option_to_list, refl, ap, ◌∙◌, sym, append_assoc, ◌<◌, ◌≤◌, length, true, arith, length-append}
 use Rattle.serde_json_path_core.proofs.Words.{flat_map-append, append-nil, drop-drop, flat_map-map, Step, Located, SegmentKind, child, descendant, Selector}
-use Rattle.serde_json_path_core.proofs.Words.{name, wildcard, index, slice, filter, beneath, children, descents, placed, reached, Stage, Frame, candidates}
+use Rattle.serde_json_path_core.proofs.Words.{name, wildcard, beneath, children, descents, placed, reached, Stage, Frame, candidates}
 use Rattle.serde_json_path_core.proofs.Words.{lower, entered, frame_tasks, is_leaf, here, stack_path, visit, visit_rest, visit_place, visit_stack, admitted}
 use Rattle.serde_json_path_core.proofs.Words.{unfiltered, rest_of, work, flat_map-same, flat_map-flat_map, FunctionSet}
-use Rattle.serde_json.specs.Data.{Data, null as null_data, boolean, number as number_data, string, array, object}
+use Rattle.serde_json.specs.Data.{Data, array, object}
 use Rattle.serde_json_path_core.proofs.Meaning.Descents.{below_child, descents_are}
 use Rattle.serde_json_path_core.proofs.Walks.Tasks.{next_opened}
 
@@ -123,62 +123,30 @@ module _ (admit : Selector → List (Step × Data) → List (Step × Data)) {A :
       → m.step ≡ p.step → m.segment ≡ p.segment
       → of_stack (ps ++ p ∷ []) ≡ flat_map (of_task (here (stack_path [] ps) p)) front ++ (before ++ of_stack ((ps ++ m ∷ []) ++ entered (Some c.0) number (drop number all) c.1 ∷ []))
   moves ps p m stage more front number c d t ms mk =
+      let task : ℕ × (Step × Data) = (number, c) in
       let q = entered (Some c.0) number (drop number all) c.1 in
-      let S = of_stack ps in
+      let S = of_stack (ps ++ m ∷ []) in
       let L = here (stack_path [] ps) p in
-      let L' = here (stack_path [] ps) m in
-      let same : L ≡ L' = ap (λ o. stack_path [] ps ++ option_to_list o) (sym ms) in
       let Q = visit_place admit before leaf all (L ++ c.0 ∷ []) q in
-      let M = visit_place admit before leaf all L m in
-      let dm : drop m.segment all ≡ stage ∷ more = ap (λ j. drop j all) mk ∙ d in
-      let begun_at : made (drop number all) (placed L c) ≡ before ++ Q = enters (Some c.0) number (drop number all) (placed L c) refl in
-      let left_is : flat_map (of_task L) (frame_tasks admit stage m) ≡ M = ap (λ s. visit_rest admit before leaf all s L m) (sym dm) in
-      let new_is : of_stack ((ps ++ m ∷ []) ++ q ∷ []) ≡ Q ++ (M ++ S) =
-      of_stack-last [] (ps ++ m ∷ []) q
-      ∙ ap (λ xs. visit_place admit before leaf all (here (stack_path [] (ps ++ m ∷ [])) q) q ++ xs) (of_stack-last [] ps m)
-      ∙ ap (λ l. visit_place admit before leaf all (here l q) q ++ (visit_place admit before leaf all L' m ++ S)) (stack_path-last [] ps m)
-      ∙ ap (λ l. visit_place admit before leaf all (l ++ c.0 ∷ []) q ++ (visit_place admit before leaf all l m ++ S)) (sym same) in
-      drops ps p stage more d
-      ∙ ap (λ ts. flat_map (of_task L) ts ++ S) t
-      ∙ ap (λ xs. xs ++ S) (flat_map-append (of_task L) front ((number, c) ∷ frame_tasks admit stage m))
-      ∙ ap (λ xs. (flat_map (of_task L) front ++ (made (drop number all) (placed L c) ++ xs)) ++ S) left_is
-      ∙ ap (λ xs. (flat_map (of_task L) front ++ (xs ++ M)) ++ S) begun_at
-      ∙ append_assoc (flat_map (of_task L) front) ((before ++ Q) ++ M) S
-      ∙ ap (λ xs. flat_map (of_task L) front ++ xs) (append_assoc (before ++ Q) M S ∙ append_assoc before Q (M ++ S))
-      ∙ ap (λ xs. flat_map (of_task L) front ++ (before ++ xs)) (sym new_is)
+      let passed = flat_map (of_task L) front in
+      let same : here (stack_path [] (ps ++ m ∷ [])) q ≡ L ++ c.0 ∷ [] =
+      ap (λ l. l ++ c.0 ∷ []) (stack_path-last [] ps m ∙ ap (λ o. stack_path [] ps ++ option_to_list o) ms) in
+      passes ps p m stage more (front ++ task ∷ []) d (t ∙ sym (append_assoc front (task ∷ []) (frame_tasks admit stage m))) ms mk
+      ∙ ap (λ xs. xs ++ S) (flat_map-append (of_task L) front (task ∷ []) ∙ ap (λ xs. passed ++ xs) (append-nil (of_task L task) ∙ enters (Some c.0) number (drop number all) (placed L c) refl))
+      ∙ append_assoc passed (before ++ Q) S
+      ∙ ap (λ xs. passed ++ xs) (append_assoc before Q S ∙ ap (λ xs. before ++ xs) (ap (λ l. visit_place admit before leaf all l q ++ S) (sym same) ∙ sym (of_stack-last [] (ps ++ m ∷ []) q)))
 
 -- ---- leaves
 
 leaf-candidates : (sel : Selector) (v : Data) → is_leaf v ≡ true → candidates sel v ≡ []
-leaf-candidates (name k) null_data h = refl
-leaf-candidates (name k) (boolean b) h = refl
-leaf-candidates (name k) (number_data n) h = refl
-leaf-candidates (name k) (string t) h = refl
-leaf-candidates wildcard null_data h = refl
-leaf-candidates wildcard (boolean b) h = refl
-leaf-candidates wildcard (number_data n) h = refl
-leaf-candidates wildcard (string t) h = refl
-leaf-candidates (index i) null_data h = refl
-leaf-candidates (index i) (boolean b) h = refl
-leaf-candidates (index i) (number_data n) h = refl
-leaf-candidates (index i) (string t) h = refl
-leaf-candidates (slice s) null_data h = refl
-leaf-candidates (slice s) (boolean b) h = refl
-leaf-candidates (slice s) (number_data n) h = refl
-leaf-candidates (slice s) (string t) h = refl
-leaf-candidates (filter e) null_data h = refl
-leaf-candidates (filter e) (boolean b) h = refl
-leaf-candidates (filter e) (number_data n) h = refl
-leaf-candidates (filter e) (string t) h = refl
 leaf-candidates sel (array items) h = absurd cc
 leaf-candidates sel (object of) h = absurd cc
+leaf-candidates (name k) _ h = refl
+leaf-candidates _ _ h = refl
 
 admits-none : (F : FunctionSet) (top : Data) (sel : Selector) → admitted F top sel [] ≡ []
 admits-none F top (name k) = refl
-admits-none F top wildcard = refl
-admits-none F top (index i) = refl
-admits-none F top (slice s) = refl
-admits-none F top (filter e) = refl
+admits-none F top _ = refl
 
 leaf-picks : (F : FunctionSet) (top : Data) (sels : List Selector) (v : Data) → is_leaf v ≡ true → flat_map (λ s. admitted F top s (candidates s v)) sels ≡ []
 leaf-picks F top [] v h = refl
@@ -189,105 +157,38 @@ leaf-lower : (kind : SegmentKind) (v : Data) → is_leaf v ≡ true → lower ki
 leaf-lower child v h = refl
 leaf-lower descendant v h = leaf-candidates wildcard v h
 
--- where a segment begins at a leaf, nothing is given
-leaf-visit : (F : FunctionSet) (top : Data) (stage : Stage) (more : List Stage) (n : Located) → is_leaf n.value ≡ true → visit (admitted F top) [] (λ m. m ∷ []) (stage ∷ more) n ≡ []
-leaf-visit F top stage more n h =
-    let make = visit (admitted F top) [] (λ m. m ∷ []) (stage ∷ more) in
-    let of_picks : Located → List Located = λ m. flat_map (λ c. visit (admitted F top) [] (λ l. l ∷ []) more (placed m.location c)) (flat_map (λ s. admitted F top s (candidates s m.value)) stage.selectors) in
-    unrolled of_picks stage.kind n
-    ∙ ap (λ cs. flat_map (λ c. visit (admitted F top) [] (λ l. l ∷ []) more (placed n.location c)) cs ++ flat_map (λ c. flat_map of_picks (reached stage.kind (placed n.location c))) (lower stage.kind n.value)) (leaf-picks F top stage.selectors n.value h)
-    ∙ ap (flat_map (λ c. flat_map of_picks (reached stage.kind (placed n.location c)))) (leaf-lower stage.kind n.value h)
+-- a frame where a segment begins at a leaf has no task
+pub leaf-done : (F : FunctionSet) (top : Data) (step : Option Step) (number : ℕ) (stage : Stage) (more : List Stage) (v : Data) → is_leaf v ≡ true
+    → frame_tasks (admitted F top) stage (entered step number (stage ∷ more) v) ≡ []
+leaf-done F top step number stage more v h =
+    sym (next_opened (admitted F top) number stage.kind v stage.selectors)
+    ∙ ap (λ cs. map (λ c. (number + 1, c)) cs ++ map (λ c. (number, c)) (lower stage.kind v)) (leaf-picks F top stage.selectors v h)
+    ∙ ap (map (λ c. (number, c))) (leaf-lower stage.kind v h)
 
 -- ---- what remains, and how much work, after one step of a walk
 
--- the last frame gives its node, and so there is less work
-pub work-given : (all : List Stage) (ps : List Frame) (p : Frame) → drop p.segment all ≡ [] → work all ps < work all (ps ++ p ∷ [])
-work-given all ps p d =
-    let left = visit_stack unfiltered {A = ℕ} (0 ∷ 0 ∷ []) (λ n. 0 ∷ []) all [] ps in
-    let marks : length (visit_stack unfiltered {A = ℕ} (0 ∷ 0 ∷ []) (λ n. 0 ∷ []) all [] (ps ++ p ∷ [])) ≡ 1 + length left =
-    ap length {y = 0 ∷ left} (gives unfiltered (0 ∷ 0 ∷ []) (λ n. 0 ∷ []) all ps p d) ∙ omega arith in
-    let frames : length (ps ++ p ∷ []) ≡ length ps + 1 = length-append ps (p ∷ []) in
+abbrev marks : List Stage → List Frame → List ℕ
+marks all ps = visit_stack unfiltered (0 ∷ 0 ∷ []) (λ n. 0 ∷ []) all [] ps
+
+-- how much less work is left without some of the marks and frames
+work-past : (all : List Stage) (old new : List Frame) (front : List ℕ) → marks all old ≡ front ++ marks all new → work all new + (length front + length old) ≡ work all old + length new
+work-past all old new front e = let long = ap length e ∙ length-append front (marks all new) in omega arith
+
+-- with a frame less there is less work
+pub work-fewer : (all : List Stage) (ps : List Frame) (p : Frame) → work all ps < work all (ps ++ p ∷ [])
+work-fewer all ps p =
+    let past = work-past all (ps ++ p ∷ []) ps _ (of_stack-last unfiltered (0 ∷ 0 ∷ []) (λ n. 0 ∷ []) all [] ps p) in
+    let frames = length-append ps (p ∷ []) in
     omega arith
 
--- the last frame passes no task: what remains stays
-pub rest-held : (F : FunctionSet) (top : Data) (all : List Stage) (ps : List Frame) (p m : Frame) (stage : Stage) (more : List Stage) → drop p.segment all ≡ stage ∷ more
-    → frame_tasks (admitted F top) stage p ≡ frame_tasks (admitted F top) stage m → m.step ≡ p.step → m.segment ≡ p.segment
-    → rest_of F top all (ps ++ p ∷ []) ≡ rest_of F top all (ps ++ m ∷ [])
-rest-held F top all ps p m stage more d t ms mk = passes (admitted F top) [] (λ n. n ∷ []) all ps p m stage more [] d t ms mk
-
--- whatever it passes, there is no more work
+-- whatever tasks the last frame passes, there is no more work
 pub work-held : (all : List Stage) (ps : List Frame) (p m : Frame) (stage : Stage) (more : List Stage) (front : List (ℕ × (Step × Data))) → drop p.segment all ≡ stage ∷ more
     → frame_tasks unfiltered stage p ≡ front ++ frame_tasks unfiltered stage m → m.step ≡ p.step → m.segment ≡ p.segment
     → work all (ps ++ m ∷ []) ≤ work all (ps ++ p ∷ [])
 work-held all ps p m stage more front d t ms mk =
-    let of_task : ℕ × (Step × Data) → List ℕ = λ x. visit unfiltered (0 ∷ 0 ∷ []) (λ n. 0 ∷ []) (drop x.0 all) (record { location = here (stack_path [] ps) p ++ x.1.0 ∷ []; value = x.1.1 }) in
-    let left = visit_stack unfiltered {A = ℕ} (0 ∷ 0 ∷ []) (λ n. 0 ∷ []) all [] (ps ++ m ∷ []) in
-    let marks : length (visit_stack unfiltered {A = ℕ} (0 ∷ 0 ∷ []) (λ n. 0 ∷ []) all [] (ps ++ p ∷ [])) ≡ length (flat_map of_task front) + length left =
-    ap length {y = flat_map of_task front ++ left} (passes unfiltered (0 ∷ 0 ∷ []) (λ n. 0 ∷ []) all ps p m stage more front d t ms mk) ∙ length-append (flat_map of_task front) left in
-    let before : length (ps ++ p ∷ []) ≡ length ps + 1 = length-append ps (p ∷ []) in
-    let after : length (ps ++ m ∷ []) ≡ length ps + 1 = length-append ps (m ∷ []) in
-    omega arith
-
--- the last frame passes a task at a leaf, where another segment begins: what remains stays
-pub rest-leaf : (F : FunctionSet) (top : Data) (all : List Stage) (ps : List Frame) (p m : Frame) (stage : Stage) (more : List Stage) (number : ℕ) (c : Step × Data) (next : Stage) (others : List Stage)
-    → drop p.segment all ≡ stage ∷ more → frame_tasks (admitted F top) stage p ≡ (number, c) ∷ frame_tasks (admitted F top) stage m → m.step ≡ p.step → m.segment ≡ p.segment
-    → drop number all ≡ next ∷ others → is_leaf c.1 ≡ true → rest_of F top all (ps ++ p ∷ []) ≡ rest_of F top all (ps ++ m ∷ [])
-rest-leaf F top all ps p m stage more number c next others d t ms mk n h =
-    let L = here (stack_path [] ps) p ++ c.0 ∷ [] in
-    let none : visit (admitted F top) [] (λ l. l ∷ []) (drop number all) (located L c.1) ≡ [] =
-    ap (λ stages. visit (admitted F top) [] (λ l. l ∷ []) stages (located L c.1)) n ∙ leaf-visit F top next others (located L c.1) h in
-    passes (admitted F top) [] (λ n. n ∷ []) all ps p m stage more ((number, c) ∷ []) d t ms mk
-    ∙ ap (λ xs. (xs ++ []) ++ rest_of F top all (ps ++ m ∷ [])) none
-
--- the last frame passes a task where the segments end: that is the first node of what remains
-pub rest-node : (F : FunctionSet) (top : Data) (all : List Stage) (ps : List Frame) (p m : Frame) (stage : Stage) (more : List Stage) (number : ℕ) (c : Step × Data)
-    → drop p.segment all ≡ stage ∷ more → frame_tasks (admitted F top) stage p ≡ (number, c) ∷ frame_tasks (admitted F top) stage m → m.step ≡ p.step → m.segment ≡ p.segment
-    → drop number all ≡ [] → rest_of F top all (ps ++ p ∷ []) ≡ located (stack_path [] (ps ++ p ∷ []) ++ c.0 ∷ []) c.1 ∷ rest_of F top all (ps ++ m ∷ [])
-rest-node F top all ps p m stage more number c d t ms mk n =
-    let L = here (stack_path [] ps) p ++ c.0 ∷ [] in
-    passes (admitted F top) [] (λ n. n ∷ []) all ps p m stage more ((number, c) ∷ []) d t ms mk
-    ∙ ap (λ stages. (visit (admitted F top) [] (λ l. l ∷ []) stages (located L c.1) ++ []) ++ rest_of F top all (ps ++ m ∷ [])) n
-    ∙ ap (λ above. located (above ++ c.0 ∷ []) c.1 ∷ rest_of F top all (ps ++ m ∷ [])) (sym (stack_path-last [] ps p))
-
--- the last frame passes a task, and maybe others: there is less work
-pub work-passed : (all : List Stage) (ps : List Frame) (p m : Frame) (stage : Stage) (more : List Stage) (front : List (ℕ × (Step × Data))) (number : ℕ) (c : Step × Data)
-    → drop p.segment all ≡ stage ∷ more → frame_tasks unfiltered stage p ≡ front ++ (number, c) ∷ frame_tasks unfiltered stage m
-    → m.step ≡ p.step → m.segment ≡ p.segment → work all (ps ++ m ∷ []) < work all (ps ++ p ∷ [])
-work-passed all ps p m stage more front number c d t ms mk =
-    let L = here (stack_path [] ps) p in
-    let of_task : ℕ × (Step × Data) → List ℕ = λ x. visit unfiltered (0 ∷ 0 ∷ []) (λ n. 0 ∷ []) (drop x.0 all) (record { location = L ++ x.1.0 ∷ []; value = x.1.1 }) in
-    let task : ℕ × (Step × Data) = (number, c) in
-    let left = visit_stack unfiltered {A = ℕ} (0 ∷ 0 ∷ []) (λ n. 0 ∷ []) all [] (ps ++ m ∷ []) in
-    let inside = visit_rest unfiltered {A = ℕ} (0 ∷ 0 ∷ []) (λ n. 0 ∷ []) all (drop number all) (L ++ c.0 ∷ []) (entered (Some c.0) number (drop number all) c.1) in
-    let opens : length (of_task task) ≡ 2 + length inside =
-    ap length {y = 0 ∷ 0 ∷ inside} (enters unfiltered (0 ∷ 0 ∷ []) (λ n. 0 ∷ []) all (Some c.0) number (drop number all) (located (L ++ c.0 ∷ []) c.1) refl) ∙ omega arith in
-    let tasks : frame_tasks unfiltered stage p ≡ (front ++ task ∷ []) ++ frame_tasks unfiltered stage m = t ∙ sym (append_assoc front (task ∷ []) (frame_tasks unfiltered stage m)) in
-    let passed = flat_map of_task (front ++ task ∷ []) in
-    let some : length passed ≡ length (flat_map of_task front) + length (of_task task ++ []) =
-    ap length (flat_map-append of_task front (task ∷ [])) ∙ length-append (flat_map of_task front) (of_task task ++ []) in
-    let alone : length (of_task task ++ []) ≡ length (of_task task) = ap length (append-nil (of_task task)) in
-    let marks : length (visit_stack unfiltered {A = ℕ} (0 ∷ 0 ∷ []) (λ n. 0 ∷ []) all [] (ps ++ p ∷ [])) ≡ length passed + length left =
-    ap length {y = passed ++ left} (passes unfiltered (0 ∷ 0 ∷ []) (λ n. 0 ∷ []) all ps p m stage more (front ++ task ∷ []) d tasks ms mk) ∙ length-append passed left in
-    let before : length (ps ++ p ∷ []) ≡ length ps + 1 = length-append ps (p ∷ []) in
-    let after : length (ps ++ m ∷ []) ≡ length ps + 1 = length-append ps (m ∷ []) in
-    omega arith
-
--- the last frame has no task left, and is dropped
-pub rest-dropped : (F : FunctionSet) (top : Data) (all : List Stage) (ps : List Frame) (p : Frame) (stage : Stage) (more : List Stage) → drop p.segment all ≡ stage ∷ more
-    → frame_tasks (admitted F top) stage p ≡ [] → rest_of F top all (ps ++ p ∷ []) ≡ rest_of F top all ps
-rest-dropped F top all ps p stage more d t =
-    let of_task : ℕ × (Step × Data) → List Located = λ x. visit (admitted F top) [] (λ n. n ∷ []) (drop x.0 all) (record { location = here (stack_path [] ps) p ++ x.1.0 ∷ []; value = x.1.1 }) in
-    drops (admitted F top) [] (λ n. n ∷ []) all ps p stage more d ∙ ap (λ ts. flat_map of_task ts ++ rest_of F top all ps) t
-
--- with a frame less there is less work
-pub work-dropped : (all : List Stage) (ps : List Frame) (p : Frame) (stage : Stage) (more : List Stage) → drop p.segment all ≡ stage ∷ more → work all ps < work all (ps ++ p ∷ [])
-work-dropped all ps p stage more d =
-    let of_task : ℕ × (Step × Data) → List ℕ = λ x. visit unfiltered (0 ∷ 0 ∷ []) (λ n. 0 ∷ []) (drop x.0 all) (record { location = here (stack_path [] ps) p ++ x.1.0 ∷ []; value = x.1.1 }) in
-    let tasks_of = flat_map of_task (frame_tasks unfiltered stage p) in
-    let left = visit_stack unfiltered {A = ℕ} (0 ∷ 0 ∷ []) (λ n. 0 ∷ []) all [] ps in
-    let marks : length (visit_stack unfiltered {A = ℕ} (0 ∷ 0 ∷ []) (λ n. 0 ∷ []) all [] (ps ++ p ∷ [])) ≡ length tasks_of + length left =
-    ap length {y = tasks_of ++ left} (drops unfiltered (0 ∷ 0 ∷ []) (λ n. 0 ∷ []) all ps p stage more d) ∙ length-append tasks_of left in
-    let frames : length (ps ++ p ∷ []) ≡ length ps + 1 = length-append ps (p ∷ []) in
+    let past = work-past all (ps ++ p ∷ []) (ps ++ m ∷ []) _ (passes unfiltered (0 ∷ 0 ∷ []) (λ n. 0 ∷ []) all ps p m stage more front d t ms mk) in
+    let before = length-append ps (p ∷ []) in
+    let after = length-append ps (m ∷ []) in
     omega arith
 
 -- a move is less work, whatever is passed over
@@ -296,11 +197,18 @@ pub work-moved : (all : List Stage) (ps : List Frame) (p m : Frame) (stage : Sta
     → m.step ≡ p.step → m.segment ≡ p.segment → work all ((ps ++ m ∷ []) ++ entered (Some c.0) number (drop number all) c.1 ∷ []) < work all (ps ++ p ∷ [])
 work-moved all ps p m stage more front number c d t ms mk =
     let q = entered (Some c.0) number (drop number all) c.1 in
-    let of_task : ℕ × (Step × Data) → List ℕ = λ x. visit unfiltered (0 ∷ 0 ∷ []) (λ n. 0 ∷ []) (drop x.0 all) (record { location = here (stack_path [] ps) p ++ x.1.0 ∷ []; value = x.1.1 }) in
-    let passed = flat_map of_task front in
-    let left = visit_stack unfiltered {A = ℕ} (0 ∷ 0 ∷ []) (λ n. 0 ∷ []) all [] ((ps ++ m ∷ []) ++ q ∷ []) in
-    let marks : length (visit_stack unfiltered {A = ℕ} (0 ∷ 0 ∷ []) (λ n. 0 ∷ []) all [] (ps ++ p ∷ [])) ≡ length passed + (2 + length left) =
-    ap length {y = passed ++ (0 ∷ 0 ∷ left)} (moves unfiltered (0 ∷ 0 ∷ []) (λ n. 0 ∷ []) all ps p m stage more front number c d t ms mk) ∙ length-append passed (0 ∷ 0 ∷ left) ∙ omega arith in
-    let before : length (ps ++ p ∷ []) ≡ length ps + 1 = length-append ps (p ∷ []) in
-    let after : length ((ps ++ m ∷ []) ++ q ∷ []) ≡ length ps + 2 = length-append (ps ++ m ∷ []) (q ∷ []) ∙ ap (λ k. k + 1) (length-append ps (m ∷ [])) ∙ omega arith in
+    let marked = moves unfiltered {A = ℕ} (0 ∷ 0 ∷ []) (λ n. 0 ∷ []) all ps p m stage more front number c d t ms mk in
+    let passed = flat_map (of_task unfiltered {A = ℕ} (0 ∷ 0 ∷ []) (λ n. 0 ∷ []) all (here (stack_path [] ps) p)) front in
+    let past = work-past all (ps ++ p ∷ []) ((ps ++ m ∷ []) ++ q ∷ []) (passed ++ 0 ∷ 0 ∷ []) (marked ∙ sym (append_assoc passed (0 ∷ 0 ∷ []) (marks all ((ps ++ m ∷ []) ++ q ∷ [])))) in
+    let two = length-append passed (0 ∷ 0 ∷ []) in
+    let before = length-append ps (p ∷ []) in
+    let after = length-append (ps ++ m ∷ []) (q ∷ []) in
+    let held = length-append ps (m ∷ []) in
     omega arith
+
+-- the last frame has no task left, and is dropped
+pub rest-dropped : (F : FunctionSet) (top : Data) (all : List Stage) (ps : List Frame) (p : Frame) (stage : Stage) (more : List Stage) → drop p.segment all ≡ stage ∷ more
+    → frame_tasks (admitted F top) stage p ≡ [] → rest_of F top all (ps ++ p ∷ []) ≡ rest_of F top all ps
+rest-dropped F top all ps p stage more d t =
+    let of_task : ℕ × (Step × Data) → List Located = λ x. visit (admitted F top) [] (λ n. n ∷ []) (drop x.0 all) (record { location = here (stack_path [] ps) p ++ x.1.0 ∷ []; value = x.1.1 }) in
+    drops (admitted F top) [] (λ n. n ∷ []) all ps p stage more d ∙ ap (λ ts. flat_map of_task ts ++ rest_of F top all ps) t

@@ -1,25 +1,15 @@
 -- The stages of a query's parts, and what is left of a list after so many elements.
-use Rattle.std.proofs.Common.{◌≡◌, ℕ, zero, suc, ◌+◌, ◌<◌, ◌≤◌, List, [], ◌∷◌, drop, length, slice_get, option_map, Option, Some, None, slice_index_or, refl, ap, sym, ◌∙◌, arith}
-use Rattle.serde_json_path_core.proofs.Words.{none-some, same_Some, slice_get_read, slice_get_past, Piece, Node, Part, piece_in, pieces, pieces_named}
+use Rattle.std.proofs.Common.{◌≡◌, ℕ, zero, suc, ◌+◌, ◌<◌, ◌≤◌, List, [], ◌∷◌, drop, length, slice_get, option_map, Option, Some, None, slice_index_or, inl, inr, refl, ap, sym, ◌∙◌}
+use Rattle.std.proofs.lemmas.Option.{get_or_from_slice_get, slice_get_cases, slice_get_within}
+use Rattle.serde_json_path_core.proofs.Words.{drop_all, drop_more, none-some, slice_get_read, slice_get_past, Piece, Node, Part, piece_in, pieces, pieces_named}
 use Rattle.serde_json_path_core.proofs.Words.{segment_in, segment_kind_in, segments_in, stage_of, stages, stage_at, stages_at}
 
 -- after so many elements comes the one of that number
 pub drop-some : {A : Type 0} (xs : List A) (i : ℕ) (x : A) → slice_get xs i ≡ Some x → drop i xs ≡ x ∷ drop (i + 1) xs
-drop-some [] i x e = absurd (none-some x e)
-drop-some (y ∷ ys) zero x e = ap (λ z. z ∷ ys) (same_Some y x e)
-drop-some (y ∷ ys) (suc i) x e = let next : suc (i + 1) ≡ suc i + 1 = omega arith in drop-some ys i x e ∙ ap (λ k. x ∷ drop k (y ∷ ys)) next
+drop-some xs i x e = drop_more xs i x (slice_get_within xs i x e) ∙ ap (λ y. y ∷ drop (i + 1) xs) (get_or_from_slice_get xs i x x e)
 
 pub drop-none : {A : Type 0} (xs : List A) (i : ℕ) → slice_get xs i ≡ None → drop i xs ≡ []
-drop-none [] zero e = refl
-drop-none [] (suc i) e = refl
-drop-none (y ∷ ys) zero e = absurd (none-some y (sym e))
-drop-none (y ∷ ys) (suc i) e = drop-none ys i e
-
--- there is an element of that number below the length alone
-pub get-within : {A : Type 0} (xs : List A) (i : ℕ) (x : A) → slice_get xs i ≡ Some x → i < length xs
-get-within [] i x e = absurd (none-some x e)
-get-within (y ∷ ys) zero x e = omega arith
-get-within (y ∷ ys) (suc i) x e = let later = get-within ys i x e in omega arith
+drop-none xs i e = elim (slice_get_cases xs i).1 [ inl within ↦ absurd (none-some within.0 (sym e ∙ within.2)) | inr past ↦ drop_all i xs past.0 ]
 
 -- the stages of so many parts, one by one
 stages-get : (ps : List Piece) (parts : List Part) (i : ℕ)

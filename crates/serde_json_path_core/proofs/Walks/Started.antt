@@ -2,16 +2,9 @@
 use Rattle.std.proofs.Common.{◌≡◌, [], ◌∷◌, ◌++◌, List, map, flat_map, None, refl, ap, ◌∙◌, sym}
 use Rattle.serde_json_path_core.proofs.Words.{append-nil, flat_map-map, Data, Located, FunctionSet, Query, query, kind_of, segments_of, Segments, no_segments}
 use Rattle.serde_json_path_core.proofs.Words.{segment, Segment, dot_name, dot_wildcard, long_hand, Selectors, no_selectors, selector, Selector, filter}
-use Rattle.serde_json_path_core.proofs.Words.{start_of, results, placed, reached, results_from, chosen, chosen_by, selected, Frame, candidates, admitted, begun}
-use Rattle.serde_json_path_core.proofs.Words.{entered, starting_frame, visit, rest_of, selectors_of, selectors_list, stages, flat_map-same}
+use Rattle.serde_json_path_core.proofs.Words.{start_of, results, placed, reached, results_from, chosen, chosen_by, selected, Frame, candidates, admitted}
+use Rattle.serde_json_path_core.proofs.Words.{entered, visit, rest_of, selectors_of, selectors_list, stages, flat_map-same}
 use Rattle.serde_json_path_core.proofs.Walks.Stacks.{enters, located}
-
--- the frame of these segments at that start is where the query begins
-pub begun-frame : (top : Data) (q : Query) (here start : Data) (segs : Segments) (first : Frame) → segs ≡ segments_of q → start ≡ start_of (kind_of q) top here
-    → first ≡ record { step = None; value = start; segment = 0; selector = 0; left = begun (stages segs) start } → first ≡ starting_frame top q here
-begun-frame top (query kind more) here start segs first e v f =
-    f ∙ ap (λ ss. record { step = None; value = start; segment = 0; selector = 0; left = begun (stages ss) start }) e
-    ∙ ap (λ w. record { step = None; value = w; segment = 0; selector = 0; left = begun (stages more) w }) v
 
 module _ (F : FunctionSet) (top : Data) where
   selected-admitted : (sel : Selector) (v : Data) → admitted F top sel (candidates sel v) ≡ selected F top sel v
@@ -39,11 +32,12 @@ module _ (F : FunctionSet) (top : Data) where
       ∙ sym (flat_map-map (results_from F top more) (placed m.location) (chosen F top seg m.value)))
       (reached kind n)
 
-  pub rest-started : (segs : Segments) (v : Data) → rest_of F top (stages segs) (entered None 0 (stages segs) v ∷ []) ≡ results_from F top segs (located [] v)
-  rest-started segs v = sym (enters (admitted F top) [] (λ m. m ∷ []) (stages segs) None 0 (stages segs) (located [] v) refl) ∙ visit-results segs (located [] v)
+  pub rest-started : (segs : Segments) (v : Data) (ps : List Frame) → ps ≡ entered None 0 (stages segs) v ∷ [] → rest_of F top (stages segs) ps ≡ results_from F top segs (located [] v)
+  rest-started segs v ps e =
+      ap (rest_of F top (stages segs)) e ∙ sym (enters (admitted F top) [] (λ m. m ∷ []) (stages segs) None 0 (stages segs) (located [] v) refl) ∙ visit-results segs (located [] v)
 
-  -- the frame of a walk that begins has the query's result left
-  pub begun-results : (q : Query) (here : Data) (segs : Segments) (ps : List Frame) (first : Frame) → segs ≡ segments_of q → ps ≡ first ∷ [] → first ≡ starting_frame top q here
+  -- at the query's start, it is the query's result
+  pub begun-results : (q : Query) (here start : Data) (segs : Segments) (ps : List Frame) → segs ≡ segments_of q → start ≡ start_of (kind_of q) top here → ps ≡ entered None 0 (stages segs) start ∷ []
       → rest_of F top (stages segs) ps ≡ results F top q here
-  begun-results (query kind more) here segs ps first e p begins =
-      ap (λ ss. rest_of F top (stages ss) ps) e ∙ ap (rest_of F top (stages more)) (p ∙ ap (λ f. f ∷ []) begins) ∙ rest-started more (start_of kind top here)
+  begun-results (query kind more) here start segs ps e s begins =
+      rest-started segs start ps begins ∙ ap (λ ss. results_from F top ss (located [] start)) e ∙ ap (λ v. results_from F top more (located [] v)) s

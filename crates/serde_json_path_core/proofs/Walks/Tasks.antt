@@ -2,10 +2,6 @@
 use Rattle.std.proofs.Common.{◌≡◌, ℕ, ◌+◌, List, [], ◌∷◌, ◌++◌, map, flat_map, refl, ap, ◌∙◌, sym, append_assoc}
 use Rattle.serde_json_path_core.proofs.Words.{map-append, Data, Step, SegmentKind, child, descendant, Selector, candidates, lower, opened, lower_left, tasks}
 
-lower_left-same : (kind : SegmentKind) (sel : Selector) (more : List Selector) (cs ds : List (Step × Data)) (v : Data) → lower_left kind (sel ∷ more) cs v ≡ lower_left kind (sel ∷ more) ds v
-lower_left-same child sel more cs ds v = refl
-lower_left-same descendant sel more cs ds v = refl
-
 lower_left-lower : (kind : SegmentKind) (sel : Selector) (more : List Selector) (cs : List (Step × Data)) (v : Data) → lower_left kind (sel ∷ more) cs v ≡ lower kind v
 lower_left-lower child sel more cs v = refl
 lower_left-lower descendant sel more cs v = refl
@@ -30,18 +26,6 @@ module _ (admit : Selector → List (Step × Data) → List (Step × Data)) (num
       by_kind descendant = refl
   next_opened (sel ∷ more) = ap (λ xs. map onward (admit sel (candidates sel v) ++ all_of more) ++ map downward xs) (sym (lower_left-lower kind sel more (candidates sel v) v))
 
-  -- the selector at work comes to a child, past some that it admits
-  pub gives_child : (sels : List Selector) (sel : Selector) (more : List Selector) (cs ds front : List (Step × Data)) (c : Step × Data)
-      → sels ≡ sel ∷ more → admit sel cs ≡ front ++ c ∷ admit sel ds → tasks admit number kind sels cs v ≡ map onward front ++ onward c ∷ tasks admit number kind sels ds v
-  gives_child sels sel more cs ds front c e a =
-      ap (λ xs. tasks admit number kind xs cs v) e
-      ∙ ap (λ xs. map onward (xs ++ all_of more) ++ map downward (lower_left kind (sel ∷ more) cs v)) a
-      ∙ ap (λ xs. map onward xs ++ map downward (lower_left kind (sel ∷ more) cs v)) (append_assoc front (c ∷ admit sel ds) (all_of more))
-      ∙ ap (λ xs. xs ++ map downward (lower_left kind (sel ∷ more) cs v)) (map-append onward front (c ∷ (admit sel ds ++ all_of more)))
-      ∙ append_assoc (map onward front) (onward c ∷ map onward (admit sel ds ++ all_of more)) (map downward (lower_left kind (sel ∷ more) cs v))
-      ∙ ap (λ xs. map onward front ++ onward c ∷ (map onward (admit sel ds ++ all_of more) ++ map downward xs)) (lower_left-same kind sel more cs ds v)
-      ∙ ap (λ xs. map onward front ++ onward c ∷ tasks admit number kind xs ds v) (sym e)
-
   -- the selector at work passes some that it admits
   pub skips_over : (sels : List Selector) (sel : Selector) (more : List Selector) (cs ds front : List (Step × Data))
       → sels ≡ sel ∷ more → admit sel cs ≡ front ++ admit sel ds → tasks admit number kind sels cs v ≡ map onward front ++ tasks admit number kind sels ds v
@@ -51,7 +35,7 @@ module _ (admit : Selector → List (Step × Data) → List (Step × Data)) (num
       ∙ ap (λ xs. map onward xs ++ map downward (lower_left kind (sel ∷ more) cs v)) (append_assoc front (admit sel ds) (all_of more))
       ∙ ap (λ xs. xs ++ map downward (lower_left kind (sel ∷ more) cs v)) (map-append onward front (admit sel ds ++ all_of more))
       ∙ append_assoc (map onward front) (map onward (admit sel ds ++ all_of more)) (map downward (lower_left kind (sel ∷ more) cs v))
-      ∙ ap (λ xs. map onward front ++ (map onward (admit sel ds ++ all_of more) ++ map downward xs)) (lower_left-same kind sel more cs ds v)
+      ∙ ap (λ xs. map onward front ++ (map onward (admit sel ds ++ all_of more) ++ map downward xs)) (lower_left-lower kind sel more cs v ∙ sym (lower_left-lower kind sel more ds v))
       ∙ ap (λ xs. map onward front ++ tasks admit number kind xs ds v) (sym e)
 
   -- the next selector begins, past what this one still admits

@@ -2,12 +2,11 @@
 use Rattle.std.specs.Prelude.{◌≡◌, ℕ, ◌+◌, ◌-◌, List, [], ◌∷◌, ◌++◌, length, map, take, drop, flat_map, filter as keep, Option, Some, None, option_to_list, Bool, true, false, cond}
 use Rattle.serde_json.specs.Data.{Data, array, object}
 use Rattle.serde_json_path_nodes.specs.Location.{Step, by_name, child_at, Located}
-use Rattle.serde_json_path_syntax.specs.Tree.{Query, query, SegmentKind, child, descendant, Selector, name, wildcard, index, slice, filter}
+use Rattle.serde_json_path_syntax.specs.Tree.{SegmentKind, child, descendant, Selector, name, wildcard, index, slice, filter}
 use Rattle.serde_json_path_syntax.specs.Stages.{Stage, stages}
 use Rattle.serde_json_path_functions.specs.Functions.{FunctionSet}
 use Rattle.serde_json_path_core.specs.PatternCalls.{StandsIn}
 use Rattle.serde_json_path_syntax.specs.Lists.{IsIn}
-use Rattle.serde_json_path_core.specs.Derivation.{start_of}
 use Rattle.serde_json_path_core.specs.Inside.Selected.{child_by, item_at}
 use Rattle.serde_json_path_core.specs.Inside.Computed.{children, sliced, reached, placed, is_true}
 
@@ -62,11 +61,6 @@ pub record Frame : Type 0 where
 -- a frame where these stages begin, the first of them of that number
 abbrev pub entered : Option Step → ℕ → List Stage → Data → Frame
 entered step number stages v = record { step = step; value = v; segment = number; selector = 0; left = begun stages v }
-
--- the frame where a query begins, where `@` is v
-abbrev pub starting_frame : Data → Query → Data → Frame
-starting_frame top (query kind segs) v =
-    entered None 0 (stages segs) (start_of kind top v)
 
 -- the frame once it has passed the first of the children that are left
 abbrev pub passed : Frame → Frame
@@ -169,15 +163,20 @@ AreChildrenOf v cs = (c : Step × Data) → IsIn c cs → child_at v c.0 ≡ Som
 abbrev pub IsOfValue : Frame → Type 0
 IsOfValue p = AreChildrenOf p.value p.left
 
--- each frame is at a child of the value of the frame below it
-abbrev pub IsChain : Data → List Frame → Type 0
-IsChain v [] = Unit {0}
-IsChain v (p ∷ ps) = (s : Step) × (p.step ≡ Some s) × (child_at v s ≡ Some p.value) × IsOfValue p × IsChain p.value ps
+abbrev pub IsAtStart : Data → Frame → Type 0
+IsAtStart start p = (p.step ≡ None) × (p.value ≡ start)
 
--- the first frame is at the start
+-- the frame is at a child of the value
+abbrev pub IsAtChild : Data → Frame → Type 0
+IsAtChild v p = (s : Step) × (p.step ≡ Some s) × (child_at v s ≡ Some p.value)
+
+-- so is the first frame, and each other one is at a child of the value of the frame below it
+abbrev pub IsChain : (Frame → Type 0) → List Frame → Type 0
+IsChain First [] = Unit {0}
+IsChain First (p ∷ ps) = First p × IsOfValue p × IsChain (IsAtChild p.value) ps
+
 abbrev pub IsStack : Data → List Frame → Type 0
-IsStack start [] = Unit {0}
-IsStack start (p ∷ ps) = (p.step ≡ None) × (p.value ≡ start) × IsOfValue p × IsChain p.value ps
+IsStack start ps = IsChain (IsAtStart start) ps
 
 -- the start stands in the document
 abbrev pub IsStackIn : Data → List Frame → Type 0

@@ -1,6 +1,6 @@
 //! Frames of a walk: a frame is a value at which one segment is being applied.
 
-ghost use Rattle.std.specs.Prelude.{◌≡◌, ◌+◌, ◌<◌, ◌≤◌, ◌^◌, None, Some, IfOk, IfErr, MatchOption, drop, length, option_map};
+ghost use Rattle.std.specs.Prelude.{◌≡◌, ◌+◌, ◌<◌, ◌≤◌, ◌^◌, [], ◌∷◌, None, Some, IfOk, IfErr, MatchOption, drop, length, option_map};
 ghost use Rattle.serde_json.specs.View.{view};
 ghost use Rattle.serde_json_path_syntax.specs.Flat.{segment_at, segments_at};
 ghost use Rattle.serde_json_path_syntax.specs.Parts.{nodes_in};
@@ -11,9 +11,9 @@ ghost use Rattle.serde_json_path_core.specs.Inside.Evaluates.{IsAtAdmitted, IsAt
 ghost use Rattle.serde_json_path_core.specs.Inside.Scopes.{MayRefuse, nodes_of, top_of};
 ghost use Rattle.serde_json_path_core.specs.Inside.Cursors.{cursor_left};
 ghost use Rattle.serde_json_path_core.specs.Inside.Views.{child_view};
-ghost use Rattle.serde_json_path_core.specs.Inside.Rest.{candidates, opened, begun, passed, IsInside, AllStandIn};
+ghost use Rattle.serde_json_path_core.specs.Inside.Rest.{candidates, entered, opened, begun, passed, IsInside, AllStandIn};
 ghost use Rattle.serde_json_path_syntax.specs.Stages.{selector_view, stage_at, stages_at};
-ghost use Rattle.serde_json_path_core.specs.Inside.Frames.{frame_view, task_view};
+ghost use Rattle.serde_json_path_core.specs.Inside.Frames.{frame_view, frames_view, task_view};
 ghost use Rattle.serde_json_path_functions.specs.declared.error.QueryError.TheVariants.{Pattern};
 
 use crate::child::{Child, item, member};
@@ -25,6 +25,7 @@ use serde_json::Value;
 use serde_json_path_functions::{Functions, QueryError};
 use serde_json_path_nodes::PathElement;
 use serde_json_path_syntax::{Checked, Part, SegmentKind, SelectorRef};
+use std::alloc::{AllocError, Global};
 
 /// A value at which a segment is applied, and the step that led to it.
 ///
@@ -91,28 +92,6 @@ fn begin<'b>(query: &Checked, segments: &[Part], number: usize, value: &'b Value
 }
 
 impl<'b> Frame<'b> {
-    /// The first frame of a walk.
-    pub(crate) fn start(query: &Checked, segments: &[Part], value: &'b Value) -> Frame<'b>
-        requires within { parts_bound segments.now ≤ length (nodes_in query.now) }
-        requires typed { UnderSome AreTypedSegments
-            (segments_at (nodes_in query.now) segments.now) }
-        ensures { frame_view result ≡ record {
-          step = None;
-          value = view value.now;
-          segment = 0;
-          selector = 0;
-          left = begun (stages_at (nodes_in query.now) segments.now) (view value.now);
-        } }
-    {
-        Frame {
-            step: None,
-            value,
-            segment: 0,
-            selector: 0,
-            cursor: begin(query, segments, 0, value),
-        }
-    }
-
     /// The frame that a task opens.
     pub(crate) fn of(query: &Checked, segments: &[Part], task: Task<'b>) -> Frame<'b>
         requires within { parts_bound segments.now ≤ length (nodes_in query.now) }
@@ -184,6 +163,30 @@ impl<'b> Frame<'b> {
     {
         self.cursor.pass();
     }
+}
+
+/// The frames with which a walk begins: one, where the first of the segments is applied at the value.
+#[inline(always)]
+pub(crate) fn started<'b>(
+    alloc: Global,
+    query: &Checked,
+    segments: &[Part],
+    value: &'b Value,
+) -> Result<Vec<Frame<'b>>, AllocError>
+    requires within { parts_bound segments.now ≤ length (nodes_in query.now) }
+    requires typed { UnderSome AreTypedSegments (segments_at (nodes_in query.now) segments.now) }
+    ensures { IfOk result (λ frames. frames_view frames.items
+        ≡ entered None 0 (stages_at (nodes_in query.now) segments.now) (view value.now) ∷ []) }
+{
+    let mut frames = Vec::new(alloc);
+    frames.push(Frame {
+        step: None,
+        value,
+        segment: 0,
+        selector: 0,
+        cursor: begin(query, segments, 0, value),
+    })?;
+    Ok(frames)
 }
 
 /// Comes to the next child that the selector admits, if one is left. Whatever the answer, none that it admits is passed.

@@ -7,7 +7,6 @@ ghost use Rattle.serde_json_path_core.specs.Inside.Frames.{frames_view};
 use crate::evaluation::frame::Frame;
 use crate::evaluation::scope::Scope;
 use crate::evaluation::stack::{find_next, located_at, pass_found};
-use serde_json::Value;
 use serde_json_path_functions::{Functions, QueryError};
 use serde_json_path_nodes::LocatedNode;
 
@@ -25,7 +24,6 @@ pub struct Walk<'q, 'b, F: Functions> {
 impl<'q, 'b, F: Functions> Walk<'q, 'b, F> {
     ghost use Rattle.std.specs.Prelude.{◌≡◌, ℕ, ◌+◌, ◌<◌, ◌≤◌, [], ◌∷◌, None, Ok, IfOk, IfErr, IfSome, IfNone, MatchOption};
     ghost use Rattle.serde_json_path_nodes.specs.Views.{located};
-    ghost use Rattle.serde_json_path_nodes.specs.Location.{Located};
     ghost use Rattle.serde_json_path_core.specs.Height.{IsHeight};
     ghost use Rattle.serde_json_path_core.specs.Selects.{OnlyMemoryOrPattern};
     ghost use Rattle.serde_json_path_core.specs.Walks.{query_of, set_of, document_of, rest, places_of, steps_of};
@@ -74,30 +72,6 @@ impl<'q, 'b, F: Functions> Walk<'q, 'b, F> {
                 let node = located_at(self.scope.alloc, self.frames.as_slice(), found)?;
                 pass_found(&mut self.frames, found);
                 Ok(Some(node))
-            }
-        }
-    }
-
-    /// The value of the next node, or `None` after the last one.
-    pub(crate) fn next_value(&mut self) -> Result<Option<&'b Value>, QueryError>
-        ensures query { query_of self.new ≡ query_of self.old }
-        ensures set { set_of self.new ≡ set_of self.old }
-        ensures document { document_of self.new ≡ document_of self.old }
-        ensures given { IfOk result (λ next. MatchOption next
-            (rest self.old ≡ [])
-            (λ value. (node : Located) × (node.value ≡ view value.now)
-            × (rest self.old ≡ node ∷ rest self.new))) }
-        ensures nearer { IfOk result (λ next.
-            IfSome next (λ value. steps_of self.new < steps_of self.old)) }
-        ensures refused { OnlyMemoryOrPattern (set_of self.old) (query_of self.old)
-            (document_of self.old) result }
-    {
-        let scope = &self.scope;
-        match find_next(scope, scope.query.segments(), &mut self.frames)? {
-            None => Ok(None),
-            Some(found) => {
-                pass_found(&mut self.frames, found);
-                Ok(Some(found.value))
             }
         }
     }

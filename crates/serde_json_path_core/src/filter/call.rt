@@ -4,7 +4,7 @@ ghost use Rattle.std.specs.Prelude.{◌≡◌, ◌<◌, Some, IfOk, IfErr, lengt
 ghost use Rattle.serde_json.specs.View.{view};
 ghost use Rattle.serde_json_path_functions.specs.Functions.{kind_of_term, of_value};
 ghost use Rattle.serde_json_path_core.specs.Inside.Evaluates.{SoundArgument, SoundCall, SoundQuery, answer_at, given_at, results_at};
-ghost use Rattle.serde_json_path_core.specs.Inside.ComparedValues.{compared_view};
+ghost use Rattle.serde_json_path_core.specs.Inside.Sides.{compared_view};
 ghost use Rattle.serde_json_path_functions.specs.Terms.{kind_view, term_view};
 ghost use Rattle.serde_json_path_syntax.specs.Typing.{result_kind};
 ghost use Rattle.serde_json_path_core.specs.PatternCalls.{StandsIn};
@@ -14,8 +14,8 @@ ghost use Rattle.serde_json_path_core.specs.Inside.Scopes.{MayRefuse, nodes_of, 
 ghost use Rattle.serde_json_path_functions.specs.declared.error.QueryError.TheVariants.{Pattern};
 
 use crate::evaluation::scope::Scope;
-use crate::filter::compared_value::ComparedValue;
 use crate::filter::logic::{all_values, first, is_true};
+use crate::filter::side::{ComparedValue, Side, side_of_value};
 use serde_json::Value;
 use serde_json_path_functions::{
     FunctionArgType, FunctionValue, Functions, LogicalType, NodesType, QueryError, ValueType,
@@ -40,8 +40,8 @@ pub(crate) fn compared_answer<'x>(answer: FunctionValue<'x>) -> ComparedValue<'x
 {
     match answer {
         FunctionValue::Value(ValueType::Value(value)) => ComparedValue::Made(value),
-        FunctionValue::Value(ValueType::Node(value)) => ComparedValue::Node(value),
-        FunctionValue::Value(ValueType::Nothing) => ComparedValue::Nothing,
+        FunctionValue::Value(ValueType::Node(value)) => ComparedValue::Lent(side_of_value(value)),
+        FunctionValue::Value(ValueType::Nothing) => ComparedValue::Lent(Side::Nothing),
         FunctionValue::Nodes(_) | FunctionValue::Logical(_) => unreachable!(),
     }
 }

@@ -4,36 +4,19 @@ ghost use Rattle.std.specs.Prelude.{◌≡◌, ◌||◌};
 ghost use Rattle.std.specs.Ordering.{nat_cmp, is_lt};
 ghost use Rattle.std.specs.Cmp.Lexicographic.{slice_cmp};
 ghost use Rattle.std.specs.Str.{chars};
-ghost use Rattle.serde_json_path_core.specs.Compared.{Compared};
-ghost use Rattle.serde_json_path_core.specs.Inside.Computed.{compare as comparison, rising_amount};
+ghost use Rattle.serde_json_path_core.specs.Inside.Computed.{comes_before, compare as comparison, is_same, rising_amount};
 ghost use Rattle.serde_json_path_syntax.specs.Literals.{operator_view};
-ghost use Rattle.serde_json_path_core.specs.Inside.ComparedValues.{compared_view};
-ghost use Rattle.serde_json_path_core.specs.Inside.Sides.{seen_of, side_view, same_seen, less_seen};
+ghost use Rattle.serde_json_path_core.specs.Inside.Sides.{side_view};
 
-use crate::filter::compared_value::ComparedValue;
 use crate::filter::equality::{same_amounts, same_items, same_members, same_numbers};
-use crate::filter::side::{Side, amount, side_of};
+use crate::filter::side::{Side, amount};
 use serde_json_path_syntax::ComparisonOperator;
-
-/// Whether a comparison of two values holds.
-#[inline(always)]
-pub(crate) fn compare(
-    operator: ComparisonOperator,
-    left: &ComparedValue,
-    right: &ComparedValue,
-) -> bool
-    ensures { result
-        ≡ comparison (operator_view operator) (compared_view left.now) (compared_view right.now) }
-{
-    compare_sides(operator, side_of(left), side_of(right))
-}
 
 /// Whether a comparison of two sides holds.
 #[inline(always)]
 pub(crate) fn compare_sides(operator: ComparisonOperator, left: Side, right: Side) -> bool
-    ensures { (a b : Compared) → side_view left.entry ≡ seen_of a
-        → side_view right.entry ≡ seen_of b
-        → result ≡ comparison (operator_view operator) a b }
+    ensures { result
+        ≡ comparison (operator_view operator) (side_view left.entry) (side_view right.entry) }
 {
     match operator {
         ComparisonOperator::EqualTo => is_equal(left, right),
@@ -48,7 +31,7 @@ pub(crate) fn compare_sides(operator: ComparisonOperator, left: Side, right: Sid
 /// Whether two sides are equal.
 #[inline(always)]
 fn is_equal(left: Side, right: Side) -> bool
-    ensures { result ≡ same_seen (side_view left.entry) (side_view right.entry) }
+    ensures { result ≡ is_same (side_view left.entry) (side_view right.entry) }
 {
     match (left, right) {
         (Side::Nothing, Side::Nothing) | (Side::Null, Side::Null) => true,
@@ -84,7 +67,7 @@ fn rising_amounts(left: Option<i128>, right: Option<i128>) -> bool
 /// Whether the first side is a text or a number before the second.
 #[inline(always)]
 fn is_less(left: Side, right: Side) -> bool
-    ensures { result ≡ less_seen (side_view left.entry) (side_view right.entry) }
+    ensures { result ≡ comes_before (side_view left.entry) (side_view right.entry) }
 {
     match (left, right) {
         (Side::Number(left), Side::Number(right)) => rising_amounts(amount(left), amount(right)),
@@ -104,8 +87,8 @@ fn is_less(left: Side, right: Side) -> bool
 
 /// Whether the first side is a text or a number before the second, or equal to it.
 fn is_less_or_equal(left: Side, right: Side) -> bool
-    ensures { result ≡ less_seen (side_view left.entry) (side_view right.entry)
-        || same_seen (side_view left.entry) (side_view right.entry) }
+    ensures { result ≡ comes_before (side_view left.entry) (side_view right.entry)
+        || is_same (side_view left.entry) (side_view right.entry) }
 {
     is_less(left, right) || is_equal(left, right)
 }

@@ -7,23 +7,22 @@ ghost use Rattle.serde_json_path_core.specs.Inside.Evaluates.{SoundAnd, SoundBas
 ghost use Rattle.serde_json_path_core.specs.PatternCalls.{StandsIn};
 ghost use Rattle.serde_json_path_core.specs.Meaning.{first_value};
 ghost use Rattle.serde_json_path_syntax.specs.PartBounds.{parts_bound};
-ghost use Rattle.serde_json_path_core.specs.Inside.ComparedValues.{compared_view};
+ghost use Rattle.serde_json_path_core.specs.Inside.Sides.{compared_view};
 ghost use Rattle.serde_json_path_core.specs.Inside.SingleChildren.{values_reached};
 ghost use Rattle.serde_json_path_core.specs.Inside.SingleComparisons.{IsComparisonOf};
 ghost use Rattle.serde_json_path_core.specs.Inside.Scopes.{MayRefuse, nodes_of, set_of, top_of};
 ghost use Rattle.serde_json_path_functions.specs.declared.error.QueryError.TheVariants.{Pattern};
 
 use crate::evaluation::child_values::child_values;
-use crate::evaluation::frame::Frame;
+use crate::evaluation::frame::started;
 use crate::evaluation::scope::Scope;
 use crate::evaluation::single_children::{Reached, go_down, is_wildcard};
 use crate::evaluation::stack::{find_next, pass_found};
 use crate::evaluation::start;
 use crate::filter::call::{answer, answer_holds, compared_answer};
-use crate::filter::compare::compare;
-use crate::filter::compared_value::ComparedValue;
-use crate::filter::plain::plain_relation;
-use crate::filter::single_comparison::{SingleComparison, decided};
+use crate::filter::compare::compare_sides;
+use crate::filter::side::{ComparedValue, Side, side_of, side_of_literal, side_of_value};
+use crate::filter::single_comparison::{SideForm, SingleComparison, decided};
 use serde_json::Value;
 use serde_json_path_functions::{FunctionValue, Functions, QueryError};
 use serde_json_path_syntax::{Basic, Comparable, ComparisonOperator, Literal, Node, Part};
@@ -63,8 +62,6 @@ pub(crate) fn is_true_by<'b, F: Functions>(
     requires below { expression.number < length (nodes_of scope.now) }
     requires sound { SoundOr scope.now expression }
     requires single { IfSome comparison (λ c. IsComparisonOf scope.now c.now expression) }
-    requires parts { IfSome comparison (λ c. (c.now.left.number < expression.number)
-        × (c.now.right.number < expression.number)) }
     requires inside { StandsIn (top_of scope.now) (view value.now) }
     ensures means { IfOk result (λ holds.
         holds ≡ or_holds scope.now expression (view value.now)) }
@@ -131,7 +128,14 @@ fn basic_true<'b, F: Functions>(
         },
     ) = scope.query.node(expression)
     {
-        if let Some(holds) = plain_relation(scope, *left, *operator, *right, value) {
+        let comparison = SingleComparison {
+            left: *left,
+            left_form: SideForm::Other,
+            operator: *operator,
+            right: *right,
+            right_form: SideForm::Other,
+        };
+        if let Some(holds) = decided(scope, &comparison, value) {
             return Ok(holds);
         }
     }
@@ -198,7 +202,7 @@ fn relation_true<'b, F: Functions>(
 {
     let left = compared(scope, left, value)?;
     let right = compared(scope, right, value)?;
-    Ok(compare(operator, &left, &right))
+    Ok(compare_sides(operator, side_of(&left), side_of(&right)))
 }
 
 /// What a side of a comparison stands for.
@@ -219,14 +223,14 @@ fn compared<'x, 'q: 'x, 'b: 'x, F: Functions>(
         Node::Comparable(comparable) => match comparable {
             Comparable::Literal(literal) => {
                 let literal: &'x Literal = literal;
-                Ok(ComparedValue::Literal(literal))
+                Ok(ComparedValue::Lent(side_of_literal(literal)))
             }
             Comparable::Singular(query) => match first(scope, *query, value)? {
                 Some(node) => {
                     let node: &'x Value = node;
-                    Ok(ComparedValue::Node(node))
+                    Ok(ComparedValue::Lent(side_of_value(node)))
                 }
-                None => Ok(ComparedValue::Nothing),
+                None => Ok(ComparedValue::Lent(Side::Nothing)),
             },
             Comparable::Called(call) => {
                 let answer: FunctionValue<'x> = answer(scope, *call, value)?;
@@ -271,8 +275,7 @@ fn first_from<'b, F: Functions>(
         ≡ slice_get (values_of_segments scope.now segments.now (view value.now)) 0) }
     ensures refused { IfErr result (λ e. e ≡ Pattern → MayRefuse scope.now) }
 {
-    let mut frames = Vec::new(scope.alloc);
-    frames.push(Frame::start(scope.query, segments, value))?;
+    let mut frames = started(scope.alloc, scope.query, segments, value)?;
     match find_next(scope, segments, &mut frames)? {
         Some(found) => Ok(Some(found.value)),
         None => Ok(None),
@@ -308,8 +311,8 @@ pub(crate) fn first<'b, F: Functions>(
 
 /// The values of all nodes that segments select from a value, in order.
 #[cycle(evaluation)]
-fn all_from<'x, 'q: 'x, 'b: 'x, F: Functions>(
-    scope: &Scope<'q, 'b, F>,
+pub(crate) fn all_from<'x, 'b: 'x, F: Functions>(
+    scope: &Scope<'_, 'b, F>,
     segments: &[Part],
     value: &'b Value,
 ) -> Result<Vec<&'x Value>, QueryError>
@@ -320,8 +323,7 @@ fn all_from<'x, 'q: 'x, 'b: 'x, F: Functions>(
         ≡ values_of_segments scope.now segments.now (view value.now)) }
     ensures refused { IfErr result (λ e. e ≡ Pattern → MayRefuse scope.now) }
 {
-    let mut frames = Vec::new(scope.alloc);
-    frames.push(Frame::start(scope.query, segments, value))?;
+    let mut frames = started(scope.alloc, scope.query, segments, value)?;
     let mut found: Vec<&'x Value> = Vec::new(scope.alloc);
     'values: while let Some(node) = find_next(scope, segments, &mut frames)? {
         pass_found(&mut frames, node);

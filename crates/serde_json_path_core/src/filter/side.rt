@@ -5,17 +5,16 @@ ghost use Rattle.serde_json.specs.Data.{number as number_data};
 ghost use Rattle.serde_json.specs.View.{view, number_view};
 ghost use Rattle.serde_json_path_core.specs.Compared.{amount_of, value as a_value, literal_compared};
 ghost use Rattle.serde_json_path_syntax.specs.Literals.{literal_view};
-ghost use Rattle.serde_json_path_core.specs.Inside.ComparedValues.{compared_view};
-ghost use Rattle.serde_json_path_core.specs.Inside.Sides.{seen_of, side_view};
+ghost use Rattle.serde_json_path_core.specs.Inside.Sides.{compared_view, side_view};
 
-use crate::filter::compared_value::ComparedValue;
 use serde_json::{Map, Number, Value};
 use serde_json_path_syntax::{Literal, NumberLiteral};
 
 /// One, in billionths.
 const ONE: i128 = 1_000_000_000;
 
-/// A compared value by its kind. A literal and an equal value of the document look the same.
+/// What a side of a comparison stands for, by its kind (RFC 9535, section 2.3.5.1). A literal and an equal value of the
+/// document look the same, but for numbers.
 #[derive(Clone, Copy)]
 pub(crate) enum Side<'s> {
     /// No value.
@@ -36,6 +35,15 @@ pub(crate) enum Side<'s> {
     Object(&'s Map<String, Value>),
 }
 
+/// A side, or the value that a call of a function has made for it.
+#[derive(Drop)]
+pub(crate) enum ComparedValue<'x> {
+    /// What is at hand.
+    Lent(Side<'x>),
+    /// A value that a function has made.
+    Made(Value),
+}
+
 /// A number in billionths, if it is held as an integer; any other number equals none.
 #[inline(always)]
 pub(crate) fn amount(number: &Number) -> Option<i128>
@@ -51,7 +59,7 @@ pub(crate) fn amount(number: &Number) -> Option<i128>
 /// A value by its kind.
 #[inline(always)]
 pub(crate) fn side_of_value(value: &Value) -> Side<'_>
-    ensures { side_view result ≡ seen_of (a_value (view value.now)) }
+    ensures { side_view result ≡ a_value (view value.now) }
 {
     match value {
         Value::Null => Side::Null,
@@ -66,7 +74,7 @@ pub(crate) fn side_of_value(value: &Value) -> Side<'_>
 /// A literal by its kind.
 #[inline(always)]
 pub(crate) fn side_of_literal(literal: &Literal) -> Side<'_>
-    ensures { side_view result ≡ seen_of (literal_compared (literal_view literal.now)) }
+    ensures { side_view result ≡ literal_compared (literal_view literal.now) }
 {
     match literal {
         Literal::String(text) => Side::Text(text.as_str()),
@@ -78,13 +86,11 @@ pub(crate) fn side_of_literal(literal: &Literal) -> Side<'_>
 
 /// A compared value by its kind.
 #[inline(always)]
-pub(crate) fn side_of<'s>(compared_value: &'s ComparedValue<'_>) -> Side<'s>
-    ensures { side_view result ≡ seen_of (compared_view compared_value.now) }
+pub(crate) fn side_of<'s>(compared_value: &'s ComparedValue<'s>) -> Side<'s>
+    ensures { side_view result ≡ compared_view compared_value.now }
 {
     match compared_value {
-        ComparedValue::Nothing => Side::Nothing,
-        ComparedValue::Literal(literal) => side_of_literal(literal),
-        ComparedValue::Node(value) => side_of_value(value),
+        ComparedValue::Lent(side) => *side,
         ComparedValue::Made(value) => side_of_value(value),
     }
 }

@@ -1,19 +1,20 @@
-//! Filters that are one comparison: what is the same for each node is looked up once.
+//! Comparisons of literals and of what single children lead to, which take no memory and call nothing. Of a filter that is
+//! one comparison, what is the same for each node is looked up once.
 
-ghost use Rattle.std.specs.Prelude.{◌≡◌, ◌<◌, IfSome, length, option_map};
+ghost use Rattle.std.specs.Prelude.{◌≡◌, ◌<◌, Some, IfSome, length, option_map};
 ghost use Rattle.serde_json.specs.View.{view};
 ghost use Rattle.serde_json_path_core.specs.PatternCalls.{StandsIn};
-ghost use Rattle.serde_json_path_core.specs.Inside.Evaluates.{SoundComparable, SoundOr, SoundQuery, compared_at, relation_holds};
+ghost use Rattle.serde_json_path_core.specs.Inside.Evaluates.{SoundComparable, SoundOr, compared_at, relation_holds};
 ghost use Rattle.serde_json_path_core.specs.Inside.Scopes.{nodes_of, top_of};
-ghost use Rattle.serde_json_path_core.specs.Inside.Sides.{IsSeenOf, seen_of, side_view};
-ghost use Rattle.serde_json_path_core.specs.Inside.SingleComparisons.{IsComparisonOf, IsFormOf, LeadsToChild, child_compared};
+ghost use Rattle.serde_json_path_core.specs.Inside.Sides.{side_view};
+ghost use Rattle.serde_json_path_core.specs.Inside.SingleComparisons.{IsComparisonOf, IsFormOf, child_compared};
 ghost use Rattle.serde_json_path_core.specs.Inside.Views.{child_view};
 
 use crate::child::Child;
 use crate::evaluation::scope::Scope;
 use crate::evaluation::single_children::{SingleSelector, only_child, select};
 use crate::filter::compare::compare_sides;
-use crate::filter::plain::plain_side;
+use crate::filter::logic::reached;
 use crate::filter::side::{Side, side_of_literal, side_of_value};
 use serde_json::Value;
 use serde_json_path_functions::Functions;
@@ -32,7 +33,7 @@ pub(crate) enum SideForm<'x> {
     Other,
 }
 
-/// A filter that is one comparison, with the form of each side.
+/// A comparison, with the form of each side.
 #[derive(Clone, Copy)]
 pub(crate) struct SingleComparison<'x> {
     pub(crate) left: Part,
@@ -42,69 +43,42 @@ pub(crate) struct SingleComparison<'x> {
     pub(crate) right_form: SideForm<'x>,
 }
 
-/// A literal, or the value to which single children lead from the root; `None` for any other comparable.
-fn fixed_side<'x, 'q: 'x, 'b: 'x, F: Functions>(
+/// A literal, or the value to which single children lead, by its kind; `None` for a call, and for any other query. It
+/// takes no memory and calls nothing.
+#[inline(always)]
+fn plain_side<'x, 'q: 'x, 'b: 'x, F: Functions>(
     scope: &Scope<'q, 'b, F>,
     comparable: Part,
+    value: &'b Value,
 ) -> Option<Side<'x>>
     requires below { comparable.number < length (nodes_of scope.now) }
     requires sound { SoundComparable scope.now comparable }
-    ensures { IfSome result (λ side. IsFormOf scope.now comparable (SideForm.Fixed side)) }
+    requires inside { StandsIn (top_of scope.now) (view value.now) }
+    ensures { IfSome result (λ side.
+        Some (side_view side) ≡ compared_at scope.now comparable (view value.now)) }
 {
     match scope.query.node(comparable) {
-        Node::Comparable(Comparable::Literal(literal)) => {
-            let literal: &'x Literal = literal;
-            Some(side_of_literal(literal))
-        }
-        Node::Comparable(Comparable::Singular(query)) => match scope.query.part_kind(*query) {
-            QueryKind::Root => {
-                let root: &'b Value = scope.root;
-                let side: Side<'x> = plain_side(scope, comparable, root)?;
-                Some(side)
+        Node::Comparable(comparable) => match comparable {
+            Comparable::Literal(literal) => {
+                let literal: &'x Literal = literal;
+                Some(side_of_literal(literal))
             }
-            QueryKind::Current => None,
+            Comparable::Singular(query) => {
+                let reached = reached(scope, *query, value);
+                match reached.value {
+                    None => Some(Side::Nothing),
+                    Some(node) => {
+                        if !reached.segments.is_empty() {
+                            return None;
+                        }
+                        let node: &'x Value = node;
+                        Some(side_of_value(node))
+                    }
+                }
+            }
+            Comparable::Called(_) => None,
         },
-        _ => None,
-    }
-}
-
-/// The name or index of which a query from `@` consists; `None` for any other query.
-fn child_of_current<'x, 'q: 'x, F: Functions>(
-    scope: &Scope<'q, '_, F>,
-    query: Part,
-) -> Option<SingleSelector<'x>>
-    requires below { query.number < length (nodes_of scope.now) }
-    requires sound { SoundQuery scope.now query }
-    ensures { IfSome result (λ single. LeadsToChild scope.now query single) }
-{
-    match scope.query.part_kind(query) {
-        QueryKind::Root => None,
-        QueryKind::Current => {
-            let single: SingleSelector<'x> = only_child(
-                scope.query,
-                scope.query.part_segments(query),
-            )?;
-            Some(single)
-        }
-    }
-}
-
-/// The form of a comparable that is not fixed.
-fn form_by_child<'x, 'q: 'x, F: Functions>(
-    scope: &Scope<'q, '_, F>,
-    comparable: Part,
-) -> SideForm<'x>
-    requires below { comparable.number < length (nodes_of scope.now) }
-    requires sound { SoundComparable scope.now comparable }
-    ensures { IsFormOf scope.now comparable result }
-{
-    let Node::Comparable(Comparable::Singular(query)) = scope.query.node(comparable) else {
-        return SideForm::Other;
-    };
-    let single: Option<SingleSelector<'x>> = child_of_current(scope, *query);
-    match single {
-        Some(single) => SideForm::OfChild(single),
-        None => SideForm::Other,
+        _ => unreachable!(),
     }
 }
 
@@ -117,11 +91,31 @@ fn form_of<'x, 'q: 'x, 'b: 'x, F: Functions>(
     requires sound { SoundComparable scope.now comparable }
     ensures { IsFormOf scope.now comparable result }
 {
-    let fixed: Option<Side<'x>> = fixed_side(scope, comparable);
-    if let Some(side) = fixed {
-        return SideForm::Fixed(side);
+    match scope.query.node(comparable) {
+        Node::Comparable(Comparable::Literal(literal)) => {
+            let literal: &'x Literal = literal;
+            SideForm::Fixed(side_of_literal(literal))
+        }
+        Node::Comparable(Comparable::Singular(query)) => match scope.query.part_kind(*query) {
+            QueryKind::Root => {
+                let root: &'b Value = scope.root;
+                let side: Option<Side<'x>> = plain_side(scope, comparable, root);
+                match side {
+                    Some(side) => SideForm::Fixed(side),
+                    None => SideForm::Other,
+                }
+            }
+            QueryKind::Current => {
+                let segments = scope.query.part_segments(*query);
+                let single: Option<SingleSelector<'x>> = only_child(scope.query, segments);
+                match single {
+                    Some(single) => SideForm::OfChild(single),
+                    None => SideForm::Other,
+                }
+            }
+        },
+        _ => SideForm::Other,
     }
-    form_by_child(scope, comparable)
 }
 
 /// The comparison of which a filter consists; `None` for any other filter.
@@ -131,9 +125,7 @@ pub(crate) fn single_comparison<'x, 'q: 'x, 'b: 'x, F: Functions>(
 ) -> Option<SingleComparison<'x>>
     requires below { test.number < length (nodes_of scope.now) }
     requires sound { SoundOr scope.now test }
-    ensures single { IfSome result (λ comparison. IsComparisonOf scope.now comparison test) }
-    ensures parts { IfSome result (λ comparison.
-        (comparison.left.number < test.number) × (comparison.right.number < test.number)) }
+    ensures { IfSome result (λ comparison. IsComparisonOf scope.now comparison test) }
 {
     let [operands] = scope.query.or_parts(test) else {
         return None;
@@ -166,7 +158,7 @@ pub(crate) fn single_comparison<'x, 'q: 'x, 'b: 'x, F: Functions>(
 /// A child's value by its kind, or Nothing without a child.
 #[inline(always)]
 fn side_of_child<'b>(child: Option<Child<'b>>) -> Side<'b>
-    ensures { side_view result ≡ seen_of (child_compared (option_map child_view child.entry)) }
+    ensures { side_view result ≡ child_compared (option_map child_view child.entry) }
 {
     match child {
         Some(child) => side_of_value(child.value),
@@ -187,7 +179,7 @@ fn side_at<'x, 'q: 'x, 'b: 'x, F: Functions>(
     requires form { IsFormOf scope.now comparable form }
     requires inside { StandsIn (top_of scope.now) (view value.now) }
     ensures { IfSome result (λ side.
-        IsSeenOf side (compared_at scope.now comparable (view value.now))) }
+        Some (side_view side) ≡ compared_at scope.now comparable (view value.now)) }
 {
     match form {
         SideForm::Fixed(side) => Some(side),

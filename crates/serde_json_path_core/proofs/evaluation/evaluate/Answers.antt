@@ -1,25 +1,26 @@
-use Rattle.std.proofs.Common.{[], ◌∷◌, ◌++◌, map, sym, subst, ap, ◌∙◌, append_assoc}
-use Rattle.serde_json_path_core.proofs.Words.{map-append, view, Located, node_value, IsResult, tree_of, rest}
-use Rattle.serde_json_path_core.proofs.Steps.KnownCases.{found-some}
+use Rattle.std.proofs.Common.{sym, ap, ◌∙◌}
+use Rattle.serde_json_path_core.proofs.Words.{view, start_of, segments_at, nodes_in, signatures_of, tree_of, results}
+use Rattle.serde_json_path_core.proofs.Meaning.Derived.{computed_result}
+use Rattle.serde_json_path_core.proofs.Sound.Parts.{sound-segments}
+use Rattle.serde_json_path_core.proofs.Sound.WholeQueries.{whole-sound}
+use Rattle.serde_json_path_core.proofs.Walks.InDocument.{root_stands}
+use Rattle.serde_json_path_core.proofs.Walks.SingleChildren.{values-query}
 use Rattle.serde_json_path_core.proofs.evaluation.evaluate.Goals as goal
 
-pub values-preserved : goal.values-preserved
-values-preserved g c =
-    let value = c.in-Some.value in
-    let before = c.values.invariant in
-    let left = rest c.next_value.new.self in
-    let nodes = IsResult (g.F.Functions.set c.args.functions) (view c.args.document.now) (tree_of c.args.query.now) (view c.args.document.now) in
-    record {
-      set = c.next_value.ensures.set ∙ before.set;
-      query = c.next_value.ensures.query ∙ before.query;
-      document = c.next_value.ensures.document ∙ before.document;
-      selected =
-          let given = found-some _ _ c.in_ok-value.field-0 value c.in-Some.is (c.in_ok-value.ensures.given) in
-          let found = before.selected in (
-            found.0 ++ given.0 ∷ [],
-            subst nodes (ap (λ more. found.0 ++ more) given.2 ∙ sym (append_assoc found.0 (given.0 ∷ []) left)) found.1,
-            ap (map node_value) c.in_ok-push.ensures.items ∙ map-append node_value c.values.found.items (value ∷ [])
-                ∙ ap (λ values. values ++ view value.now ∷ []) found.2 ∙ ap (λ v. map (λ (n : Located). n.value) found.0 ++ v ∷ []) (sym given.1)
-                ∙ sym (map-append (λ (n : Located). n.value) found.0 (given.0 ∷ [])),
-          );
-    }
+pub all_from-requires-clause-sound : goal.all_from-requires-clause-sound
+all_from-requires-clause-sound g c =
+    let F = g.F.Functions.set c.args.functions in
+    let q = c.args.query.now in
+    sound-segments F (tree_of q) (tree_of q) (segments_at (nodes_in q) c.segments.result.now) c.segments.ensures.tree (whole-sound F (signatures_of q) (tree_of q) ∣ c.requires ∣₁ q.typed)
+
+pub all_from-requires-clause-inside : goal.all_from-requires-clause-inside
+all_from-requires-clause-inside g c = root_stands (view c.args.document.now)
+
+pub returns-clause-selects : goal.returns-clause-selects
+returns-clause-selects g c =
+    let F = g.F.Functions.set c.args.functions in
+    let q = c.args.query.now in
+    let tree = tree_of q in
+    let top = view c.args.document.now in
+    let values = values-query F top tree top top (segments_at (nodes_in q) c.segments.result.now) c.segments.ensures.tree (sym (ap (λ kind. start_of kind top top) q.rooted)) in
+    (results F top tree top, computed_result F top tree top (whole-sound F (signatures_of q) tree ∣ c.requires ∣₁ q.typed).0, c.from.ensures ∙ c.in_ok-found.ensures.means ∙ sym values)

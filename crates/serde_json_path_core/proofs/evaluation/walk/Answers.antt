@@ -1,20 +1,15 @@
-use Rattle.std.proofs.Common.{[], ◌∷◌, ◌++◌, sym, subst, ap, ◌∙◌}
-use Rattle.serde_json_path_core.proofs.Words.{view, start_of, segments_at, nodes_in, signatures_of, tree_of, frame_view, frames_view, rest_of, IsStack, stages}
+use Rattle.std.proofs.Common.{sym, subst, ap, ◌∙◌}
+use Rattle.serde_json_path_core.proofs.Words.{view, start_of, segments_at, nodes_in, signatures_of, tree_of, frames_view, rest_of, stages}
 use Rattle.serde_json_path_core.proofs.Words.{stages_at, IsResult}
 use Rattle.serde_json_path_core.proofs.Walks.Chains.{stack-started}
 use Rattle.serde_json_path_core.proofs.Meaning.Derived.{computed_result}
 use Rattle.serde_json_path_core.proofs.Sound.Parts.{sound-segments}
-use Rattle.serde_json_path_core.proofs.Walks.Started.{begun-frame, begun-results}
+use Rattle.serde_json_path_core.proofs.Walks.Started.{begun-results}
 use Rattle.serde_json_path_core.proofs.Sound.WholeQueries.{whole-sound}
 use Rattle.serde_json_path_core.proofs.evaluation.walk.Goals as goal
 
 pub invariant_of-result : goal.invariant_of-result
-invariant_of-result g c =
-    let items = c.in_ok-push.ensures.items ∙ ap (λ frames. frames ++ c.start.result ∷ []) c.new-frames.ensures.items in
-    let top = view c.args.document.now in
-    record {
-      stack = ∣ subst (λ frames. IsStack top (frames_view frames)) (sym items) (stack-started (stages_at (nodes_in c.args.query.now) c.segments.result.now) top (frame_view c.start.result) c.start.ensures) ∣₁;
-    }
+invariant_of-result g c = record { stack = ∣ stack-started (stages_at (nodes_in c.args.query.now) c.segments.result.now) (view c.args.document.now) _ c.in_ok-frames.ensures ∣₁ }
 
 pub returns-clause-selects : goal.returns-clause-selects
 returns-clause-selects g c =
@@ -22,17 +17,14 @@ returns-clause-selects g c =
     let q = c.args.query.now in
     let tree = tree_of q in
     let top = view c.args.document.now in
-    let frames = c.push.new.self.items in
-    let segs = segments_at (nodes_in q) c.segments.result.now in
-    let items = c.in_ok-push.ensures.items ∙ ap (λ frames. frames ++ c.start.result ∷ []) c.new-frames.ensures.items in
-    let first = begun-frame top tree top top segs (frame_view c.start.result) c.segments.ensures.tree
-    (sym (ap (λ kind. start_of kind top top) q.rooted)) c.start.ensures in
-    let begun = begun-results F top tree top segs (frames_view frames) (frame_view c.start.result) c.segments.ensures.tree (ap frames_view items) first in
-    subst (IsResult F top tree top) (sym begun ∙ ap (λ segs. rest_of F top (stages segs) (frames_view frames)) c.segments.ensures.tree)
+    let frames = frames_view c.in_ok-frames.frames.items in
+    let begun = begun-results F top tree top top (segments_at (nodes_in q) c.segments.result.now) frames c.segments.ensures.tree
+    (sym (ap (λ kind. start_of kind top top) q.rooted)) c.in_ok-frames.ensures in
+    subst (IsResult F top tree top) (sym begun ∙ ap (λ segs. rest_of F top (stages segs) frames) c.segments.ensures.tree)
     (computed_result F top tree top (whole-sound F (signatures_of q) tree ∣ c.requires ∣₁ q.typed).0)
 
-pub start-requires-clause-typed : goal.start-requires-clause-typed
-start-requires-clause-typed g c =
+pub started-requires-clause-typed : goal.started-requires-clause-typed
+started-requires-clause-typed g c =
     let F = g.F.Functions.set c.args.functions in
     let q = c.args.query.now in
     let whole = whole-sound F (signatures_of q) (tree_of q) ∣ c.requires ∣₁ q.typed in

@@ -1,4 +1,4 @@
-use Rattle.std.proofs.Common.{◌-◌, ◌++◌, ◌∷◌, [], Bool, List, Some, drop, ap, sym, ◌∙◌, cond}
+use Rattle.std.proofs.Common.{◌-◌, ◌++◌, ◌∷◌, [], Bool, List, Some, drop, ap, sym, ◌∙◌, cond, arith}
 use Rattle.serde_json_path_core.proofs.Words.{nodes_in, stages_at, frames_view, task_view, entered, last_passed, Frame}
 use Rattle.serde_json_path_core.proofs.Walks.LastFrames.{sees_passed_below}
 use Rattle.serde_json_path_core.proofs.evaluation.stack.enter.Goals as goal
@@ -10,6 +10,8 @@ returns-clause-ok c =
     let all = stages_at (nodes_in c.args.query.now) c.args.segments.now in
     let task = task_view c.args.task in
     let with_leaf : Bool → List Frame = λ leaf. front ++ cond leaf [] (entered (Some task.1.0) task.0 (drop task.0 all) task.1.1 ∷ []) in
-    sees_passed_below frames.items c.push.new.self.items (c.len-last.result - 1) c.index_mut.result.now c.pass.new.self c.of.result c.requires.some c.in_ok-push.ensures.items
-    (ap (λ n. n - 1) (c.len-last.ensures ∙ frames.ok.0)) c.index_mut.ensures.value c.pass.ensures
+    let some = c.requires.some in
+    let len = c.len-last.ensures ∙ frames.ok.0 in
+    sees_passed_below frames.items c.push.new.self.items (c.len-last.result - 1) c.index_mut.result.now c.pass.new.self c.of.result (omega arith) c.in_ok-push.ensures.items
+    c.index_mut.ensures.value c.pass.ensures
     ∙ ap (λ q. front ++ q ∷ []) c.of.ensures ∙ ap with_leaf (sym c.if-is_leaf.false ∙ c.is_leaf.ensures)
