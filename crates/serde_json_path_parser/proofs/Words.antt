@@ -24,18 +24,18 @@ pub use Rattle.std.specs.Str.{IsAscii, IsCharBoundary, IsUtf8, all_scalars, char
 pub use Rattle.std.specs.Str.Pattern.{StartsWithChar}
 pub use Rattle.serde_json_path_nodes.specs.Text.{escape_of, hexadecimal_escape, in_quotes, quoted}
 unfoldable pub use Rattle.serde_json_path_nodes.specs.Text.{in_decimal}
-pub use Rattle.serde_json_path_functions.specs.Functions.{Fits, FunctionSet, Kind, Signature, of_logical, of_nodes, of_value}
+pub use Rattle.serde_json_path_functions.specs.Functions.{Fits, Kind, Signature, of_logical, of_nodes, of_value}
 pub use Rattle.serde_json_path_functions.specs.Terms.{kind_view, signature_view}
-pub use Rattle.serde_json_path_syntax.proofs.Tree.NamedParts.{and_parts_for, or_parts_for, parts_for_kept, parts_kept}
+pub use Rattle.serde_json_path_syntax.proofs.Tree.NamedParts.{parts_for_kept}
 pub use Rattle.serde_json_path_syntax.specs.Calls.{calls_from, calls_in_and, calls_in_argument, calls_in_arguments, calls_in_basic, calls_in_or}
-pub use Rattle.serde_json_path_syntax.specs.Calls.{calls_in_segment, calls_in_segments, calls_in_selector, calls_in_selectors, name_of, names_of}
+pub use Rattle.serde_json_path_syntax.specs.Calls.{calls_in_segments, calls_in_selectors, name_of, names_of}
 pub use Rattle.serde_json_path_syntax.specs.Depth.{and_depth, argument_depth, arguments_depth, basic_depth, call_depth, comparable_depth, depth, or_depth}
 pub use Rattle.serde_json_path_syntax.specs.Depth.{segment_depth, segments_depth, selector_depth, selectors_depth}
 pub use Rattle.serde_json_path_syntax.specs.Flat.{parts_in, segment_kind_view}
 pub use Rattle.serde_json_path_syntax.specs.Literals.{literal_view, number_amount, operator_view}
-pub use Rattle.serde_json_path_syntax.specs.Parts.{AreAndPartsOf, AreArgumentsOf, AreOrPartsOf, ArePartsFor, ArePartsOf, AreSelectorsOf, IsPart, KeepsParts}
+pub use Rattle.serde_json_path_syntax.specs.Parts.{AreAndPartsOf, AreOrPartsOf, ArePartsFor, ArePartsOf, AreSelectorsOf, IsPart, KeepsParts}
 pub use Rattle.serde_json_path_syntax.specs.Parts.{KeepsTrees, and_pieces, calls_in, or_pieces, segment_pieces, selector_pieces, signatures_of, tree_of}
-pub use Rattle.serde_json_path_syntax.specs.Piece.{Piece, a_basic, a_comparable, a_segment, a_selector, an_and, an_argument, an_or}
+pub use Rattle.serde_json_path_syntax.specs.Piece.{Piece, a_basic, a_comparable, a_selector, an_and, an_argument, an_or}
 pub use Rattle.serde_json_path_syntax.specs.Text.{amount_text, and_text, and_texts, argument_text, argument_texts, basic_text, basic_texts, bracket_dots_of}
 pub use Rattle.serde_json_path_syntax.specs.Text.{call_text, comparable_text, dots_of, fraction_digits, fraction_text, integer_text, joined, literal_text}
 pub use Rattle.serde_json_path_syntax.specs.Text.{number_text, operator_text, or_text, query_kind_text, query_text, segment_text, segments_text, selector_text}
@@ -57,7 +57,7 @@ pub use Rattle.serde_json_path_parser.specs.Filters.{Deeper, alone, and_list, be
 unfoldable pub use Rattle.serde_json_path_parser.specs.Filters.{and_at, and_from, argument_at, arguments_at, basic_at, basic_from}
 pub use Rattle.serde_json_path_parser.specs.Filters.{ends_argument}
 unfoldable pub use Rattle.serde_json_path_parser.specs.Filters.{call_at, comparable_at, ended, judged, level, literal_word_at, logical_from, named_at}
-unfoldable pub use Rattle.serde_json_path_parser.specs.Filters.{named_call_at, negated_at, negated_call_at, negated_name_at, next_and_at, next_basic_at, operand_at}
+unfoldable pub use Rattle.serde_json_path_parser.specs.Filters.{named_call_at, negated_at, negated_call_at, next_and_at, next_basic_at, operand_at}
 pub use Rattle.serde_json_path_parser.specs.Filters.{operator_at, or_list, past_word}
 unfoldable pub use Rattle.serde_json_path_parser.specs.Filters.{or_at, or_from, parameters_at, paren_at, path_at, query_at, relation_at}
 pub use Rattle.serde_json_path_parser.specs.Filters.{word}
@@ -67,8 +67,8 @@ pub use Rattle.serde_json_path_parser.specs.Grammar.{ReadMoreArguments, ReadMore
 pub use Rattle.serde_json_path_parser.specs.Grammar.{ReadsArgument, ReadsBasic, ReadsCall, ReadsComparable, ReadsOr, ReadsSegment, ReadsSelector, StandsAlone}
 pub use Rattle.serde_json_path_parser.specs.Grammar.{dots_before_bracket, dots_before_name, operator_sign, query_sign}
 pub use Rattle.serde_json_path_parser.specs.Inside.Ahead.{IsAhead, is_ascii, limit_of}
-pub use Rattle.serde_json_path_parser.specs.Inside.Giving.{Fails, GivesEnd, Grows, GrowsFrom, IsArgumentOf, IsOperandOf, IsRefused, IsWithin, Makes}
-pub use Rattle.serde_json_path_parser.specs.Inside.Giving.{MakesArguments, MakesFrom, MakesOf, MakesOperand, StartsSegment, error_of, segment_piece}
+pub use Rattle.serde_json_path_parser.specs.Inside.Giving.{Fails, Gives, Grows, GrowsFrom, IsOperandOf, IsRefused, IsWithin, Makes}
+pub use Rattle.serde_json_path_parser.specs.Inside.Giving.{MakesArguments, MakesFrom, MakesOf, error_of, segment_piece}
 pub use Rattle.serde_json_path_parser.specs.Inside.Levels.{at_level, deeper, signatures}
 pub use Rattle.serde_json_path_parser.specs.Inside.Looking.{LooksOn}
 pub use Rattle.serde_json_path_parser.specs.Inside.Reading.{Moves, left}
@@ -88,7 +88,7 @@ pub use Rattle.serde_json_path_parser.specs.Parsed.{Parsed, byte_count, front, p
 unfoldable pub use Rattle.serde_json_path_parser.specs.Parsed.{many, many_at}
 pub use Rattle.serde_json_path_parser.specs.Parsing.{after_dot, begins_int}
 unfoldable pub use Rattle.serde_json_path_parser.specs.Parsing.{bound_at, bracket_at, descendant_at, digits_at, dot_at, dotted_at, int_at}
-pub use Rattle.serde_json_path_parser.specs.Parsing.{is_first_digit, negative, of_kind, opens_after_root}
+pub use Rattle.serde_json_path_parser.specs.Parsing.{is_first_digit, negative, opens_after_root}
 unfoldable pub use Rattle.serde_json_path_parser.specs.Parsing.{name_at, next_segment_at, next_selector_at}
 pub use Rattle.serde_json_path_parser.specs.Parsing.{opens_next, segment_list, segments_at, selector_list}
 unfoldable pub use Rattle.serde_json_path_parser.specs.Parsing.{position_at, quoted_at, segment_at, selector_at}

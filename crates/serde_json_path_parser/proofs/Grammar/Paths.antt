@@ -1,10 +1,10 @@
 -- Whole paths: what is read is well-typed and at most 128 deep, each of those is read, and where a refusal stands.
-use Rattle.std.proofs.Common.{◌≡◌, ◌≢◌, ℕ, ◌≤◌, ◌↔◌, true, false, true≢false, cond, List, [], ◌∷◌, ◌++◌, length, drop, Option, Result, Ok, Err, refl, sym, ap, subst, ◌∙◌, arith, ◌+◌, ◌-◌, inl, inr}
+use Rattle.std.proofs.Common.{◌≡◌, ◌≢◌, ℕ, ◌≤◌, ◌↔◌, true, false, true≢false, List, [], ◌∷◌, ◌++◌, length, drop, Option, Ok, refl, sym, ap, subst, ◌∙◌, arith, ◌+◌, ◌-◌, inl, inr}
 use Rattle.serde_json_path_parser.proofs.Words.{◌==◌, encode_utf8, encode_utf8_all, all_scalars, chars, IsUtf8, IsCharBoundary, append-nil, length-append}
 use Rattle.serde_json_path_parser.proofs.Words.{nil_from_length, eqb-true, SegmentKind, Segments, Segment, AreTypedSegments, segments_depth, deepest, Signature}
-use Rattle.serde_json_path_parser.proofs.Words.{ParseErrorKind, ExpectedRoot, UndefinedFunction, TextAfterPath, NoMemory, IsUndeclared, Refusal, is_at, begins, ReadSegments, Parsed, ◌>>=◌, refusal, opens_next}
-use Rattle.serde_json_path_parser.proofs.Words.{segments_at, segment_list, opens_after_root, level, path_at, encodes-chars, encodes-append, scalars-chars}
-use Rattle.serde_json_path_parser.proofs.Words.{IsCharBoundary-at_seam}
+use Rattle.serde_json_path_parser.proofs.Words.{ParseErrorKind, ExpectedRoot, UndefinedFunction, TextAfterPath, NoMemory, IsUndeclared, is_at, begins}
+use Rattle.serde_json_path_parser.proofs.Words.{ReadSegments, Parsed, refusal, opens_next, segments_at, segment_list, opens_after_root, level, path_at}
+use Rattle.serde_json_path_parser.proofs.Words.{encodes-chars, encodes-append, scalars-chars, IsCharBoundary-at_seam}
 use Rattle.serde_json_path_parser.specs.declared.error.Context.TheVariants as context
 use Rattle.serde_json_path_parser.specs.Filters.{filter_at}
 use Rattle.serde_json_path_parser.proofs.Texts.Decoding.{some_bytes}
@@ -17,10 +17,6 @@ use Rattle.serde_json_path_parser.proofs.Printing.Spelling.{scalars_of}
 use Rattle.serde_json_path_parser.proofs.Reading.Steps.{ok_is, after_one}
 use Rattle.serde_json_path_parser.proofs.Reading.Stands.{is_plain, Inner, Stands}
 use Rattle.serde_json_path_parser.proofs.Reading.Outcomes.{Gives, gives, refuses, choose, onward}
-
--- the end of a text whose segments were read
-abbrev at_end : Parsed (List (SegmentKind × Segment)) → Result Segments Refusal
-at_end read = read >>= λ ss. cond (length ss.1 == 0) (Ok (segment_list ss.0)) (Err (refusal TextAfterPath context.Path ss.1))
 
 nothing : (cs : List ℕ) → (length cs == 0) ≡ true → cs ≡ []
 nothing cs e = nil_from_length cs (eqb-true (length cs) 0 e)
@@ -42,16 +38,6 @@ module _ (signature : List ℕ → Option Signature) where
   -- segments in a row, well-typed and at most 128 deep
   abbrev pub ArePathSegments : List ℕ → Segments → Type 0
   ArePathSegments t segs = (AreTypedSegments signature segs × (segments_depth segs ≤ deepest)) × ReadSegments segs t
-
-  -- ---- the steps of the code
-
-  rooted : (cs ds : List ℕ) (c : ℕ) → begins (λ d. d == 36) cs ≡ true → cs ≡ c ∷ ds → path_at signature cs ≡ at_end (path_segments_at ds)
-  unfolding path_at
-  rooted cs ds c b e = rw b (ap (λ (l : List ℕ). at_end (path_segments_at (drop 1 l))) e)
-
-  module _ (cs ds rest : List ℕ) (c : ℕ) (ss : List (SegmentKind × Segment)) (root : begins (λ d. d == 36) cs ≡ true) (split : cs ≡ c ∷ ds) (read : path_segments_at ds ≡ Ok (ss, rest)) where
-    pub path_ends : (length rest == 0) ≡ true → path_at signature cs ≡ Ok (segment_list ss)
-    path_ends e = rooted cs ds c root split ∙ ap at_end read ∙ rw e refl
 
   -- where no segment begins after `$`, none is read
   pub none_read : (cs ds rest : List ℕ) (c : ℕ) (ss : List (SegmentKind × Segment)) → begins (λ d. d == 36) cs ≡ true → cs ≡ c ∷ ds → path_segments_at ds ≡ Ok (ss, rest) → opens_after_root cs ≡ false → ss ≡ []

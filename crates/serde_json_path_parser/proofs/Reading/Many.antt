@@ -1,7 +1,6 @@
 -- Reading items one after the other.
-use Rattle.std.proofs.Common.{◌≡◌, ℕ, zero, suc, ◌≤◌, ◌<◌, Bool, true, false, List, [], ◌∷◌, ◌++◌, length, Ok, Err, refl, sym, ap, ◌∙◌, append_assoc, arith}
-use Rattle.serde_json_path_parser.proofs.Words.{append-nil, Refusal, Failure, Fails, Parsed, ◌>>=◌, many_at, many}
-use Rattle.serde_json_path_parser.specs.declared.error.Failure.TheVariants as failures
+use Rattle.std.proofs.Common.{◌≡◌, ℕ, zero, suc, ◌≤◌, ◌<◌, Bool, true, false, List, [], ◌∷◌, ◌++◌, length, Ok, Err, refl, sym, ap, ◌∙◌, arith}
+use Rattle.serde_json_path_parser.proofs.Words.{Refusal, Parsed, ◌>>=◌, many_at, many}
 
 -- what was read before, and what is still read
 abbrev pub with_front : {A : Type 0} → List A → Parsed (List A) → Parsed (List A)
@@ -15,10 +14,6 @@ with_none (Err f) = refl
 pub record Takes {A : Type 0} (more : List ℕ → Bool) (item : List ℕ → Parsed A) : Type 0 where
   pub shorter : (cs rest : List ℕ) (x : A) → more cs ≡ true → item cs ≡ Ok (x, rest) → length rest < length cs
   pub some : (cs : List ℕ) → more cs ≡ true → 0 < length cs
-
-regroup : {A : Type 0} (before : List A) (x : A) (read : Parsed (List A)) → with_front before (with_front (x ∷ []) read) ≡ with_front (before ++ x ∷ []) read
-regroup before x (Ok r) = ap (λ (xs : List _). Ok (xs, r.1)) (sym (append_assoc before (x ∷ []) r.0))
-regroup before x (Err f) = refl
 
 module _ {A : Type 0} (more : List ℕ → Bool) (item : List ℕ → Parsed A) where
   stop : (n : ℕ) (cs : List ℕ) → more cs ≡ false → many_at more item n cs ≡ Ok ([], cs)
@@ -68,18 +63,3 @@ module _ {A : Type 0} (more : List ℕ → Bool) (item : List ℕ → Parsed A) 
   pub many_err : (cs : List ℕ) (f : Refusal) → more cs ≡ true → item cs ≡ Err f → many more item cs ≡ Err f
   unfolding many
   many_err cs f t e = enough (length cs) (suc (length cs)) cs (omega arith) (omega arith) ∙ one (length cs) cs (Err f) e t
-
-  -- the same, as a loop meets them
-  pub goes_on : (before : List A) (cs rest : List ℕ) (x : A) (total : Parsed (List A)) → more cs ≡ true → item cs ≡ Ok (x, rest)
-      → with_front before (many more item cs) ≡ total → with_front (before ++ x ∷ []) (many more item rest) ≡ total
-  goes_on before cs rest x total t e h = sym (ap (with_front before) (many_more cs rest x t e) ∙ regroup before x (many more item rest)) ∙ h
-
-  pub breaks : (before : List A) (cs : List ℕ) (f : Refusal) (total : Parsed (List A)) → more cs ≡ true → item cs ≡ Err f → with_front before (many more item cs) ≡ total → total ≡ Err f
-  breaks before cs f total t e h = sym h ∙ ap (with_front before) (many_err cs f t e)
-
-  pub fails : (s : Failure) (before : List A) (cs : List ℕ) (total : Parsed (List A)) → more cs ≡ true → Fails s (item cs) → with_front before (many more item cs) ≡ total → Fails s total
-  fails failures.Memory before cs total t e h = tt
-  fails (failures.Refused f) before cs total t e h = breaks before cs f total t e h
-
-  pub is_done : (before : List A) (cs : List ℕ) (total : Parsed (List A)) → more cs ≡ false → with_front before (many more item cs) ≡ total → total ≡ Ok (before, cs)
-  is_done before cs total t h = sym h ∙ ap (with_front before) (many_end more item cs t) ∙ ap (λ (xs : List A). Ok (xs, cs)) (append-nil before)

@@ -1,5 +1,5 @@
 -- Steps of reading: what an answer says of each, items one after another, and what stops where a step stops.
-use Rattle.std.proofs.Common.{◌≡◌, ℕ, ◌⊎◌, inl, inr, Bool, true, false, cond, List, [], ◌∷◌, ◌++◌, drop, Result, Ok, Err, refl, sym, ap, subst, ◌∙◌, append_assoc}
+use Rattle.std.proofs.Common.{◌≡◌, ℕ, Bool, true, false, List, [], ◌∷◌, ◌++◌, drop, Result, Ok, Err, refl, sym, ap, subst, ◌∙◌, append_assoc}
 use Rattle.serde_json_path_parser.proofs.Words.{◌==◌, eqb-true, and_parts, Refusal, begins, begins_both, IsBlank, Joined, Parsed, ◌>>=◌, many, Failure, Fails}
 use Rattle.serde_json_path_parser.proofs.Reading.Many as m
 use Rattle.serde_json_path_parser.specs.declared.error.Failure.TheVariants as failures
@@ -10,11 +10,6 @@ use Rattle.serde_json_path_parser.specs.declared.error.Failure.TheVariants as fa
 pub bind_ok : {A B : Type 0} (r : Result A Refusal) (f : A → Result B Refusal) (y : B) → (r >>= f) ≡ Ok y → (x : A) × (r ≡ Ok x) × (f x ≡ Ok y)
 bind_ok (Ok x) f y e = (x, refl, e)
 bind_ok (Err d) f y e = absurd cc
-
--- which way a test went
-pub chosen : {A : Type 0} (b : Bool) (x y z : A) → cond b x y ≡ z → ((b ≡ true) × (x ≡ z)) ⊎ ((b ≡ false) × (y ≡ z))
-chosen true x y z e = inl (refl, e)
-chosen false x y z e = inr (refl, e)
 
 abbrev pub done : {A : Type 0} → A → Result A Refusal
 done x = Ok x
@@ -65,10 +60,6 @@ module _ {A : Type 0} (is : List ℕ → A → Type 0) (more : List ℕ → Bool
       ∙ ap (m.with_front (x ∷ [])) (many_again h.1 xs rest h.3 s e)
 
 -- ---- what stops where a step stops
-
--- reading that is the same step fails as it does
-pub same_fails : {A : Type 0} (s : Failure) (read whole : Result A Refusal) → whole ≡ read → Fails s read → Fails s whole
-same_fails s read whole e h = subst (Fails s) (sym e) h
 
 -- what goes on after a first step fails where that does
 pub first_fails : {A B : Type 0} (s : Failure) (read : Result A Refusal) (f : A → Result B Refusal) → Fails s read → Fails s (read >>= f)

@@ -1,11 +1,10 @@
--- How the builder grows, and by which calls.
+-- How the builder grows, and by which calls; and which parts stand for no segment.
 use Rattle.std.proofs.Common.{◌≡◌, ◌≤◌, ℕ, List, [], ◌∷◌, ◌++◌, inl, inr, Some, Option, Result, Ok, Err, refl, sym, ap, subst, ◌∙◌, append_assoc}
-use Rattle.serde_json_path_parser.proofs.Words.{append-nil, map-append, name_of, names_of, calls_in_segments, calls_in_segment, calls_in_selectors}
-use Rattle.serde_json_path_parser.proofs.Words.{calls_in_selector, calls_in_or, calls_in_and, calls_in_basic, calls_from, calls_in_arguments, KeepsParts}
-use Rattle.serde_json_path_parser.proofs.Words.{KeepsTrees, calls_in, AreDeclared, MayFinish, deepest, names_in, IsTyped, depth, Piece, Part, query, root}
-use Rattle.serde_json_path_parser.proofs.Words.{Segments, SegmentKind, Segment, Selector, LogicalAnd, Basic, Call, call, Arguments, SyntaxBuilder, Signature}
-use Rattle.serde_json_path_parser.proofs.Words.{and_list, or_list, Grows, GrowsFrom, Makes, MakesFrom, MakesOf, Parsed, Failure, Reader, Ghosts, selector_list}
-use Rattle.serde_json_path_parser.proofs.Words.{segment_list}
+use Rattle.serde_json_path_parser.proofs.Words.{append-nil, map-append, name_of, names_of, calls_in_segments, calls_from, calls_in_arguments, KeepsParts}
+use Rattle.serde_json_path_parser.proofs.Words.{KeepsTrees, calls_in, AreDeclared, MayFinish, deepest, names_in, IsTyped, depth, Part, query, root, Segments}
+use Rattle.serde_json_path_parser.proofs.Words.{Call, call, Arguments, SyntaxBuilder, Signature, Grows, Parsed, Failure, Reader, Ghosts, SegmentKind, Segment}
+use Rattle.serde_json_path_parser.proofs.Words.{ArePartsOf, segment_list}
+use Rattle.serde_json_path_parser.specs.Inside.Giving.{MakesSo}
 use Rattle.serde_json_path_syntax.proofs.Names.Finishing.{may_finish}
 use Rattle.serde_json_path_syntax.proofs.Lists.InLists.{in_append}
 
@@ -52,10 +51,6 @@ module _ {signature : List ℕ → Option Signature} where
     ]);
   }
 
-  -- the first of a row
-  pub from_first : {builder : SyntaxBuilder} {calls : List Call} → GrowsFrom signature builder builder calls (calls ++ [])
-  from_first {builder} {calls} = λ before grown. grows_same (sym (append-nil calls)) grown
-
 -- ---- the whole query
 
 module _ (signature : List ℕ → Option Signature) (begun grown whole : SyntaxBuilder) (segs : Segments) (silent : calls_in begun ≡ [])
@@ -70,52 +65,18 @@ module _ (signature : List ℕ → Option Signature) (begun grown whole : Syntax
       may_finish signature (calls_in whole) (query root segs) refl typed shallow
       ((grows_kept grows keeps).names ∙ ap (λ us. names_in us ++ names_of (calls_in_segments segs)) silent) all_declared
 
--- ---- a part that was made, and what was built before it
+-- no part stands for no segment, and for nothing else
+pub no_part : (builder : SyntaxBuilder) (parts : List Part) (ss : List (SegmentKind × Segment)) → ArePartsOf builder parts (segment_list ss) → parts ≡ [] → ss ≡ []
+no_part builder parts [] h none = refl
+no_part builder parts (s ∷ ss) h none = absurd (subst (λ (ps : List Part). ArePartsOf builder ps (segment_list (s ∷ ss))) none h)
 
-module _ {A S : Type 0} {g : Ghosts S} (signature : List ℕ → Option Signature) (piece : A → Piece) (old mid new : SyntaxBuilder)
-    (reader : Reader S g) (read : Parsed A) where
-  -- out of a part that makes the first calls
-  pub made_then : (result : Result Part Failure) (first : List Call) → Grows signature old mid first
-      → MakesFrom signature first piece mid new result reader read → Makes signature piece old new result reader read
-  made_then (Ok part) first grown h = (h.0, h.1, h.2, h.3 old grown)
-  made_then (Err e) first grown h = h
+pub no_segment : (builder : SyntaxBuilder) (parts : List Part) (ss : List (SegmentKind × Segment)) → ArePartsOf builder parts (segment_list ss) → ss ≡ [] → parts ≡ []
+no_segment builder [] ss h none = refl
+no_segment builder (part ∷ parts) ss h none = absurd (subst (λ (xs : List (SegmentKind × Segment)). ArePartsOf builder (part ∷ parts) (segment_list xs)) none h)
 
-  -- after what makes no call
-  pub made_after : (result : Result Part Failure) → Grows signature old mid [] → Makes signature piece mid new result reader read
-      → Makes signature piece old new result reader read
-  made_after (Ok part) grown h = (h.0, h.1, h.2, grows_then grown h.3)
-  made_after (Err e) grown h = h
+-- ---- what was made, where more is known of how the builder grew
 
--- it makes no call of its own
-pub made_from : {A S : Type 0} {g : Ghosts S} (signature : List ℕ → Option Signature) (piece : A → Piece) (old new : SyntaxBuilder)
-    (reader : Reader S g) (read : Parsed A) (result : Result Part Failure) (first : List Call)
-    → KeepsParts old new → MakesOf first piece new result reader read → MakesFrom signature first piece old new result reader read
-made_from signature piece old new reader read (Ok part) first keeps h =
-    (h.0, h.1, h.2, λ before grown. grows_same h.3 (grows_kept grown keeps))
-made_from signature piece old new reader read (Err e) first keeps h = h
-
--- ---- one more at the end of a row
-
--- the calls of the first one, those of the others, and those of one more
-joined : (first others last whole : List Call) → others ++ last ≡ whole → (first ++ others) ++ last ≡ first ++ whole
-joined first others last whole e = append_assoc first others last ∙ ap (λ (calls : List Call). first ++ calls) e
-
-pub more_segments : (ss : List (SegmentKind × Segment)) (s : SegmentKind × Segment)
-    → calls_in_segments (segment_list ss) ++ calls_in_segment s.1 ≡ calls_in_segments (segment_list (ss ++ s ∷ []))
-more_segments [] s = sym (append-nil (calls_in_segment s.1))
-more_segments (x ∷ ss) s = joined (calls_in_segment x.1) _ _ _ (more_segments ss s)
-
-pub more_selectors : (ss : List Selector) (s : Selector)
-    → calls_in_selectors (selector_list ss) ++ calls_in_selector s ≡ calls_in_selectors (selector_list (ss ++ s ∷ []))
-more_selectors [] s = sym (append-nil (calls_in_selector s))
-more_selectors (x ∷ ss) s = joined (calls_in_selector x) _ _ _ (more_selectors ss s)
-
-pub more_ors : (xs : List LogicalAnd) (x : LogicalAnd)
-    → calls_in_or (or_list xs) ++ calls_in_and x ≡ calls_in_or (or_list (xs ++ x ∷ []))
-more_ors [] x = sym (append-nil (calls_in_and x))
-more_ors (y ∷ xs) x = joined (calls_in_and y) _ _ _ (more_ors xs x)
-
-pub more_ands : (bs : List Basic) (b : Basic)
-    → calls_in_and (and_list bs) ++ calls_in_basic b ≡ calls_in_and (and_list (bs ++ b ∷ []))
-more_ands [] b = sym (append-nil (calls_in_basic b))
-more_ands (y ∷ bs) b = joined (calls_in_basic y) _ _ _ (more_ands bs b)
+pub grown_so : {X A S : Type 0} {g : Ghosts S} (Is : X → A → Type 0) (Grown More : A → Type 0) (reader : Reader S g) (read : Parsed A) (result : Result X Failure)
+    → MakesSo Is Grown result reader read → ((a : A) → Grown a → More a) → MakesSo Is More result reader read
+grown_so Is Grown More reader read (Ok x) h more = (h.0, h.1, h.2, more h.0 h.3)
+grown_so Is Grown More reader read (Err e) h more = h

@@ -1,8 +1,8 @@
 -- What a function of the parser returned is what reading gives.
-use Rattle.std.specs.Prelude.{◌≡◌, ℕ, true, length, ◌≤◌, ◌+◌, ◌-◌, List, [], ◌++◌, Option, Some, Result, Ok, Err}
-use Rattle.serde_json_path_syntax.specs.Tree.{query, root, SegmentKind, Segments, Segment, Selector, Call, Arguments, no_arguments, Argument, literal_argument, query_argument, call_argument, logical_argument}
-use Rattle.serde_json_path_syntax.specs.Calls.{names_of, calls_in_segments, calls_in_segment, calls_in_selectors, calls_from, calls_in_arguments, calls_in_argument}
-use Rattle.serde_json_path_syntax.specs.Flat.{parts_in, segment_kind_view}
+use Rattle.std.specs.Prelude.{◌≡◌, ℕ, true, length, ◌≤◌, ◌+◌, ◌-◌, List, ◌++◌, Option, Some, Result, Ok, Err}
+use Rattle.serde_json_path_syntax.specs.Tree.{Query, LogicalOr, query, root, SegmentKind, Segments, Segment, Selector, Call, Arguments, Argument, logical_argument}
+use Rattle.serde_json_path_syntax.specs.Calls.{names_of, calls_in_segments, calls_in_selectors, calls_from, calls_in_arguments, calls_in_argument}
+use Rattle.serde_json_path_syntax.specs.Flat.{parts_in}
 use Rattle.serde_json_path_syntax.specs.Literals.{literal_view}
 use Rattle.serde_json_path_syntax.specs.Piece as piece
 use Rattle.serde_json_path_syntax.specs.Piece.{Piece, a_segment, calls_in_piece}
@@ -25,10 +25,9 @@ use Rattle.serde_json_path_parser.specs.declared.source.PathSource.{Ghosts}
 use Rattle.serde_json_path_parser.specs.declared.parser.reader.Reader.{Reader}
 use Rattle.serde_json_path_parser.specs.Inside.Reading.{left, seen, told, Moves}
 use Rattle.serde_json_path_parser.specs.Parsed.{Parsed, past_blanks, byte_count}
-use Rattle.serde_json_path_parser.specs.Parsing.{selector_list, segment_list, of_kind}
+use Rattle.serde_json_path_parser.specs.Parsing.{selector_list, segment_list}
+use Rattle.serde_json_path_parser.specs.Filters.{alone}
 use Rattle.serde_json_path_parser.specs.Operands.{Operand, a_literal, a_query, a_call, calls_in_operand}
-use Rattle.serde_json_path_parser.specs.declared.parser.segment.SegmentStart as declared
-use Rattle.serde_json_path_parser.specs.declared.parser.segment.SegmentStart.TheVariants as starts
 use Rattle.serde_json_path_parser.specs.declared.parser.operand.Operand as operands
 use Rattle.serde_json_path_parser.specs.declared.parser.operand.Operand.TheVariants as the_operands
 use Rattle.serde_json_path_parser.specs.declared.parser.call.Argument as arguments
@@ -51,12 +50,15 @@ pub record Grows (signature : List ℕ → Option Signature) (old new : SyntaxBu
   pub names : names_in (calls_in new) ≡ names_in (calls_in old) ++ names_of calls
   pub declared : AreDeclared signature (calls_in old) → AreDeclared signature (calls_in new)
 
+-- What was made is, as Is says, what reading gives, and Grown says of it how the builder has grown.
+abbrev pub MakesSo : {X A S : Type 0} {g : Ghosts S} → (X → A → Type 0) → (A → Type 0) → Result X Failure → Reader S g → Parsed A → Type 0
+MakesSo {A = A} Is Grown (Ok x) reader read = (a : A) × Is x a × (read ≡ Ok (a, left reader)) × Grown a
+MakesSo Is Grown (Err e) reader read = Fails e read
+
 -- The part that was made stands, as such a piece, for what reading gives.
 abbrev pub Makes : {A S : Type 0} {g : Ghosts S} → (List ℕ → Option Signature) → (A → Piece) → SyntaxBuilder → SyntaxBuilder
     → Result Part Failure → Reader S g → Parsed A → Type 0
-Makes {A} signature piece old new (Ok part) reader read =
-    (x : A) × IsPart new part (piece x) × (read ≡ Ok (x, left reader)) × Grows signature old new (calls_in_piece (piece x))
-Makes signature piece old new (Err e) reader read = Fails e read
+Makes signature piece old new = MakesSo (λ part x. IsPart new part (piece x)) (λ x. Grows signature old new (calls_in_piece (piece x)))
 
 -- What was built since some earlier time made the first calls before the builder grew, and makes the others now.
 abbrev pub GrowsFrom : (List ℕ → Option Signature) → SyntaxBuilder → SyntaxBuilder → List Call → List Call → Type 0
@@ -65,49 +67,17 @@ GrowsFrom signature old new first calls = (before : SyntaxBuilder) → Grows sig
 -- The same, out of a part that makes these calls.
 abbrev pub MakesFrom : {A S : Type 0} {g : Ghosts S} → (List ℕ → Option Signature) → List Call → (A → Piece) → SyntaxBuilder
     → SyntaxBuilder → Result Part Failure → Reader S g → Parsed A → Type 0
-MakesFrom {A} signature first piece old new (Ok part) reader read =
-    (x : A) × IsPart new part (piece x) × (read ≡ Ok (x, left reader))
-    × GrowsFrom signature old new first (calls_in_piece (piece x))
-MakesFrom signature first piece old new (Err e) reader read = Fails e read
+MakesFrom signature first piece old new =
+    MakesSo (λ part x. IsPart new part (piece x)) (λ x. GrowsFrom signature old new first (calls_in_piece (piece x)))
 
 -- A part was made out of one that makes these calls, and makes no others.
 abbrev pub MakesOf : {A S : Type 0} {g : Ghosts S} → List Call → (A → Piece) → SyntaxBuilder → Result Part Failure → Reader S g
     → Parsed A → Type 0
-MakesOf {A} calls piece new (Ok part) reader read =
-    (x : A) × IsPart new part (piece x) × (read ≡ Ok (x, left reader)) × (calls ≡ calls_in_piece (piece x))
-MakesOf calls piece new (Err e) reader read = Fails e read
+MakesOf calls piece new = MakesSo (λ part x. IsPart new part (piece x)) (λ x. calls ≡ calls_in_piece (piece x))
 
 -- a segment's piece
 abbrev pub segment_piece : SegmentKind × Segment → Piece
 segment_piece s = a_segment s.0 s.1
-
--- The parts that were made stand for the selectors that reading gives.
-abbrev pub MakesSelectors : {S : Type 0} {g : Ghosts S} → (List ℕ → Option Signature) → SyntaxBuilder → SyntaxBuilder
-    → Result Parts Failure → Reader S g → Parsed (List Selector) → Type 0
-MakesSelectors signature old new (Ok parts) reader read =
-    (ss : List Selector) × AreSelectorsOf new (parts_in parts) (selector_list ss) × (read ≡ Ok (ss, left reader))
-    × Grows signature old new (calls_in_selectors (selector_list ss))
-MakesSelectors signature old new (Err e) reader read = Fails e read
-
--- A segment was made, or a bracket begins, after which reading goes on.
-abbrev pub StartsSegment : {S : Type 0} {g : Ghosts S} → (List ℕ → Option Signature) → SyntaxBuilder → SyntaxBuilder
-    → Result declared.SegmentStart Failure → Reader S g → (List ℕ → Parsed Segment) → Parsed (SegmentKind × Segment) → Type 0
-StartsSegment signature old new (Ok (starts.Dotted part)) reader bracket_at read =
-    (s : SegmentKind × Segment) × IsPart new part (segment_piece s) × (read ≡ Ok (s, left reader))
-    × Grows signature old new (calls_in_segment s.1)
-StartsSegment signature old new (Ok (starts.Bracket kind)) reader bracket_at read =
-    (read ≡ of_kind (segment_kind_view kind) (bracket_at (left reader))) × Grows signature old new []
-StartsSegment signature old new (Err e) reader bracket_at read = Fails e read
-
--- The parts that were made stand for the segments that reading gives. So many bytes are left after the last one, and
--- the reader stands after the blanks there.
-abbrev pub MakesSegments : {S : Type 0} {g : Ghosts S} → (List ℕ → Option Signature) → SyntaxBuilder → SyntaxBuilder
-    → Result (Parts × ℕ) Failure → Reader S g → Parsed (List (SegmentKind × Segment)) → Type 0
-MakesSegments signature old new (Ok parts) reader read =
-    (ss : List (SegmentKind × Segment)) × (rest : List ℕ) × ArePartsOf new (parts_in parts.0) (segment_list ss)
-    × (parts.1 ≡ byte_count rest) × (left reader ≡ past_blanks rest) × (read ≡ Ok (ss, rest))
-    × Grows signature old new (calls_in_segments (segment_list ss))
-MakesSegments signature old new (Err e) reader read = Fails e read
 
 -- The tree is that of the segments that reading gives, and the signatures are those of the names that it calls.
 abbrev pub GivesQuery : FunctionSet → Result Checked Failure → Result Segments Refusal → Type 0
@@ -118,53 +88,48 @@ GivesQuery F (Err e) read = Fails e read
 
 -- The operand is the one that reading gives.
 abbrev pub IsOperandOf : (List ℕ → Option Signature) → SyntaxBuilder → operands.Operand → Operand → Type 0
-IsOperandOf signature builder (the_operands.Literal l) (a_literal x) = literal_view l ≡ x
-IsOperandOf signature builder (the_operands.Query part) (a_query q) = IsPart builder part (piece.a_query q)
-IsOperandOf signature builder (the_operands.Call part kind) (a_call c) =
-    IsPart builder part (piece.a_call c) × (result_kind signature c ≡ Some (kind_view kind))
-IsOperandOf signature builder _ _ = ⊥
-
-abbrev pub MakesOperand : {S : Type 0} {g : Ghosts S} → (List ℕ → Option Signature) → SyntaxBuilder → SyntaxBuilder
-    → Result operands.Operand Failure → Reader S g → Parsed Operand → Type 0
-MakesOperand signature old new (Ok o) reader read =
-    (x : Operand) × IsOperandOf signature new o x × (read ≡ Ok (x, left reader)) × Grows signature old new (calls_in_operand x)
-MakesOperand signature old new (Err e) reader read = Fails e read
-
--- The call is the one that reading gives, and its result is of that type.
-abbrev pub MakesCall : {S : Type 0} {g : Ghosts S} → (List ℕ → Option Signature) → SyntaxBuilder → SyntaxBuilder
-    → Result (Part × FunctionArgType) Failure → Reader S g → Parsed Call → Type 0
-MakesCall signature old new (Ok call) reader read =
-    (c : Call) × IsPart new call.0 (piece.a_call c) × (result_kind signature c ≡ Some (kind_view call.1))
-    × (read ≡ Ok (c, left reader)) × Grows signature old new (calls_from c)
-MakesCall signature old new (Err e) reader read = Fails e read
+IsOperandOf signature builder (the_operands.Literal l) x = x ≡ a_literal (literal_view l)
+IsOperandOf signature builder (the_operands.Query part) x = (q : Query) × (x ≡ a_query q) × IsPart builder part (piece.a_query q)
+IsOperandOf signature builder (the_operands.Call part kind) x =
+    (c : Call) × (x ≡ a_call c) × IsPart builder part (piece.a_call c) × (result_kind signature c ≡ Some (kind_view kind))
 
 -- The argument is the one that reading gives.
 abbrev pub IsArgumentOf : (List ℕ → Option Signature) → SyntaxBuilder → arguments.Argument → Argument → Type 0
-IsArgumentOf signature builder (the_arguments.Operand (the_operands.Literal l)) (literal_argument x) = literal_view l ≡ x
-IsArgumentOf signature builder (the_arguments.Operand (the_operands.Query part)) (query_argument q) = IsPart builder part (piece.a_query q)
-IsArgumentOf signature builder (the_arguments.Operand (the_operands.Call part kind)) (call_argument c) =
-    IsPart builder part (piece.a_call c) × (result_kind signature c ≡ Some (kind_view kind))
-IsArgumentOf signature builder (the_arguments.Logical part) (logical_argument e) = IsPart builder part (piece.an_or e)
-IsArgumentOf signature builder _ _ = ⊥
+IsArgumentOf signature builder (the_arguments.Operand o) x = (y : Operand) × (x ≡ alone y) × IsOperandOf signature builder o y
+IsArgumentOf signature builder (the_arguments.Logical part) x = (e : LogicalOr) × (x ≡ logical_argument e) × IsPart builder part (piece.an_or e)
 
-abbrev pub MakesArgument : {S : Type 0} {g : Ghosts S} → (List ℕ → Option Signature) → SyntaxBuilder → SyntaxBuilder
-    → Result arguments.Argument Failure → Reader S g → Parsed Argument → Type 0
-MakesArgument signature old new (Ok a) reader read =
-    (x : Argument) × IsArgumentOf signature new a x × (read ≡ Ok (x, left reader)) × Grows signature old new (calls_in_argument x)
-MakesArgument signature old new (Err e) reader read = Fails e read
+module _ {S : Type 0} {g : Ghosts S} (signature : List ℕ → Option Signature) (old new : SyntaxBuilder) where
+  -- The parts that were made stand for the selectors that reading gives.
+  abbrev pub MakesSelectors : Result Parts Failure → Reader S g → Parsed (List Selector) → Type 0
+  MakesSelectors =
+      MakesSo (λ parts ss. AreSelectorsOf new (parts_in parts) (selector_list ss)) (λ ss. Grows signature old new (calls_in_selectors (selector_list ss)))
 
--- The parts that were put after others stand for the arguments that reading gives.
-abbrev pub MakesArguments : {S : Type 0} {g : Ghosts S} → (List ℕ → Option Signature) → SyntaxBuilder → SyntaxBuilder → List Part
-    → List Part → Result Unit Failure → Reader S g → Parsed Arguments → Type 0
-MakesArguments signature old new before after (Ok u) reader read =
-    (args : Arguments) × (parts : List Part) × (after ≡ before ++ parts) × AreArgumentsOf new parts args
-    × (read ≡ Ok (args, left reader)) × Grows signature old new (calls_in_arguments args)
-MakesArguments signature old new before after (Err e) reader read = Fails e read
+  -- The parts that were made stand for the segments that reading gives. So many bytes are left after the last one, and
+  -- the reader stands after the blanks there.
+  abbrev pub MakesSegments : Result (Parts × ℕ) Failure → Reader S g → Parsed (List (SegmentKind × Segment)) → Type 0
+  MakesSegments (Ok parts) reader read =
+      (ss : List (SegmentKind × Segment)) × (rest : List ℕ) × ArePartsOf new (parts_in parts.0) (segment_list ss)
+      × (parts.1 ≡ byte_count rest) × (left reader ≡ past_blanks rest) × (read ≡ Ok (ss, rest))
+      × Grows signature old new (calls_in_segments (segment_list ss))
+  MakesSegments (Err e) reader read = Fails e read
 
--- the end of the arguments is what reading gives
-abbrev pub GivesEnd : {S : Type 0} {g : Ghosts S} → Result Unit Failure → Reader S g → Parsed Arguments → Type 0
-GivesEnd (Ok u) reader read = read ≡ Ok (no_arguments, left reader)
-GivesEnd (Err e) reader read = Fails e read
+  abbrev pub MakesOperand : Result operands.Operand Failure → Reader S g → Parsed Operand → Type 0
+  MakesOperand (Ok o) reader read =
+      (x : Operand) × IsOperandOf signature new o x × (read ≡ Ok (x, left reader)) × Grows signature old new (calls_in_operand x)
+  MakesOperand (Err e) reader read = Fails e read
+
+  -- The call is the one that reading gives, and its result is of that type.
+  abbrev pub MakesCall : Result (Part × FunctionArgType) Failure → Reader S g → Parsed Call → Type 0
+  MakesCall =
+      MakesSo (λ call c. IsPart new call.0 (piece.a_call c) × (result_kind signature c ≡ Some (kind_view call.1))) (λ c. Grows signature old new (calls_from c))
+
+  abbrev pub MakesArgument : Result arguments.Argument Failure → Reader S g → Parsed Argument → Type 0
+  MakesArgument = MakesSo (IsArgumentOf signature new) (λ x. Grows signature old new (calls_in_argument x))
+
+  -- The parts that were put after others stand for the arguments that reading gives.
+  abbrev pub MakesArguments : List Part → List Part → Result Unit Failure → Reader S g → Parsed Arguments → Type 0
+  MakesArguments before after =
+      MakesSo (λ u args. (parts : List Part) × (after ≡ before ++ parts) × AreArgumentsOf new parts args) (λ args. Grows signature old new (calls_in_arguments args))
 
 -- a refusal, and not want of memory
 abbrev pub IsRefused : Failure → Type 0

@@ -7,12 +7,13 @@ ghost use Rattle.serde_json_path_functions.specs.Functions.{Signature};
 ghost use Rattle.serde_json_path_functions.specs.Terms.{kind_view};
 ghost use Rattle.serde_json_path_parser.specs.Filters.{argument_at, logical_from, ended};
 ghost use Rattle.serde_json_path_parser.specs.Filters as filters;
-ghost use Rattle.serde_json_path_parser.specs.Inside.Giving.{MakesArgument, MakesArguments, MakesCall, IsArgumentOf, GivesEnd, MovesTo};
+ghost use Rattle.serde_json_path_parser.specs.Inside.Giving.{MakesArgument, MakesArguments, MakesCall, IsArgumentOf, Gives, MovesTo};
 ghost use Rattle.serde_json_path_parser.specs.Inside.Levels.{at_level, signatures, deeper};
 ghost use Rattle.serde_json_path_parser.specs.Lexical.{begins};
 ghost use Rattle.serde_json_path_parser.specs.Operands as operands;
 ghost use Rattle.serde_json_path_parser.specs.Inside.Reading.{left};
 ghost use Rattle.serde_json_path_syntax.specs.Tree as tree;
+ghost use Rattle.serde_json_path_syntax.specs.Tree.{no_arguments};
 
 use crate::error::{Context, Failure, ParseErrorKind};
 use crate::parser::filter_parser::FilterParser;
@@ -86,7 +87,7 @@ fn parse_end<S: PathSource>(
 ) -> Result<(), Failure>
     requires { 0 < length (left reader.old) }
     ensures moves { MovesTo result reader.old reader.new }
-    ensures gives { GivesEnd result reader.new
+    ensures gives { Gives (λ u. no_arguments) result reader.new
         (ended start (map kind_view kinds.now) (drop 1 (left reader.old))) }
 {
     if !kinds.is_empty() {
@@ -208,7 +209,7 @@ impl<F: Functions> FilterParser<'_, F> {
             result reader.new
             (at_level F.set self.now argument_at (left reader.old)) }
     {
-        if reader.sees(b'(') || reader.sees(b'!') {
+        if reader.sees_expression() {
             let expression = self.parse_logical_or(builder, reader)?;
             return Ok(Argument::Logical(expression));
         }

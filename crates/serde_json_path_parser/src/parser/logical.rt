@@ -1,6 +1,6 @@
 //! Logical expressions (RFC 9535, section 2.3.5.1).
 
-ghost use Rattle.std.specs.Prelude.{◌≡◌, ◌==◌, ◌<◌, ℕ, List, drop, length, true, IfOk};
+ghost use Rattle.std.specs.Prelude.{◌≡◌, ◌==◌, ◌<◌, drop, length, true, IfOk};
 ghost use Rattle.serde_json_path_syntax.specs.Calls.{calls_in_and, calls_in_basic};
 ghost use Rattle.serde_json_path_syntax.specs.Parts.{IsPart};
 ghost use Rattle.serde_json_path_syntax.specs.Piece.{an_or, an_and, a_basic};
@@ -9,7 +9,7 @@ ghost use Rattle.serde_json_path_parser.specs.Filters.{paren_at, negated_at, bas
 ghost use Rattle.serde_json_path_parser.specs.Filters as filters;
 ghost use Rattle.serde_json_path_parser.specs.Inside.Giving.{Makes, MakesFrom, IsOperandOf, MovesTo};
 ghost use Rattle.serde_json_path_parser.specs.Inside.Levels.{at_level, signatures, deeper};
-ghost use Rattle.serde_json_path_parser.specs.Lexical.{is_at, begins, is_small_letter};
+ghost use Rattle.serde_json_path_parser.specs.Lexical.{is_at, begins};
 ghost use Rattle.serde_json_path_parser.specs.Operands as operands;
 ghost use Rattle.serde_json_path_parser.specs.Operands.{calls_in_operand};
 ghost use Rattle.serde_json_path_parser.specs.Parsed.{byte_count, past_blanks};
@@ -247,25 +247,9 @@ impl<F: Functions> FilterParser<'_, F> {
             let query = self.parse_query(builder, reader, QueryKind::Root)?;
             return Ok(builder.not_exist(query)?);
         }
-        if reader.sees_small_letter() {
-            return self.parse_negated_call(builder, reader);
+        if !reader.sees_small_letter() {
+            return Err(reader.refuse(ParseErrorKind::ExpectedExpression, Context::LongHand));
         }
-        Err(reader.refuse(ParseErrorKind::ExpectedExpression, Context::LongHand))
-    }
-
-    /// Parses a call that is negated, and the blanks after it.
-    #[cycle(filters)]
-    fn parse_negated_call<S: PathSource>(
-        &self,
-        builder: &mut SyntaxBuilder,
-        reader: &mut Reader<'_, S>,
-    ) -> Result<Part, Failure>
-        requires { begins is_small_letter (left reader.old) ≡ true }
-        ensures moves { MovesTo result reader.old reader.new }
-        ensures gives { Makes (signatures F.set self.now) a_basic builder.old builder.new
-            result reader.new
-            (at_level F.set self.now filters.negated_name_at (left reader.old)) }
-    {
         let start = reader.bytes_left();
         let Operand::Call(call, result) = self.parse_named(builder, reader)? else {
             return Err(Failure::in_long_hand(ParseErrorKind::ExpectedExpression, start));

@@ -40,7 +40,7 @@ impl<'s, S: PathSource> Reader<'s, S> {
     ghost use Rattle.std.specs.Str.{encode_utf8_all};
     ghost use Rattle.serde_json_path_parser.specs.Parsed.{byte_count, refusal, past_blanks};
     ghost use Rattle.serde_json_path_parser.specs.Parsing.{is_first_digit, begins_int};
-    ghost use Rattle.serde_json_path_parser.specs.Lexical.{opens};
+    ghost use Rattle.serde_json_path_parser.specs.Lexical.{opens, ◌∈◌};
     ghost use Rattle.serde_json_path_parser.specs.Inside.Reading.{told, left, seen, Moves};
     ghost use Rattle.serde_json_path_parser.specs.Filters.{ends_argument};
     ghost use Rattle.serde_json_path_parser.specs.Inside.Giving.{StopsNear};
@@ -135,6 +135,13 @@ impl<'s, S: PathSource> Reader<'s, S> {
     {
         self.take_char();
         self.take_char();
+    }
+
+    /// Whether a parenthesis or a negation begins here.
+    pub(crate) fn sees_expression(&self) -> bool
+        ensures { result ≡ begins (λ c. c ∈ "(!") (left self.now) }
+    {
+        self.sees(b'(') || self.sees(b'!')
     }
 
     /// Whether an argument ends here.

@@ -2,14 +2,11 @@
 
 ghost use Rattle.std.specs.Prelude.{◌≡◌, true, ℕ, List, Option, IfErr, false};
 ghost use Rattle.serde_json_path_syntax.specs.Flat.{segment_kind_view};
-ghost use Rattle.serde_json_path_syntax.specs.Tree.{Selector};
-ghost use Rattle.serde_json_path_syntax.specs.Tree as tree;
 ghost use Rattle.serde_json_path_functions.specs.Functions.{Signature};
-ghost use Rattle.serde_json_path_parser.specs.Inside.Giving.{Makes, MakesSegments, StartsSegment, segment_piece, MovesTo, IsRefused};
+ghost use Rattle.serde_json_path_parser.specs.Inside.Giving.{Makes, MakesSegments, segment_piece, MovesTo, IsRefused};
 ghost use Rattle.serde_json_path_parser.specs.Inside.Levels.{filter_at, signatures};
 ghost use Rattle.serde_json_path_parser.specs.Lexical.{begins, opens};
-ghost use Rattle.serde_json_path_parser.specs.Parsed.{Parsed};
-ghost use Rattle.serde_json_path_parser.specs.Parsing.{bracket_at, after_dot, dotted_at, descendant_at, of_kind, dot_at, segment_at, segments_at, opens_next};
+ghost use Rattle.serde_json_path_parser.specs.Parsing.{bracket_at, after_dot, dotted_at, of_kind, segment_at, segments_at, opens_next};
 ghost use Rattle.serde_json_path_parser.specs.Inside.Reading.{left};
 
 use crate::error::{Context, Failure, ParseErrorKind};
@@ -20,15 +17,6 @@ use crate::source::PathSource;
 use serde_json_path_functions::Functions;
 use serde_json_path_syntax::{Part, Parts, SegmentKind, SyntaxBuilder};
 use std::alloc::Global;
-
-/// How a segment begins.
-#[derive(Drop)]
-pub(crate) enum SegmentStart {
-    /// With one dot or two, and a member name or `*`: the whole segment.
-    Dotted(Part),
-    /// With a bracket, after which the selectors follow.
-    Bracket(SegmentKind),
-}
 
 /// Parses what follows the dots of a segment: a member name or `*`.
 #[tactic(auto, unfolding(crate::specs::Parsing::dotted_at))]
@@ -52,27 +40,6 @@ fn parse_dotted<S: PathSource>(
     Ok(builder.dot_name(kind, text)?)
 }
 
-/// Parses what follows `..` (RFC 9535, section 2.5.2).
-#[tactic(auto, unfolding(crate::specs::Parsing::descendant_at))]
-fn parse_descendant<S: PathSource>(
-    alloc: Global,
-    builder: &mut SyntaxBuilder,
-    reader: &mut Reader<'_, S>,
-    context: Context,
-) -> Result<SegmentStart, Failure>
-    ensures moves { MovesTo result reader.old reader.new }
-    ensures gives { (signature : List ℕ → Option Signature) (filter_at : List ℕ → Parsed Selector)
-        → StartsSegment signature builder.old builder.new result reader.new (bracket_at filter_at)
-        (of_kind tree.descendant (descendant_at filter_at context (left reader.old))) }
-{
-    if reader.sees(b'[') {
-        reader.take_char();
-        return Ok(SegmentStart::Bracket(SegmentKind::Descendant));
-    }
-    let segment = parse_dotted(alloc, builder, reader, SegmentKind::Descendant, context)?;
-    Ok(SegmentStart::Dotted(segment))
-}
-
 /// The context of a member name after one dot.
 fn after_one_dot(context: Context) -> Context
     ensures { result ≡ after_dot context }
@@ -81,55 +48,6 @@ fn after_one_dot(context: Context) -> Context
         Context::Path => Context::DotMemberName,
         context => context,
     }
-}
-
-/// Parses what follows a first `.`.
-#[tactic(auto, unfolding(crate::specs::Parsing::dot_at))]
-fn parse_dot<S: PathSource>(
-    alloc: Global,
-    builder: &mut SyntaxBuilder,
-    reader: &mut Reader<'_, S>,
-    context: Context,
-) -> Result<SegmentStart, Failure>
-    ensures moves { MovesTo result reader.old reader.new }
-    ensures gives { (signature : List ℕ → Option Signature) (filter_at : List ℕ → Parsed Selector)
-        → StartsSegment signature builder.old builder.new result reader.new (bracket_at filter_at)
-        (dot_at filter_at context (left reader.old)) }
-{
-    if reader.sees(b'.') {
-        reader.take_char();
-        return parse_descendant(alloc, builder, reader, context);
-    }
-    let segment = parse_dotted(
-        alloc,
-        builder,
-        reader,
-        SegmentKind::Child,
-        after_one_dot(context),
-    )?;
-    Ok(SegmentStart::Dotted(segment))
-}
-
-/// Parses a segment up to the selectors of its bracket, from its `.` or `[` on (RFC 9535, section 2.5).
-#[tactic(auto, unfolding(crate::specs::Parsing::segment_at))]
-fn parse_segment_start<S: PathSource>(
-    alloc: Global,
-    builder: &mut SyntaxBuilder,
-    reader: &mut Reader<'_, S>,
-    context: Context,
-) -> Result<SegmentStart, Failure>
-    requires { begins opens (left reader.old) ≡ true }
-    ensures moves { MovesTo result reader.old reader.new }
-    ensures gives { (signature : List ℕ → Option Signature) (filter_at : List ℕ → Parsed Selector)
-        → StartsSegment signature builder.old builder.new result reader.new (bracket_at filter_at)
-        (segment_at filter_at context (left reader.old)) }
-{
-    if reader.sees(b'.') {
-        reader.take_char();
-        return parse_dot(alloc, builder, reader, context);
-    }
-    reader.take_char();
-    Ok(SegmentStart::Bracket(SegmentKind::Child))
 }
 
 impl<F: Functions> FilterParser<'_, F> {
@@ -158,6 +76,7 @@ impl<F: Functions> FilterParser<'_, F> {
 
     /// Parses a segment (RFC 9535, section 2.5), from its `.` or `[` on.
     #[cycle(filters)]
+    #[tactic(auto, unfolding(crate::specs::Parsing::segment_at, crate::specs::Parsing::dot_at, crate::specs::Parsing::descendant_at))]
     fn parse_segment<S: PathSource>(
         &self,
         builder: &mut SyntaxBuilder,
@@ -170,10 +89,22 @@ impl<F: Functions> FilterParser<'_, F> {
             result reader.new
             (segment_at (filter_at F.set self.now) context (left reader.old)) }
     {
-        match parse_segment_start(self.alloc, builder, reader, context)? {
-            SegmentStart::Dotted(segment) => Ok(segment),
-            SegmentStart::Bracket(kind) => self.parse_bracket(builder, reader, kind),
+        if !reader.sees(b'.') {
+            reader.take_char();
+            return self.parse_bracket(builder, reader, SegmentKind::Child);
         }
+        reader.take_char();
+        if !reader.sees(b'.') {
+            let context = after_one_dot(context);
+            return parse_dotted(self.alloc, builder, reader, SegmentKind::Child, context);
+        }
+        reader.take_char();
+        let kind = SegmentKind::Descendant;
+        if reader.sees(b'[') {
+            reader.take_char();
+            return self.parse_bracket(builder, reader, kind);
+        }
+        parse_dotted(self.alloc, builder, reader, kind, context)
     }
 
     /// Parses as many segments as there are, with blanks before each. Returns them, and how many bytes are left after

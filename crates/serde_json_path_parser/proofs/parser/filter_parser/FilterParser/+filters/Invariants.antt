@@ -1,12 +1,9 @@
-use Rattle.std.proofs.Common.{◌≡◌, ◌+◌, ◌*◌, ℕ, List, [], ◌∷◌, false, length}
-use Rattle.serde_json_path_parser.proofs.Words.{calls_in_segments, calls_in_selectors, calls_in_or, calls_in_and, calls_in_basic, parts_in, SegmentKind}
-use Rattle.serde_json_path_parser.proofs.Words.{Segment, Selector, LogicalAnd, Basic, IsPart, ArePartsOf, AreSelectorsOf, AreOrPartsOf, AreAndPartsOf, an_and}
-use Rattle.serde_json_path_parser.proofs.Words.{a_basic, are_at, begins, opens, and_list, or_list, next_basic_at, next_and_at, Grows, GrowsFrom, signatures}
-use Rattle.serde_json_path_parser.proofs.Words.{deeper, past_blanks, many, byte_count, opens_next, next_selector_at, selectors_at, selector_list, segments_at}
-use Rattle.serde_json_path_parser.proofs.Words.{segment_list, left, Moves}
+use Rattle.std.proofs.Common.{◌≡◌, ◌+◌, ◌*◌, ℕ, List, [], false, length}
+use Rattle.serde_json_path_parser.proofs.Words.{calls_in_and, calls_in_basic, parts_in, LogicalAnd, Basic, IsPart, an_and, a_basic, begins, opens, signatures}
+use Rattle.serde_json_path_parser.proofs.Words.{at_level, and_from, or_from, past_blanks, byte_count, opens_next, selectors_at, segments_at, left, Moves}
 use Rattle.serde_json_path_parser.specs.Inside.Levels.{filter_at}
-use Rattle.serde_json_path_parser.proofs.Grammar.Brackets.{is_comma}
-use Rattle.serde_json_path_parser.proofs.Reading.Many.{with_front}
+use Rattle.serde_json_path_parser.proofs.Steps.Rows.{SoFar}
+use Rattle.serde_json_path_parser.proofs.Steps.RowKinds.{segment_row, selector_row, or_row, and_row}
 use Rattle.serde_json_path_parser.proofs.parser.filter_parser.FilterParser.+filters.Given as goal
 
 -- ---- one level is above all that stands in it; at a level, what stands in another piece is below it
@@ -31,9 +28,6 @@ decreases-parse_selectors g l = 512 * l.self.now.depth + 32
 
 abbrev pub decreases-parse_bracket : goal.decreases-parse_bracket
 decreases-parse_bracket g l = 512 * l.self.now.depth + 48
-
-abbrev pub decreases-parse_negated_call : goal.decreases-parse_negated_call
-decreases-parse_negated_call g l = 512 * l.self.now.depth + 48
 
 abbrev pub decreases-parse_segment : goal.decreases-parse_segment
 decreases-parse_segment g l = 512 * l.self.now.depth + 64
@@ -83,10 +77,9 @@ abbrev pub invariant-parse_segments-segments : goal.invariant-parse_segments-seg
 invariant-parse_segments-segments g l = record {
   moves : Moves l.fn.reader l.reader;
   none : opens_next (left l.fn.reader) ≡ false → begins opens (left l.reader) ≡ false;
-  so_far : (before : List (SegmentKind × Segment)) × (rest : List ℕ) × ArePartsOf l.builder (parts_in l.parts) (segment_list before)
-      × (l.rest ≡ byte_count rest) × (left l.reader ≡ past_blanks rest)
-      × (with_front before (segments_at (filter_at g.F.Functions.set l.self) l.context rest) ≡ segments_at (filter_at g.F.Functions.set l.self) l.context (left l.fn.reader))
-      × Grows (signatures g.F.Functions.set l.self) l.fn.builder l.builder (calls_in_segments (segment_list before));
+  so_far : (rest : List ℕ) × (l.rest ≡ byte_count rest) × (left l.reader ≡ past_blanks rest)
+      × SoFar (at_level g.F.Functions.set l.self segment_row l.context) (signatures g.F.Functions.set l.self) l.fn.builder l.builder [] (parts_in l.parts) rest
+      (segments_at (filter_at g.F.Functions.set l.self) l.context (left l.fn.reader));
 }
 
 abbrev pub decreases-parse_segments-segments : goal.decreases-parse_segments-segments
@@ -95,9 +88,8 @@ decreases-parse_segments-segments g l = length (left l.reader)
 abbrev pub invariant-parse_selectors-selectors : goal.invariant-parse_selectors-selectors
 invariant-parse_selectors-selectors g l = record {
   moves : Moves l.fn.reader l.reader;
-  so_far : (before : List Selector) × AreSelectorsOf l.builder (parts_in l.parts) (selector_list before)
-      × (with_front before (many (begins is_comma) (next_selector_at (filter_at g.F.Functions.set l.self)) (left l.reader)) ≡ selectors_at (filter_at g.F.Functions.set l.self) (left l.fn.reader))
-      × Grows (signatures g.F.Functions.set l.self) l.fn.builder l.builder (calls_in_selectors (selector_list before));
+  so_far : SoFar (at_level g.F.Functions.set l.self selector_row) (signatures g.F.Functions.set l.self) l.fn.builder l.builder [] (parts_in l.parts) (left l.reader)
+      (selectors_at (filter_at g.F.Functions.set l.self) (left l.fn.reader));
 }
 
 abbrev pub decreases-parse_selectors-selectors : goal.decreases-parse_selectors-selectors
@@ -106,10 +98,9 @@ decreases-parse_selectors-selectors g l = length (left l.reader)
 abbrev pub invariant-parse_or_from-parts : goal.invariant-parse_or_from-parts
 invariant-parse_or_from-parts g l = record {
   moves : Moves l.fn.reader l.reader;
-  so_far : (a : LogicalAnd) → IsPart l.fn.builder l.fn.first (an_and a) → (before : List LogicalAnd) × AreOrPartsOf l.builder (parts_in l.parts) (or_list before)
-      × (with_front before (many (are_at "||") (next_and_at (signatures g.F.Functions.set l.self) (deeper g.F.Functions.set l.self)) (left l.reader))
-      ≡ with_front (a ∷ []) (many (are_at "||") (next_and_at (signatures g.F.Functions.set l.self) (deeper g.F.Functions.set l.self)) (left l.fn.reader)))
-      × GrowsFrom (signatures g.F.Functions.set l.self) l.fn.builder l.builder (calls_in_and a) (calls_in_or (or_list before));
+  so_far : (a : LogicalAnd) → IsPart l.fn.builder l.fn.first (an_and a)
+      → SoFar (at_level g.F.Functions.set l.self or_row) (signatures g.F.Functions.set l.self) l.fn.builder l.builder (calls_in_and a) (parts_in l.parts) (left l.reader)
+      (at_level g.F.Functions.set l.self or_from a (left l.fn.reader));
 }
 
 abbrev pub decreases-parse_or_from-parts : goal.decreases-parse_or_from-parts
@@ -118,10 +109,9 @@ decreases-parse_or_from-parts g l = length (left l.reader)
 abbrev pub invariant-parse_and_from-parts : goal.invariant-parse_and_from-parts
 invariant-parse_and_from-parts g l = record {
   moves : Moves l.fn.reader l.reader;
-  so_far : (b : Basic) → IsPart l.fn.builder l.fn.first (a_basic b) → (before : List Basic) × AreAndPartsOf l.builder (parts_in l.parts) (and_list before)
-      × (with_front before (many (are_at "&&") (next_basic_at (signatures g.F.Functions.set l.self) (deeper g.F.Functions.set l.self)) (left l.reader))
-      ≡ with_front (b ∷ []) (many (are_at "&&") (next_basic_at (signatures g.F.Functions.set l.self) (deeper g.F.Functions.set l.self)) (left l.fn.reader)))
-      × GrowsFrom (signatures g.F.Functions.set l.self) l.fn.builder l.builder (calls_in_basic b) (calls_in_and (and_list before));
+  so_far : (b : Basic) → IsPart l.fn.builder l.fn.first (a_basic b)
+      → SoFar (at_level g.F.Functions.set l.self and_row) (signatures g.F.Functions.set l.self) l.fn.builder l.builder (calls_in_basic b) (parts_in l.parts) (left l.reader)
+      (at_level g.F.Functions.set l.self and_from b (left l.fn.reader));
 }
 
 abbrev pub decreases-parse_and_from-parts : goal.decreases-parse_and_from-parts
