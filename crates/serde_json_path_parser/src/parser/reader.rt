@@ -190,10 +190,7 @@ impl<'s, S: PathSource> Reader<'s, S> {
         requires { b < 128 }
         ensures { result ≡ begins (λ c. c == b) (left self.now) }
     {
-        match self.peek() {
-            Some(next) => next == b,
-            None => false,
-        }
+        self.peek().is_some_and(|next| next == b)
     }
 
     /// The byte after the next one; the next one must be ASCII. It is looked at only once.
@@ -224,20 +221,14 @@ impl<'s, S: PathSource> Reader<'s, S> {
         if !self.sees(first) {
             return false;
         }
-        match self.peek_second() {
-            Some(next) => next == second,
-            None => false,
-        }
+        self.peek_second().is_some_and(|next| next == second)
     }
 
     /// Whether a blank is next.
     pub(crate) fn sees_blank(&self) -> bool
         ensures { result ≡ begins is_blank (left self.now) }
     {
-        match self.peek() {
-            Some(next) => matches!(next, b' ' | b'\t' | b'\n' | b'\r'),
-            None => false,
-        }
+        self.peek().is_some_and(|next| matches!(next, b' ' | b'\t' | b'\n' | b'\r'))
     }
 
     /// Takes the blanks that are next.
@@ -254,20 +245,14 @@ impl<'s, S: PathSource> Reader<'s, S> {
     pub(crate) fn sees_digit(&self) -> bool
         ensures { result ≡ begins is_digit (left self.now) }
     {
-        match self.peek() {
-            Some(next) => next.is_ascii_digit(),
-            None => false,
-        }
+        self.peek().is_some_and(|next| next.is_ascii_digit())
     }
 
     /// Whether a small letter is next.
     pub(crate) fn sees_small_letter(&self) -> bool
         ensures { result ≡ begins is_small_letter (left self.now) }
     {
-        match self.peek() {
-            Some(next) => next.is_ascii_lowercase(),
-            None => false,
-        }
+        self.peek().is_some_and(|next| next.is_ascii_lowercase())
     }
 
     /// Whether a function's name goes on here.
@@ -281,20 +266,14 @@ impl<'s, S: PathSource> Reader<'s, S> {
     pub(crate) fn sees_first_digit(&self) -> bool
         ensures { result ≡ begins is_first_digit (left self.now) }
     {
-        match self.peek() {
-            Some(next) => next >= b'1' && next <= b'9',
-            None => false,
-        }
+        self.peek().is_some_and(|next| next >= b'1' && next <= b'9')
     }
 
     /// Whether an exponent begins here.
     pub(crate) fn sees_exponent(&self) -> bool
         ensures { result ≡ begins is_exponent (left self.now) }
     {
-        match self.peek() {
-            Some(next) => matches!(next, b'e' | b'E'),
-            None => false,
-        }
+        self.peek().is_some_and(|next| matches!(next, b'e' | b'E'))
     }
 
     /// Whether an integer begins here.
@@ -308,10 +287,7 @@ impl<'s, S: PathSource> Reader<'s, S> {
     pub(crate) fn sees_name_first(&self) -> bool
         ensures { result ≡ begins is_name_first (left self.now) }
     {
-        match self.peek() {
-            Some(next) => next >= 128 || next.is_ascii_alphabetic() || next == b'_',
-            None => false,
-        }
+        self.peek().is_some_and(|next| next >= 128 || next.is_ascii_alphabetic() || next == b'_')
     }
 
     /// Whether a member name goes on here.
@@ -374,10 +350,7 @@ impl<'s, S: PathSource> Reader<'s, S> {
         if taken < 32 || self.second.is_some() {
             return false;
         }
-        match self.peek() {
-            Some(next) => PlainChars { quote }.holds(next),
-            None => false,
-        }
+        self.peek().is_some_and(|next| PlainChars { quote }.holds(next))
     }
 
     /// Takes one or more ASCII characters that stand for themselves in a string of these quotes, and appends them to a
@@ -403,10 +376,7 @@ impl<'s, S: PathSource> Reader<'s, S> {
     pub(crate) fn sees_hexadecimal(&self) -> bool
         ensures { result ≡ begins is_hexadecimal (left self.now) }
     {
-        match self.peek() {
-            Some(next) => next.is_ascii_hexdigit(),
-            None => false,
-        }
+        self.peek().is_some_and(|next| next.is_ascii_hexdigit())
     }
 
     /// Whether a character is next that a backslash may escape in a string of these quotes, other than `u`.
@@ -414,22 +384,16 @@ impl<'s, S: PathSource> Reader<'s, S> {
         requires { quote < 128 }
         ensures { result ≡ begins (is_letter_escape quote) (left self.now) }
     {
-        match self.peek() {
-            Some(next) => {
-                matches!(next, b'b' | b'f' | b'n' | b'r' | b't' | b'/' | b'\\') || next == quote
-            }
-            None => false,
-        }
+        self.peek().is_some_and(|next| {
+            matches!(next, b'b' | b'f' | b'n' | b'r' | b't' | b'/' | b'\\') || next == quote
+        })
     }
 
     /// Whether a control character is next.
     pub(crate) fn sees_control(&self) -> bool
         ensures { result ≡ begins is_control (left self.now) }
     {
-        match self.peek() {
-            Some(next) => next < 32,
-            None => false,
-        }
+        self.peek().is_some_and(|next| next < 32)
     }
 
     /// Whether a string of these quotes goes on here.
@@ -437,10 +401,7 @@ impl<'s, S: PathSource> Reader<'s, S> {
         requires { quote < 128 }
         ensures { result ≡ begins (is_inside quote) (left self.now) }
     {
-        match self.peek() {
-            Some(next) => next != quote,
-            None => false,
-        }
+        self.peek().is_some_and(|next| next != quote)
     }
 
     /// Whether a segment begins here.
