@@ -1,13 +1,12 @@
 //! The parser of filters, and how deep it is.
 
 ghost use Rattle.std.specs.Prelude.{◌≡◌, ◌<◌, ◌-◌};
-ghost use Rattle.serde_json_path_syntax.specs.Used.{deepest};
 
 use serde_json_path_functions::Functions;
 use std::alloc::Global;
 
 /// How many filters, parentheses and calls may be nested.
-const DEEPEST: u8 = 128;
+pub(crate) const DEEPEST: u8 = 128;
 
 /// The functions that filters may call, and how many more filters, parentheses and calls may be nested here.
 #[derive(Drop)]
@@ -18,18 +17,6 @@ pub(crate) struct FilterParser<'f, F: Functions> {
 }
 
 impl<'f, F: Functions> FilterParser<'f, F> {
-    /// The parser outside every filter.
-    pub(crate) fn outermost(alloc: Global, functions: &'f F) -> FilterParser<'f, F>
-        ensures functions { result.functions.now ≡ functions.now }
-        ensures depth { result.depth ≡ deepest }
-    {
-        FilterParser {
-            alloc,
-            functions,
-            depth: DEEPEST,
-        }
-    }
-
     /// The parser inside another filter, parenthesis or call.
     pub(crate) fn deeper(&self) -> FilterParser<'f, F>
         requires { 0 < self.now.depth }

@@ -7,7 +7,7 @@ ghost use Rattle.serde_json_path_parser.specs.Parsing.{opens_after_root};
 ghost use Rattle.serde_json_path_parser.specs.Inside.Reading.{left};
 
 use crate::error::{Context, Failure, ParseErrorKind, Refusal};
-use crate::parser::filter_parser::FilterParser;
+use crate::parser::filter_parser::{DEEPEST, FilterParser};
 use crate::parser::reader::Reader;
 use crate::source::PathSource;
 use serde_json_path_functions::Functions;
@@ -35,11 +35,12 @@ pub(crate) fn parse_path<S: PathSource, F: Functions>(
     }
     reader.take_char();
     let mut builder = SyntaxBuilder::new(alloc);
-    let (parts, rest) = FilterParser::outermost(alloc, functions).parse_segments(
-        &mut builder,
-        reader,
-        Context::Path,
-    )?;
+    let filters = FilterParser {
+        alloc,
+        functions,
+        depth: DEEPEST,
+    };
+    let (parts, rest) = filters.parse_segments(&mut builder, reader, Context::Path)?;
     if rest != 0 {
         return Err(Failure::Refused(Refusal {
             kind: ParseErrorKind::TextAfterPath,

@@ -228,7 +228,8 @@ impl<'s, S: PathSource> Reader<'s, S> {
     pub(crate) fn sees_blank(&self) -> bool
         ensures { result ≡ begins is_blank (left self.now) }
     {
-        self.peek().is_some_and(|next| matches!(next, b' ' | b'\t' | b'\n' | b'\r'))
+        self.peek()
+            .is_some_and(|next| matches!(next, b' ' | b'\t' | b'\n' | b'\r'))
     }
 
     /// Takes the blanks that are next.
@@ -350,7 +351,8 @@ impl<'s, S: PathSource> Reader<'s, S> {
         if taken < 32 || self.second.is_some() {
             return false;
         }
-        self.peek().is_some_and(|next| PlainChars { quote }.holds(next))
+        self.peek()
+            .is_some_and(|next| PlainChars { quote }.holds(next))
     }
 
     /// Takes one or more ASCII characters that stand for themselves in a string of these quotes, and appends them to a

@@ -8,7 +8,7 @@ use Rattle.serde_json_path_parser.proofs.parser.query.parse_path.Goals as goal
 pub returns-then-is_empty-clause-gives : goal.returns-then-is_empty-clause-gives
 unfolding path_at
 returns-then-is_empty-clause-gives g c =
-    let gives = rw (c.outermost.ensures.functions, c.outermost.ensures.depth) at c.in_ok-parts.ensures.gives in
+    let gives = c.in_ok-parts.ensures.gives in
     let ended = all_read gives.1 c.in_ok-parts.rest gives.3 (omega (arith, c.if-rest-ne0.false)) in
     let empty = no_part c.parse_segments.new.builder (parts_in c.in_ok-parts.parts) gives.0 gives.2 (c.is_empty.ensures.0 c.if-is_empty.true) in (
       segment_list gives.0,
@@ -21,7 +21,7 @@ returns-then-is_empty-clause-gives g c =
 pub returns-in_err-part-clause-spares : goal.returns-in_err-part-clause-spares
 returns-in_err-part-clause-spares g c =
     let p = err_from_is_err_and c.from_residual-in_err-part.result c.from_residual-in_err-part.ensures.1 in
-    let gives = rw (c.outermost.ensures.functions, c.outermost.ensures.depth) at c.in_ok-parts.ensures.gives in
+    let gives = c.in_ok-parts.ensures.gives in
     rw p.1 (λ closed.
     let none = none_read (g.F.Functions.set c.args.functions.now).signature (left c.args.reader.now) (left c.take_char.new.self) gives.1 c.take_char.result gives.0 (sym c.sees.ensures ∙ c.if-not-sees.false) c.take_char.ensures.value gives.5 closed in
     let empty = c.is_empty.ensures.1 (no_segment c.parse_segments.new.builder (parts_in c.in_ok-parts.parts) gives.0 gives.2 none) in
@@ -31,7 +31,7 @@ pub finish-requires : goal.finish-requires
 unfolding path_at
 finish-requires g c =
     let F = g.F.Functions.set c.args.functions.now in
-    let gives = rw (c.outermost.ensures.functions, c.outermost.ensures.depth) at c.in_ok-parts.ensures.gives in
+    let gives = c.in_ok-parts.ensures.gives in
     let ended = all_read gives.1 c.in_ok-parts.rest gives.3 (omega (arith, c.if-rest-ne0.false)) in
     let whole : path_at F.signature (left c.args.reader.now) ≡ Ok (segment_list gives.0) = rw (sym c.sees.ensures ∙ c.if-not-sees.false, c.take_char.ensures.value, gives.5, ended) refl in
     let sound = (path_outcome F.signature (left c.args.reader.now)).reads (segment_list gives.0) whole in
@@ -41,7 +41,7 @@ pub returns-clause-gives : goal.returns-clause-gives
 unfolding path_at
 returns-clause-gives g c =
     let F = g.F.Functions.set c.args.functions.now in
-    let gives = rw (c.outermost.ensures.functions, c.outermost.ensures.depth) at c.in_ok-parts.ensures.gives in
+    let gives = c.in_ok-parts.ensures.gives in
     let ended = all_read gives.1 c.in_ok-parts.rest gives.3 (omega (arith, c.if-rest-ne0.false)) in
     let whole : path_at F.signature (left c.args.reader.now) ≡ Ok (segment_list gives.0) = rw (sym c.sees.ensures ∙ c.if-not-sees.false, c.take_char.ensures.value, gives.5, ended) refl in
     let q = query root (segment_list gives.0) in
