@@ -1,6 +1,6 @@
 -- Steps of the code.
 
--- what a word has in common with a known one, and which literal it is
+-- which literal a word is
 pub mod Words
 -- how the builder grows, and by which calls
 pub mod Growth

@@ -73,7 +73,7 @@ pub use Rattle.serde_json_path_parser.specs.Inside.Levels.{at_level, deeper, sig
 pub use Rattle.serde_json_path_parser.specs.Inside.Looking.{LooksOn}
 pub use Rattle.serde_json_path_parser.specs.Inside.Reading.{Moves, left}
 pub use Rattle.serde_json_path_parser.specs.Inside.Stretches.{Gathered, Stretched, is_ascii_name_char, is_ascii_plain}
-pub use Rattle.serde_json_path_parser.specs.Inside.Words.{common, literal_word}
+pub use Rattle.serde_json_path_parser.specs.Inside.Words.{literal_word}
 pub use Rattle.serde_json_path_parser.specs.Lexical.{AllPass, ArePieces, IsAmount, IsBlank, IsDecimal, IsFraction, IsFunctionName, IsHex4, IsHighSurrogate}
 pub use Rattle.serde_json_path_parser.specs.Lexical.{IsInt, IsLowSurrogate, IsName, IsNumber, IsPiece, IsQuote, IsString, Joined, are_at, begins, begins_both}
 pub use Rattle.serde_json_path_parser.specs.Lexical.{between, escaped_by, fraction_of, hex_escape, hexadecimal_of, is_at, is_blank, is_digit, is_function_char}

@@ -18,7 +18,7 @@ use crate::error::{Context, Failure, ParseErrorKind};
 use crate::parser::filter_parser::FilterParser;
 use crate::parser::primitive::number::parse_number;
 use crate::parser::primitive::string::parse_string;
-use crate::parser::primitive::word::read_word;
+use crate::parser::primitive::word::{literal_word, read_word};
 use crate::parser::reader::Reader;
 use crate::source::PathSource;
 use serde_json_path_functions::{FunctionArgType, Functions};
@@ -94,11 +94,10 @@ impl<F: Functions> FilterParser<'_, F> {
         let start = reader.bytes_left();
         let word = read_word(self.alloc, reader)?;
         if reader.sees(b'(') {
-            let name = word.into_name(self.alloc)?;
-            let (call, result) = self.parse_call(builder, reader, start, name)?;
+            let (call, result) = self.parse_call(builder, reader, start, word)?;
             return Ok(Operand::Call(call, result));
         }
-        match word.literal() {
+        match literal_word(word.as_str()) {
             Some(literal) => {
                 reader.skip_blanks();
                 Ok(Operand::Literal(literal))

@@ -11,6 +11,7 @@ use Rattle.serde_json_path_parser.specs.Operands.{a_query}
 use Rattle.serde_json_path_parser.proofs.Steps.Arguments.{first_argument, after_comma, none_made, one_made}
 use Rattle.serde_json_path_parser.proofs.Steps.Operands.{alone_calls}
 use Rattle.serde_json_path_parser.proofs.Steps.Words.{literal_word_reads}
+use Rattle.serde_json_path_parser.proofs.Words.{literal_word}
 use Rattle.serde_json_path_parser.proofs.Grammar.Levels.{level_laws}
 use Rattle.serde_json_path_syntax.specs.Flat.{segment_kind_view, kind_view as query_kind_view}
 use Rattle.serde_json_path_parser.proofs.Reading.Regrouped.{no_longer}
@@ -225,13 +226,12 @@ pub parse_named-returns-then-sees-clause-gives : goal.parse_named-returns-then-s
 unfolding named_at named_call_at
 parse_named-returns-then-sees-clause-gives g t c =
     let k = rw c.bytes_left-start.ensures.value at c.in_ok-call.ensures.gives in
-    let name = c.in_ok-name.ensures (word (left c.args.reader.now)) c.in_ok-word.ensures.word in
-    (a_call k.0, (k.0, refl, k.1.0, k.1.1), rw (c.requires, ← c.in_ok-word.ensures.rest, sym c.sees.ensures ∙ c.if-sees.true, named_call_at, ← name, k.2) refl, k.3)
+    (a_call k.0, (k.0, refl, k.1.0, k.1.1), rw (c.requires, ← c.in_ok-word.ensures.rest, sym c.sees.ensures ∙ c.if-sees.true, named_call_at, ← c.in_ok-word.ensures.word, k.2) refl, k.3)
 
 pub parse_named-returns-in-Some-clause-gives : goal.parse_named-returns-in-Some-clause-gives
 unfolding named_at
 parse_named-returns-in-Some-clause-gives g t c =
-    let literal = sym (c.literal.ensures (word (left c.args.reader.now)) c.in_ok-word.ensures.word) ∙ ap (option_map literal_view) c.in-Some.is in
+    let literal = ap literal_word (sym c.in_ok-word.ensures.word ∙ sym c.as_str.ensures.value) ∙ sym c.literal_word.ensures ∙ ap (option_map literal_view) c.in-Some.is in
     (a_literal (literal_view c.in-Some.literal), refl, rw (c.requires, literal_word_reads (left c.args.reader.now), literal, ← c.in_ok-word.ensures.rest, sym c.sees.ensures ∙ c.if-sees.false, c.skip_blanks.ensures.left) refl, grows_none c.args.builder.now)
 
 pub parse_negated-returns-then-sees-clause-gives : goal.parse_negated-returns-then-sees-clause-gives

@@ -1,11 +1,11 @@
 use Rattle.std.proofs.Common.{◌≡◌, ◌++◌, length}
 use Rattle.serde_json_path_parser.proofs.Words.{string_bytes, word, past_word, left, Moves}
-use Rattle.serde_json_path_parser.proofs.parser.primitive.word.take_word.Given as goal
+use Rattle.serde_json_path_parser.proofs.parser.primitive.word.read_word.Given as goal
 
 abbrev pub invariant-loop-text : goal.invariant-loop-text
 invariant-loop-text g l = record {
   moves : Moves l.fn.reader l.reader;
-  text : string_bytes l.text ++ word (left l.reader) ≡ string_bytes l.fn.text ++ word (left l.fn.reader);
+  text : string_bytes l.text ++ word (left l.reader) ≡ word (left l.fn.reader);
   rest : past_word (left l.reader) ≡ past_word (left l.fn.reader);
 }
 
