@@ -10,9 +10,8 @@ use Rattle.serde_json_path_functions.specs.Functions.{Signature}
 use Rattle.serde_json_path_parser.specs.Grammar.{ReadSegments, ReadsSelector}
 use Rattle.serde_json_path_parser.specs.Accepted.{IsAccepted}
 use Rattle.serde_json_path.specs.Laws.{ArePositionsWritten, selector_to, segments_to}
-use Rattle.serde_json_path_parser.proofs.Printing.Spelling.{Spelt, spell_nothing, spell_both, spell_ascii, spell_between}
-use Rattle.serde_json_path_parser.proofs.Printing.QuotedTexts.{quoted_spelt}
-use Rattle.serde_json_path_parser.proofs.Printing.Numerals.{position_spelt}
+use Rattle.serde_json_path_parser.proofs.Printing.QuotedTexts.{Spelt, spell_nothing, spell_both, spell_ascii, spell_between, quoted_spelt}
+use Rattle.serde_json_path_parser.proofs.Printing.Literals.{position_spelt}
 use Rattle.serde_json_path.proofs.NormalMeaning.{segments_typed, segments_shallow}
 
 -- a bracket with a selector alone, and more brackets

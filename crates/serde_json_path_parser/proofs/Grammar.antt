@@ -1,40 +1,20 @@
 -- The grammar, by subject: what is read is in the grammar, what is in the grammar is read, where a refusal stands.
 
--- integers
-pub mod Integers
--- number literals
+-- integers and number literals: what is read is one, each is read, and where a refusal of one stands
 pub mod Numbers
 -- string literals
 pub mod Strings
--- slices
-pub mod Slices
--- selectors, filters aside
-pub mod Selectors
--- brackets with selectors
+-- selectors and brackets with them: what is read is in the grammar, what is in the grammar is read, where a refusal stands
 pub mod Brackets
 -- segments
 pub mod Segments
--- trees each of whose filters is good, and what makes filters be read
-pub mod Filtered
--- what may follow an operand or an expression
+-- trees whose filters are good: what may follow an operand or an expression, how each begins, and filters by what holds one level deeper
 pub mod LogicalForms
--- how operands and expressions begin
-pub mod FirstCharacters
--- filters, by what holds one level deeper
-pub mod Filters
--- operands, by what holds one level deeper
-pub mod Operands
--- comparisons and tests, by what holds one level deeper
+-- operands, comparisons and tests, by what holds one level deeper
 pub mod Comparisons
 -- logical expressions, by what holds one level deeper
 pub mod LogicalExpressions
--- arguments, by what holds one level deeper
-pub mod Arguments
--- calls, by what holds one level deeper
+-- arguments and calls, by what holds one level deeper; and the laws of these pieces at every level
 pub mod Calls
--- the laws of these pieces hold at every level
-pub mod Levels
--- whole paths
+-- whole paths, and the promises of a parse
 pub mod Paths
--- the promises of a parse
-pub mod Parses

@@ -1,12 +1,8 @@
 -- Printed texts read back.
 
--- bytes and the characters that they encode
-pub mod Spelling
--- texts in quotes
+-- a text between single quotes, as it is printed, reads as a string of it
 pub mod QuotedTexts
--- integers and number literals
-pub mod Numerals
--- slices and literals
-pub mod SlicesAndLiterals
+-- numbers, slices and literals, as they are printed, read as themselves
+pub mod Literals
 -- trees, part by part
 pub mod PrintedParts

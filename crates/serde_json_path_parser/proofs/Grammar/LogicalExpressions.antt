@@ -1,30 +1,22 @@
 -- Logical expressions: what is read is a good one, or where the refusal stands; and each good one is read.
 use Rattle.std.proofs.Common.{◌≡◌, ℕ, ◌≤◌, inl, true, false, List, [], ◌∷◌, ◌++◌, length, drop, Option, Ok, refl, sym, ap, ◌∙◌, append_assoc, arith, Bool}
-use Rattle.serde_json_path_parser.proofs.Words.{◌||◌, or_right, ◌==◌, codes, and_parts, eq-eqb, root, current, LogicalOr, LogicalAnd, Basic, paren, not_paren}
-use Rattle.serde_json_path_parser.proofs.Words.{relation, exist, not_exist, test, not_test, Call, Query, query, no_or, or, no_and, and, result_kind}
-use Rattle.serde_json_path_parser.proofs.Words.{IsTypedOr, IsTypedAnd, IsTestKind, or_depth, and_depth, Signature, WrongReturnType}
+use Rattle.serde_json_path_parser.proofs.Words.{◌||◌, or_right, ◌==◌, codes, and_parts, eq-eqb, root, current, LogicalOr, LogicalAnd, Basic, paren}
+use Rattle.serde_json_path_parser.proofs.Words.{not_paren, relation, exist, not_exist, test, not_test, Call, Query, query, no_or, or, no_and, and}
+use Rattle.serde_json_path_parser.proofs.Words.{result_kind, IsTypedOr, IsTypedAnd, IsTestKind, or_depth, and_depth, Signature, WrongReturnType}
 use Rattle.serde_json_path_parser.proofs.Words.{ExpectedClosingParenthesis, ExpectedExpression, is_at, are_at, begins, begins_both, IsBlank, is_blank}
 use Rattle.serde_json_path_parser.proofs.Words.{is_small_letter, InParentheses, ReadsOr, ReadMoreOrs, ReadMoreAnds, Reads, ReadsCall, Parsed, ◌>>=◌}
 use Rattle.serde_json_path_parser.proofs.Words.{past_blanks, many, a_call, begins_call, and_list, or_list, Deeper, query_at, paren_at}
 use Rattle.serde_json_path_parser.proofs.Words.{negated_call_at, negated_at, basic_at, next_basic_at, and_from, and_at, next_and_at, or_from, or_at}
 use Rattle.serde_json_path_parser.proofs.Words.{past_word}
 use Rattle.serde_json_path_parser.specs.declared.error.Context.TheVariants as context
-use Rattle.serde_json_path_parser.proofs.Reading.Rows as r
+use Rattle.serde_json_path_parser.proofs.Reading.Outcomes as r
 use Rattle.serde_json_path_parser.proofs.Reading.Many as m
 use Rattle.serde_json_path_parser.specs.Operands.{a_query}
-use Rattle.serde_json_path_parser.proofs.Reading.Regrouped.{split_again, blanks_of, are_blank, past_all, spread}
-use Rattle.serde_json_path_parser.proofs.Grammar.LogicalForms.{IsGoodInside, IsGoodCall, DeeperLaws, Follows, ends_or, ends_and, ends_basic}
-use Rattle.serde_json_path_parser.proofs.Grammar.LogicalForms.{ends_operand, IsGoodQuery, IsOrText, IsAndText, IsBasicText}
-use Rattle.serde_json_path_parser.proofs.Grammar.Operands.{query_again, named_call_again, query_outcome, named_call_outcome, operand_outcome}
-use Rattle.serde_json_path_parser.proofs.Reading.Steps.{Read, Spaced, after_one, after_two}
-use Rattle.serde_json_path_parser.proofs.Grammar.FirstCharacters.{begins_operand, begins_expression, operand_begins, basic_begins, and_begins}
-use Rattle.serde_json_path_parser.proofs.Grammar.FirstCharacters.{or_begins, no_blank_begins, comparable_begins}
-use Rattle.serde_json_path_parser.proofs.Reading.Runs.{some_begun, begins_where, begins_differs}
-use Rattle.serde_json_path_parser.proofs.Reading.Stands.{Inner}
-use Rattle.serde_json_path_parser.proofs.Grammar.Comparisons.{exist_again, basic_ends_operand, relation_again, test_no_value, may_test, compared}
-use Rattle.serde_json_path_parser.proofs.Grammar.Comparisons.{test_again, basic_from_outcome}
-use Rattle.serde_json_path_parser.proofs.Reading.Outcomes.{guarded, onward, remade, refused, choose, past, Outcome, made, many_outcome}
-use Rattle.serde_json_path_parser.proofs.Reading.Outcomes.{after_sign, past_spaced, read_spaced, read_as}
+use Rattle.serde_json_path_parser.proofs.Reading.Runs.{split_again, blanks_of, are_blank, past_all, spread, some_begun, begins_where, begins_differs}
+use Rattle.serde_json_path_parser.proofs.Grammar.LogicalForms.{IsGoodInside, IsGoodCall, DeeperLaws, Follows, ends_or, ends_and, ends_basic, ends_operand, IsGoodQuery, IsOrText, IsAndText, IsBasicText, begins_operand, begins_expression, operand_begins, basic_begins, and_begins, or_begins, no_blank_begins, comparable_begins}
+use Rattle.serde_json_path_parser.proofs.Grammar.Comparisons.{query_again, named_call_again, query_outcome, named_call_outcome, operand_outcome, exist_again, basic_ends_operand, relation_again, test_no_value, may_test, compared, test_again, basic_from_outcome}
+use Rattle.serde_json_path_parser.proofs.Reading.Many.{Read, Spaced, after_one, after_two}
+use Rattle.serde_json_path_parser.proofs.Reading.Outcomes.{Inner, guarded, onward, remade, refused, choose, past, Outcome, made, many_outcome, after_sign, past_spaced, read_spaced, read_as}
 
 -- ---- items in a row
 

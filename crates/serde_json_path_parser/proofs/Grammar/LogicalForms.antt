@@ -1,20 +1,56 @@
--- What stands in logical expressions and after them: texts of operands, what is good of them at a level, and the
--- characters that may follow.
-use Rattle.std.proofs.Common.{ℕ, ◌≡◌, ◌+◌, ◌≤◌, Bool, true, List, [], ◌∷◌, ◌++◌, Option, Ok, refl, arith}
-use Rattle.serde_json_path_parser.proofs.Words.{◌==◌, ◌||◌, Query, query, Segments, no_segments, segment, child, descendant, Segment, dot_name}
-use Rattle.serde_json_path_parser.proofs.Words.{long_hand, Selectors, no_selectors, selector, Selector, name, index}
-use Rattle.serde_json_path_parser.proofs.Words.{filter, LogicalOr, Call, call, Arguments, IsSingularSegment, AreSingular, IsSingular, and_parts}
-use Rattle.serde_json_path_parser.proofs.Words.{IsTyped, AreTypedSegments, IsTypedSegment, AreTypedSelectors, IsTypedSelector, IsTypedOr, IsTypedCall}
-use Rattle.serde_json_path_parser.proofs.Words.{depth, segments_depth, segment_depth, selectors_depth, selector_depth, or_depth, call_depth}
-use Rattle.serde_json_path_parser.proofs.Words.{Signature, begins, IsBlank, IsFunctionName, IsLiteral, Reads, ReadsOr, ReadsCall, ReadArguments}
-use Rattle.serde_json_path_parser.proofs.Words.{past_blanks, byte_count, Operand, a_literal, a_call, is_singular_segment, are_singular, is_singular}
+-- Trees whose filters are good: what may follow an operand or an expression, how each begins, and filters by what holds one level deeper.
+use Rattle.std.proofs.Common.{◌≡◌, ℕ, true, List, ◌++◌, Option, Ok, ◌+◌, ◌≤◌, Bool, [], ◌∷◌, refl, arith, false, ap, ◌∙◌, append_assoc, drop}
+use Rattle.serde_json_path_parser.proofs.Words.{◌==◌, ◌||◌, Segments, no_segments, segment, Segment, dot_name, dot_wildcard, long_hand, Selectors}
+use Rattle.serde_json_path_parser.proofs.Words.{no_selectors, selector, Selector, filter, LogicalOr, Signature, is_at, begins, ReadsSelector, Parsed}
+use Rattle.serde_json_path_parser.proofs.Words.{past_blanks, Query, query, child, descendant, name, index, Call, call, Arguments, IsSingularSegment}
+use Rattle.serde_json_path_parser.proofs.Words.{AreSingular, IsSingular, and_parts, IsTyped, AreTypedSegments, IsTypedSegment, AreTypedSelectors}
+use Rattle.serde_json_path_parser.proofs.Words.{IsTypedSelector, IsTypedOr, IsTypedCall, depth, segments_depth, segment_depth, selectors_depth}
+use Rattle.serde_json_path_parser.proofs.Words.{selector_depth, or_depth, call_depth, IsBlank, IsFunctionName, IsLiteral, Reads, ReadsOr, ReadsCall}
+use Rattle.serde_json_path_parser.proofs.Words.{ReadArguments, byte_count, Operand, a_literal, a_call, is_singular_segment, are_singular, is_singular}
 use Rattle.serde_json_path_parser.proofs.Words.{Deeper, Comparable, IsTypedComparable, IsTypedAnd, ReadsAnd, IsTypedBasic, ReadsComparable}
-use Rattle.serde_json_path_parser.proofs.Words.{comparable_depth, basic_depth, LogicalAnd, ReadsBasic, Basic, and_depth}
+use Rattle.serde_json_path_parser.proofs.Words.{comparable_depth, basic_depth, LogicalAnd, ReadsBasic, Basic, and_depth, root, current, no_or, or}
+use Rattle.serde_json_path_parser.proofs.Words.{no_and, and, paren, not_paren, relation, exist, not_exist, test, not_test, literal, singular, called}
+use Rattle.serde_json_path_parser.proofs.Words.{Literal, text, number, truth, null, is_blank, is_digit, is_small_letter}
+use Rattle.serde_json_path_parser.proofs.Reading.Outcomes.{Inner, Outcome, Past, remade, after_sign}
+use Rattle.serde_json_path_parser.proofs.Reading.Many.{Spaced}
 use Rattle.serde_json_path_parser.specs.Operands.{a_query}
-use Rattle.serde_json_path_parser.proofs.Grammar.Filtered.{IsGoodSelector, AreGoodSelectors, IsGoodSegment, AreGoodSegments}
-use Rattle.serde_json_path_parser.proofs.Reading.Stands.{Inner}
-use Rattle.serde_json_path_parser.proofs.Reading.Steps.{Spaced}
-use Rattle.serde_json_path_parser.proofs.Reading.Outcomes.{Past, Outcome}
+use Rattle.serde_json_path_parser.proofs.Grammar.Numbers.{number_first}
+use Rattle.serde_json_path_parser.proofs.Reading.Runs.{some_begun, begins_front, begins_where, no_blank, past_all, blanks_of, are_blank}
+use Rattle.serde_json_path_parser.proofs.Grammar.Strings.{string_again, of_quote}
+use Rattle.serde_json_path_parser.specs.Filters.{filter_at}
+
+-- ---- trees each of whose filters is good, in one sense or another; and what makes filters be read
+
+-- after the blanks stands `,` or `]`
+abbrev pub Closes : List ℕ → Type 0
+Closes rest = begins (λ c. c == 44 || c == 93) (past_blanks rest) ≡ true
+
+module _ (Good : LogicalOr → Type 0) where
+  abbrev pub IsGoodSelector : Selector → Type 0
+  IsGoodSelector (filter e) = Good e
+  IsGoodSelector _ = Unit {0}
+
+  abbrev pub AreGoodSelectors : Selectors → Type 0
+  AreGoodSelectors no_selectors = Unit {0}
+  AreGoodSelectors (selector sel more) = IsGoodSelector sel × AreGoodSelectors more
+
+  abbrev pub IsGoodSegment : Segment → Type 0
+  IsGoodSegment (dot_name bytes) = Unit {0}
+  IsGoodSegment dot_wildcard = Unit {0}
+  IsGoodSegment (long_hand sels) = AreGoodSelectors sels
+
+  abbrev pub AreGoodSegments : Segments → Type 0
+  AreGoodSegments no_segments = Unit {0}
+  AreGoodSegments (segment kind seg more) = IsGoodSegment seg × AreGoodSegments more
+
+  -- the text of a good selector
+  abbrev pub IsGoodText : List ℕ → Selector → Type 0
+  IsGoodText t sel = IsGoodSelector sel × ReadsSelector sel t
+
+-- Filters that are read are good, each refusal of one stands in its text, and each good one is read.
+pub record FilterLaws (signature : List ℕ → Option Signature) (Good : LogicalOr → Type 0) (filter_at : List ℕ → Parsed Selector) : Type 0 where
+  pub outcome : (cs : List ℕ) → is_at "?" cs ≡ true → Outcome (Spaced (IsGoodText Good)) (Inner signature) cs (filter_at cs)
+  pub again : (t : List ℕ) (e : LogicalOr) (rest : List ℕ) → IsGoodText Good t (filter e) → Closes rest → filter_at (t ++ rest) ≡ Ok (filter e, past_blanks rest)
 
 -- ---- what may follow, after blanks
 
@@ -161,3 +197,99 @@ singular_query (query kind segs) e = singular_segments segs e
 
 pub query_singular : (q : Query) → IsSingular q → is_singular q ≡ true
 query_singular (query kind segs) h = segments_singular segs h
+
+-- ---- how operands and logical expressions begin
+
+-- a quote, `@`, `$`, a small letter, a digit or `-`
+abbrev pub begins_operand : ℕ → Bool
+begins_operand c = c == 39 || c == 34 || c == 64 || c == 36 || is_small_letter c || c == 45 || is_digit c
+
+-- `(` and `!` too
+abbrev pub begins_expression : ℕ → Bool
+begins_expression c = c == 40 || c == 33 || begins_operand c
+
+literal_begins : (l : Literal) (t rest : List ℕ) → IsLiteral l t → begins begins_operand (t ++ rest) ≡ true
+literal_begins (text bytes) t rest h =
+    let s = string_again t bytes rest h in
+    ap (λ (x : List ℕ). begins begins_operand (x ++ rest)) s.3 ∙ of_quote (λ quote. begins_operand quote ≡ true) refl refl s.0 s.2
+literal_begins (number amount) t rest h = number_first begins_operand true t amount rest begun h
+  where
+    begun : (c : ℕ) → (c == 45 || is_digit c) ≡ true → begins_operand c ≡ true
+    begun c e = grind (arith, e)
+literal_begins (truth true) t rest h = ap (λ (x : List ℕ). begins begins_operand (x ++ rest)) h
+literal_begins (truth false) t rest h = ap (λ (x : List ℕ). begins begins_operand (x ++ rest)) h
+literal_begins null t rest h = ap (λ (x : List ℕ). begins begins_operand (x ++ rest)) h
+
+query_begins : (q : Query) (t rest : List ℕ) → Reads q t → begins begins_operand (t ++ rest) ≡ true
+query_begins (query root segs) t rest h = ap (λ (x : List ℕ). begins begins_operand (x ++ rest)) h.2
+query_begins (query current segs) t rest h = ap (λ (x : List ℕ). begins begins_operand (x ++ rest)) h.2
+
+letter_begins : (c : ℕ) → is_small_letter c ≡ true → begins_operand c ≡ true
+letter_begins c e = grind (arith, e)
+
+call_begins : (c : Call) (t rest : List ℕ) → ReadsCall c t → begins begins_operand (t ++ rest) ≡ true
+call_begins (call f args) t rest (n, j, a, k, is_name, before, is, after, e) =
+    begins_where is_small_letter begins_operand true (t ++ rest) letter_begins
+    (ap (λ (x : List ℕ). begins is_small_letter (x ++ rest)) e ∙ ap (begins is_small_letter) (append_assoc n _ rest) ∙ begins_front is_small_letter true n _ (some_begun is_small_letter n is_name.first) is_name.first)
+
+pub operand_begins : (o : Operand) (t rest : List ℕ) → ReadsOperand o t → begins begins_operand (t ++ rest) ≡ true
+operand_begins (a_literal l) t rest h = literal_begins l t rest h
+operand_begins (a_query q) t rest h = query_begins q t rest h
+operand_begins (a_call c) t rest h = call_begins c t rest h
+
+pub comparable_begins : (a : Comparable) (t rest : List ℕ) → ReadsComparable a t → begins begins_operand (t ++ rest) ≡ true
+comparable_begins (literal l) t rest h = literal_begins l t rest h
+comparable_begins (singular q) t rest h = query_begins q t rest h.1
+comparable_begins (called c) t rest h = call_begins c t rest h
+
+so : (c : ℕ) → begins_operand c ≡ true → begins_expression c ≡ true
+so c e = grind (arith, e)
+
+pub as_expression : (cs : List ℕ) → begins begins_operand cs ≡ true → begins begins_expression cs ≡ true
+as_expression cs e = begins_where begins_operand begins_expression true cs so e
+
+pub basic_begins : (b : Basic) (t rest : List ℕ) → ReadsBasic b t → begins begins_expression (t ++ rest) ≡ true
+basic_begins (paren e) t rest h = ap (λ (x : List ℕ). begins begins_expression (x ++ rest)) h.6
+basic_begins (not_paren e) t rest h = ap (λ (x : List ℕ). begins begins_expression (x ++ rest)) h.4
+basic_begins (relation left op right) t rest h =
+    ap (λ (x : List ℕ). begins begins_expression (x ++ rest)) h.6 ∙ ap (begins begins_expression) (append_assoc h.0 _ rest) ∙ as_expression (h.0 ++ ((h.1 ++ h.2) ++ rest)) (comparable_begins left h.0 ((h.1 ++ h.2) ++ rest) h.3)
+basic_begins (exist q) t rest h = as_expression (t ++ rest) (query_begins q t rest h)
+basic_begins (not_exist q) t rest h = ap (λ (x : List ℕ). begins begins_expression (x ++ rest)) h.4
+basic_begins (test c) t rest h = as_expression (t ++ rest) (call_begins c t rest h)
+basic_begins (not_test c) t rest h = ap (λ (x : List ℕ). begins begins_expression (x ++ rest)) h.4
+
+pub and_begins : (e : LogicalAnd) (t rest : List ℕ) → ReadsAnd e t → begins begins_expression (t ++ rest) ≡ true
+and_begins no_and t rest h = absurd h
+and_begins (and b more) t rest h =
+    ap (λ (x : List ℕ). begins begins_expression (x ++ rest)) h.4 ∙ ap (begins begins_expression) (append_assoc h.0 h.1 rest) ∙ basic_begins b h.0 (h.1 ++ rest) h.2
+
+pub or_begins : (e : LogicalOr) (t rest : List ℕ) → ReadsOr e t → begins begins_expression (t ++ rest) ≡ true
+or_begins no_or t rest h = absurd h
+or_begins (or a more) t rest h =
+    ap (λ (x : List ℕ). begins begins_expression (x ++ rest)) h.4 ∙ ap (begins begins_expression) (append_assoc h.0 h.1 rest) ∙ and_begins a h.0 (h.1 ++ rest) h.2
+
+-- none begins with a blank
+expression_no_blank : (c : ℕ) → begins_expression c ≡ true → is_blank c ≡ false
+expression_no_blank c e = no_blank begins_expression c refl refl refl refl e
+
+pub no_blank_begins : (cs : List ℕ) → begins begins_expression cs ≡ true → begins is_blank cs ≡ false
+no_blank_begins cs e = begins_where begins_expression is_blank false cs expression_no_blank e
+
+-- ---- what is read as a filter is a good one, each is read, and a refusal stands in its text, by what holds one level deeper
+
+module _ (signature : List ℕ → Option Signature) (n : ℕ) (deeper : Deeper) (laws : DeeperLaws signature n deeper) where
+  filter_outcome : (cs : List ℕ) → is_at "?" cs ≡ true → Outcome (Spaced (IsGoodText (IsGoodInside signature n))) (Inner signature) cs (filter_at signature deeper cs)
+  unfolding filter_at
+  filter_outcome cs mark =
+      let j = blanks_of (drop 1 cs) in
+      remade (λ e. filter e) (λ t e h. (h.1.0, (j, h.0, are_blank (drop 1 cs), h.1.1, h.2))) (laws.inside_outcome (63 ∷ j) cs (past_blanks (drop 1 cs)) (after_sign 63 cs mark))
+
+  again : (t : List ℕ) (e : LogicalOr) (rest : List ℕ) → IsGoodText (IsGoodInside signature n) t (filter e) → Closes rest → filter_at signature deeper (t ++ rest) ≡ Ok (filter e, past_blanks rest)
+  unfolding filter_at
+  again t e rest (good, (k, a, blank, is, same)) closes =
+      let inside : past_blanks (drop 1 (t ++ rest)) ≡ a ++ rest =
+      ap (λ (l : List ℕ). past_blanks (drop 1 (l ++ rest))) same ∙ ap past_blanks (append_assoc k a rest) ∙ past_all k (a ++ rest) blank (no_blank_begins (a ++ rest) (or_begins e a rest is)) in
+      rw (inside, laws.inside_again (t ++ rest) a e rest good is (begins_where (λ c. c == 44 || c == 93) ends_or true (past_blanks rest) (λ c e. grind (arith, e)) closes)) refl
+
+  pub filter_laws : FilterLaws signature (IsGoodInside signature n) (filter_at signature deeper)
+  filter_laws = record { outcome = filter_outcome; again = again }

@@ -1,22 +1,30 @@
--- Whole paths: what is read is well-typed and at most 128 deep, each of those is read, and where a refusal stands.
-use Rattle.std.proofs.Common.{◌≡◌, ◌≢◌, ℕ, ◌≤◌, ◌↔◌, true, false, true≢false, List, [], ◌∷◌, ◌++◌, length, drop, Option, Ok, refl, sym, ap, subst, ◌∙◌, arith, ◌+◌, ◌-◌, inl, inr}
-use Rattle.serde_json_path_parser.proofs.Words.{◌==◌, encode_utf8, encode_utf8_all, all_scalars, chars, IsUtf8, IsCharBoundary, append-nil, length-append}
-use Rattle.serde_json_path_parser.proofs.Words.{nil_from_length, eqb-true, SegmentKind, Segments, Segment, AreTypedSegments, segments_depth, deepest, Signature}
-use Rattle.serde_json_path_parser.proofs.Words.{ParseErrorKind, ExpectedRoot, UndefinedFunction, TextAfterPath, NoMemory, IsUndeclared, is_at, begins}
-use Rattle.serde_json_path_parser.proofs.Words.{ReadSegments, Parsed, refusal, opens_next, segments_at, segment_list, opens_after_root, level, path_at}
-use Rattle.serde_json_path_parser.proofs.Words.{encodes-chars, encodes-append, scalars-chars, IsCharBoundary-at_seam}
+-- Whole paths, and the promises of a parse.
+use Rattle.std.proofs.Common.{◌≡◌, ◌≢◌, ℕ, ◌≤◌, ◌↔◌, true, false, true≢false, List, [], ◌∷◌, ◌++◌, length, drop, Option, Ok, refl, sym, ap, subst, ◌∙◌, arith, ◌+◌, ◌-◌, inl, inr, ◌<◌, take, Some, Err}
+use Rattle.serde_json_path_parser.proofs.Words.{◌==◌, encode_utf8, encode_utf8_all, all_scalars, chars, IsUtf8, IsCharBoundary, append-nil}
+use Rattle.serde_json_path_parser.proofs.Words.{length-append, nil_from_length, eqb-true, SegmentKind, Segments, Segment, AreTypedSegments}
+use Rattle.serde_json_path_parser.proofs.Words.{segments_depth, deepest, Signature, ParseErrorKind, ExpectedRoot, UndefinedFunction, TextAfterPath}
+use Rattle.serde_json_path_parser.proofs.Words.{NoMemory, IsUndeclared, is_at, begins, ReadSegments, Parsed, refusal, opens_next, segments_at}
+use Rattle.serde_json_path_parser.proofs.Words.{segment_list, opens_after_root, level, path_at, encodes-chars, encodes-append, scalars-chars}
+use Rattle.serde_json_path_parser.proofs.Words.{IsCharBoundary-at_seam, ◌&&◌, take-append_seam, drop-append_seam, IsCharBoundary-start, chars-encodes}
+use Rattle.serde_json_path_parser.proofs.Words.{Query, query, root, current, greatest_usize, Refusal, Failure, tree_of, signatures_of, opens}
+use Rattle.serde_json_path_parser.proofs.Words.{AreCalled, Reports, reported, Fails, IsRefused, IsWithin, error_of, is_dollar, NeedsNoMemory}
+use Rattle.serde_json_path_parser.proofs.Words.{ParsedQuery, Answers, checked_view}
 use Rattle.serde_json_path_parser.specs.declared.error.Context.TheVariants as context
 use Rattle.serde_json_path_parser.specs.Filters.{filter_at}
 use Rattle.serde_json_path_parser.proofs.Texts.Decoding.{some_bytes}
-use Rattle.serde_json_path_parser.proofs.Grammar.Filtered.{FilterLaws}
-use Rattle.serde_json_path_parser.proofs.Grammar.Filters.{filter_laws}
-use Rattle.serde_json_path_parser.proofs.Grammar.Levels.{level_laws}
-use Rattle.serde_json_path_parser.proofs.Grammar.LogicalForms.{IsGoodInside, good_segments, segments_good}
+use Rattle.serde_json_path_parser.proofs.Grammar.LogicalForms.{FilterLaws, filter_laws, IsGoodInside, good_segments, segments_good}
+use Rattle.serde_json_path_parser.proofs.Grammar.Calls.{level_laws}
 use Rattle.serde_json_path_parser.proofs.Grammar.Segments.{segments_outcome, segments_again, same_segments, no_segments_read}
-use Rattle.serde_json_path_parser.proofs.Printing.Spelling.{scalars_of}
-use Rattle.serde_json_path_parser.proofs.Reading.Steps.{ok_is, after_one}
-use Rattle.serde_json_path_parser.proofs.Reading.Stands.{is_plain, Inner, Stands}
-use Rattle.serde_json_path_parser.proofs.Reading.Outcomes.{Gives, gives, refuses, choose, onward}
+use Rattle.serde_json_path_parser.proofs.Printing.QuotedTexts.{scalars_of}
+use Rattle.serde_json_path_parser.proofs.Reading.Many.{ok_is, after_one}
+use Rattle.serde_json_path_parser.proofs.Reading.Outcomes.{is_plain, Inner, Stands, Gives, gives, refuses, choose, onward}
+use Rattle.serde_json_path_parser.specs.declared.error.Failure.TheVariants as failures
+use Rattle.serde_json_path_syntax.specs.declared.checked.Checked.{Checked}
+use Rattle.serde_json_path_parser.specs.Accepted.{IsAccepted}
+use Rattle.serde_json_path_parser.specs.Laws.{OneTreeAtMost}
+use Rattle.serde_json_path_parser.proofs.Reading.Runs.{past_all}
+
+-- ---- whole paths: what is read is well-typed and at most 128 deep, each of those is read, and where a refusal stands
 
 nothing : (cs : List ℕ) → (length cs == 0) ≡ true → cs ≡ []
 nothing cs e = nil_from_length cs (eqb-true (length cs) 0 e)
@@ -41,8 +49,8 @@ module _ (signature : List ℕ → Option Signature) where
 
   -- where no segment begins after `$`, none is read
   pub none_read : (cs ds rest : List ℕ) (c : ℕ) (ss : List (SegmentKind × Segment)) → begins (λ d. d == 36) cs ≡ true → cs ≡ c ∷ ds → path_segments_at ds ≡ Ok (ss, rest) → opens_after_root cs ≡ false → ss ≡ []
-  none_read cs ds rest c ss root split read none =
-      let closed : opens_next ds ≡ false = sym (rw (root, split) refl) ∙ none in
+  none_read cs ds rest c ss sign split read none =
+      let closed : opens_next ds ≡ false = sym (rw (sign, split) refl) ∙ none in
       let empty = no_segments_read (filter_at signature (level signature deepest)) context.Path ds closed in
       ap (λ (x : List (SegmentKind × Segment) × List ℕ). x.0) (ok_is (ss, rest) ([], ds) (sym read ∙ empty))
 
@@ -58,7 +66,7 @@ module _ (signature : List ℕ → Option Signature) where
 
 -- ---- what a reading gives
 
--- what is reported of a segment is neither that the root is missing, nor text after the path, nor want of memory
+-- what is reported of a segment is neither that the sign is missing, nor text after the path, nor want of memory
 inner_differs : (signature : List ℕ → Option Signature) (kind other : ParseErrorKind) (rest : List ℕ) → is_plain other ≡ false → UndefinedFunction ≢ other → Inner signature kind rest → kind ≡ other → ⊥
 inner_differs signature kind other rest outer differs (inl plain) e = true≢false (sym plain ∙ ap is_plain e ∙ outer)
 inner_differs signature kind other rest outer differs (inr undefined) e = differs (sym undefined.0 ∙ e)
@@ -85,14 +93,14 @@ module _ (signature : List ℕ → Option Signature) where
 
   pub path_outcome : (cs : List ℕ) → Gives (λ segs. (a : List ℕ) × ArePathSegments signature a segs × (cs ≡ 36 ∷ a)) (Stands (PathTells cs) cs) (path_at signature cs)
   unfolding path_at
-  path_outcome cs = choose (λ root.
-      let begun = after_one 36 cs root in
+  path_outcome cs = choose (λ sign.
+      let begun = after_one 36 cs sign in
       let segments = segments_outcome (filter_at signature (level signature deepest)) (IsGoodInside signature deepest) (path_filters signature) context.Path (drop 1 cs) in
       onward (record {
         reads = segments.reads;
         stands = λ r e.
             let s = segments.stands r e in
-            record { before = 36 ∷ s.before; rest = s.rest; split = begun ∙ ap (λ (l : List ℕ). 36 ∷ l) s.split; left = s.left; tells = in_segment cs r.kind s.rest root s.tells };
+            record { before = 36 ∷ s.before; rest = s.rest; split = begun ∙ ap (λ (l : List ℕ). 36 ∷ l) s.split; left = s.left; tells = in_segment cs r.kind s.rest sign s.tells };
       }) (λ ss _ r.
       let split : cs ≡ 36 ∷ (r.text ++ ss.1) = begun ∙ ap (λ (l : List ℕ). 36 ∷ l) r.split in
       let are : ArePathSegments signature r.text (segment_list ss.0) = (good_segments signature deepest (segment_list ss.0) r.is_so.0, r.is_so.1) in
@@ -104,7 +112,7 @@ module _ (signature : List ℕ → Option Signature) where
         left = refl;
         tells = record {
           no_memory = λ e. cc;
-          root_missing = ((λ e. absurd cc), (λ e. absurd (true≢false (sym root ∙ e))));
+          root_missing = ((λ e. absurd cc), (λ e. absurd (true≢false (sym sign ∙ e))));
           after = λ e. (r.text, segment_list ss.0, are, split);
           undefined = λ e. absurd cc;
         };
@@ -128,3 +136,174 @@ boundary text before rest left u split is =
     let seam : IsCharBoundary text (length (encode_utf8_all before)) = IsCharBoundary-at_seam text (encode_utf8_all before) (encode_utf8_all rest) whole (rest, (scalars, refl)) in
     let sum : length text ≡ length (encode_utf8_all before) + left = ap length whole ∙ length-append (encode_utf8_all before) (encode_utf8_all rest) ∙ ap (λ (n : ℕ). length (encode_utf8_all before) + n) (sym is) in
     (omega (arith, sum), subst (IsCharBoundary text) (omega (arith, sum)) seam, whole)
+
+-- ---- what the whole reading says of a text: the promises of a parse
+
+-- what is read is accepted
+accepted : (signature : List ℕ → Option Signature) (cs a : List ℕ) (segs : Segments) → cs ≡ 36 ∷ a → ArePathSegments signature a segs → IsAccepted signature cs (query root segs)
+accepted signature cs a segs e h = record { reads = (a, h.1, e); from_root = refl; typed = h.0.0; shallow = h.0.1 }
+
+-- an accepted tree is what is read
+accepted_read : (signature : List ℕ → Option Signature) (cs : List ℕ) (q : Query) → IsAccepted signature cs q
+    → (segs : Segments) × (q ≡ query root segs) × (path_at signature cs ≡ Ok segs)
+accepted_read signature cs (query current segs) h = let e : current ≡ root = h.from_root in absurd cc
+accepted_read signature cs (query root segs) h = let r = h.reads in (segs, refl, path_again signature cs r.0 segs ((h.typed, h.shallow), r.1) r.2)
+
+-- a text is accepted with one tree at most
+pub one_tree_at_most : OneTreeAtMost
+one_tree_at_most signature text p q h g =
+    let r = accepted_read signature text p h in
+    let s = accepted_read signature text q g in
+    r.1 ∙ ap (query root) (ok_is r.0 s.0 (sym r.2 ∙ s.2)) ∙ sym s.1
+
+-- ---- what needs no memory
+
+-- where nothing is to be kept no segment begins after `$`
+needs_none : (cs : List ℕ) → NeedsNoMemory cs → opens_after_root cs ≡ false
+needs_none cs (inl h) = ap (λ b. b && opens_next (drop 1 cs)) h
+needs_none cs (inr h) = ap opens_after_root h.2 ∙ ap (begins opens) (past_all h.0 h.1 h.3 h.4) ∙ h.5
+
+-- ---- the text before text that stands after a path
+
+path_before : (text path rest : List ℕ) (left : ℕ) → IsUtf8 text → chars text ≡ 36 ∷ (path ++ rest) → left ≡ length (encode_utf8_all rest)
+    → chars (take (length text - left) text) ≡ 36 ∷ path
+path_before text path rest left u split is =
+    let b = boundary text (36 ∷ path) rest left u split is in
+    let long : length text ≡ length (encode_utf8_all (36 ∷ path)) + left =
+    ap length b.2 ∙ length-append (encode_utf8_all (36 ∷ path)) (encode_utf8_all rest) ∙ ap (λ (n : ℕ). length (encode_utf8_all (36 ∷ path)) + n) (sym is) in
+    let cut : length text - left ≡ length (encode_utf8_all (36 ∷ path)) = omega (arith, long) in
+    let front : take (length text - left) text ≡ encode_utf8_all (36 ∷ path) =
+    ap (λ (n : ℕ). take n text) cut ∙ ap (take (length (encode_utf8_all (36 ∷ path)))) b.2 ∙ take-append_seam (encode_utf8_all (36 ∷ path)) (encode_utf8_all rest) in
+    ap chars front ∙ chars-encodes (36 ∷ path) (scalars_of (chars text) (36 ∷ path) rest (scalars-chars text u) split).0
+
+-- ---- the text from a refusal on
+
+text_from : (text before rest : List ℕ) (left : ℕ) → IsUtf8 text → chars text ≡ before ++ rest → left ≡ length (encode_utf8_all rest) → chars (drop (length text - left) text) ≡ rest
+text_from text before rest left u split is =
+    let b = boundary text before rest left u split is in
+    let long : length text ≡ length (encode_utf8_all before) + left =
+    ap length b.2 ∙ length-append (encode_utf8_all before) (encode_utf8_all rest) ∙ ap (λ (n : ℕ). length (encode_utf8_all before) + n) (sym is) in
+    let cut : length text - left ≡ length (encode_utf8_all before) = omega (arith, long) in
+    let after : drop (length text - left) text ≡ encode_utf8_all rest =
+    ap (λ (n : ℕ). drop n text) cut ∙ ap (drop (length (encode_utf8_all before))) b.2 ∙ drop-append_seam (encode_utf8_all before) (encode_utf8_all rest) in
+    ap chars after ∙ chars-encodes rest (scalars_of (chars text) before rest (scalars-chars text u) split).1
+
+-- ---- what a refusal tells
+
+record Told (signature : List ℕ → Option Signature) (text : List ℕ) (r : Refusal) : Type 0 where
+  no_memory : r.kind ≢ NoMemory
+  root_missing : (r.kind ≡ ExpectedRoot) ↔ (begins is_dollar (chars text) ≡ false)
+  after : r.kind ≡ TextAfterPath → (q : Query) × IsAccepted signature (chars (take (length text - r.left) text)) q
+  undefined : r.kind ≡ UndefinedFunction → IsUndeclared signature (chars (drop (length text - r.left) text))
+  placed : (r.left ≤ length text) × IsCharBoundary text (length text - r.left)
+
+module _ (signature : List ℕ → Option Signature) (text : List ℕ) (u : IsUtf8 text) where
+  told : (r : Refusal) → path_at signature (chars text) ≡ Err r → Told signature text r
+  told r e =
+      let s = (path_outcome signature (chars text)).stands r e in
+      let b = boundary text s.before s.rest r.left u s.split s.left in
+      record {
+        no_memory = s.tells.no_memory;
+        root_missing = s.tells.root_missing;
+        after = λ e.
+            let h = s.tells.after e in (
+              query root h.1,
+              subst (λ (cs : List ℕ). IsAccepted signature cs (query root h.1)) (sym (path_before text h.0 s.rest r.left u h.3 s.left)) (accepted signature (36 ∷ h.0) h.0 h.1 refl h.2),
+            );
+        undefined = λ e. subst (IsUndeclared signature) (sym (text_from text s.before s.rest r.left u s.split s.left)) (s.tells.undefined e);
+        placed = (b.0, b.1);
+      }
+
+  -- where the refusal stands
+  pub within : (s : Failure) (total : ℕ) → total ≡ length text → Fails s (path_at signature (chars text)) → IsWithin s total
+  within failures.Memory total t h = tt
+  within (failures.Refused r) total t h = let k = (told r h).placed.0 in omega (arith, t, k)
+
+  -- ---- the three ends of a parse
+
+  pub too_long : length text ≡ greatest_usize → Answers signature text (Err (error_of failures.Memory 0))
+  too_long long = record {
+    accepted = tt;
+    kept = tt;
+    only = tt;
+    refused = λ other. absurd (other refl);
+    memory = λ e. refl;
+    spares_memory = λ less none. absurd (omega (arith, long));
+    too_long = λ e. refl;
+  }
+
+  pub parsed : (short : length text < greatest_usize) (segs : Segments) (checked : Checked) → tree_of checked ≡ query root segs → AreCalled (signatures_of checked) (query root segs) → path_at signature (chars text) ≡ Ok segs → Answers signature text (Ok (checked_view checked))
+  parsed short segs checked tree kept e =
+      let s = (path_outcome signature (chars text)).reads segs e in
+      record {
+        accepted = subst (IsAccepted signature (chars text)) (sym tree) (accepted signature (chars text) s.0 segs s.2 s.1);
+        kept = subst (AreCalled (signatures_of checked)) (sym tree) kept;
+        only = λ q a. one_tree_at_most signature (chars text) q (tree_of checked) a (subst (IsAccepted signature (chars text)) (sym tree) (accepted signature (chars text) s.0 segs s.2 s.1));
+        refused = tt;
+        memory = tt;
+        spares_memory = λ less none. tt;
+        too_long = λ long. absurd (omega (arith, long));
+      }
+
+  pub refused : (short : length text < greatest_usize) (s : Failure) (total : ℕ) → Fails s (path_at signature (chars text)) → (opens_after_root (chars text) ≡ false → IsRefused s)
+      → Answers signature text (Err (error_of s total))
+  refused short failures.Memory total h spares = record {
+    accepted = tt;
+    kept = tt;
+    only = tt;
+    refused = λ other. absurd (other refl);
+    memory = λ e. refl;
+    spares_memory = λ less none. absurd (spares (needs_none (chars text) none));
+    too_long = λ e. refl;
+  }
+  refused short (failures.Refused r) total h spares = record {
+    accepted = tt;
+    kept = tt;
+    only = tt;
+    refused = λ other q a. let f = accepted_read signature (chars text) q a in let e : Ok f.0 ≡ Err r = sym f.2 ∙ h in cc;
+    memory = λ e. absurd ((told r h).no_memory e);
+    spares_memory = λ less none. (told r h).no_memory;
+    too_long = λ long. absurd (omega (arith, long));
+  }
+
+  -- ---- what is reported at each
+
+  pub too_long_reported : length text ≡ greatest_usize → Reports signature text (Err (error_of failures.Memory 0))
+  too_long_reported long = record {
+    told = λ other. absurd (other refl);
+    missing_root = ((λ e. absurd cc), (λ h. let less = h.0 in absurd (omega (arith, long))));
+    text_after = λ e. absurd cc;
+    undefined = λ e. absurd cc;
+    position = (omega arith, IsCharBoundary-start text u);
+  }
+
+  pub parsed_reported : (read : ParsedQuery) (segs : Segments) → path_at signature (chars text) ≡ Ok segs → Reports signature text (Ok read)
+  parsed_reported read segs e =
+      let s = (path_outcome signature (chars text)).reads segs e in
+      record {
+        told = tt;
+        missing_root = ((λ h. absurd h), (λ h. true≢false (sym (ap (begins is_dollar) s.2) ∙ h.1)));
+        text_after = tt;
+        undefined = tt;
+        position = tt;
+      }
+
+  pub refused_reported : (short : length text < greatest_usize) (s : Failure) (total : ℕ) → total ≡ length text → Fails s (path_at signature (chars text)) → (opens_after_root (chars text) ≡ false → IsRefused s)
+      → Reports signature text (Err (error_of s total))
+  refused_reported short failures.Memory total t h spares = record {
+    told = λ other. absurd (other refl);
+    missing_root = ((λ e. absurd cc), (λ g. absurd (spares (needs_none (chars text) (inl g.1)))));
+    text_after = λ e. absurd cc;
+    undefined = λ e. absurd cc;
+    position = (omega arith, IsCharBoundary-start text u);
+  }
+  refused_reported short (failures.Refused r) total t h spares =
+      let k = told r h in
+      let cut : (total - r.left + 1) - 1 ≡ length text - r.left = omega (arith, t) in
+      record {
+        told = λ other. ap (reported (length text)) h ∙ ap (λ (n : ℕ). Some (record { kind = r.kind; context = r.context; position = n - r.left + 1 })) (sym t);
+        missing_root = ((λ e. (short, k.root_missing.0 e)), (λ g. k.root_missing.1 g.1));
+        text_after = λ e. subst (λ (n : ℕ). (q : Query) × IsAccepted signature (chars (take n text)) q) (sym cut) (k.after e);
+        undefined = λ e. subst (λ (n : ℕ). IsUndeclared signature (chars (drop n text))) (sym cut) (k.undefined e);
+        position = (omega arith, subst (IsCharBoundary text) (sym cut) k.placed.1);
+      }

@@ -1,20 +1,17 @@
 -- Segments: what is read is a good one, each of those is read, and where a refusal stands.
 use Rattle.std.proofs.Common.{◌≡◌, ℕ, ◌<◌, true, false, List, [], ◌∷◌, ◌++◌, length, drop, Ok, refl, sym, ap, ◌∙◌, append_assoc, arith, Option}
-use Rattle.serde_json_path_parser.proofs.Words.{◌==◌, length-append, SegmentKind, child, descendant, Segments, no_segments, segment}
-use Rattle.serde_json_path_parser.proofs.Words.{Segment, dot_name, dot_wildcard, long_hand, Selector, LogicalOr, BadMemberName, is_at}
-use Rattle.serde_json_path_parser.proofs.Words.{begins, is_blank, IsBlank, is_name_first, is_name_char, IsName, Joined, opens, ReadSegments, dots_before_name}
-use Rattle.serde_json_path_parser.proofs.Words.{Parsed, front, past_blanks, many, after_dot, name_at, dotted_at}
-use Rattle.serde_json_path_parser.proofs.Words.{descendant_at, dot_at, segment_at, opens_next, next_segment_at, segments_at, segment_list}
-use Rattle.serde_json_path_parser.proofs.Words.{Signature}
+use Rattle.serde_json_path_parser.proofs.Words.{◌==◌, length-append, SegmentKind, child, descendant, Segments, no_segments, segment, Segment}
+use Rattle.serde_json_path_parser.proofs.Words.{dot_name, dot_wildcard, long_hand, Selector, LogicalOr, BadMemberName, is_at, begins, is_blank}
+use Rattle.serde_json_path_parser.proofs.Words.{IsBlank, is_name_first, is_name_char, IsName, Joined, opens, ReadSegments, dots_before_name, Parsed}
+use Rattle.serde_json_path_parser.proofs.Words.{front, past_blanks, many, after_dot, name_at, dotted_at, descendant_at, dot_at, segment_at}
+use Rattle.serde_json_path_parser.proofs.Words.{opens_next, next_segment_at, segments_at, segment_list, Signature}
 use Rattle.serde_json_path_parser.specs.declared.error.Context as declared
-use Rattle.serde_json_path_parser.proofs.Reading.Regrouped.{past_all, blanks_of, are_blank, split_blanks, no_longer, begins_not}
+use Rattle.serde_json_path_parser.proofs.Reading.Runs.{past_all, blanks_of, are_blank, split_blanks, no_longer, begins_not, some_begun, begins_front, begins_where, begins_differs, no_blank, whole, front_each, front_begins, front_all, past_run}
 use Rattle.serde_json_path_parser.proofs.Grammar.Brackets.{IsSegmentText, bracket_outcome, bracket_again}
-use Rattle.serde_json_path_parser.proofs.Grammar.Filtered.{AreGoodSegments, FilterLaws}
+use Rattle.serde_json_path_parser.proofs.Grammar.LogicalForms.{AreGoodSegments, FilterLaws}
 use Rattle.serde_json_path_parser.proofs.Reading.Many as m
-use Rattle.serde_json_path_parser.proofs.Reading.Runs.{some_begun, begins_front, begins_where, begins_differs, no_blank, whole, front_each, front_begins, front_all, past_run}
-use Rattle.serde_json_path_parser.proofs.Reading.Steps.{after_one, Again, many_again}
-use Rattle.serde_json_path_parser.proofs.Reading.Stands.{Plain, Inner}
-use Rattle.serde_json_path_parser.proofs.Reading.Outcomes.{Outcome, read_so, choose, guarded, weaker, past, along, made, inner, many_outcome}
+use Rattle.serde_json_path_parser.proofs.Reading.Many.{after_one, Again, many_again}
+use Rattle.serde_json_path_parser.proofs.Reading.Outcomes.{Plain, Inner, Outcome, read_so, choose, guarded, weaker, past, along, made, inner, many_outcome}
 
 -- ---- member names
 

@@ -1,20 +1,20 @@
 -- String literals: what is read is one, each is read, and where a refusal of one stands.
 use Rattle.std.proofs.Common.{◌≡◌, ℕ, ◌+◌, ◌*◌, ◌<◌, ◌⊎◌, inl, inr, Bool, true, false, cond, ◌&&◌, true≢false, List, [], ◌∷◌, ◌++◌, length, drop, Some, None, Ok, Err, refl, sym, ap, subst, ◌∙◌, append_assoc, arith}
-use Rattle.serde_json_path_parser.proofs.Words.{cases_lt, nat_le, ◌==◌, not, encode_utf8, encode_utf8_all, AllByRecursion, eqb-true, eq-eqb, and_parts, eqb_tells}
-use Rattle.serde_json_path_parser.proofs.Words.{length-append, append-nil, same_Some, none-some, ExpectedEndingQuote, BadEscape, ControlCharacter, ◌∈◌, AllPass}
-use Rattle.serde_json_path_parser.proofs.Words.{is_at, begins, is_digit, hexadecimal_of, IsHex4, IsHighSurrogate, IsLowSurrogate, pair_of, escaped_by, is_plain}
-use Rattle.serde_json_path_parser.proofs.Words.{IsPiece, plain, quote_escape, letter_escape, hex_escape, pair_escape, IsQuote, IsString, Parsed, ◌>>=◌, refusal}
-use Rattle.serde_json_path_parser.proofs.Words.{many, byte_count, is_hexadecimal, hexadecimal_value, head, hexadecimal_at, hex4_at, is_high, is_low, low_at}
-use Rattle.serde_json_path_parser.proofs.Words.{unicode_at, is_letter_escape, letter_value, escape_at, is_control, piece_at, is_inside, string_at}
-use Rattle.serde_json_path_parser.proofs.Words.{is_ascii_plain, Stretched, encode_ascii, Failure, Fails}
+use Rattle.serde_json_path_parser.proofs.Words.{cases_lt, nat_le, ◌==◌, not, encode_utf8, encode_utf8_all, AllByRecursion, eqb-true, eq-eqb}
+use Rattle.serde_json_path_parser.proofs.Words.{and_parts, eqb_tells, length-append, append-nil, same_Some, none-some, ExpectedEndingQuote, BadEscape}
+use Rattle.serde_json_path_parser.proofs.Words.{ControlCharacter, ◌∈◌, AllPass, is_at, begins, is_digit, hexadecimal_of, IsHex4, IsHighSurrogate}
+use Rattle.serde_json_path_parser.proofs.Words.{IsLowSurrogate, pair_of, escaped_by, is_plain, IsPiece, plain, quote_escape, letter_escape}
+use Rattle.serde_json_path_parser.proofs.Words.{hex_escape, pair_escape, IsQuote, IsString, Parsed, ◌>>=◌, refusal, many, byte_count, is_hexadecimal}
+use Rattle.serde_json_path_parser.proofs.Words.{hexadecimal_value, head, hexadecimal_at, hex4_at, is_high, is_low, low_at, unicode_at}
+use Rattle.serde_json_path_parser.proofs.Words.{is_letter_escape, letter_value, escape_at, is_control, piece_at, is_inside, string_at, is_ascii_plain}
+use Rattle.serde_json_path_parser.proofs.Words.{Stretched, encode_ascii, Failure, Fails}
 use Rattle.std.proofs.Math.Bool.{and-false}
 use Rattle.serde_json_path_parser.specs.declared.error.Context.TheVariants as context
 use Rattle.serde_json_path_parser.proofs.Texts.Stretches.{plain_below_128, plain_of}
 use Rattle.serde_json_path_parser.proofs.Reading.Many as m
 use Rattle.serde_json_path_parser.proofs.Reading.Runs.{some_begun}
-use Rattle.serde_json_path_parser.proofs.Reading.Steps.{after_one, Again, many_again}
-use Rattle.serde_json_path_parser.proofs.Reading.Stands.{Plain}
-use Rattle.serde_json_path_parser.proofs.Reading.Outcomes.{OutcomeIn, Outcome, read_so, refused, choose, guarded, past, past_in, onward, after, after_in, made, many_outcome}
+use Rattle.serde_json_path_parser.proofs.Reading.Many.{after_one, Again, many_again}
+use Rattle.serde_json_path_parser.proofs.Reading.Outcomes.{Plain, OutcomeIn, Outcome, read_so, refused, choose, guarded, past, past_in, onward, after, after_in, made, many_outcome}
 use Rattle.serde_json_path_parser.specs.declared.error.Failure.TheVariants as failures
 
 -- ---- what a reading gives: hexadecimal digits

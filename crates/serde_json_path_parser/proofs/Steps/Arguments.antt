@@ -1,14 +1,15 @@
 -- The steps of the code at arguments.
 use Rattle.std.proofs.Common.{◌≡◌, ℕ, zero, suc, ◌+◌, ◌≤◌, ◌<◌, true, cond, List, [], ◌∷◌, ◌++◌, length, drop, Option, Result, Ok, Err, refl, sym, ap, ◌∙◌, append_assoc, arith}
 use Rattle.serde_json_path_parser.proofs.Words.{length-append, append-nil, Arguments, no_arguments, argument, Argument, Kind, Signature, Failure}
-use Rattle.serde_json_path_parser.proofs.Words.{ExpectedClosingParenthesis, calls_in_argument, IsPart, an_argument, Part, SyntaxBuilder, Ghosts, Reader, Grows}
-use Rattle.serde_json_path_parser.proofs.Words.{Gives, MakesArguments, is_at, begins, Parsed, ◌>>=◌, refusal, past_blanks, byte_count, whole_at, amount_at}
-use Rattle.serde_json_path_parser.proofs.Words.{number_at, Deeper, ends_argument, ended, operand_at, argument_at, judged, arguments_at}
+use Rattle.serde_json_path_parser.proofs.Words.{ExpectedClosingParenthesis, calls_in_argument, IsPart, an_argument, Part, SyntaxBuilder, Ghosts}
+use Rattle.serde_json_path_parser.proofs.Words.{Reader, Grows, Gives, MakesArguments, is_at, begins, Parsed, ◌>>=◌, refusal, past_blanks, byte_count}
+use Rattle.serde_json_path_parser.proofs.Words.{whole_at, amount_at, number_at, Deeper, ends_argument, ended, operand_at, argument_at, judged}
+use Rattle.serde_json_path_parser.proofs.Words.{arguments_at}
 use Rattle.serde_json_path_parser.specs.declared.error.Context.TheVariants as context
-use Rattle.serde_json_path_parser.proofs.Reading.Regrouped.{no_longer}
-use Rattle.serde_json_path_parser.proofs.Grammar.Arguments.{argument_outcome}
+use Rattle.serde_json_path_parser.proofs.Reading.Runs.{no_longer}
+use Rattle.serde_json_path_parser.proofs.Grammar.Calls.{argument_outcome}
 use Rattle.serde_json_path_parser.proofs.Grammar.LogicalForms.{DeeperLaws}
-use Rattle.serde_json_path_parser.proofs.Reading.Steps.{first_fails}
+use Rattle.serde_json_path_parser.proofs.Reading.Many.{first_fails}
 use Rattle.serde_json_path_parser.proofs.Steps.Growth.{grows_none, grows_then}
 
 module _ (signature : List ℕ → Option Signature) (deeper : Deeper) where

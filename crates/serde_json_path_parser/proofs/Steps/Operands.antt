@@ -1,9 +1,10 @@
 -- The steps of the code at operands, and at what an argument's type is.
 use Rattle.std.proofs.Common.{◌≡◌, Bool, true, false, refl, sym}
-use Rattle.serde_json_path_parser.proofs.Words.{◌↔◌, IsTrue, Operand, calls_in_operand, calls_in_argument, alone, is_singular, is_whole, is_value_literal}
-use Rattle.serde_json_path_parser.proofs.Words.{Literal, text, number, truth, null, IsValueLiteral, Query, IsSingular, a_literal, a_call}
+use Rattle.serde_json_path_parser.proofs.Words.{◌↔◌, IsTrue, Operand, calls_in_operand, calls_in_argument, alone, is_singular, is_whole}
+use Rattle.serde_json_path_parser.proofs.Words.{is_value_literal, Literal, text, number, truth, null, IsValueLiteral, Query, IsSingular, a_literal}
+use Rattle.serde_json_path_parser.proofs.Words.{a_call}
 use Rattle.serde_json_path_parser.specs.Operands.{a_query}
-use Rattle.serde_json_path_parser.proofs.Grammar.Arguments.{amount_whole, whole_amount}
+use Rattle.serde_json_path_parser.proofs.Grammar.Calls.{amount_whole, whole_amount}
 use Rattle.serde_json_path_parser.proofs.Grammar.LogicalForms.{singular_query, query_singular}
 
 pub alone_calls : (x : Operand) → calls_in_operand x ≡ calls_in_argument (alone x)

@@ -2,18 +2,16 @@
 use Rattle.std.proofs.Common.{◌≡◌, ℕ, ◌≤◌, ◌<◌, true, List, [], ◌∷◌, length, drop, Option, Ok, refl, arith}
 use Rattle.serde_json_path_parser.proofs.Words.{SegmentKind, Segment, Selector, LogicalOr, LogicalAnd, Basic, Signature, Deeper, Part, SyntaxBuilder}
 use Rattle.serde_json_path_parser.proofs.Words.{a_selector, an_and, a_basic, segment_piece, segment_pieces, selector_pieces, or_pieces, and_pieces}
-use Rattle.serde_json_path_parser.proofs.Words.{calls_in_segments, calls_in_selectors, calls_in_or, calls_in_and, segment_list, selector_list, or_list}
-use Rattle.serde_json_path_parser.proofs.Words.{and_list, ArePartsFor, AreSelectorsOf, AreOrPartsOf, AreAndPartsOf, past_blanks, is_at, are_at, begins, opens}
-use Rattle.serde_json_path_parser.proofs.Words.{opens_next, level, segment_at, next_segment_at, selector_at, next_selector_at, and_at, next_and_at, basic_at}
-use Rattle.serde_json_path_parser.proofs.Words.{next_basic_at}
+use Rattle.serde_json_path_parser.proofs.Words.{calls_in_segments, calls_in_selectors, calls_in_or, calls_in_and, segment_list, selector_list}
+use Rattle.serde_json_path_parser.proofs.Words.{or_list, and_list, ArePartsFor, AreSelectorsOf, AreOrPartsOf, AreAndPartsOf, past_blanks, is_at}
+use Rattle.serde_json_path_parser.proofs.Words.{are_at, begins, opens, opens_next, level, segment_at, next_segment_at, selector_at, next_selector_at}
+use Rattle.serde_json_path_parser.proofs.Words.{and_at, next_and_at, basic_at, next_basic_at}
 use Rattle.serde_json_path_parser.specs.declared.error.Context as declared
 use Rattle.serde_json_path_parser.specs.Filters.{filter_at}
 use Rattle.serde_json_path_parser.proofs.Grammar.Brackets as brackets
-use Rattle.serde_json_path_parser.proofs.Grammar.Filtered.{FilterLaws}
-use Rattle.serde_json_path_parser.proofs.Grammar.Filters.{filter_laws}
-use Rattle.serde_json_path_parser.proofs.Grammar.Levels.{level_laws}
+use Rattle.serde_json_path_parser.proofs.Grammar.LogicalForms.{FilterLaws, filter_laws, IsGoodInside}
+use Rattle.serde_json_path_parser.proofs.Grammar.Calls.{level_laws}
 use Rattle.serde_json_path_parser.proofs.Grammar.LogicalExpressions.{next_basic_takes, next_and_takes}
-use Rattle.serde_json_path_parser.proofs.Grammar.LogicalForms.{IsGoodInside}
 use Rattle.serde_json_path_parser.proofs.Grammar.Segments as segments
 use Rattle.serde_json_path_parser.proofs.Steps.Rows.{Row, IsRow}
 

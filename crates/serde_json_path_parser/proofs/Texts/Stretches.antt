@@ -1,9 +1,10 @@
 -- ASCII characters that are taken many at a time.
 use Rattle.std.proofs.Common.{◌≡◌, ℕ, zero, suc, ◌+◌, ◌-◌, ◌<◌, ◌≤◌, Bool, true, false, List, [], ◌∷◌, ◌++◌, length, take, drop, set, Some, Result, Ok, Err, is_ok, IfOk, if◌then◌else◌, refl, sym, ap, ◌∙◌, inl, inr, append_assoc, arith}
 use Rattle.serde_json_path_parser.proofs.Words.{slice_get, nat_le, nat_lt, ◌^◌, max, is_utf8, chars, IsAscii, encode_utf8_all, and_parts, cases_lt}
-use Rattle.serde_json_path_parser.proofs.Words.{length-take-le, take_more_set, encodes-append, encodes-IsAscii, AllPass, begins, is_name_char, is_plain}
-use Rattle.serde_json_path_parser.proofs.Words.{IsAhead, front, past, Told, one_more, looked, LooksOn, is_ascii_name_char, is_ascii_plain, Gathered, Stretched}
-use Rattle.serde_json_path_parser.proofs.Texts.FirstByte.{step_one}
+use Rattle.serde_json_path_parser.proofs.Words.{length-take-le, take_more_set, encodes-append, encodes-IsAscii, AllPass, begins, is_name_char}
+use Rattle.serde_json_path_parser.proofs.Words.{is_plain, IsAhead, front, past, Told, one_more, looked, LooksOn, is_ascii_name_char, is_ascii_plain}
+use Rattle.serde_json_path_parser.proofs.Words.{Gathered, Stretched}
+use Rattle.serde_json_path_parser.proofs.Texts.Decoding.{step_one}
 use Rattle.serde_json_path_parser.proofs.Reading.Runs.{past_through}
 
 -- ---- an ASCII character of a name

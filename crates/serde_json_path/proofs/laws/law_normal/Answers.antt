@@ -1,4 +1,4 @@
-use Rattle.serde_json_path_parser.proofs.Grammar.Parses.{one_tree_at_most}
+use Rattle.serde_json_path_parser.proofs.Grammar.Paths.{one_tree_at_most}
 use Rattle.serde_json_path.specs.Laws.{tree_to}
 use Rattle.serde_json_path.proofs.NormalMeaning.{segments_silent, segments_shallow, node_selected}
 use Rattle.serde_json_path.proofs.NormalTexts.{normal_accepted}

@@ -1,6 +1,6 @@
 use Rattle.std.proofs.Common.{◌≡◌, ◌<◌, length, sym, ap, subst, ◌∙◌, arith, false}
 use Rattle.serde_json_path_parser.proofs.Words.{greatest_usize, path_at, checked_view, Fails, IsRefused, opens_after_root}
-use Rattle.serde_json_path_parser.proofs.Grammar.Parses.{too_long, parsed, refused, too_long_reported, parsed_reported, refused_reported, within}
+use Rattle.serde_json_path_parser.proofs.Grammar.Paths.{too_long, parsed, refused, too_long_reported, parsed_reported, refused_reported, within}
 use Rattle.serde_json_path_parser.proofs.parser.parse.Goals as goal
 
 pub returns-then-len-eq18446744073709551615-clause-parse : goal.returns-then-len-eq18446744073709551615-clause-parse

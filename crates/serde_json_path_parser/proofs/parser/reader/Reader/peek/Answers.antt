@@ -1,4 +1,4 @@
-use Rattle.serde_json_path_parser.proofs.Texts.FirstByte.{ahead}
+use Rattle.serde_json_path_parser.proofs.Texts.Decoding.{ahead}
 use Rattle.serde_json_path_parser.proofs.parser.reader.Reader.peek.Goals as goal
 
 pub returns : goal.returns

@@ -1,4 +1,4 @@
-use Rattle.serde_json_path_parser.proofs.Texts.FirstByte.{ahead_second}
+use Rattle.serde_json_path_parser.proofs.Texts.Decoding.{ahead_second}
 use Rattle.serde_json_path_parser.proofs.parser.reader.Reader.peek_second.Goals as goal
 
 pub returns-in-Some-clause-value : goal.returns-in-Some-clause-value

@@ -1,6 +1,6 @@
 use Rattle.std.proofs.Common.{sym, ap, subst, ◌∙◌, refl}
 use Rattle.serde_json_path_parser.proofs.Words.{IsSome, begins, is_name_char}
-use Rattle.serde_json_path_parser.proofs.Texts.FirstByte.{is_there, is_some_at, step_one}
+use Rattle.serde_json_path_parser.proofs.Texts.Decoding.{is_there, is_some_at, step_one}
 use Rattle.serde_json_path_parser.proofs.Texts.Stretches.{fits_below_128, name_stretched, past_stretched}
 use Rattle.serde_json_path_parser.proofs.Reading.Runs.{some_begun}
 use Rattle.serde_json_path_parser.proofs.parser.reader.Reader.take_name_part.Goals as goal

@@ -1,6 +1,6 @@
 use Rattle.std.proofs.Common.{◌∙◌, sym, subst, refl}
 use Rattle.serde_json_path_parser.proofs.Words.{IsSome, Some, is_ascii_plain}
-use Rattle.serde_json_path_parser.proofs.Texts.FirstByte.{ahead, is_there, is_some_at}
+use Rattle.serde_json_path_parser.proofs.Texts.Decoding.{ahead, is_there, is_some_at}
 use Rattle.serde_json_path_parser.proofs.Texts.Stretches.{plain_first}
 use Rattle.serde_json_path_parser.proofs.Reading.Runs.{some_begun}
 use Rattle.serde_json_path_parser.proofs.parser.reader.Reader.take_plain.Goals as goal

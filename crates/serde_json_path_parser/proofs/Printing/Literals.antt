@@ -1,14 +1,15 @@
--- Integers and number literals, as they are printed, read as themselves.
-use Rattle.std.proofs.Common.{◌≡◌, ◌≤◌, ◌<◌, ◌+◌, ◌-◌, ◌*◌, ◌/◌, ◌%◌, ◌^◌, ◌==◌, ℕ, zero, suc, inl, inr, Bool, true, false, if◌then◌else◌, List, [], ◌∷◌, length, map, get_or, refl, sym, ap, subst, ◌∙◌, arith}
-use Rattle.serde_json_path_parser.proofs.Words.{nat_le, ℤ, pos, negsuc, ◌-ℤ◌, decimal, signed_decimal, AllByRecursion, pow-succ', mul-sub, mul_comm, mul_assoc}
-use Rattle.serde_json_path_parser.proofs.Words.{nat_tests, eqb_tells, ints, pow-add, in_decimal, largest, fraction_digits, fraction_text, amount_text}
-use Rattle.serde_json_path_parser.proofs.Words.{number_text, begins, is_digit, AllPass, value_from, IsDecimal, IsInt, fraction_of, IsFraction, IsAmount}
-use Rattle.serde_json_path_parser.proofs.Words.{IsNumber}
+-- Numbers, slices and literals, as they are printed, read as themselves.
+use Rattle.std.proofs.Common.{◌≡◌, ◌≤◌, ◌<◌, ◌+◌, ◌-◌, ◌*◌, ◌/◌, ◌%◌, ◌^◌, ◌==◌, ℕ, zero, suc, inl, inr, Bool, true, false, if◌then◌else◌, List, [], ◌∷◌, length, map, get_or, refl, sym, ap, subst, ◌∙◌, arith, ◌++◌, Option, Some, None, codes, append_assoc, append-nil}
+use Rattle.serde_json_path_parser.proofs.Words.{nat_le, ℤ, pos, negsuc, ◌-ℤ◌, decimal, signed_decimal, AllByRecursion, pow-succ', mul-sub, mul_comm}
+use Rattle.serde_json_path_parser.proofs.Words.{mul_assoc, nat_tests, eqb_tells, ints, pow-add, in_decimal, largest, fraction_digits, fraction_text}
+use Rattle.serde_json_path_parser.proofs.Words.{amount_text, number_text, begins, is_digit, AllPass, value_from, IsDecimal, IsInt, fraction_of}
+use Rattle.serde_json_path_parser.proofs.Words.{IsFraction, IsAmount, IsNumber, all_scalars, Slice, Literal, text, number, truth, null, integer_text}
+use Rattle.serde_json_path_parser.proofs.Words.{slice_step_text, slice_text, literal_text, IsBound, IsSliceStep, IsSlice, IsLiteral}
 use Rattle.std.specs.Int.Digits.{digits_of, number_from_digits_after, AllBelowBase}
 use Rattle.std.proofs.lemmas.Fmt.{decimal_digit, decimal-digits_of}
 use Rattle.std.proofs.lemmas.Int.Digits.{all_below_base_digits_of, first_digits_of, number_digits_of}
-use Rattle.serde_json_path_parser.proofs.Grammar.Integers.{zero_is}
-use Rattle.serde_json_path_parser.proofs.Printing.Spelling.{Spells, Spelt, spell_nothing, spell_both, spell_ascii}
+use Rattle.serde_json_path_parser.proofs.Grammar.Numbers.{zero_is}
+use Rattle.serde_json_path_parser.proofs.Printing.QuotedTexts.{Spells, Spelt, spell_nothing, spell_both, spell_ascii, string_spelt}
 
 -- ---- digits
 
@@ -204,3 +205,42 @@ number_spelt t (negsuc n) is =
       spells = spell_both (45 ∷ []) (amount_text (suc n)) (45 ∷ []) (amount_text (suc n)) (spell_ascii (45 ∷ []) (omega arith, tt)) a.1;
       is_so = ((suc n, inr (amount_text (suc n), a.0, refl, less)), is.1);
     }
+
+-- ---- slices and literals, as they are printed, read as themselves
+
+-- an integer or none
+bound_spelt : (o : Option ℤ) (t : List ℕ) → IsBound o t → Spelt (IsBound o) (integer_text o)
+bound_spelt None t h = record { characters = []; spells = spell_nothing; is_so = refl }
+bound_spelt (Some i) t (a, k, int, blank, split) =
+    let s = int_spelt a i int in
+    record { characters = s.characters; spells = s.spells; is_so = (s.characters, [], s.is_so, tt, sym (append-nil s.characters)) }
+
+-- a second colon and a step, or neither
+step_spelt : (o : Option ℤ) (t : List ℕ) → IsSliceStep o t → Spelt (IsSliceStep o) (slice_step_text o)
+step_spelt None t h = record { characters = []; spells = spell_nothing; is_so = inl refl }
+step_spelt (Some i) t (k, a, blank, int, split) =
+    let s = int_spelt a i int in
+    record {
+      characters = 58 ∷ s.characters;
+      spells = spell_both (58 ∷ []) (signed_decimal i) (58 ∷ []) s.characters (spell_ascii (58 ∷ []) (omega arith, tt)) s.spells;
+      is_so = ([], s.characters, tt, s.is_so, refl);
+    }
+
+pub slice_spelt : (s : Slice) (t : List ℕ) → IsSlice s t → Spelt (IsSlice s) (slice_text s)
+slice_spelt s t (a, k, b, c, start, blank, end, step, split) =
+    let x = bound_spelt s.start a start in
+    let y = bound_spelt s.end b end in
+    let z = step_spelt s.step c step in
+    let colon = spell_ascii (codes ":") (omega arith, tt) in
+    record {
+      characters = ((x.characters ++ codes ":") ++ y.characters) ++ z.characters;
+      spells = spell_both _ _ _ _ (spell_both _ _ _ _ (spell_both _ _ _ _ x.spells colon) y.spells) z.spells;
+      is_so = (x.characters, [], y.characters, z.characters, x.is_so, tt, y.is_so, z.is_so, simp append_assoc refl);
+    }
+
+pub literal_spelt : (l : Literal) (t : List ℕ) → all_scalars t ≡ true → IsLiteral l t → Spelt (IsLiteral l) (literal_text l)
+literal_spelt (text bytes) t e h = string_spelt t bytes e h
+literal_spelt (number amount) t e h = number_spelt t amount h
+literal_spelt (truth true) t e h = record { characters = codes "true"; spells = spell_ascii (codes "true") (omega arith, (omega arith, (omega arith, (omega arith, tt)))); is_so = refl }
+literal_spelt (truth false) t e h = record { characters = codes "false"; spells = spell_ascii (codes "false") (omega arith, (omega arith, (omega arith, (omega arith, (omega arith, tt))))); is_so = refl }
+literal_spelt null t e h = record { characters = codes "null"; spells = spell_ascii (codes "null") (omega arith, (omega arith, (omega arith, (omega arith, tt)))); is_so = refl }
