@@ -193,6 +193,7 @@ fn write_part<W: Write>(f: &mut Formatter<W>, tree: &Checked, part: Part) -> fmt
 
 /// Writes parts, with a separator between each two.
 #[cycle(printing)]
+#[inline(always)]
 fn write_joined<W: Write>(
     f: &mut Formatter<W>,
     tree: &Checked,
