@@ -10,7 +10,7 @@ use Rattle.serde_json_path_functions.specs.Functions.{Signature}
 use Rattle.serde_json_path_parser.specs.Grammar.{ReadSegments, ReadsSelector}
 use Rattle.serde_json_path_parser.specs.Accepted.{IsAccepted}
 use Rattle.serde_json_path.specs.Laws.{ArePositionsWritten, selector_to, segments_to}
-use Rattle.serde_json_path_parser.proofs.Printing.QuotedTexts.{Spelt, spell_nothing, spell_both, spell_ascii, spell_between, quoted_spelt}
+use Rattle.serde_json_path_parser.proofs.Printing.QuotedTexts.{Spelt, spell_both, spell_sign, spelt_nothing, quoted_spelt}
 use Rattle.serde_json_path_parser.proofs.Printing.Literals.{position_spelt}
 use Rattle.serde_json_path.proofs.NormalMeaning.{segments_typed, segments_shallow}
 
@@ -22,12 +22,12 @@ module _ (s : Step) (bytes : List ℕ) (segs : Segments) (more : List ℕ) where
       let bracket = codes "[" ++ x.characters ++ codes "]" in
       record {
         characters = bracket ++ y.characters;
-        spells = spell_both _ _ _ _ (spell_between 91 93 _ _ (omega arith) (omega arith) x.spells) y.spells;
+        spells = spell_both (spell_both (spell_both (spell_sign 91 (omega arith)) x.spells) (spell_sign 93 (omega arith))) y.spells;
         is_so = ([], bracket, y.characters, tt, ([], x.characters, [], tt, (x.characters, [], x.is_so, refl, sym (append-nil x.characters)), tt, refl), y.is_so, refl);
       }
 
 steps_spelt : (steps : List Step) → IsProper steps → ArePositionsWritten steps → Spelt (ReadSegments (segments_to steps)) (flat_map normal_step steps)
-steps_spelt [] proper written = record { characters = []; spells = spell_nothing; is_so = refl }
+steps_spelt [] proper written = spelt_nothing refl
 steps_spelt (by_name bytes ∷ steps) proper written = bracket_spelt (by_name bytes) _ _ _ (quoted_spelt bytes proper.0) (steps_spelt steps proper.1 written)
 steps_spelt (by_position p ∷ steps) proper written = bracket_spelt (by_position p) _ _ _ (position_spelt p written.0) (steps_spelt steps proper written.1)
 
@@ -36,7 +36,7 @@ pub normal_accepted : (signature : List ℕ → Option Signature) (steps : List 
     → IsAccepted signature (chars (normal steps)) (query root (segments_to steps))
 normal_accepted signature steps proper written =
     let x = steps_spelt steps proper written in
-    let spells = spell_both (codes "$") (flat_map normal_step steps) (codes "$") x.characters (spell_ascii (codes "$") (omega arith, tt)) x.spells in
+    let spells = spell_both (spell_sign 36 (omega arith)) x.spells in
     let text : chars (normal steps) ≡ codes "$" ++ x.characters = ap chars (sym spells.encoded) ∙ chars-encodes (codes "$" ++ x.characters) spells.scalars in
     record {
       reads = (x.characters, x.is_so, text);

@@ -201,7 +201,8 @@ fn same_basic(mine: &Checked, left: &Basic, theirs: &Checked, right: &Basic) -> 
 fn same_comparable(mine: &Checked, left: &Comparable, theirs: &Checked, right: &Comparable) -> bool
     requires left_within { parts_bound (comparable_parts left.now) ≤ length (nodes_in mine.now) }
     requires left_fits { comparable_fits (pieces (nodes_in mine.now)) left.now ≡ true }
-    requires right_within { parts_bound (comparable_parts right.now) ≤ length (nodes_in theirs.now) }
+    requires right_within { parts_bound (comparable_parts right.now)
+        ≤ length (nodes_in theirs.now) }
     requires right_fits { comparable_fits (pieces (nodes_in theirs.now)) right.now ≡ true }
     ensures { result ≡ trees.same_comparable (comparable_of (pieces (nodes_in mine.now)) left.now)
         (comparable_of (pieces (nodes_in theirs.now)) right.now) }

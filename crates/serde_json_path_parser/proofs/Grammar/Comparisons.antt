@@ -72,8 +72,6 @@ module _ (signature : List ℕ → Option Signature) (n : ℕ) (deeper : Deeper)
       choose (λ e. remade (λ c. a_call c) (λ t c h. h) (named_call_outcome cs e)) (λ _.
       choose (λ e. literal_word_outcome cs) (λ _. inner (made_spaced (λ amount. a_literal (number amount)) (λ t amount h. (tt, h)) (number_outcome cs))))))))
 
--- ---- what is in the grammar is read
-
 -- ---- what stands after an operand
 
 -- one of these characters passes

@@ -280,8 +280,6 @@ number_first p b t amount rest h is = elim is.0.1 [
   | inr below ↦ ap (λ (l : List ℕ). begins p (l ++ rest)) below.2 ∙ h 45 refl
 ]
 
--- ---- the digits after a point, as the code counts them
-
 -- ---- bytes
 
 digit_byte : (c : ℕ) → is_digit c ≡ true → length (encode_utf8 c) ≡ 1

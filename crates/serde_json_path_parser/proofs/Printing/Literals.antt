@@ -9,7 +9,7 @@ use Rattle.std.specs.Int.Digits.{digits_of, number_from_digits_after, AllBelowBa
 use Rattle.std.proofs.lemmas.Fmt.{decimal_digit, decimal-digits_of}
 use Rattle.std.proofs.lemmas.Int.Digits.{all_below_base_digits_of, first_digits_of, number_digits_of}
 use Rattle.serde_json_path_parser.proofs.Grammar.Numbers.{zero_is}
-use Rattle.serde_json_path_parser.proofs.Printing.QuotedTexts.{Spells, Spelt, spell_nothing, spell_both, spell_ascii, string_spelt}
+use Rattle.serde_json_path_parser.proofs.Printing.QuotedTexts.{Spells, Spelt, spell_nothing, spell_both, spell_ascii, spell_sign, spelt_nothing, spelt_as, spelt_after, string_spelt}
 
 -- ---- digits
 
@@ -77,11 +77,7 @@ int_spelt t (pos n) is =
 int_spelt t (negsuc n) is =
     let fits : suc n < 2 ^ 64 = let least = is.1.0 in omega (arith, ints, least) in
     let d = decimal_is (suc n) fits in
-    record {
-      characters = 45 ∷ decimal (suc n);
-      spells = spell_both (45 ∷ []) (decimal (suc n)) (45 ∷ []) (decimal (suc n)) (spell_ascii (45 ∷ []) (omega arith, tt)) d.1;
-      is_so = ((decimal (suc n), d.0, refl), is.1);
-    }
+    spelt_after (spell_sign 45 (omega arith)) (record { characters = decimal (suc n); spells = d.1; is_so = d.0 }) (λ a decimal. ((a, decimal, refl), is.1))
 
 -- ---- fractions
 
@@ -187,7 +183,7 @@ amount_is n small =
     let rest = n % 1000000000 in
     let fraction = fraction_is rest (omega arith) in (
       (decimal (n / 1000000000), fraction_text rest, n / 1000000000, rest, whole.0, fraction.0, refl, omega arith),
-      spell_both (decimal (n / 1000000000)) (fraction_text rest) (decimal (n / 1000000000)) (fraction_text rest) whole.1 fraction.1,
+      spell_both whole.1 fraction.1,
     )
 
 -- a number in the range is printed as it reads
@@ -200,41 +196,29 @@ number_spelt t (negsuc n) is =
     let small : suc n < 2 ^ 64 * 1000000000 = let least = is.1.0 in omega (arith, ints, least) in
     let a = amount_is (suc n) small in
     let less : negsuc n ≡ pos 0 -ℤ pos (suc n) = omega (arith, ints) in
-    record {
-      characters = 45 ∷ amount_text (suc n);
-      spells = spell_both (45 ∷ []) (amount_text (suc n)) (45 ∷ []) (amount_text (suc n)) (spell_ascii (45 ∷ []) (omega arith, tt)) a.1;
-      is_so = ((suc n, inr (amount_text (suc n), a.0, refl, less)), is.1);
-    }
+    spelt_after (spell_sign 45 (omega arith)) (record { characters = amount_text (suc n); spells = a.1; is_so = a.0 }) (λ t amount. ((suc n, inr (t, amount, refl, less)), is.1))
 
 -- ---- slices and literals, as they are printed, read as themselves
 
 -- an integer or none
 bound_spelt : (o : Option ℤ) (t : List ℕ) → IsBound o t → Spelt (IsBound o) (integer_text o)
-bound_spelt None t h = record { characters = []; spells = spell_nothing; is_so = refl }
-bound_spelt (Some i) t (a, k, int, blank, split) =
-    let s = int_spelt a i int in
-    record { characters = s.characters; spells = s.spells; is_so = (s.characters, [], s.is_so, tt, sym (append-nil s.characters)) }
+bound_spelt None t h = spelt_nothing refl
+bound_spelt (Some i) t (a, k, int, blank, split) = spelt_as (λ s is. (s, [], is, tt, sym (append-nil s))) (int_spelt a i int)
 
 -- a second colon and a step, or neither
 step_spelt : (o : Option ℤ) (t : List ℕ) → IsSliceStep o t → Spelt (IsSliceStep o) (slice_step_text o)
-step_spelt None t h = record { characters = []; spells = spell_nothing; is_so = inl refl }
-step_spelt (Some i) t (k, a, blank, int, split) =
-    let s = int_spelt a i int in
-    record {
-      characters = 58 ∷ s.characters;
-      spells = spell_both (58 ∷ []) (signed_decimal i) (58 ∷ []) s.characters (spell_ascii (58 ∷ []) (omega arith, tt)) s.spells;
-      is_so = ([], s.characters, tt, s.is_so, refl);
-    }
+step_spelt None t h = spelt_nothing (inl refl)
+step_spelt (Some i) t (k, a, blank, int, split) = spelt_after (spell_sign 58 (omega arith)) (int_spelt a i int) (λ s is. ([], s, tt, is, refl))
 
 pub slice_spelt : (s : Slice) (t : List ℕ) → IsSlice s t → Spelt (IsSlice s) (slice_text s)
 slice_spelt s t (a, k, b, c, start, blank, end, step, split) =
     let x = bound_spelt s.start a start in
     let y = bound_spelt s.end b end in
     let z = step_spelt s.step c step in
-    let colon = spell_ascii (codes ":") (omega arith, tt) in
+    let colon = spell_sign 58 (omega arith) in
     record {
       characters = ((x.characters ++ codes ":") ++ y.characters) ++ z.characters;
-      spells = spell_both _ _ _ _ (spell_both _ _ _ _ (spell_both _ _ _ _ x.spells colon) y.spells) z.spells;
+      spells = spell_both (spell_both (spell_both x.spells colon) y.spells) z.spells;
       is_so = (x.characters, [], y.characters, z.characters, x.is_so, tt, y.is_so, z.is_so, simp append_assoc refl);
     }
 

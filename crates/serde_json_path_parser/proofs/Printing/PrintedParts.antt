@@ -12,19 +12,19 @@ use Rattle.serde_json_path_parser.proofs.Words.{segment_text, selector_texts, se
 use Rattle.serde_json_path_parser.proofs.Words.{comparable_text, call_text, argument_texts, argument_text, IsFunctionName, is_function_char, Reads}
 use Rattle.serde_json_path_parser.proofs.Words.{ReadSegments, ReadsSegment, ReadSelectors, ReadMoreSelectors, ReadsSelector, ReadsOr, ReadMoreOrs}
 use Rattle.serde_json_path_parser.proofs.Words.{ReadsAnd, ReadMoreAnds, ReadsBasic, ReadsComparable, ReadsCall, ReadArguments, ReadMoreArguments}
-use Rattle.serde_json_path_parser.proofs.Words.{ReadsArgument, InParentheses, Negated, IsSign, query_sign, operator_sign, dots_before_bracket}
+use Rattle.serde_json_path_parser.proofs.Words.{ReadsArgument, InParentheses, Negated, IsSign, IsName, query_sign, operator_sign, dots_before_bracket}
 use Rattle.serde_json_path_parser.proofs.Words.{dots_before_name}
-use Rattle.serde_json_path_parser.proofs.Printing.QuotedTexts.{Spells, Spelt, spell_nothing, scalars_parts, scalars_of, spell_both, spell_ascii, spell_between, string_spelt}
+use Rattle.serde_json_path_parser.proofs.Printing.QuotedTexts.{Spells, Spelt, spell_nothing, scalars_parts, scalars_of, spell_both, spell_ascii, spell_sign, spelt_nothing, spelt_as, spelt_after, spelt_between, spelt_both, string_spelt}
 use Rattle.serde_json_path_parser.proofs.Printing.Literals.{int_spelt, slice_spelt, literal_spelt}
 
 -- ---- signs: those that are printed spell those of the grammar
 
 kind_spells : (kind : QueryKind) → Spells (query_kind_text kind) (query_sign kind)
-kind_spells root = spell_ascii (codes "$") (omega arith, tt)
-kind_spells current = spell_ascii (codes "@") (omega arith, tt)
+kind_spells root = spell_sign 36 (omega arith)
+kind_spells current = spell_sign 64 (omega arith)
 
 dots_spell : (kind : SegmentKind) → Spells (dots_of kind) (dots_before_name kind)
-dots_spell child = spell_ascii (codes ".") (omega arith, tt)
+dots_spell child = spell_sign 46 (omega arith)
 dots_spell descendant = spell_ascii (codes "..") (omega arith, (omega arith, tt))
 
 bracket_dots_spell : (kind : SegmentKind) → Spells (bracket_dots_of kind) (dots_before_bracket kind)
@@ -34,9 +34,9 @@ bracket_dots_spell descendant = spell_ascii (codes "..") (omega arith, (omega ar
 operator_spells : (op : Operator) → Spells (operator_text op) (operator_sign op)
 operator_spells equal = spell_ascii (codes "==") (omega arith, (omega arith, tt))
 operator_spells not_equal = spell_ascii (codes "!=") (omega arith, (omega arith, tt))
-operator_spells less = spell_ascii (codes "<") (omega arith, tt)
+operator_spells less = spell_sign 60 (omega arith)
 operator_spells less_or_equal = spell_ascii (codes "<=") (omega arith, (omega arith, tt))
-operator_spells greater = spell_ascii (codes ">") (omega arith, tt)
+operator_spells greater = spell_sign 62 (omega arith)
 operator_spells greater_or_equal = spell_ascii (codes ">=") (omega arith, (omega arith, tt))
 
 -- ---- names
@@ -67,7 +67,7 @@ comma_spelt : Spelt (IsSign (codes ",")) (codes ", ")
 comma_spelt = record { characters = codes ", "; spells = spell_ascii (codes ", ") (omega arith, (omega arith, tt)); is_so = ([], codes " ", tt, (refl, tt), refl) }
 
 blank_spells : Spells (codes " ") (codes " ")
-blank_spells = spell_ascii (codes " ") (omega arith, tt)
+blank_spells = spell_sign 32 (omega arith)
 
 between_blanks : (sign : List ℕ) → IsSign sign (codes " " ++ (sign ++ codes " "))
 between_blanks sign = (codes " ", codes " ", (refl, tt), (refl, tt), refl)
@@ -75,7 +75,7 @@ between_blanks sign = (codes " ", codes " ", (refl, tt), (refl, tt), refl)
 operator_spelt : (sign : List ℕ) → Spells sign sign → Spelt (IsSign sign) (codes " " ++ (sign ++ codes " "))
 operator_spelt sign h = record {
   characters = codes " " ++ (sign ++ codes " ");
-  spells = spell_both _ _ _ _ blank_spells (spell_both _ _ _ _ h blank_spells);
+  spells = spell_both blank_spells (spell_both h blank_spells);
   is_so = between_blanks sign;
 }
 
@@ -85,183 +85,142 @@ or_spelt = operator_spelt (codes "||") (spell_ascii (codes "||") (omega arith, (
 and_spelt : Spelt (IsSign (codes "&&")) (codes " && ")
 and_spelt = operator_spelt (codes "&&") (spell_ascii (codes "&&") (omega arith, (omega arith, tt)))
 
-module _ (Is More : List ℕ → Type 0) where
+module _ {Is More : List ℕ → Type 0} {first more : List ℕ} where
   -- a first part and more
-  both : (first more : List ℕ) → Spelt Is first → Spelt More more → Spelt (λ t. (a b : List ℕ) × Is a × More b × (t ≡ a ++ b)) (first ++ more)
-  both first more x y = record {
-    characters = x.characters ++ y.characters;
-    spells = spell_both _ _ _ _ x.spells y.spells;
-    is_so = (x.characters, y.characters, x.is_so, y.is_so, refl);
-  }
+  both : Spelt Is first → Spelt More more → Spelt (λ t. (a b : List ℕ) × Is a × More b × (t ≡ a ++ b)) (first ++ more)
+  both x y = spelt_both x y (λ a b is others. (a, b, is, others, refl))
 
   -- one more part after a sign
-  one_more : (sign bytes first more : List ℕ) → Spelt (IsSign sign) bytes → Spelt Is first → Spelt More more
+  one_more : (sign : List ℕ) {bytes : List ℕ} → Spelt (IsSign sign) bytes → Spelt Is first → Spelt More more
       → Spelt (λ t. (s a b : List ℕ) × IsSign sign s × Is a × More b × (t ≡ s ++ (a ++ b))) ((bytes ++ first) ++ more)
-  one_more sign bytes first more s x y = record {
+  one_more sign s x y = record {
     characters = (s.characters ++ x.characters) ++ y.characters;
-    spells = spell_both _ _ _ _ (spell_both _ _ _ _ s.spells x.spells) y.spells;
+    spells = spell_both (spell_both s.spells x.spells) y.spells;
     is_so = (s.characters, x.characters, y.characters, s.is_so, x.is_so, y.is_so, append_assoc s.characters x.characters y.characters);
   }
 
-in_parentheses : (Is : List ℕ → Type 0) (bytes : List ℕ) → Spelt Is bytes → Spelt (InParentheses Is) ((codes "(" ++ bytes) ++ codes ")")
-in_parentheses Is bytes x = record {
-  characters = (codes "(" ++ x.characters) ++ codes ")";
-  spells = spell_between 40 41 bytes x.characters (omega arith) (omega arith) x.spells;
-  is_so = ([], x.characters, [], tt, x.is_so, tt, refl);
-}
+in_parentheses : {Is : List ℕ → Type 0} {bytes : List ℕ} → Spelt Is bytes → Spelt (InParentheses Is) ((codes "(" ++ bytes) ++ codes ")")
+in_parentheses x = spelt_between (spell_sign 40 (omega arith)) x (spell_sign 41 (omega arith)) (λ a is. ([], a, [], tt, is, tt, refl))
 
-negated : (Is : List ℕ → Type 0) (bytes : List ℕ) → Spelt Is bytes → Spelt (Negated Is) (codes "!" ++ bytes)
-negated Is bytes x = record {
-  characters = codes "!" ++ x.characters;
-  spells = spell_both _ _ _ _ (spell_ascii (codes "!") (omega arith, tt)) x.spells;
-  is_so = ([], x.characters, tt, x.is_so, refl);
-}
+negated : {Is : List ℕ → Type 0} {bytes : List ℕ} → Spelt Is bytes → Spelt (Negated Is) (codes "!" ++ bytes)
+negated x = spelt_after (spell_sign 33 (omega arith)) x (λ a is. ([], a, tt, is, refl))
 
 -- ---- trees, part by part
 
 mutual
   query_spelt : (q : Query) (t : List ℕ) → all_scalars t ≡ true → Reads q t → Spelt (Reads q) (query_text q)
   query_spelt (query kind segs) t e (a, segments, split) =
-      let x = segments_spelt segs a (scalars_of t (query_sign kind) a e split).1 segments in
-      record {
-        characters = query_sign kind ++ x.characters;
-        spells = spell_both _ _ _ _ (kind_spells kind) x.spells;
-        is_so = (x.characters, x.is_so, refl);
-      }
+      spelt_after (kind_spells kind) (segments_spelt segs a (scalars_of t (query_sign kind) a e split).1 segments) (λ a is. (a, is, refl))
 
   segments_spelt : (segs : Segments) (t : List ℕ) → all_scalars t ≡ true → ReadSegments segs t → Spelt (ReadSegments segs) (segments_text segs)
-  segments_spelt no_segments t e h = record { characters = []; spells = spell_nothing; is_so = refl }
+  segments_spelt no_segments t e h = spelt_nothing refl
   segments_spelt (segment kind seg more) t e (k, a, b, blank, first, rest, split) =
       let h = scalars_after t k a b e split in
-      let x = segment_spelt seg kind a h.0 first in
-      let y = segments_spelt more b h.1 rest in
-      record {
-        characters = x.characters ++ y.characters;
-        spells = spell_both _ _ _ _ x.spells y.spells;
-        is_so = ([], x.characters, y.characters, tt, x.is_so, y.is_so, refl);
-      }
+      spelt_both (segment_spelt seg kind a h.0 first) (segments_spelt more b h.1 rest) (λ a b is others. ([], a, b, tt, is, others, refl))
 
   segment_spelt : (seg : Segment) (kind : SegmentKind) (t : List ℕ) → all_scalars t ≡ true → ReadsSegment seg kind t → Spelt (ReadsSegment seg kind) (segment_text seg kind)
-  segment_spelt (dot_name bytes) kind t e (a, is, split) = record {
-    characters = dots_before_name kind ++ a;
-    spells = spell_both _ _ _ _ (dots_spell kind) (record { scalars = (scalars_of t (dots_before_name kind) a e split).1; encoded = sym is.bytes_of });
-    is_so = (a, is, refl);
-  }
-  segment_spelt dot_wildcard kind t e h = record {
-    characters = dots_before_name kind ++ codes "*";
-    spells = spell_both _ _ _ _ (dots_spell kind) (spell_ascii (codes "*") (omega arith, tt));
-    is_so = refl;
-  }
+  segment_spelt (dot_name bytes) kind t e (a, is, split) =
+      let name : Spells bytes a = record { scalars = (scalars_of t (dots_before_name kind) a e split).1; encoded = sym is.bytes_of } in
+      spelt_after {Is = λ t. IsName t bytes} (dots_spell kind) (record { characters = a; spells = name; is_so = is }) (λ a is. (a, is, refl))
+  segment_spelt dot_wildcard kind t e h =
+      record { characters = dots_before_name kind ++ codes "*"; spells = spell_both (dots_spell kind) (spell_sign 42 (omega arith)); is_so = refl }
   segment_spelt (long_hand sels) kind t e (j, a, k, blank, inside, blank', split) =
       let x = selectors_spelt sels a (scalars_inside t (dots_before_bracket kind) (codes "[" ++ j) a (k ++ codes "]") e split) inside in
-      record {
-        characters = ((dots_before_bracket kind ++ codes "[") ++ x.characters) ++ codes "]";
-        spells = spell_both _ _ _ _ (spell_both _ _ _ _ (spell_both _ _ _ _ (bracket_dots_spell kind) (spell_ascii (codes "[") (omega arith, tt))) x.spells) (spell_ascii (codes "]") (omega arith, tt));
-        is_so = ([], x.characters, [], tt, x.is_so, tt, simp append_assoc refl);
-      }
+      spelt_between (spell_both (bracket_dots_spell kind) (spell_sign 91 (omega arith))) x (spell_sign 93 (omega arith)) (λ a is. ([], a, [], tt, is, tt, simp append_assoc refl))
 
   selectors_spelt : (sels : Selectors) (t : List ℕ) → all_scalars t ≡ true → ReadSelectors sels t → Spelt (ReadSelectors sels) (joined (codes ", ") (selector_texts sels))
   selectors_spelt no_selectors t e h = elim h [ ]
   selectors_spelt (selector sel more) t e (a, b, first, rest, split) =
       let h = scalars_of t a b e split in
-      both (ReadsSelector sel) (ReadMoreSelectors more) _ _ (selector_spelt sel a h.0 first) (more_selectors_spelt more b h.1 rest)
+      both (selector_spelt sel a h.0 first) (more_selectors_spelt more b h.1 rest)
 
   more_selectors_spelt : (sels : Selectors) (t : List ℕ) → all_scalars t ≡ true → ReadMoreSelectors sels t
       → Spelt (ReadMoreSelectors sels) (flat_map (λ t. codes ", " ++ t) (selector_texts sels))
-  more_selectors_spelt no_selectors t e h = record { characters = []; spells = spell_nothing; is_so = refl }
+  more_selectors_spelt no_selectors t e h = spelt_nothing refl
   more_selectors_spelt (selector sel more) t e (s, a, b, sign, first, rest, split) =
       let h = scalars_after t s a b e split in
-      one_more (ReadsSelector sel) (ReadMoreSelectors more) (codes ",") (codes ", ") _ _ comma_spelt (selector_spelt sel a h.0 first) (more_selectors_spelt more b h.1 rest)
+      one_more (codes ",") comma_spelt (selector_spelt sel a h.0 first) (more_selectors_spelt more b h.1 rest)
 
   selector_spelt : (sel : Selector) (t : List ℕ) → all_scalars t ≡ true → ReadsSelector sel t → Spelt (ReadsSelector sel) (selector_text sel)
   selector_spelt (name bytes) t e h = string_spelt t bytes e h
-  selector_spelt wildcard t e h = record { characters = codes "*"; spells = spell_ascii (codes "*") (omega arith, tt); is_so = refl }
+  selector_spelt wildcard t e h = record { characters = codes "*"; spells = spell_sign 42 (omega arith); is_so = refl }
   selector_spelt (index i) t e h = int_spelt t i h
   selector_spelt (slice s) t e h = slice_spelt s t h
   selector_spelt (filter c) t e (k, a, blank, inside, split) =
-      let x = ors_spelt c a (scalars_after t (codes "?") k a e split).1 inside in
-      record {
-        characters = codes "?" ++ x.characters;
-        spells = spell_both _ _ _ _ (spell_ascii (codes "?") (omega arith, tt)) x.spells;
-        is_so = ([], x.characters, tt, x.is_so, refl);
-      }
+      spelt_after (spell_sign 63 (omega arith)) (ors_spelt c a (scalars_after t (codes "?") k a e split).1 inside) (λ a is. ([], a, tt, is, refl))
 
   ors_spelt : (c : LogicalOr) (t : List ℕ) → all_scalars t ≡ true → ReadsOr c t → Spelt (ReadsOr c) (or_text c)
   ors_spelt no_or t e h = elim h [ ]
   ors_spelt (or part more) t e (a, b, first, rest, split) =
       let h = scalars_of t a b e split in
-      both (ReadsAnd part) (ReadMoreOrs more) _ _ (ands_spelt part a h.0 first) (more_ors_spelt more b h.1 rest)
+      both (ands_spelt part a h.0 first) (more_ors_spelt more b h.1 rest)
 
   more_ors_spelt : (c : LogicalOr) (t : List ℕ) → all_scalars t ≡ true → ReadMoreOrs c t → Spelt (ReadMoreOrs c) (flat_map (λ t. codes " || " ++ t) (and_texts c))
-  more_ors_spelt no_or t e h = record { characters = []; spells = spell_nothing; is_so = refl }
+  more_ors_spelt no_or t e h = spelt_nothing refl
   more_ors_spelt (or part more) t e (s, a, b, sign, first, rest, split) =
       let h = scalars_after t s a b e split in
-      one_more (ReadsAnd part) (ReadMoreOrs more) (codes "||") (codes " || ") _ _ or_spelt (ands_spelt part a h.0 first) (more_ors_spelt more b h.1 rest)
+      one_more (codes "||") or_spelt (ands_spelt part a h.0 first) (more_ors_spelt more b h.1 rest)
 
   ands_spelt : (c : LogicalAnd) (t : List ℕ) → all_scalars t ≡ true → ReadsAnd c t → Spelt (ReadsAnd c) (and_text c)
   ands_spelt no_and t e h = elim h [ ]
   ands_spelt (and part more) t e (a, b, first, rest, split) =
       let h = scalars_of t a b e split in
-      both (ReadsBasic part) (ReadMoreAnds more) _ _ (basic_spelt part a h.0 first) (more_ands_spelt more b h.1 rest)
+      both (basic_spelt part a h.0 first) (more_ands_spelt more b h.1 rest)
 
   more_ands_spelt : (c : LogicalAnd) (t : List ℕ) → all_scalars t ≡ true → ReadMoreAnds c t → Spelt (ReadMoreAnds c) (flat_map (λ t. codes " && " ++ t) (basic_texts c))
-  more_ands_spelt no_and t e h = record { characters = []; spells = spell_nothing; is_so = refl }
+  more_ands_spelt no_and t e h = spelt_nothing refl
   more_ands_spelt (and part more) t e (s, a, b, sign, first, rest, split) =
       let h = scalars_after t s a b e split in
-      one_more (ReadsBasic part) (ReadMoreAnds more) (codes "&&") (codes " && ") _ _ and_spelt (basic_spelt part a h.0 first) (more_ands_spelt more b h.1 rest)
+      one_more (codes "&&") and_spelt (basic_spelt part a h.0 first) (more_ands_spelt more b h.1 rest)
 
   basic_spelt : (part : Basic) (t : List ℕ) → all_scalars t ≡ true → ReadsBasic part t → Spelt (ReadsBasic part) (basic_text part)
   basic_spelt (paren c) t e (j, a, k, blank, inside, blank', split) =
-      in_parentheses (ReadsOr c) _ (ors_spelt c a (scalars_inside t (codes "(") j a (k ++ codes ")") e split) inside)
+      in_parentheses (ors_spelt c a (scalars_inside t (codes "(") j a (k ++ codes ")") e split) inside)
   basic_spelt (not_paren c) t e (i, p, blank, (j, a, k, blank', inside, blank'', within), split) =
       let x = ors_spelt c a (scalars_inside p (codes "(") j a (k ++ codes ")") (scalars_after t (codes "!") i p e split).1 within) inside in
-      negated (InParentheses (ReadsOr c)) _ (in_parentheses (ReadsOr c) _ x)
+      negated (in_parentheses x)
   basic_spelt (relation left op right) t e (a, s, b, l, sign, r, split) =
       let x = comparable_spelt left a (scalars_of t a (s ++ b) e split).0 l in
       let y = comparable_spelt right b (scalars_after t a s b e split).1 r in
       let o = operator_spells op in
       record {
         characters = (((x.characters ++ codes " ") ++ operator_sign op) ++ codes " ") ++ y.characters;
-        spells = spell_both _ _ _ _ (spell_both _ _ _ _ (spell_both _ _ _ _ (spell_both _ _ _ _ x.spells blank_spells) o) blank_spells) y.spells;
+        spells = spell_both (spell_both (spell_both (spell_both x.spells blank_spells) o) blank_spells) y.spells;
         is_so = (x.characters, codes " " ++ (operator_sign op ++ codes " "), y.characters, x.is_so, between_blanks (operator_sign op), y.is_so, simp append_assoc refl);
       }
   basic_spelt (exist q) t e h = query_spelt q t e h
-  basic_spelt (not_exist q) t e (k, a, blank, inside, split) = negated (Reads q) _ (query_spelt q a (scalars_after t (codes "!") k a e split).1 inside)
+  basic_spelt (not_exist q) t e (k, a, blank, inside, split) = negated (query_spelt q a (scalars_after t (codes "!") k a e split).1 inside)
   basic_spelt (test c) t e h = call_spelt c t e h
-  basic_spelt (not_test c) t e (k, a, blank, inside, split) = negated (ReadsCall c) _ (call_spelt c a (scalars_after t (codes "!") k a e split).1 inside)
+  basic_spelt (not_test c) t e (k, a, blank, inside, split) = negated (call_spelt c a (scalars_after t (codes "!") k a e split).1 inside)
 
   comparable_spelt : (c : Comparable) (t : List ℕ) → all_scalars t ≡ true → ReadsComparable c t → Spelt (ReadsComparable c) (comparable_text c)
   comparable_spelt (literal l) t e h = literal_spelt l t e h
-  comparable_spelt (singular q) t e h = let x = query_spelt q t e h.1 in record { characters = x.characters; spells = x.spells; is_so = (h.0, x.is_so) }
+  comparable_spelt (singular q) t e h = spelt_as (λ a is. (h.0, is)) (query_spelt q t e h.1)
   comparable_spelt (called c) t e h = call_spelt c t e h
 
   call_spelt : (c : Call) (t : List ℕ) → all_scalars t ≡ true → ReadsCall c t → Spelt (ReadsCall c) (call_text c)
   call_spelt (call f args) t e (n, j, a, k, is, blank, inside, blank', split) =
       let x = arguments_spelt args a (scalars_inside t n (codes "(" ++ j) a (k ++ codes ")") e split) inside in
-      record {
-        characters = ((n ++ codes "(") ++ x.characters) ++ codes ")";
-        spells = spell_both _ _ _ _ (spell_both _ _ _ _ (spell_both _ _ _ _ (function_name_spells n f is) (spell_ascii (codes "(") (omega arith, tt))) x.spells) (spell_ascii (codes ")") (omega arith, tt));
-        is_so = (n, [], x.characters, [], is, tt, x.is_so, tt, simp append_assoc refl);
-      }
+      spelt_between (spell_both (function_name_spells n f is) (spell_sign 40 (omega arith))) x (spell_sign 41 (omega arith)) (λ a inside. (n, [], a, [], is, tt, inside, tt, simp append_assoc refl))
 
   arguments_spelt : (args : Arguments) (t : List ℕ) → all_scalars t ≡ true → ReadArguments args t → Spelt (ReadArguments args) (joined (codes ", ") (argument_texts args))
-  arguments_spelt no_arguments t e h = record { characters = []; spells = spell_nothing; is_so = refl }
+  arguments_spelt no_arguments t e h = spelt_nothing refl
   arguments_spelt (argument arg more) t e (a, b, first, rest, split) =
       let h = scalars_of t a b e split in
-      both (ReadsArgument arg) (ReadMoreArguments more) _ _ (argument_spelt arg a h.0 first) (more_arguments_spelt more b h.1 rest)
+      both (argument_spelt arg a h.0 first) (more_arguments_spelt more b h.1 rest)
 
   more_arguments_spelt : (args : Arguments) (t : List ℕ) → all_scalars t ≡ true → ReadMoreArguments args t
       → Spelt (ReadMoreArguments args) (flat_map (λ t. codes ", " ++ t) (argument_texts args))
-  more_arguments_spelt no_arguments t e h = record { characters = []; spells = spell_nothing; is_so = refl }
+  more_arguments_spelt no_arguments t e h = spelt_nothing refl
   more_arguments_spelt (argument arg more) t e (s, a, b, sign, first, rest, split) =
       let h = scalars_after t s a b e split in
-      one_more (ReadsArgument arg) (ReadMoreArguments more) (codes ",") (codes ", ") _ _ comma_spelt (argument_spelt arg a h.0 first) (more_arguments_spelt more b h.1 rest)
+      one_more (codes ",") comma_spelt (argument_spelt arg a h.0 first) (more_arguments_spelt more b h.1 rest)
 
   argument_spelt : (arg : Argument) (t : List ℕ) → all_scalars t ≡ true → ReadsArgument arg t → Spelt (ReadsArgument arg) (argument_text arg)
   argument_spelt (literal_argument l) t e h = literal_spelt l t e h
   argument_spelt (query_argument q) t e h = query_spelt q t e h
   argument_spelt (call_argument c) t e h = call_spelt c t e h
-  argument_spelt (logical_argument c) t e h = let x = ors_spelt c t e h.1 in record { characters = x.characters; spells = x.spells; is_so = (h.0, x.is_so) }
+  argument_spelt (logical_argument c) t e h = spelt_as (λ a is. (h.0, is)) (ors_spelt c t e h.1)
 
 -- ---- whole queries
 

@@ -38,8 +38,8 @@ scalars_parts (c ∷ s) t e =
 pub scalars_of : (t a b : List ℕ) → all_scalars t ≡ true → t ≡ a ++ b → (all_scalars a ≡ true) × (all_scalars b ≡ true)
 scalars_of t a b e split = scalars_parts a b (ap all_scalars (sym split) ∙ e)
 
-pub spell_both : (a b s t : List ℕ) → Spells a s → Spells b t → Spells (a ++ b) (s ++ t)
-spell_both a b s t h g = record {
+pub spell_both : {a b s t : List ℕ} → Spells a s → Spells b t → Spells (a ++ b) (s ++ t)
+spell_both {s = s} {t = t} h g = record {
   scalars = scalars_joined s t h.scalars g.scalars;
   encoded = encodes-append s t ∙ rw (h.encoded, g.encoded) refl;
 }
@@ -54,11 +54,38 @@ spell_ascii (c ∷ t) h =
     let rest = spell_ascii t h.1 in
     record { scalars = rw (ascii_is_scalar c h.0) rest.scalars; encoded = rw (encode_ascii c h.0, rest.encoded) refl }
 
--- a text between two characters
-pub spell_between : (first last : ℕ) (bytes text : List ℕ) → first < 128 → last < 128 → Spells bytes text → Spells (first ∷ (bytes ++ last ∷ [])) (first ∷ (text ++ last ∷ []))
-spell_between first last bytes text low high h =
-    spell_both (first ∷ []) (bytes ++ last ∷ []) (first ∷ []) (text ++ last ∷ []) (spell_ascii (first ∷ []) (low, tt))
-    (spell_both bytes (last ∷ []) text (last ∷ []) h (spell_ascii (last ∷ []) (high, tt)))
+-- a sign of one ASCII character
+pub spell_sign : (c : ℕ) → c < 128 → Spells (c ∷ []) (c ∷ [])
+spell_sign c low = spell_ascii (c ∷ []) (low, tt)
+
+pub spelt_nothing : {Is : List ℕ → Type 0} → Is [] → Spelt Is []
+spelt_nothing h = record { characters = []; spells = spell_nothing; is_so = h }
+
+module _ {Is Whole : List ℕ → Type 0} {bytes : List ℕ} where
+  -- what is so is also something else
+  pub spelt_as : ((a : List ℕ) → Is a → Whole a) → Spelt Is bytes → Spelt Whole bytes
+  spelt_as good x = record { characters = x.characters; spells = x.spells; is_so = good x.characters x.is_so }
+
+  -- after a sign, and between two
+  pub spelt_after : {signed sign : List ℕ} → Spells signed sign → Spelt Is bytes → ((a : List ℕ) → Is a → Whole (sign ++ a)) → Spelt Whole (signed ++ bytes)
+  spelt_after {sign = sign} s x good = record { characters = sign ++ x.characters; spells = spell_both s x.spells; is_so = good x.characters x.is_so }
+
+  pub spelt_between : {opened open_sign closed close_sign : List ℕ} → Spells opened open_sign → Spelt Is bytes → Spells closed close_sign
+      → ((a : List ℕ) → Is a → Whole ((open_sign ++ a) ++ close_sign)) → Spelt Whole ((opened ++ bytes) ++ closed)
+  spelt_between {open_sign = open_sign} {close_sign = close_sign} o x c good = record {
+    characters = (open_sign ++ x.characters) ++ close_sign;
+    spells = spell_both (spell_both o x.spells) c;
+    is_so = good x.characters x.is_so;
+  }
+
+-- one part after another
+pub spelt_both : {First More Whole : List ℕ → Type 0} {first more : List ℕ} → Spelt First first → Spelt More more
+    → ((a b : List ℕ) → First a → More b → Whole (a ++ b)) → Spelt Whole (first ++ more)
+spelt_both x y good = record {
+  characters = x.characters ++ y.characters;
+  spells = spell_both x.spells y.spells;
+  is_so = good x.characters y.characters x.is_so y.is_so;
+}
 
 -- ---- a character as it is printed
 
@@ -143,7 +170,10 @@ text_spells : (cs : List ℕ) → all_scalars cs ≡ true → Spells (flat_map i
 text_spells [] e = spell_nothing
 text_spells (c ∷ cs) e =
     let h = and_parts _ (all_scalars cs) e in
-    spell_both (in_quotes c) (flat_map in_quotes cs) (printed c) (flat_map printed cs) (printed_spells c (escape_of c) (escape_printed c) h.0) (text_spells cs h.1)
+    spell_both (printed_spells c (escape_of c) (escape_printed c) h.0) (text_spells cs h.1)
+
+single_quote : Spells (39 ∷ []) (39 ∷ [])
+single_quote = spell_sign 39 (omega arith)
 
 -- the bytes of a text are printed in quotes that read as a string of them
 pub quoted_spelt : (bytes : List ℕ) → IsUtf8 bytes → Spelt (λ t. IsString t bytes) (quoted bytes)
@@ -151,7 +181,7 @@ quoted_spelt bytes utf8 =
     let cs = chars bytes in
     record {
       characters = 39 ∷ (flat_map printed cs ++ 39 ∷ []);
-      spells = spell_between 39 39 _ _ (omega arith) (omega arith) (text_spells cs (scalars-chars bytes utf8));
+      spells = spell_both (spell_both single_quote (text_spells cs (scalars-chars bytes utf8))) single_quote;
       is_so = (39, flat_map printed cs, cs, inl refl, text_pieces cs, refl, sym (encodes-chars bytes utf8));
     }
 
