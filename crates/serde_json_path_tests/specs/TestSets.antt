@@ -42,21 +42,12 @@ own_functions = record {
 }
 
 kids_typed : (ts : List Term) → kind_of_term (kids_meaning ts) ≡ of_nodes
-kids_typed [] = refl
 kids_typed (nodes ds ∷ []) = refl
-kids_typed (nodes ds ∷ t ∷ ts) = refl
-kids_typed (value v ∷ ts) = refl
-kids_typed (logical b ∷ ts) = refl
+kids_typed _ = refl
 
 both_typed : (ts : List Term) → kind_of_term (both_meaning ts) ≡ of_logical
-both_typed [] = refl
-both_typed (logical a ∷ []) = refl
 both_typed (logical a ∷ logical b ∷ []) = refl
-both_typed (logical a ∷ logical b ∷ t ∷ ts) = refl
-both_typed (logical a ∷ value v ∷ ts) = refl
-both_typed (logical a ∷ nodes ds ∷ ts) = refl
-both_typed (value v ∷ ts) = refl
-both_typed (nodes ds ∷ ts) = refl
+both_typed _ = refl
 
 own_by_name : (is_kids is_both is_none is_plain is_eight : Bool)
     → Keeps (own_signature_by is_kids is_both is_none is_plain is_eight) (λ ts. own_meaning_by is_kids is_both is_none ts)
@@ -87,11 +78,8 @@ abbrev pub odd_functions : FunctionSet
 odd_functions = record { signature = odd_signature; meaning = λ name ts. odd_meaning ts; by_regex = λ name. None }
 
 odd_typed : (ts : List Term) → kind_of_term (odd_meaning ts) ≡ of_value
-odd_typed [] = refl
 odd_typed (nodes ds ∷ []) = refl
-odd_typed (nodes ds ∷ t ∷ ts) = refl
-odd_typed (value v ∷ ts) = refl
-odd_typed (logical b ∷ ts) = refl
+odd_typed _ = refl
 
 odd_by_name : (a : Bool) → Keeps (if a then Some (record { params = of_nodes ∷ []; result = of_value }) else None) odd_meaning
 odd_by_name true = declared_keeps _ odd_meaning (omega arith) odd_typed

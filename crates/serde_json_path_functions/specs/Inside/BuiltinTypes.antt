@@ -7,25 +7,16 @@ use Rattle.serde_json_path_functions.specs.Functions.{of_value, of_nodes, Signat
 use Rattle.serde_json_path_functions.specs.Patterns.{pattern_meaning, KeepsPatterns, meaning_by, builtin_functions}
 
 length_typed : (ts : List Term) → kind_of_term (length_meaning ts) ≡ of_value
-length_typed [] = refl
 length_typed (value v ∷ []) = refl
-length_typed (value v ∷ t ∷ ts) = refl
-length_typed (nodes ds ∷ ts) = refl
-length_typed (logical b ∷ ts) = refl
+length_typed _ = refl
 
 count_typed : (ts : List Term) → kind_of_term (count_meaning ts) ≡ of_value
-count_typed [] = refl
 count_typed (nodes ds ∷ []) = refl
-count_typed (nodes ds ∷ t ∷ ts) = refl
-count_typed (value v ∷ ts) = refl
-count_typed (logical b ∷ ts) = refl
+count_typed _ = refl
 
 value_typed : (ts : List Term) → kind_of_term (value_meaning ts) ≡ of_value
-value_typed [] = refl
 value_typed (nodes ds ∷ []) = refl
-value_typed (nodes ds ∷ t ∷ ts) = refl
-value_typed (value v ∷ ts) = refl
-value_typed (logical b ∷ ts) = refl
+value_typed _ = refl
 
 abbrev plain_by : Bool → Bool → Bool → Option Signature
 plain_by a b c =
