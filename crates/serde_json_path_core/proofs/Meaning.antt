@@ -10,10 +10,8 @@ pub mod Descents
 pub mod Comparisons
 -- under a function set that keeps types, the computed arguments and answers of well-typed calls have their declared types
 pub mod AnswerKinds
--- the ends of a query's derivations, computed
+-- where derivations end, and what is beneath
 pub mod DerivationEnds
--- what segments select from a node is what they select from its value, below its location
-pub mod Beneath
 -- derivations are in an order
 pub mod Order
 -- the computed ends are those of the derivations, and the computed tests hold where the defined ones do

@@ -1,6 +1,4 @@
 -- What an evaluation stands on.
 
--- what an evaluation stands on of a part, for the parts of that part
+-- the parts of a sound query are sound
 pub mod Parts
--- a query that fits a set is sound as a whole
-pub mod WholeQueries

@@ -39,8 +39,8 @@ pub use Rattle.serde_json_path_functions.specs.Terms.{term_view}
 pub use Rattle.serde_json_path_syntax.proofs.Lists.InLists.{flat_map-flat_map, flat_map-same, in_append, in_flat_map, in_keep, in_map, in_option}
 pub use Rattle.serde_json_path_syntax.proofs.Lists.InLists.{in_order-append, in_order-flat_map, in_order-keep, in_order-map, in_order-option, map-flat_map}
 pub use Rattle.serde_json_path_syntax.proofs.Lists.InLists.{map_in, weaker}
-pub use Rattle.serde_json_path_syntax.proofs.Tree.BoundedParts.{within_bound, within_get}
-pub use Rattle.serde_json_path_syntax.proofs.Tree.Bounds.{below_length, past_length}
+pub use Rattle.serde_json_path_syntax.proofs.Tree.NamedParts.{within_bound, within_get}
+pub use Rattle.serde_json_path_syntax.proofs.Tree.NamedParts.{below_length, past_length}
 pub use Rattle.serde_json_path_syntax.proofs.Typing.TypedParts.{typed_segment}
 pub use Rattle.serde_json_path_syntax.specs.Calls.{arguments_of, calls_from, calls_in_and, calls_in_argument, calls_in_arguments, calls_in_basic}
 pub use Rattle.serde_json_path_syntax.specs.Calls.{calls_in_comparable, calls_in_or, calls_in_segment, calls_in_segments, calls_in_selector, calls_in_selectors}
@@ -77,9 +77,9 @@ pub use Rattle.serde_json_path_core.specs.Inside.Computed.{compare_sides, compar
 pub use Rattle.serde_json_path_core.specs.Inside.Computed.{items_descents, items_from, itself, members_all, members_descents, next_position, placed}
 pub use Rattle.serde_json_path_core.specs.Inside.Computed.{positions_by, reached, results, results_from, rising, rising_amount, same_amount, same_data}
 pub use Rattle.serde_json_path_core.specs.Inside.Computed.{same_items, same_members, selected, sliced, strided}
-pub use Rattle.serde_json_path_core.specs.Inside.Cursors.{cursor_left}
+pub use Rattle.serde_json_path_core.specs.Inside.Views.{cursor_left}
 pub use Rattle.serde_json_path_core.specs.Inside.Evaluates.{Sound}
-pub use Rattle.serde_json_path_core.specs.Inside.Frames.{frame_view, frames_view, task_view}
+pub use Rattle.serde_json_path_core.specs.Inside.Views.{frame_view, frames_view, task_view}
 pub use Rattle.serde_json_path_core.specs.Inside.Rest.{AllStandIn, EndsIn, Frame, IsAtChild, IsAtStart, IsChain, IsInside, IsOfValue, IsStack, IsStackIn, admitted}
 unfoldable pub use Rattle.serde_json_path_core.specs.Inside.Rest.{AreChildrenOf}
 pub use Rattle.serde_json_path_core.specs.Inside.Rest.{begun, candidates, entered, entering, frame_tasks, here, is_leaf, last_passed, lower, lower_left}
@@ -88,8 +88,8 @@ pub use Rattle.serde_json_path_core.specs.Inside.Rest.{visit_rest, visit_stack, 
 pub use Rattle.serde_json_path_core.specs.Inside.Scopes.{nodes_of, top_of}
 pub use Rattle.serde_json_path_core.specs.Inside.Selected.{child_by, item_at, position_in}
 pub use Rattle.serde_json_path_core.specs.Inside.SingleChildren.{SelectOnly, single_view, values_from}
-pub use Rattle.serde_json_path_core.specs.Inside.Sound.{IsSound}
-unfoldable pub use Rattle.serde_json_path_core.specs.Inside.Sound.{AreCallsOf}
+pub use Rattle.serde_json_path_core.specs.Inside.Scopes.{IsSound}
+unfoldable pub use Rattle.serde_json_path_core.specs.Inside.Scopes.{AreCallsOf}
 pub use Rattle.serde_json_path_core.specs.Inside.Views.{child_view}
 pub use Rattle.serde_json_path_core.specs.Laws.{AreChildren, AreResultsAt, AreSubtreeResults, with_segment}
 pub use Rattle.serde_json_path_core.specs.Meaning.{Admits, AdmitsBy, AdmitsIn, Answers, AnswersYes, AreArguments, Derives, Exists, Holds, HoldsAll, HoldsBasic}

@@ -10,25 +10,17 @@ pub mod Computed
 pub mod Rest
 -- how a frame moves on
 pub mod Advances
--- what the evaluation of a part of a query stands on
-pub mod Sound
 -- ---- the code's values as the definitions see them
 
--- the program's values as the definitions see them
+-- children, cursors, slice positions and frames as the definitions see them
 pub mod Views
--- slice positions as the definitions see them, and the items at those that are left
-pub mod PositionViews
--- the children that a cursor has not given yet
-pub mod Cursors
--- the frames of a walk as the definitions see them
-pub mod Frames
 -- where a query goes on after segments that select one child at most
 pub mod SingleChildren
 -- the sides of a comparison as the definitions see them
 pub mod Sides
 -- filters that are one comparison
 pub mod SingleComparisons
--- what an evaluation goes by
+-- what all parts of an evaluation share, and what it asks of the query
 pub mod Scopes
 -- the words of the functions that evaluate
 pub mod Evaluates

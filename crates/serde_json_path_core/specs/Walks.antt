@@ -6,7 +6,7 @@ use Rattle.serde_json_path_nodes.specs.Location.{Located}
 use Rattle.serde_json_path_syntax.specs.Tree.{Query, segments_of}
 use Rattle.serde_json_path_functions.specs.Functions.{FunctionSet}
 use Rattle.serde_json_path_syntax.specs.Parts.{tree_of}
-use Rattle.serde_json_path_core.specs.Inside.Frames.{frames_view}
+use Rattle.serde_json_path_core.specs.Inside.Views.{frames_view}
 use Rattle.serde_json_path_core.specs.Inside.Rest.{rest_of, work}
 use Rattle.serde_json_path_syntax.specs.Stages.{stages}
 use Rattle.serde_json_path_core.specs.declared.evaluation.walks.Walk.{Walk}

@@ -1,6 +1,4 @@
 -- Equality.
 
--- parts of two trees that are compared one by one
-pub mod OneByOne
--- lists of parts of each kind, compared one by one
+-- equality of parts, of any kind and one by one
 pub mod OfKinds

@@ -37,7 +37,7 @@ impl Arena {
     /// Appends a node whose children already exist.
     // Inlined, so that a caller writes the node straight into the vector.
     #[inline(always)]
-    #[tactic(auto, using(crate::proofs::Tree::Fitting::fitting_pushed))]
+    #[tactic(auto, using(crate::proofs::Tree::Growing::fitting_pushed))]
     pub(crate) fn push(&mut self, node: Node) -> Result<Part, AllocError>
         requires below { NamesBelow (length self.old.nodes.items) node }
         requires fits { fits (pieces self.old.nodes.items) node ≡ true }

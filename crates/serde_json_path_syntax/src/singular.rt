@@ -10,7 +10,7 @@ use crate::arena::Arena;
 use crate::node::{Node, Part, Segment, SegmentKind, Selector};
 
 /// Whether a query is singular.
-#[tactic(auto, using(crate::proofs::Tree::BoundedParts::within_get))]
+#[tactic(auto, using(crate::proofs::Tree::NamedParts::within_get))]
 pub(crate) fn is_singular(arena: &Arena, query: Part) -> bool
     requires within { query.number < length arena.now.nodes.items }
     requires is { (q : tree.Query) × (piece_at arena.now.nodes.items query.number ≡ a_query q) }
@@ -39,7 +39,7 @@ fn is_singular_segment(arena: &Arena, segment: Part) -> bool
 }
 
 /// Whether a segment is one name or one index.
-#[tactic(auto, using(crate::proofs::Tree::SingularParts::two_selectors))]
+#[tactic(auto, using(crate::proofs::Tree::NamedParts::two_selectors))]
 fn selects_one(arena: &Arena, segment: &Segment) -> bool
     requires { parts_bound (segment_parts segment.now) ≤ length arena.now.nodes.items }
     ensures { IsTrue result

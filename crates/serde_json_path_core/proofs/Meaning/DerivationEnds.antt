@@ -1,14 +1,18 @@
--- The ends of a query's derivations, computed: each derivation with the value that it leads to, in the derivations' order.
+-- Where derivations end, and what is beneath.
 use Rattle.std.proofs.Common.{◌≡◌, ℕ, suc, ◌+◌, ◌<◌, ◌≤◌, List, [], ◌∷◌, ◌++◌, map, flat_map, ◌⊎◌, inl, inr, option_to_list, refl, sym, ap, subst, ◌∙◌, arith, append_assoc}
-use Rattle.serde_json_path_core.proofs.Words.{append-nil, map-append, flat_map-map, Data, Step, by_name, Located, StepBefore, DescentBefore, SegmentKind, child}
-use Rattle.serde_json_path_core.proofs.Words.{descendant, Segments, no_segments, segment, Segment, dot_name, dot_wildcard, long_hand, Selectors, no_selectors}
-use Rattle.serde_json_path_core.proofs.Words.{selector, Selector, name, wildcard, index, slice, filter, FunctionSet, Triple, location_of, SelectedBefore}
-use Rattle.serde_json_path_core.proofs.Words.{SelectedBeforeBy, TripleBefore, Before, beneath, IsIn, IsInOrder, child_by, item_at, itself, children, descents}
-use Rattle.serde_json_path_core.proofs.Words.{reached, placed, results_from, chosen, chosen_by, selected, is_true, in_append, in_map, weaker, in_order-append}
-use Rattle.serde_json_path_core.proofs.Words.{in_order-map, in_order-flat_map, in_order-keep, in_order-option, flat_map-same, flat_map-flat_map, map-flat_map}
+use Rattle.serde_json_path_core.proofs.Words.{append-nil, map-append, flat_map-map, Data, Step, by_name, Located, StepBefore, DescentBefore}
+use Rattle.serde_json_path_core.proofs.Words.{SegmentKind, child, descendant, Segments, no_segments, segment, Segment, dot_name, dot_wildcard}
+use Rattle.serde_json_path_core.proofs.Words.{long_hand, Selectors, no_selectors, selector, Selector, name, wildcard, index, slice, filter}
+use Rattle.serde_json_path_core.proofs.Words.{FunctionSet, Triple, location_of, SelectedBefore, SelectedBeforeBy, TripleBefore, Before, beneath, IsIn}
+use Rattle.serde_json_path_core.proofs.Words.{IsInOrder, child_by, item_at, itself, children, descents, reached, placed, results_from, chosen}
+use Rattle.serde_json_path_core.proofs.Words.{chosen_by, selected, is_true, in_append, in_map, weaker, in_order-append, in_order-map}
+use Rattle.serde_json_path_core.proofs.Words.{in_order-flat_map, in_order-keep, in_order-option, flat_map-same, flat_map-flat_map, map-flat_map}
+use Rattle.serde_json_path_core.proofs.Words.{map-map}
 use Rattle.serde_json_path_core.proofs.Meaning.ChildSteps.{children_ordered}
 use Rattle.serde_json_path_core.proofs.Meaning.Descents.{descents_ordered}
 use Rattle.serde_json_path_core.proofs.Meaning.SlicePositions.{sliced_ordered}
+
+-- ---- the ends of a query's derivations, computed: each derivation with the value that it leads to, in the derivations' order
 
 -- a derivation with the value that it leads to
 abbrev pub End : Type 0
@@ -195,3 +199,11 @@ module _ (F : FunctionSet) (top : Data) where
       ∙ flat_map-same (λ t. results_from F top more (child_of n t)) (λ t. map (node_at n) (map (after t) (ends more t.1)))
       (λ t. results-ends more (child_of n t) ∙ node_at-after n t (ends more t.1)) ts
       ∙ sym (map-flat_map (node_at n) (λ t. map (after t) (ends more t.1)) ts)
+
+-- ---- what segments select from a node is what they select from its value, below its location
+
+module _ (F : FunctionSet) (top : Data) where
+  pub results_beneath : (segs : Segments) (n : Located) → results_from F top segs n ≡ map (beneath n.location) (results_from F top segs (itself n.value))
+  results_beneath segs n =
+      results-ends F top segs n ∙ sym (map-map (beneath n.location) (node_at (itself n.value)) (ends F top segs n.value))
+      ∙ ap (map (beneath n.location)) (sym (results-ends F top segs (itself n.value)))

@@ -1,17 +1,21 @@
--- What an evaluation stands on of a part, for the parts of that part.
-use Rattle.std.proofs.Common.{◌≡◌, ℕ, zero, suc, ◌<◌, ◌≤◌, List, [], ◌∷◌, ◌++◌, length, get_or, slice_get, Some, refl, sym, subst, arith, ap, ◌∙◌}
-use Rattle.serde_json_path_core.proofs.Words.{none-some, same_Some, Query, query, Segments, segments_of, Segment, dot_name, dot_wildcard, long_hand, Selectors}
-use Rattle.serde_json_path_core.proofs.Words.{no_selectors, selector, Selector, name, wildcard, Operator, LogicalOr, no_or, or, no_and, and, Basic, relation}
-use Rattle.serde_json_path_core.proofs.Words.{Comparable, Call, call, FunctionSet, Signature, Kind, Fits, IsTyped, AreTypedSegments, IsTypedSegment}
-use Rattle.serde_json_path_core.proofs.Words.{AreTypedSelectors, IsTypedSelector, IsTypedOr, IsTypedAnd, IsTypedBasic, IsTypedComparable, IsTypedCall}
-use Rattle.serde_json_path_core.proofs.Words.{AreTypedArguments, arguments_of, calls_of, calls_in_segments, calls_in_segment, calls_in_selectors}
-use Rattle.serde_json_path_core.proofs.Words.{calls_in_selector, calls_in_or, calls_in_and, calls_in_basic, calls_in_comparable, calls_from, calls_in_arguments}
-use Rattle.serde_json_path_core.proofs.Words.{calls_in_argument, name_of, IsIn, parts_bound, EndsIn, Piece, argument_in, arguments_in, piece_in, pieces_named}
-use Rattle.serde_json_path_core.proofs.Words.{segment_in, segments_in, and_in, ors_in, basic_in, ands_in, selectors_list, selectors_of, params_of, ∥∥₁_elim}
-use Rattle.serde_json_path_core.proofs.Words.{AreCallsOf, IsSound, Part}
-use Rattle.serde_json_path_syntax.proofs.Names.InCalls.{in_from, of_both}
+-- The parts of a sound query are sound.
+use Rattle.std.proofs.Common.{◌≡◌, ℕ, zero, suc, ◌<◌, ◌≤◌, List, [], ◌∷◌, ◌++◌, length, get_or, slice_get, Some, refl, sym, subst, arith, ap, ◌∙◌, Bool, true, false, bytes_eq, if◌then◌else◌}
+use Rattle.serde_json_path_core.proofs.Words.{none-some, same_Some, Query, query, Segments, segments_of, Segment, dot_name, dot_wildcard, long_hand}
+use Rattle.serde_json_path_core.proofs.Words.{Selectors, no_selectors, selector, Selector, name, wildcard, Operator, LogicalOr, no_or, or, no_and}
+use Rattle.serde_json_path_core.proofs.Words.{and, Basic, relation, Comparable, Call, call, FunctionSet, Signature, Kind, Fits, IsTyped}
+use Rattle.serde_json_path_core.proofs.Words.{AreTypedSegments, IsTypedSegment, AreTypedSelectors, IsTypedSelector, IsTypedOr, IsTypedAnd}
+use Rattle.serde_json_path_core.proofs.Words.{IsTypedBasic, IsTypedComparable, IsTypedCall, AreTypedArguments, arguments_of, calls_of}
+use Rattle.serde_json_path_core.proofs.Words.{calls_in_segments, calls_in_segment, calls_in_selectors, calls_in_selector, calls_in_or, calls_in_and}
+use Rattle.serde_json_path_core.proofs.Words.{calls_in_basic, calls_in_comparable, calls_from, calls_in_arguments, calls_in_argument, name_of, IsIn}
+use Rattle.serde_json_path_core.proofs.Words.{parts_bound, EndsIn, Piece, argument_in, arguments_in, piece_in, pieces_named, segment_in, segments_in}
+use Rattle.serde_json_path_core.proofs.Words.{and_in, ors_in, basic_in, ands_in, selectors_list, selectors_of, params_of, ∥∥₁_elim, AreCallsOf}
+use Rattle.serde_json_path_core.proofs.Words.{IsSound, Part, ∥∥₁_map₂, bytes_eq-Decides}
+use Rattle.serde_json_path_syntax.proofs.Names.Once.{in_from, of_both}
 use mathlib.Core.List.{is_set}
 use mathlib.Core.Sum.{⊎_set}
+use Rattle.serde_json_path_syntax.specs.Used.{signature_in}
+use Rattle.serde_json_path_syntax.proofs.Typing.Typings.{typed_recovered}
+use Rattle.serde_json_path_syntax.proofs.Typing.TypedByNames.{typed_by_names}
 
 -- ---- calls of the query
 
@@ -130,3 +134,21 @@ parameters-known F used (call f args) kinds fits typed known =
     let P : Type 0 = kinds ≡ typed.0.params in
     let same : P = ∥∥₁_elim fits (hlevel (is_set, ⊎_set)) (λ h. known F typed.0 h typed typed.1) in
     same ∙ sym (ap params_of typed.1)
+
+-- ---- a query that fits a set is sound as a whole: what is well-typed under some signatures is so under each that have these
+
+-- the signatures that the set declares
+declared : (F : FunctionSet) (used : List (List ℕ × Signature)) → Fits F used → (f : List ℕ) (s : Signature) → signature_in used f ≡ Some s → F.signature f ≡ Some s
+declared F [] fits f s e = absurd (none-some s e)
+declared F (first ∷ more) fits f s e = by (bytes_eq first.0 f) refl (declared F more fits.1 f s) e
+  where
+    by : (b : Bool) → bytes_eq first.0 f ≡ b → (signature_in more f ≡ Some s → F.signature f ≡ Some s) → (if b then Some first.1 else signature_in more f) ≡ Some s → F.signature f ≡ Some s
+    by true same later e = ap F.signature (sym ((bytes_eq-Decides first.0 f).0 same)) ∙ fits.0 ∙ e
+    by false other later e = later e
+
+-- a query that is well-typed under the signatures that it was built with is so under a set that declares them
+pub typed_under : (F : FunctionSet) (used : List (List ℕ × Signature)) (q : Query) → Fits F used → IsTyped (signature_in used) q → IsTyped F.signature q
+typed_under F used q fits typed = typed_by_names (signature_in used) F.signature q (λ f called. declared F used fits f) typed
+
+pub whole-sound : (F : FunctionSet) (used : List (List ℕ × Signature)) (q : Query) → ∥ Fits F used ∥₁ → ∥ IsTyped (signature_in used) q ∥₁ → IsSound F q IsTyped calls_of q
+whole-sound F used q fits typed = (typed_recovered F.signature q (∥∥₁_map₂ fits typed (λ f t. typed_under F used q f t)), all-calls q)

@@ -1,8 +1,74 @@
--- A look-up in a map or a vector finds what the same look-up in their data finds.
-use Rattle.std.proofs.Common.{◌≡◌, ℕ, ◌<◌, ◌≤◌, get_or, ℤ, option_and_then, List, length, Option, Some, None, option_map, Equal, string_bytes, nat_cmp, is_eq, sym, ap, ◌∙◌}
-use Rattle.serde_json_path_core.proofs.Words.{slice_cmp, is_at, lookup, is_eq-slice_cmp, bytes_eq-Decides, object, array, view, items_view, members_view, Value}
-use Rattle.serde_json_path_core.proofs.Words.{Entry, view-lookup, get_item_within, get_item_past, items_len-items_view, Data, Step, by_name, by_position}
-use Rattle.serde_json_path_core.proofs.Words.{child_by, item_at, position_in}
+-- What the code looks up: names of a map in order, operands, and known cases.
+use Rattle.std.proofs.Common.{◌≡◌, Option, Some, None, MatchOption, Result, Ok, Err, IfErr, subst, List, ◌∷◌, filter as keep, Bool, true, false, cond, ap, [], String, Global, Less, string_cmp, string_bytes, ◌<◌, ◌≤◌, length, slice_index_or, ◌&&◌, ◌||◌, refl, ◌∙◌, arith, ℕ, get_or, ℤ, option_and_then, option_map, Equal, nat_cmp, is_eq, sym}
+use Rattle.serde_json_path_core.proofs.Words.{AllByRecursion, keys_of, members_view, Entry, in_order, Data, FunctionSet, LogicalOr, no_or, or, no_and}
+use Rattle.serde_json_path_core.proofs.Words.{and, relation, Comparable, Operator, and_in, ands_in, basic_in, ors_in, piece_in, pieces_named, Piece}
+use Rattle.serde_json_path_core.proofs.Words.{Part, compare_sides, compared, is_true, slice_cmp, is_at, lookup, is_eq-slice_cmp, bytes_eq-Decides}
+use Rattle.serde_json_path_core.proofs.Words.{object, array, view, items_view, Value, view-lookup, get_item_within, get_item_past}
+use Rattle.serde_json_path_core.proofs.Words.{items_len-items_view, Step, by_name, by_position, child_by, item_at, position_in}
+use Rattle.std.specs.List.Sorted.{IsStrictlySortedBy}
+use Rattle.serde_json_path_core.proofs.Meaning.ChildSteps.{IsBelow, AreRising, in_order-rising}
+
+-- ---- what is so of an option whose case is known
+
+pub found-none : {A : Type 0} (P : Type 0) (Q : A → Type 0) (o : Option A) → o ≡ None → MatchOption o P Q → P
+found-none P Q o e h = subst (λ found. MatchOption found P Q) e h
+
+pub found-some : {A : Type 0} (P : Type 0) (Q : A → Type 0) (o : Option A) (x : A) → o ≡ Some x → MatchOption o P Q → Q x
+found-some P Q o x e h = subst (λ found. MatchOption found P Q) e h
+
+pub if-err : {A E : Type 0} (P : Type 0) (r : Result A E) → P → IfErr r (λ e. P)
+if-err P (Ok x) h = tt
+if-err P (Err e) h = h
+
+-- ---- parts of a list that a test keeps, one by one
+
+pub keep-no : {A : Type 0} (p : A → Bool) (x : A) (xs : List A) → p x ≡ false → keep p (x ∷ xs) ≡ keep p xs
+keep-no p x xs e = ap (λ b. cond b (x ∷ keep p xs) (keep p xs)) e
+
+pub keep-yes : {A : Type 0} (p : A → Bool) (x : A) (xs : List A) → p x ≡ true → keep p (x ∷ xs) ≡ x ∷ keep p xs
+keep-yes p x xs e = ap (λ b. cond b (x ∷ keep p xs) (keep p xs)) e
+
+-- ---- the members of a map stand in order already, as its keys rise
+
+below_keys : (key : String Global) (entries : List Entry) → AllByRecursion (λ k. string_cmp key k ≡ Less) (keys_of entries) → IsBelow (string_bytes key) (members_view entries)
+below_keys key [] below = tt
+below_keys key (e ∷ entries) below = (below.0, below_keys key entries below.1)
+
+rising_keys : (entries : List Entry) → IsStrictlySortedBy string_cmp (keys_of entries) → AreRising (members_view entries)
+unfolding IsStrictlySortedBy
+rising_keys [] sorted = tt
+rising_keys (e ∷ entries) sorted = (below_keys e.0 entries sorted.0, rising_keys entries sorted.1)
+
+-- entries whose keys rise stay as they are
+pub in_order-members_view : (entries : List Entry) → IsStrictlySortedBy string_cmp (keys_of entries) → in_order (members_view entries) ≡ members_view entries
+in_order-members_view entries sorted = in_order-rising (members_view entries) (rising_keys entries sorted)
+
+-- ---- logical expressions of one operand, which is a comparison
+
+single : (parts : List Part) (d : Part) → 1 ≤ length parts → length parts < 2 → parts ≡ slice_index_or parts 0 d ∷ []
+single [] d low high = absurd (omega arith)
+single (p ∷ []) d low high = refl
+single (p ∷ q ∷ parts) d low high = absurd (omega arith)
+
+-- an expression of one operand of `||` with one operand of `&&`, which is a comparison
+pub one-comparison : (ps : List Piece) (e : LogicalOr) (ors ands : List Part) (d : Part) (x : Comparable) (op : Operator) (y : Comparable)
+    → 1 ≤ length ors → length ors < 2 → 1 ≤ length ands → length ands < 2
+    → e ≡ ors_in (pieces_named ps ors) → and_in (piece_in ps (slice_index_or ors 0 d).number) ≡ ands_in (pieces_named ps ands)
+    → basic_in (piece_in ps (slice_index_or ands 0 d).number) ≡ relation x op y → e ≡ or (and (relation x op y) no_and) no_or
+one-comparison ps e ors ands d x op y some_or one_or some_and one_and is_or is_and is_basic =
+    is_or ∙ ap (λ parts. ors_in (pieces_named ps parts)) (single ors d some_or one_or)
+    ∙ ap (λ a. or a no_or) (is_and ∙ ap (λ parts. ands_in (pieces_named ps parts)) (single ands d some_and one_and) ∙ ap (λ b. and b no_and) is_basic)
+
+alone : (b : Bool) → ((b && true) || false) ≡ b
+alone true = refl
+alone false = refl
+
+-- it holds where the comparison does
+pub only-comparison : (F : FunctionSet) (top : Data) (e : LogicalOr) (x : Comparable) (op : Operator) (y : Comparable)
+    → e ≡ or (and (relation x op y) no_and) no_or → (v : Data) → is_true F top e v ≡ compare_sides op (compared F top x v) (compared F top y v)
+only-comparison F top e x op y is v = ap (λ e. is_true F top e v) is ∙ alone (compare_sides op (compared F top x v) (compared F top y v))
+
+-- ---- a look-up in a map or a vector finds what the same look-up in their data finds
 
 same_name : (xs ys : List ℕ) → slice_cmp nat_cmp xs ys ≡ Equal → xs ≡ ys
 same_name xs ys e = (bytes_eq-Decides xs ys).0 (sym (is_eq-slice_cmp xs ys) ∙ ap is_eq e)

@@ -1,8 +1,13 @@
--- Stacks of frames, each at a child of the one below: what a step keeps, and how many frames there are at most.
-use Rattle.std.proofs.Common.{◌≡◌, ℕ, ◌+◌, ◌<◌, ◌≤◌, List, [], ◌∷◌, ◌++◌, length, Some, None, refl, sym, ap, subst, ◌∙◌, arith}
-use Rattle.serde_json_path_core.proofs.Words.{Data, Step, child_at, Stage, AreChildrenOf, Frame, begun, entered, IsAtChild, IsAtStart, IsOfValue, IsChain, IsStack, IsSameFrame}
+-- Chains of frames in a document, and where they stand.
+use Rattle.std.proofs.Common.{◌≡◌, ℕ, ◌+◌, ◌<◌, ◌≤◌, List, [], ◌∷◌, ◌++◌, length, Some, None, refl, sym, ap, subst, ◌∙◌, arith, option_and_then, inr}
+use Rattle.serde_json_path_core.proofs.Words.{Data, Step, child_at, Stage, AreChildrenOf, Frame, begun, entered, IsAtChild, IsAtStart, IsOfValue}
+use Rattle.serde_json_path_core.proofs.Words.{IsChain, IsStack, IsSameFrame, ∥∥₁_map, ∥∥₁_elim, ∥∥₁_prop, at, QueryKind, root, current, IsIn}
+use Rattle.serde_json_path_core.proofs.Words.{start_of, StandsIn, EndsIn, IsStackIn, IsInside, AllStandIn, in_append}
 use Rattle.serde_json_path_core.proofs.Walks.Heights.{height, height-child_at}
-use Rattle.serde_json_path_core.proofs.Walks.FrameSteps.{opened-of}
+use Rattle.serde_json_path_core.proofs.Walks.Frames.{opened-of}
+use Rattle.serde_json_path_core.proofs.Meaning.Derived.{at-append}
+
+-- ---- stacks of frames, each at a child of the one below: what a step keeps, and how many frames there are at most
 
 pub begun-of : (all : List Stage) (v : Data) → AreChildrenOf v (begun all v)
 unfolding AreChildrenOf
@@ -55,3 +60,43 @@ stack-started all start ps e = subst (IsStack start) (sym e) ((refl, refl), begu
 -- a stack has at most one frame more than the start is high
 pub stack-height : (start : Data) (ps : List Frame) → IsStack start ps → length ps ≤ height start + 1
 stack-height start ps h = chain-height (IsAtStart start) (height start + 1) ps (λ p at. let same = ap height at.1 in omega arith) h
+
+-- ---- values that stand in the document: those of a walk's frames, and their children
+
+pub root_stands : (top : Data) → StandsIn top top
+root_stands top = ∣ ([], refl) ∣₁
+
+-- where a query begins
+pub start_stands : (kind : QueryKind) (top here : Data) → StandsIn top here → StandsIn top (start_of kind top here)
+start_stands root top here h = root_stands top
+start_stands current top here h = h
+
+pub child_stands : (top v : Data) (s : Step) (c : Data) → child_at v s ≡ Some c → StandsIn top v → StandsIn top c
+child_stands top v s c leads h =
+    ∥∥₁_map h (λ l. (
+      l.0 ++ s ∷ [],
+      at-append top l.0 (s ∷ []) ∙ ap (option_and_then (λ d. at d (s ∷ []))) l.1 ∙ ap (option_and_then (λ d. at d [])) leads,
+    ))
+
+-- ---- frames
+
+-- what is left at a frame
+pub left_stands : (top : Data) (p : Frame) → ∥ IsInside top p ∥₁ → AllStandIn top p.left
+unfolding AreChildrenOf
+left_stands top p h = λ c i. ∥∥₁_elim h ∥∥₁_prop (λ inside. child_stands top p.value c.0 c.1 (inside.1 c i) inside.0)
+
+chain-inside : (top : Data) (First : Frame → Type 0) (ps : List Frame) (p : Frame) → ((q : Frame) → First q → StandsIn top q.value) → IsChain First (ps ++ p ∷ []) → IsInside top p
+chain-inside top First [] p stands h = (stands p h.0, h.1)
+chain-inside top First (q ∷ qs) p stands h = chain-inside top (IsAtChild q.value) qs p (λ r at. child_stands top q.value at.0 r.value at.2 (stands q h.0)) h.2
+
+-- the last frame of a stack
+pub stack-inside : (top start : Data) (ps : List Frame) (p : Frame) → StandsIn top start → IsStack start (ps ++ p ∷ []) → IsInside top p
+stack-inside top start ps p stands h = chain-inside top (IsAtStart start) ps p (λ q at. subst (StandsIn top) (sym at.1) stands) h
+
+-- what is left of children that stand there
+pub ends-stand : (top : Data) (xs ys : List (Step × Data)) → EndsIn xs ys → AllStandIn top xs → AllStandIn top ys
+ends-stand top xs ys ends h = λ c i. h c (subst (IsIn c) (sym ends.1) ((in_append c ends.0 ys).1 (inr i)))
+
+-- the frame where segments begin at a value
+pub entered-inside : (top v : Data) (all : List Stage) (ps : List Frame) → StandsIn top v → ps ≡ entered None 0 all v ∷ [] → IsStackIn top ps
+entered-inside top v all ps stands begins = (v, stands, stack-started all v ps begins)

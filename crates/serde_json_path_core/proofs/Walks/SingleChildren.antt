@@ -1,15 +1,16 @@
 -- A query goes down by segments that select one child at most: the values that it selects stay.
-use Rattle.serde_json_path_core.proofs.Words.{IfSome, Bor, option_map_or, none-some, same_Some, append-nil, drop_more, length-drop, take-append-drop, take_all}
-use Rattle.serde_json_path_core.proofs.Words.{flat_map-map, Data, view, Value, Step, Located, FunctionSet, Query, query, kind_of, segments_of, Segments}
-use Rattle.serde_json_path_core.proofs.Words.{no_segments, segment, SegmentKind, child, descendant, Segment, Selector, stage_at, stage_of, Stage, piece_at}
-use Rattle.serde_json_path_core.proofs.Words.{segment_in, segment_kind_in, segments_at, Node, Part, flat_map-same, map-flat_map, chosen, descents, itself}
-use Rattle.serde_json_path_core.proofs.Words.{placed, reached, results, results_from, start_of, beneath, first_value, admitted, candidates, AreChildrenOf}
-use Rattle.serde_json_path_core.proofs.Words.{EndsIn, IsIn, child_at, SelectOnly, single_view, values_from}
+use Rattle.serde_json_path_core.proofs.Words.{IfSome, Bor, option_map_or, none-some, same_Some, append-nil, drop_more, length-drop, take-append-drop}
+use Rattle.serde_json_path_core.proofs.Words.{take_all, flat_map-map, Data, view, Value, Step, Located, FunctionSet, Query, query, kind_of}
+use Rattle.serde_json_path_core.proofs.Words.{segments_of, Segments, no_segments, segment, SegmentKind, child, descendant, Segment, Selector}
+use Rattle.serde_json_path_core.proofs.Words.{stage_at, stage_of, Stage, piece_at, segment_in, segment_kind_in, segments_at, Node, Part}
+use Rattle.serde_json_path_core.proofs.Words.{flat_map-same, map-flat_map, chosen, descents, itself, placed, reached, results, results_from, start_of}
+use Rattle.serde_json_path_core.proofs.Words.{beneath, first_value, admitted, candidates, AreChildrenOf, EndsIn, IsIn, child_at, SelectOnly}
+use Rattle.serde_json_path_core.proofs.Words.{single_view, values_from}
 use Rattle.std.proofs.Common.{◌≡◌, ℕ, ◌+◌, ◌<◌, List, [], ◌∷◌, ◌++◌, ◌-◌, ◌≤◌, map, take, drop, flat_map, length, get_or, arith, subst, inl, Option, Some, None, option_to_list, slice_get, slice_index_or, refl, sym, ap, ◌∙◌}
-use Rattle.serde_json_path_core.proofs.Walks.FrameSteps.{candidates-of}
+use Rattle.serde_json_path_core.proofs.Walks.Frames.{candidates-of}
 use Rattle.serde_json_path_core.specs.declared.evaluation.single_children.SingleSelector.{SingleSelector}
 use Rattle.serde_json_path_core.specs.declared.evaluation.single_children.SingleSelector.TheVariants as single
-use Rattle.serde_json_path_core.proofs.Walks.Started.{chosen-list}
+use Rattle.serde_json_path_core.proofs.Walks.Stacks.{chosen-list}
 
 abbrev value_of : Located → Data
 value_of n = n.value

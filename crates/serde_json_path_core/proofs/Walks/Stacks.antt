@@ -1,12 +1,17 @@
--- What a stack of frames has left, when its last frame gives its node, is dropped, or moves on to a child.
-use Rattle.std.proofs.Common.{◌≡◌, ℕ, ◌+◌, List, [], ◌∷◌, ◌++◌, map, drop, flat_map, Option, Some, option_to_list, refl, ap, ◌∙◌, sym, append_assoc, ◌<◌, ◌≤◌, length, true, arith, length-append}
-use Rattle.serde_json_path_core.proofs.Words.{flat_map-append, append-nil, drop-drop, flat_map-map, Step, Located, SegmentKind, child, descendant, Selector}
-use Rattle.serde_json_path_core.proofs.Words.{name, wildcard, beneath, children, descents, placed, reached, Stage, Frame, candidates}
-use Rattle.serde_json_path_core.proofs.Words.{lower, entered, frame_tasks, is_leaf, here, stack_path, visit, visit_rest, visit_place, visit_stack, admitted}
-use Rattle.serde_json_path_core.proofs.Words.{unfiltered, rest_of, work, flat_map-same, flat_map-flat_map, FunctionSet}
+-- Stacks of frames: what is left of a walk, and the stack with which one begins.
+use Rattle.std.proofs.Common.{◌≡◌, ℕ, ◌+◌, List, [], ◌∷◌, ◌++◌, map, drop, flat_map, Option, Some, option_to_list, refl, ap, ◌∙◌, sym, append_assoc, ◌<◌, ◌≤◌, length, true, arith, length-append, None}
+use Rattle.serde_json_path_core.proofs.Words.{flat_map-append, append-nil, drop-drop, flat_map-map, Step, Located, SegmentKind, child, descendant}
+use Rattle.serde_json_path_core.proofs.Words.{Selector, name, wildcard, beneath, children, descents, placed, reached, Stage, Frame, candidates, lower}
+use Rattle.serde_json_path_core.proofs.Words.{entered, frame_tasks, is_leaf, here, stack_path, visit, visit_rest, visit_place, visit_stack, admitted}
+use Rattle.serde_json_path_core.proofs.Words.{unfiltered, rest_of, work, flat_map-same, flat_map-flat_map, FunctionSet, Data, Query, query, kind_of}
+use Rattle.serde_json_path_core.proofs.Words.{segments_of, Segments, no_segments, segment, Segment, dot_name, dot_wildcard, long_hand, Selectors}
+use Rattle.serde_json_path_core.proofs.Words.{no_selectors, selector, filter, start_of, results, results_from, chosen, chosen_by, selected}
+use Rattle.serde_json_path_core.proofs.Words.{selectors_of, selectors_list, stages}
 use Rattle.serde_json.specs.Data.{Data, array, object}
 use Rattle.serde_json_path_core.proofs.Meaning.Descents.{below_child, descents_are}
-use Rattle.serde_json_path_core.proofs.Walks.Tasks.{next_opened}
+use Rattle.serde_json_path_core.proofs.Walks.Frames.{next_opened}
+
+-- ---- what a stack of frames has left, when its last frame gives its node, is dropped, or moves on to a child
 
 abbrev pub located : List Step → Data → Located
 located above v = record { location = above; value = v }
@@ -212,3 +217,41 @@ pub rest-dropped : (F : FunctionSet) (top : Data) (all : List Stage) (ps : List 
 rest-dropped F top all ps p stage more d t =
     let of_task : ℕ × (Step × Data) → List Located = λ x. visit (admitted F top) [] (λ n. n ∷ []) (drop x.0 all) (record { location = here (stack_path [] ps) p ++ x.1.0 ∷ []; value = x.1.1 }) in
     drops (admitted F top) [] (λ n. n ∷ []) all ps p stage more d ∙ ap (λ ts. flat_map of_task ts ++ rest_of F top all ps) t
+
+-- ---- what a walk that begins has left is the result of the segments
+
+module _ (F : FunctionSet) (top : Data) where
+  selected-admitted : (sel : Selector) (v : Data) → admitted F top sel (candidates sel v) ≡ selected F top sel v
+  selected-admitted (filter e) v = refl
+  selected-admitted _ v = refl
+
+  chosen_by-list : (sels : Selectors) (v : Data) → flat_map (λ s. admitted F top s (candidates s v)) (selectors_list sels) ≡ chosen_by F top sels v
+  chosen_by-list no_selectors v = refl
+  chosen_by-list (selector sel more) v =
+      ap (λ xs. xs ++ flat_map (λ s. admitted F top s (candidates s v)) (selectors_list more)) (selected-admitted sel v)
+      ∙ ap (λ xs. selected F top sel v ++ xs) (chosen_by-list more v)
+
+  pub chosen-list : (seg : Segment) (v : Data) → flat_map (λ s. admitted F top s (candidates s v)) (selectors_of seg) ≡ chosen F top seg v
+  chosen-list (dot_name k) v = append-nil _
+  chosen-list dot_wildcard v = append-nil _
+  chosen-list (long_hand sels) v = chosen_by-list sels v
+
+  visit-results : (segs : Segments) (n : Located) → visit (admitted F top) [] (λ m. m ∷ []) (stages segs) n ≡ results_from F top segs n
+  visit-results no_segments n = refl
+  visit-results (segment kind seg more) n =
+      flat_map-same (λ m. flat_map (λ c. visit (admitted F top) [] (λ l. l ∷ []) (stages more) (placed m.location c)) (flat_map (λ s. admitted F top s (candidates s m.value)) (selectors_of seg)))
+      (λ m. flat_map (results_from F top more) (map (placed m.location) (chosen F top seg m.value)))
+      (λ m. ap (flat_map (λ c. visit (admitted F top) [] (λ l. l ∷ []) (stages more) (placed m.location c))) (chosen-list seg m.value)
+      ∙ flat_map-same (λ c. visit (admitted F top) [] (λ l. l ∷ []) (stages more) (placed m.location c)) (λ c. results_from F top more (placed m.location c)) (λ c. visit-results more (placed m.location c)) (chosen F top seg m.value)
+      ∙ sym (flat_map-map (results_from F top more) (placed m.location) (chosen F top seg m.value)))
+      (reached kind n)
+
+  pub rest-started : (segs : Segments) (v : Data) (ps : List Frame) → ps ≡ entered None 0 (stages segs) v ∷ [] → rest_of F top (stages segs) ps ≡ results_from F top segs (located [] v)
+  rest-started segs v ps e =
+      ap (rest_of F top (stages segs)) e ∙ sym (enters (admitted F top) [] (λ m. m ∷ []) (stages segs) None 0 (stages segs) (located [] v) refl) ∙ visit-results segs (located [] v)
+
+  -- at the query's start, it is the query's result
+  pub begun-results : (q : Query) (here start : Data) (segs : Segments) (ps : List Frame) → segs ≡ segments_of q → start ≡ start_of (kind_of q) top here → ps ≡ entered None 0 (stages segs) start ∷ []
+      → rest_of F top (stages segs) ps ≡ results F top q here
+  begun-results (query kind more) here start segs ps e s begins =
+      rest-started segs start ps begins ∙ ap (λ ss. results_from F top ss (located [] start)) e ∙ ap (λ v. results_from F top more (located [] v)) s

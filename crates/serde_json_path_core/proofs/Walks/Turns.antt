@@ -1,11 +1,86 @@
--- One turn of a walk: what it gives, and what stays.
-use Rattle.std.proofs.Common.{◌≡◌, ℕ, ◌-◌, ◌<◌, List, [], ◌∷◌, ◌++◌, drop, take, length, refl, Bool, true, false, Some, None, sym, ap, subst, ◌∙◌, arith, cond, length-append}
-use Rattle.serde_json_path_core.proofs.Words.{append-nil, take-append_seam, Data, Step, FunctionSet, Stage, Frame, admitted, entered, entering, frame_tasks, is_leaf}
-use Rattle.serde_json_path_core.proofs.Words.{last_passed, passed, rest_of, stack_path, work, IsAtStart, IsStack, ComesTo, IsAtNode, IsDone, Passes}
+-- Turns of a walk: what the last frame comes to.
+use Rattle.std.proofs.Common.{◌≡◌, ℕ, ◌+◌, ◌<◌, List, [], ◌∷◌, ◌++◌, take, set, length, get_or, refl, ap, ◌∙◌, sym, arith, zero, suc, ◌≤◌, drop, slice_get, option_map, Option, Some, None, slice_index_or, inl, inr, ◌-◌, Bool, true, false, subst, cond, length-append}
+use Rattle.serde_json_path_core.proofs.Words.{frame_view, frames_view, Frame, last_passed, passed, get_or_append_left, take_all, length-set}
+use Rattle.serde_json_path_core.proofs.Words.{map-append, drop_all, drop_more, none-some, slice_get_read, slice_get_past, Piece, Node, Part, piece_in}
+use Rattle.serde_json_path_core.proofs.Words.{pieces, pieces_named, segment_in, segment_kind_in, segments_in, stage_of, stages, stage_at, stages_at}
+use Rattle.serde_json_path_core.proofs.Words.{append-nil, take-append_seam, Data, Step, FunctionSet, Stage, admitted, entered, entering, frame_tasks}
+use Rattle.serde_json_path_core.proofs.Words.{is_leaf, rest_of, stack_path, work, IsAtStart, IsStack, ComesTo, IsAtNode, IsDone, Passes}
+use Rattle.serde_json_path_core.proofs.Words.{get_or_default, view, IsAtTask, task_view}
+use Rattle.std.proofs.lemmas.List.{set-append_left, take_more, take_more_set, take-set}
+use Rattle.serde_json_path_core.specs.declared.evaluation.frame.Frame as declared
+use Rattle.std.proofs.lemmas.Option.{get_or_from_slice_get, slice_get_cases, slice_get_within}
 use Rattle.serde_json_path_core.specs.Inside.Advances.{IsKept}
 use Rattle.serde_json_path_core.proofs.Walks.Chains.{begun-of, chain-front, chain-last, stack-held, stack-moved}
-use Rattle.serde_json_path_core.proofs.Walks.LastFrames.{passes-last}
 use Rattle.serde_json_path_core.proofs.Walks.Stacks.{gives, leaf-done, located, moves, passes, rest-dropped, stack_path-last, work-fewer, work-held, work-moved}
+use Rattle.serde_json_path_core.specs.declared.evaluation.frame.Task.{Task}
+use Rattle.serde_json_path_core.proofs.Steps.Lookups.{found-none, found-some}
+
+-- ---- the last of so many frames
+
+-- what is seen of the frames where the last one is replaced
+pub sees_replaced : (items : List declared.Frame) (n : ℕ) (old new : declared.Frame) → length items ≡ n + 1 → old ≡ get_or items n old
+    → (frames_view items ≡ frames_view (take n items) ++ frame_view old ∷ []) × (frames_view (set items n new) ≡ frames_view (take n items) ++ frame_view new ∷ [])
+sees_replaced items n old new long is =
+    let within : n < length items = omega arith in
+    let same = length-set items n new in
+    let last = sym (take_all (n + 1) items (omega arith)) ∙ take_more items n old within ∙ ap (λ f. take n items ++ f ∷ []) (sym is) in
+    let replaced = sym (take_all (n + 1) (set items n new) (omega arith)) ∙ take_more_set items n new within in
+    (ap frames_view last ∙ map-append frame_view (take n items) (old ∷ []), ap frames_view replaced ∙ map-append frame_view (take n items) (new ∷ []))
+
+pub passes-last : (ps : List Frame) (p : Frame) → last_passed (ps ++ p ∷ []) ≡ ps ++ passed p ∷ []
+passes-last [] p = refl
+passes-last (q ∷ []) p = refl
+passes-last (q ∷ r ∷ rs) p = ap (λ more. q ∷ more) (passes-last (r ∷ rs) p)
+
+-- where the last one is replaced by one that is seen as it, past a task
+pub sees_passed : (items : List declared.Frame) (n : ℕ) (old new : declared.Frame) → length items ≡ n + 1 → old ≡ get_or items n old → frame_view new ≡ passed (frame_view old)
+    → frames_view (set items n new) ≡ last_passed (frames_view items)
+sees_passed items n old new long is e =
+    let sees = sees_replaced items n old new long is in
+    sees.1 ∙ ap (λ p. frames_view (take n items) ++ p ∷ []) e ∙ sym (ap last_passed sees.0 ∙ passes-last (frames_view (take n items)) (frame_view old))
+
+-- the same where another frame is after it
+pub sees_passed_below : (items pushed : List declared.Frame) (n : ℕ) (old new next : declared.Frame) → length items ≡ n + 1 → pushed ≡ items ++ next ∷ []
+    → old ≡ get_or pushed n old → frame_view new ≡ passed (frame_view old) → frames_view (set pushed n new) ≡ last_passed (frames_view items) ++ frame_view next ∷ []
+sees_passed_below items pushed n old new next long e is seen =
+    let within : n < length items = omega arith in
+    let last = is ∙ ap (λ fs. get_or fs n old) e ∙ get_or_append_left items (next ∷ []) old n within in
+    ap (λ fs. frames_view (set fs n new)) e
+    ∙ ap frames_view (set-append_left items (next ∷ []) n new within)
+    ∙ map-append frame_view (set items n new) (next ∷ [])
+    ∙ ap (λ fs. fs ++ frame_view next ∷ []) (sees_passed items n old new long last seen)
+
+-- ---- the stages of a query's parts, and what is left of a list after so many elements
+
+-- after so many elements comes the one of that number
+pub drop-some : {A : Type 0} (xs : List A) (i : ℕ) (x : A) → slice_get xs i ≡ Some x → drop i xs ≡ x ∷ drop (i + 1) xs
+drop-some xs i x e = drop_more xs i x (slice_get_within xs i x e) ∙ ap (λ y. y ∷ drop (i + 1) xs) (get_or_from_slice_get xs i x x e)
+
+pub drop-none : {A : Type 0} (xs : List A) (i : ℕ) → slice_get xs i ≡ None → drop i xs ≡ []
+drop-none xs i e = elim (slice_get_cases xs i).1 [ inl within ↦ absurd (none-some within.0 (sym e ∙ within.2)) | inr past ↦ drop_all i xs past.0 ]
+
+-- the stages of so many parts, one by one
+stages-get : (ps : List Piece) (parts : List Part) (i : ℕ)
+    → slice_get (stages (segments_in (pieces_named ps parts))) i
+    ≡ option_map (λ (part : Part). stage_of (segment_kind_in (piece_in ps part.number)) (segment_in (piece_in ps part.number))) (slice_get parts i)
+stages-get ps [] i = refl
+stages-get ps (part ∷ parts) zero = refl
+stages-get ps (part ∷ parts) (suc i) = stages-get ps parts i
+
+pub stages-from : (nodes : List Node) (parts : List Part) (i : ℕ) (part : Part) → i < length parts → part ≡ slice_index_or parts i part
+    → drop i (stages_at nodes parts) ≡ stage_at nodes part ∷ drop (i + 1) (stages_at nodes parts)
+stages-from nodes parts i part lt e =
+    drop-some (stages_at nodes parts) i (stage_at nodes part) (stages-get (pieces nodes) parts i ∙ ap (option_map (stage_at nodes)) (slice_get_read parts _ i part refl lt e))
+
+pub stages-past : (nodes : List Node) (parts : List Part) (i : ℕ) → length parts ≤ i → drop i (stages_at nodes parts) ≡ []
+stages-past nodes parts i le = drop-none (stages_at nodes parts) i (stages-get (pieces nodes) parts i ∙ ap (option_map (stage_at nodes)) (slice_get_past parts i le))
+
+-- where a value is seen nowhere, there is none
+pub missing : {A B : Type 0} (see : A → B) (found : Option A) (o : Option B) → ((x : A) → found ≡ Some x → ⊥) → option_map see found ≡ o → o ≡ None
+missing see None o none e = sym e
+missing see (Some x) o none e = absurd (none x refl)
+
+-- ---- one turn of a walk: what it gives, and what stays
 
 without_last : (ps : List Frame) (p : Frame) → take (length (ps ++ p ∷ []) - 1) (ps ++ p ∷ []) ≡ ps
 without_last ps p =
@@ -85,3 +160,82 @@ module _ (F : FunctionSet) (top : Data) (all : List Stage) where
         work-fewer all ps p,
         λ start h. chain-front (IsAtStart start) ps p h,
       )
+
+-- ---- what comes of the last of a walk's frames once its next task was looked for
+
+module _ (F : FunctionSet) (top : Data) (nodes : List Node) (segments : List Part) where
+  -- the last frame, of that number, is at that segment, and has passed no task
+  pub record Came (items : List declared.Frame) (n : ℕ) (seen old new : declared.Frame) (segment : Part) : Type 0 where
+    pub long : length items ≡ n + 1
+    pub seen_is : seen ≡ get_or items n seen
+    pub old_is : old ≡ get_or items n old
+    pub within : seen.segment < length segments
+    pub at : segment ≡ get_or segments seen.segment segment
+    pub passes : Passes F top (stage_at nodes segment) (frame_view old) (frame_view new)
+
+  inner : (i : ℕ) → i < length segments → (next : Stage) × (others : List Stage) × (drop i (stages_at nodes segments) ≡ next ∷ others)
+  inner i within =
+      let first : Part = record { number = 0 } in
+      let part = get_or segments i first in
+      (stage_at nodes part, drop (i + 1) (stages_at nodes segments), stages-from nodes segments i part within (get_or_default segments i first part within))
+
+module _ {F : FunctionSet} {top : Data} {nodes : List Node} {segments : List Part} {items : List declared.Frame} {n : ℕ} {seen old new : declared.Frame} {segment : Part}
+    (came : Came F top nodes segments items n seen old new segment) where
+  abbrev all : List Stage
+  all = stages_at nodes segments
+
+  seen_old : seen ≡ old
+  seen_old = came.seen_is ∙ get_or_default items n seen old (let long = came.long in omega arith) ∙ sym came.old_is
+
+  old_stage : drop old.segment all ≡ stage_at nodes segment ∷ drop (old.segment + 1) all
+  old_stage =
+      subst (λ (f : declared.Frame). drop f.segment all ≡ stage_at nodes segment ∷ drop (f.segment + 1) all) seen_old
+      (stages-from nodes segments seen.segment segment came.within came.at)
+
+  new_stage : drop new.segment all ≡ stage_at nodes segment ∷ drop (old.segment + 1) all
+  new_stage = ap (λ k. drop k all) came.passes.0.2 ∙ old_stage
+
+  views : (frames_view items ≡ frames_view (take n items) ++ frame_view old ∷ []) × (frames_view (set items n new) ≡ frames_view (take n items) ++ frame_view new ∷ [])
+  views = sees_replaced items n old new came.long came.old_is
+
+  passing : IsKept F top all (frames_view items) (frames_view (set items n new))
+  passing =
+      rw views.0 (rw views.1 (held F top all (frames_view (take n items)) (frame_view old) (frame_view new) (stage_at nodes segment) _ old_stage came.passes))
+
+  -- what was kept until then is
+  pub came-kept : (start : List Frame) → IsKept F top all start (frames_view items) → IsKept F top all start (frames_view (set items n new))
+  came-kept start kept = kept-trans F top all _ _ _ kept passing
+
+  pub came-turned : (start next : List Frame) → IsKept F top all start (frames_view items) → IsTurn F top all (frames_view items) next → IsKept F top all start next
+  came-turned start next kept turn = kept-trans F top all _ _ _ kept (turn-kept F top all _ _ turn)
+
+  -- it has no task left
+  pub came-dropped : {found : Option Task} → found ≡ None → IsAtTask F top (stage_at nodes segment) (frame_view new) (option_map task_view found)
+      → {left : List declared.Frame} → left ≡ take n (set items n new) → IsTurn F top all (frames_view items) (frames_view left)
+  came-dropped none at {left} is =
+      let done = found-none _ _ _ (ap (option_map task_view) none) at in
+      let front : left ≡ take n items = is ∙ take-set items n new in
+      kept-turn F top all _ _ _ passing (rw views.1 (rw front (turn-dropped F top all (frames_view (take n items)) (frame_view new) (stage_at nodes segment) _ new_stage done)))
+
+  -- its next task is at another segment
+  pub came-entered : {found : Option Task} {task : Task} → found ≡ Some task → IsAtTask F top (stage_at nodes segment) (frame_view new) (option_map task_view found)
+      → task.segment < length segments → {frames : List Frame} → frames ≡ entering all (frames_view (set items n new)) (task_view task) → IsTurn F top all (frames_view items) frames
+  came-entered {found} {task} some here below is =
+      let at = found-some _ _ _ (task_view task) (ap (option_map task_view) some) here in
+      let next = inner F top nodes segments task.segment below in
+      kept-turn F top all _ _ _ passing
+      (rw is (rw views.1 (turn-entered F top all (frames_view (take n items)) (frame_view new) (stage_at nodes segment) _ task.segment (task_view task).1 next.0 next.1 new_stage at next.2)))
+
+  -- its next task is a node
+  pub came-node : {found : Option Task} {task : Task} → found ≡ Some task → IsAtTask F top (stage_at nodes segment) (frame_view new) (option_map task_view found)
+      → length segments ≤ task.segment → IsAtNode F top all (frames_view (set items n new)) (Some (task_view task).1.0) (task_view task).1.1
+  came-node {found} {task} some here past =
+      let at = found-some _ _ _ (task_view task) (ap (option_map task_view) some) here in
+      rw views.1 (at-child F top all (frames_view (take n items)) (frame_view new) (stage_at nodes segment) _ task.segment (task_view task).1 new_stage at (stages-past nodes segments task.segment past))
+
+module _ (F : FunctionSet) (top : Data) (nodes : List Node) (segments : List Part) where
+  -- the last frame is past the last segment
+  pub came-start : (items : List declared.Frame) (n : ℕ) (last : declared.Frame) (v : Data) → length items ≡ n + 1 → last ≡ get_or items n last → length segments ≤ last.segment → view last.value.now ≡ v
+      → IsAtNode F top (stages_at nodes segments) (frames_view items) None v
+  came-start items n last v long is past same =
+      rw (sees_replaced items n last last long is).0 (rw (sym same) (at-start F top (stages_at nodes segments) (frames_view (take n items)) (frame_view last) (stages-past nodes segments last.segment past)))

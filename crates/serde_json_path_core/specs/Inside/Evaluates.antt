@@ -17,8 +17,7 @@ use Rattle.serde_json_path_core.specs.Compared.{Compared}
 use Rattle.serde_json_path_core.specs.Inside.Computed as computed
 use Rattle.serde_json_path_core.specs.Inside.Rest.{Frame}
 use Rattle.serde_json_path_core.specs.Inside.SingleChildren.{values_from}
-use Rattle.serde_json_path_core.specs.Inside.Scopes.{nodes_of, query_of, set_of, top_of}
-use Rattle.serde_json_path_core.specs.Inside.Sound.{IsSound}
+use Rattle.serde_json_path_core.specs.Inside.Scopes.{nodes_of, query_of, set_of, top_of, IsSound}
 use Rattle.serde_json_path_core.specs.declared.evaluation.scope.Scope.{Scope}
 
 -- ---- the part is well-typed under the set, and its calls are among the query's

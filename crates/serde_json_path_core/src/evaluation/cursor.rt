@@ -4,7 +4,7 @@ ghost use Rattle.std.specs.Prelude.{◌≡◌, [], ◌∷◌, MatchOption, drop,
 ghost use Rattle.serde_json.specs.Data.{object};
 ghost use Rattle.serde_json.specs.View.{view, members_view};
 ghost use Rattle.serde_json_path_core.specs.Inside.Computed.{children, members_all, sliced};
-ghost use Rattle.serde_json_path_core.specs.Inside.Cursors.{cursor_left, members_from, members_left};
+ghost use Rattle.serde_json_path_core.specs.Inside.Views.{cursor_left, members_from, members_left};
 ghost use Rattle.serde_json_path_syntax.specs.SliceView.{slice_view};
 ghost use Rattle.serde_json_path_core.specs.Inside.Views.{child_view};
 

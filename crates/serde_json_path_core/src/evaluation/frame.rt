@@ -9,11 +9,11 @@ ghost use Rattle.serde_json_path_syntax.specs.PartBounds.{parts_bound, selector_
 ghost use Rattle.serde_json_path_syntax.specs.Typing.{AreTypedSegments, IsTypedSegment, UnderSome};
 ghost use Rattle.serde_json_path_core.specs.Inside.Evaluates.{IsAtAdmitted, IsAtTask, Passes, Skips, SoundOr, SoundSegment, SoundSelector};
 ghost use Rattle.serde_json_path_core.specs.Inside.Scopes.{MayRefuse, nodes_of, top_of};
-ghost use Rattle.serde_json_path_core.specs.Inside.Cursors.{cursor_left};
+ghost use Rattle.serde_json_path_core.specs.Inside.Views.{cursor_left};
 ghost use Rattle.serde_json_path_core.specs.Inside.Views.{child_view};
 ghost use Rattle.serde_json_path_core.specs.Inside.Rest.{candidates, entered, opened, begun, passed, IsInside, AllStandIn};
 ghost use Rattle.serde_json_path_syntax.specs.Stages.{selector_view, stage_at, stages_at};
-ghost use Rattle.serde_json_path_core.specs.Inside.Frames.{frame_view, frames_view, task_view};
+ghost use Rattle.serde_json_path_core.specs.Inside.Views.{frame_view, frames_view, task_view};
 ghost use Rattle.serde_json_path_functions.specs.declared.error.QueryError.TheVariants.{Pattern};
 
 use crate::child::{Child, item, member};

@@ -11,7 +11,7 @@ ghost use Rattle.serde_json_path_core.specs.Inside.Scopes.{MayRefuse, nodes_of, 
 ghost use Rattle.serde_json_path_core.specs.Inside.Rest.{entering, is_leaf, last_passed, stack_path, without_node, IsStackIn};
 ghost use Rattle.serde_json_path_syntax.specs.Flat.{segments_at};
 ghost use Rattle.serde_json_path_syntax.specs.Stages.{stages_at};
-ghost use Rattle.serde_json_path_core.specs.Inside.Frames.{frames_view, task_view};
+ghost use Rattle.serde_json_path_core.specs.Inside.Views.{frames_view, task_view};
 ghost use Rattle.serde_json_path_functions.specs.declared.error.QueryError.TheVariants.{Memory, Pattern};
 
 use crate::evaluation::frame::{Frame, Task};

@@ -2,7 +2,7 @@
 
 ghost use Rattle.serde_json.specs.View.{view};
 ghost use Rattle.serde_json_path_core.specs.Inside.Rest.{IsStack};
-ghost use Rattle.serde_json_path_core.specs.Inside.Frames.{frames_view};
+ghost use Rattle.serde_json_path_core.specs.Inside.Views.{frames_view};
 
 use crate::evaluation::frame::Frame;
 use crate::evaluation::scope::Scope;

@@ -1,9 +1,19 @@
--- What is in lists that were joined, mapped or sifted, and when these are in order.
-use Rattle.std.proofs.Common.{◌≡◌, List, [], ◌∷◌, ◌++◌, map, flat_map, filter as keep, ◌⊎◌, ◌↔◌, inl, inr, Bool, true, false, cond, Option, Some, None, option_to_list, refl, sym, ap, subst, ◌∙◌, true≢false}
+-- Members of lists, and lists in order.
+use Rattle.std.proofs.Common.{true, false, refl, sym, true≢false, ◌≡◌, List, [], ◌∷◌, ◌++◌, map, flat_map, filter as keep, ◌⊎◌, ◌↔◌, inl, inr, Bool, cond, Option, Some, None, option_to_list, ap, subst, ◌∙◌}
+use Rattle.std.specs.Bool.{Decides}
 use Rattle.std.proofs.lemmas.Grind.{flat_map-append}
 use Rattle.std.proofs.lemmas.List.{map-append}
 use Rattle.std.proofs.lemmas.Option.{none-some, same_Some}
 use Rattle.serde_json_path_syntax.specs.Lists.{IsIn, IsInOrder}
+
+-- ---- tests that always hold, and that never do
+
+-- a test that fails decides what nothing proves
+pub never : Decides false ⊥
+never = (λ e. true≢false (sym e), λ h. absurd h)
+
+pub always : Decides true (Unit {0})
+always = (λ e. tt, λ h. refl)
 
 -- ---- membership
 

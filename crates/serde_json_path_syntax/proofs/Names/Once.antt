@@ -1,13 +1,26 @@
--- A list of names with their signatures, and the same with each name at its first place alone.
-use Rattle.std.proofs.Common.{arith, ◌≡◌, ◌≢◌, ◌↔◌, ℕ, List, [], ◌∷◌, ◌++◌, filter, not, inl, inr, Bool, true, false, Option, Some, bytes_eq, if◌then◌else◌, refl, sym, ap, subst, ◌∙◌, true≢false}
+-- Names that a query calls, each once.
+use Rattle.std.proofs.Common.{List, [], ◌∷◌, ◌++◌, inl, inr, refl, arith, ◌≡◌, ◌≢◌, ◌↔◌, ℕ, filter, not, Bool, true, false, Option, Some, bytes_eq, if◌then◌else◌, sym, ap, subst, ◌∙◌, true≢false}
+use Rattle.serde_json_path_syntax.specs.Tree.{Call, call, Query}
+use Rattle.serde_json_path_syntax.specs.Calls.{OfEach, calls_from, calls_in_arguments}
+use Rattle.serde_json_path_syntax.specs.Lists.{IsIn, IsInOrder}
+use Rattle.serde_json_path_syntax.proofs.Lists.InLists.{in_append, in_keep, in_map, in_order-keep, map_in}
 use Rattle.std.proofs.lemmas.Bool.Decides.{nat_tests}
 use Rattle.std.proofs.lemmas.Option.{none-some, same_Some}
 use Rattle.std.proofs.lemmas.Slice.Eq.{bytes_eq-Decides}
 use Rattle.serde_json_path_functions.specs.Functions.{Signature, FunctionSet, Fits}
-use Rattle.serde_json_path_syntax.specs.Tree.{Query}
-use Rattle.serde_json_path_syntax.specs.Lists.{IsIn, IsInOrder}
 use Rattle.serde_json_path_syntax.specs.Used.{AreCalled, AreDeclared, AreNamesOf, each_once, names_in, signature_in}
-use Rattle.serde_json_path_syntax.proofs.Lists.InLists.{in_keep, in_map, in_order-keep, map_in}
+
+-- ---- what holds of each call that a part makes holds of each that a part of it makes
+
+-- a call is one of those that it makes
+pub in_from : (c : Call) → IsIn c (calls_from c)
+in_from (call f args) = (in_append (call f args) (calls_in_arguments args) (call f args ∷ [])).1 (inr (inl refl))
+
+-- what holds of each of two lists joined holds of each of both
+pub of_both : (Fact : Call → Type 0) (xs ys : List Call) → OfEach Fact (xs ++ ys) → OfEach Fact xs × OfEach Fact ys
+of_both Fact xs ys each = (λ c i. each c ((in_append c xs ys).1 (inl i)), λ c i. each c ((in_append c xs ys).1 (inr i)))
+
+-- ---- a list of names with their signatures, and the same with each name at its first place alone
 
 abbrev Named : Type 0
 Named = List ℕ × Signature

@@ -1,10 +1,109 @@
--- The texts of pieces of one kind are those of their trees.
-use Rattle.std.proofs.Common.{◌≡◌, List, [], ◌∷◌, ◌++◌, map, true, codes, refl, ap}
+-- What is printed of a part of any kind.
+use Rattle.std.proofs.Common.{◌≡◌, ◌≢◌, ◌∙◌, ℕ, zero, suc, ◌+◌, ◌-◌, ◌*◌, ◌/◌, ◌%◌, ◌<◌, ℤ, pos, negsuc, List, [], ◌++◌, codes, true, false, refl, sym, ap, append_assoc, arith, Some, None, ◌≤◌, ◌∷◌, length, map, take, get_or, append-nil}
+use lib.Signed.{lt_z}
+use Rattle.std.proofs.Math.IntN.{nat_abs}
+use Rattle.std.proofs.lemmas.Int.{ints}
+use Rattle.std.specs.Fmt.{decimal, digits}
+use Rattle.serde_json_path_syntax.specs.Text.{amount_text, fraction_digits, number_text, query_text, literal_text, joined, piece_text, and_text, and_texts, argument_text, argument_texts, basic_text, basic_texts, call_text, comparable_text, or_text, segment_text, segments_text, selector_text, selector_texts}
+use Rattle.std.specs.Prelude.{codes}
+use Rattle.std.specs.Str.{chars}
+use lib.Utf8.{encode}
+use Rattle.serde_json_path_syntax.specs.Tree.{Slice, query, root, current, no_segments, segment, child, descendant, dot_name, dot_wildcard, long_hand, no_selectors, selector, name, index, slice, filter, no_or, or, no_and, and, not_paren, relation, exist, literal, singular, less}
+use Rattle.serde_json_path_syntax.specs.Tree as tree
+use Rattle.std.proofs.Math.Seq.{take-suc}
+use Rattle.std.proofs.Math.Numerals.{add-one}
+use Rattle.std.proofs.lemmas.Grind.{flat_map-append}
+use Rattle.std.proofs.lemmas.List.{map-append, take_all}
 use Rattle.std.specs.List.{flat_map}
-use Rattle.serde_json_path_syntax.specs.Flat.{ands_in, arguments_in, call_in, comparable_in, or_in, ors_in, query_in, segments_in, selectors_in}
-use Rattle.serde_json_path_syntax.specs.Kinds.{each_is, is_and, is_argument, is_basic, is_call, is_comparable, is_or, is_query, is_segment, is_selector}
+use Rattle.serde_json_path_syntax.proofs.Tree.NamedParts.{others, others-cons}
+use Rattle.serde_json_path_syntax.specs.Flat.{piece_in, pieces_named, ands_in, arguments_in, call_in, comparable_in, or_in, ors_in, query_in, segments_in, selectors_in}
 use Rattle.serde_json_path_syntax.specs.Piece.{Piece, a_query, a_segment, a_selector, an_or, an_and, a_basic, a_comparable, a_call, an_argument}
-use Rattle.serde_json_path_syntax.specs.Text.{and_text, and_texts, argument_text, argument_texts, basic_text, basic_texts, call_text, comparable_text, joined, or_text, piece_text, query_text, segment_text, segments_text, selector_text, selector_texts}
+use Rattle.serde_json_path_syntax.specs.declared.node.Part.{Part}
+use Rattle.serde_json_path_syntax.specs.Kinds.{each_is, is_and, is_argument, is_basic, is_call, is_comparable, is_or, is_query, is_segment, is_selector}
+
+-- ---- the digits of a fraction, one after another; numbers with a sign and without
+
+-- where the rest is 0
+pub fraction_ended : (places rest : ℕ) → rest ≡ 0 → fraction_digits places rest ≡ []
+fraction_ended zero rest e = refl
+fraction_ended (suc places) rest e = rw e refl
+
+one_digit : (places rest : ℕ) → rest ≢ 0 → fraction_digits (suc places) rest ≡ decimal (rest / 100000000) ++ fraction_digits places ((rest % 100000000) * 10)
+one_digit places rest h = grind (arith, h)
+
+-- one digit more
+pub fraction_more : (done : List ℕ) (counter rest : ℕ) → counter < 9 → rest ≢ 0
+    → (done ++ decimal (rest / 100000000)) ++ fraction_digits (9 - (counter + 1)) ((rest % 100000000) * 10) ≡ done ++ fraction_digits (9 - counter) rest
+fraction_more done counter rest h there =
+    let left : 9 - counter ≡ suc (9 - (counter + 1)) = omega (arith, h) in
+    append_assoc done _ _ ∙ ap (λ t. done ++ t) (sym (ap (λ n. fraction_digits n rest) left ∙ one_digit (9 - (counter + 1)) rest there))
+
+-- ---- numbers by their sign and their size
+
+pub negative : (i : ℤ) (size : ℕ) → size ≡ nat_abs i → lt_z i (pos 0) ≡ true → codes "-" ++ amount_text size ≡ number_text i
+negative (pos n) size e below = absurd (omega (arith, ints, below))
+negative (negsuc n) size e below = ap (λ m. codes "-" ++ amount_text m) e
+
+pub natural : (i : ℤ) (size : ℕ) → size ≡ nat_abs i → lt_z i (pos 0) ≡ false → amount_text size ≡ number_text i
+natural (pos n) size e above = ap amount_text e
+natural (negsuc n) size e above = absurd (omega (arith, ints, above))
+
+-- ---- worked cases of printed texts
+
+-- `$['a', 'b']`
+names_text : query_text (query root (segment child (long_hand (selector (name (codes "a")) (selector (name (codes "b")) no_selectors))) no_segments)) ≡ codes "$['a', 'b']"
+unfolding chars encode
+names_text = refl
+
+-- `$..*[-1, 1:5:2, ::-1]`
+slices_text : query_text (query root (segment descendant dot_wildcard (segment child (long_hand (selector (index (negsuc 0)) (selector (slice (record { start = Some (pos 1); end = Some (pos 5); step = Some (pos 2) })) (selector (slice (record { start = None; end = None; step = Some (negsuc 0) })) no_selectors)))) no_segments))) ≡ codes "$..*[-1, 1:5:2, ::-1]"
+unfolding digits
+slices_text = refl
+
+-- `$[?@.a < 1.5 && !(@.b)]`
+filter_text : query_text (query root (segment child (long_hand (selector (filter (or (and (relation (singular (query current (segment child (dot_name (codes "a")) no_segments))) less (literal (tree.number (pos 1500000000)))) (and (not_paren (or (and (exist (query current (segment child (dot_name (codes "b")) no_segments))) no_and) no_or)) no_and)) no_or)) no_selectors)) no_segments)) ≡ codes "$[?@.a < 1.5 && !(@.b)]"
+unfolding digits
+filter_text = refl
+
+-- fractions end at their last digit that is not 0
+numbers_text : (literal_text (tree.number (pos 1500000000)) ≡ codes "1.5") × (literal_text (tree.number (negsuc 499999999)) ≡ codes "-0.5") × (literal_text (tree.number (pos 1)) ≡ codes "0.000000001") × (literal_text (tree.number (pos 2000000000)) ≡ codes "2")
+unfolding digits
+numbers_text = (refl, refl, refl, refl)
+
+-- a quote within a text is escaped
+quote_text : literal_text (tree.text (codes "it's")) ≡ codes "'it\\'s'"
+unfolding chars encode
+quote_text = refl
+
+-- ---- texts of parts that are printed one after another
+
+module _ (separator : List ℕ) (ps : List Piece) where
+  abbrev text_of : Part → List ℕ
+  text_of part = piece_text (piece_in ps part.number)
+
+  -- what is printed of the first i parts, each after a separator
+  abbrev pub begun : List Part → ℕ → List ℕ
+  begun parts i = flat_map (λ t. separator ++ t) (map text_of (take i parts))
+
+  pub begun_more : (parts : List Part) (i : ℕ) (d : Part) → i < length parts → begun parts i ++ (separator ++ text_of (get_or parts i d)) ≡ begun parts (i + 1)
+  begun_more parts i d h =
+      let separated = λ (t : List ℕ). separator ++ t in
+      let texts = map text_of (take i parts) in
+      let x = text_of (get_or parts i d) in
+      let more : texts ++ x ∷ [] ≡ map text_of (take (i + 1) parts) =
+      sym (map-append text_of (take i parts) (get_or parts i d ∷ [])) ∙ ap (map text_of) (sym (take-suc parts i d h) ∙ ap (λ n. take n parts) (sym (add-one i))) in
+      ap (λ t. begun parts i ++ t) (sym (append-nil (separator ++ x))) ∙ sym (flat_map-append separated texts (x ∷ [])) ∙ ap (flat_map separated) more
+
+  listed : (parts : List Part) → map text_of parts ≡ map piece_text (pieces_named ps parts)
+  listed [] = refl
+  listed (part ∷ parts) = ap (λ ts. text_of part ∷ ts) (listed parts)
+
+  -- a first part, and what is printed of the others once none is left
+  pub begun_whole : (parts : List Part) (d : Part) (i : ℕ) → 1 ≤ length parts → length (others parts) ≤ i → text_of (get_or parts 0 d) ++ begun (others parts) i ≡ joined separator (map piece_text (pieces_named ps parts))
+  begun_whole [] d i some all = absurd (omega (arith, some))
+  begun_whole (part ∷ parts) d i some all =
+      ap (λ xs. text_of part ++ flat_map (λ t. separator ++ t) (map text_of xs)) (take_all i (others (part ∷ parts)) all ∙ others-cons part parts)
+      ∙ ap (λ ts. text_of part ++ flat_map (λ t. separator ++ t) ts) (listed parts)
 
 -- ---- one
 

@@ -1,5 +1,5 @@
--- The pieces of a growing vector of nodes: what a push makes, and what it keeps.
-use Rattle.std.proofs.Common.{◌≡◌, ℕ, zero, suc, ◌+◌, ◌<◌, ◌≤◌, List, [], ◌∷◌, ◌++◌, ◌↔◌, length, drop, Bool, Result, Ok, Err, IfOk, OnOk, OnErr, inl, inr, get_or, refl, sym, ap, ◌∙◌, subst, arith, length-append}
+-- The tree of a vector of nodes, as it grows, and that its nodes fit.
+use Rattle.std.proofs.Common.{◌≡◌, ℕ, zero, suc, ◌+◌, ◌<◌, ◌≤◌, List, [], ◌∷◌, ◌++◌, ◌↔◌, length, drop, Bool, Result, Ok, Err, IfOk, OnOk, OnErr, inl, inr, get_or, refl, sym, ap, ◌∙◌, subst, arith, length-append, true, false, if◌then◌else◌, slice_index_or}
 use Rattle.std.proofs.lemmas.Grind.{common_steps, flat_map-append}
 use Rattle.std.proofs.lemmas.List.{append-nil, drop_more}
 use Rattle.std.specs.declared.alloc.AllocError.{AllocError}
@@ -7,7 +7,7 @@ use Rattle.serde_json_path_functions.specs.Functions.{Signature, FunctionSet, Fi
 use Rattle.serde_json_path_syntax.specs.Lists.{IsIn}
 use Rattle.serde_json_path_syntax.proofs.Lists.InLists.{in_append}
 use Rattle.serde_json_path_syntax.proofs.Names.Once.{fits_append}
-use Rattle.serde_json_path_syntax.specs.Kinds.{fits}
+use Rattle.serde_json_path_syntax.specs.Kinds.{fits, AreFitting}
 use Rattle.serde_json_path_syntax.specs.Piece.{Piece}
 use Rattle.serde_json_path_syntax.specs.declared.node.Node.{Node}
 use Rattle.serde_json_path_syntax.specs.declared.node.Node.TheVariants as node
@@ -19,6 +19,9 @@ use Rattle.serde_json_path_syntax.specs.declared.node.Argument.TheVariants as gi
 use Rattle.serde_json_path_syntax.specs.declared.node.Part.{Part}
 use Rattle.serde_json_path_syntax.specs.PartBounds.{parts_bound}
 use Rattle.serde_json_path_syntax.specs.Flat.{called_by, calls_among, no_piece, piece_in, pieces_named, parts_in, piece_of, pieces_from, pieces, piece_at, NamesBelow, IsGrown}
+use Rattle.std.proofs.lemmas.Bool.{cases_lt}
+
+-- ---- the pieces of a growing vector of nodes: what a push makes, and what it keeps
 
 pieces_from-push : (earlier : List Piece) (nodes : List Node) (n : Node) → pieces_from earlier (nodes ++ n ∷ []) ≡ pieces_from earlier nodes ++ piece_of (pieces_from earlier nodes) n ∷ []
 pieces_from-push earlier [] n = refl
@@ -155,3 +158,26 @@ pub fits_from : (F : FunctionSet) (nodes : List Node) (i : ℕ) (d : Node) → i
 fits_from F nodes i d h =
     subst (λ us. Fits F us ↔ (Fits F (called_by (get_or nodes i d)) × Fits F (calls_among (drop (i + 1) nodes)))) (sym (calls_from_node nodes i d h))
     (fits_append F (called_by (get_or nodes i d)) (calls_among (drop (i + 1) nodes)))
+
+-- ---- nodes that name pieces of the right kinds still do after a push
+
+-- one more node
+pub fitting_push : (nodes : List Node) (n : Node) → IsGrown nodes → AreFitting nodes → NamesBelow (length nodes) n → fits (pieces nodes) n ≡ true → AreFitting (nodes ++ n ∷ [])
+fitting_push nodes n grown fitting below fit i d h =
+    let stays : (m : Node) → NamesBelow (length nodes) m → fits (pieces (nodes ++ n ∷ [])) m ≡ fits (pieces nodes) m =
+    same_fits (pieces (nodes ++ n ∷ [])) (pieces nodes) (length nodes) (piece_at-push nodes n) in
+    elim (cases_lt i (length nodes)) [
+      | inl lt ↦
+          let here : slice_index_or (nodes ++ n ∷ []) i d ≡ slice_index_or nodes i d = grind (arith, common_steps, lt) in
+          let names = grown i d lt in
+          ap (fits (pieces (nodes ++ n ∷ []))) here ∙ stays (slice_index_or nodes i d) (omega (arith, names, lt)) ∙ fitting i d lt
+      | inr ge ↦
+          let last : i ≡ length nodes = omega (arith, ge, h, length-append nodes (n ∷ [])) in
+          let here : slice_index_or (nodes ++ n ∷ []) i d ≡ n = grind (arith, common_steps, last) in
+          ap (fits (pieces (nodes ++ n ∷ []))) here ∙ stays n below ∙ fit
+    ]
+
+-- one more node, or none
+pub fitting_pushed : (b : Bool) (old new : List Node) (n : Node) → new ≡ (if b then old ++ n ∷ [] else old) → IsGrown old → AreFitting old → NamesBelow (length old) n → fits (pieces old) n ≡ true → AreFitting new
+fitting_pushed true old new n is grown fitting below fit = subst AreFitting (sym is) (fitting_push old n grown fitting below fit)
+fitting_pushed false old new n is grown fitting below fit = subst AreFitting (sym is) fitting

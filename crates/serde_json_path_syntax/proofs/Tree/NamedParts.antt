@@ -1,18 +1,89 @@
--- Parts that stand for pieces: their numbers are good, and what is made of them is made of those pieces.
-use Rattle.std.proofs.Common.{arith, true, ◌≤◌, ◌≡◌, ℕ, zero, suc, List, [], ◌∷◌, length, slice_get, option_map, refl, ap, ◌∙◌}
-use Rattle.serde_json_path_syntax.specs.Tree as tree
-use Rattle.serde_json_path_syntax.specs.Piece.{Piece}
-use Rattle.serde_json_path_syntax.specs.declared.node.Part.{Part}
-use Rattle.serde_json_path_syntax.specs.declared.builder.SyntaxBuilder.{SyntaxBuilder}
-use Rattle.serde_json_path_syntax.specs.Flat.{piece_in, pieces, pieces_named, selector_in, segments_in, selectors_in, ors_in, ands_in, arguments_in}
-use Rattle.std.proofs.lemmas.Option.{slice_get_read, slice_get_past}
-use Rattle.serde_json_path_syntax.proofs.Tree.BoundedParts.{within_bound}
-use Rattle.serde_json_path_syntax.proofs.Tree.Bounds.{below_length, past_length}
-use Rattle.serde_json_path_syntax.proofs.Tree.OtherParts.{one_is}
-use Rattle.serde_json_path_syntax.specs.Kinds.{each_is, is_and, is_argument, is_basic, is_segment, is_selector}
+-- Parts that nodes name: their bounds, their kinds, and what stands for them.
+use Rattle.std.proofs.Common.{◌≡◌, ℕ, ◌<◌, ◌≤◌, true, false, nat_lt, arith, rules, zero, suc, List, [], ◌∷◌, length, get_or, ap, ◌-◌, take, drop, Bool, sym, subst, slice_get, option_map, refl, ◌∙◌}
 use Rattle.serde_json_path_syntax.specs.PartBounds.{parts_bound}
+use Rattle.serde_json_path_syntax.specs.declared.node.Part.{Part}
+use Rattle.std.proofs.lemmas.Bool.{and_parts}
+use Rattle.std.proofs.lemmas.List.{take_all}
+use Rattle.serde_json_path_syntax.specs.Flat.{piece_in, pieces_named, selector_in, selectors_in, pieces, segments_in, ors_in, ands_in, arguments_in}
+use Rattle.serde_json_path_syntax.specs.Kinds.{each_is, is_and, is_argument, is_basic, is_segment, is_selector}
+use Rattle.serde_json_path_syntax.specs.Piece.{Piece}
+use Rattle.serde_json_path_syntax.specs.Tree.{long_hand, Selectors, selector, Selector, name, wildcard, index, slice, filter, IsSingularSegment}
+use Rattle.serde_json_path_syntax.specs.Tree as tree
+use Rattle.serde_json_path_syntax.specs.declared.builder.SyntaxBuilder.{SyntaxBuilder}
+use Rattle.std.proofs.lemmas.Option.{slice_get_read, slice_get_past}
 use Rattle.serde_json_path_syntax.specs.Stages.{selectors_list}
 use Rattle.serde_json_path_syntax.specs.Parts.{ArePartsFor, ArePartsOf, AreSelectorsOf, AreOrPartsOf, AreAndPartsOf, KeepsTrees, segment_pieces, selector_pieces, or_pieces, and_pieces, argument_pieces}
+
+-- ---- what a comparison of numbers tells
+
+pub below_length : (i n : ℕ) → true ≡ nat_lt i n → i < n
+below_length i n e = search (rules, arith)
+
+pub past_length : (i n : ℕ) → false ≡ nat_lt i n → n ≤ i
+past_length i n e = search (rules, arith)
+
+-- ---- the bound of some parts' numbers
+
+-- each part's number is below the bound
+pub within_bound : (parts : List Part) (i : ℕ) (part : Part) → i < length parts → part ≡ get_or parts i part → part.number < parts_bound parts
+within_bound [] i part h e = omega (arith, h)
+within_bound (p ∷ parts) zero part h e =
+    let same : part.number ≡ p.number = ap (λ (x : Part). x.number) e in
+    omega arith
+within_bound (p ∷ parts) (suc i) part h e =
+    let later = within_bound parts i part (omega (arith, h)) e in
+    omega arith
+
+pub within_get : (parts : List Part) (i : ℕ) (d : Part) → i < length parts → (get_or parts i d).number < parts_bound parts
+within_get [] i d h = omega (arith, h)
+within_get (p ∷ parts) zero d h = omega arith
+within_get (p ∷ parts) (suc i) d h =
+    let later = within_get parts i d (omega (arith, h)) in
+    omega arith
+
+-- ---- the parts after the first, and each of several parts
+
+abbrev pub others : List Part → List Part
+others parts = take (length parts - 1) (drop 1 parts)
+
+pub others-cons : (part : Part) (parts : List Part) → others (part ∷ parts) ≡ parts
+others-cons part parts = take_all (length (part ∷ parts) - 1) parts (omega arith)
+
+pub others-bound : (parts : List Part) → parts_bound (others parts) ≤ parts_bound parts
+others-bound [] = omega arith
+others-bound (part ∷ parts) = rw (others-cons part parts) (omega arith)
+
+module _ (is : Piece → Bool) (ps : List Piece) where
+  abbrev AllAre : List Part → Type 0
+  AllAre parts = each_is is (pieces_named ps parts) ≡ true
+
+  -- they are of the kind that all are
+  pub others_are : (parts : List Part) → AllAre parts → AllAre (others parts)
+  others_are [] h = h
+  others_are (part ∷ parts) h = subst AllAre (sym (others-cons part parts)) (and_parts (is (piece_in ps part.number)) (each_is is (pieces_named ps parts)) h).1
+
+  -- each is
+  pub one_is : (parts : List Part) (i : ℕ) (d : Part) → i < length parts → AllAre parts → is (piece_in ps (get_or parts i d).number) ≡ true
+  one_is [] i d below h = absurd (omega (arith, below))
+  one_is (part ∷ parts) zero d below h = (and_parts (is (piece_in ps part.number)) (each_is is (pieces_named ps parts)) h).0
+  one_is (part ∷ parts) (suc i) d below h = one_is parts i d (omega (arith, below)) (and_parts (is (piece_in ps part.number)) (each_is is (pieces_named ps parts)) h).1
+
+-- ---- a bracket with two selectors or more is not singular
+
+-- a bracket with two selectors or more is no singular segment
+pub two_selectors : (ps : List Piece) (parts : List Part) → 2 ≤ length parts → IsSingularSegment (long_hand (selectors_in (pieces_named ps parts))) → ⊥
+two_selectors ps [] two h = omega (arith, two)
+two_selectors ps (a ∷ []) two h = omega (arith, two)
+two_selectors ps (a ∷ b ∷ parts) two h = refused (selector_in (piece_in ps a.number)) (selector_in (piece_in ps b.number)) (selectors_in (pieces_named ps parts)) h
+  where
+    refused : (first second : Selector) (more : Selectors) → IsSingularSegment (long_hand (selector first (selector second more))) → ⊥
+    refused (name k) second more h = h
+    refused wildcard second more h = h
+    refused (index i) second more h = h
+    refused (slice s) second more h = h
+    refused (filter e) second more h = h
+
+-- ---- parts that stand for pieces: their numbers are good, and what is made of them is made of those pieces
 
 pub parts_below : (builder : SyntaxBuilder) (parts : List Part) (ps : List Piece) → ArePartsFor builder parts ps → parts_bound parts ≤ length builder.arena.nodes.items
 parts_below builder [] ps h = omega arith

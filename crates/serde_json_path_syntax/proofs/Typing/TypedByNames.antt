@@ -6,7 +6,7 @@ use Rattle.serde_json_path_functions.specs.Functions.{Kind, of_value, of_logical
 use Rattle.serde_json_path_syntax.specs.Typing.{IsTestKind, IsTyped, AreTypedSegments, IsTypedSegment, AreTypedSelectors, IsTypedSelector, IsTypedOr, IsTypedAnd, IsTypedBasic, IsTypedComparable, IsTypedCall, AreTypedArguments, IsTypedArgument, TakesResult, result_kind}
 use Rattle.serde_json_path_syntax.specs.Calls.{OfEach, name_of, names_of, calls_of, calls_in_segments, calls_in_segment, calls_in_selectors, calls_in_selector, calls_in_or, calls_in_and, calls_in_basic, calls_in_comparable, calls_from, calls_in_arguments, calls_in_argument}
 use Rattle.serde_json_path_syntax.specs.Lists.{IsIn}
-use Rattle.serde_json_path_syntax.proofs.Names.InCalls.{in_from, of_both}
+use Rattle.serde_json_path_syntax.proofs.Names.Once.{in_from, of_both}
 use Rattle.serde_json_path_syntax.proofs.Lists.InLists.{map_in}
 
 module _ (few many : List ℕ → Option Signature) where

@@ -1,6 +1,6 @@
 use Rattle.std.proofs.Common.{[], ◌∷◌, ◌++◌, map, sym, subst, ap, ◌∙◌, append_assoc}
 use Rattle.serde_json_path_core.proofs.Words.{map-append, view, located, IsResult, tree_of, rest}
-use Rattle.serde_json_path_core.proofs.Steps.KnownCases.{found-some}
+use Rattle.serde_json_path_core.proofs.Steps.Lookups.{found-some}
 use Rattle.serde_json_path_core.proofs.evaluation.evaluate_located.Goals as goal
 
 pub nodes-preserved : goal.nodes-preserved

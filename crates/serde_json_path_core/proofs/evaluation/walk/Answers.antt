@@ -1,11 +1,10 @@
 use Rattle.std.proofs.Common.{sym, subst, ap, ◌∙◌}
-use Rattle.serde_json_path_core.proofs.Words.{view, start_of, segments_at, nodes_in, signatures_of, tree_of, frames_view, rest_of, stages}
-use Rattle.serde_json_path_core.proofs.Words.{stages_at, IsResult}
+use Rattle.serde_json_path_core.proofs.Words.{view, start_of, segments_at, nodes_in, signatures_of, tree_of, frames_view, rest_of, stages, stages_at}
+use Rattle.serde_json_path_core.proofs.Words.{IsResult}
 use Rattle.serde_json_path_core.proofs.Walks.Chains.{stack-started}
 use Rattle.serde_json_path_core.proofs.Meaning.Derived.{computed_result}
-use Rattle.serde_json_path_core.proofs.Sound.Parts.{sound-segments}
-use Rattle.serde_json_path_core.proofs.Walks.Started.{begun-results}
-use Rattle.serde_json_path_core.proofs.Sound.WholeQueries.{whole-sound}
+use Rattle.serde_json_path_core.proofs.Sound.Parts.{sound-segments, whole-sound}
+use Rattle.serde_json_path_core.proofs.Walks.Stacks.{begun-results}
 use Rattle.serde_json_path_core.proofs.evaluation.walk.Goals as goal
 
 pub invariant_of-result : goal.invariant_of-result

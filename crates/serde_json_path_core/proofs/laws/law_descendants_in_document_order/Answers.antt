@@ -1,10 +1,11 @@
 -- A descendant segment's nodes are the child segment's at the node, then those of each child's subtree.
 use Rattle.std.proofs.Common.{◌≡◌, List, [], ◌∷◌, ◌++◌, map, flat_map, sym, ap, ◌∙◌}
-use Rattle.serde_json_path_core.proofs.Words.{append-nil, map-id, flat_map-map, map-map, Data, Step, StepBefore, Located, Query, query, current, Segments}
-use Rattle.serde_json_path_core.proofs.Words.{segment, child, descendant, Segment, FunctionSet, IsResult, IsTyped, beneath, children, descents, placed, results}
-use Rattle.serde_json_path_core.proofs.Words.{results_from, chosen, AreChildren, AreSubtreeResults, flat_map-same, flat_map-flat_map, map-flat_map}
+use Rattle.serde_json_path_core.proofs.Words.{append-nil, map-id, flat_map-map, map-map, Data, Step, StepBefore, Located, Query, query, current}
+use Rattle.serde_json_path_core.proofs.Words.{Segments, segment, child, descendant, Segment, FunctionSet, IsResult, IsTyped, beneath, children}
+use Rattle.serde_json_path_core.proofs.Words.{descents, placed, results, results_from, chosen, AreChildren, AreSubtreeResults, flat_map-same}
+use Rattle.serde_json_path_core.proofs.Words.{flat_map-flat_map, map-flat_map}
 use Rattle.serde_json_path_core.proofs.Meaning.ChildSteps.{in_children, children_ordered}
-use Rattle.serde_json_path_core.proofs.Meaning.Beneath.{results_beneath}
+use Rattle.serde_json_path_core.proofs.Meaning.DerivationEnds.{results_beneath}
 use Rattle.serde_json_path_core.proofs.Meaning.Descents.{below_child, descents_are}
 use Rattle.serde_json_path_core.proofs.Meaning.Derived.{computed_only}
 use Rattle.serde_json_path_core.proofs.Meaning.Order.{step_once, in_order_once}

@@ -7,10 +7,8 @@ use Rattle.serde_json_path_syntax.specs.Parts.{nodes_in}
 use Rattle.serde_json_path_syntax.specs.Piece.{a_segment}
 use Rattle.serde_json_path_syntax.specs.Text.{bracket_dots_of, joined, piece_text, query_kind_text, sign_text}
 use Rattle.serde_json_path_syntax.specs.Tree.{long_hand}
-use Rattle.serde_json_path_syntax.proofs.Tree.BoundedParts.{within_get}
-use Rattle.serde_json_path_syntax.proofs.Tree.OtherParts.{one_is, others, others-bound, others_are}
-use Rattle.serde_json_path_syntax.proofs.Printing.Joined.{begun_more, begun_whole}
-use Rattle.serde_json_path_syntax.proofs.Printing.OfKinds.{text_of_segments, texts_of_arguments, texts_of_selectors}
+use Rattle.serde_json_path_syntax.proofs.Tree.NamedParts.{within_get, one_is, others, others-bound, others_are}
+use Rattle.serde_json_path_syntax.proofs.Printing.OfKinds.{begun_more, begun_whole, text_of_segments, texts_of_arguments, texts_of_selectors}
 use Rattle.serde_json_path_syntax.proofs.print.+printing.Goals as goal
 
 -- ---- segments, after the sign of a query

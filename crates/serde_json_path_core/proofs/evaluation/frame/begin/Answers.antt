@@ -1,6 +1,6 @@
 use Rattle.serde_json_path_core.proofs.Words.{nodes_in, within_bound, pieces, typed_segment, below_length, past_length}
 use Rattle.std.proofs.Common.{arith}
-use Rattle.serde_json_path_core.proofs.Walks.StageLists.{stages-from, stages-past}
+use Rattle.serde_json_path_core.proofs.Walks.Turns.{stages-from, stages-past}
 use Rattle.serde_json_path_core.proofs.evaluation.frame.begin.Goals as goal
 
 pub returns-in-Some : goal.returns-in-Some

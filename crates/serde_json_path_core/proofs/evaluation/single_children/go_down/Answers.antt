@@ -1,6 +1,6 @@
 use Rattle.std.proofs.Common.{get_or, None, Some, ◌∙◌, arith}
 use Rattle.serde_json_path_core.proofs.Words.{get_or_default, view, pieces, nodes_in, Part, within_get, typed_segment, child_view}
-use Rattle.serde_json_path_core.proofs.Walks.InDocument.{child_stands}
+use Rattle.serde_json_path_core.proofs.Walks.Chains.{child_stands}
 use Rattle.serde_json_path_core.proofs.Walks.SingleChildren.{child-selected, ends-at, goes_down}
 use Rattle.serde_json_path_core.proofs.evaluation.single_children.go_down.Goals as goal
 

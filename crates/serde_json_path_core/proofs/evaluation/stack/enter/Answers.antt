@@ -1,6 +1,6 @@
 use Rattle.std.proofs.Common.{◌-◌, ◌++◌, ◌∷◌, [], Bool, List, Some, drop, ap, sym, ◌∙◌, cond, arith}
 use Rattle.serde_json_path_core.proofs.Words.{nodes_in, stages_at, frames_view, task_view, entered, last_passed, Frame}
-use Rattle.serde_json_path_core.proofs.Walks.LastFrames.{sees_passed_below}
+use Rattle.serde_json_path_core.proofs.Walks.Turns.{sees_passed_below}
 use Rattle.serde_json_path_core.proofs.evaluation.stack.enter.Goals as goal
 
 pub returns-clause-ok : goal.returns-clause-ok

@@ -1,5 +1,5 @@
 use Rattle.std.proofs.Common.{◌-◌, ◌∙◌, arith}
-use Rattle.serde_json_path_core.proofs.Walks.LastFrames.{sees_passed}
+use Rattle.serde_json_path_core.proofs.Walks.Turns.{sees_passed}
 use Rattle.serde_json_path_core.proofs.evaluation.stack.pass_last.Goals as goal
 
 pub returns : goal.returns

@@ -3,7 +3,7 @@ use Rattle.serde_json_path_core.proofs.Words.{common_steps, calls_in_or, compara
 use Rattle.serde_json_path_core.proofs.Words.{relation, IsTypedOr, Part, Sound, nodes_of, top_of, within_get}
 use Rattle.serde_json_path_core.specs.Inside.Scopes.{query_of, set_of}
 use Rattle.serde_json_path_core.proofs.Sound.Parts.{sound-and, sound-sides}
-use Rattle.serde_json_path_core.proofs.Steps.SingleOperands.{one-comparison, only-comparison}
+use Rattle.serde_json_path_core.proofs.Steps.Lookups.{one-comparison, only-comparison}
 use Rattle.serde_json_path_core.specs.Inside.Evaluates.{SoundComparable}
 use Rattle.serde_json_path_core.proofs.filter.single_comparison.single_comparison.Goals.{In-Basic-Relation}
 use Rattle.serde_json_path_core.proofs.filter.single_comparison.single_comparison.Goals as goal

@@ -1,11 +1,10 @@
 use Rattle.std.proofs.Common.{◌∷◌, rules, arith, sym, ap, subst, ◌∙◌, ◌<◌, option_map}
-use Rattle.serde_json_path_core.proofs.Words.{∥∥₁_map, view, step_view, segments_at, nodes_in, signatures_of, document_of, rest_of, IsStack, IsStackIn, stages}
-use Rattle.serde_json_path_core.proofs.Words.{stages_at, frames_view, segments_of, node_at, work}
+use Rattle.serde_json_path_core.proofs.Words.{∥∥₁_map, view, step_view, segments_at, nodes_in, signatures_of, document_of, rest_of, IsStack}
+use Rattle.serde_json_path_core.proofs.Words.{IsStackIn, stages, stages_at, frames_view, segments_of, node_at, work}
 use Rattle.serde_json_path_core.specs.Walks.{set_of, query_of}
-use Rattle.serde_json_path_core.proofs.Sound.Parts.{sound-segments}
-use Rattle.serde_json_path_core.proofs.Walks.InDocument.{root_stands}
-use Rattle.serde_json_path_core.proofs.Sound.WholeQueries.{whole-sound}
-use Rattle.serde_json_path_core.proofs.Steps.KnownCases.{found-none, found-some, if-err}
+use Rattle.serde_json_path_core.proofs.Sound.Parts.{sound-segments, whole-sound}
+use Rattle.serde_json_path_core.proofs.Walks.Chains.{root_stands}
+use Rattle.serde_json_path_core.proofs.Steps.Lookups.{found-none, found-some, if-err}
 use Rattle.serde_json_path_core.proofs.evaluation.walks.Walk.next.Goals as goal
 
 pub find_next-requires : goal.find_next-requires
