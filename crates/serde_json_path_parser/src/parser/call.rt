@@ -78,20 +78,20 @@ impl Argument {
 }
 
 /// Parses the end of a call, at its `)`, and the blanks after it. `kinds` are the types of the parameters that have
-/// no argument yet. `start` bytes are left where the call begins.
+/// no argument yet. `place` bytes are left where the call begins.
 #[tactic(auto, unfolding(crate::specs::Filters::ended))]
 fn parse_end<S: PathSource>(
     reader: &mut Reader<'_, S>,
-    start: usize,
+    place: usize,
     kinds: &[FunctionArgType],
 ) -> Result<(), Failure>
     requires { 0 < length (left reader.old) }
     ensures moves { MovesTo result reader.old reader.new }
     ensures gives { Gives (λ u. no_arguments) result reader.new
-        (ended start (map kind_view kinds.now) (drop 1 (left reader.old))) }
+        (ended place (map kind_view kinds.now) (drop 1 (left reader.old))) }
 {
     if !kinds.is_empty() {
-        return Err(Failure::in_long_hand(ParseErrorKind::WrongNumberOfArguments, start));
+        return Err(Failure::in_long_hand(ParseErrorKind::WrongNumberOfArguments, place));
     }
     reader.take_char();
     reader.skip_blanks();
@@ -100,32 +100,32 @@ fn parse_end<S: PathSource>(
 
 impl<F: Functions> FilterParser<'_, F> {
     /// Parses a call of the function of that name, from its `(` on, and the blanks after it: the call, and the type
-    /// of its result. `start` bytes are left where the call begins.
+    /// of its result. `place` bytes are left where the call begins.
     #[cycle(filters)]
     pub(crate) fn parse_call<S: PathSource>(
         &self,
         builder: &mut SyntaxBuilder,
         reader: &mut Reader<'_, S>,
-        start: usize,
+        place: usize,
         name: String,
     ) -> Result<(Part, FunctionArgType), Failure>
         requires { 0 < length (left reader.old) }
         ensures moves { MovesTo result reader.old reader.new }
         ensures gives { MakesCall (signatures F.set self.now) builder.old builder.new
             result reader.new
-            ((deeper F.set self.now).call_of start (string_bytes name) (drop 1 (left reader.old))) }
+            ((deeper F.set self.now).call_of place (string_bytes name) (drop 1 (left reader.old))) }
     {
         if self.depth == 0 {
-            return Err(Failure::in_long_hand(ParseErrorKind::NestedTooDeep, start));
+            return Err(Failure::in_long_hand(ParseErrorKind::NestedTooDeep, place));
         }
         let Some(signature) = self.functions.signature(name.as_str()) else {
-            return Err(Failure::in_long_hand(ParseErrorKind::UndefinedFunction, start));
+            return Err(Failure::in_long_hand(ParseErrorKind::UndefinedFunction, place));
         };
         reader.take_char();
         reader.skip_blanks();
         let mut arguments = Vec::new(self.alloc);
         self.deeper()
-            .parse_parameters(builder, reader, start, signature.params(), &mut arguments)?;
+            .parse_parameters(builder, reader, place, signature.params(), &mut arguments)?;
         let call = builder.call(name, signature, arguments)?;
         Ok((call, signature.result()))
     }
@@ -138,20 +138,20 @@ impl<F: Functions> FilterParser<'_, F> {
         &self,
         builder: &mut SyntaxBuilder,
         reader: &mut Reader<'_, S>,
-        start: usize,
+        place: usize,
         kinds: &[FunctionArgType],
         parts: &mut Vec<Part>,
     ) -> Result<(), Failure>
         ensures moves { MovesTo result reader.old reader.new }
         ensures gives { MakesArguments (signatures F.set self.now) builder.old builder.new
             parts.old.items parts.new.items result reader.new
-            (at_level F.set self.now filters.parameters_at start (map kind_view kinds.now)
+            (at_level F.set self.now filters.parameters_at place (map kind_view kinds.now)
             (left reader.old)) }
     {
         if reader.sees(b')') {
-            return parse_end(reader, start, kinds);
+            return parse_end(reader, place, kinds);
         }
-        self.parse_arguments(builder, reader, start, kinds, parts)
+        self.parse_arguments(builder, reader, place, kinds, parts)
     }
 
     /// Parses one argument or more, and the end of the call.
@@ -161,7 +161,7 @@ impl<F: Functions> FilterParser<'_, F> {
         &self,
         builder: &mut SyntaxBuilder,
         reader: &mut Reader<'_, S>,
-        start: usize,
+        place: usize,
         kinds: &[FunctionArgType],
         parts: &mut Vec<Part>,
     ) -> Result<(), Failure>
@@ -169,10 +169,10 @@ impl<F: Functions> FilterParser<'_, F> {
         ensures gives { (fuel : ℕ) → length (left reader.old) ≤ fuel
             → MakesArguments (signatures F.set self.now) builder.old builder.new
             parts.old.items parts.new.items result reader.new
-            (at_level F.set self.now filters.arguments_at fuel start (map kind_view kinds.now)
+            (at_level F.set self.now filters.arguments_at fuel place (map kind_view kinds.now)
             (left reader.old)) }
     {
-        let begin = reader.bytes_left();
+        let argument_place = reader.bytes_left();
         let argument = self.parse_argument(builder, reader)?;
         if !reader.sees_end_of_argument() {
             return Err(reader.refuse(
@@ -181,19 +181,19 @@ impl<F: Functions> FilterParser<'_, F> {
             ));
         }
         let Some((kind, more)) = kinds.split_first() else {
-            return Err(Failure::in_long_hand(ParseErrorKind::WrongNumberOfArguments, start));
+            return Err(Failure::in_long_hand(ParseErrorKind::WrongNumberOfArguments, place));
         };
         if !argument.fits(builder, *kind) {
-            return Err(Failure::in_long_hand(ParseErrorKind::WrongArgumentType, begin));
+            return Err(Failure::in_long_hand(ParseErrorKind::WrongArgumentType, argument_place));
         }
         let part = argument.part(builder)?;
         parts.push(part)?;
         if reader.sees(b',') {
             reader.take_char();
             reader.skip_blanks();
-            return self.parse_arguments(builder, reader, start, more, parts);
+            return self.parse_arguments(builder, reader, place, more, parts);
         }
-        parse_end(reader, start, more)
+        parse_end(reader, place, more)
     }
 
     /// Parses an argument and the blanks after it.
@@ -213,12 +213,12 @@ impl<F: Functions> FilterParser<'_, F> {
             let expression = self.parse_logical_or(builder, reader)?;
             return Ok(Argument::Logical(expression));
         }
-        let start = reader.bytes_left();
+        let place = reader.bytes_left();
         let operand = self.parse_operand(builder, reader)?;
         if reader.sees_end_of_argument() {
             return Ok(Argument::Operand(operand));
         }
-        let basic = self.parse_basic_from(builder, reader, start, operand)?;
+        let basic = self.parse_basic_from(builder, reader, place, operand)?;
         let and = self.parse_and_from(builder, reader, basic)?;
         let expression = self.parse_or_from(builder, reader, and)?;
         Ok(Argument::Logical(expression))

@@ -157,19 +157,19 @@ impl<F: Functions> FilterParser<'_, F> {
             reader.skip_blanks();
             return self.parse_negated(builder, reader);
         }
-        let start = reader.bytes_left();
+        let place = reader.bytes_left();
         let operand = self.parse_operand(builder, reader)?;
-        self.parse_basic_from(builder, reader, start, operand)
+        self.parse_basic_from(builder, reader, place, operand)
     }
 
-    /// Parses a comparison or a test after its first operand. `start` bytes are left where that operand begins.
+    /// Parses a comparison or a test after its first operand. `place` bytes are left where that operand begins.
     #[cycle(filters)]
     #[tactic(auto, unfolding(crate::specs::Filters::basic_from, crate::specs::Filters::relation_at, crate::specs::Filters::right_side_at))]
     pub(crate) fn parse_basic_from<S: PathSource>(
         &self,
         builder: &mut SyntaxBuilder,
         reader: &mut Reader<'_, S>,
-        start: usize,
+        place: usize,
         operand: Operand,
     ) -> Result<Part, Failure>
         requires { (x : operands.Operand)
@@ -181,16 +181,16 @@ impl<F: Functions> FilterParser<'_, F> {
             → IsOperandOf (signatures F.set self.now) builder.old operand x
             → MakesFrom (signatures F.set self.now) (calls_in_operand x) a_basic
             builder.old builder.new result reader.new
-            (at_level F.set self.now filters.basic_from start x (left reader.old)) }
+            (at_level F.set self.now filters.basic_from place x (left reader.old)) }
     {
         let Some(operator) = parse_operator(reader) else {
-            return self.as_test(builder, reader, start, operand);
+            return self.as_test(builder, reader, place, operand);
         };
         reader.skip_blanks();
-        let left = self.as_comparable(builder, reader, start, operand)?;
-        let begin = reader.bytes_left();
+        let left = self.as_comparable(builder, reader, place, operand)?;
+        let right_place = reader.bytes_left();
         let operand = self.parse_operand(builder, reader)?;
-        let right = self.as_comparable(builder, reader, begin, operand)?;
+        let right = self.as_comparable(builder, reader, right_place, operand)?;
         Ok(builder.relation(left, operator, right)?)
     }
 
@@ -250,12 +250,12 @@ impl<F: Functions> FilterParser<'_, F> {
         if !reader.sees_small_letter() {
             return Err(reader.refuse(ParseErrorKind::ExpectedExpression, Context::LongHand));
         }
-        let start = reader.bytes_left();
+        let place = reader.bytes_left();
         let Operand::Call(call, result) = self.parse_named(builder, reader)? else {
-            return Err(Failure::in_long_hand(ParseErrorKind::ExpectedExpression, start));
+            return Err(Failure::in_long_hand(ParseErrorKind::ExpectedExpression, place));
         };
         if result == FunctionArgType::Value {
-            return Err(Failure::in_long_hand(ParseErrorKind::WrongReturnType, start));
+            return Err(Failure::in_long_hand(ParseErrorKind::WrongReturnType, place));
         }
         Ok(builder.not_test(call)?)
     }

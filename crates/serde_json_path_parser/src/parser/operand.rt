@@ -91,10 +91,10 @@ impl<F: Functions> FilterParser<'_, F> {
             result reader.new
             (at_level F.set self.now named_at (left reader.old)) }
     {
-        let start = reader.bytes_left();
+        let place = reader.bytes_left();
         let word = read_word(self.alloc, reader)?;
         if reader.sees(b'(') {
-            let (call, result) = self.parse_call(builder, reader, start, word)?;
+            let (call, result) = self.parse_call(builder, reader, place, word)?;
             return Ok(Operand::Call(call, result));
         }
         match literal_word(word.as_str()) {
@@ -102,7 +102,7 @@ impl<F: Functions> FilterParser<'_, F> {
                 reader.skip_blanks();
                 Ok(Operand::Literal(literal))
             }
-            None => Err(Failure::in_long_hand(ParseErrorKind::ExpectedExpression, start)),
+            None => Err(Failure::in_long_hand(ParseErrorKind::ExpectedExpression, place)),
         }
     }
 
@@ -141,13 +141,13 @@ impl<F: Functions> FilterParser<'_, F> {
         Ok(Operand::Literal(Literal::Number(number)))
     }
 
-    /// The operand as a side of a comparison. `start` bytes are left where it begins.
+    /// The operand as a side of a comparison. `place` bytes are left where it begins.
     #[tactic(auto, unfolding(crate::specs::Filters::comparable_at))]
     pub(crate) fn as_comparable<S: PathSource>(
         &self,
         builder: &mut SyntaxBuilder,
         reader: &Reader<'_, S>,
-        start: usize,
+        place: usize,
         operand: Operand,
     ) -> Result<Part, Failure>
         requires { (x : operands.Operand)
@@ -157,32 +157,32 @@ impl<F: Functions> FilterParser<'_, F> {
         ensures gives { (x : operands.Operand)
             → IsOperandOf (signatures F.set self.now) builder.old operand x
             → MakesOf (calls_in_operand x) a_comparable builder.new result reader.now
-            (at_level F.set self.now comparable_at start x (left reader.now)) }
+            (at_level F.set self.now comparable_at place x (left reader.now)) }
     {
         match operand {
             Operand::Literal(literal) => { Ok(builder.literal(literal)?) }
             Operand::Query(query) => {
                 if !builder.is_singular(query) {
-                    return Err(Failure::in_long_hand(ParseErrorKind::NonSingularQuery, start));
+                    return Err(Failure::in_long_hand(ParseErrorKind::NonSingularQuery, place));
                 }
                 Ok(builder.singular(query)?)
             }
             Operand::Call(call, result) => {
                 if result != FunctionArgType::Value {
-                    return Err(Failure::in_long_hand(ParseErrorKind::WrongReturnType, start));
+                    return Err(Failure::in_long_hand(ParseErrorKind::WrongReturnType, place));
                 }
                 Ok(builder.called(call)?)
             }
         }
     }
 
-    /// The operand as a test. `start` bytes are left where it begins.
+    /// The operand as a test. `place` bytes are left where it begins.
     #[tactic(auto, unfolding(crate::specs::Filters::test_at))]
     pub(crate) fn as_test<S: PathSource>(
         &self,
         builder: &mut SyntaxBuilder,
         reader: &Reader<'_, S>,
-        start: usize,
+        place: usize,
         operand: Operand,
     ) -> Result<Part, Failure>
         requires { (x : operands.Operand)
@@ -192,7 +192,7 @@ impl<F: Functions> FilterParser<'_, F> {
         ensures gives { (x : operands.Operand)
             → IsOperandOf (signatures F.set self.now) builder.old operand x
             → MakesOf (calls_in_operand x) a_basic builder.new result reader.now
-            (at_level F.set self.now test_at start x (left reader.now)) }
+            (at_level F.set self.now test_at place x (left reader.now)) }
     {
         match operand {
             Operand::Literal(_literal) => Err(reader.refuse(
@@ -202,7 +202,7 @@ impl<F: Functions> FilterParser<'_, F> {
             Operand::Query(query) => { Ok(builder.exist(query)?) }
             Operand::Call(call, result) => {
                 if result == FunctionArgType::Value {
-                    return Err(Failure::in_long_hand(ParseErrorKind::WrongReturnType, start));
+                    return Err(Failure::in_long_hand(ParseErrorKind::WrongReturnType, place));
                 }
                 Ok(builder.test(call)?)
             }

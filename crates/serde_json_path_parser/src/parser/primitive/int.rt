@@ -14,17 +14,17 @@ use crate::source::PathSource;
 /// The greatest integer: 2^53 - 1.
 const LARGEST: u128 = 9_007_199_254_740_991;
 
-/// Parses the digits of an integer, at whose first character `start` bytes are left. They are read whole before their
+/// Parses the digits of an integer, at whose first character `place` bytes are left. They are read whole before their
 /// range is checked.
 #[tactic(auto, unfolding(crate::specs::Parsing::digits_at))]
-fn parse_digits<S: PathSource>(reader: &mut Reader<'_, S>, start: usize) -> Result<u64, Failure>
+fn parse_digits<S: PathSource>(reader: &mut Reader<'_, S>, place: usize) -> Result<u64, Failure>
     ensures moves { MovesTo result reader.old reader.new }
-    ensures gives { Gives (λ n. n) result reader.new (digits_at start (left reader.old)) }
+    ensures gives { Gives (λ n. n) result reader.new (digits_at place (left reader.old)) }
     ensures range { IfOk result (λ n. n ≤ largest) }
 {
     let n = parse_decimal(reader);
     if n > LARGEST {
-        return Err(Failure::in_long_hand(ParseErrorKind::IntegerOutOfRange, start));
+        return Err(Failure::in_long_hand(ParseErrorKind::IntegerOutOfRange, place));
     }
     Ok(n as u64)
 }
@@ -36,13 +36,13 @@ pub(crate) fn parse_int<S: PathSource>(reader: &mut Reader<'_, S>) -> Result<i64
     ensures gives { Gives (λ i. i) result reader.new (int_at (left reader.old)) }
     ensures range { IfOk result (λ i. IsInteger i) }
 {
-    let start = reader.bytes_left();
+    let place = reader.bytes_left();
     if reader.sees(b'-') {
         reader.take_char();
         if !reader.sees_first_digit() {
             return Err(reader.refuse_before(ParseErrorKind::ExpectedSelector, Context::LongHand));
         }
-        let amount = parse_digits(reader, start)?;
+        let amount = parse_digits(reader, place)?;
         return Ok(-(amount as i64));
     }
     if reader.sees(b'0') {
@@ -52,6 +52,6 @@ pub(crate) fn parse_int<S: PathSource>(reader: &mut Reader<'_, S>) -> Result<i64
     if !reader.sees_first_digit() {
         return Err(reader.refuse(ParseErrorKind::ExpectedSelector, Context::LongHand));
     }
-    let amount = parse_digits(reader, start)?;
+    let amount = parse_digits(reader, place)?;
     Ok(amount as i64)
 }

@@ -23,16 +23,16 @@ const TOO_MANY: u128 = (1 << 127) - 1;
 
 /// Parses the digits before a point.
 #[tactic(auto, unfolding(crate::specs::Numbers::whole_at))]
-fn parse_whole<S: PathSource>(reader: &mut Reader<'_, S>, start: usize) -> Result<u128, Failure>
+fn parse_whole<S: PathSource>(reader: &mut Reader<'_, S>, place: usize) -> Result<u128, Failure>
     ensures moves { MovesTo result reader.old reader.new }
-    ensures gives { Gives (λ n. n) result reader.new (capped (whole_at start (left reader.old))) }
+    ensures gives { Gives (λ n. n) result reader.new (capped (whole_at place (left reader.old))) }
 {
     if reader.sees(b'0') {
         reader.take_char();
         return Ok(0);
     }
     if !reader.sees_first_digit() {
-        return Err(Failure::in_long_hand(ParseErrorKind::ExpectedExpression, start));
+        return Err(Failure::in_long_hand(ParseErrorKind::ExpectedExpression, place));
     }
     Ok(parse_decimal(reader))
 }
@@ -41,51 +41,51 @@ fn parse_whole<S: PathSource>(reader: &mut Reader<'_, S>, start: usize) -> Resul
 #[tactic(auto, unfolding(crate::specs::Numbers::digits_after_point_at))]
 fn parse_fraction_digits<S: PathSource>(
     reader: &mut Reader<'_, S>,
-    start: usize,
+    place: usize,
 ) -> Result<u128, Failure>
     ensures moves { MovesTo result reader.old reader.new }
     ensures gives { Gives (λ n. n) result reader.new
-        (digits_after_point_at start (left reader.old)) }
+        (digits_after_point_at place (left reader.old)) }
 {
     if !reader.sees_digit() {
-        return Err(Failure::in_long_hand(ParseErrorKind::ExponentOrEmptyFraction, start));
+        return Err(Failure::in_long_hand(ParseErrorKind::ExponentOrEmptyFraction, place));
     }
     let before = reader.bytes_left();
     let value = parse_decimal(reader);
     let count = before - reader.bytes_left();
     if reader.sees_exponent() {
-        return Err(Failure::in_long_hand(ParseErrorKind::ExponentOrEmptyFraction, start));
+        return Err(Failure::in_long_hand(ParseErrorKind::ExponentOrEmptyFraction, place));
     }
     if count > FRACTION_DIGITS {
-        return Err(Failure::in_long_hand(ParseErrorKind::FractionTooLong, start));
+        return Err(Failure::in_long_hand(ParseErrorKind::FractionTooLong, place));
     }
     Ok(value * 10_u128.pow((FRACTION_DIGITS - count) as u32))
 }
 
 /// Parses a fraction: its billionths, or 0 where there is none.
 #[tactic(auto, unfolding(crate::specs::Numbers::fraction_at))]
-fn parse_fraction<S: PathSource>(reader: &mut Reader<'_, S>, start: usize) -> Result<u128, Failure>
+fn parse_fraction<S: PathSource>(reader: &mut Reader<'_, S>, place: usize) -> Result<u128, Failure>
     ensures moves { MovesTo result reader.old reader.new }
-    ensures gives { Gives (λ n. n) result reader.new (fraction_at start (left reader.old)) }
+    ensures gives { Gives (λ n. n) result reader.new (fraction_at place (left reader.old)) }
 {
     if reader.sees(b'.') {
         reader.take_char();
-        return parse_fraction_digits(reader, start);
+        return parse_fraction_digits(reader, place);
     }
     if reader.sees_exponent() {
-        return Err(Failure::in_long_hand(ParseErrorKind::ExponentOrEmptyFraction, start));
+        return Err(Failure::in_long_hand(ParseErrorKind::ExponentOrEmptyFraction, place));
     }
     Ok(0)
 }
 
 /// Parses a number without its sign: its billionths, or `u128::MAX` where there are more.
 #[tactic(auto, unfolding(crate::specs::Numbers::amount_at))]
-fn parse_amount<S: PathSource>(reader: &mut Reader<'_, S>, start: usize) -> Result<u128, Failure>
+fn parse_amount<S: PathSource>(reader: &mut Reader<'_, S>, place: usize) -> Result<u128, Failure>
     ensures moves { MovesTo result reader.old reader.new }
-    ensures gives { Gives (λ n. n) result reader.new (capped (amount_at start (left reader.old))) }
+    ensures gives { Gives (λ n. n) result reader.new (capped (amount_at place (left reader.old))) }
 {
-    let whole = parse_whole(reader, start)?;
-    let fraction = parse_fraction(reader, start)?;
+    let whole = parse_whole(reader, place)?;
+    let fraction = parse_fraction(reader, place)?;
     Ok(whole.saturating_mul(ONE).saturating_add(fraction))
 }
 
@@ -98,15 +98,15 @@ pub(crate) fn parse_number<S: PathSource>(
     ensures moves { MovesTo result reader.old reader.new }
     ensures gives { Gives number_amount result reader.new (number_at (left reader.old)) }
 {
-    let start = reader.bytes_left();
+    let place = reader.bytes_left();
     let is_negative = reader.sees(b'-');
     if is_negative {
         reader.take_char();
     }
-    let amount = parse_amount(reader, start)?.min(TOO_MANY) as i128;
+    let amount = parse_amount(reader, place)?.min(TOO_MANY) as i128;
     let signed = if is_negative { -amount } else { amount };
     match NumberLiteral::from_billionths(signed) {
         Some(literal) => Ok(literal),
-        None => Err(Failure::in_long_hand(ParseErrorKind::NumberOutOfRange, start)),
+        None => Err(Failure::in_long_hand(ParseErrorKind::NumberOutOfRange, place)),
     }
 }

@@ -16,14 +16,14 @@ use std::alloc::Global;
 #[tactic(auto, unfolding(crate::specs::Strings::hexadecimal_at))]
 fn parse_hexadecimal<S: PathSource>(
     reader: &mut Reader<'_, S>,
-    start: usize,
+    place: usize,
 ) -> Result<u32, Failure>
     ensures moves { MovesTo result reader.old reader.new }
     ensures small { IfOk result (λ n. n < 16) }
-    ensures gives { Gives (λ n. n) result reader.new (hexadecimal_at start (left reader.old)) }
+    ensures gives { Gives (λ n. n) result reader.new (hexadecimal_at place (left reader.old)) }
 {
     if !reader.sees_hexadecimal() {
-        return Err(Failure::in_long_hand(ParseErrorKind::BadEscape, start));
+        return Err(Failure::in_long_hand(ParseErrorKind::BadEscape, place));
     }
     let digit = reader.take_char() as u32;
     if digit <= 57 {
@@ -37,15 +37,15 @@ fn parse_hexadecimal<S: PathSource>(
 
 /// Parses four hexadecimal digits.
 #[tactic(auto, unfolding(crate::specs::Strings::hex4_at))]
-fn parse_hex4<S: PathSource>(reader: &mut Reader<'_, S>, start: usize) -> Result<u32, Failure>
+fn parse_hex4<S: PathSource>(reader: &mut Reader<'_, S>, place: usize) -> Result<u32, Failure>
     ensures moves { MovesTo result reader.old reader.new }
     ensures small { IfOk result (λ n. n < 65536) }
-    ensures gives { Gives (λ n. n) result reader.new (hex4_at start (left reader.old)) }
+    ensures gives { Gives (λ n. n) result reader.new (hex4_at place (left reader.old)) }
 {
-    let a = parse_hexadecimal(reader, start)?;
-    let b = parse_hexadecimal(reader, start)?;
-    let c = parse_hexadecimal(reader, start)?;
-    let d = parse_hexadecimal(reader, start)?;
+    let a = parse_hexadecimal(reader, place)?;
+    let b = parse_hexadecimal(reader, place)?;
+    let c = parse_hexadecimal(reader, place)?;
+    let d = parse_hexadecimal(reader, place)?;
     Ok(4096 * a + 256 * b + 16 * c + d)
 }
 
@@ -53,40 +53,40 @@ fn parse_hex4<S: PathSource>(reader: &mut Reader<'_, S>, start: usize) -> Result
 #[tactic(auto, unfolding(crate::specs::Strings::low_at))]
 fn parse_low_surrogate<S: PathSource>(
     reader: &mut Reader<'_, S>,
-    start: usize,
+    place: usize,
     high: u32,
 ) -> Result<char, Failure>
     requires { is_high high ≡ true }
     ensures moves { MovesTo result reader.old reader.new }
-    ensures gives { Gives (λ c. c) result reader.new (low_at start high (left reader.old)) }
+    ensures gives { Gives (λ c. c) result reader.new (low_at place high (left reader.old)) }
 {
     if !reader.sees(b'\\') {
-        return Err(Failure::in_long_hand(ParseErrorKind::BadEscape, start));
+        return Err(Failure::in_long_hand(ParseErrorKind::BadEscape, place));
     }
     reader.take_char();
     if !reader.sees(b'u') {
-        return Err(Failure::in_long_hand(ParseErrorKind::BadEscape, start));
+        return Err(Failure::in_long_hand(ParseErrorKind::BadEscape, place));
     }
     reader.take_char();
-    let low = parse_hex4(reader, start)?;
+    let low = parse_hex4(reader, place)?;
     if low < 0xdc00 || low > 0xdfff {
-        return Err(Failure::in_long_hand(ParseErrorKind::BadEscape, start));
+        return Err(Failure::in_long_hand(ParseErrorKind::BadEscape, place));
     }
     Ok(char::from_u32(0x10000 + 0x400 * (high - 0xd800) + (low - 0xdc00)).unwrap())
 }
 
 /// Parses the digits of an escape after its `u`: its character.
 #[tactic(auto, unfolding(crate::specs::Strings::unicode_at))]
-fn parse_unicode<S: PathSource>(reader: &mut Reader<'_, S>, start: usize) -> Result<char, Failure>
+fn parse_unicode<S: PathSource>(reader: &mut Reader<'_, S>, place: usize) -> Result<char, Failure>
     ensures moves { MovesTo result reader.old reader.new }
-    ensures gives { Gives (λ c. c) result reader.new (unicode_at start (left reader.old)) }
+    ensures gives { Gives (λ c. c) result reader.new (unicode_at place (left reader.old)) }
 {
-    let code = parse_hex4(reader, start)?;
+    let code = parse_hex4(reader, place)?;
     if code >= 0xd800 && code <= 0xdbff {
-        return parse_low_surrogate(reader, start, code);
+        return parse_low_surrogate(reader, place, code);
     }
     if code >= 0xdc00 && code <= 0xdfff {
-        return Err(Failure::in_long_hand(ParseErrorKind::BadEscape, start));
+        return Err(Failure::in_long_hand(ParseErrorKind::BadEscape, place));
     }
     Ok(char::from_u32(code).unwrap())
 }
@@ -99,14 +99,14 @@ fn parse_escape<S: PathSource>(reader: &mut Reader<'_, S>, quote: u8) -> Result<
     ensures moves { MovesTo result reader.old reader.new }
     ensures gives { Gives (λ c. c) result reader.new (escape_at quote (left reader.old)) }
 {
-    let start = reader.bytes_left();
+    let place = reader.bytes_left();
     reader.take_char();
     if reader.sees(b'u') {
         reader.take_char();
-        return parse_unicode(reader, start);
+        return parse_unicode(reader, place);
     }
     if !reader.sees_letter_escape(quote) {
-        return Err(Failure::in_long_hand(ParseErrorKind::BadEscape, start));
+        return Err(Failure::in_long_hand(ParseErrorKind::BadEscape, place));
     }
     let letter = reader.take_char();
     Ok(match letter {

@@ -81,7 +81,7 @@ unfolding argument_at logical_from
 parse_argument-returns-clause-gives g t c =
     let o = c.in_ok-operand.ensures.gives in
     let open_yet = sym c.sees_end_of_argument.ensures ∙ c.if-sees_end_of_argument.false in
-    let b = rw c.bytes_left-start.ensures.value at (c.in_ok-basic.ensures.gives o.0 o.1) in
+    let b = rw c.bytes_left-place.ensures.value at (c.in_ok-basic.ensures.gives o.0 o.1) in
     let a = c.in_ok-and.ensures.gives b.0 b.1 in
     let e = c.in_ok-expression-2.ensures.gives a.0 a.1 in
     (logical_argument e.0, (e.0, refl, e.1), rw (sym c.sees_expression.ensures ∙ c.if-sees_expression.false, o.2, open_yet, b.2, a.2, e.2) refl, e.3 c.args.builder.now (a.3 c.args.builder.now (b.3 c.args.builder.now o.3)))
@@ -89,33 +89,33 @@ parse_argument-returns-clause-gives g t c =
 pub parse_arguments-returns-in_err-argument-clause-gives : goal.parse_arguments-returns-in_err-argument-clause-gives
 parse_arguments-returns-in_err-argument-clause-gives g t c = λ fuel enough.
     let p = err_from_is_err_and c.from_residual.result c.from_residual.ensures.1 in
-    let step = first_argument (signatures g.F.Functions.set c.args.self.now) (deeper g.F.Functions.set c.args.self.now) c.args.start (map kind_view c.args.kinds.now) fuel (left c.args.reader.now) enough in
+    let step = first_argument (signatures g.F.Functions.set c.args.self.now) (deeper g.F.Functions.set c.args.self.now) c.args.place (map kind_view c.args.kinds.now) fuel (left c.args.reader.now) enough in
     rw (p.1, p.2, step.2) (first_fails c.in_err-argument.field-0.0 _ _ c.in_err-argument.ensures.gives)
 
 pub parse_arguments-returns-then-not-sees_end_of_argument-clause-gives : goal.parse_arguments-returns-then-not-sees_end_of_argument-clause-gives
 parse_arguments-returns-then-not-sees_end_of_argument-clause-gives g t c = λ fuel enough.
-    let step = first_argument (signatures g.F.Functions.set c.args.self.now) (deeper g.F.Functions.set c.args.self.now) c.args.start (map kind_view c.args.kinds.now) fuel (left c.args.reader.now) enough in
+    let step = first_argument (signatures g.F.Functions.set c.args.self.now) (deeper g.F.Functions.set c.args.self.now) c.args.place (map kind_view c.args.kinds.now) fuel (left c.args.reader.now) enough in
     rw (c.refuse.ensures.value, step.2, c.in_ok-argument.ensures.gives.2, sym c.sees_end_of_argument.ensures ∙ c.if-not-sees_end_of_argument.true) refl
 
 pub parse_arguments-returns-in_default-clause-gives : goal.parse_arguments-returns-in_default-clause-gives
 unfolding judged
 parse_arguments-returns-in_default-clause-gives g t c = λ fuel enough.
-    let step = first_argument (signatures g.F.Functions.set c.args.self.now) (deeper g.F.Functions.set c.args.self.now) c.args.start (map kind_view c.args.kinds.now) fuel (left c.args.reader.now) enough in
+    let step = first_argument (signatures g.F.Functions.set c.args.self.now) (deeper g.F.Functions.set c.args.self.now) c.args.place (map kind_view c.args.kinds.now) fuel (left c.args.reader.now) enough in
     rw (c.in_long_hand.ensures, step.2, c.in_ok-argument.ensures.gives.2, sym c.sees_end_of_argument.ensures ∙ c.if-not-sees_end_of_argument.false, nil_from_length c.args.kinds.now c.in_default.ensures.cases) refl
 
 pub parse_arguments-returns-then-not-fits-clause-gives : goal.parse_arguments-returns-then-not-fits-clause-gives
 unfolding judged
 parse_arguments-returns-then-not-fits-clause-gives g t c = λ fuel enough.
-    let step = first_argument (signatures g.F.Functions.set c.args.self.now) (deeper g.F.Functions.set c.args.self.now) c.args.start (map kind_view c.args.kinds.now) fuel (left c.args.reader.now) enough in
+    let step = first_argument (signatures g.F.Functions.set c.args.self.now) (deeper g.F.Functions.set c.args.self.now) c.args.place (map kind_view c.args.kinds.now) fuel (left c.args.reader.now) enough in
     let a = c.in_ok-argument.ensures.gives in
     let misfit = sym (c.fits.ensures (signatures g.F.Functions.set c.args.self.now) a.0 a.1) ∙ c.if-not-fits.true in
-    rw (c.in_long_hand-then-not-fits.ensures, c.bytes_left-begin.ensures.value, step.2, a.2, sym c.sees_end_of_argument.ensures ∙ c.if-not-sees_end_of_argument.false, c.in-Some.ensures.cases.0, misfit) refl
+    rw (c.in_long_hand-then-not-fits.ensures, c.bytes_left-argument_place.ensures.value, step.2, a.2, sym c.sees_end_of_argument.ensures ∙ c.if-not-sees_end_of_argument.false, c.in-Some.ensures.cases.0, misfit) refl
 
 pub parse_arguments-returns-then-sees-clause-gives : goal.parse_arguments-returns-then-sees-clause-gives
 unfolding judged
 parse_arguments-returns-then-sees-clause-gives g t c = λ fuel enough.
     let signature = signatures g.F.Functions.set c.args.self.now in
-    let step = first_argument (signatures g.F.Functions.set c.args.self.now) (deeper g.F.Functions.set c.args.self.now) c.args.start (map kind_view c.args.kinds.now) fuel (left c.args.reader.now) enough in
+    let step = first_argument (signatures g.F.Functions.set c.args.self.now) (deeper g.F.Functions.set c.args.self.now) c.args.place (map kind_view c.args.kinds.now) fuel (left c.args.reader.now) enough in
     let a = c.in_ok-argument.ensures.gives in
     let fitting = sym (c.fits.ensures signature a.0 a.1) ∙ c.if-not-fits.false in
     let comma = sym c.sees.ensures ∙ c.if-sees.true in
@@ -128,7 +128,7 @@ pub parse_arguments-returns-clause-gives : goal.parse_arguments-returns-clause-g
 unfolding judged
 parse_arguments-returns-clause-gives g t c = λ fuel enough.
     let signature = signatures g.F.Functions.set c.args.self.now in
-    let step = first_argument (signatures g.F.Functions.set c.args.self.now) (deeper g.F.Functions.set c.args.self.now) c.args.start (map kind_view c.args.kinds.now) fuel (left c.args.reader.now) enough in
+    let step = first_argument (signatures g.F.Functions.set c.args.self.now) (deeper g.F.Functions.set c.args.self.now) c.args.place (map kind_view c.args.kinds.now) fuel (left c.args.reader.now) enough in
     let a = c.in_ok-argument.ensures.gives in
     let fitting = sym (c.fits.ensures signature a.0 a.1) ∙ c.if-not-fits.false in
     one_made a.0 _ c.args.parts.now.items _ _ c.parse_end.result _ _ c.in_ok-push.ensures.items (c.in_ok-part.ensures.made signature a.0 a.1) (grows_kept a.3 c.part.ensures.keeps)
@@ -155,7 +155,7 @@ unfolding basic_from relation_at right_side_at
 parse_basic_from-returns-clause-gives g t c = λ x is.
     let a = c.in_ok-left.ensures.gives x is in
     let o = c.in_ok-operand.ensures.gives in
-    let b = rw c.bytes_left-begin.ensures.value at (c.in_ok-right.ensures.gives o.0 o.1) in
+    let b = rw c.bytes_left-right_place.ensures.value at (c.in_ok-right.ensures.gives o.0 o.1) in
     let kept = c.as_comparable-2.ensures.keeps.trees c.in_ok-left.left (a_comparable a.0) (o.3.trees c.in_ok-left.left (a_comparable a.0) a.1) in (
       tree.relation a.0 (operator_view c.in-Some.operator) b.0,
       c.in_ok-relation.ensures.made a.0 b.0 kept b.1,
@@ -225,7 +225,7 @@ parse_inside-returns-clause-gives g t c =
 pub parse_named-returns-then-sees-clause-gives : goal.parse_named-returns-then-sees-clause-gives
 unfolding named_at named_call_at
 parse_named-returns-then-sees-clause-gives g t c =
-    let k = rw c.bytes_left-start.ensures.value at c.in_ok-call.ensures.gives in
+    let k = rw c.bytes_left-place.ensures.value at c.in_ok-call.ensures.gives in
     (a_call k.0, (k.0, refl, k.1.0, k.1.1), rw (c.requires, ← c.in_ok-word.ensures.rest, sym c.sees.ensures ∙ c.if-sees.true, named_call_at, ← c.in_ok-word.ensures.word, k.2) refl, k.3)
 
 pub parse_named-returns-in-Some-clause-gives : goal.parse_named-returns-in-Some-clause-gives
@@ -262,14 +262,14 @@ parse_negated-returns-in_default g t c =
     let o = c.in_ok-call.ensures.gives in
     record {
       moves = record { moves = c.parse_named.ensures.moves.moves; near = rw c.in_long_hand.ensures (λ e. absurd cc) };
-      gives = rw (c.in_long_hand.ensures, c.bytes_left-start.ensures.value, negated_named _ _ _ (sym c.sees.ensures ∙ c.if-sees.false) (sym c.sees-2.ensures ∙ c.if-sees-2.false) (sym c.sees-3.ensures ∙ c.if-sees-3.false), o.2) (no_call _ _ c.parse_named.new.builder _ o.0 _ c.in_default.not-Call o.1);
+      gives = rw (c.in_long_hand.ensures, c.bytes_left-place.ensures.value, negated_named _ _ _ (sym c.sees.ensures ∙ c.if-sees.false) (sym c.sees-2.ensures ∙ c.if-sees-2.false) (sym c.sees-3.ensures ∙ c.if-sees-3.false), o.2) (no_call _ _ c.parse_named.new.builder _ o.0 _ c.in_default.not-Call o.1);
     }
 
 pub parse_negated-returns-then-eq-clause-gives : goal.parse_negated-returns-then-eq-clause-gives
 parse_negated-returns-then-eq-clause-gives g t c =
     let o = c.in_ok-call.ensures.gives in
     let f = rw c.in-Call.is at o.1 in
-    rw (c.in_long_hand-then-eq.ensures, c.bytes_left-start.ensures.value, negated_named _ _ _ (sym c.sees.ensures ∙ c.if-sees.false) (sym c.sees-2.ensures ∙ c.if-sees-2.false) (sym c.sees-3.ensures ∙ c.if-sees-3.false), o.2, f.1, f.3, value_kind c.in-Call.result ∙ sym c.eq.ensures ∙ c.if-eq.true) refl
+    rw (c.in_long_hand-then-eq.ensures, c.bytes_left-place.ensures.value, negated_named _ _ _ (sym c.sees.ensures ∙ c.if-sees.false) (sym c.sees-2.ensures ∙ c.if-sees-2.false) (sym c.sees-3.ensures ∙ c.if-sees-3.false), o.2, f.1, f.3, value_kind c.in-Call.result ∙ sym c.eq.ensures ∙ c.if-eq.true) refl
 
 pub parse_negated-returns-clause-gives : goal.parse_negated-returns-clause-gives
 parse_negated-returns-clause-gives g t c =
@@ -490,6 +490,6 @@ pub parse_basic-returns-clause-gives : goal.parse_basic-returns-clause-gives
 unfolding basic_at
 parse_basic-returns-clause-gives g t c =
     let o = c.in_ok-operand.ensures.gives in
-    let made = rw c.bytes_left-start.ensures.value at (c.parse_basic_from.ensures.gives o.0 o.1) in
+    let made = rw c.bytes_left-place.ensures.value at (c.parse_basic_from.ensures.gives o.0 o.1) in
     rw (sym c.sees.ensures ∙ c.if-sees.false, sym c.sees-2.ensures ∙ c.if-sees-2.false, o.2)
     (grown_so _ _ _ _ _ c.parse_basic_from.result made (λ b grown. grown c.args.builder.now o.3))

@@ -16,7 +16,7 @@ returns-then-count-gt-FRACTION_DIGITS-clause-gives g c =
     let some : begins is_digit cs ≡ true = sym c.sees_digit.ensures ∙ c.if-not-sees_digit.false in
     let plain : begins is_exponent (past is_digit cs) ≡ false = ap (begins is_exponent) (sym c.parse_decimal-value.ensures.rest) ∙ sym c.sees_exponent.ensures ∙ c.if-sees_exponent.false in
     let many : 9 < length (front is_digit cs) = omega (arith, read, c.if-count-gt-FRACTION_DIGITS.true) in
-    rw c.in_long_hand-then-count-gt-FRACTION_DIGITS.ensures (too_long c.args.start cs some plain many)
+    rw c.in_long_hand-then-count-gt-FRACTION_DIGITS.ensures (too_long c.args.place cs some plain many)
 
 pub overflow_mul-result : goal.overflow_mul-result
 overflow_mul-result g c =
@@ -34,4 +34,4 @@ returns-clause-gives g c =
     let plain : begins is_exponent (past is_digit cs) ≡ false = ap (begins is_exponent) (sym c.parse_decimal-value.ensures.rest) ∙ sym c.sees_exponent.ensures ∙ c.if-sees_exponent.false in
     let few : length (front is_digit cs) ≤ 9 = omega (arith, read, c.if-count-gt-FRACTION_DIGITS.false) in
     let is = fraction_is (front is_digit cs) c.parse_decimal-value.result c.pow.result (c.bytes_left-before.result - c.bytes_left.result) (front_each is_digit cs) (omega (arith, read)) c.if-count-gt-FRACTION_DIGITS.false c.parse_decimal-value.ensures.value c.pow.ensures in
-    rw (is, c.parse_decimal-value.ensures.rest) (reads c.args.start cs some plain few)
+    rw (is, c.parse_decimal-value.ensures.rest) (reads c.args.place cs some plain few)
