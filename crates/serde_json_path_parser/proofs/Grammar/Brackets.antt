@@ -1,12 +1,12 @@
 -- Selectors and brackets with them: what is read is in the grammar, what is in the grammar is read, where a refusal stands.
 use Rattle.std.proofs.Common.{◌≡◌, ℕ, inl, inr, Bool, true, false, true≢false, List, [], ◌∷◌, ◌++◌, drop, Option, Some, None, Ok, refl, sym, ap, subst, ◌∙◌, append_assoc, length, arith}
-use Rattle.serde_json_path_parser.proofs.Words.{ℤ, ◌==◌, ◌||◌, append-nil, Slice, Selector, slice, index, LogicalOr, IsBound, IsSliceStep, IsSlice}
+use Rattle.serde_json_path_parser.proofs.Words.{ℤ, ◌==◌, ◌||◌, append-nil, Slice, Selector, slice, index, LogicalOr, IsBound, IsSliceStep, IsSlice, false_from_ne_true}
 use Rattle.serde_json_path_parser.proofs.Words.{begins, is_blank, is_digit, IsBlank, IsInt, Parsed, past_blanks, begins_int, bound_at, step_at}
 use Rattle.serde_json_path_parser.proofs.Words.{slice_at, position_at, selector_at, None, name, wildcard, filter, IsQuote, quoted_at, string_at}
 use Rattle.serde_json_path_parser.proofs.Words.{Signature, codes, SegmentKind, Segment, long_hand, Selectors, no_selectors, selector}
 use Rattle.serde_json_path_parser.proofs.Words.{ExpectedClosingBracket, ReadsSegment, ReadSelectors, ReadMoreSelectors, dots_before_bracket, many}
 use Rattle.serde_json_path_parser.proofs.Words.{next_selector_at, selectors_at, selector_list, bracket_at}
-use Rattle.serde_json_path_parser.proofs.Reading.Runs.{past_some, blanks_of, are_blank, split_blanks, past_all, spread, differs, no_blank, past_end, some_begun}
+use Rattle.serde_json_path_parser.proofs.Reading.Runs.{begins_where, past_some, blanks_of, are_blank, split_blanks, past_all, spread, differs, no_blank, past_end, some_begun}
 use Rattle.serde_json_path_parser.proofs.Grammar.LogicalForms.{Closes, IsGoodText, FilterLaws, AreGoodSelectors, IsGoodSegment}
 use Rattle.serde_json_path_parser.proofs.Grammar.Numbers.{int_outcome, int_again, int_begins, int_not, int_no_blank}
 use Rattle.serde_json_path_parser.proofs.Reading.Many.{Spaced, after_one}
@@ -58,46 +58,33 @@ position_outcome Good cs = onward (int_outcome cs) (λ i _ r.
 abbrev Ends : List ℕ → Type 0
 Ends rest = begins begins_int (past_blanks rest) ≡ false
 
--- what is false of `,` and of `]` does not stand after the blanks
-closes_not : (p : ℕ → Bool) (cs : List ℕ) → p 44 ≡ false → p 93 ≡ false → begins (λ c. c == 44 || c == 93) cs ≡ true → begins p cs ≡ false
-closes_not p [] comma bracket e = absurd cc
-closes_not p (c ∷ cs) comma bracket e = by_test (p c) refl
-  where
-    by_test : (b : Bool) → p c ≡ b → p c ≡ false
-    by_test true h = let neither : (c == 44 || c == 93) ≡ false = rw (differs p 44 c comma h, differs p 93 c bracket h) refl in absurd (true≢false (sym e ∙ neither))
-    by_test false h = h
-
 closed_ends : (rest : List ℕ) → Closes rest → Ends rest
-closed_ends rest h = closes_not begins_int (past_blanks rest) refl refl h
+closed_ends rest h = begins_where (λ c. c == 44 || c == 93) begins_int false (past_blanks rest) (λ c e. grind (arith, e)) h
+
+no_colon : (rest : List ℕ) → Closes rest → begins (λ c. c == 58) (past_blanks rest) ≡ false
+no_colon rest h = begins_where (λ c. c == 44 || c == 93) (λ c. c == 58) false (past_blanks rest) (λ c e. grind (arith, e)) h
 
 -- no digit stands at once after an integer
 ends_digits : (rest : List ℕ) → Ends rest → begins is_digit rest ≡ false
 ends_digits [] h = refl
-ends_digits (c ∷ cs) h = by_digit (is_digit c) refl
-  where
-    by_digit : (b : Bool) → is_digit c ≡ b → is_digit c ≡ false
-    by_digit true d =
-        let begun : begins begins_int (past_blanks (c ∷ cs)) ≡ true = rw (no_blank is_digit c refl refl refl refl d, differs is_digit 45 c refl d, d) refl in
-        absurd (true≢false (sym begun ∙ h))
-    by_digit false d = d
+ends_digits (c ∷ cs) h = false_from_ne_true (is_digit c) (λ d.
+    let begun : begins begins_int (past_blanks (c ∷ cs)) ≡ true = rw (no_blank is_digit c refl refl refl refl d, differs is_digit 45 c refl d, d) refl in
+    true≢false (sym begun ∙ h))
 
 bound_again : (e : Option ℤ) (t rest : List ℕ) → IsBound e t → Ends rest → bound_at (past_blanks (t ++ rest)) ≡ Ok (e, past_blanks rest)
 unfolding bound_at
 bound_again None t rest b ends = ap (λ (l : List ℕ). bound_at (past_blanks (l ++ rest))) b ∙ rw ends refl
 bound_again (Some i) t rest (a, k, is, blank, e) ends =
-    let here : past_blanks (t ++ rest) ≡ a ++ (k ++ rest) =
-    ap (λ (l : List ℕ). past_blanks (l ++ rest)) e ∙ ap past_blanks (append_assoc a k rest) ∙ past_end is_blank (a ++ (k ++ rest)) (int_no_blank a i (k ++ rest) is) in
-    let further : begins is_digit (k ++ rest) ≡ false = ends_digits (k ++ rest) (ap (begins begins_int) (past_some k rest blank) ∙ ends) in
-    ap bound_at here ∙ rw (int_begins a i (k ++ rest) is, int_again a i (k ++ rest) is further, past_some k rest blank) refl
+    let here : past_blanks (t ++ rest) ≡ a ++ (k ++ rest) = rw (e, append_assoc a k rest) (past_end is_blank (a ++ (k ++ rest)) (int_no_blank a i (k ++ rest) is)) in
+    let further : begins is_digit (k ++ rest) ≡ false = ends_digits (k ++ rest) (rw (past_some k rest blank) ends) in
+    rw (here, int_begins a i (k ++ rest) is, int_again a i (k ++ rest) is further, past_some k rest blank) refl
 
 step_again : (e : Option ℤ) (t rest : List ℕ) → IsSliceStep e t → Closes rest → step_at (past_blanks (t ++ rest)) ≡ Ok (e, past_blanks rest)
 unfolding step_at
-step_again None t rest (inl e) closes =
-    ap (λ (l : List ℕ). step_at (past_blanks (l ++ rest))) e ∙ rw (closes_not (λ c. c == 58) (past_blanks rest) refl refl closes) refl
-step_again None t rest (inr e) closes = ap (λ (l : List ℕ). step_at (past_blanks (l ++ rest))) e ∙ bound_again None [] rest refl (closed_ends rest closes)
+step_again None t rest (inl e) closes = rw (e, no_colon rest closes) refl
+step_again None t rest (inr e) closes = rw e (bound_again None [] rest refl (closed_ends rest closes))
 step_again (Some i) t rest (k, a, blank, is, e) closes =
-    ap (λ (l : List ℕ). step_at (past_blanks (l ++ rest))) e ∙ ap (λ (l : List ℕ). bound_at (past_blanks l)) (append_assoc k a rest) ∙ ap bound_at (past_some k (a ++ rest) blank)
-    ∙ bound_again (Some i) a rest (a, [], is, tt, sym (append-nil a)) (closed_ends rest closes)
+    rw (e, append_assoc k a rest, past_some k (a ++ rest) blank) (bound_again (Some i) a rest (a, [], is, tt, sym (append-nil a)) (closed_ends rest closes))
 
 step_ends : (e : Option ℤ) (t rest : List ℕ) → IsSliceStep e t → Closes rest → Ends (t ++ rest)
 step_ends None t rest (inl e) closes = subst (λ (l : List ℕ). Ends (l ++ rest)) (sym e) (closed_ends rest closes)
@@ -113,9 +100,7 @@ parts_again start end step k b c rest blank second third closes =
 
 alone_again : (t : List ℕ) (i : ℤ) (rest : List ℕ) → IsInt t i → Closes rest → position_at (t ++ rest) ≡ Ok (index i, past_blanks rest)
 unfolding position_at
-alone_again t i rest is closes =
-    let colon = closes_not (λ c. c == 58) (past_blanks rest) refl refl closes in
-    rw (int_again t i rest is (ends_digits rest (closed_ends rest closes)), colon) refl
+alone_again t i rest is closes = rw (int_again t i rest is (ends_digits rest (closed_ends rest closes)), no_colon rest closes) refl
 
 begun_again : (t k : List ℕ) (i : ℤ) (rest : List ℕ) (s : Slice) (after : List ℕ) → IsInt t i → IsBlank k → slice_at (Some i) rest ≡ Ok (s, after) → position_at (t ++ (k ++ (58 ∷ rest))) ≡ Ok (slice s, after)
 unfolding position_at
@@ -129,11 +114,10 @@ pub slice_no_blank : (t : List ℕ) (s : Slice) (rest : List ℕ) → IsSlice s 
 slice_no_blank t s rest (a, k, b, c, first, blank, second, third, e) = by_start s.start first
   where
     by_start : (start : Option ℤ) → IsBound start a → begins is_blank (t ++ rest) ≡ false
-    by_start None none = ap (λ (l : List ℕ). begins is_blank (l ++ rest)) (e ∙ ap (λ (l : List ℕ). l ++ (58 ∷ (k ++ (b ++ c)))) none)
+    by_start None none = rw (e, none) refl
     by_start (Some i) (n, j, is, gap, text) =
         let tail = 58 ∷ (k ++ (b ++ c)) in
-        let begun : t ≡ n ++ (j ++ tail) = e ∙ ap (λ (l : List ℕ). l ++ tail) text ∙ append_assoc n j tail in
-        ap (λ (l : List ℕ). begins is_blank (l ++ rest)) begun ∙ ap (begins is_blank) (append_assoc n (j ++ tail) rest) ∙ int_no_blank n i ((j ++ tail) ++ rest) is
+        rw (e, text, append_assoc n j tail, append_assoc n (j ++ tail) rest) (int_no_blank n i ((j ++ tail) ++ rest) is)
 
 -- the same as selectors
 module _ (filter_at : List ℕ → Parsed Selector) where
@@ -192,14 +176,13 @@ module _ {signature : List ℕ → Option Signature} (filter_at : List ℕ → P
 
   quoted_again : (quote : ℕ) (cs bytes rest : List ℕ) → IsQuote quote → string_at quote cs ≡ Ok (bytes, rest) → selector_at filter_at (quote ∷ cs) ≡ Ok (name bytes, past_blanks rest)
   unfolding selector_at quoted_at
-  quoted_again quote cs bytes rest (inl is) e = ap (λ (q : ℕ). selector_at filter_at (q ∷ cs)) is ∙ rw (ap (λ (q : ℕ). string_at q cs) (sym is) ∙ e) refl
-  quoted_again quote cs bytes rest (inr is) e = ap (λ (q : ℕ). selector_at filter_at (q ∷ cs)) is ∙ rw (ap (λ (q : ℕ). string_at q cs) (sym is) ∙ e) refl
+  quoted_again quote cs bytes rest is e = of_quote (λ q. string_at q cs ≡ Ok (bytes, rest) → selector_at filter_at (q ∷ cs) ≡ Ok (name bytes, past_blanks rest)) (λ e. rw e refl) (λ e. rw e refl) quote is e
 
   pub selector_again : (t : List ℕ) (sel : Selector) (rest : List ℕ) → IsSelectorText t sel → Closes rest → selector_at filter_at (t ++ rest) ≡ Ok (sel, past_blanks rest)
   unfolding selector_at
   selector_again t (name bytes) rest h e =
       let s = string_again t bytes rest h.1 in
-      ap (λ (l : List ℕ). selector_at filter_at (l ++ rest)) s.3 ∙ quoted_again s.0 (s.1 ++ rest) bytes rest s.2 s.4
+      rw s.3 (quoted_again s.0 (s.1 ++ rest) bytes rest s.2 s.4)
   selector_again t wildcard rest h e = ap (λ (l : List ℕ). selector_at filter_at (l ++ rest)) h.1
   selector_again t (index i) rest h e = index_again filter_at t i rest h.1 e
   selector_again t (slice s) rest h e = slice_again filter_at t s rest h.1 e

@@ -1,6 +1,6 @@
 -- Arguments and calls, by what holds one level deeper; and the laws of these pieces at every level.
 use Rattle.std.proofs.Common.{cond, ◌≡◌, ℕ, ◌≤◌, inl, inr, Bool, true, false, List, [], ◌∷◌, ◌++◌, Option, Some, Ok, Err, refl, sym, ap, subst, ◌∙◌, append_assoc, arith, ◌+◌, zero, suc, length, drop, None, ◌<◌}
-use Rattle.serde_json_path_parser.proofs.Words.{Call, ◌==◌, ◌||◌, ℤ, pos, negsuc, ◌*ℤ◌, ◌-ℤ◌, ◌/◌, ◌%◌, ◌*◌, eqb-true, eq-eqb, or_parts, ints}
+use Rattle.serde_json_path_parser.proofs.Words.{Call, ◌==◌, ◌||◌, ℤ, pos, negsuc, ◌*ℤ◌, ◌-ℤ◌, ◌/◌, ◌%◌, ◌*◌, eqb-true, eq-eqb, or_parts, ints, cases_Bool}
 use Rattle.serde_json_path_parser.proofs.Words.{div-add-mod', LogicalOr, LogicalAnd, Basic, exist, test, Argument, literal_argument, query_argument}
 use Rattle.serde_json_path_parser.proofs.Words.{call_argument, logical_argument, number, Operator, no_or, or, no_and, and, result_kind, TakesResult}
 use Rattle.serde_json_path_parser.proofs.Words.{IsTypedArgument, argument_depth, Kind, of_value, of_nodes, of_logical, Signature, WrongReturnType}
@@ -212,11 +212,10 @@ module _ (signature : List ℕ → Option Signature) (n : ℕ) (deeper : Deeper)
   joined_again : (cs : List ℕ) (x : LogicalOr × List ℕ) (o : Operand × List ℕ) (b : Basic × List ℕ) (a : LogicalAnd × List ℕ) → begins (λ c. c == 40 || c == 33) cs ≡ false → (StandsAlone x.0 → ⊥)
       → operand_at signature deeper cs ≡ Ok o → basic_from signature deeper (byte_count cs) o.0 o.1 ≡ Ok b → and_from signature deeper b.0 b.1 ≡ Ok a → or_from signature deeper a.0 a.1 ≡ Ok x → argument_at signature deeper cs ≡ Ok (logical_argument x.0, x.1)
   unfolding argument_at logical_from
-  joined_again cs x o b a plain free first second third fourth = by_end (begins ends_argument o.1) refl
-    where
-      by_end : (ends : Bool) → begins ends_argument o.1 ≡ ends → argument_at signature deeper cs ≡ Ok (logical_argument x.0, x.1)
-      by_end true ends = absurd (free (operand_alone cs o.0 o.1 x ends (rw (second, third) fourth)))
-      by_end false ends = rw (plain, first, ends, second, third, fourth) refl
+  joined_again cs x o b a plain free first second third fourth = elim (cases_Bool (begins ends_argument o.1)) [
+    | inl ends ↦ absurd (free (operand_alone cs o.0 o.1 x ends (rw (second, third) fourth)))
+    | inr ends ↦ rw (plain, first, ends, second, third, fourth) refl
+  ]
 
   logical_again : (cs : List ℕ) (x : LogicalOr × List ℕ) → (StandsAlone x.0 → ⊥) → or_at signature deeper cs ≡ Ok x → argument_at signature deeper cs ≡ Ok (logical_argument x.0, x.1)
   unfolding argument_at or_at and_at basic_at
@@ -310,11 +309,10 @@ module _ (signature : List ℕ → Option Signature) (n : ℕ) (deeper : Deeper)
       → Outcome (is kinds) (Inner signature) start (judged signature deeper (byte_count start) (byte_count cs) kinds a >>= next)
   unfolding judged
   judged_outcome is before start cs [] a split good = refused WrongNumberOfArguments context.LongHand (inl refl)
-  judged_outcome {next} is before start cs (kind ∷ kinds) a split good = by_test (fits signature a kind) refl
-    where
-      by_test : (b : Bool) → fits signature a kind ≡ b → Outcome (is (kind ∷ kinds)) (Inner signature) start (cond b (Ok kinds) (Err (refusal WrongArgumentType context.LongHand cs)) >>= next)
-      by_test true e = good kind kinds e
-      by_test false e = past before split (refused WrongArgumentType context.LongHand (inl refl))
+  judged_outcome is before start cs (kind ∷ kinds) a split good = elim (cases_Bool (fits signature a kind)) [
+    | inl e ↦ rw e (good kind kinds e)
+    | inr e ↦ rw e (past before split (refused WrongArgumentType context.LongHand (inl refl)))
+  ]
 
   arguments_outcome : (fuel : ℕ) (before start : List ℕ) (kinds : List Kind) (cs : List ℕ) → start ≡ before ++ cs
       → Outcome (Spaced (Past before (AreSome kinds))) (Inner signature) start (arguments_at signature deeper fuel (byte_count start) kinds cs)
@@ -431,26 +429,19 @@ module _ (signature : List ℕ → Option Signature) (n : ℕ) (deeper : Deeper)
 -- ---- the laws of how filters, parentheses and calls are read hold at every level
 
 module _ (signature : List ℕ → Option Signature) where
-  zero_laws : DeeperLaws signature 0 (level signature 0)
+  pub level_laws : (n : ℕ) → DeeperLaws signature n (level signature n)
   unfolding level
-  zero_laws = record {
+  level_laws zero = record {
     inside_outcome = λ before start cs split. refused NestedTooDeep context.LongHand (inl refl);
     inside_again = λ start t e rest good is ends. absurd (omega (arith, good.1));
     call_outcome = λ start f cs named split. refused NestedTooDeep context.LongHand (inl refl);
     call_again = λ start f args j a k rest good before is after. absurd (omega (arith, good.1));
   }
-
-  -- one level more, over the laws of the one within
-  module _ (n : ℕ) (laws : DeeperLaws signature n (level signature n)) where
-    suc_laws : DeeperLaws signature (suc n) (level signature (suc n))
-    unfolding level
-    suc_laws = record {
-      inside_outcome = λ before start cs split. past_spaced before split (weaker_spaced (λ t e h. (t, ((h.0.0, omega (arith, h.0.1)), h.1), refl)) (or_outcome signature n (level signature n) laws cs));
-      inside_again = λ start t e rest good is ends. or_again signature n (level signature n) laws t e rest ((good.0, omega (arith, good.1)), is) ends;
-      call_outcome = λ start f cs named split. weaker_spaced (λ t c h. ((h.0.0, omega (arith, h.0.1)), h.1)) (call_outcome signature n (level signature n) laws start f cs (signature f) named split refl);
-      call_again = λ start f args j a k rest good before is after. call_again signature n (level signature n) laws start f args j a k rest (good.0, omega (arith, good.1)) before is after;
-    }
-
-  pub level_laws : (n : ℕ) → DeeperLaws signature n (level signature n)
-  level_laws zero = zero_laws
-  level_laws (suc n) = suc_laws n (level_laws n)
+  level_laws (suc n) =
+      let laws = level_laws n in
+      record {
+        inside_outcome = λ before start cs split. past_spaced before split (weaker_spaced (λ t e h. (t, ((h.0.0, omega (arith, h.0.1)), h.1), refl)) (or_outcome signature n (level signature n) laws cs));
+        inside_again = λ start t e rest good is ends. or_again signature n (level signature n) laws t e rest ((good.0, omega (arith, good.1)), is) ends;
+        call_outcome = λ start f cs named split. weaker_spaced (λ t c h. ((h.0.0, omega (arith, h.0.1)), h.1)) (call_outcome signature n (level signature n) laws start f cs (signature f) named split refl);
+        call_again = λ start f args j a k rest good before is after. call_again signature n (level signature n) laws start f args j a k rest (good.0, omega (arith, good.1)) before is after;
+      }

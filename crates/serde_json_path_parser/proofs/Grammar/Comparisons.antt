@@ -1,13 +1,13 @@
 -- Operands, comparisons and tests, by what holds one level deeper.
-use Rattle.std.proofs.Common.{ℕ, true≢false, ◌≡◌, inl, inr, true, false, List, [], ◌∷◌, ◌++◌, drop, Option, Ok, refl, sym, ap, ◌∙◌, append_assoc, Bool, arith, cond, Some, None, subst}
-use Rattle.serde_json_path_parser.proofs.Words.{◌==◌, codes, bytes_eq, ◌||◌, ℤ, and_parts, or_parts, or_left, or_right, false_from_ne_true}
+use Rattle.std.proofs.Common.{ℕ, ◌<◌, ◌≡◌, inl, inr, true, false, List, [], ◌∷◌, ◌++◌, drop, Option, Ok, refl, sym, ap, ◌∙◌, append_assoc, Bool, arith, cond, Some, None, subst}
+use Rattle.serde_json_path_parser.proofs.Words.{◌==◌, codes, bytes_eq, ℤ, and_parts, ReadSegments, is_digit, is_exponent, nat_le, ◌&&◌}
 use Rattle.serde_json_path_parser.proofs.Words.{bytes_eq-Decides, QueryKind, root, current, query, Call, Literal, text, number, truth, null, Segments}
 use Rattle.serde_json_path_parser.proofs.Words.{call, Signature, ExpectedExpression, is_at, begins, is_small_letter, is_function_char, IsFunctionName}
 use Rattle.serde_json_path_parser.proofs.Words.{IsQuote, AllPass, is_blank, is_name_char, IsNumber, opens, IsLiteral, Reads, ReadsCall, query_sign}
 use Rattle.serde_json_path_parser.proofs.Words.{Parsed, past_blanks, byte_count, string_at, segment_list, begins_int, opens_next, Operand, a_literal}
 use Rattle.serde_json_path_parser.proofs.Words.{a_call, Deeper, word, past_word, begins_call, literal_word_at, query_at, named_call_at, text_at}
-use Rattle.serde_json_path_parser.proofs.Words.{operand_at, AllByRecursion, ◌>>=◌, Basic, relation, exist, test, Comparable, literal, singular}
-use Rattle.serde_json_path_parser.proofs.Words.{called, Operator, equal, not_equal, less, less_or_equal, greater, greater_or_equal, Query}
+use Rattle.serde_json_path_parser.proofs.Words.{operand_at, ◌>>=◌, Basic, relation, exist, test, Comparable, literal, singular}
+use Rattle.serde_json_path_parser.proofs.Words.{called, Operator, equal, less, greater, Query}
 use Rattle.serde_json_path_parser.proofs.Words.{result_kind, IsTestKind, Kind, of_value, of_nodes, of_logical, NonSingularQuery, WrongReturnType}
 use Rattle.serde_json_path_parser.proofs.Words.{ExpectedComparisonOperator, IsBlank, operator_sign, is_result, operator_at, comparable_at, test_at}
 use Rattle.serde_json_path_parser.proofs.Words.{right_side_at, relation_at, basic_from}
@@ -74,29 +74,22 @@ module _ (signature : List ℕ → Option Signature) (n : ℕ) (deeper : Deeper)
 
 -- ---- what stands after an operand
 
--- one of these characters passes
-abbrev any_passes : (ℕ → Bool) → List ℕ → Bool
-any_passes p [] = false
-any_passes p (k ∷ ks) = p k || any_passes p ks
-
--- a character that passes a test is none of those that fail it
-none_of : (p : ℕ → Bool) (ks : List ℕ) (c : ℕ) → any_passes p ks ≡ false → p c ≡ true → AllByRecursion (λ k. (c == k) ≡ false) ks
-none_of p [] c none passes = tt
-none_of p (k ∷ ks) c none passes = let parts = or_parts (p k) (any_passes p ks) none in (differs p k c parts.0 passes, none_of p ks c parts.1 passes)
-
-after_fails : (p : ℕ → Bool) (c : ℕ) → any_passes p (codes " \t\n\r=!<>&|),]") ≡ false → (is_blank c || ends_operand c) ≡ true → p c ≡ false
-after_fails p c none after = false_from_ne_true (p c) (λ passes. true≢false (sym after ∙ neither (none_of p (codes " \t\n\r=!<>&|),]") c none passes)))
-  where
-    neither : AllByRecursion (λ k. (c == k) ≡ false) (codes " \t\n\r=!<>&|),]") → (is_blank c || ends_operand c) ≡ false
-    neither (space, (tab, (feed, (return, (equals, (mark, (below, (above, (both, (either, (parenthesis, (comma, (bracket, h))))))))))))) =
-        rw (space, tab, feed, return, equals, mark, below, above, both, either, parenthesis, comma, bracket) refl
-
 -- it begins with no character that passes a test, where neither a blank nor what may follow does
-none_after : (p : ℕ → Bool) (rest : List ℕ) → any_passes p (codes " \t\n\r=!<>&|),]") ≡ false → Follows ends_operand rest → begins p rest ≡ false
-none_after p rest none follows =
-    ap (begins p) (split_blanks rest)
-    ∙ begins_not p (blanks_of rest) (past_blanks rest) (λ c e. after_fails p c none (or_left (is_blank c) (ends_operand c) e)) (are_blank rest)
-    (begins_where ends_operand p false (past_blanks rest) (λ c e. after_fails p c none (or_right (is_blank c) (ends_operand c) e)) follows)
+none_after : (p : ℕ → Bool) (rest : List ℕ) → ((c : ℕ) → is_blank c ≡ true → p c ≡ false) → ((c : ℕ) → ends_operand c ≡ true → p c ≡ false) → Follows ends_operand rest → begins p rest ≡ false
+none_after p rest blank ends follows =
+    ap (begins p) (split_blanks rest) ∙ begins_not p (blanks_of rest) (past_blanks rest) blank (are_blank rest) (begins_where ends_operand p false (past_blanks rest) ends follows)
+
+ends_no_digit : (c : ℕ) → ends_operand c ≡ true → is_digit c ≡ false
+ends_no_digit c e = grind (arith, e)
+
+ends_no_letter : (c : ℕ) → ends_operand c ≡ true → is_small_letter c ≡ false
+ends_no_letter c e = grind (arith, e)
+
+blank_no_name : (c : ℕ) → is_blank c ≡ true → is_name_char c ≡ false
+blank_no_name c e = let small : c < 33 = grind (arith, e) in grind (arith, small)
+
+ends_no_name : (c : ℕ) → ends_operand c ≡ true → is_name_char c ≡ false
+ends_no_name c e = let capital : (nat_le 65 c && nat_le c 90) ≡ false = grind (arith, e) in rw (ends_no_letter c e, ends_no_digit c e, capital) (grind (arith, e))
 
 no_segment : (rest : List ℕ) → Follows ends_operand rest → opens_next rest ≡ false
 no_segment rest follows = begins_where ends_operand opens false (past_blanks rest) (λ c e. grind (arith, e)) follows
@@ -106,38 +99,30 @@ no_segment rest follows = begins_where ends_operand opens false (past_blanks res
 -- a word is not a call where no `(` follows
 word_alone : (w rest : List ℕ) → AllPass is_function_char w → Follows ends_operand rest → (word (w ++ rest) ≡ w) × (past_word (w ++ rest) ≡ rest) × (is_at "(" (past_word (w ++ rest)) ≡ false)
 word_alone w rest each follows =
-    let none = none_after is_function_char rest refl follows in
+    let none = none_after is_function_char rest (λ c e. grind (arith, e)) (λ c e. rw (ends_no_letter c e, ends_no_digit c e) (grind (arith, e))) follows in
     let passed : past_word (w ++ rest) ≡ rest = past_run is_function_char w rest each none in
-    (front_all is_function_char w rest each none, passed, ap (is_at "(") passed ∙ none_after (λ c. c == 40) rest refl follows)
+    (front_all is_function_char w rest each none, passed, ap (is_at "(") passed ∙ none_after (λ c. c == 40) rest (λ c e. grind (arith, e)) (λ c e. grind (arith, e)) follows)
 
 module _ (signature : List ℕ → Option Signature) (n : ℕ) (deeper : Deeper) (laws : DeeperLaws signature n deeper) where
   -- ---- queries and calls
 
-  pub query_again : (kind : QueryKind) (t : List ℕ) (segs : Segments) (rest : List ℕ) → IsGoodQuery signature n (query kind segs) → Reads (query kind segs) t → Follows ends_operand rest
-      → query_at signature deeper kind (t ++ rest) ≡ Ok (query kind segs, past_blanks rest)
+  pub query_again : (kind : QueryKind) (sign : ℕ) (a : List ℕ) (segs : Segments) (rest : List ℕ) → IsGoodQuery signature n (query kind segs) → ReadSegments segs a → Follows ends_operand rest
+      → query_at signature deeper kind (sign ∷ (a ++ rest)) ≡ Ok (query kind segs, past_blanks rest)
   unfolding query_at
-  query_again kind t segs rest good (a, reads, e) follows =
-      let after_sign : drop 1 (t ++ rest) ≡ a ++ rest = ap (λ (l : List ℕ). drop 1 (l ++ rest)) e ∙ by_kind kind in
+  query_again kind sign a segs rest good reads follows =
       let read = segments_again (filter_at signature deeper) (IsGoodInside signature n) (filter_laws signature n deeper laws) context.LongHand a segs rest
-      (segments_good signature n segs good.0 good.1, reads) (none_after is_name_char rest refl follows) (no_segment rest follows) in
-      rw (after_sign, read) (ap (λ (s : Segments). Ok (query kind s, past_blanks rest)) (same_segments segs))
-    where
-      by_kind : (k : QueryKind) → drop 1 ((query_sign k ++ a) ++ rest) ≡ a ++ rest
-      by_kind root = refl
-      by_kind current = refl
+      (segments_good signature n segs good.0 good.1, reads) (none_after is_name_char rest blank_no_name ends_no_name follows) (no_segment rest follows) in
+      rw (read, same_segments segs) refl
 
   pub named_call_again : (t : List ℕ) (c : Call) (rest : List ℕ) → IsGoodCall signature n c → ReadsCall c t → (begins_call (t ++ rest) ≡ true) × (named_call_at signature deeper (t ++ rest) ≡ Ok (c, past_blanks rest))
   unfolding named_call_at
   named_call_again t (call f args) rest good (m, j, a, k, name, before, are, closing, e) =
-      let inside = j ++ (a ++ (k ++ 41 ∷ [])) in
-      let regrouped : t ++ rest ≡ m ++ (40 ∷ (inside ++ rest)) = ap (λ (l : List ℕ). l ++ rest) e ∙ append_assoc m (40 ∷ inside) rest in
-      let its_word : word (t ++ rest) ≡ m = ap word regrouped ∙ front_all is_function_char m (40 ∷ (inside ++ rest)) name.each refl in
-      let after_it : past_word (t ++ rest) ≡ 40 ∷ (inside ++ rest) = ap past_word regrouped ∙ past_run is_function_char m (40 ∷ (inside ++ rest)) name.each refl in
-      let first : begins is_small_letter (t ++ rest) ≡ true = ap (begins is_small_letter) regrouped ∙ begins_front is_small_letter true m (40 ∷ (inside ++ rest)) (some_begun is_small_letter m name.first) name.first in
-      let read = laws.call_again (t ++ rest) f args j a k rest good before are closing in (
-        rw (first, after_it) refl,
-        ap (λ (w : List ℕ). deeper.call_of (byte_count (t ++ rest)) w (drop 1 (past_word (t ++ rest)))) (its_word ∙ sym name.bytes_of) ∙ ap (λ (l : List ℕ). deeper.call_of (byte_count (t ++ rest)) f (drop 1 l)) after_it ∙ read,
-      )
+      let inside = 40 ∷ ((j ++ (a ++ (k ++ 41 ∷ []))) ++ rest) in
+      let first : begins is_small_letter (m ++ inside) ≡ true = begins_front is_small_letter true m inside (some_begun is_small_letter m name.first) name.first in
+      let after_it : past_word (m ++ inside) ≡ inside = past_run is_function_char m inside name.each refl in
+      let its_word : word (m ++ inside) ≡ f = front_all is_function_char m inside name.each refl ∙ sym name.bytes_of in
+      let read = laws.call_again (m ++ inside) f args j a k rest good before are closing in
+      rw (e, append_assoc m (40 ∷ (j ++ (a ++ (k ++ 41 ∷ [])))) rest) (rw (first, after_it) refl, rw (named_call_at, its_word, after_it) read)
 
   -- ---- literals
 
@@ -167,7 +152,7 @@ module _ (signature : List ℕ → Option Signature) (n : ℕ) (deeper : Deeper)
   number_read t amount rest is follows =
       let other : (k : ℕ) → begins_int k ≡ false → begins (λ c. c == k) (t ++ rest) ≡ false = λ k none. number_first (λ c. c == k) false t amount rest (λ c e. differs begins_int k c none e) is in
       let no_word : begins is_small_letter (t ++ rest) ≡ false = number_first is_small_letter false t amount rest (λ c e. grind (arith, e)) is in
-      rw (other 39 refl, other 34 refl, other 64 refl, other 36 refl, no_word, number_again t amount rest is (none_after goes_on rest refl follows)) refl
+      rw (other 39 refl, other 34 refl, other 64 refl, other 36 refl, no_word, number_again t amount rest is (none_after goes_on rest (λ c e. grind (arith, e)) (λ c e. let exponent : is_exponent c ≡ false = grind (arith, e) in rw (ends_no_digit c e, exponent) (grind (arith, e))) follows)) refl
 
   -- ---- operands
 
@@ -180,12 +165,8 @@ module _ (signature : List ℕ → Option Signature) (n : ℕ) (deeper : Deeper)
   operand_again t (a_literal (truth true)) rest h follows = ap (λ (l : List ℕ). read (l ++ rest)) h.1 ∙ word_again (codes "true") rest (truth true) (refl, (refl, (refl, (refl, tt)))) refl (λ cs is. rw is refl) follows
   operand_again t (a_literal (truth false)) rest h follows = ap (λ (l : List ℕ). read (l ++ rest)) h.1 ∙ word_again (codes "false") rest (truth false) (refl, (refl, (refl, (refl, (refl, tt))))) refl (λ cs is. rw is refl) follows
   operand_again t (a_literal null) rest h follows = ap (λ (l : List ℕ). read (l ++ rest)) h.1 ∙ word_again (codes "null") rest null (refl, (refl, (refl, (refl, tt)))) refl (λ cs is. rw is refl) follows
-  operand_again t (a_query (query root segs)) rest h follows =
-      let is = h.1.2 in
-      ap (λ (l : List ℕ). read (l ++ rest)) is ∙ rw (ap (λ (l : List ℕ). query_at signature deeper root (l ++ rest)) (sym is) ∙ query_again root t segs rest h.0 h.1 follows) refl
-  operand_again t (a_query (query current segs)) rest h follows =
-      let is = h.1.2 in
-      ap (λ (l : List ℕ). read (l ++ rest)) is ∙ rw (ap (λ (l : List ℕ). query_at signature deeper current (l ++ rest)) (sym is) ∙ query_again current t segs rest h.0 h.1 follows) refl
+  operand_again t (a_query (query root segs)) rest (good, (a, reads, e)) follows = rw (e, query_again root 36 a segs rest good reads follows) refl
+  operand_again t (a_query (query current segs)) rest (good, (a, reads, e)) follows = rw (e, query_again current 64 a segs rest good reads follows) refl
   operand_again t (a_call c) rest h follows =
       let named = named_call_again t c rest h.0 h.1 in
       let letter : begins is_small_letter (t ++ rest) ≡ true = (and_parts (begins is_small_letter (t ++ rest)) (begins (λ d. d == 40) (past_word (t ++ rest))) named.0).0 in
@@ -214,12 +195,9 @@ no_equals k cs blank first =
     begins_not (λ c. c == 61) k cs (λ c e. differs is_blank 61 c refl e) blank (begins_differs begins_operand 61 cs refl first)
 
 operator_again : (op : Operator) (rest : List ℕ) → is_at "=" rest ≡ false → operator_at (operator_sign op ++ rest) ≡ Some (op, rest)
-operator_again equal rest none = refl
-operator_again not_equal rest none = refl
 operator_again less rest none = rw none refl
-operator_again less_or_equal rest none = refl
 operator_again greater rest none = rw none refl
-operator_again greater_or_equal rest none = refl
+operator_again _ rest none = refl
 
 pub no_operator : (cs : List ℕ) → begins ends_basic cs ≡ true → operator_at cs ≡ None
 no_operator cs follows =
@@ -227,11 +205,7 @@ no_operator cs follows =
 
 operator_ends : (op : Operator) (rest : List ℕ) → begins ends_operand (operator_sign op ++ rest) ≡ true
 operator_ends equal rest = refl
-operator_ends not_equal rest = refl
-operator_ends less rest = refl
-operator_ends less_or_equal rest = refl
-operator_ends greater rest = refl
-operator_ends greater_or_equal rest = refl
+operator_ends _ rest = refl
 
 operator_no_blank : (op : Operator) (rest : List ℕ) → begins is_blank (operator_sign op ++ rest) ≡ false
 operator_no_blank op rest = begins_where ends_operand is_blank false (operator_sign op ++ rest) (λ c e. no_blank ends_operand c refl refl refl refl e) (operator_ends op rest)

@@ -1,11 +1,11 @@
 -- Logical expressions: what is read is a good one, or where the refusal stands; and each good one is read.
-use Rattle.std.proofs.Common.{◌≡◌, ℕ, ◌≤◌, inl, true, false, List, [], ◌∷◌, ◌++◌, length, drop, Option, Ok, refl, sym, ap, ◌∙◌, append_assoc, arith, Bool}
+use Rattle.std.proofs.Common.{◌≡◌, ℕ, ◌≤◌, inl, true, false, List, [], ◌∷◌, ◌++◌, length, drop, Option, Ok, refl, ap, ◌∙◌, append_assoc, arith, Bool}
 use Rattle.serde_json_path_parser.proofs.Words.{◌||◌, or_right, ◌==◌, codes, and_parts, eq-eqb, root, current, LogicalOr, LogicalAnd, Basic, paren}
 use Rattle.serde_json_path_parser.proofs.Words.{not_paren, relation, exist, not_exist, test, not_test, Call, Query, query, no_or, or, no_and, and}
 use Rattle.serde_json_path_parser.proofs.Words.{result_kind, IsTypedOr, IsTypedAnd, IsTestKind, or_depth, and_depth, Signature, WrongReturnType}
 use Rattle.serde_json_path_parser.proofs.Words.{ExpectedClosingParenthesis, ExpectedExpression, is_at, are_at, begins, begins_both, IsBlank, is_blank}
 use Rattle.serde_json_path_parser.proofs.Words.{is_small_letter, InParentheses, ReadsOr, ReadMoreOrs, ReadMoreAnds, Reads, ReadsCall, Parsed, ◌>>=◌}
-use Rattle.serde_json_path_parser.proofs.Words.{past_blanks, many, a_call, begins_call, and_list, or_list, Deeper, query_at, paren_at}
+use Rattle.serde_json_path_parser.proofs.Words.{past_blanks, many, a_call, begins_call, and_list, or_list, Deeper, paren_at}
 use Rattle.serde_json_path_parser.proofs.Words.{negated_call_at, negated_at, basic_at, next_basic_at, and_from, and_at, next_and_at, or_from, or_at}
 use Rattle.serde_json_path_parser.proofs.Words.{past_word}
 use Rattle.serde_json_path_parser.specs.declared.error.Context.TheVariants as context
@@ -164,14 +164,8 @@ module _ (signature : List ℕ → Option Signature) (n : ℕ) (deeper : Deeper)
 
   not_exist_again : (t : List ℕ) (q : Query) (rest : List ℕ) → IsGoodQuery signature n q → Reads q t → Follows ends_operand rest → negated_at signature deeper (t ++ rest) ≡ Ok (not_exist q, past_blanks rest)
   unfolding negated_at
-  not_exist_again t (query root segs) rest good is follows =
-      let sign = is.2 in
-      ap (λ (l : List ℕ). negated_at signature deeper (l ++ rest)) sign
-      ∙ rw (ap (λ (l : List ℕ). query_at signature deeper root (l ++ rest)) (sym sign) ∙ query_again signature n deeper laws root t segs rest good is follows) refl
-  not_exist_again t (query current segs) rest good is follows =
-      let sign = is.2 in
-      ap (λ (l : List ℕ). negated_at signature deeper (l ++ rest)) sign
-      ∙ rw (ap (λ (l : List ℕ). query_at signature deeper current (l ++ rest)) (sym sign) ∙ query_again signature n deeper laws current t segs rest good is follows) refl
+  not_exist_again t (query root segs) rest good (a, reads, e) follows = rw (e, query_again signature n deeper laws root 36 a segs rest good reads follows) refl
+  not_exist_again t (query current segs) rest good (a, reads, e) follows = rw (e, query_again signature n deeper laws current 64 a segs rest good reads follows) refl
 
   not_test_again : (t : List ℕ) (c : Call) (rest : List ℕ) → IsGoodCall signature n c → IsTestKind (result_kind signature c) → ReadsCall c t → negated_at signature deeper (t ++ rest) ≡ Ok (not_test c, past_blanks rest)
   unfolding negated_at negated_call_at

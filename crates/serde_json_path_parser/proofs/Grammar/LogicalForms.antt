@@ -212,10 +212,7 @@ literal_begins : (l : Literal) (t rest : List ℕ) → IsLiteral l t → begins 
 literal_begins (text bytes) t rest h =
     let s = string_again t bytes rest h in
     ap (λ (x : List ℕ). begins begins_operand (x ++ rest)) s.3 ∙ of_quote (λ quote. begins_operand quote ≡ true) refl refl s.0 s.2
-literal_begins (number amount) t rest h = number_first begins_operand true t amount rest begun h
-  where
-    begun : (c : ℕ) → (c == 45 || is_digit c) ≡ true → begins_operand c ≡ true
-    begun c e = grind (arith, e)
+literal_begins (number amount) t rest h = number_first begins_operand true t amount rest (λ c e. grind (arith, e)) h
 literal_begins (truth true) t rest h = ap (λ (x : List ℕ). begins begins_operand (x ++ rest)) h
 literal_begins (truth false) t rest h = ap (λ (x : List ℕ). begins begins_operand (x ++ rest)) h
 literal_begins null t rest h = ap (λ (x : List ℕ). begins begins_operand (x ++ rest)) h
@@ -224,12 +221,9 @@ query_begins : (q : Query) (t rest : List ℕ) → Reads q t → begins begins_o
 query_begins (query root segs) t rest h = ap (λ (x : List ℕ). begins begins_operand (x ++ rest)) h.2
 query_begins (query current segs) t rest h = ap (λ (x : List ℕ). begins begins_operand (x ++ rest)) h.2
 
-letter_begins : (c : ℕ) → is_small_letter c ≡ true → begins_operand c ≡ true
-letter_begins c e = grind (arith, e)
-
 call_begins : (c : Call) (t rest : List ℕ) → ReadsCall c t → begins begins_operand (t ++ rest) ≡ true
 call_begins (call f args) t rest (n, j, a, k, is_name, before, is, after, e) =
-    begins_where is_small_letter begins_operand true (t ++ rest) letter_begins
+    begins_where is_small_letter begins_operand true (t ++ rest) (λ c e. grind (arith, e))
     (ap (λ (x : List ℕ). begins is_small_letter (x ++ rest)) e ∙ ap (begins is_small_letter) (append_assoc n _ rest) ∙ begins_front is_small_letter true n _ (some_begun is_small_letter n is_name.first) is_name.first)
 
 pub operand_begins : (o : Operand) (t rest : List ℕ) → ReadsOperand o t → begins begins_operand (t ++ rest) ≡ true
@@ -242,11 +236,8 @@ comparable_begins (literal l) t rest h = literal_begins l t rest h
 comparable_begins (singular q) t rest h = query_begins q t rest h.1
 comparable_begins (called c) t rest h = call_begins c t rest h
 
-so : (c : ℕ) → begins_operand c ≡ true → begins_expression c ≡ true
-so c e = grind (arith, e)
-
 pub as_expression : (cs : List ℕ) → begins begins_operand cs ≡ true → begins begins_expression cs ≡ true
-as_expression cs e = begins_where begins_operand begins_expression true cs so e
+as_expression cs e = begins_where begins_operand begins_expression true cs (λ c e. grind (arith, e)) e
 
 pub basic_begins : (b : Basic) (t rest : List ℕ) → ReadsBasic b t → begins begins_expression (t ++ rest) ≡ true
 basic_begins (paren e) t rest h = ap (λ (x : List ℕ). begins begins_expression (x ++ rest)) h.6
@@ -269,11 +260,8 @@ or_begins (or a more) t rest h =
     ap (λ (x : List ℕ). begins begins_expression (x ++ rest)) h.4 ∙ ap (begins begins_expression) (append_assoc h.0 h.1 rest) ∙ and_begins a h.0 (h.1 ++ rest) h.2
 
 -- none begins with a blank
-expression_no_blank : (c : ℕ) → begins_expression c ≡ true → is_blank c ≡ false
-expression_no_blank c e = no_blank begins_expression c refl refl refl refl e
-
 pub no_blank_begins : (cs : List ℕ) → begins begins_expression cs ≡ true → begins is_blank cs ≡ false
-no_blank_begins cs e = begins_where begins_expression is_blank false cs expression_no_blank e
+no_blank_begins cs e = begins_where begins_expression is_blank false cs (λ c e. no_blank begins_expression c refl refl refl refl e) e
 
 -- ---- what is read as a filter is a good one, each is read, and a refusal stands in its text, by what holds one level deeper
 

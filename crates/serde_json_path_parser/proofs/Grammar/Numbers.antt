@@ -1,6 +1,6 @@
 -- Integers and number literals: what is read is one, each is read, and where a refusal of one stands.
 use Rattle.std.proofs.Common.{◌≡◌, ℕ, zero, suc, ◌+◌, ◌-◌, ◌*◌, ◌≤◌, inl, inr, Bool, true, false, List, [], ◌∷◌, ◌++◌, drop, Ok, refl, sym, ap, ◌∙◌, arith, ◌^◌, length, Err, append_assoc, ◌<◌, min}
-use Rattle.serde_json_path_parser.proofs.Words.{nat_le, ◌==◌, ℤ, pos, negsuc, and_parts, ints, largest, ExpectedSelector, IntegerOutOfRange, is_at}
+use Rattle.serde_json_path_parser.proofs.Words.{nat_le, ◌==◌, ℤ, pos, negsuc, ints, largest, ExpectedSelector, IntegerOutOfRange, is_at, cases_Bool}
 use Rattle.serde_json_path_parser.proofs.Words.{begins, is_blank, is_digit, value_from, IsDecimal, IsInt, front, past, byte_count, is_first_digit}
 use Rattle.serde_json_path_parser.proofs.Words.{digits_at, negative, int_at, begins_int, ◌||◌, ◌-ℤ◌, encode_utf8, ExpectedExpression}
 use Rattle.serde_json_path_parser.proofs.Words.{ExponentOrEmptyFraction, FractionTooLong, NumberOutOfRange, AllPass, fraction_of, IsFraction}
@@ -16,25 +16,16 @@ use Rattle.serde_json_path_syntax.specs.WellFormed.{IsLiteralAmount}
 -- ---- first digits
 
 pub first_is_digit : (c : ℕ) → is_first_digit c ≡ true → is_digit c ≡ true
-first_is_digit c e =
-    let h = and_parts (nat_le 49 c) (nat_le c 57) e in
-    let from : nat_le 48 c ≡ true = grind (arith, h.0) in
-    rw (from, h.1) refl
+first_is_digit c e = grind (arith, e)
 
 digit_is_first : (c : ℕ) → is_digit c ≡ true → (c == 48) ≡ false → is_first_digit c ≡ true
-digit_is_first c e z =
-    let h = and_parts (nat_le 48 c) (nat_le c 57) e in
-    let from : nat_le 49 c ≡ true = grind (arith, h.0, z) in
-    rw (from, h.1) refl
+digit_is_first c e z = grind (arith, e, z)
 
 some_value : (cs : List ℕ) → begins is_first_digit cs ≡ true → 1 ≤ value_from 0 (front is_digit cs)
 some_value [] e = absurd cc
 some_value (c ∷ cs) e =
-    let h = and_parts (nat_le 49 c) (nat_le c 57) e in
-    let one : 1 ≤ c - 48 = grind (arith, h.0) in
-    let least = value_least ((0 * 10) + (c - 48)) (front is_digit cs) in
-    let some : 1 ≤ value_from 0 (c ∷ front is_digit cs) = omega (arith, one, least) in
-    rw (first_is_digit c e) some
+    let one : 1 ≤ c - 48 = grind (arith, e) in
+    rw (first_is_digit c e) (omega (arith, one, value_least ((0 * 10) + (c - 48)) (front is_digit cs)))
 
 -- ---- what a reading gives
 
@@ -117,11 +108,7 @@ int_again t (negsuc n) rest h e =
 -- ---- how an integer begins
 
 pub digit_begins : (c : ℕ) → is_digit c ≡ true → begins_int c ≡ true
-digit_begins c d = by_sign (c == 45) refl
-  where
-    by_sign : (s : Bool) → (c == 45) ≡ s → begins_int c ≡ true
-    by_sign true s = rw s refl
-    by_sign false s = rw (s, d) refl
+digit_begins c d = grind (arith, d)
 
 -- each character that may begin an integer answers so, and an integer with it
 pub int_first : (p : ℕ → Bool) (b : Bool) (t : List ℕ) (i : ℤ) (rest : List ℕ) → ((c : ℕ) → begins_int c ≡ true → p c ≡ b) → IsInt t i → begins p (t ++ rest) ≡ b
@@ -284,19 +271,16 @@ number_first p b t amount rest h is = elim is.0.1 [
 
 digit_byte : (c : ℕ) → is_digit c ≡ true → length (encode_utf8 c) ≡ 1
 digit_byte c d =
-    let most = (and_parts (nat_le 48 c) (nat_le c 57) d).1 in
-    let ascii : c < 128 = grind (arith, most) in
+    let ascii : c < 128 = grind (arith, d) in
     ap length (encode_ascii c ascii)
 
 -- a digit is one byte
 front_bytes : (cs : List ℕ) → length (encode_utf8_all cs) ≡ length (front is_digit cs) + length (encode_utf8_all (past is_digit cs))
 front_bytes [] = refl
-front_bytes (c ∷ cs) = by_test (is_digit c) refl (front_bytes cs)
-  where
-    by_test : (b : Bool) → is_digit c ≡ b → length (encode_utf8_all cs) ≡ length (front is_digit cs) + length (encode_utf8_all (past is_digit cs))
-        → length (encode_utf8_all (c ∷ cs)) ≡ length (front is_digit (c ∷ cs)) + length (encode_utf8_all (past is_digit (c ∷ cs)))
-    by_test true e h = rw e (omega (arith, length-append (encode_utf8 c) (encode_utf8_all cs), digit_byte c e, h))
-    by_test false e h = rw e (omega arith)
+front_bytes (c ∷ cs) = elim (cases_Bool (is_digit c)) [
+  | inl e ↦ rw e (omega (arith, length-append (encode_utf8 c) (encode_utf8_all cs), digit_byte c e, front_bytes cs))
+  | inr e ↦ rw e (omega arith)
+]
 
 -- the bytes of the digits, as the bytes that were left before them and after
 pub counted : (cs rest : List ℕ) (before after : ℕ) → rest ≡ past is_digit cs → before ≡ length (encode_utf8_all cs) → after ≡ length (encode_utf8_all rest) → before ≡ after + length (front is_digit cs)
@@ -310,8 +294,8 @@ counted cs rest before after e b a =
 value_below : (n : ℕ) (ds : List ℕ) → AllPass is_digit ds → value_from n ds < (n + 1) * 10 ^ length ds
 value_below n [] each = omega arith
 value_below n (d ∷ ds) each =
-    let h = and_parts (nat_le 48 d) (nat_le d 57) each.0 in
-    let nine : d - 48 ≤ 9 = grind (arith, h.1) in
+    let digit = each.0 in
+    let nine : d - 48 ≤ 9 = grind (arith, digit) in
     let next : n * 10 + (d - 48) + 1 ≤ (n + 1) * 10 = omega (arith, nine) in
     let below = value_below (n * 10 + (d - 48)) ds each.1 in
     let grown = mul-le-mul_right (10 ^ length ds) next in

@@ -38,18 +38,6 @@ one_of : (cs : List ℕ) → begins opens cs ≡ true → is_at "." cs ≡ false
 one_of [] o n = absurd cc
 one_of (c ∷ cs) o n = sym (rw n refl) ∙ o
 
-opens_no_blank : (c : ℕ) → opens c ≡ true → is_blank c ≡ false
-opens_no_blank c e = no_blank opens c refl refl refl refl e
-
-opens_no_name : (c : ℕ) → opens c ≡ true → is_name_char c ≡ false
-opens_no_name c e = grind (arith, e)
-
-small_no_name : (c : ℕ) → c < 33 → is_name_char c ≡ false
-small_no_name c e = grind (arith, e)
-
-blank_no_name : (c : ℕ) → is_blank c ≡ true → is_name_char c ≡ false
-blank_no_name c e = let small : c < 33 = grind (arith, e) in small_no_name c small
-
 dotted_again : (here : declared.Context) (t n rest : List ℕ) → IsName t n → begins is_name_char rest ≡ false → dotted_at here (t ++ rest) ≡ Ok (dot_name n, rest)
 unfolding dotted_at
 dotted_again here t n rest h e = rw (name_begins_not 42 t n rest refl h, name_again here t n rest h e) refl
@@ -124,7 +112,7 @@ module _ {signature : List ℕ → Option Signature} (filter_at : List ℕ → P
   past_next : (t : List ℕ) (x : SegmentKind × Segment) (rest : List ℕ) → (h : IsNextItem t x) → past_blanks (t ++ rest) ≡ h.1 ++ rest
   past_next t x rest (k, a, blank, is, e) =
       ap (λ (l : List ℕ). past_blanks (l ++ rest)) e ∙ ap past_blanks (append_assoc k a rest)
-      ∙ past_all k (a ++ rest) blank (begins_where opens is_blank false (a ++ rest) opens_no_blank (item_begins a x rest is))
+      ∙ past_all k (a ++ rest) blank (begins_where opens is_blank false (a ++ rest) (λ c o. no_blank opens c refl refl refl refl o) (item_begins a x rest is))
 
   next_begins : (t : List ℕ) (x : SegmentKind × Segment) (rest : List ℕ) → IsNextItem t x → opens_next (t ++ rest) ≡ true
   next_begins t x rest h = ap (begins opens) (past_next t x rest h) ∙ item_begins h.1 x rest h.3
@@ -133,22 +121,18 @@ module _ {signature : List ℕ → Option Signature} (filter_at : List ℕ → P
   next_stops : (t : List ℕ) (x : SegmentKind × Segment) (rest : List ℕ) → IsNextItem t x → begins is_name_char (t ++ rest) ≡ false
   next_stops t x rest (k, a, blank, is, e) =
       ap (λ (l : List ℕ). begins is_name_char (l ++ rest)) e ∙ ap (begins is_name_char) (append_assoc k a rest)
-      ∙ begins_not is_name_char k (a ++ rest) blank_no_name blank (begins_where opens is_name_char false (a ++ rest) opens_no_name (item_begins a x rest is))
+      ∙ begins_not is_name_char k (a ++ rest) (λ c w. let small : c < 33 = grind (arith, w) in grind (arith, small)) blank (begins_where opens is_name_char false (a ++ rest) (λ c o. grind (arith, o)) (item_begins a x rest is))
 
   -- ---- each segment is read
 
   segment_again : (t : List ℕ) (x : SegmentKind × Segment) (rest : List ℕ) → IsItem t x → begins is_name_char rest ≡ false → segment_at filter_at here (t ++ rest) ≡ Ok (x, rest)
   unfolding segment_at dot_at descendant_at dotted_at
-  segment_again t (child, dot_name n) rest h e =
-      ap (λ (l : List ℕ). segment_at filter_at here (l ++ rest)) h.1.2 ∙ rw (name_begins_not 46 h.1.0 n rest refl h.1.1, dotted_again (after_dot here) h.1.0 n rest h.1.1 e) refl
-  segment_again t (descendant, dot_name n) rest h e =
-      ap (λ (l : List ℕ). segment_at filter_at here (l ++ rest)) h.1.2 ∙ rw (name_begins_not 91 h.1.0 n rest refl h.1.1, dotted_again here h.1.0 n rest h.1.1 e) refl
-  segment_again t (child, dot_wildcard) rest h e = ap (λ (l : List ℕ). segment_at filter_at here (l ++ rest)) h.1
-  segment_again t (descendant, dot_wildcard) rest h e = ap (λ (l : List ℕ). segment_at filter_at here (l ++ rest)) h.1
-  segment_again t (child, long_hand sels) rest h e =
-      ap (λ (l : List ℕ). segment_at filter_at here (l ++ rest)) h.1.6 ∙ rw (bracket_again filter_at Good laws sels h.1.0 h.1.1 h.1.2 rest h.1.3 h.1.4 h.1.5 h.0) refl
-  segment_again t (descendant, long_hand sels) rest h e =
-      ap (λ (l : List ℕ). segment_at filter_at here (l ++ rest)) h.1.6 ∙ rw (bracket_again filter_at Good laws sels h.1.0 h.1.1 h.1.2 rest h.1.3 h.1.4 h.1.5 h.0) refl
+  segment_again t (child, dot_name n) rest h e = rw (h.1.2, name_begins_not 46 h.1.0 n rest refl h.1.1, dotted_again (after_dot here) h.1.0 n rest h.1.1 e) refl
+  segment_again t (descendant, dot_name n) rest h e = rw (h.1.2, name_begins_not 91 h.1.0 n rest refl h.1.1, dotted_again here h.1.0 n rest h.1.1 e) refl
+  segment_again t (child, dot_wildcard) rest h e = rw h.1 refl
+  segment_again t (descendant, dot_wildcard) rest h e = rw h.1 refl
+  segment_again t (child, long_hand sels) rest h e = rw (h.1.6, bracket_again filter_at Good laws sels h.1.0 h.1.1 h.1.2 rest h.1.3 h.1.4 h.1.5 h.0) refl
+  segment_again t (descendant, long_hand sels) rest h e = rw (h.1.6, bracket_again filter_at Good laws sels h.1.0 h.1.1 h.1.2 rest h.1.3 h.1.4 h.1.5 h.0) refl
 
   next_again : (t : List ℕ) (x : SegmentKind × Segment) (rest : List ℕ) → IsNextItem t x → begins is_name_char rest ≡ false → next_segment_at filter_at here (t ++ rest) ≡ Ok (x, rest)
   unfolding next_segment_at

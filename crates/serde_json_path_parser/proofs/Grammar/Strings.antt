@@ -1,14 +1,13 @@
 -- String literals: what is read is one, each is read, and where a refusal of one stands.
-use Rattle.std.proofs.Common.{◌≡◌, ℕ, ◌+◌, ◌*◌, ◌<◌, ◌⊎◌, inl, inr, Bool, true, false, cond, ◌&&◌, true≢false, List, [], ◌∷◌, ◌++◌, length, drop, Some, None, Ok, Err, refl, sym, ap, subst, ◌∙◌, append_assoc, arith}
-use Rattle.serde_json_path_parser.proofs.Words.{cases_lt, nat_le, ◌==◌, not, encode_utf8, encode_utf8_all, AllByRecursion, eqb-true, eq-eqb}
-use Rattle.serde_json_path_parser.proofs.Words.{and_parts, eqb_tells, length-append, append-nil, same_Some, none-some, ExpectedEndingQuote, BadEscape}
-use Rattle.serde_json_path_parser.proofs.Words.{ControlCharacter, ◌∈◌, AllPass, is_at, begins, is_digit, hexadecimal_of, IsHex4, IsHighSurrogate}
+use Rattle.std.proofs.Common.{◌≡◌, ℕ, ◌+◌, ◌*◌, ◌<◌, ◌⊎◌, inl, inr, Bool, true, false, cond, ◌&&◌, List, [], ◌∷◌, ◌++◌, length, drop, Some, Ok, Err, refl, sym, ap, subst, ◌∙◌, append_assoc, arith}
+use Rattle.serde_json_path_parser.proofs.Words.{cases_lt, nat_le, ◌==◌, not, encode_utf8, encode_utf8_all, eq-eqb}
+use Rattle.serde_json_path_parser.proofs.Words.{and_parts, eqb_tells, length-append, append-nil, ExpectedEndingQuote, BadEscape}
+use Rattle.serde_json_path_parser.proofs.Words.{ControlCharacter, ◌∈◌, AllPass, is_at, begins, hexadecimal_of, IsHex4, IsHighSurrogate}
 use Rattle.serde_json_path_parser.proofs.Words.{IsLowSurrogate, pair_of, escaped_by, is_plain, IsPiece, plain, quote_escape, letter_escape}
 use Rattle.serde_json_path_parser.proofs.Words.{hex_escape, pair_escape, IsQuote, IsString, Parsed, ◌>>=◌, refusal, many, byte_count, is_hexadecimal}
 use Rattle.serde_json_path_parser.proofs.Words.{hexadecimal_value, head, hexadecimal_at, hex4_at, is_high, is_low, low_at, unicode_at}
 use Rattle.serde_json_path_parser.proofs.Words.{is_letter_escape, letter_value, escape_at, is_control, piece_at, is_inside, string_at, is_ascii_plain}
 use Rattle.serde_json_path_parser.proofs.Words.{Stretched, encode_ascii, Failure, Fails}
-use Rattle.std.proofs.Math.Bool.{and-false}
 use Rattle.serde_json_path_parser.specs.declared.error.Context.TheVariants as context
 use Rattle.serde_json_path_parser.proofs.Texts.Stretches.{plain_below_128, plain_of}
 use Rattle.serde_json_path_parser.proofs.Reading.Many as m
@@ -19,33 +18,11 @@ use Rattle.serde_json_path_parser.specs.declared.error.Failure.TheVariants as fa
 
 -- ---- what a reading gives: hexadecimal digits
 
-hexadecimal_cases : (c : ℕ) → ((is_hexadecimal c ≡ true) × (hexadecimal_of c ≡ Some (hexadecimal_value c))) ⊎ ((is_hexadecimal c ≡ false) × (hexadecimal_of c ≡ None))
-hexadecimal_cases c = by_digit (is_digit c) refl
-  where
-    Cases : Type 0
-    Cases = ((is_hexadecimal c ≡ true) × (hexadecimal_of c ≡ Some (hexadecimal_value c))) ⊎ ((is_hexadecimal c ≡ false) × (hexadecimal_of c ≡ None))
-
-    by_small : (b : Bool) → (nat_le 97 c && nat_le c 102) ≡ b → is_digit c ≡ false → (nat_le 65 c && nat_le c 70) ≡ false → Cases
-    by_small true s d l =
-        let from = (and_parts (nat_le 97 c) (nat_le c 102) s).0 in
-        let past_digits : nat_le c 57 ≡ false = grind (arith, from) in
-        let past_letters : nat_le c 70 ≡ false = grind (arith, from) in
-        inl (rw (d, l, s) refl, rw (d, l, s, past_digits, past_letters) refl)
-    by_small false s d l = inr (rw (d, l, s) refl, rw (d, l, s) refl)
-
-    by_large : (b : Bool) → (nat_le 65 c && nat_le c 70) ≡ b → is_digit c ≡ false → Cases
-    by_large true l d =
-        let within = and_parts (nat_le 65 c) (nat_le c 70) l in
-        let past_digits : nat_le c 57 ≡ false = grind (arith, within.0) in
-        inl (rw (d, l) refl, rw (d, l, past_digits, within.1) refl)
-    by_large false l d = by_small (nat_le 97 c && nat_le c 102) refl d l
-
-    by_digit : (b : Bool) → is_digit c ≡ b → Cases
-    by_digit true d = inl (rw d refl, rw (d, (and_parts (nat_le 48 c) (nat_le c 57) d).1) refl)
-    by_digit false d = by_large (nat_le 65 c && nat_le c 70) refl d
-
 hexadecimal_is : (c : ℕ) → is_hexadecimal c ≡ true → hexadecimal_of c ≡ Some (hexadecimal_value c)
-hexadecimal_is c e = elim (hexadecimal_cases c) [ inl k ↦ k.1 | inr k ↦ absurd (true≢false (sym e ∙ k.0)) ]
+hexadecimal_is c e = grind (arith, e)
+
+hexadecimal_known : (c n : ℕ) → hexadecimal_of c ≡ Some n → (is_hexadecimal c ≡ true) × (hexadecimal_value c ≡ n)
+hexadecimal_known c n e = (grind (arith, e), grind (arith, e))
 
 first_is : (p : ℕ → Bool) (cs : List ℕ) → begins p cs ≡ true → (cs ≡ head cs ∷ drop 1 cs) × (p (head cs) ≡ true)
 first_is p [] e = absurd cc
@@ -59,9 +36,6 @@ unfolding hexadecimal_at
 hexadecimal_outcome escape cs = guarded BadEscape context.LongHand refl (λ e.
     let first = first_is is_hexadecimal cs e in
     read_so _ (record { text = head cs ∷ []; is_so = (head cs, refl, hexadecimal_is (head cs) first.1); split = first.0 }))
-
-four : (a b c d : ℕ) (p q r s : List ℕ) → p ≡ a ∷ [] → q ≡ b ∷ [] → r ≡ c ∷ [] → s ≡ d ∷ [] → p ++ (q ++ (r ++ s)) ≡ a ∷ b ∷ c ∷ d ∷ []
-four a b c d p q r s first second third fourth = rw (first, second, third, fourth) refl
 
 hex4_outcome : (escape cs : List ℕ) → OutcomeIn IsHex4 Plain escape cs (hex4_at (byte_count escape) cs)
 unfolding hex4_at
@@ -78,7 +52,7 @@ hex4_outcome escape cs =
       b.0,
       c.0,
       d,
-      four p.is_so.0 q.is_so.0 r.is_so.0 s.0 p.text q.text r.text t p.is_so.1 q.is_so.1 r.is_so.1 s.1,
+      rw (p.is_so.1, q.is_so.1, r.is_so.1, s.1) refl,
       p.is_so.2,
       q.is_so.2,
       r.is_so.2,
@@ -89,26 +63,20 @@ hex4_outcome escape cs =
 -- ---- pieces
 
 high_of : (n : ℕ) → is_high n ≡ true → IsHighSurrogate n
-high_of n e = let h = and_parts (nat_le 0xd800 n) (nat_le n 0xdbff) e in (grind (arith, h.0), grind (arith, h.1))
+high_of n e = (grind (arith, e), grind (arith, e))
 
 low_of : (n : ℕ) → is_low n ≡ true → IsLowSurrogate n
-low_of n e = let h = and_parts (nat_le 0xdc00 n) (nat_le n 0xdfff) e in (grind (arith, h.0), grind (arith, h.1))
+low_of n e = (grind (arith, e), grind (arith, e))
 
 high_again : (n : ℕ) → IsHighSurrogate n → is_high n ≡ true
-high_again n h = let least : nat_le 0xd800 n ≡ true = grind (arith, h.0) in let greatest : nat_le n 0xdbff ≡ true = grind (arith, h.1) in rw (least, greatest) refl
+high_again n h = grind (arith, h.0, h.1)
 
 low_again : (n : ℕ) → IsLowSurrogate n → is_low n ≡ true
-low_again n h = let least : nat_le 0xdc00 n ≡ true = grind (arith, h.0) in let greatest : nat_le n 0xdfff ≡ true = grind (arith, h.1) in rw (least, greatest) refl
+low_again n h = grind (arith, h.0, h.1)
 
 -- no surrogate
 scalar_of : (n : ℕ) → is_high n ≡ false → is_low n ≡ false → (n < 0xd800) ⊎ (0xdfff < n)
-scalar_of n h l = elim (cases_lt n 0xd800) [
-  | inl below ↦ inl below
-  | inr least ↦ elim (cases_lt n 0xdc00) [
-    | inl high ↦ absurd (true≢false (sym (high_again n (least, omega (arith, high))) ∙ h))
-    | inr low ↦ elim (cases_lt 0xdfff n) [ inl above ↦ inr above | inr most ↦ absurd (true≢false (sym (low_again n (low, most)) ∙ l)) ]
-  ]
-]
+scalar_of n h l = elim (cases_lt n 0xd800) [ inl below ↦ inl below | inr least ↦ inr (grind (arith, least, h, l)) ]
 
 slash_and_u : (cs : List ℕ) → is_at "\\" cs ≡ true → is_at "u" (drop 1 cs) ≡ true → cs ≡ 92 ∷ 117 ∷ drop 1 (drop 1 cs)
 slash_and_u cs slash letter = after_one 92 cs slash ∙ ap (λ (l : List ℕ). 92 ∷ l) (after_one 117 (drop 1 cs) letter)
@@ -132,29 +100,9 @@ unicode_outcome quote escape cs = onward (hex4_outcome escape cs) (λ h _ first.
     choose (λ _. refused BadEscape context.LongHand refl) (λ low.
     read_so _ (record { text = first.text; is_so = hex_escape first.text h.0 first.is_so (scalar_of h.0 high low); split = first.split }))))
 
--- the letters that escape, whatever the quote
-abbrev letters : List ℕ
-letters = 98 ∷ 102 ∷ 110 ∷ 114 ∷ 116 ∷ 47 ∷ 92 ∷ []
-
--- a fact of each of these characters, and of each that is none of them
-of_each : (Fact : ℕ → Type 0) (ks : List ℕ) → AllByRecursion Fact ks → (c : ℕ) → (AllByRecursion (λ k. (c == k) ≡ false) ks → Fact c) → Fact c
-of_each Fact [] known c other = other tt
-of_each Fact (k ∷ ks) known c other = elim (eqb_tells c k) [
-  | inl e ↦ subst Fact (sym e.1) known.0
-  | inr e ↦ of_each Fact ks known.1 c (λ others. other (e.0, others))
-]
-
 -- a letter after a backslash, but for the quote
 letter_is : (quote letter : ℕ) → is_letter_escape quote letter ≡ true → (letter == quote) ≡ false → escaped_by letter ≡ Some (letter_value letter)
-letter_is quote letter =
-    of_each Escapes letters (λ e q. refl, (λ e q. refl, (λ e q. refl, (λ e q. refl, (λ e q. refl, (λ e q. refl, (λ e q. refl, tt))))))) letter other
-  where
-    Escapes : ℕ → Type 0
-    Escapes c = is_letter_escape quote c ≡ true → (c == quote) ≡ false → escaped_by c ≡ Some (letter_value c)
-
-    other : AllByRecursion (λ k. (letter == k) ≡ false) letters → Escapes letter
-    other (b, (f, (n, (r, (t, (s, (h, end))))))) e q =
-        let none : is_letter_escape quote letter ≡ false = rw (b, f, n, r, t, s, h, q) refl in absurd (true≢false (sym e ∙ none))
+letter_is quote letter e q = grind (arith, e, q)
 
 -- a fact of both quotes
 pub of_quote : (Fact : ℕ → Type 0) → Fact 39 → Fact 34 → (quote : ℕ) → IsQuote quote → Fact quote
@@ -162,13 +110,10 @@ of_quote Fact single double quote (inl e) = subst Fact (sym e) single
 of_quote Fact single double quote (inr e) = subst Fact (sym e) double
 
 letter_sound : (quote letter : ℕ) → IsQuote quote → is_letter_escape quote letter ≡ true → IsPiece quote (92 ∷ letter ∷ []) (letter_value letter)
-letter_sound quote letter is e = by_quote (letter == quote) refl
-  where
-    by_quote : (b : Bool) → (letter == quote) ≡ b → IsPiece quote (92 ∷ letter ∷ []) (letter_value letter)
-    by_quote true q =
-        let same = eqb-true letter quote q in
-        subst (λ (c : ℕ). IsPiece quote (92 ∷ c ∷ []) (letter_value c)) (sym same) (subst (IsPiece quote (92 ∷ quote ∷ [])) (sym (of_quote (λ c. letter_value c ≡ c) refl refl quote is)) quote_escape)
-    by_quote false q = letter_escape letter (letter_value letter) (letter_is quote letter e q)
+letter_sound quote letter is e = elim (eqb_tells letter quote) [
+  | inl same ↦ subst (λ (c : ℕ). IsPiece quote (92 ∷ c ∷ []) (letter_value c)) (sym same.1) (subst (IsPiece quote (92 ∷ quote ∷ [])) (sym (of_quote (λ c. letter_value c ≡ c) refl refl quote is)) quote_escape)
+  | inr q ↦ letter_escape letter (letter_value letter) (letter_is quote letter e q.0)
+]
 
 escape_outcome : (quote : ℕ) (cs : List ℕ) → IsQuote quote → is_at "\\" cs ≡ true → Outcome (IsPiece quote) Plain cs (escape_at quote cs)
 unfolding escape_at
@@ -183,7 +128,7 @@ escape_outcome quote cs is slash =
     })))
 
 plain_is : (quote c : ℕ) → is_inside quote c ≡ true → (c == 92) ≡ false → is_control c ≡ false → is_plain quote c ≡ true
-plain_is quote c inside slash control = let least : nat_le 32 c ≡ true = grind (arith, control) in rw (least, slash, inside) refl
+plain_is quote c inside slash control = grind (arith, inside, slash, control)
 
 piece_outcome : (quote : ℕ) → IsQuote quote → (cs : List ℕ) → begins (is_inside quote) cs ≡ true → Outcome (IsPiece quote) Plain cs (piece_at quote cs)
 unfolding piece_at
@@ -203,12 +148,9 @@ string_outcome quote is cs =
 
 -- ---- each string is read
 
-value_known : (c n : ℕ) → hexadecimal_of c ≡ Some n → (is_hexadecimal c ≡ true) × (hexadecimal_value c ≡ n)
-value_known c n e = elim (hexadecimal_cases c) [ inl k ↦ (k.0, same_Some (hexadecimal_value c) n (sym k.1 ∙ e)) | inr k ↦ absurd (none-some n (sym k.1 ∙ e)) ]
-
 hexadecimal_again : (escape rest : List ℕ) (c n : ℕ) → hexadecimal_of c ≡ Some n → hexadecimal_at (byte_count escape) (c ∷ rest) ≡ Ok (n, rest)
 unfolding hexadecimal_at
-hexadecimal_again escape rest c n e = let k = value_known c n e in rw (k.0, k.1) refl
+hexadecimal_again escape rest c n e = let k = hexadecimal_known c n e in rw (k.0, k.1) refl
 
 hex4_again : (escape t : List ℕ) (n : ℕ) (rest : List ℕ) → IsHex4 t n → hex4_at (byte_count escape) (t ++ rest) ≡ Ok (n, rest)
 unfolding hex4_at
@@ -222,14 +164,7 @@ hex4_again escape t n rest (a, b, c, d, p, q, r, s, text, first, second, third, 
     ) (ap (λ (m : ℕ). Ok (m, rest)) (sym value))
 
 no_surrogate : (n : ℕ) → (n < 0xd800) ⊎ (0xdfff < n) → (is_high n ≡ false) × (is_low n ≡ false)
-no_surrogate n (inl below) =
-    let high : nat_le 0xd800 n ≡ false = grind (arith, below) in
-    let low : nat_le 0xdc00 n ≡ false = grind (arith, below) in
-    (rw high refl, rw low refl)
-no_surrogate n (inr above) =
-    let high : nat_le n 0xdbff ≡ false = grind (arith, above) in
-    let low : nat_le n 0xdfff ≡ false = grind (arith, above) in
-    (rw high (and-false (nat_le 0xd800 n)), rw low (and-false (nat_le 0xdc00 n)))
+no_surrogate n side = (grind (arith, side), grind (arith, side))
 
 plain_parts : (a b d : Bool) → (a && not b && not d) ≡ true → (a ≡ true) × (b ≡ false) × (d ≡ false)
 plain_parts true false false e = (refl, refl, refl)
@@ -240,20 +175,7 @@ plain_parts false b d e = absurd cc
 -- a letter after a backslash, whatever the quote
 letter_again : (quote letter c : ℕ) (rest : List ℕ) → escaped_by letter ≡ Some c → piece_at quote (92 ∷ letter ∷ rest) ≡ Ok (c, rest)
 unfolding piece_at escape_at
-letter_again quote letter c rest =
-    of_each IsRead letters (known 8, (known 12, (known 10, (known 13, (known 9, (known 47, (known 92, tt))))))) letter other
-  where
-    IsRead : ℕ → Type 0
-    IsRead l = escaped_by l ≡ Some c → piece_at quote (92 ∷ l ∷ rest) ≡ Ok (c, rest)
-
-    read : ℕ → Parsed ℕ
-    read value = Ok (value, rest)
-
-    known : (value : ℕ) → Some value ≡ Some c → read value ≡ read c
-    known value e = ap read (same_Some value c e)
-
-    other : AllByRecursion (λ k. (letter == k) ≡ false) letters → IsRead letter
-    other (b, (f, (n, (r, (t, (s, (h, end))))))) e = let none : escaped_by letter ≡ None = rw (b, f, n, r, t, s, h) refl in absurd (none-some c (sym none ∙ e))
+letter_again quote letter c rest e = grind (arith, e)
 
 hex_again : (quote : ℕ) (digits : List ℕ) (c : ℕ) (rest : List ℕ) → IsHex4 digits c → (c < 0xd800) ⊎ (0xdfff < c) → piece_at quote (92 ∷ 117 ∷ (digits ++ rest)) ≡ Ok (c, rest)
 unfolding piece_at escape_at unicode_at
@@ -285,17 +207,11 @@ slash_inside = of_quote (λ quote. is_inside quote 92 ≡ true) refl refl
 
 piece_begins : (quote : ℕ) → IsQuote quote → (t : List ℕ) (c : ℕ) (rest : List ℕ) → IsPiece quote t c → begins (is_inside quote) (t ++ rest) ≡ true
 piece_begins quote is t c rest (plain d e) = let parts = plain_parts (nat_le 32 d) (d == 92) (d == quote) e in rw parts.2 refl
-piece_begins quote is t c rest quote_escape = slash_inside quote is
-piece_begins quote is t c rest (letter_escape letter d e) = slash_inside quote is
-piece_begins quote is t c rest (hex_escape digits d h side) = slash_inside quote is
-piece_begins quote is t c rest (pair_escape a b high low first second h l) = slash_inside quote is
+piece_begins quote is t c rest _ = slash_inside quote is
 
 piece_some : (quote : ℕ) (t : List ℕ) (c : ℕ) → IsPiece quote t c → 0 < length t
 piece_some quote t c (plain d e) = omega arith
-piece_some quote t c quote_escape = omega arith
-piece_some quote t c (letter_escape letter d e) = omega arith
-piece_some quote t c (hex_escape digits d h side) = omega arith
-piece_some quote t c (pair_escape a b high low first second h l) = omega arith
+piece_some quote t c _ = omega arith
 
 pub piece_takes : (quote : ℕ) → IsQuote quote → m.Takes (begins (is_inside quote)) (piece_at quote)
 piece_takes quote is = record {

@@ -50,22 +50,18 @@ shape c = elim (cases_lt c 128) [
 
 -- each has a byte
 pub some_bytes : (c : ℕ) → 0 < length (encode_utf8 c)
-some_bytes c = of_shape (shape c)
-  where
-    of_shape : Shape c → 0 < length (encode_utf8 c)
-    of_shape (of1 a e) = omega (arith, ap length e)
-    of_shape (of2 a b e) = omega (arith, ap length e)
-    of_shape (of3 a b e) = omega (arith, ap length e)
-    of_shape (of4 a e) = omega (arith, ap length e)
+some_bytes c = elim (shape c) [
+  | of1 a e ↦ omega (arith, ap length e)
+  | of2 a b e ↦ omega (arith, ap length e)
+  | of3 a b e ↦ omega (arith, ap length e)
+  | of4 a e ↦ omega (arith, ap length e)
+]
 
 abbrev pub Read : List ℕ → ℕ → ℕ → Type 0
 Read bs c w = IsScalar c × StartsWithChar bs c w
 
-abbrev c_limit : ℕ → Type 0
-c_limit c = c < 1114112
-
-limit : (c : ℕ) → IsScalar c → c_limit c
-limit c s = elim (cases_lt c 1114112) [ inl a ↦ a | inr a ↦ absurd (grind arith) ]
+limit : (c : ℕ) → IsScalar c → c < 1114112
+limit c s = grind (arith, s)
 
 module _ (bs : List ℕ) (h : Head bs) where
   byte : (p : List ℕ) (k : ℕ) → encode_utf8 h.c ≡ p → get_or bs k 0 ≡ get_or (p ++ h.rest) k 0
@@ -99,7 +95,7 @@ module _ (bs : List ℕ) (h : Head bs) where
   by3 (of3 l u e) t v = read _ _ _ e (omega (arith, byte _ 0 e, byte _ 1 e, byte _ 2 e)) refl (omega arith)
   by3 (of4 l e) t v = absurd (omega (arith, byte _ 0 e))
 
-  by4 : c_limit h.c → Shape h.c → 240 ≤ get_or bs 0 0 → Read bs (get_or bs 0 0 % 8 * 262144 + get_or bs 1 0 % 64 * 4096 + get_or bs 2 0 % 64 * 64 + get_or bs 3 0 % 64) 4
+  by4 : h.c < 1114112 → Shape h.c → 240 ≤ get_or bs 0 0 → Read bs (get_or bs 0 0 % 8 * 262144 + get_or bs 1 0 % 64 * 4096 + get_or bs 2 0 % 64 * 64 + get_or bs 3 0 % 64) 4
   by4 m (of1 l e) t = absurd (omega (arith, byte _ 0 e))
   by4 m (of2 l u e) t = absurd (omega (arith, byte _ 0 e))
   by4 m (of3 l u e) t = absurd (omega (arith, byte _ 0 e))
