@@ -219,17 +219,16 @@ module _ (signature : List ℕ → Option Signature) (n : ℕ) (deeper : Deeper)
 
   logical_again : (cs : List ℕ) (x : LogicalOr × List ℕ) → (StandsAlone x.0 → ⊥) → or_at signature deeper cs ≡ Ok x → argument_at signature deeper cs ≡ Ok (logical_argument x.0, x.1)
   unfolding argument_at or_at and_at basic_at
-  logical_again cs x free e = by_first (begins (λ c. c == 40 || c == 33) cs) refl
-    where
-      by_first : (opened : Bool) → begins (λ c. c == 40 || c == 33) cs ≡ opened → argument_at signature deeper cs ≡ Ok (logical_argument x.0, x.1)
-      by_first true opened = rw (opened, e) refl
-      by_first false opened =
-          let others = neither cs opened in
-          let a = bind_ok (and_at signature deeper cs) (λ a. or_from signature deeper a.0 a.1) x e in
-          let b = bind_ok (basic_at signature deeper cs) (λ b. and_from signature deeper b.0 b.1) a.0 a.1 in
-          let read : (operand_at signature deeper cs >>= λ o. basic_from signature deeper (byte_count cs) o.0 o.1) ≡ Ok b.0 = sym (rw (others.0, others.1) refl) ∙ b.1 in
-          let o = bind_ok (operand_at signature deeper cs) (λ o. basic_from signature deeper (byte_count cs) o.0 o.1) b.0 read in
-          joined_again cs x o.0 b.0 a.0 opened free o.1 o.2 b.2 a.2
+  logical_again cs x free e = elim (cases_Bool (begins (λ c. c == 40 || c == 33) cs)) [
+    | inl opened ↦ rw (opened, e) refl
+    | inr opened ↦
+        let others = neither cs opened in
+        let a = bind_ok (and_at signature deeper cs) (λ a. or_from signature deeper a.0 a.1) x e in
+        let b = bind_ok (basic_at signature deeper cs) (λ b. and_from signature deeper b.0 b.1) a.0 a.1 in
+        let read : (operand_at signature deeper cs >>= λ o. basic_from signature deeper (byte_count cs) o.0 o.1) ≡ Ok b.0 = sym (rw (others.0, others.1) refl) ∙ b.1 in
+        let o = bind_ok (operand_at signature deeper cs) (λ o. basic_from signature deeper (byte_count cs) o.0 o.1) b.0 read in
+        joined_again cs x o.0 b.0 a.0 opened free o.1 o.2 b.2 a.2
+  ]
 
   -- ---- each argument
 

@@ -19,7 +19,7 @@ use Rattle.serde_json_path_parser.proofs.Grammar.Numbers.{number_outcome, goes_o
 use Rattle.serde_json_path_parser.proofs.Reading.Runs.{whole, front_each, front_begins, some_begun, begins_front, begins_where, differs, begins_differs, front_all, past_run, no_blank, blanks_of, are_blank, split_blanks, begins_not, past_all}
 use Rattle.serde_json_path_parser.proofs.Grammar.Segments.{segments_outcome, same_segments, segments_again}
 use Rattle.serde_json_path_parser.proofs.Reading.Many.{Spaced, after_one, Read, after_two}
-use Rattle.serde_json_path_parser.proofs.Grammar.Strings.{string_outcome, string_again}
+use Rattle.serde_json_path_parser.proofs.Grammar.Strings.{string_outcome, string_again, of_quote}
 use Rattle.serde_json_path_parser.proofs.Reading.Outcomes.{made_spaced, read_spaced, guarded, along, choose, inner, past_spaced, remade, Outcome, past, read_as, refused, onward, read_so, Inner}
 
 -- ---- words
@@ -144,8 +144,7 @@ module _ (signature : List ℕ → Option Signature) (n : ℕ) (deeper : Deeper)
 
   quoted_again : (quote : ℕ) (cs bytes rest : List ℕ) → IsQuote quote → string_at quote cs ≡ Ok (bytes, rest) → read (quote ∷ cs) ≡ Ok (a_literal (text bytes), past_blanks rest)
   unfolding operand_at text_at
-  quoted_again quote cs bytes rest (inl is) e = ap (λ (q : ℕ). read (q ∷ cs)) is ∙ rw (ap (λ (q : ℕ). string_at q cs) (sym is) ∙ e) refl
-  quoted_again quote cs bytes rest (inr is) e = ap (λ (q : ℕ). read (q ∷ cs)) is ∙ rw (ap (λ (q : ℕ). string_at q cs) (sym is) ∙ e) refl
+  quoted_again quote cs bytes rest is e = of_quote (λ q. string_at q cs ≡ Ok (bytes, rest) → read (q ∷ cs) ≡ Ok (a_literal (text bytes), past_blanks rest)) (λ e. rw e refl) (λ e. rw e refl) quote is e
 
   number_read : (t : List ℕ) (amount : ℤ) (rest : List ℕ) → IsNumber t amount → Follows ends_operand rest → read (t ++ rest) ≡ Ok (a_literal (number amount), past_blanks rest)
   unfolding operand_at

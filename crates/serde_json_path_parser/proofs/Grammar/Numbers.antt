@@ -173,10 +173,10 @@ number_outcome cs =
 abbrev pub goes_on : ℕ → Bool
 goes_on c = is_digit c || c == 46 || is_exponent c
 
--- a list that begins with no such character begins with none of a part of them
-begins_less : (p q : ℕ → Bool) (cs : List ℕ) → ((c : ℕ) → p c ≡ false → q c ≡ false) → begins p cs ≡ false → begins q cs ≡ false
-begins_less p q [] h e = refl
-begins_less p q (c ∷ cs) h e = h c e
+-- a list that begins with no such character begins with no part of a number
+no_part : (cs : List ℕ) → begins goes_on cs ≡ false → (begins is_digit cs ≡ false) × (is_at "." cs ≡ false) × (begins is_exponent cs ≡ false)
+no_part [] e = (refl, refl, refl)
+no_part (c ∷ cs) e = (grind (arith, e), grind (arith, e), grind (arith, e))
 
 whole_again : (start t : List ℕ) (n : ℕ) (rest : List ℕ) → IsDecimal t n → begins is_digit rest ≡ false → whole_at (byte_count start) (t ++ rest) ≡ Ok (n, rest)
 unfolding whole_at
@@ -189,15 +189,6 @@ whole_again start t n rest d e = elim d.plain [
       rw (begins_differs is_first_digit 48 (t ++ rest) refl first, first, front_all is_digit t rest d.each e, past_run is_digit t rest d.each e) (ap (λ (k : ℕ). Ok (k, rest)) (sym d.value_of))
 ]
 
-no_digit : (cs : List ℕ) → begins goes_on cs ≡ false → begins is_digit cs ≡ false
-no_digit cs e = begins_less goes_on is_digit cs (λ c n. grind (arith, n)) e
-
-no_point : (cs : List ℕ) → begins goes_on cs ≡ false → is_at "." cs ≡ false
-no_point cs e = begins_less goes_on (λ c. c == 46) cs (λ c n. grind (arith, n)) e
-
-no_exponent : (cs : List ℕ) → begins goes_on cs ≡ false → begins is_exponent cs ≡ false
-no_exponent cs e = begins_less goes_on is_exponent cs (λ c n. grind (arith, n)) e
-
 digits_begin : (digits rest : List ℕ) → 1 ≤ length digits → AllPass is_digit digits → begins is_digit (digits ++ rest) ≡ true
 digits_begin [] rest some each = absurd (omega (arith, some))
 digits_begin (c ∷ digits) rest some each = each.0
@@ -205,11 +196,11 @@ digits_begin (c ∷ digits) rest some each = each.0
 fraction_again : (start t : List ℕ) (n : ℕ) (rest : List ℕ) → IsFraction t n → begins goes_on rest ≡ false → fraction_at (byte_count start) (t ++ rest) ≡ Ok (n, rest)
 unfolding fraction_at digits_after_point_at
 fraction_again start t n rest is e = elim is [
-  | inl none ↦ ap (λ (l : List ℕ). fraction_at (byte_count start) (l ++ rest)) none.0 ∙ rw (no_point rest e, no_exponent rest e) (ap (λ (k : ℕ). Ok (k, rest)) (sym none.1))
+  | inl none ↦ ap (λ (l : List ℕ). fraction_at (byte_count start) (l ++ rest)) none.0 ∙ rw ((no_part rest e).1, (no_part rest e).2) (ap (λ (k : ℕ). Ok (k, rest)) (sym none.1))
   | inr some ↦
       let few : nat_le (length some.0) 9 ≡ true = let most = some.4 in grind (arith, most) in
       ap (λ (l : List ℕ). fraction_at (byte_count start) (l ++ rest)) some.1
-      ∙ rw (digits_begin some.0 rest some.3 some.2, front_all is_digit some.0 rest some.2 (no_digit rest e), past_run is_digit some.0 rest some.2 (no_digit rest e), no_exponent rest e, few)
+      ∙ rw (digits_begin some.0 rest some.3 some.2, front_all is_digit some.0 rest some.2 (no_part rest e).0, past_run is_digit some.0 rest some.2 (no_part rest e).0, (no_part rest e).2, few)
       (ap (λ (k : ℕ). Ok (k, rest)) (sym some.5))
 ]
 
@@ -224,7 +215,7 @@ amount_again : (start t : List ℕ) (n : ℕ) (rest : List ℕ) → IsAmount t n
 unfolding amount_at
 amount_again start t n rest is e =
     let regrouped : t ++ rest ≡ is.0 ++ (is.1 ++ rest) = ap (λ (l : List ℕ). l ++ rest) is.6 ∙ append_assoc is.0 is.1 rest in
-    let read = whole_again start is.0 is.2 (is.1 ++ rest) is.4 (failures is.1 is.3 rest is.5 (no_digit rest e)) in
+    let read = whole_again start is.0 is.2 (is.1 ++ rest) is.4 (failures is.1 is.3 rest is.5 (no_part rest e).0) in
     ap (amount_at (byte_count start)) regrouped ∙ rw (read, fraction_again start is.1 is.3 rest is.5 e) (ap (λ (k : ℕ). Ok (k, rest)) (sym is.7))
 
 amount_first : (p : ℕ → Bool) (b : Bool) (t : List ℕ) (n : ℕ) (rest : List ℕ) → ((c : ℕ) → is_digit c ≡ true → p c ≡ b) → IsAmount t n → begins p (t ++ rest) ≡ b

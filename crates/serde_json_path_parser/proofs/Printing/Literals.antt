@@ -1,6 +1,6 @@
 -- Numbers, slices and literals, as they are printed, read as themselves.
 use Rattle.std.proofs.Common.{◌≡◌, ◌≤◌, ◌<◌, ◌+◌, ◌-◌, ◌*◌, ◌/◌, ◌%◌, ◌^◌, ◌==◌, ℕ, zero, suc, inl, inr, Bool, true, false, if◌then◌else◌, List, [], ◌∷◌, length, map, get_or, refl, sym, ap, subst, ◌∙◌, arith, ◌++◌, Option, Some, None, codes, append_assoc, append-nil}
-use Rattle.serde_json_path_parser.proofs.Words.{nat_le, ℤ, pos, negsuc, ◌-ℤ◌, decimal, signed_decimal, AllByRecursion, pow-succ', mul-sub, mul_comm}
+use Rattle.serde_json_path_parser.proofs.Words.{ℤ, pos, negsuc, ◌-ℤ◌, decimal, signed_decimal, AllByRecursion, pow-succ', mul-sub, mul_comm}
 use Rattle.serde_json_path_parser.proofs.Words.{mul_assoc, nat_tests, eqb_tells, ints, pow-add, in_decimal, largest, fraction_digits, fraction_text}
 use Rattle.serde_json_path_parser.proofs.Words.{amount_text, number_text, begins, is_digit, AllPass, value_from, IsDecimal, IsInt, fraction_of}
 use Rattle.serde_json_path_parser.proofs.Words.{IsFraction, IsAmount, IsNumber, all_scalars, Slice, Literal, text, number, truth, null, integer_text}
@@ -14,10 +14,7 @@ use Rattle.serde_json_path_parser.proofs.Printing.QuotedTexts.{Spells, Spelt, sp
 -- ---- digits
 
 digit_is : (d : ℕ) → d < 10 → is_digit (48 + d) ≡ true
-digit_is d small =
-    let from : nat_le 48 (48 + d) ≡ true = grind arith in
-    let to : nat_le (48 + d) 57 ≡ true = grind arith in
-    rw (from, to) refl
+digit_is d small = grind (arith, small)
 
 begins_digit : (digits : List ℕ) → AllBelowBase 10 digits → 0 < get_or digits 0 0
     → (begins is_digit (map (λ digit. 48 + digit) digits) ≡ true) × (begins (λ c. c == 48) (map (λ digit. 48 + digit) digits) ≡ false)
@@ -87,9 +84,6 @@ record Left (places rest : ℕ) : Type 0 where
   digits : ℕ
   ends : rest ≡ digits * 10 ^ (9 - places)
 
-nothing_left : (rest : ℕ) → Left 0 rest → rest ≡ 0
-nothing_left rest h = omega (arith, h.in_range, h.ends)
-
 -- what the last places hold once the first digit is taken away
 tail : (digits high unit rest : ℕ) → high * unit ≡ 100000000 → rest ≡ digits * unit → (rest % 100000000) * 10 ≡ (digits - (rest / 100000000) * high) * (10 * unit)
 tail digits high unit rest whole ends =
@@ -146,7 +140,7 @@ one_written n places rest digits few small h =
     }
 
 digits_written : (n places rest : ℕ) → places ≤ 9 → Left places rest → Writes n places rest (fraction_digits places rest)
-digits_written n zero rest few h = nothing_written n 0 rest (nothing_left rest h)
+digits_written n zero rest few h = nothing_written n 0 rest (omega (arith, h.in_range, h.ends))
 digits_written n (suc places) rest few h = elim (eqb_tells rest 0) [
   | inl none ↦ rw none.1 (nothing_written n (suc places) 0 refl)
   | inr some ↦

@@ -42,12 +42,9 @@ operator_spells greater_or_equal = spell_ascii (codes ">=") (omega arith, (omega
 -- ---- names
 
 -- the characters of a function's name are ASCII
-function_char_ascii : (c : ℕ) → is_function_char c ≡ true → c < 128
-function_char_ascii c e = grind (arith, nat_tests, e)
-
 function_name_ascii : (t : List ℕ) → AllByRecursion (λ c. is_function_char c ≡ true) t → AllByRecursion (λ c. c < 128) t
 function_name_ascii [] each = tt
-function_name_ascii (c ∷ t) each = (function_char_ascii c each.0, function_name_ascii t each.1)
+function_name_ascii (c ∷ t) each = (let first = each.0 in grind (arith, nat_tests, first), function_name_ascii t each.1)
 
 function_name_spells : (t bytes : List ℕ) → IsFunctionName t bytes → Spells bytes t
 function_name_spells t bytes is = rw is.bytes_of (spell_ascii t (function_name_ascii t is.each))

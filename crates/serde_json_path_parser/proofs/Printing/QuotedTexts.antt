@@ -1,11 +1,11 @@
 -- A text between single quotes, as it is printed, reads as a string of it.
-use Rattle.std.proofs.Common.{◌≡◌, ◌<◌, ℕ, true, List, [], ◌∷◌, ◌++◌, refl, ap, sym, ◌∙◌, arith, lt-ltb, ◌+◌, ◌-◌, ◌/◌, ◌%◌, ◌==◌, inl, inr, nat_lt, nat_le, Bool, false, if◌then◌else◌, Option, Some, None, unwrap_or, encode_utf8, subst, append-nil, eqb-true, ltb-true, ltb-false}
+use Rattle.std.proofs.Common.{◌≡◌, ◌<◌, ℕ, true, List, [], ◌∷◌, ◌++◌, refl, ap, sym, ◌∙◌, arith, lt-ltb, ◌/◌, ◌%◌, ◌==◌, inl, inr, nat_lt, nat_le, Bool, false, if◌then◌else◌, Option, Some, None, unwrap_or, encode_utf8, subst, append-nil, eqb-true, ltb-true, ltb-false}
 use Rattle.serde_json_path_parser.proofs.Words.{AllByRecursion, IsScalar, encode_utf8_all, all_scalars, and_parts, encodes-append, encode_ascii}
 use Rattle.serde_json_path_parser.proofs.Words.{flat_map, digit_char, chars, IsUtf8, cases_lt, le-ltb, nat_tests, encodes-chars, scalars-chars}
-use Rattle.serde_json_path_parser.proofs.Words.{hexadecimal_escape, escape_of, in_quotes, quoted, is_digit, hexadecimal_of, IsHex4, pair_of}
+use Rattle.serde_json_path_parser.proofs.Words.{hexadecimal_escape, escape_of, in_quotes, quoted, hexadecimal_of, IsHex4, pair_of}
 use Rattle.serde_json_path_parser.proofs.Words.{escaped_by, is_plain, IsPiece, plain, quote_escape, letter_escape, hex_escape, pair_escape, ArePieces}
-use Rattle.serde_json_path_parser.proofs.Words.{IsQuote, IsString, ◌∈◌, between}
-use Rattle.std.specs.Option.{IfSome}
+use Rattle.serde_json_path_parser.proofs.Words.{IsQuote, IsString}
+use Rattle.serde_json_path_parser.proofs.Grammar.Strings.{of_quote}
 
 -- ---- bytes encode characters, part by part
 
@@ -44,15 +44,15 @@ spell_both {s = s} {t = t} h g = record {
   encoded = encodes-append s t ∙ rw (h.encoded, g.encoded) refl;
 }
 
-ascii_is_scalar : (c : ℕ) → c < 128 → IsScalar c
-ascii_is_scalar c low = rw (lt-ltb c 0xd800 (omega arith)) refl
+low_scalar : (c : ℕ) → c < 0xd800 → IsScalar c
+low_scalar c low = rw (lt-ltb c 0xd800 low) refl
 
 -- ASCII characters are their own bytes
 pub spell_ascii : (t : List ℕ) → AllByRecursion (λ c. c < 128) t → Spells t t
 spell_ascii [] h = spell_nothing
 spell_ascii (c ∷ t) h =
     let rest = spell_ascii t h.1 in
-    record { scalars = rw (ascii_is_scalar c h.0) rest.scalars; encoded = rw (encode_ascii c h.0, rest.encoded) refl }
+    record { scalars = rw (low_scalar c (omega (arith, h.0))) rest.scalars; encoded = rw (encode_ascii c h.0, rest.encoded) refl }
 
 -- a sign of one ASCII character
 pub spell_sign : (c : ℕ) → c < 128 → Spells (c ∷ []) (c ∷ [])
@@ -109,20 +109,8 @@ letter_printed c d letter same low piece = (subst (IsPiece 39 (92 ∷ letter ∷
 -- a digit that is printed has its value
 hexadecimal_of-digit_char : (d : ℕ) → d < 16 → hexadecimal_of (digit_char d) ≡ Some d
 hexadecimal_of-digit_char d small = elim (cases_lt d 10) [
-  | inl digit ↦
-      let from : nat_le 48 (48 + d) ≡ true = grind arith in
-      let to : nat_le (48 + d) 57 ≡ true = grind arith in
-      let value : (48 + d) - 48 ≡ d = omega arith in
-      rw (lt-ltb d 10 digit, from, to) (ap (λ (n : ℕ). Some n) value)
-  | inr letter ↦
-      let past_digits : nat_le (87 + d) 57 ≡ false = grind arith in
-      let past_capitals : nat_le (87 + d) 70 ≡ false = grind arith in
-      let from_digits : nat_le 48 (87 + d) ≡ true = grind arith in
-      let from_capitals : nat_le 65 (87 + d) ≡ true = grind arith in
-      let from : nat_le 97 (87 + d) ≡ true = grind arith in
-      let to : nat_le (87 + d) 102 ≡ true = grind arith in
-      let value : (87 + d) - 87 ≡ d = omega arith in
-      rw (le-ltb d 10 letter, past_digits, past_capitals, from_digits, from_capitals, from, to) (ap (λ (n : ℕ). Some n) value)
+  | inl digit ↦ rw (lt-ltb d 10 digit) (grind (arith, digit))
+  | inr letter ↦ rw (le-ltb d 10 letter) (grind (arith, letter, small))
 ]
 
 digit_char_ascii : (d : ℕ) → d < 16 → digit_char d < 128
@@ -187,26 +175,12 @@ quoted_spelt bytes utf8 =
 
 -- ---- a string's bytes are those of a text
 
-some_so : (P : ℕ → Type 0) (test : Bool) (x y : Option ℕ) → (test ≡ true → IfSome x P) → IfSome y P → IfSome (if test then x else y) P
-some_so P true x y here further = here refl
-some_so P false x y here further = further
-
-some_value : (P : ℕ → Type 0) (o : Option ℕ) (c : ℕ) → IfSome o P → o ≡ Some c → P c
-some_value P o c h e = subst (λ (x : Option ℕ). IfSome x P) e h
-
 hexadecimal_small : (c p : ℕ) → hexadecimal_of c ≡ Some p → p < 16
-hexadecimal_small c p e =
-    some_value (λ n. n < 16) (hexadecimal_of c) p (
-    some_so (λ n. n < 16) (is_digit c) _ _ (λ d. let most = (and_parts (nat_le 48 c) (nat_le c 57) d).1 in grind (arith, most))
-    (some_so (λ n. n < 16) (between "A" "F" c) _ _ (λ d. let most = (and_parts (nat_le 65 c) (nat_le c 70) d).1 in grind (arith, most))
-    (some_so (λ n. n < 16) (between "a" "f" c) _ _ (λ d. let most = (and_parts (nat_le 97 c) (nat_le c 102) d).1 in grind (arith, most)) tt))) e
+hexadecimal_small c p e = grind (arith, e)
 
 hex4_small : (text : List ℕ) (n : ℕ) → IsHex4 text n → n < 65536
 hex4_small text n (a, b, c, d, p, q, r, s, split, e, f, g, h, value) =
     omega (arith, value, hexadecimal_small a p e, hexadecimal_small b q f, hexadecimal_small c r g, hexadecimal_small d s h)
-
-low_scalar : (c : ℕ) → c < 0xd800 → IsScalar c
-low_scalar c low = rw (lt-ltb c 0xd800 low) refl
 
 high_scalar : (c : ℕ) → 0xdfff < c → c < 0x110000 → IsScalar c
 high_scalar c low high =
@@ -214,24 +188,12 @@ high_scalar c low high =
     rw (le-ltb c 0xd800 (omega (arith, low)), from, lt-ltb c 0x110000 high) refl
 
 letter_scalar : (letter c : ℕ) → escaped_by letter ≡ Some c → IsScalar c
-letter_scalar letter c e =
-    some_value IsScalar (escaped_by letter) c (
-    some_so IsScalar (letter ∈ "b") _ _ (λ h. refl)
-    (some_so IsScalar (letter ∈ "f") _ _ (λ h. refl)
-    (some_so IsScalar (letter ∈ "n") _ _ (λ h. refl)
-    (some_so IsScalar (letter ∈ "r") _ _ (λ h. refl)
-    (some_so IsScalar (letter ∈ "t") _ _ (λ h. refl)
-    (some_so IsScalar (letter ∈ "/") _ _ (λ h. refl)
-    (some_so IsScalar (letter ∈ "\\") _ _ (λ h. refl) tt))))))) e
-
-quote_scalar : (quote : ℕ) → IsQuote quote → IsScalar quote
-quote_scalar quote (inl e) = rw e refl
-quote_scalar quote (inr e) = rw e refl
+letter_scalar letter c e = let ascii : c < 128 = grind (arith, e) in low_scalar c (omega (arith, ascii))
 
 -- a piece stands for a scalar value, where its characters are such
 piece_scalar : (quote : ℕ) (text : List ℕ) (c : ℕ) → IsQuote quote → all_scalars text ≡ true → IsPiece quote text c → IsScalar c
 piece_scalar quote _ _ is e (plain c h) = (and_parts _ true e).0
-piece_scalar quote _ _ is e quote_escape = quote_scalar quote is
+piece_scalar quote _ _ is e quote_escape = of_quote IsScalar refl refl quote is
 piece_scalar quote _ _ is e (letter_escape letter c h) = letter_scalar letter c h
 piece_scalar quote _ _ is e (hex_escape digits c four (inl low)) = low_scalar c low
 piece_scalar quote _ _ is e (hex_escape digits c four (inr high)) = high_scalar c high (let small = hex4_small digits c four in omega (arith, small))

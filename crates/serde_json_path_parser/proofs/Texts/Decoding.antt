@@ -1,17 +1,12 @@
 -- Bytes and the characters that they encode: the character at a place, by its first byte.
 use Rattle.std.proofs.Common.{◌≡◌, ℕ, zero, suc, ◌+◌, ◌*◌, ◌/◌, ◌%◌, ◌<◌, ◌≤◌, inl, inr, true, List, [], ◌∷◌, ◌++◌, length, get_or, drop, Some, refl, sym, ap, subst, ◌∙◌, arith, true≢false, Option, None}
-use Rattle.serde_json_path_parser.proofs.Words.{slice_get, encode_utf8, IsUtf8, encode_utf8_all, all_scalars, StartsWithChar, get_or-drop}
+use Rattle.serde_json_path_parser.proofs.Words.{slice_get, encode_utf8, IsUtf8, encode_utf8_all, all_scalars, StartsWithChar, get_or-drop, slice_get_within, slice_get-get_or, same_Some}
 use Rattle.serde_json_path_parser.proofs.Words.{length-drop, drop_at, length-append, and_parts, cases_lt, lt-ltb, le-ltb, ◌==◌, is_utf8, chars}
 use Rattle.serde_json_path_parser.proofs.Words.{eqb-true, drop-drop, drop_all, IsUtf8-from_is_utf8, is_utf8-from_IsUtf8, chars-nil, chars_past_char}
 use Rattle.serde_json_path_parser.proofs.Words.{byte_from_char, char_from_byte, is_ascii, IsAhead, begins}
 use Rattle.std.specs.Char.{IsScalar, encode_utf8 as encode}
 
 -- ---- the character at a place of a text, by its first byte
-
-some_within : (xs : List ℕ) (i b : ℕ) → slice_get xs i ≡ Some b → (i < length xs) × (get_or xs i 0 ≡ b)
-some_within [] i b e = absurd cc
-some_within (x ∷ xs) zero b e = (omega arith, cc)
-some_within (x ∷ xs) (suc i) b e = let h = some_within xs i b e in (omega (arith, h.0), h.1)
 
 -- a text's first character, and what follows
 pub record Head (bs : List ℕ) : Type 0 where
@@ -109,7 +104,7 @@ module _ (bs : List ℕ) (h : Head bs) where
 
 module _ (text : List ℕ) (at lead : ℕ) (utf8 : IsUtf8 (drop at text)) (is : slice_get text at ≡ Some lead) where
   pub within : at < length text
-  within = (some_within text at lead is).0
+  within = slice_get_within text at lead is
 
   h : Head (drop at text)
   h = head (drop at text) utf8 (omega (arith, within, length-drop at text))
@@ -118,7 +113,7 @@ module _ (text : List ℕ) (at lead : ℕ) (utf8 : IsUtf8 (drop at text)) (is : 
   at_byte k = rw get_or-drop refl
 
   pub lead_is : get_or (drop at text) 0 0 ≡ lead
-  lead_is = let e : at + 0 ≡ at = omega arith in rw (at_byte 0, e) (some_within text at lead is).1
+  lead_is = let e : at + 0 ≡ at = omega arith in rw (at_byte 0, e) (same_Some _ _ (sym (slice_get-get_or text at 0 within) ∙ is))
 
   pub second : 128 ≤ lead → at + 1 < length text
   second t = let k = (wide (drop at text) h (shape h.c)).0 (rw lead_is t) in omega (arith, k, within, length-drop at text)
@@ -206,6 +201,4 @@ pub is_there : (text : List ℕ) (at : ℕ) → 0 < length (chars (drop at text)
 is_there text at l = elim (cases_lt at (length text)) [ inl k ↦ k | inr k ↦ absurd (let e : drop at text ≡ [] = drop_all at text k in omega (arith, ap (λ (r : List ℕ). length (chars r)) e, ap length chars-nil)) ]
 
 pub is_some_at : (xs : List ℕ) (i : ℕ) → i < length xs → (b : ℕ) × (slice_get xs i ≡ Some b)
-is_some_at [] i l = absurd (omega arith)
-is_some_at (x ∷ xs) zero l = (x, refl)
-is_some_at (x ∷ xs) (suc i) l = is_some_at xs i (omega arith)
+is_some_at xs i l = (get_or xs i 0, slice_get-get_or xs i 0 l)

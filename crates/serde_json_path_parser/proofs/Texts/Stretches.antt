@@ -1,6 +1,6 @@
 -- ASCII characters that are taken many at a time.
-use Rattle.std.proofs.Common.{◌≡◌, ℕ, zero, suc, ◌+◌, ◌-◌, ◌<◌, ◌≤◌, Bool, true, false, List, [], ◌∷◌, ◌++◌, length, take, drop, set, Some, Result, Ok, Err, is_ok, IfOk, if◌then◌else◌, refl, sym, ap, ◌∙◌, inl, inr, append_assoc, arith}
-use Rattle.serde_json_path_parser.proofs.Words.{slice_get, nat_le, nat_lt, ◌^◌, max, is_utf8, chars, IsAscii, encode_utf8_all, and_parts, cases_lt}
+use Rattle.std.proofs.Common.{◌≡◌, ℕ, zero, suc, ◌+◌, ◌-◌, ◌<◌, ◌≤◌, Bool, true, List, [], ◌∷◌, ◌++◌, length, take, drop, set, Some, Result, Ok, Err, is_ok, IfOk, if◌then◌else◌, refl, sym, ap, ◌∙◌, inl, inr, append_assoc, arith}
+use Rattle.serde_json_path_parser.proofs.Words.{slice_get, nat_le, nat_lt, ◌^◌, max, is_utf8, chars, IsAscii, encode_utf8_all, and_parts, cases_lt, cases_Bool}
 use Rattle.serde_json_path_parser.proofs.Words.{length-take-le, take_more_set, encodes-append, encodes-IsAscii, AllPass, begins, is_name_char}
 use Rattle.serde_json_path_parser.proofs.Words.{is_plain, IsAhead, front, past, Told, one_more, looked, LooksOn, is_ascii_name_char, is_ascii_plain}
 use Rattle.serde_json_path_parser.proofs.Words.{Gathered, Stretched}
@@ -40,11 +40,7 @@ front_past p (c ∷ cs) rest h = rw h.0 (ap (λ (l : List ℕ). c ∷ l) (front_
 -- ---- looks
 
 at_most : (n : ℕ) → one_more n ≤ n + 1
-at_most n = by_test (nat_lt n (2 ^ 128 - 1)) refl
-  where
-    by_test : (b : Bool) → nat_lt n (2 ^ 128 - 1) ≡ b → one_more n ≤ n + 1
-    by_test true e = rw e (omega arith)
-    by_test false e = rw e (omega arith)
+at_most n = elim (cases_Bool (nat_lt n (2 ^ 128 - 1))) [ inl e ↦ rw e (omega arith) | inr e ↦ rw e (omega arith) ]
 
 -- one look more, at the next byte
 pub looked_on : (old mid now : Told) (count number at : ℕ) → LooksOn old mid count number → now ≡ looked mid at → number ≤ at + 1 → LooksOn old now (count + 1) (at + 1)
