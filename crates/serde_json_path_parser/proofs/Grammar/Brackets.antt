@@ -322,10 +322,8 @@ module _ {signature : List ℕ → Option Signature} (filter_at : List ℕ → P
     selectors_again no_selectors j t h is o = absurd is
     selectors_again (selector sel more) j t h (a, b, is, rests, e) o =
         let here : past_blanks (j ++ (t ++ closing)) ≡ a ++ (b ++ closing) =
-        ap (λ (l : List ℕ). past_blanks (j ++ l)) (ap (λ (l : List ℕ). l ++ closing) e ∙ append_assoc a b closing) ∙ past_all j (a ++ (b ++ closing)) h (begins_no_blank filter_at Good laws a sel (b ++ closing) (o.0, is)) in
-        let one : selector_at filter_at (past_blanks (j ++ (t ++ closing))) ≡ Ok (sel, past_blanks (b ++ closing)) =
-        ap (selector_at filter_at) here ∙ selector_again filter_at Good laws a sel (b ++ closing) (o.0, is) (closes more b rests) in
-        rw (one, more_again more b rests o.1) refl
+        rw (e, append_assoc a b closing) (past_all j (a ++ (b ++ closing)) h (begins_no_blank filter_at Good laws a sel (b ++ closing) (o.0, is))) in
+        rw (here, selector_again filter_at Good laws a sel (b ++ closing) (o.0, is) (closes more b rests), more_again more b rests o.1) refl
 
   -- after `[`
   pub bracket_again : (sels : Selectors) (j a k rest : List ℕ) → IsBlank j → ReadSelectors sels a → IsBlank k → AreGood sels → bracket_at filter_at ((j ++ (a ++ (k ++ 93 ∷ []))) ++ rest) ≡ Ok (long_hand sels, rest)

@@ -116,9 +116,7 @@ module _ (signature : List ℕ → Option Signature) (n : ℕ) where
 
   pub good_depth : (a : Argument) → IsGoodArgument a → argument_depth a ≤ n
   good_depth (literal_argument l) h = omega arith
-  good_depth (query_argument q) h = h.1
-  good_depth (call_argument c) h = h.1
-  good_depth (logical_argument e) h = h.1
+  good_depth _ h = h.1
 
   -- a well-typed argument is good
   pub typed_good : (a : Argument) (kind : Kind) → IsTypedArgument signature a kind → argument_depth a ≤ n → IsGoodArgument a
@@ -131,8 +129,7 @@ module _ (signature : List ℕ → Option Signature) (n : ℕ) where
 
   alone_is : (o : Operand) (t : List ℕ) → IsOperandText signature n t o → IsLooseArgument t (alone o)
   alone_is (a_literal l) t h = h
-  alone_is (a_query q) t h = h
-  alone_is (a_call c) t h = h
+  alone_is _ t h = h
 
 module _ (signature : List ℕ → Option Signature) (n : ℕ) (deeper : Deeper) (laws : DeeperLaws signature n deeper) where
   -- ---- what a reading gives
@@ -171,14 +168,12 @@ module _ (signature : List ℕ → Option Signature) (n : ℕ) (deeper : Deeper)
       o.2 (ap (λ y. y.0) (ok_is (alone o.0, past_blanks (k ++ rest)) (logical_argument e, rest) (sym again ∙ read)))
 
   pub argument_is : (cs : List ℕ) (x : Argument × List ℕ) (s : Read (Spaced (IsLooseArgument signature n)) cs x) → argument_at signature deeper cs ≡ Ok x → begins ends_argument x.1 ≡ true → IsArgument signature n s.is_so.0 x.0
-  argument_is cs (literal_argument l, rest) s e ends = s.is_so.2
-  argument_is cs (query_argument q, rest) s e ends = s.is_so.2
-  argument_is cs (call_argument c, rest) s e ends = s.is_so.2
   argument_is cs (logical_argument f, rest) s e ends =
       let t = s.is_so.0 in
       let k = s.is_so.1 in
       let split : cs ≡ t ++ (k ++ rest) = s.split ∙ ap (λ (l : List ℕ). l ++ rest) s.is_so.4 ∙ append_assoc t k rest in
       (s.is_so.2.0, (not_alone f t k rest s.is_so.2 s.is_so.3 ends (ap (argument_at signature deeper) (sym split) ∙ e), s.is_so.2.1))
+  argument_is cs (_, rest) s e ends = s.is_so.2
 
   -- ---- a logical expression, which does not stand alone
 

@@ -211,9 +211,6 @@ operator_no_blank op rest = begins_where ends_operand is_blank false (operator_s
 
 -- ---- what begins and what ends
 
-operand_no_blank : (cs : List ℕ) → begins begins_operand cs ≡ true → begins is_blank cs ≡ false
-operand_no_blank cs first = no_blank_begins cs (as_expression cs first)
-
 -- what ends a basic expression ends an operand
 pub basic_ends_operand : (rest : List ℕ) → Follows ends_basic rest → Follows ends_operand rest
 basic_ends_operand rest follows = begins_where ends_basic ends_operand true (past_blanks rest) (λ c e. grind (arith, e)) follows
@@ -336,9 +333,8 @@ module _ (signature : List ℕ → Option Signature) (n : ℕ) (deeper : Deeper)
       ∙ ap (λ (l : List ℕ). Ok (operand_of left, l)) past in
       let right_read = operand_again signature n deeper laws b (operand_of right) rest o (basic_ends_operand rest follows) in
       let found = operator_again op (k ++ (b ++ rest)) (no_equals k (b ++ rest) after first) in
-      ap compared whole ∙ rw left_read
-      (ap (λ op. relation_at signature deeper (byte_count start) (operand_of left) op here) found
-      ∙ rw (past_all k (b ++ rest) after (operand_no_blank (b ++ rest) first), comparable_again start left a (b ++ rest) left_good, right_read, comparable_again (b ++ rest) right b (past_blanks rest) right_good) refl)
+      ap compared whole ∙ rw (left_read, found)
+      (rw (past_all k (b ++ rest) after (no_blank_begins (b ++ rest) (as_expression (b ++ rest) first)), comparable_again start left a (b ++ rest) left_good, right_read, comparable_again (b ++ rest) right b (past_blanks rest) right_good) refl)
     where
       regrouped : (a j o k b d : List ℕ) → (a ++ ((j ++ (o ++ k)) ++ b)) ++ d ≡ a ++ (j ++ (o ++ (k ++ (b ++ d))))
       regrouped a j o k b d = simp append_assoc refl

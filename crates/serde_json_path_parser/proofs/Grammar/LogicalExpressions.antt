@@ -146,8 +146,7 @@ module _ (signature : List ℕ → Option Signature) (n : ℕ) (deeper : Deeper)
   paren_again t e rest good (j, a, k, before, is, after, same) =
       let closing : past_blanks (k ++ (41 ∷ rest)) ≡ 41 ∷ rest = past_all k (41 ∷ rest) after refl in
       let inside : past_blanks (drop 1 (t ++ rest)) ≡ a ++ (k ++ (41 ∷ rest)) =
-      ap (λ (l : List ℕ). past_blanks (drop 1 (l ++ rest))) same ∙ ap past_blanks (spread j a k (codes ")") rest)
-      ∙ past_all j (a ++ (k ++ (41 ∷ rest))) before (no_blank_begins (a ++ (k ++ (41 ∷ rest))) (or_begins e a (k ++ (41 ∷ rest)) is)) in
+      rw (same, spread j a k (codes ")") rest) (past_all j (a ++ (k ++ (41 ∷ rest))) before (no_blank_begins (a ++ (k ++ (41 ∷ rest))) (or_begins e a (k ++ (41 ∷ rest)) is))) in
       let inner = laws.inside_again (t ++ rest) a e (k ++ (41 ∷ rest)) good is (ap (begins ends_or) closing) in
       (ap (λ (l : List ℕ). is_at "(" (l ++ rest)) same, rw (inside, inner, closing) refl)
 

@@ -9,7 +9,7 @@ use Rattle.serde_json_path_parser.proofs.Words.{selector_depth, or_depth, call_d
 use Rattle.serde_json_path_parser.proofs.Words.{ReadArguments, byte_count, Operand, a_literal, a_call, is_singular_segment, are_singular, is_singular}
 use Rattle.serde_json_path_parser.proofs.Words.{Deeper, Comparable, IsTypedComparable, IsTypedAnd, ReadsAnd, IsTypedBasic, ReadsComparable}
 use Rattle.serde_json_path_parser.proofs.Words.{comparable_depth, basic_depth, LogicalAnd, ReadsBasic, Basic, and_depth, root, current, no_or, or}
-use Rattle.serde_json_path_parser.proofs.Words.{no_and, and, paren, not_paren, relation, exist, not_exist, test, not_test, literal, singular, called}
+use Rattle.serde_json_path_parser.proofs.Words.{no_and, and, paren, relation, exist, test, literal, singular, called}
 use Rattle.serde_json_path_parser.proofs.Words.{Literal, text, number, truth, null, is_blank, is_digit, is_small_letter}
 use Rattle.serde_json_path_parser.proofs.Reading.Outcomes.{Inner, Outcome, Past, remade, after_sign}
 use Rattle.serde_json_path_parser.proofs.Reading.Many.{Spaced}
@@ -241,13 +241,11 @@ as_expression cs e = begins_where begins_operand begins_expression true cs (λ c
 
 pub basic_begins : (b : Basic) (t rest : List ℕ) → ReadsBasic b t → begins begins_expression (t ++ rest) ≡ true
 basic_begins (paren e) t rest h = ap (λ (x : List ℕ). begins begins_expression (x ++ rest)) h.6
-basic_begins (not_paren e) t rest h = ap (λ (x : List ℕ). begins begins_expression (x ++ rest)) h.4
 basic_begins (relation left op right) t rest h =
     ap (λ (x : List ℕ). begins begins_expression (x ++ rest)) h.6 ∙ ap (begins begins_expression) (append_assoc h.0 _ rest) ∙ as_expression (h.0 ++ ((h.1 ++ h.2) ++ rest)) (comparable_begins left h.0 ((h.1 ++ h.2) ++ rest) h.3)
 basic_begins (exist q) t rest h = as_expression (t ++ rest) (query_begins q t rest h)
-basic_begins (not_exist q) t rest h = ap (λ (x : List ℕ). begins begins_expression (x ++ rest)) h.4
 basic_begins (test c) t rest h = as_expression (t ++ rest) (call_begins c t rest h)
-basic_begins (not_test c) t rest h = ap (λ (x : List ℕ). begins begins_expression (x ++ rest)) h.4
+basic_begins _ t rest h = ap (λ (x : List ℕ). begins begins_expression (x ++ rest)) h.4
 
 pub and_begins : (e : LogicalAnd) (t rest : List ℕ) → ReadsAnd e t → begins begins_expression (t ++ rest) ≡ true
 and_begins no_and t rest h = absurd h

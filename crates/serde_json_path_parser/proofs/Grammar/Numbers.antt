@@ -18,9 +18,6 @@ use Rattle.serde_json_path_syntax.specs.WellFormed.{IsLiteralAmount}
 pub first_is_digit : (c : ℕ) → is_first_digit c ≡ true → is_digit c ≡ true
 first_is_digit c e = grind (arith, e)
 
-digit_is_first : (c : ℕ) → is_digit c ≡ true → (c == 48) ≡ false → is_first_digit c ≡ true
-digit_is_first c e z = grind (arith, e, z)
-
 some_value : (cs : List ℕ) → begins is_first_digit cs ≡ true → 1 ≤ value_from 0 (front is_digit cs)
 some_value [] e = absurd cc
 some_value (c ∷ cs) e =
@@ -80,7 +77,7 @@ digits_again start t n rest d most e =
 
 pub first_digit : (t rest : List ℕ) → begins is_digit t ≡ true → is_at "0" t ≡ false → begins is_first_digit (t ++ rest) ≡ true
 first_digit [] rest d z = absurd cc
-first_digit (c ∷ t) rest d z = digit_is_first c d z
+first_digit (c ∷ t) rest d z = grind (arith, d, z)
 
 positive_again : (t : List ℕ) (n : ℕ) (rest : List ℕ) → IsDecimal t n → n ≤ largest → begins is_digit rest ≡ false → int_at (t ++ rest) ≡ Ok (pos n, rest)
 unfolding int_at

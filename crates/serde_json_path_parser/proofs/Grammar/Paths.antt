@@ -129,13 +129,13 @@ module _ (signature : List ℕ → Option Signature) where
 
 -- where so many bytes are left a character begins
 pub boundary : (text before rest : List ℕ) (left : ℕ) → IsUtf8 text → chars text ≡ before ++ rest → left ≡ length (encode_utf8_all rest)
-    → (left ≤ length text) × IsCharBoundary text (length text - left) × (text ≡ encode_utf8_all before ++ encode_utf8_all rest)
+    → (left ≤ length text) × IsCharBoundary text (length text - left) × (text ≡ encode_utf8_all before ++ encode_utf8_all rest) × (length text - left ≡ length (encode_utf8_all before))
 boundary text before rest left u split is =
     let whole : text ≡ encode_utf8_all before ++ encode_utf8_all rest = sym (encodes-chars text u) ∙ ap encode_utf8_all split ∙ encodes-append before rest in
     let scalars : all_scalars rest ≡ true = (scalars_of (chars text) before rest (scalars-chars text u) split).1 in
     let seam : IsCharBoundary text (length (encode_utf8_all before)) = IsCharBoundary-at_seam text (encode_utf8_all before) (encode_utf8_all rest) whole (rest, (scalars, refl)) in
     let sum : length text ≡ length (encode_utf8_all before) + left = ap length whole ∙ length-append (encode_utf8_all before) (encode_utf8_all rest) ∙ ap (λ (n : ℕ). length (encode_utf8_all before) + n) (sym is) in
-    (omega (arith, sum), subst (IsCharBoundary text) (omega (arith, sum)) seam, whole)
+    (omega (arith, sum), subst (IsCharBoundary text) (omega (arith, sum)) seam, whole, omega (arith, sum))
 
 -- ---- what the whole reading says of a text: the promises of a parse
 
@@ -169,11 +169,8 @@ path_before : (text path rest : List ℕ) (left : ℕ) → IsUtf8 text → chars
     → chars (take (length text - left) text) ≡ 36 ∷ path
 path_before text path rest left u split is =
     let b = boundary text (36 ∷ path) rest left u split is in
-    let long : length text ≡ length (encode_utf8_all (36 ∷ path)) + left =
-    ap length b.2 ∙ length-append (encode_utf8_all (36 ∷ path)) (encode_utf8_all rest) ∙ ap (λ (n : ℕ). length (encode_utf8_all (36 ∷ path)) + n) (sym is) in
-    let cut : length text - left ≡ length (encode_utf8_all (36 ∷ path)) = omega (arith, long) in
     let front : take (length text - left) text ≡ encode_utf8_all (36 ∷ path) =
-    ap (λ (n : ℕ). take n text) cut ∙ ap (take (length (encode_utf8_all (36 ∷ path)))) b.2 ∙ take-append_seam (encode_utf8_all (36 ∷ path)) (encode_utf8_all rest) in
+    ap (λ (n : ℕ). take n text) b.3 ∙ ap (take (length (encode_utf8_all (36 ∷ path)))) b.2 ∙ take-append_seam (encode_utf8_all (36 ∷ path)) (encode_utf8_all rest) in
     ap chars front ∙ chars-encodes (36 ∷ path) (scalars_of (chars text) (36 ∷ path) rest (scalars-chars text u) split).0
 
 -- ---- the text from a refusal on
@@ -181,11 +178,8 @@ path_before text path rest left u split is =
 text_from : (text before rest : List ℕ) (left : ℕ) → IsUtf8 text → chars text ≡ before ++ rest → left ≡ length (encode_utf8_all rest) → chars (drop (length text - left) text) ≡ rest
 text_from text before rest left u split is =
     let b = boundary text before rest left u split is in
-    let long : length text ≡ length (encode_utf8_all before) + left =
-    ap length b.2 ∙ length-append (encode_utf8_all before) (encode_utf8_all rest) ∙ ap (λ (n : ℕ). length (encode_utf8_all before) + n) (sym is) in
-    let cut : length text - left ≡ length (encode_utf8_all before) = omega (arith, long) in
     let after : drop (length text - left) text ≡ encode_utf8_all rest =
-    ap (λ (n : ℕ). drop n text) cut ∙ ap (drop (length (encode_utf8_all before))) b.2 ∙ drop-append_seam (encode_utf8_all before) (encode_utf8_all rest) in
+    ap (λ (n : ℕ). drop n text) b.3 ∙ ap (drop (length (encode_utf8_all before))) b.2 ∙ drop-append_seam (encode_utf8_all before) (encode_utf8_all rest) in
     ap chars after ∙ chars-encodes rest (scalars_of (chars text) before rest (scalars-chars text u) split).1
 
 -- ---- what a refusal tells

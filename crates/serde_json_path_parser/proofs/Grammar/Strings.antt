@@ -3,7 +3,7 @@ use Rattle.std.proofs.Common.{◌≡◌, ℕ, ◌+◌, ◌*◌, ◌<◌, ◌⊎�
 use Rattle.serde_json_path_parser.proofs.Words.{cases_lt, nat_le, ◌==◌, not, encode_utf8, encode_utf8_all, eq-eqb}
 use Rattle.serde_json_path_parser.proofs.Words.{and_parts, eqb_tells, length-append, append-nil, ExpectedEndingQuote, BadEscape}
 use Rattle.serde_json_path_parser.proofs.Words.{ControlCharacter, ◌∈◌, AllPass, is_at, begins, hexadecimal_of, IsHex4, IsHighSurrogate}
-use Rattle.serde_json_path_parser.proofs.Words.{IsLowSurrogate, pair_of, escaped_by, is_plain, IsPiece, plain, quote_escape, letter_escape}
+use Rattle.serde_json_path_parser.proofs.Words.{IsLowSurrogate, IsPiece, plain, quote_escape, letter_escape}
 use Rattle.serde_json_path_parser.proofs.Words.{hex_escape, pair_escape, IsQuote, IsString, Parsed, ◌>>=◌, refusal, many, byte_count, is_hexadecimal}
 use Rattle.serde_json_path_parser.proofs.Words.{hexadecimal_value, head, hexadecimal_at, hex4_at, is_high, is_low, low_at, unicode_at}
 use Rattle.serde_json_path_parser.proofs.Words.{is_letter_escape, letter_value, escape_at, is_control, piece_at, is_inside, string_at, is_ascii_plain}
@@ -100,10 +100,6 @@ unicode_outcome quote escape cs = onward (hex4_outcome escape cs) (λ h _ first.
     choose (λ _. refused BadEscape context.LongHand refl) (λ low.
     read_so _ (record { text = first.text; is_so = hex_escape first.text h.0 first.is_so (scalar_of h.0 high low); split = first.split }))))
 
--- a letter after a backslash, but for the quote
-letter_is : (quote letter : ℕ) → is_letter_escape quote letter ≡ true → (letter == quote) ≡ false → escaped_by letter ≡ Some (letter_value letter)
-letter_is quote letter e q = grind (arith, e, q)
-
 -- a fact of both quotes
 pub of_quote : (Fact : ℕ → Type 0) → Fact 39 → Fact 34 → (quote : ℕ) → IsQuote quote → Fact quote
 of_quote Fact single double quote (inl e) = subst Fact (sym e) single
@@ -112,7 +108,7 @@ of_quote Fact single double quote (inr e) = subst Fact (sym e) double
 letter_sound : (quote letter : ℕ) → IsQuote quote → is_letter_escape quote letter ≡ true → IsPiece quote (92 ∷ letter ∷ []) (letter_value letter)
 letter_sound quote letter is e = elim (eqb_tells letter quote) [
   | inl same ↦ subst (λ (c : ℕ). IsPiece quote (92 ∷ c ∷ []) (letter_value c)) (sym same.1) (subst (IsPiece quote (92 ∷ quote ∷ [])) (sym (of_quote (λ c. letter_value c ≡ c) refl refl quote is)) quote_escape)
-  | inr q ↦ letter_escape letter (letter_value letter) (letter_is quote letter e q.0)
+  | inr q ↦ letter_escape letter (letter_value letter) (let other = q.0 in grind (arith, e, other))
 ]
 
 escape_outcome : (quote : ℕ) (cs : List ℕ) → IsQuote quote → is_at "\\" cs ≡ true → Outcome (IsPiece quote) Plain cs (escape_at quote cs)
@@ -127,16 +123,13 @@ escape_outcome quote cs is slash =
       split = after_one 92 cs slash ∙ ap (λ (l : List ℕ). 92 ∷ l) first.0;
     })))
 
-plain_is : (quote c : ℕ) → is_inside quote c ≡ true → (c == 92) ≡ false → is_control c ≡ false → is_plain quote c ≡ true
-plain_is quote c inside slash control = grind (arith, inside, slash, control)
-
 piece_outcome : (quote : ℕ) → IsQuote quote → (cs : List ℕ) → begins (is_inside quote) cs ≡ true → Outcome (IsPiece quote) Plain cs (piece_at quote cs)
 unfolding piece_at
 piece_outcome quote is [] i = absurd cc
 piece_outcome quote is (c ∷ cs) i =
     choose (λ e. escape_outcome quote (c ∷ cs) is e) (λ slash.
     choose (λ _. refused ControlCharacter context.LongHand refl) (λ control.
-    read_so (c, cs) (record { text = c ∷ []; is_so = plain c (plain_is quote c i slash control); split = refl })))
+    read_so (c, cs) (record { text = c ∷ []; is_so = plain c (grind (arith, i, slash, control)); split = refl })))
 
 -- after the opening quote
 pub string_outcome : (quote : ℕ) → IsQuote quote → (cs : List ℕ) → Outcome IsString Plain (quote ∷ cs) (string_at quote cs)
@@ -166,47 +159,26 @@ hex4_again escape t n rest (a, b, c, d, p, q, r, s, text, first, second, third, 
 no_surrogate : (n : ℕ) → (n < 0xd800) ⊎ (0xdfff < n) → (is_high n ≡ false) × (is_low n ≡ false)
 no_surrogate n side = (grind (arith, side), grind (arith, side))
 
-plain_parts : (a b d : Bool) → (a && not b && not d) ≡ true → (a ≡ true) × (b ≡ false) × (d ≡ false)
-plain_parts true false false e = (refl, refl, refl)
-plain_parts true false true e = absurd cc
-plain_parts true true d e = absurd cc
-plain_parts false b d e = absurd cc
-
--- a letter after a backslash, whatever the quote
-letter_again : (quote letter c : ℕ) (rest : List ℕ) → escaped_by letter ≡ Some c → piece_at quote (92 ∷ letter ∷ rest) ≡ Ok (c, rest)
-unfolding piece_at escape_at
-letter_again quote letter c rest e = grind (arith, e)
-
-hex_again : (quote : ℕ) (digits : List ℕ) (c : ℕ) (rest : List ℕ) → IsHex4 digits c → (c < 0xd800) ⊎ (0xdfff < c) → piece_at quote (92 ∷ 117 ∷ (digits ++ rest)) ≡ Ok (c, rest)
-unfolding piece_at escape_at unicode_at
-hex_again quote digits c rest h side =
-    let none = no_surrogate c side in
-    rw (hex4_again (92 ∷ 117 ∷ (digits ++ rest)) digits c rest h, none.0, none.1) refl
-
-pair_again : (quote : ℕ) (a b : List ℕ) (high low : ℕ) (rest : List ℕ) → IsHex4 a high → IsHex4 b low → IsHighSurrogate high → IsLowSurrogate low
-    → piece_at quote (92 ∷ 117 ∷ (a ++ (92 ∷ 117 ∷ (b ++ rest)))) ≡ Ok (pair_of high low, rest)
-unfolding piece_at escape_at unicode_at low_at
-pair_again quote a b high low rest first second h l =
-    let whole = 92 ∷ 117 ∷ (a ++ (92 ∷ 117 ∷ (b ++ rest))) in
-    rw (hex4_again whole a high (92 ∷ 117 ∷ (b ++ rest)) first, high_again high h, hex4_again whole b low rest second, low_again low l) refl
-
 piece_again : (quote : ℕ) → IsQuote quote → (t : List ℕ) (c : ℕ) (rest : List ℕ) → IsPiece quote t c → piece_at quote (t ++ rest) ≡ Ok (c, rest)
-unfolding piece_at escape_at
+unfolding piece_at escape_at unicode_at low_at
 piece_again quote is t c rest (plain d e) =
-    let parts = plain_parts (nat_le 32 d) (d == 92) (d == quote) e in
-    let control : is_control d ≡ false = grind (arith, parts.0) in
-    rw (parts.1, control) refl
+    let slash : (d == 92) ≡ false = grind (arith, e) in
+    let control : is_control d ≡ false = grind (arith, e) in
+    rw (slash, control) refl
 piece_again quote is t c rest quote_escape = of_quote (λ q. piece_at q (92 ∷ q ∷ rest) ≡ Ok (q, rest)) refl refl quote is
-piece_again quote is t c rest (letter_escape letter d e) = letter_again quote letter d rest e
-piece_again quote is t c rest (hex_escape digits d h side) = hex_again quote digits d rest h side
+piece_again quote is t c rest (letter_escape letter d e) = grind (arith, e)
+piece_again quote is t c rest (hex_escape digits d h side) =
+    let none = no_surrogate d side in
+    rw (hex4_again (92 ∷ 117 ∷ (digits ++ rest)) digits d rest h, none.0, none.1) refl
 piece_again quote is t c rest (pair_escape a b high low first second h l) =
-    ap (λ (x : List ℕ). piece_at quote (92 ∷ 117 ∷ x)) (append_assoc a (92 ∷ 117 ∷ b) rest) ∙ pair_again quote a b high low rest first second h l
+    let whole = 92 ∷ 117 ∷ (a ++ (92 ∷ 117 ∷ (b ++ rest))) in
+    rw (append_assoc a (92 ∷ 117 ∷ b) rest, hex4_again whole a high (92 ∷ 117 ∷ (b ++ rest)) first, high_again high h, hex4_again whole b low rest second, low_again low l) refl
 
 slash_inside : (quote : ℕ) → IsQuote quote → is_inside quote 92 ≡ true
 slash_inside = of_quote (λ quote. is_inside quote 92 ≡ true) refl refl
 
 piece_begins : (quote : ℕ) → IsQuote quote → (t : List ℕ) (c : ℕ) (rest : List ℕ) → IsPiece quote t c → begins (is_inside quote) (t ++ rest) ≡ true
-piece_begins quote is t c rest (plain d e) = let parts = plain_parts (nat_le 32 d) (d == 92) (d == quote) e in rw parts.2 refl
+piece_begins quote is t c rest (plain d e) = grind (arith, e)
 piece_begins quote is t c rest _ = slash_inside quote is
 
 piece_some : (quote : ℕ) (t : List ℕ) (c : ℕ) → IsPiece quote t c → 0 < length t
@@ -231,17 +203,15 @@ pieces_law quote is = record {
   failures = λ t x rest h. tt;
 }
 
-quote_ends : (quote : ℕ) → (quote == quote) ≡ true
-quote_ends quote = eq-eqb quote quote refl
-
 -- a string is read after its opening quote
 pub string_again : (t bytes rest : List ℕ) → IsString t bytes → (quote : ℕ) × (inner : List ℕ) × IsQuote quote × (t ≡ quote ∷ inner) × (string_at quote (inner ++ rest) ≡ Ok (bytes, rest))
 unfolding string_at
 string_again t bytes rest (quote, inside, characters, is, pieces, text, value) =
     let inner = inside ++ (quote ∷ []) in
-    let ends : is_inside quote quote ≡ false = rw (quote_ends quote) refl in
+    let same = eq-eqb quote quote refl in
+    let ends : is_inside quote quote ≡ false = rw same refl in
     let read = many_again (IsPiece quote) (begins (is_inside quote)) (piece_at quote) (λ rest. Unit {0}) (pieces_law quote is) inside characters (quote ∷ rest) pieces tt ends in
-    (quote, inner, is, text, ap (string_at quote) (append_assoc inside (quote ∷ []) rest) ∙ rw (read, quote_ends quote) (ap (λ (b : List ℕ). Ok (b, rest)) (sym value)))
+    (quote, inner, is, text, ap (string_at quote) (append_assoc inside (quote ∷ []) rest) ∙ rw (read, same) (ap (λ (b : List ℕ). Ok (b, rest)) (sym value)))
 
 -- ---- piece by piece, as the loop of the code meets them
 

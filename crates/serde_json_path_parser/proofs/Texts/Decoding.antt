@@ -1,6 +1,6 @@
 -- Bytes and the characters that they encode: the character at a place, by its first byte.
 use Rattle.std.proofs.Common.{◌≡◌, ℕ, zero, suc, ◌+◌, ◌*◌, ◌/◌, ◌%◌, ◌<◌, ◌≤◌, inl, inr, true, List, [], ◌∷◌, ◌++◌, length, get_or, drop, Some, refl, sym, ap, subst, ◌∙◌, arith, true≢false, Option, None}
-use Rattle.serde_json_path_parser.proofs.Words.{slice_get, encode_utf8, IsUtf8, encode_utf8_all, all_scalars, StartsWithChar, get_or-drop, slice_get_within, slice_get-get_or, same_Some}
+use Rattle.serde_json_path_parser.proofs.Words.{slice_get, encode_utf8, IsUtf8, encode_utf8_all, StartsWithChar, get_or-drop, slice_get_within, slice_get-get_or, same_Some}
 use Rattle.serde_json_path_parser.proofs.Words.{length-drop, drop_at, length-append, and_parts, cases_lt, lt-ltb, le-ltb, ◌==◌, is_utf8, chars}
 use Rattle.serde_json_path_parser.proofs.Words.{eqb-true, drop-drop, drop_all, IsUtf8-from_is_utf8, is_utf8-from_IsUtf8, chars-nil, chars_past_char}
 use Rattle.serde_json_path_parser.proofs.Words.{byte_from_char, char_from_byte, is_ascii, IsAhead, begins}
@@ -16,12 +16,9 @@ pub record Head (bs : List ℕ) : Type 0 where
   pub split : bs ≡ encode_utf8 c ++ rest
   pub tail : IsUtf8 rest
 
-head_from : (bs cs : List ℕ) → all_scalars cs ≡ true → encode_utf8_all cs ≡ bs → 0 < length bs → Head bs
-head_from bs [] s e l = absurd (omega (arith, ap length e))
-head_from bs (c ∷ cs) s e l = let h = and_parts _ _ s in record { c = c; rest = encode_utf8_all cs; is = h.0; split = sym e; tail = (cs, (h.1, refl)) }
-
 pub head : (bs : List ℕ) → IsUtf8 bs → 0 < length bs → Head bs
-head bs u l = head_from bs u.0 u.1.0 u.1.1 l
+head bs ([], (s, e)) l = absurd (omega (arith, ap length e))
+head bs (c ∷ cs, (s, e)) l = let h = and_parts _ _ s in record { c = c; rest = encode_utf8_all cs; is = h.0; split = sym e; tail = (cs, (h.1, refl)) }
 
 -- the four forms of a character
 pub data Shape (c : ℕ) : Type 0 where

@@ -76,10 +76,6 @@ more_gathered p text index at c part low le l is fits h =
       each = rw (count, e) (all_more p (take (at - index) part) c h.each fits);
     }
 
--- what is after a name stays as a part of it is taken
-pub past_part : (cs part rest : List ℕ) → AllPass is_ascii_name_char part → cs ≡ part ++ rest → past is_name_char rest ≡ past is_name_char cs
-past_part cs part rest h e = sym (ap (past is_name_char) e ∙ past_through is_name_char part rest (all_in_name part h))
-
 -- a text with a part after it, and then the rest of the name
 pub front_part : (cs part rest text : List ℕ) → AllPass is_ascii_name_char part → cs ≡ part ++ rest
     → (text ++ part) ++ encode_utf8_all (front is_name_char rest) ≡ text ++ encode_utf8_all (front is_name_char cs)
@@ -97,8 +93,9 @@ pub name_stretched : {E : Type 0} (r : Result Unit E) (cs rest old new : List �
 name_stretched (Ok u) cs rest old new s = ap (λ (l : List ℕ). l ++ encode_utf8_all (front is_name_char rest)) (s.text refl) ∙ front_part cs s.part rest old s.each s.taken
 name_stretched (Err x) cs rest old new s = tt
 
+-- what is after a name stays as a part of it is taken
 pub past_stretched : (cs rest old new : List ℕ) (ok : Bool) → Stretched is_ascii_name_char cs rest old new ok → past is_name_char rest ≡ past is_name_char cs
-past_stretched cs rest old new ok s = past_part cs s.part rest s.each s.taken
+past_stretched cs rest old new ok s = sym (ap (past is_name_char) s.taken ∙ past_through is_name_char s.part rest (all_in_name s.part s.each))
 
 -- what is gathered is a stretch
 pub stretched : (p : ℕ → Bool) (text : List ℕ) (index end : ℕ) (part old new : List ℕ) (ok : Bool) → index < end → end - index ≤ length part → Gathered p text index end part
