@@ -19,6 +19,8 @@ use serde_json_path_syntax::{Part, Parts, SegmentKind, SyntaxBuilder};
 use std::alloc::Global;
 
 /// Parses what follows the dots of a segment: a member name or `*`.
+// Within `parse_segment` its name would widen the frame of each bracket.
+#[inline(never)]
 #[tactic(auto, unfolding(crate::specs::Parsing::dotted_at))]
 fn parse_dotted<S: PathSource>(
     alloc: Global,
@@ -75,6 +77,7 @@ impl<F: Functions> FilterParser<'_, F> {
     }
 
     /// Parses a segment (RFC 9535, section 2.5), from its `.` or `[` on.
+    #[inline(always)]
     #[cycle(filters)]
     #[tactic(auto, unfolding(crate::specs::Parsing::segment_at, crate::specs::Parsing::dot_at, crate::specs::Parsing::descendant_at))]
     fn parse_segment<S: PathSource>(
@@ -89,22 +92,21 @@ impl<F: Functions> FilterParser<'_, F> {
             result reader.new
             (segment_at (filter_at F.set self.now) context (left reader.old)) }
     {
-        if !reader.sees(b'.') {
+        let mut kind = SegmentKind::Child;
+        if reader.sees(b'.') {
             reader.take_char();
-            return self.parse_bracket(builder, reader, SegmentKind::Child);
+            if !reader.sees(b'.') {
+                let context = after_one_dot(context);
+                return parse_dotted(self.alloc, builder, reader, kind, context);
+            }
+            reader.take_char();
+            kind = SegmentKind::Descendant;
+            if !reader.sees(b'[') {
+                return parse_dotted(self.alloc, builder, reader, kind, context);
+            }
         }
         reader.take_char();
-        if !reader.sees(b'.') {
-            let context = after_one_dot(context);
-            return parse_dotted(self.alloc, builder, reader, SegmentKind::Child, context);
-        }
-        reader.take_char();
-        let kind = SegmentKind::Descendant;
-        if reader.sees(b'[') {
-            reader.take_char();
-            return self.parse_bracket(builder, reader, kind);
-        }
-        parse_dotted(self.alloc, builder, reader, kind, context)
+        self.parse_bracket(builder, reader, kind)
     }
 
     /// Parses as many segments as there are, with blanks before each. Returns them, and how many bytes are left after
