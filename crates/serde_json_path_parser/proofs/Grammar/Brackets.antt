@@ -98,10 +98,6 @@ unfolding slice_at
 parts_again start end step k b c rest blank second third closes =
     rw (past_some k (b ++ (c ++ rest)) blank, bound_again end b (c ++ rest) second (step_ends step c rest third closes), step_again step c rest third closes) refl
 
-alone_again : (t : List ℕ) (i : ℤ) (rest : List ℕ) → IsInt t i → Closes rest → position_at (t ++ rest) ≡ Ok (index i, past_blanks rest)
-unfolding position_at
-alone_again t i rest is closes = rw (int_again t i rest is (ends_digits rest (closed_ends rest closes)), no_colon rest closes) refl
-
 begun_again : (t k : List ℕ) (i : ℤ) (rest : List ℕ) (s : Slice) (after : List ℕ) → IsInt t i → IsBlank k → slice_at (Some i) rest ≡ Ok (s, after) → position_at (t ++ (k ++ (58 ∷ rest))) ≡ Ok (slice s, after)
 unfolding position_at
 begun_again t k i rest s after is blank read =
@@ -126,7 +122,8 @@ module _ (filter_at : List ℕ → Parsed Selector) where
   at_position t i rest is = rw (int_not 39 t i rest refl is, int_not 34 t i rest refl is, int_not 42 t i rest refl is, int_not 58 t i rest refl is, int_not 63 t i rest refl is) refl
 
   pub index_again : (t : List ℕ) (i : ℤ) (rest : List ℕ) → IsInt t i → Closes rest → selector_at filter_at (t ++ rest) ≡ Ok (index i, past_blanks rest)
-  index_again t i rest is closes = at_position t i rest is ∙ alone_again t i rest is closes
+  unfolding position_at
+  index_again t i rest is closes = at_position t i rest is ∙ rw (int_again t i rest is (ends_digits rest (closed_ends rest closes)), no_colon rest closes) refl
 
   colon_again : (rest : List ℕ) (s : Slice) (after : List ℕ) → slice_at None rest ≡ Ok (s, after) → selector_at filter_at (58 ∷ rest) ≡ Ok (slice s, after)
   unfolding selector_at

@@ -26,9 +26,6 @@ use Rattle.serde_json_path_parser.proofs.Reading.Runs.{past_all}
 
 -- ---- whole paths: what is read is well-typed and at most 128 deep, each of those is read, and where a refusal stands
 
-nothing : (cs : List ℕ) → (length cs == 0) ≡ true → cs ≡ []
-nothing cs e = nil_from_length cs (eqb-true (length cs) 0 e)
-
 -- where no byte is left, no character is
 pub all_read : (rest : List ℕ) (bytes : ℕ) → bytes ≡ length (encode_utf8_all rest) → bytes ≡ 0 → (length rest == 0) ≡ true
 all_read [] bytes is none = refl
@@ -104,7 +101,7 @@ module _ (signature : List ℕ → Option Signature) where
       }) (λ ss _ r.
       let split : cs ≡ 36 ∷ (r.text ++ ss.1) = begun ∙ ap (λ (l : List ℕ). 36 ∷ l) r.split in
       let are : ArePathSegments signature r.text (segment_list ss.0) = (good_segments signature deepest (segment_list ss.0) r.is_so.0, r.is_so.1) in
-      choose (λ e. gives (segment_list ss.0) (r.text, are, split ∙ ap (λ (l : List ℕ). 36 ∷ (r.text ++ l)) (nothing ss.1 e) ∙ ap (λ (l : List ℕ). 36 ∷ l) (append-nil r.text))) (λ e.
+      choose (λ e. gives (segment_list ss.0) (r.text, are, split ∙ ap (λ (l : List ℕ). 36 ∷ (r.text ++ l)) (nil_from_length ss.1 (eqb-true (length ss.1) 0 e)) ∙ ap (λ (l : List ℕ). 36 ∷ l) (append-nil r.text))) (λ e.
       refuses (refusal TextAfterPath context.Path ss.1) (record {
         before = 36 ∷ r.text;
         rest = ss.1;

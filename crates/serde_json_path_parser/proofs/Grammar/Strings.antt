@@ -1,9 +1,9 @@
 -- String literals: what is read is one, each is read, and where a refusal of one stands.
-use Rattle.std.proofs.Common.{◌≡◌, ℕ, ◌+◌, ◌*◌, ◌<◌, ◌⊎◌, inl, inr, Bool, true, false, cond, ◌&&◌, List, [], ◌∷◌, ◌++◌, length, drop, Some, Ok, Err, refl, sym, ap, subst, ◌∙◌, append_assoc, arith}
+use Rattle.std.proofs.Common.{◌≡◌, ℕ, ◌≤◌, ◌+◌, ◌*◌, ◌<◌, ◌⊎◌, inl, inr, Bool, true, false, cond, ◌&&◌, List, [], ◌∷◌, ◌++◌, length, drop, Some, Ok, Err, refl, sym, ap, subst, ◌∙◌, append_assoc, arith}
 use Rattle.serde_json_path_parser.proofs.Words.{cases_lt, nat_le, ◌==◌, not, encode_utf8, encode_utf8_all, eq-eqb}
 use Rattle.serde_json_path_parser.proofs.Words.{and_parts, eqb_tells, length-append, append-nil, ExpectedEndingQuote, BadEscape}
-use Rattle.serde_json_path_parser.proofs.Words.{ControlCharacter, ◌∈◌, AllPass, is_at, begins, hexadecimal_of, IsHex4, IsHighSurrogate}
-use Rattle.serde_json_path_parser.proofs.Words.{IsLowSurrogate, IsPiece, plain, quote_escape, letter_escape}
+use Rattle.serde_json_path_parser.proofs.Words.{ControlCharacter, ◌∈◌, AllPass, is_at, begins, hexadecimal_of, IsHex4}
+use Rattle.serde_json_path_parser.proofs.Words.{IsPiece, plain, quote_escape, letter_escape}
 use Rattle.serde_json_path_parser.proofs.Words.{hex_escape, pair_escape, IsQuote, IsString, Parsed, ◌>>=◌, refusal, many, byte_count, is_hexadecimal}
 use Rattle.serde_json_path_parser.proofs.Words.{hexadecimal_value, head, hexadecimal_at, hex4_at, is_high, is_low, low_at, unicode_at}
 use Rattle.serde_json_path_parser.proofs.Words.{is_letter_escape, letter_value, escape_at, is_control, piece_at, is_inside, string_at, is_ascii_plain}
@@ -20,9 +20,6 @@ use Rattle.serde_json_path_parser.specs.declared.error.Failure.TheVariants as fa
 
 hexadecimal_is : (c : ℕ) → is_hexadecimal c ≡ true → hexadecimal_of c ≡ Some (hexadecimal_value c)
 hexadecimal_is c e = grind (arith, e)
-
-hexadecimal_known : (c n : ℕ) → hexadecimal_of c ≡ Some n → (is_hexadecimal c ≡ true) × (hexadecimal_value c ≡ n)
-hexadecimal_known c n e = (grind (arith, e), grind (arith, e))
 
 first_is : (p : ℕ → Bool) (cs : List ℕ) → begins p cs ≡ true → (cs ≡ head cs ∷ drop 1 cs) × (p (head cs) ≡ true)
 first_is p [] e = absurd cc
@@ -62,17 +59,11 @@ hex4_outcome escape cs =
 
 -- ---- pieces
 
-high_of : (n : ℕ) → is_high n ≡ true → IsHighSurrogate n
-high_of n e = (grind (arith, e), grind (arith, e))
+range_of : (a b n : ℕ) → (nat_le a n && nat_le n b) ≡ true → (a ≤ n) × (n ≤ b)
+range_of a b n e = (grind (arith, e), grind (arith, e))
 
-low_of : (n : ℕ) → is_low n ≡ true → IsLowSurrogate n
-low_of n e = (grind (arith, e), grind (arith, e))
-
-high_again : (n : ℕ) → IsHighSurrogate n → is_high n ≡ true
-high_again n h = grind (arith, h.0, h.1)
-
-low_again : (n : ℕ) → IsLowSurrogate n → is_low n ≡ true
-low_again n h = grind (arith, h.0, h.1)
+range_again : (a b n : ℕ) → (a ≤ n) × (n ≤ b) → (nat_le a n && nat_le n b) ≡ true
+range_again a b n h = grind (arith, h.0, h.1)
 
 -- no surrogate
 scalar_of : (n : ℕ) → is_high n ≡ false → is_low n ≡ false → (n < 0xd800) ⊎ (0xdfff < n)
@@ -90,7 +81,7 @@ low_outcome quote escape t high cs first h =
     guarded BadEscape context.LongHand refl (λ letter.
     past_in (92 ∷ 117 ∷ []) (slash_and_u cs slash letter) (onward (hex4_outcome escape (drop 1 (drop 1 cs))) (λ l _ second.
     guarded BadEscape context.LongHand refl (λ low.
-    read_so _ (record { text = second.text; is_so = pair_escape t second.text high l.0 first second.is_so (high_of high h) (low_of l.0 low); split = second.split }))))))
+    read_so _ (record { text = second.text; is_so = pair_escape t second.text high l.0 first second.is_so (range_of 0xd800 0xdbff high h) (range_of 0xdc00 0xdfff l.0 low); split = second.split }))))))
 
 -- after a backslash and `u`
 unicode_outcome : (quote : ℕ) (escape cs : List ℕ) → OutcomeIn (λ t c. IsPiece quote (92 ∷ 117 ∷ t) c) Plain escape cs (unicode_at (byte_count escape) cs)
@@ -143,7 +134,7 @@ string_outcome quote is cs =
 
 hexadecimal_again : (escape rest : List ℕ) (c n : ℕ) → hexadecimal_of c ≡ Some n → hexadecimal_at (byte_count escape) (c ∷ rest) ≡ Ok (n, rest)
 unfolding hexadecimal_at
-hexadecimal_again escape rest c n e = let k = hexadecimal_known c n e in rw (k.0, k.1) refl
+hexadecimal_again escape rest c n e = grind (arith, e)
 
 hex4_again : (escape t : List ℕ) (n : ℕ) (rest : List ℕ) → IsHex4 t n → hex4_at (byte_count escape) (t ++ rest) ≡ Ok (n, rest)
 unfolding hex4_at
@@ -172,14 +163,11 @@ piece_again quote is t c rest (hex_escape digits d h side) =
     rw (hex4_again (92 ∷ 117 ∷ (digits ++ rest)) digits d rest h, none.0, none.1) refl
 piece_again quote is t c rest (pair_escape a b high low first second h l) =
     let whole = 92 ∷ 117 ∷ (a ++ (92 ∷ 117 ∷ (b ++ rest))) in
-    rw (append_assoc a (92 ∷ 117 ∷ b) rest, hex4_again whole a high (92 ∷ 117 ∷ (b ++ rest)) first, high_again high h, hex4_again whole b low rest second, low_again low l) refl
-
-slash_inside : (quote : ℕ) → IsQuote quote → is_inside quote 92 ≡ true
-slash_inside = of_quote (λ quote. is_inside quote 92 ≡ true) refl refl
+    rw (append_assoc a (92 ∷ 117 ∷ b) rest, hex4_again whole a high (92 ∷ 117 ∷ (b ++ rest)) first, range_again 0xd800 0xdbff high h, hex4_again whole b low rest second, range_again 0xdc00 0xdfff low l) refl
 
 piece_begins : (quote : ℕ) → IsQuote quote → (t : List ℕ) (c : ℕ) (rest : List ℕ) → IsPiece quote t c → begins (is_inside quote) (t ++ rest) ≡ true
 piece_begins quote is t c rest (plain d e) = grind (arith, e)
-piece_begins quote is t c rest _ = slash_inside quote is
+piece_begins quote is t c rest _ = of_quote (λ quote. is_inside quote 92 ≡ true) refl refl quote is
 
 piece_some : (quote : ℕ) (t : List ℕ) (c : ℕ) → IsPiece quote t c → 0 < length t
 piece_some quote t c (plain d e) = omega arith

@@ -1,6 +1,6 @@
 -- Bytes and the characters that they encode: the character at a place, by its first byte.
-use Rattle.std.proofs.Common.{◌≡◌, ℕ, zero, suc, ◌+◌, ◌*◌, ◌/◌, ◌%◌, ◌<◌, ◌≤◌, inl, inr, true, List, [], ◌∷◌, ◌++◌, length, get_or, drop, Some, refl, sym, ap, subst, ◌∙◌, arith, true≢false, Option, None}
-use Rattle.serde_json_path_parser.proofs.Words.{slice_get, encode_utf8, IsUtf8, encode_utf8_all, StartsWithChar, get_or-drop, slice_get_within, slice_get-get_or, same_Some}
+use Rattle.std.proofs.Common.{◌≡◌, ℕ, ◌+◌, ◌*◌, ◌/◌, ◌%◌, ◌<◌, ◌≤◌, inl, inr, true, List, [], ◌∷◌, ◌++◌, length, get_or, drop, Some, refl, sym, ap, subst, ◌∙◌, arith, true≢false, Option, None}
+use Rattle.serde_json_path_parser.proofs.Words.{slice_get, encode_utf8, IsUtf8, encode_utf8_all, StartsWithChar, get_or-drop, slice_get_within, slice_get-get_or, same_Some, none-some}
 use Rattle.serde_json_path_parser.proofs.Words.{length-drop, drop_at, length-append, and_parts, cases_lt, lt-ltb, le-ltb, ◌==◌, is_utf8, chars}
 use Rattle.serde_json_path_parser.proofs.Words.{eqb-true, drop-drop, drop_all, IsUtf8-from_is_utf8, is_utf8-from_IsUtf8, chars-nil, chars_past_char}
 use Rattle.serde_json_path_parser.proofs.Words.{byte_from_char, char_from_byte, is_ascii, IsAhead, begins}
@@ -136,10 +136,7 @@ module _ (text : List ℕ) (at lead : ℕ) (utf8 : IsUtf8 (drop at text)) (is : 
 -- ---- what a reader's fields say of the characters that are left
 
 none_past : (xs : List ℕ) (i : ℕ) → slice_get xs i ≡ None → drop i xs ≡ []
-none_past [] zero e = refl
-none_past [] (suc i) e = refl
-none_past (x ∷ xs) zero e = absurd cc
-none_past (x ∷ xs) (suc i) e = none_past xs i e
+none_past xs i e = drop_all i xs (elim (cases_lt i (length xs)) [ inl k ↦ absurd (none-some _ (sym e ∙ slice_get-get_or xs i 0 k)) | inr k ↦ k ])
 
 pub utf8_of : (bs : List ℕ) → is_utf8 bs ≡ true → IsUtf8 bs
 utf8_of bs e = IsUtf8-from_is_utf8 bs e

@@ -77,7 +77,6 @@ impl<F: Functions> FilterParser<'_, F> {
     }
 
     /// Parses a segment (RFC 9535, section 2.5), from its `.` or `[` on.
-    #[inline(always)]
     #[cycle(filters)]
     #[tactic(auto, unfolding(crate::specs::Parsing::segment_at, crate::specs::Parsing::dot_at, crate::specs::Parsing::descendant_at))]
     fn parse_segment<S: PathSource>(

@@ -2,7 +2,7 @@ use Rattle.serde_json_path_parser.proofs.Reading.Many.{first_fails}
 use Rattle.std.proofs.Common.{◌∙◌, [], Some, refl, sym, ap, map, option_map, arith, true≢false}
 use Rattle.serde_json_path_parser.proofs.Words.{string_bytes, nil_from_length, err_from_is_err_and, literal_view, number_amount, operator_view}
 use Rattle.serde_json_path_parser.proofs.Words.{a_comparable, logical_argument, call, number, kind_view, signature_view, alone, basic_at, or_at}
-use Rattle.serde_json_path_parser.proofs.Words.{and_at, word, parameters_at, level, and_list, or_list, named_at, signatures, deeper, begins, opens}
+use Rattle.serde_json_path_parser.proofs.Words.{and_at, parameters_at, level, and_list, or_list, named_at, signatures, deeper, begins, opens}
 use Rattle.serde_json_path_parser.proofs.Words.{a_literal, a_call, calls_in_operand, left, common_steps, bracket_at, next_selector_at, selectors_at}
 use Rattle.serde_json_path_parser.proofs.Words.{selector_list, next_segment_at, segments_at, segment_list, argument_at, logical_from, judged}
 use Rattle.serde_json_path_parser.proofs.Words.{operand_at, named_call_at, call_at, basic_from, relation_at, right_side_at, query_at, negated_at}
