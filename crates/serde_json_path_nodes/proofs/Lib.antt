@@ -1,7 +1,5 @@
 -- Lemmas; the folders have the proofs of functions.
--- Decimals: a number is read back from its digits.
 -- Equal: the derived `==` of elements is the test of their steps.
--- Escapes: a character is read back from its escape.
 -- Quotes: a text in quotes, written character by character.
 -- Steps: a location, written step by step.
 -- Pointers: a name in a pointer, written character by character.
@@ -9,9 +7,7 @@
 -- Orders: the orders of steps and of locations are total.
 -- KeptBySorting: what sorting by an order, removing repeats and sorting back leaves.
 -- FirstPlaces: for numbered nodes, that is `first_places`.
-mod Decimals
 mod Equal
-mod Escapes
 mod FirstPlaces
 mod KeptBySorting
 mod Orders

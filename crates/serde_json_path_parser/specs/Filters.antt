@@ -153,10 +153,6 @@ module _ (signature : List ℕ → Option Signature) (deeper : Deeper) where
   negated_call_at cs = named_call_at cs >>= λ c.
       if is_result of_value (result_kind signature c.0) then Err (refusal WrongReturnType context.LongHand cs) else Ok (not_test c.0, c.1)
 
-  -- at a small letter after `!` and blanks
-  unfoldable pub negated_name_at : List ℕ → Parsed Basic
-  negated_name_at cs = if begins_call cs then negated_call_at cs else Err (refusal ExpectedExpression context.LongHand cs)
-
   -- after `!` and blanks
   unfoldable pub negated_at : List ℕ → Parsed Basic
   negated_at cs =

@@ -6,7 +6,7 @@ use Rattle.std.proofs.Output.{has_written_append, has_written_of_eq}
 use Rattle.serde_json_path_nodes.specs.Text.{in_decimal, in_quotes, normal}
 use Rattle.serde_json_path_nodes.specs.Views.{end_of, step_view}
 use Rattle.serde_json_path_nodes.specs.Location.{by_name, by_position}
-use Rattle.serde_json_path_nodes.proofs.Decimals.{in_decimal-decimal}
+use Rattle.serde_json_path_nodes.proofs.TextsApart.{in_decimal-decimal}
 use Rattle.serde_json_path_nodes.proofs.Steps.{index_more, name_more, normal_more}
 use Rattle.serde_json_path_nodes.proofs.normalized_path.NormalizedPathDisplay.fmt.Goals as goal
 use Rattle.serde_json_path_nodes.proofs.normalized_path.NormalizedPathDisplay.fmt.Goals.{in-Name+in_ok-write_str-in-Name+in_ok-write_inside-in-Name, in-Index+in_ok-write_str-in-Index+in_ok-write-in-Index}
