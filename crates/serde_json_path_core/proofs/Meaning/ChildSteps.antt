@@ -1,10 +1,10 @@
 -- The computed children of a value are those that a step leads to, in document order.
-use Rattle.std.proofs.Common.{◌≡◌, ℕ, zero, suc, ◌+◌, ◌<◌, ℤ, List, Ordering, Less, Equal, Greater, nat_cmp, is_eq, Bool, true, false, bytes_eq, Option, Some, ◌↔◌, inl, inr, refl, sym, ap, subst, ◌∙◌, arith, true≢false, option_to_list, ◌-◌, pos, negsuc, None, option_map, option_and_then}
+use Rattle.std.proofs.Common.{◌≡◌, ℕ, zero, suc, ◌+◌, ◌<◌, ℤ, List, Ordering, Less, Equal, Greater, nat_cmp, is_eq, true, false, bytes_eq, Option, Some, ◌↔◌, inl, inr, refl, sym, ap, subst, ◌∙◌, arith, true≢false, option_to_list, ◌-◌, pos, negsuc, None, option_map}
 use Rattle.serde_json_path_core.proofs.Words.{slice_cmp, ordering_reverse, match_ordering, nat_list_cmp_total, tied_itself, is_eq-slice_cmp, none-some}
 use Rattle.serde_json_path_core.proofs.Words.{same_Some, bytes_eq-Decides, Data, array, object, Items, no_items, item, Members, no_members, member, put}
 use Rattle.serde_json_path_core.proofs.Words.{get_item, get_member, get_member-put, get_member-put_other, Step, by_name, by_position, child_at, StepBefore}
 use Rattle.serde_json_path_core.proofs.Words.{IsIn, IsInOrder, SelectsIndex, IsPositionOf, child_by, item_at, children, items_from, members_all, in_order}
-use Rattle.serde_json_path_core.proofs.Words.{in_option, ◌<ℤ◌, ◌+ℤ◌, nat_lt, if◌then◌else◌, ints, items_len}
+use Rattle.serde_json_path_core.proofs.Words.{cases_Bool, in_option, ◌<ℤ◌, ◌+ℤ◌, nat_lt, ints, items_len}
 
 -- ---- the child at a step, and the item of an index
 
@@ -37,31 +37,22 @@ item_sound : (items : Items) (i : ℤ) (s : Step) (c : Data) → item_at (array 
 item_sound items (pos p) s c e =
     let b = by_step (array items) (by_position p) s c e in
     ((items, refl, p, b.0, inl refl), ap (child_at (array items)) b.0 ∙ b.1)
-item_sound items (negsuc k) s c e = split (nat_lt k (items_len items)) refl
-  where
-    split : (b : Bool) → nat_lt k (items_len items) ≡ b → IsPositionOf (SelectsIndex (negsuc k)) (array items) s × (child_at (array items) s ≡ Some c)
-    split true f =
-        let p = items_len items - (k + 1) in
-        let g : child_by (array items) (by_position p) ≡ Some (s, c) =
-        sym (ap (λ b. option_and_then (λ q. child_by (array items) (by_position q)) (if b then Some p else None)) f) ∙ e in
-        let b = by_step (array items) (by_position p) s c g in
-        ((items, refl, p, b.0, inr (below_zero k, counted (items_len items) k f)), ap (child_at (array items)) b.0 ∙ b.1)
-    split false f =
-        absurd (none-some (s, c) (sym (ap (λ b. option_and_then (λ q. child_by (array items) (by_position q)) (if b then Some (items_len items - (k + 1)) else None)) f) ∙ e))
+item_sound items (negsuc k) s c e = elim (cases_Bool (nat_lt k (items_len items))) [
+  | inl f ↦ let b = by_step (array items) (by_position (items_len items - (k + 1))) s c (rw f at e) in
+      ((items, refl, items_len items - (k + 1), b.0, inr (below_zero k, counted (items_len items) k f)), ap (child_at (array items)) b.0 ∙ b.1)
+  | inr f ↦ absurd (none-some (s, c) (rw f at e))
+]
 
 -- a child at a position that an index selects is the item of the index
 item_complete : (v : Data) (i : ℤ) (s : Step) (c : Data) → IsPositionOf (SelectsIndex i) v s → child_at v s ≡ Some c → item_at v i ≡ Some (s, c)
 item_complete (array ds) (pos p) s c (items, e, q, t, inl f) g =
-    let p_is : p ≡ q = omega (arith, ints, f) in
-    let s_is : by_position p ≡ s = ap by_position p_is ∙ sym t in
-    ap (child_by (array ds)) s_is ∙ there_by (array ds) s c g
+    let same : p ≡ q = omega (arith, ints, f) in rw same (ap (child_by (array ds)) (sym t) ∙ there_by (array ds) s c g)
 item_complete (array ds) (pos p) s c (items, e, q, t, inr f) g = let h = f.0 in absurd (omega (arith, ints))
 item_complete (array ds) (negsuc k) s c (items, e, q, t, inl f) g = absurd (omega (arith, ints, f))
 item_complete (array ds) (negsuc k) s c (items, e, q, t, inr f) g =
     let same : ds ≡ items = same_Some ds items e in
     let back = counts_back (items_len ds) k q (f.1 ∙ ap (λ (xs : Items). negsuc k +ℤ pos (items_len xs)) (sym same)) in
-    ap (λ b. option_and_then (λ p. child_by (array ds) (by_position p)) (if b then Some (items_len ds - (k + 1)) else None)) back.0
-    ∙ ap (λ p. child_by (array ds) (by_position p)) (sym back.1) ∙ ap (child_by (array ds)) (sym t) ∙ there_by (array ds) s c g
+    rw (back.0, sym back.1) (ap (child_by (array ds)) (sym t) ∙ there_by (array ds) s c g)
 item_complete _ i s c h g = absurd (none-some h.0 h.1)
 
 -- ---- items
@@ -108,13 +99,11 @@ unlike q k h = sym (is_eq-slice_cmp q k) ∙ ap is_eq (nat_list_cmp_total.antisy
 -- a name finds the same among the members in order
 get_member-in_order : (q : List ℕ) (ms : Members) → get_member q (in_order ms) ≡ get_member q ms
 get_member-in_order q no_members = refl
-get_member-in_order q (member k d ms) = by (bytes_eq q k) refl (get_member-in_order q ms)
-  where
-    by : (b : Bool) → bytes_eq q k ≡ b → get_member q (in_order ms) ≡ get_member q ms → get_member q (put k d (in_order ms)) ≡ get_member q (member k d ms)
-    by true e later =
-        subst (λ x. get_member x (put k d (in_order ms)) ≡ get_member x (member k d ms)) (sym ((bytes_eq-Decides q k).0 e))
-        (get_member-put k d (in_order ms) ∙ sym (found_here k d ms))
-    by false e later = get_member-put_other q k d (in_order ms) (apart q k e) ∙ later ∙ sym (found_later q k d ms e)
+get_member-in_order q (member k d ms) = elim (cases_Bool (bytes_eq q k)) [
+  | inl e ↦ subst (λ x. get_member x (put k d (in_order ms)) ≡ get_member x (member k d ms)) (sym ((bytes_eq-Decides q k).0 e))
+      (get_member-put k d (in_order ms) ∙ sym (found_here k d ms))
+  | inr e ↦ get_member-put_other q k d (in_order ms) (apart q k e) ∙ get_member-in_order q ms ∙ sym (found_later q k d ms e)
+]
 
 -- the name is before each of the members' names
 abbrev pub IsBelow : List ℕ → Members → Type 0
@@ -128,11 +117,10 @@ AreRising (member k d ms) = IsBelow k ms × AreRising ms
 
 below_found : (k q : List ℕ) (ms : Members) (c : Data) → IsBelow k ms → get_member q ms ≡ Some c → slice_cmp nat_cmp k q ≡ Less
 below_found k q no_members c a e = absurd (none-some c e)
-below_found k q (member l d ms) c a e = by (bytes_eq q l) refl (λ f. below_found k q ms c a.1 f)
-  where
-    by : (b : Bool) → bytes_eq q l ≡ b → (get_member q ms ≡ Some c → slice_cmp nat_cmp k q ≡ Less) → slice_cmp nat_cmp k q ≡ Less
-    by true f later = subst (λ x. slice_cmp nat_cmp k x ≡ Less) (sym ((bytes_eq-Decides q l).0 f)) a.0
-    by false f later = later (sym (found_later q l d ms f) ∙ e)
+below_found k q (member l d ms) c a e = elim (cases_Bool (bytes_eq q l)) [
+  | inl f ↦ rw ((bytes_eq-Decides q l).0 f) a.0
+  | inr f ↦ below_found k q ms c a.1 (sym (found_later q l d ms f) ∙ e)
+]
 
 in_members : (ms : Members) (c : Step × Data) → AreRising ms → IsIn c (members_all ms) → (k : List ℕ) × (c.0 ≡ by_name k) × (get_member k ms ≡ Some c.1)
 in_members no_members c r h = absurd h
@@ -142,15 +130,11 @@ in_members (member k d ms) c r (inr h) =
 
 members_in : (ms : Members) (k : List ℕ) (c : Data) → get_member k ms ≡ Some c → IsIn {A = Step × Data} (by_name k, c) (members_all ms)
 members_in no_members k c e = absurd (none-some c e)
-members_in (member l d ms) k c e = by (bytes_eq k l) refl (members_in ms k c)
-  where
-    by : (b : Bool) → bytes_eq k l ≡ b → (get_member k ms ≡ Some c → IsIn {A = Step × Data} (by_name k, c) (members_all ms)) → IsIn {A = Step × Data} (by_name k, c) (members_all (member l d ms))
-    by true f later =
-        let s : k ≡ l = (bytes_eq-Decides k l).0 f in
-        let here : get_member k (member l d ms) ≡ Some d = subst (λ x. get_member x (member l d ms) ≡ Some d) (sym s) (found_here l d ms) in
-        let same = same_Some d c (sym here ∙ e) in
-        inl (λ j. (by_name (s j), sym same j))
-    by false f later = inr (later (sym (found_later k l d ms f) ∙ e))
+members_in (member l d ms) k c e = elim (cases_Bool (bytes_eq k l)) [
+  | inl f ↦ let s = (bytes_eq-Decides k l).0 f in
+      let same = same_Some d c (sym (found_here l d ms) ∙ subst (λ x. get_member x (member l d ms) ≡ Some c) s e) in inl (λ j. (by_name (s j), sym same j))
+  | inr f ↦ inr (members_in ms k c (sym (found_later k l d ms f) ∙ e))
+]
 
 members_ordered : (ms : Members) → AreRising ms → IsInOrder (λ (a b : Step × Data). StepBefore a.0 b.0) (members_all ms)
 members_ordered no_members r = tt

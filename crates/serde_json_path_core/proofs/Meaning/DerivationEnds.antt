@@ -48,14 +48,12 @@ child_of n t = record { location = n.location ++ (t.0.descent ++ t.0.step ∷ []
 node_at-after : (n : Located) (t : Triple × Data) (es : List End) → map (node_at (child_of n t)) es ≡ map (node_at n) (map (after t) es)
 node_at-after n t [] = refl
 node_at-after n t (e ∷ es) =
-    ap (λ l. record { location = l; value = e.1 } ∷ map (node_at (child_of n t)) es) (append_assoc n.location (t.0.descent ++ t.0.step ∷ []) (location_of e.0))
-    ∙ ap (λ ns. node_at n (after t e) ∷ ns) (node_at-after n t es)
+    rw (append_assoc n.location (t.0.descent ++ t.0.step ∷ []) (location_of e.0), node_at-after n t es) refl
 
 child_of-triple : (n : Located) (down : List Step) (number : ℕ) (cs : List (Step × Data)) → map (child_of n) (map (triple_at down number) cs) ≡ map (placed (n.location ++ down)) cs
 child_of-triple n down number [] = refl
 child_of-triple n down number (c ∷ cs) =
-    ap (λ l. record { location = l; value = c.1 } ∷ map (child_of n) (map (triple_at down number) cs)) (sym (append_assoc n.location down (c.0 ∷ [])))
-    ∙ ap (λ ns. placed (n.location ++ down) c ∷ ns) (child_of-triple n down number cs)
+    rw (append_assoc n.location down (c.0 ∷ []), child_of-triple n down number cs) refl
 
 levels_reached : (kind : SegmentKind) (n : Located) → map (beneath n.location) (levels kind n.value) ≡ reached kind n
 levels_reached child n = ap (λ l. record { location = l; value = n.value } ∷ []) (append-nil n.location)
@@ -165,8 +163,7 @@ module _ (F : FunctionSet) (top : Data) where
       (λ t u d e before h g.
       let k = (in_map (after t) d (ends more t.1)).0 h in
       let l = (in_map (after u) e (ends more u.1)).0 g in
-      subst (λ (x : End). Before (segment kind seg more) x.0 e.0) (sym k.2)
-      (subst (λ (y : End). Before (segment kind seg more) (t.0 ∷ k.0.0) y.0) (sym l.2) (inl before)))
+      rw (k.2, l.2) (inl before))
 
   -- ---- the nodes of the ends
 
@@ -174,10 +171,8 @@ module _ (F : FunctionSet) (top : Data) where
       → map (child_of n) (picks_by sels number down v) ≡ map (placed (n.location ++ down)) (chosen_by F top sels v)
   child_of-picks_by no_selectors number n down v = refl
   child_of-picks_by (selector sel more) number n down v =
-      map-append (child_of n) (map (triple_at down number) (selected F top sel v)) (picks_by more (number + 1) down v)
-      ∙ ap (λ ns. ns ++ map (child_of n) (picks_by more (number + 1) down v)) (child_of-triple n down number (selected F top sel v))
-      ∙ ap (λ ns. map (placed (n.location ++ down)) (selected F top sel v) ++ ns) (child_of-picks_by more (number + 1) n down v)
-      ∙ sym (map-append (placed (n.location ++ down)) (selected F top sel v) (chosen_by F top more v))
+      rw (map-append (child_of n) (map (triple_at down number) (selected F top sel v)) (picks_by more (number + 1) down v), child_of-triple n down number (selected F top sel v),
+      child_of-picks_by more (number + 1) n down v, map-append (placed (n.location ++ down)) (selected F top sel v) (chosen_by F top more v)) refl
 
   child_of-picks : (seg : Segment) (n : Located) (down : List Step) (v : Data) → map (child_of n) (picks seg down v) ≡ map (placed (n.location ++ down)) (chosen F top seg v)
   child_of-picks (dot_name k) n down v = child_of-triple n down 0 (option_to_list (child_by v (by_name k)))
@@ -205,5 +200,4 @@ module _ (F : FunctionSet) (top : Data) where
 module _ (F : FunctionSet) (top : Data) where
   pub results_beneath : (segs : Segments) (n : Located) → results_from F top segs n ≡ map (beneath n.location) (results_from F top segs (itself n.value))
   results_beneath segs n =
-      results-ends F top segs n ∙ sym (map-map (beneath n.location) (node_at (itself n.value)) (ends F top segs n.value))
-      ∙ ap (map (beneath n.location)) (sym (results-ends F top segs (itself n.value)))
+      rw (results-ends F top segs n, results-ends F top segs (itself n.value), map-map (beneath n.location) (node_at (itself n.value)) (ends F top segs n.value)) refl

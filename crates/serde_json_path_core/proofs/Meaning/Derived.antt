@@ -85,12 +85,9 @@ relation_right op (Some a) None A B f g = (λ e. absurd (true≢false (sym e)), 
 
 -- an answer as a side of a comparison
 answer_side : (a : Term) (A : Term → Type 0) → ((t : Term) → A t ↔ (t ≡ a)) → (x : Compared) → ((o : Option Data) × A (value o) × (x ≡ value_compared o)) ↔ (answer_compared a ≡ Some x)
-answer_side a A f x = (λ h. ap answer_compared (sym ((f (value h.0)).0 h.1)) ∙ ap Some (sym h.2), by a refl)
-  where
-    by : (t : Term) → a ≡ t → answer_compared t ≡ Some x → (o : Option Data) × A (value o) × (x ≡ value_compared o)
-    by (value o) e g = (o, (f (value o)).1 (sym e), sym (same_Some (value_compared o) x g))
-    by (nodes ds) e g = absurd (none-some x g)
-    by (logical b) e g = absurd (none-some x g)
+answer_side (value o) A f x =
+    (λ h. ap answer_compared (sym ((f (value h.0)).0 h.1)) ∙ ap Some (sym h.2), λ e. (o, (f (value o)).1 refl, sym (same_Some (value_compared o) x e)))
+answer_side a A f x = (λ h. ap answer_compared (sym ((f (value h.0)).0 h.1)) ∙ ap Some (sym h.2), λ e. absurd (none-some x e))
 
 -- an answer as a test
 answer_test : (a : Term) (A : Term → Type 0) → ((t : Term) → A t ↔ (t ≡ a)) → Decides (answer_holds a) ((t : Term) × A t × AnswersYes t)

@@ -1,6 +1,6 @@
 -- One more segment: its derivations are those of the shorter query, each with one more triple, in that order.
-use Rattle.std.proofs.Common.{◌≡◌, List, [], ◌∷◌, ◌++◌, map, flat_map, ◌↔◌, inl, inr, Bool, true, false, ◌&&◌, Option, Some, None, option_and_then, option_to_list, if◌then◌else◌, nat_eq, refl, sym, ap, subst, ◌∙◌, append_assoc}
-use Rattle.serde_json_path_core.proofs.Words.{same_Some, none-some, Decides-and, Decides-eqb, Decides, AllZip, Data, at, child_at, Located, IsIn}
+use Rattle.std.proofs.Common.{◌≡◌, List, [], ◌∷◌, ◌++◌, map, flat_map, ◌↔◌, inl, inr, Bool, ◌&&◌, Option, Some, None, option_and_then, option_to_list, if◌then◌else◌, nat_eq, refl, sym, ap, subst, ◌∙◌, append_assoc}
+use Rattle.serde_json_path_core.proofs.Words.{cases_Bool, same_Some, none-some, Decides-and, Decides-eqb, Decides, AllZip, Data, at, child_at, Located, IsIn}
 use Rattle.serde_json_path_core.proofs.Words.{IsInOrder, QueryKind, query, current, Segments, no_segments, segment, SegmentKind, Segment, in_flat_map, in_map}
 use Rattle.serde_json_path_core.proofs.Words.{map_in, in_option, in_order-flat_map, in_order-map, in_order-option, weaker, FunctionSet, Triple, location_of}
 use Rattle.serde_json_path_core.proofs.Words.{start_of, BelongsTo, Before, beneath, AreResultsAt, with_segment, Derives, IsResult}
@@ -44,19 +44,16 @@ one_more (p ∷ ps) (z ∷ zs) = if same_triple p z then one_more ps zs else Non
 one_more _ _ = None
 
 one_more-is : (ps zs : List Triple) (x : Triple) → one_more ps zs ≡ Some x → zs ≡ ps ++ x ∷ []
-one_more-is [] [] x e = absurd (none-some x e)
 one_more-is [] (z ∷ []) x e = ap (λ w. w ∷ []) (same_Some z x e)
-one_more-is [] (z ∷ w ∷ zs) x e = absurd (none-some x e)
-one_more-is (p ∷ ps) [] x e = absurd (none-some x e)
-one_more-is (p ∷ ps) (z ∷ zs) x e = by (same_triple p z) refl e (one_more-is ps zs x)
-  where
-    by : (b : Bool) → same_triple p z ≡ b → (if b then one_more ps zs else None) ≡ Some x → (one_more ps zs ≡ Some x → zs ≡ ps ++ x ∷ []) → z ∷ zs ≡ (p ∷ ps) ++ x ∷ []
-    by true same e later = ap (λ w. w ∷ zs) (sym ((same_triple_decides p z).0 same)) ∙ ap (λ ws. p ∷ ws) (later e)
-    by false other e later = absurd (none-some x e)
+one_more-is (p ∷ ps) (z ∷ zs) x e = elim (cases_Bool (same_triple p z)) [
+  | inl same ↦ rw ((same_triple_decides p z).0 same, one_more-is ps zs x (rw same at e)) refl
+  | inr other ↦ absurd (none-some x (rw other at e))
+]
+one_more-is _ _ x e = absurd (none-some x e)
 
 one_more-of : (ps : List Triple) (x : Triple) → one_more ps (ps ++ x ∷ []) ≡ Some x
 one_more-of [] x = refl
-one_more-of (p ∷ ps) x = ap (λ b. if b then one_more ps (ps ++ x ∷ []) else None) ((same_triple_decides p p).1 refl) ∙ one_more-of ps x
+one_more-of (p ∷ ps) x = rw ((same_triple_decides p p).1 refl) (one_more-of ps x)
 
 -- the triples that some derivations have after that one
 abbrev more_after : List (List Triple) → List Triple → List Triple
@@ -74,11 +71,9 @@ in_more_after all ps x =
 module _ (reach : SegmentKind) (seg : Segment) where
   -- what comes before another still does with one more triple each
   before-longer : (segs : Segments) (xs ys : List Triple) (x y : Triple) → Before segs xs ys → Before (with_segment segs reach seg) (xs ++ x ∷ []) (ys ++ y ∷ [])
-  before-longer no_segments xs ys x y h = absurd h
-  before-longer (segment kind first more) [] ys x y h = absurd h
-  before-longer (segment kind first more) (z ∷ xs) [] x y h = absurd h
   before-longer (segment kind first more) (z ∷ xs) (w ∷ ys) x y (inl h) = inl h
   before-longer (segment kind first more) (z ∷ xs) (w ∷ ys) x y (inr h) = inr (h.0, before-longer more xs ys x y h.1)
+  before-longer _ _ _ x y h = absurd h
 
 module _ (F : FunctionSet) (top : Data) (reach : SegmentKind) (seg : Segment) where
   abbrev Longer : Segments → Segments
@@ -183,8 +178,6 @@ module _ (F : FunctionSet) (top : Data) (reach : SegmentKind) (seg : Segment) wh
         → AllZip (BelongsTo start) (map (λ (x : Triple). p ++ x ∷ []) xs) ms
         → (first : List Located) × AllZip (BelongsTo n.value) (map (λ (x : Triple). x ∷ []) xs) first × (ms ≡ map (beneath n.location) first)
     under p n is [] [] zip = ([], tt, refl)
-    under p n is [] (m ∷ ms) zip = absurd zip
-    under p n is (x ∷ xs) [] zip = absurd zip
     under p n is (x ∷ xs) (m ∷ ms) zip =
         let (first, firsts, rest) = under p n is xs ms zip.1 in
         let below = location_of (x ∷ []) in
@@ -195,6 +188,7 @@ module _ (F : FunctionSet) (top : Data) (reach : SegmentKind) (seg : Segment) wh
           ((refl, there), firsts),
           ap (λ l. record { location = l; value = m.value } ∷ ms) same ∙ ap (λ ns. record { location = n.location ++ below; value = m.value } ∷ ns) rest,
         )
+    under p n is _ _ zip = absurd zip
 
     -- which are the last segment's result at the node
     result_there : (p : List Triple) (n : Located) (first : List Located) → IsInOrder (Before (Longer segs)) long → Derives F top segs start p → BelongsTo start p n

@@ -54,17 +54,12 @@ strided_sound (suc count) upwards first stride items there c h =
 strided_complete : (count : ℕ) (upwards : Bool) (first stride : ℕ) (items : Items) → ((j : ℕ) → j < count → frame upwards first stride j < items_len items)
     → (c : Step × Data) → IsPlaced count upwards first stride items c → IsIn c (strided count upwards first stride items)
 strided_complete zero upwards first stride items there c h = let k = h.1 in absurd (omega arith)
-strided_complete (suc count) upwards first stride items there c h =
-    let later = strided_complete count upwards (next_position upwards first stride) stride items (λ j k. there (suc j) (omega arith)) in
+strided_complete (suc count) upwards first stride items there c (zero, k, f, g) =
+    rw (next_strided count upwards first stride items (Some c.1) g) (inl (λ i. (f i, c.1)))
+strided_complete (suc count) upwards first stride items there c (suc j, k, f, g) =
     let d = item_there items first (there 0 (omega arith)) in
-    subst (IsIn c) (sym (next_strided count upwards first stride items (Some d.0) d.1)) (by d.0 d.1 later h.0 h.1 h.2 h.3)
-  where
-    by : (d : Data) → get_item first items ≡ Some d
-        → ((c : Step × Data) → IsPlaced count upwards (next_position upwards first stride) stride items c → IsIn c (strided count upwards (next_position upwards first stride) stride items))
-        → (j : ℕ) → j < suc count → c.0 ≡ by_position (frame upwards first stride j) → get_item (frame upwards first stride j) items ≡ Some c.1
-        → IsIn c ((by_position first, d) ∷ strided count upwards (next_position upwards first stride) stride items)
-    by d e later zero k f g = let same = same_Some c.1 d (sym g ∙ e) in inl (λ i. (f i, same i))
-    by d e later (suc j) k f g = inr (later c (j, omega arith, f, g))
+    rw (next_strided count upwards first stride items (Some d.0) d.1)
+    (inr (strided_complete count upwards (next_position upwards first stride) stride items (λ i l. there (suc i) (omega arith)) c (j, omega arith, f, g)))
 
 strided_ordered : (R : Step → Step → Type 0) (count : ℕ) (upwards : Bool) (first stride : ℕ) (items : Items) → ((j : ℕ) → j < count → frame upwards first stride j < items_len items)
     → ((j k : ℕ) → j < k → k < count → R (by_position (frame upwards first stride j)) (by_position (frame upwards first stride k)))
@@ -254,23 +249,19 @@ is_course (negsuc k) s len e =
 
 -- the children of a slice are those at the positions that it selects
 pub in_sliced : (s : Slice) (v : Data) (x : Step × Data) → IsIn x (sliced s v) ↔ (IsPositionOf (SelectsPosition s) v x.0 × (child_at v x.0 ≡ Some x.1))
-in_sliced s (array items) x = (forth, λ h. back h.0.0 h.0.1 h.0.2 h.0.3 h.0.4 h.1)
-  where
-    forth : IsIn x (sliced s (array items)) → IsPositionOf (SelectsPosition s) (array items) x.0 × (child_at (array items) x.0 ≡ Some x.1)
-    forth h =
-        let c = positions_by (step_of s) s (items_len items) in
-        let good = is_course (step_of s) s (items_len items) refl in
-        let k = strided_sound c.count c.upwards c.first c.stride items good.there x h in
-        let p = frame c.upwards c.first c.stride k.0 in
-        ((items, refl, p, k.2, (good.selects p).1 (k.0, k.1, refl)), ap (child_at (array items)) k.2 ∙ k.3)
-
-    back : (same : Items) → Some items ≡ Some same → (p : ℕ) → x.0 ≡ by_position p → SelectsPosition s (items_len same) p → child_at (array items) x.0 ≡ Some x.1 → IsIn x (sliced s (array items))
-    back same e p is selects found =
-        let c = positions_by (step_of s) s (items_len items) in
-        let good = is_course (step_of s) s (items_len items) refl in
-        let k = (good.selects p).0 (subst (λ (xs : Items). SelectsPosition s (items_len xs) p) (sym (same_Some items same e)) selects) in
-        strided_complete c.count c.upwards c.first c.stride items good.there x
-        (k.0, k.1, is ∙ ap by_position k.2, ap (λ q. get_item q items) (sym k.2) ∙ ap (child_at (array items)) (sym is) ∙ found)
+in_sliced s (array items) x =
+    let c = positions_by (step_of s) s (items_len items) in
+    let good = is_course (step_of s) s (items_len items) refl in (
+      λ h.
+          let k = strided_sound c.count c.upwards c.first c.stride items good.there x h in
+          let p = frame c.upwards c.first c.stride k.0 in
+          ((items, refl, p, k.2, (good.selects p).1 (k.0, k.1, refl)), ap (child_at (array items)) k.2 ∙ k.3),
+      λ h.
+          let ((same, e, p, is, selects), found) = h in
+          let k = (good.selects p).0 (subst (λ (xs : Items). SelectsPosition s (items_len xs) p) (sym (same_Some items same e)) selects) in
+          strided_complete c.count c.upwards c.first c.stride items good.there x
+          (k.0, k.1, is ∙ ap by_position k.2, ap (λ q. get_item q items) (sym k.2) ∙ ap (child_at (array items)) (sym is) ∙ found),
+    )
 in_sliced s _ x = (λ h. absurd h, λ h. absurd (none-some h.0.0 h.0.1))
 
 -- the children of a slice stand in its order

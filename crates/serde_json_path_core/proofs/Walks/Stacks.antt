@@ -1,5 +1,5 @@
 -- Stacks of frames: what is left of a walk, and the stack with which one begins.
-use Rattle.std.proofs.Common.{◌≡◌, ℕ, ◌+◌, List, [], ◌∷◌, ◌++◌, map, drop, flat_map, Option, Some, option_to_list, refl, ap, ◌∙◌, sym, append_assoc, ◌<◌, ◌≤◌, length, true, arith, length-append, None}
+use Rattle.std.proofs.Common.{◌≡◌, ℕ, ◌+◌, List, [], ◌∷◌, ◌++◌, map, drop, flat_map, Option, Some, refl, ap, ◌∙◌, sym, append_assoc, ◌<◌, ◌≤◌, length, true, arith, length-append, None}
 use Rattle.serde_json_path_core.proofs.Words.{flat_map-append, append-nil, drop-drop, flat_map-map, Step, Located, SegmentKind, child, descendant}
 use Rattle.serde_json_path_core.proofs.Words.{Selector, name, wildcard, beneath, children, descents, placed, reached, Stage, Frame, candidates, lower}
 use Rattle.serde_json_path_core.proofs.Words.{entered, frame_tasks, is_leaf, here, stack_path, visit, visit_rest, visit_place, visit_stack, admitted}
@@ -70,14 +70,9 @@ module _ (admit : Selector → List (Step × Data) → List (Step × Data)) {A :
       let xs = picks stage.selectors n.value in
       let ys = lower stage.kind n.value in
       unrolled (λ m. before ++ flat_map (λ c. made more (placed m.location c)) (picks stage.selectors m.value)) stage.kind n
-      ∙ append_assoc before (flat_map (λ c. made more (placed n.location c)) xs) (flat_map (λ c. made (stage ∷ more) (placed n.location c)) ys)
-      ∙ ap (λ zs. before ++ zs) (
-      ap (λ s. flat_map (λ c. made s (placed n.location c)) xs ++ flat_map (λ c. made (stage ∷ more) (placed n.location c)) ys) (sym (next_stage all number stage more e))
-      ∙ ap (λ s. flat_map (λ c. made (drop (number + 1) all) (placed n.location c)) xs ++ flat_map (λ c. made s (placed n.location c)) ys) e
-      ∙ ap (λ zs. zs ++ flat_map (λ c. made (drop number all) (placed n.location c)) ys) (sym (flat_map-map (of_task n.location) (λ c. (number + 1, c)) xs))
-      ∙ ap (λ zs. flat_map (of_task n.location) (map (λ c. (number + 1, c)) xs) ++ zs) (sym (flat_map-map (of_task n.location) (λ c. (number, c)) ys))
-      ∙ sym (flat_map-append (of_task n.location) (map (λ c. (number + 1, c)) xs) (map (λ c. (number, c)) ys))
-      )
+      ∙ rw (flat_map-append (of_task n.location) (map (λ c. (number + 1, c)) xs) (map (λ c. (number, c)) ys), flat_map-map (of_task n.location) (λ c. (number + 1, c)) xs,
+      flat_map-map (of_task n.location) (λ c. (number, c)) ys, next_stage all number stage more e, sym e)
+      (append_assoc before (flat_map (λ c. made more (placed n.location c)) xs) (flat_map (λ c. made (stage ∷ more) (placed n.location c)) ys))
 
   of_stack-last : (above : List Step) (ps : List Frame) (p : Frame)
       → visit_stack admit before leaf all above (ps ++ p ∷ []) ≡ visit_place admit before leaf all (here (stack_path above ps) p) p ++ visit_stack admit before leaf all above ps
@@ -111,16 +106,9 @@ module _ (admit : Selector → List (Step × Data) → List (Step × Data)) {A :
       → m.step ≡ p.step → m.segment ≡ p.segment
       → of_stack (ps ++ p ∷ []) ≡ flat_map (of_task (here (stack_path [] ps) p)) front ++ of_stack (ps ++ m ∷ [])
   passes ps p m stage more front d t ms mk =
-      let S = of_stack ps in
-      let L = here (stack_path [] ps) p in
-      let same : L ≡ here (stack_path [] ps) m = ap (λ o. stack_path [] ps ++ option_to_list o) (sym ms) in
-      let dm : drop m.segment all ≡ stage ∷ more = ap (λ j. drop j all) mk ∙ d in
-      drops ps p stage more d
-      ∙ ap (λ ts. flat_map (of_task L) ts ++ S) t
-      ∙ ap (λ xs. xs ++ S) (flat_map-append (of_task L) front (frame_tasks admit stage m))
-      ∙ append_assoc (flat_map (of_task L) front) (flat_map (of_task L) (frame_tasks admit stage m)) S
-      ∙ ap (λ l. flat_map (of_task L) front ++ (flat_map (of_task l) (frame_tasks admit stage m) ++ S)) same
-      ∙ ap (λ xs. flat_map (of_task L) front ++ xs) (sym (drops ps m stage more dm))
+      let tasks = of_task (here (stack_path [] ps) p) in
+      let kept = frame_tasks admit stage m in
+      rw (drops ps p stage more d, t, flat_map-append tasks front kept, append_assoc (flat_map tasks front) (flat_map tasks kept) (of_stack ps), drops ps m stage more (ap (λ j. drop j all) mk ∙ d), ms) refl
 
   -- the last frame moves on, past some tasks, to a child
   pub moves : (ps : List Frame) (p m : Frame) (stage : Stage) (more : List Stage) (front : List (ℕ × (Step × Data))) (number : ℕ) (c : Step × Data)
@@ -134,12 +122,9 @@ module _ (admit : Selector → List (Step × Data) → List (Step × Data)) {A :
       let L = here (stack_path [] ps) p in
       let Q = visit_place admit before leaf all (L ++ c.0 ∷ []) q in
       let passed = flat_map (of_task L) front in
-      let same : here (stack_path [] (ps ++ m ∷ [])) q ≡ L ++ c.0 ∷ [] =
-      ap (λ l. l ++ c.0 ∷ []) (stack_path-last [] ps m ∙ ap (λ o. stack_path [] ps ++ option_to_list o) ms) in
       passes ps p m stage more (front ++ task ∷ []) d (t ∙ sym (append_assoc front (task ∷ []) (frame_tasks admit stage m))) ms mk
-      ∙ ap (λ xs. xs ++ S) (flat_map-append (of_task L) front (task ∷ []) ∙ ap (λ xs. passed ++ xs) (append-nil (of_task L task) ∙ enters (Some c.0) number (drop number all) (placed L c) refl))
-      ∙ append_assoc passed (before ++ Q) S
-      ∙ ap (λ xs. passed ++ xs) (append_assoc before Q S ∙ ap (λ xs. before ++ xs) (ap (λ l. visit_place admit before leaf all l q ++ S) (sym same) ∙ sym (of_stack-last [] (ps ++ m ∷ []) q)))
+      ∙ rw (flat_map-append (of_task L) front (task ∷ []), append-nil (of_task L task), enters (Some c.0) number (drop number all) (placed L c) refl,
+      append_assoc passed (before ++ Q) S, append_assoc before Q S, of_stack-last [] (ps ++ m ∷ []) q, stack_path-last [] ps m, ms) refl
 
 -- ---- leaves
 
@@ -156,7 +141,7 @@ admits-none F top _ = refl
 leaf-picks : (F : FunctionSet) (top : Data) (sels : List Selector) (v : Data) → is_leaf v ≡ true → flat_map (λ s. admitted F top s (candidates s v)) sels ≡ []
 leaf-picks F top [] v h = refl
 leaf-picks F top (sel ∷ more) v h =
-    ap (λ xs. xs ++ flat_map (λ s. admitted F top s (candidates s v)) more) (ap (admitted F top sel) (leaf-candidates sel v h) ∙ admits-none F top sel) ∙ leaf-picks F top more v h
+    rw (leaf-candidates sel v h, admits-none F top sel) (leaf-picks F top more v h)
 
 leaf-lower : (kind : SegmentKind) (v : Data) → is_leaf v ≡ true → lower kind v ≡ []
 leaf-lower child v h = refl
@@ -228,8 +213,7 @@ module _ (F : FunctionSet) (top : Data) where
   chosen_by-list : (sels : Selectors) (v : Data) → flat_map (λ s. admitted F top s (candidates s v)) (selectors_list sels) ≡ chosen_by F top sels v
   chosen_by-list no_selectors v = refl
   chosen_by-list (selector sel more) v =
-      ap (λ xs. xs ++ flat_map (λ s. admitted F top s (candidates s v)) (selectors_list more)) (selected-admitted sel v)
-      ∙ ap (λ xs. selected F top sel v ++ xs) (chosen_by-list more v)
+      rw (selected-admitted sel v, chosen_by-list more v) refl
 
   pub chosen-list : (seg : Segment) (v : Data) → flat_map (λ s. admitted F top s (candidates s v)) (selectors_of seg) ≡ chosen F top seg v
   chosen-list (dot_name k) v = append-nil _

@@ -1,11 +1,11 @@
 -- Turns of a walk: what the last frame comes to.
-use Rattle.std.proofs.Common.{◌≡◌, ℕ, ◌+◌, ◌<◌, List, [], ◌∷◌, ◌++◌, take, set, length, get_or, refl, ap, ◌∙◌, sym, arith, zero, suc, ◌≤◌, drop, slice_get, option_map, Option, Some, None, slice_index_or, inl, inr, ◌-◌, Bool, true, false, subst, cond, length-append}
+use Rattle.std.proofs.Common.{◌≡◌, ℕ, ◌+◌, ◌<◌, List, [], ◌∷◌, ◌++◌, take, set, length, get_or, refl, ap, ◌∙◌, sym, arith, zero, suc, ◌≤◌, drop, slice_get, option_map, Option, Some, None, slice_index_or, inl, inr, ◌-◌, subst, length-append}
 use Rattle.serde_json_path_core.proofs.Words.{frame_view, frames_view, Frame, last_passed, passed, get_or_append_left, take_all, length-set}
 use Rattle.serde_json_path_core.proofs.Words.{map-append, drop_all, drop_more, none-some, slice_get_read, slice_get_past, Piece, Node, Part, piece_in}
 use Rattle.serde_json_path_core.proofs.Words.{pieces, pieces_named, segment_in, segment_kind_in, segments_in, stage_of, stages, stage_at, stages_at}
-use Rattle.serde_json_path_core.proofs.Words.{append-nil, take-append_seam, Data, Step, FunctionSet, Stage, admitted, entered, entering, frame_tasks}
+use Rattle.serde_json_path_core.proofs.Words.{append-nil, take-append_seam, Data, Step, FunctionSet, Stage, admitted, entered, entering}
 use Rattle.serde_json_path_core.proofs.Words.{is_leaf, rest_of, stack_path, work, IsAtStart, IsStack, ComesTo, IsAtNode, IsDone, Passes}
-use Rattle.serde_json_path_core.proofs.Words.{get_or_default, view, IsAtTask, task_view}
+use Rattle.serde_json_path_core.proofs.Words.{cases_Bool, get_or_default, view, IsAtTask, task_view}
 use Rattle.std.proofs.lemmas.List.{set-append_left, take_more, take_more_set, take-set}
 use Rattle.serde_json_path_core.specs.declared.evaluation.frame.Frame as declared
 use Rattle.std.proofs.lemmas.Option.{get_or_from_slice_get, slice_get_cases, slice_get_within}
@@ -36,8 +36,7 @@ passes-last (q ∷ r ∷ rs) p = ap (λ more. q ∷ more) (passes-last (r ∷ rs
 pub sees_passed : (items : List declared.Frame) (n : ℕ) (old new : declared.Frame) → length items ≡ n + 1 → old ≡ get_or items n old → frame_view new ≡ passed (frame_view old)
     → frames_view (set items n new) ≡ last_passed (frames_view items)
 sees_passed items n old new long is e =
-    let sees = sees_replaced items n old new long is in
-    sees.1 ∙ ap (λ p. frames_view (take n items) ++ p ∷ []) e ∙ sym (ap last_passed sees.0 ∙ passes-last (frames_view (take n items)) (frame_view old))
+    let sees = sees_replaced items n old new long is in rw (sees.1, e, sees.0, passes-last (frames_view (take n items)) (frame_view old)) refl
 
 -- the same where another frame is after it
 pub sees_passed_below : (items pushed : List declared.Frame) (n : ℕ) (old new next : declared.Frame) → length items ≡ n + 1 → pushed ≡ items ++ next ∷ []
@@ -45,10 +44,7 @@ pub sees_passed_below : (items pushed : List declared.Frame) (n : ℕ) (old new 
 sees_passed_below items pushed n old new next long e is seen =
     let within : n < length items = omega arith in
     let last = is ∙ ap (λ fs. get_or fs n old) e ∙ get_or_append_left items (next ∷ []) old n within in
-    ap (λ fs. frames_view (set fs n new)) e
-    ∙ ap frames_view (set-append_left items (next ∷ []) n new within)
-    ∙ map-append frame_view (set items n new) (next ∷ [])
-    ∙ ap (λ fs. fs ++ frame_view next ∷ []) (sees_passed items n old new long last seen)
+    rw (e, set-append_left items (next ∷ []) n new within, map-append frame_view (set items n new) (next ∷ []), sees_passed items n old new long last seen) refl
 
 -- ---- the stages of a query's parts, and what is left of a list after so many elements
 
@@ -125,16 +121,15 @@ module _ (F : FunctionSet) (top : Data) (all : List Stage) where
   -- the last frame passes a task, where a segment is to be applied
   pub turn-entered : (ps : List Frame) (p : Frame) (stage : Stage) (more : List Stage) (number : ℕ) (c : Step × Data) (next : Stage) (others : List Stage)
       → drop p.segment all ≡ stage ∷ more → ComesTo F top stage p (number, c) (passed p) → drop number all ≡ next ∷ others → IsTurn (ps ++ p ∷ []) (entering all (ps ++ p ∷ []) (number, c))
-  turn-entered ps p stage more number c next others d comes inner = by_leaf (is_leaf c.1) refl
-    where
-      by_leaf : (leaf : Bool) → is_leaf c.1 ≡ leaf → IsTurn (ps ++ p ∷ []) (last_passed (ps ++ p ∷ []) ++ cond leaf [] (entered (Some c.0) number (drop number all) c.1 ∷ []))
-      by_leaf true e =
-          let q = entered (Some c.0) number (drop number all) c.1 in
-          let done = subst (λ ss. frame_tasks (admitted F top) next (entered (Some c.0) number ss c.1) ≡ []) (sym inner) (leaf-done F top (Some c.0) number next others c.1 e) in
-          subst (IsTurn (ps ++ p ∷ [])) (sym (append-nil _ ∙ passes-last ps p))
-          (kept-turn _ ((ps ++ passed p ∷ []) ++ q ∷ []) _ (turn-kept _ _ (moved ps p (passed p) stage more number c d comes)) (turn-dropped (ps ++ passed p ∷ []) q next others inner done))
-      by_leaf false e =
-          subst (λ fs. IsTurn (ps ++ p ∷ []) (fs ++ entered (Some c.0) number (drop number all) c.1 ∷ [])) (sym (passes-last ps p)) (moved ps p (passed p) stage more number c d comes)
+  turn-entered ps p stage more number c next others d comes inner =
+      let q = entered (Some c.0) number (drop number all) c.1 in
+      let turn = moved ps p (passed p) stage more number c d comes in
+      elim (cases_Bool (is_leaf c.1)) [
+        | inl e ↦ rw (e, append-nil (last_passed (ps ++ p ∷ [])), passes-last ps p)
+            (kept-turn _ ((ps ++ passed p ∷ []) ++ q ∷ []) _ (turn-kept _ _ turn)
+            (turn-dropped (ps ++ passed p ∷ []) q next others inner (rw inner (leaf-done F top (Some c.0) number next others c.1 e))))
+        | inr e ↦ rw (e, passes-last ps p) turn
+      ]
 
   -- the last frame has come to a node
   pub at-child : (ps : List Frame) (p : Frame) (stage : Stage) (more : List Stage) (number : ℕ) (c : Step × Data) → drop p.segment all ≡ stage ∷ more
@@ -144,7 +139,7 @@ module _ (F : FunctionSet) (top : Data) (all : List Stage) where
       let q = entered (Some c.0) number (drop number all) c.1 in
       let turn = moved ps p m stage more number c d comes in
       let place : stack_path [] ((ps ++ m ∷ []) ++ q ∷ []) ≡ stack_path [] (ps ++ p ∷ []) ++ c.0 ∷ [] =
-      stack_path-last [] (ps ++ m ∷ []) q ∙ ap (λ above. above ++ c.0 ∷ []) (stack_path-last [] ps m ∙ sym (stack_path-last [] ps p)) in
+      rw (stack_path-last [] (ps ++ m ∷ []) q, stack_path-last [] ps m, stack_path-last [] ps p) refl in
       rw (passes-last ps p) (
         turn.0 ∙ gives (admitted F top) [] (λ n. n ∷ []) all (ps ++ m ∷ []) q ends ∙ ap (λ location. located location c.1 ∷ rest_of F top all (ps ++ m ∷ [])) place,
         (let less = turn.1 in let fewer = work-fewer all (ps ++ m ∷ []) q in omega arith),
