@@ -13,7 +13,7 @@ use Rattle.serde_json_path_core.specs.Inside.Evaluates.{IsKept}
 use Rattle.serde_json_path_core.specs.Inside.Scopes.{query_of, set_of}
 use Rattle.serde_json_path_core.specs.Inside.Computed as computed
 use Rattle.serde_json_path_core.proofs.Steps.Answered.{given-all, answered, by_pattern, if_refused}
-use Rattle.serde_json_path_core.proofs.Steps.Lookups.{keep-no, keep-yes, found-none, found-some}
+use Rattle.serde_json_path_core.proofs.Steps.Lookups.{found-none, found-some}
 use Rattle.serde_json_path_core.proofs.Walks.Frames.{at_selector, ends-trans, passes-over, passes-skipped, at-onward, at-downward, done}
 use Rattle.serde_json_path_core.proofs.Walks.Stacks.{rest-started}
 use Rattle.serde_json_path_core.proofs.Walks.Chains.{left_stands, entered-inside, stack-inside, ends-stand}
@@ -127,10 +127,7 @@ evaluation::frame::next_passing-is_true_by-requires g t c =
 
 pub evaluation::frame::next_passing-returns-then-branch-clause-found : goal.evaluation::frame::next_passing-returns-then-branch-clause-found
 evaluation::frame::next_passing-returns-then-branch-clause-found g t c =
-    let child = child_view c.in-Some.child in
-    let left = cursor_left c.loop-child.cursor in
-    let test = λ (x : Step × Data). computed.is_true (set_of c.args.scope.now) (top_of c.args.scope.now) (or_at (nodes_of c.args.scope.now) c.args.test) x.1 in
-    (c.in-Some.ensures, ap (keep test) c.in-Some.ensures ∙ keep-yes test child (drop 1 left) (sym c.in_ok-is_true_by.ensures.means ∙ c.if-branch.true))
+    (c.in-Some.ensures, rw (c.in-Some.ensures, sym c.in_ok-is_true_by.ensures.means ∙ c.if-branch.true) refl)
 
 pub evaluation::frame::next_passing-loop-child-smaller : goal.evaluation::frame::next_passing-loop-child-smaller
 evaluation::frame::next_passing-loop-child-smaller g t c =
@@ -141,10 +138,8 @@ evaluation::frame::next_passing-loop-child-smaller g t c =
 pub evaluation::frame::next_passing-loop-child-preserved : goal.evaluation::frame::next_passing-loop-child-preserved
 evaluation::frame::next_passing-loop-child-preserved g t c =
     let child = child_view c.in-Some.child in
-    let left = cursor_left c.loop-child.cursor in
-    let before = c.loop-child.invariant in
-    let test = λ (x : Step × Data). computed.is_true (set_of c.args.scope.now) (top_of c.args.scope.now) (or_at (nodes_of c.args.scope.now) c.args.test) x.1 in (
-      before.0 ∙ ap (keep test) c.in-Some.ensures ∙ keep-no test child (drop 1 left) (sym c.in_ok-is_true_by.ensures.means ∙ c.if-branch.false) ∙ ap (keep test) (sym c.pass.ensures),
+    let before = c.loop-child.invariant in (
+      before.0 ∙ rw (c.in-Some.ensures, sym c.in_ok-is_true_by.ensures.means ∙ c.if-branch.false, c.pass.ensures) refl,
       ends-trans _ _ _ before.1 (child ∷ [], c.in-Some.ensures ∙ ap (λ cs. child ∷ cs) (sym c.pass.ensures)),
     )
 
@@ -267,20 +262,15 @@ pub filter::logic::first_from-returns-in-Some-clause-means : goal.filter::logic:
 filter::logic::first_from-returns-in-Some-clause-means g t c =
     let scope = c.args.scope.now in
     let begins = rest-started (set_of scope) (top_of scope) (segments_at (nodes_of scope) c.args.segments.now) (view c.args.value.now) _ c.in_ok-frames.ensures in
-    let values = map (λ (n : Located). n.value) in
-    let found = c.in-Some.found in
-    let at = found-some _ _ c.in_ok-found.field-0 found c.in-Some.is c.in_ok-found.ensures.found in
-    ap (λ ns. slice_get (values ns) 0) (sym (sym begins ∙ c.find_next.ensures.kept.0 ∙ at.1.0))
+    let at = found-some _ _ c.in_ok-found.field-0 c.in-Some.found c.in-Some.is c.in_ok-found.ensures.found in
+    rw (sym begins, c.find_next.ensures.kept.0, at.1.0) refl
 
 pub filter::logic::first_from-returns-clause-means : goal.filter::logic::first_from-returns-clause-means
 filter::logic::first_from-returns-clause-means g t c =
     let scope = c.args.scope.now in
-    let all = stages_at (nodes_of scope) c.args.segments.now in
     let begins = rest-started (set_of scope) (top_of scope) (segments_at (nodes_of scope) c.args.segments.now) (view c.args.value.now) _ c.in_ok-frames.ensures in
-    let values = map (λ (n : Located). n.value) in
     let none = found-none _ _ c.in_ok-found.field-0 c.in-None.is c.in_ok-found.ensures.found in
-    ap (λ ns. slice_get (values ns) 0)
-    (sym (sym begins ∙ c.find_next.ensures.kept.0 ∙ ap (λ fs. rest_of (set_of scope) (top_of scope) all (frames_view fs)) none))
+    rw (sym begins, c.find_next.ensures.kept.0, none) refl
 
 pub filter::logic::all_from-values-init : goal.filter::logic::all_from-values-init
 filter::logic::all_from-values-init g t c =
@@ -314,18 +304,13 @@ filter::logic::all_from-values-preserved g t c =
     let all = stages_at (nodes_of scope) c.args.segments.now in
     let node = c.in-Some.node in
     let at = found-some _ _ c.in_ok-node.field-0 node c.in-Some.is c.in_ok-node.ensures.found in
-    let frames = c.find_next.new.frames.items in
-    let values = map (λ (n : Located). n.value) in
-    let rest = rest_of (set_of scope) (top_of scope) all in
-    let left = values (rest (frames_view c.pass_found.new.frames.items)) in
+    let left = map (λ (n : Located). n.value) (rest_of (set_of scope) (top_of scope) all (frames_view c.pass_found.new.frames.items)) in
     let found = map node_value c.values.found.items in
     record {
       values =
           c.values.invariant.values
-          ∙ ap (λ ns. found ++ values ns)
-          (c.find_next.ensures.kept.0 ∙ at.1.0 ∙ ap (λ fs. node_at (frames_view frames) (option_map step_view node.step) (view node.value.now) ∷ rest fs) (sym c.pass_found.ensures))
-          ∙ sym (append_assoc found (view node.value.now ∷ []) left)
-          ∙ ap (λ xs. xs ++ left) (sym (ap (map node_value) c.in_ok-push.ensures.items ∙ map-append node_value c.values.found.items (node.value ∷ [])));
+          ∙ rw (c.find_next.ensures.kept.0, at.1.0, sym c.pass_found.ensures, c.in_ok-push.ensures.items, map-append node_value c.values.found.items (node.value ∷ []))
+          (sym (append_assoc found (view node.value.now ∷ []) left));
       inside = ∥∥₁_map c.values.invariant.inside (λ h. (h.0, h.1, subst (IsStack h.0) (sym c.pass_found.ensures) (at.1.2 h.0 (c.find_next.ensures.kept.2 h.0 h.2))));
     }
 

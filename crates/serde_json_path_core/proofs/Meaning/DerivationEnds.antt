@@ -145,8 +145,7 @@ module _ (F : FunctionSet) (top : Data) where
   through_ordered kind seg v =
       in_order-flat_map (λ (m n : Located). DescentBefore m.location n.location) (λ (t u : Triple × Data). TripleBefore seg t.0 u.0)
       (λ (m : Located). picks seg m.location m.value) (levels kind v) (in_levels kind) (λ m h. picks_ordered seg m.location m.value)
-      (λ m n t u before h g. inl (subst (λ l. DescentBefore l u.0.descent) (sym (picks_place seg m.location m.value t h))
-      (subst (DescentBefore m.location) (sym (picks_place seg n.location n.value u g)) before)))
+      (λ m n t u before h g. inl (rw (picks_place seg m.location m.value t h, picks_place seg n.location n.value u g) before))
     where
       in_levels : (kind : SegmentKind) → IsInOrder (λ (m n : Located). DescentBefore m.location n.location) (levels kind v)
       in_levels child = (λ y h. absurd h, tt)

@@ -154,8 +154,8 @@ module _ (F : FunctionSet) (top : Data) where
           let p = (are_picks m.0.location m.0.value t.0).0 m.2 in
           let i = (are_ends t.0.1 k.0).0 k.1 in
           let there = ap (at v) p.0 ∙ l.1 in
-          subst (λ (x : End). Derives F top (segment kind seg more) v x.0 × (at v (location_of x.0) ≡ Some x.1)) (sym k.2) (
-            (subst (MayDescend kind) (sym p.0) l.0, (m.0.value, there, p.1, (t.0.1, p.2, i.0))),
+          rw k.2 (
+            (rw p.0 l.0, (m.0.value, there, p.1, (t.0.1, p.2, i.0))),
             at_below v t.0.0.descent m.0.value t.0.0.step t.0.1 (location_of k.0.0) there p.2 ∙ i.1,
           )
 

@@ -24,8 +24,7 @@ blocks (member k d more) = (k, descents d) ∷ blocks more
 
 blocks-match_ordering : (o : Ordering) (a b c : Members) → match_ordering o (blocks a) (blocks b) (blocks c) ≡ blocks (match_ordering o a b c)
 blocks-match_ordering Less a b c = refl
-blocks-match_ordering Equal a b c = refl
-blocks-match_ordering Greater a b c = refl
+blocks-match_ordering _ a b c = refl
 
 blocks-put : (k : List ℕ) (d : Data) (ms : Members) → insert_entry (slice_cmp nat_cmp) (blocks ms) k (descents d) ≡ blocks (put k d ms)
 blocks-put k d no_members = refl
@@ -80,7 +79,7 @@ located_in (s ∷ location) v d = (forth (λ c. located_in location c d), back (
         subst (λ n. IsIn n (descents c.0.1)) (λ i. record { location = sym rest_is i; value = sym value_is i }) m.1 in
         let there = (later c.0.1).0 (subst (IsIn (record { location = location; value = d })) (descents_are c.0.1) here) in
         let first = ap (child_at v) step_is ∙ (in_children v c.0).0 c.1 in
-        ap (option_and_then (λ w. at w location)) first ∙ there
+        rw first there
 
     back : ((c : Data) → IsIn (record { location = location; value = d }) (itself c ∷ flat_map below_child (children c)) ↔ (at c location ≡ Some d))
         → at v (s ∷ location) ≡ Some d → IsIn (record { location = s ∷ location; value = d }) (itself v ∷ flat_map below_child (children v))
@@ -125,14 +124,13 @@ ordered_by_children v below = subst (IsInOrder (λ (m n : Located). DescentBefor
     first v n h =
         let c = (in_flat_map below_child n (children v)).0 h in
         let m = (in_map (beneath (c.0.0 ∷ [])) n (descents c.0.1)).0 c.2 in
-        subst (λ (k : Located). DescentBefore [] k.location) (sym m.2) tt
+        rw m.2 tt
 
     apart : (x y : Step × Data) (a b : Located) → StepBefore x.0 y.0 → IsIn a (below_child x) → IsIn b (below_child y) → DescentBefore a.location b.location
     apart x y a b before h g =
         let m = (in_map (beneath (x.0 ∷ [])) a (descents x.1)).0 h in
         let n = (in_map (beneath (y.0 ∷ [])) b (descents y.1)).0 g in
-        subst (λ (k : Located). DescentBefore k.location b.location) (sym m.2)
-        (subst (λ (k : Located). DescentBefore (x.0 ∷ m.0.location) k.location) (sym n.2) (inl before))
+        rw (m.2, n.2) (inl before)
 
     rest : (v : Data) → ((s : Step) (c : Data) → child_at v s ≡ Some c → IsOrdered c)
         → IsInOrder (λ (m n : Located). DescentBefore m.location n.location) (flat_map below_child (children v))

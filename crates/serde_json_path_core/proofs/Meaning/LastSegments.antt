@@ -97,8 +97,7 @@ module _ (F : FunctionSet) (top : Data) (reach : SegmentKind) (seg : Segment) wh
       (λ zs. option_to_list (one_more xs zs)) all order
       (λ zs i. in_order-option (λ (x y : Triple). Before (Longer segs) (xs ++ x ∷ []) (xs ++ y ∷ [])) (one_more xs zs))
       (λ zs ws x y before h g.
-      subst (λ ds. Before (Longer segs) ds (xs ++ y ∷ [])) (one_more-is xs zs x ((in_option x (one_more xs zs)).0 h))
-      (subst (λ ds. Before (Longer segs) zs ds) (one_more-is xs ws y ((in_option y (one_more xs ws)).0 g)) before))
+      rw (sym (one_more-is xs zs x ((in_option x (one_more xs zs)).0 h)), sym (one_more-is xs ws y ((in_option y (one_more xs ws)).0 g))) before)
 
   -- ---- derivations
 
@@ -118,8 +117,7 @@ module _ (F : FunctionSet) (top : Data) (reach : SegmentKind) (seg : Segment) wh
   join : (segs : Segments) (v : Data) (xs : List Triple) (x : Triple) (d : Data) → Derives F top segs v xs → at v (location_of xs) ≡ Some d
       → Derives F top Last d (x ∷ []) → Derives F top (Longer segs) v (xs ++ x ∷ [])
   join no_segments v xs x d h below last =
-      let same : v ≡ d = same_Some v d (ap (λ zs. at v (location_of zs)) (sym h) ∙ below) in
-      subst (λ zs. Derives F top Last v (zs ++ x ∷ [])) (sym h) (subst (λ w. Derives F top Last w (x ∷ [])) (sym same) last)
+      rw (h, same_Some v d (ap (λ zs. at v (location_of zs)) (sym h) ∙ below)) last
   join (segment kind first more) v [] x d h below last = absurd h
   join (segment kind first more) v (z ∷ xs) x d (may, (e, there, admits, (c, leads, rest))) below last =
       (may, (e, there, admits, (c, leads, join more c xs x d rest (sym (at_below v z.descent e z.step c (location_of xs) there leads) ∙ below) last)))
@@ -162,7 +160,7 @@ module _ (F : FunctionSet) (top : Data) (reach : SegmentKind) (seg : Segment) wh
         (λ xs ys zs ws before h g.
         let k = in_grown xs zs h in
         let l = in_grown ys ws g in
-        subst (λ ds. Before (Longer segs) ds ws) (sym k.2) (subst (λ ds. Before (Longer segs) (xs ++ k.0 ∷ []) ds) (sym l.2) (before-longer reach seg segs xs ys k.0 l.0 before))))
+        rw (k.2, l.2) (before-longer reach seg segs xs ys k.0 l.0 before)))
         (λ zs h.
         let (xs, x, is, shorter, below) = split segs start zs ((long_derives zs).0 h) in
         (in_flat_map grown zs short).1 (

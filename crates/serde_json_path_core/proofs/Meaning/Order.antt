@@ -10,8 +10,7 @@ use Rattle.serde_json_path_core.proofs.Words.{SelectedBeforeBy, SelectedBeforeIn
 pub step_once : (s t : Step) → StepBefore s t → StepBefore t s → ⊥
 step_once (by_name k) (by_name l) h g = let e : Less ≡ Greater = sym h ∙ nat_list_cmp_total.antisymm k l ∙ ap ordering_reverse g in cc
 step_once (by_position i) (by_position j) h g = absurd (omega arith)
-step_once (by_name k) (by_position j) h g = h
-step_once (by_position i) (by_name l) h g = h
+step_once _ _ h g = h
 
 -- where what comes first decides, and otherwise what follows
 first_once : {A P Q : Type 0} (R : A → A → Type 0) (once : (x y : A) → R x y → R y x → ⊥) (x y : A) → (x ≡ y → P → Q → ⊥) → R x y ⊎ ((x ≡ y) × P) → R y x ⊎ ((y ≡ x) × Q) → ⊥
@@ -50,11 +49,8 @@ triple_once seg x y h g =
 
 -- of two lists of triples never both stand before the other
 pub before_once : (segs : Segments) (xs ys : List Triple) → Before segs xs ys → Before segs ys xs → ⊥
-before_once no_segments xs ys h g = h
-before_once (segment kind seg more) [] [] h g = h
-before_once (segment kind seg more) [] (y ∷ ys) h g = h
-before_once (segment kind seg more) (x ∷ xs) [] h g = h
 before_once (segment kind seg more) (x ∷ xs) (y ∷ ys) h g = first_once (TripleBefore seg) (triple_once seg) x y (λ e. before_once more xs ys) h g
+before_once _ _ _ h g = h
 
 -- ---- a list in order is fixed by its members
 
@@ -100,11 +96,10 @@ same_pair start xs n m h g =
 same_pairs : (start : Data) (ds : List (List Triple)) (ns ms : List Located) → AllZip (BelongsTo start) ds ns → AllZip (BelongsTo start) ds ms → ns ≡ ms
 same_pairs start [] [] [] h g = refl
 same_pairs start [] [] (m ∷ ms) h g = absurd g
-same_pairs start [] (n ∷ ns) ms h g = absurd h
-same_pairs start (d ∷ ds) [] ms h g = absurd h
 same_pairs start (d ∷ ds) (n ∷ ns) [] h g = absurd g
 same_pairs start (d ∷ ds) (n ∷ ns) (m ∷ ms) h g =
     ap (λ x. x ∷ ns) (same_pair start d n m h.0 g.0) ∙ ap (λ xs. m ∷ xs) (same_pairs start ds ns ms h.1 g.1)
+same_pairs start _ _ _ h g = absurd h
 
 -- a query has one result at most
 pub result_once : (F : FunctionSet) (top : Data) (q : Query) (v : Data) (ns ms : List Located) → IsResult F top q v ns → IsResult F top q v ms → ns ≡ ms

@@ -115,10 +115,9 @@ module _ (F : FunctionSet) (q : Query) where
   pub sound-selector : (seg : Segment) (n : ℕ) (sel : Selector) → slice_get (selectors_of seg) n ≡ Some sel
       → IsSound F q IsTypedSegment calls_in_segment seg → IsSound F q IsTypedSelector calls_in_selector sel
   sound-selector (dot_name k) zero sel e h = subst (IsSound F q IsTypedSelector calls_in_selector) (same_Some (name k) sel e) h
-  sound-selector (dot_name k) (suc n) sel e h = absurd (none-some sel e)
   sound-selector dot_wildcard zero sel e h = subst (IsSound F q IsTypedSelector calls_in_selector) (same_Some wildcard sel e) h
-  sound-selector dot_wildcard (suc n) sel e h = absurd (none-some sel e)
   sound-selector (long_hand sels) n sel e h = sound-bracketed sels n sel e h
+  sound-selector _ n sel e h = absurd (none-some sel e)
 
 -- ---- calls
 

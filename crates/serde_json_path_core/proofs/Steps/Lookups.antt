@@ -20,14 +20,6 @@ pub if-err : {A E : Type 0} (P : Type 0) (r : Result A E) → P → IfErr r (λ 
 if-err P (Ok x) h = tt
 if-err P (Err e) h = h
 
--- ---- parts of a list that a test keeps, one by one
-
-pub keep-no : {A : Type 0} (p : A → Bool) (x : A) (xs : List A) → p x ≡ false → keep p (x ∷ xs) ≡ keep p xs
-keep-no p x xs e = ap (λ b. cond b (x ∷ keep p xs) (keep p xs)) e
-
-pub keep-yes : {A : Type 0} (p : A → Bool) (x : A) (xs : List A) → p x ≡ true → keep p (x ∷ xs) ≡ x ∷ keep p xs
-keep-yes p x xs e = ap (λ b. cond b (x ∷ keep p xs) (keep p xs)) e
-
 -- ---- the members of a map stand in order already, as its keys rise
 
 below_keys : (key : String Global) (entries : List Entry) → AllByRecursion (λ k. string_cmp key k ≡ Less) (keys_of entries) → IsBelow (string_bytes key) (members_view entries)
@@ -46,9 +38,8 @@ in_order-members_view entries sorted = in_order-rising (members_view entries) (r
 -- ---- logical expressions of one operand, which is a comparison
 
 single : (parts : List Part) (d : Part) → 1 ≤ length parts → length parts < 2 → parts ≡ slice_index_or parts 0 d ∷ []
-single [] d low high = absurd (omega arith)
 single (p ∷ []) d low high = refl
-single (p ∷ q ∷ parts) d low high = absurd (omega arith)
+single _ d low high = absurd (omega arith)
 
 -- an expression of one operand of `||` with one operand of `&&`, which is a comparison
 pub one-comparison : (ps : List Piece) (e : LogicalOr) (ors ands : List Part) (d : Part) (x : Comparable) (op : Operator) (y : Comparable)

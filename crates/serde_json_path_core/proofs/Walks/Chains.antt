@@ -73,10 +73,7 @@ start_stands current top here h = h
 
 pub child_stands : (top v : Data) (s : Step) (c : Data) → child_at v s ≡ Some c → StandsIn top v → StandsIn top c
 child_stands top v s c leads h =
-    ∥∥₁_map h (λ l. (
-      l.0 ++ s ∷ [],
-      at-append top l.0 (s ∷ []) ∙ ap (option_and_then (λ d. at d (s ∷ []))) l.1 ∙ ap (option_and_then (λ d. at d [])) leads,
-    ))
+    ∥∥₁_map h (λ l. (l.0 ++ s ∷ [], rw (at-append top l.0 (s ∷ []), l.1, leads) refl))
 
 -- ---- frames
 

@@ -36,30 +36,21 @@ module _ (admit : Selector → List (Step × Data) → List (Step × Data)) (num
   pub skips_over : (sels : List Selector) (sel : Selector) (more : List Selector) (cs ds front : List (Step × Data))
       → sels ≡ sel ∷ more → admit sel cs ≡ front ++ admit sel ds → tasks admit number kind sels cs v ≡ map onward front ++ tasks admit number kind sels ds v
   skips_over sels sel more cs ds front e a =
-      ap (λ xs. tasks admit number kind xs cs v) e
-      ∙ ap (λ xs. map onward (xs ++ all_of more) ++ map downward (lower_left kind (sel ∷ more) cs v)) a
-      ∙ ap (λ xs. map onward xs ++ map downward (lower_left kind (sel ∷ more) cs v)) (append_assoc front (admit sel ds) (all_of more))
-      ∙ ap (λ xs. xs ++ map downward (lower_left kind (sel ∷ more) cs v)) (map-append onward front (admit sel ds ++ all_of more))
-      ∙ append_assoc (map onward front) (map onward (admit sel ds ++ all_of more)) (map downward (lower_left kind (sel ∷ more) cs v))
-      ∙ ap (λ xs. map onward front ++ (map onward (admit sel ds ++ all_of more) ++ map downward xs)) (lower_left-lower kind sel more cs v ∙ sym (lower_left-lower kind sel more ds v))
-      ∙ ap (λ xs. map onward front ++ tasks admit number kind xs ds v) (sym e)
+      rw (e, a, append_assoc front (admit sel ds) (all_of more), map-append onward front (admit sel ds ++ all_of more), lower_left-lower kind sel more cs v,
+      lower_left-lower kind sel more ds v) (append_assoc (map onward front) (map onward (admit sel ds ++ all_of more)) (map downward (lower kind v)))
 
   -- the next selector begins, past what this one still admits
   pub turns_over : (sels : List Selector) (sel : Selector) (more : List Selector) (cs ds : List (Step × Data))
       → sels ≡ sel ∷ more → ds ≡ opened kind more v → tasks admit number kind sels cs v ≡ map onward (admit sel cs) ++ tasks admit number kind more ds v
   turns_over sels sel more cs ds e d =
-      ap (λ xs. tasks admit number kind xs cs v) e
-      ∙ ap (λ xs. xs ++ map downward (lower_left kind (sel ∷ more) cs v)) (map-append onward (admit sel cs) (all_of more))
-      ∙ append_assoc (map onward (admit sel cs)) (map onward (all_of more)) (map downward (lower_left kind (sel ∷ more) cs v))
-      ∙ ap (λ xs. map onward (admit sel cs) ++ (map onward (all_of more) ++ map downward xs)) (lower_left-lower kind sel more cs v)
-      ∙ ap (λ xs. map onward (admit sel cs) ++ xs) (next_opened more ∙ ap (λ xs. tasks admit number kind more xs v) (sym d))
+      rw (e, d, map-append onward (admit sel cs) (all_of more), lower_left-lower kind sel more cs v, sym (next_opened more))
+      (append_assoc (map onward (admit sel cs)) (map onward (all_of more)) (map downward (lower kind v)))
 
   -- after the last selector, a child to go down to
   pub goes_down : (sels : List Selector) (cs ds : List (Step × Data)) (c : Step × Data)
       → kind ≡ descendant → sels ≡ [] → cs ≡ c ∷ ds → tasks admit number kind sels cs v ≡ downward c ∷ tasks admit number kind sels ds v
   goes_down sels cs ds c k e a =
-      ap (λ r. tasks admit number r sels cs v) k ∙ ap (λ xs. tasks admit number descendant xs cs v) e ∙ ap (map downward) a
-      ∙ ap (λ xs. downward c ∷ tasks admit number descendant xs ds v) (sym e) ∙ ap (λ r. downward c ∷ tasks admit number r sels ds v) (sym k)
+      rw (k, e, a) refl
 
   -- after the last selector there is nothing left
   pub is_done : (sels : List Selector) (cs : List (Step × Data)) → sels ≡ [] → (kind ≡ descendant → cs ≡ []) → tasks admit number kind sels cs v ≡ []

@@ -135,10 +135,9 @@ first-reached F top nodes ns (part ∷ parts) found node e is none = absurd (ome
 pub select-only : (nodes : List Node) (parts : List Part) (d : Part) (sel : Selector) → 1 ≤ length parts → length parts < 2
     → stage_at nodes (slice_index_or parts 0 d) ≡ record { kind = child; selectors = sel ∷ [] }
     → ((F : FunctionSet) (top : Data) (cs : List (Step × Data)) → admitted F top sel cs ≡ cs) → SelectOnly nodes parts sel
-select-only nodes [] d sel some one is all = absurd (omega arith)
 select-only nodes (part ∷ []) d sel some one is all =
     λ F top v. values-only F top (segment_kind_in (piece_at nodes part.number)) (segment_in (piece_at nodes part.number)) no_segments v sel is (all F top) ∙ each-alone (candidates sel v)
-select-only nodes (part ∷ second ∷ more) d sel some one is all = absurd (omega arith)
+select-only nodes _ d sel some one is all = absurd (omega arith)
 
 -- the same of a name or an index, if the selector is one
 pub select-single : (nodes : List Node) (parts : List Part) (d : Part) (single : Option SingleSelector) → 1 ≤ length parts → length parts < 2

@@ -1,5 +1,5 @@
 -- A descendant segment's nodes are the child segment's at the node, then those of each child's subtree.
-use Rattle.std.proofs.Common.{◌≡◌, List, [], ◌∷◌, ◌++◌, map, flat_map, sym, ap, ◌∙◌}
+use Rattle.std.proofs.Common.{◌≡◌, List, [], ◌∷◌, ◌++◌, map, flat_map, refl, sym, ap, ◌∙◌}
 use Rattle.serde_json_path_core.proofs.Words.{append-nil, map-id, flat_map-map, map-map, Data, Step, StepBefore, Located, Query, query, current}
 use Rattle.serde_json_path_core.proofs.Words.{Segments, segment, child, descendant, Segment, FunctionSet, IsResult, IsTyped, beneath, children}
 use Rattle.serde_json_path_core.proofs.Words.{descents, placed, results, results_from, chosen, AreChildren, AreSubtreeResults, flat_map-same}
@@ -25,8 +25,7 @@ module _ (F : FunctionSet) (top : Data) where
   subtree_results : (q : Query) (cs : List (Step × Data)) (ns : List Located) → IsTyped F.signature q → AreSubtreeResults F top q cs ns → ns ≡ subtrees q cs
   subtree_results q [] ns typed h = h
   subtree_results q (c ∷ cs) ns typed h =
-      h.4 ∙ ap (λ first. map (beneath (c.0 ∷ [])) first ++ h.1) (computed_only F top q c.1 h.0 typed h.2)
-      ∙ ap (λ later. map (beneath (c.0 ∷ [])) (results F top q c.1) ++ later) (subtree_results q cs h.1 typed h.3)
+      h.4 ∙ rw (computed_only F top q c.1 h.0 typed h.2, subtree_results q cs h.1 typed h.3) refl
 
   module _ (seg : Segment) (more : Segments) where
     -- what the child segment selects at a node below
