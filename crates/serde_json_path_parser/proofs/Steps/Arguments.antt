@@ -33,13 +33,10 @@ module _ (signature : List ℕ → Option Signature) (deeper : Deeper) where
   -- what is left after a comma is shorter
   pub after_comma : (n : ℕ) (laws : DeeperLaws signature n deeper) (cs rest : List ℕ) (a : Argument) → argument_at signature deeper cs ≡ Ok (a, rest) → is_at "," rest ≡ true
       → length (past_blanks (drop 1 rest)) < length cs
-  after_comma n laws cs rest a read comma =
-      let is = (argument_outcome signature n deeper laws cs).reads (a, rest) read in
-      omega (arith, ap length is.split, length-append is.text rest, no_longer (drop 1 rest), one_less rest comma)
-    where
-      one_less : (cs : List ℕ) → is_at "," cs ≡ true → length (drop 1 cs) + 1 ≡ length cs
-      one_less [] e = absurd cc
-      one_less (c ∷ cs) e = omega arith
+  after_comma n laws cs [] a read comma = absurd cc
+  after_comma n laws cs (c ∷ rest) a read comma =
+      let is = (argument_outcome signature n deeper laws cs).reads (a, c ∷ rest) read in
+      omega (arith, ap length is.split, length-append is.text (c ∷ rest), no_longer rest)
 
 -- ---- parts of arguments
 

@@ -1,7 +1,7 @@
 -- The steps of the code within a filter.
-use Rattle.std.proofs.Common.{cond, ◌≡◌, ℕ, Bool, true, false, List, ◌∷◌, drop, Option, Some, Ok, Err, refl, sym, ap, ◌∙◌, zero, suc, ◌-◌, ◌<◌, arith}
+use Rattle.std.proofs.Common.{inl, inr, cond, ◌≡◌, ℕ, true, false, List, ◌∷◌, drop, Option, Some, Ok, Err, refl, sym, ap, ◌∙◌, zero, suc, ◌-◌, ◌<◌, arith}
 use denote.Enum.Bare.{sameb}
-use Rattle.serde_json_path_parser.proofs.Words.{not_test, Call, Literal, result_kind, Part, SyntaxBuilder, of_value, Signature, kind_view, ExpectedExpression}
+use Rattle.serde_json_path_parser.proofs.Words.{cases_Bool, not_test, Call, Literal, result_kind, Part, SyntaxBuilder, of_value, Signature, kind_view, ExpectedExpression}
 use Rattle.serde_json_path_parser.proofs.Words.{WrongReturnType, word, begins_call, Deeper, named_call_at, named_at, negated_call_at, negated_at, IsOperandOf}
 use Rattle.serde_json_path_parser.proofs.Words.{Operand, a_call, is_result, Parsed, ◌>>=◌, refusal, past_blanks, literal_word, Basic, None, Some, ◌==◌, filter}
 use Rattle.serde_json_path_parser.proofs.Words.{is_at, begins, byte_count, selector_at, or_at, call_at, level}
@@ -63,22 +63,15 @@ module _ (signature : List ℕ → Option Signature) (cs : List ℕ) where
   module _ (deeper : Deeper) where
     pub negated_named : is_at "(" cs ≡ false → is_at "@" cs ≡ false → is_at "$" cs ≡ false → negated_at signature deeper cs ≡ (named_at signature deeper cs >>= λ o. negated o.0 o.1)
     unfolding named_at negated_at negated_call_at
-    negated_named no_parenthesis no_current no_root = rw (no_parenthesis, no_current, no_root) (by_test (begins_call cs) refl)
+    negated_named no_parenthesis no_current no_root = rw (no_parenthesis, no_current, no_root) (elim (cases_Bool (begins_call cs)) [
+      | inl e ↦ rw e (by_call (named_call_at signature deeper cs))
+      | inr e ↦ rw (e, literal_word_reads cs) (by_word (literal_word (word cs)))
+    ])
       where
-        none : Parsed Basic
-        none = Err (refusal ExpectedExpression context.LongHand cs)
-
-        operand : Call × List ℕ → Parsed Operand
-        operand c = Ok (a_call c.0, c.1)
-
-        by_call : (read : Parsed Call) → (read >>= λ c. negated (a_call c.0) c.1) ≡ (read >>= operand >>= λ o. negated o.0 o.1)
+        by_call : (read : Parsed Call) → (read >>= λ c. negated (a_call c.0) c.1) ≡ ((read >>= λ c. Ok (a_call c.0, c.1)) >>= λ (o : Operand × List ℕ). negated o.0 o.1)
         by_call (Ok c) = refl
         by_call (Err d) = refl
 
-        by_word : (l : Option Literal) → none ≡ (read_literal l cs >>= λ o. negated o.0 o.1)
+        by_word : (l : Option Literal) → Err (refusal ExpectedExpression context.LongHand cs) ≡ (read_literal l cs >>= λ o. negated o.0 o.1)
         by_word (Some l) = refl
         by_word None = refl
-
-        by_test : (b : Bool) → begins_call cs ≡ b → cond (begins_call cs) (negated_call_at signature deeper cs) none ≡ (named_at signature deeper cs >>= λ o. negated o.0 o.1)
-        by_test true e = rw e (by_call (named_call_at signature deeper cs))
-        by_test false e = rw (e, literal_word_reads cs) (by_word (literal_word (word cs)))

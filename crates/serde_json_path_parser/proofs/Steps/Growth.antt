@@ -40,16 +40,14 @@ module _ {signature : List ℕ → Option Signature} where
   -- by a call, after its arguments
   pub grows_call : {old mid new : SyntaxBuilder} (name : List ℕ) (s : Signature) (args : Arguments) → signature name ≡ Some s → Grows signature old mid (calls_in_arguments args)
       → KeepsTrees mid new → calls_in new ≡ calls_in mid ++ (name, s) ∷ [] → Grows signature old new (calls_from (call name args))
-  grows_call {old} {mid} name s args is grown keeps last = record {
-    trees = λ part piece h. keeps part piece (grown.trees part piece h);
-    names = ap names_in last ∙ map-append (λ (u : List ℕ × Signature). u.0) (calls_in mid) ((name, s) ∷ []) ∙ ap (λ ns. ns ++ name ∷ []) grown.names
-        ∙ append_assoc (names_in (calls_in old)) (names_of (calls_in_arguments args)) (name ∷ [])
-        ∙ ap (λ ns. names_in (calls_in old) ++ ns) (sym (map-append name_of (calls_in_arguments args) (call name args ∷ [])));
+  grows_call {mid = mid} name s args is grown keeps last = grows_then grown (record {
+    trees = keeps;
+    names = ap names_in last ∙ map-append (λ (u : List ℕ × Signature). u.0) (calls_in mid) ((name, s) ∷ []);
     declared = λ h. subst (AreDeclared signature) (sym last) (λ u i. elim ((in_append u (calls_in mid) ((name, s) ∷ [])).0 i) [
-      | inl k ↦ grown.declared h u k
+      | inl k ↦ h u k
       | inr k ↦ elim k [ inl e ↦ ap (λ (v : List ℕ × Signature). signature v.0) e ∙ is ∙ ap (λ (v : List ℕ × Signature). Some v.1) (sym e) | inr none ↦ absurd none ]
     ]);
-  }
+  })
 
 -- ---- the whole query
 

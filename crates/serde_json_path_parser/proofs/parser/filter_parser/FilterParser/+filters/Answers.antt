@@ -38,8 +38,7 @@ parse_and_from-returns-in_err-part-clause-gives g t c = λ x is.
 
 pub parse_and_from-parts-smaller : goal.parse_and_from-parts-smaller
 parse_and_from-parts-smaller g t c =
-    let after = blanks_past_two _ _ _ _ c.sees_both.ensures.stays c.take_two.ensures.left c.skip_blanks.ensures.left in
-    row_shorter (ands_stand _ _) (sym c.sees_both.ensures.value ∙ c.parts-test.true) after c.in_ok-part.ensures.gives
+    row_shorter (ands_stand _ _) (grind (arith, common_steps)) (grind (arith, common_steps)) c.in_ok-part.ensures.gives
 
 pub parse_and_from-parts-preserved : goal.parse_and_from-parts-preserved
 parse_and_from-parts-preserved g t c =
