@@ -1,5 +1,5 @@
 -- The steps of the code within a filter.
-use Rattle.std.proofs.Common.{inl, inr, cond, ◌≡◌, ℕ, true, false, List, ◌∷◌, drop, Option, Some, Ok, Err, refl, sym, ap, ◌∙◌, zero, suc, ◌-◌, ◌<◌, arith}
+use Rattle.std.proofs.Common.{inl, inr, cond, ◌≡◌, ℕ, true, false, List, drop, Option, Some, Ok, Err, refl, zero, suc, ◌-◌, ◌<◌, arith}
 use denote.Enum.Bare.{sameb}
 use Rattle.serde_json_path_parser.proofs.Words.{cases_Bool, not_test, Call, Literal, result_kind, Part, SyntaxBuilder, of_value, Signature, kind_view, ExpectedExpression}
 use Rattle.serde_json_path_parser.proofs.Words.{WrongReturnType, word, begins_call, Deeper, named_call_at, named_at, negated_call_at, negated_at, IsOperandOf}
@@ -14,13 +14,6 @@ use Rattle.serde_json_path_parser.specs.declared.parser.operand.Operand as decla
 use Rattle.serde_json_path_parser.specs.declared.parser.operand.Operand.TheVariants as the_operands
 use Rattle.serde_json_path_parser.specs.Filters.{filter_at}
 use Rattle.serde_json_path_parser.proofs.Reading.Runs.{begins_differs}
-
--- after one character and blanks, and after a sign of two and blanks
-pub blanks_past_one : (c : ℕ) (cs ds es : List ℕ) → cs ≡ c ∷ ds → es ≡ past_blanks ds → es ≡ past_blanks (drop 1 cs)
-blanks_past_one c cs ds es taken skipped = skipped ∙ ap (λ (l : List ℕ). past_blanks (drop 1 l)) (sym taken)
-
-pub blanks_past_two : (cs ds es fs : List ℕ) → ds ≡ cs → es ≡ drop 2 ds → fs ≡ past_blanks es → fs ≡ past_blanks (drop 2 cs)
-blanks_past_two cs ds es fs stays taken skipped = skipped ∙ ap past_blanks (taken ∙ ap (λ (l : List ℕ). drop 2 l) stays)
 
 -- how what stands in a filter, a parenthesis or a call is read one level deeper
 pub level_down : (signature : List ℕ → Option Signature) (n m : ℕ) → 0 < n → m ≡ n - 1 → level signature n ≡ record {

@@ -1,6 +1,6 @@
 use Rattle.serde_json_path_parser.proofs.Reading.Many.{first_fails}
-use Rattle.std.proofs.Common.{◌∙◌, [], Some, refl, sym, ap, map, option_map, arith, true≢false}
-use Rattle.serde_json_path_parser.proofs.Words.{string_bytes, nil_from_length, err_from_is_err_and, literal_view, number_amount, operator_view}
+use Rattle.std.proofs.Common.{drop, ◌∙◌, [], Some, refl, sym, ap, map, option_map, arith, true≢false}
+use Rattle.serde_json_path_parser.proofs.Words.{past_blanks, string_bytes, nil_from_length, err_from_is_err_and, literal_view, number_amount, operator_view}
 use Rattle.serde_json_path_parser.proofs.Words.{a_comparable, logical_argument, call, number, kind_view, signature_view, alone, basic_at, or_at}
 use Rattle.serde_json_path_parser.proofs.Words.{and_at, parameters_at, level, and_list, or_list, named_at, signatures, deeper, begins, opens}
 use Rattle.serde_json_path_parser.proofs.Words.{a_literal, a_call, calls_in_operand, left, common_steps, bracket_at, next_selector_at, selectors_at}
@@ -16,7 +16,7 @@ use Rattle.serde_json_path_parser.proofs.Grammar.Calls.{level_laws}
 use Rattle.serde_json_path_syntax.specs.Flat.{segment_kind_view, kind_view as query_kind_view}
 use Rattle.serde_json_path_parser.proofs.Reading.Runs.{no_longer}
 use Rattle.serde_json_path_parser.proofs.Steps.Growth.{grows_none, grows_kept, grows_same, grows_then, grows_call, grown_so}
-use Rattle.serde_json_path_parser.proofs.Steps.Filters.{level_down, at_mark, blanks_past_one, blanks_past_two, value_kind, negated_named, no_call}
+use Rattle.serde_json_path_parser.proofs.Steps.Filters.{level_down, at_mark, value_kind, negated_named, no_call}
 use Rattle.serde_json_path_parser.proofs.Steps.Rows.{begins_row, row_fails, row_shorter, row_goes_on, row_done}
 use Rattle.serde_json_path_parser.proofs.Steps.RowKinds.{segments_stand, selectors_stand, ors_stand, ands_stand, segment_shorter, some_selectors, some_ors, some_ands}
 use Rattle.serde_json_path_parser.proofs.parser.filter_parser.FilterParser.+filters.Goals as goal
@@ -33,8 +33,7 @@ parse_and_from-parts-init g t c = record {
 pub parse_and_from-returns-in_err-part-clause-gives : goal.parse_and_from-returns-in_err-part-clause-gives
 parse_and_from-returns-in_err-part-clause-gives g t c = λ x is.
     let p = err_from_is_err_and c.from_residual-in_err-part.result c.from_residual-in_err-part.ensures.1 in
-    let after = blanks_past_two _ _ _ _ c.sees_both.ensures.stays c.take_two.ensures.left c.skip_blanks.ensures.left in
-    rw (p.1, p.2) (row_fails (ands_stand _ _) (sym c.sees_both.ensures.value ∙ c.parts-test.true) after (c.parts.invariant.so_far x is) c.in_err-part.field-0.0 c.in_err-part.ensures.gives)
+    rw (p.1, p.2) (row_fails (ands_stand _ _) (grind (arith, common_steps)) (grind (arith, common_steps)) (c.parts.invariant.so_far x is) c.in_err-part.field-0.0 c.in_err-part.ensures.gives)
 
 pub parse_and_from-parts-smaller : goal.parse_and_from-parts-smaller
 parse_and_from-parts-smaller g t c =
@@ -42,10 +41,9 @@ parse_and_from-parts-smaller g t c =
 
 pub parse_and_from-parts-preserved : goal.parse_and_from-parts-preserved
 parse_and_from-parts-preserved g t c =
-    let after = blanks_past_two _ _ _ _ c.sees_both.ensures.stays c.take_two.ensures.left c.skip_blanks.ensures.left in
     record {
       moves = grind (arith, common_steps);
-      so_far = λ x is. row_goes_on (ands_stand _ _) (sym c.sees_both.ensures.value ∙ c.parts-test.true) after c.in_ok-part.ensures.gives (c.parts.invariant.so_far x is) c.in_ok-push-2.ensures.items;
+      so_far = λ x is. row_goes_on (ands_stand _ _) (grind (arith, common_steps)) (grind (arith, common_steps)) c.in_ok-part.ensures.gives (c.parts.invariant.so_far x is) c.in_ok-push-2.ensures.items;
     }
 
 pub parse_and_from-logical_and-requires : goal.parse_and_from-logical_and-requires
@@ -118,7 +116,7 @@ parse_arguments-returns-then-sees-clause-gives g t c = λ fuel enough.
     let a = c.in_ok-argument.ensures.gives in
     let fitting = sym (c.fits.ensures signature a.0 a.1) ∙ c.if-not-fits.false in
     let comma = sym c.sees.ensures ∙ c.if-sees.true in
-    let further = blanks_past_one _ _ _ _ c.take_char.ensures.value c.skip_blanks.ensures.left in
+    let further = c.skip_blanks.ensures.left ∙ ap (λ cs. past_blanks (drop 1 cs)) (sym c.take_char.ensures.value) in
     let shorter = after_comma signature _ c.args.self.now.depth (level_laws signature c.args.self.now.depth) _ _ a.0 a.2 comma in
     one_made a.0 _ c.args.parts.now.items _ _ c.parse_arguments.result _ _ c.in_ok-push.ensures.items (c.in_ok-part.ensures.made signature a.0 a.1) (grows_kept a.3 c.part.ensures.keeps)
     (step.2 ∙ rw (a.2, sym c.sees_end_of_argument.ensures ∙ c.if-not-sees_end_of_argument.false, c.in-Some.ensures.cases.0, fitting, comma, further) refl) (c.parse_arguments.ensures.gives step.0 (rw further (omega (arith, shorter, step.1))))
@@ -193,9 +191,8 @@ parse_call-returns-in_err-parse_parameters-clause-gives g t c =
     let p = err_from_is_err_and c.from_residual.result c.from_residual.ensures.1 in
     let declared = ap (signatures g.F.Functions.set c.args.self.now) (sym c.as_str.ensures.value) ∙ sym c.signature.ensures ∙ ap (option_map signature_view) c.in-Some.is in
     let down = level_down (signatures g.F.Functions.set c.args.self.now) c.args.self.now.depth c.deeper.result.depth (omega (arith, c.if-self-eq0.false)) c.deeper.ensures.depth in
-    let after = blanks_past_one _ _ _ _ c.take_char.ensures.value c.skip_blanks.ensures.left in
-    let read = rw (c.deeper.ensures.functions, c.params.ensures, after) at c.in_err-parse_parameters.ensures.gives in
-    rw (p.1, p.2, down, declared) (first_fails c.in_err-parse_parameters.field-0.0 _ _ read)
+    let read = rw (c.deeper.ensures.functions, c.params.ensures, c.skip_blanks.ensures.left) at c.in_err-parse_parameters.ensures.gives in
+    rw (p.1, p.2, down, declared, c.take_char.ensures.value) (first_fails c.in_err-parse_parameters.field-0.0 _ _ read)
 
 pub parse_call-returns-clause-gives : goal.parse_call-returns-clause-gives
 unfolding call_at
@@ -203,11 +200,10 @@ parse_call-returns-clause-gives g t c =
     let f = string_bytes c.args.name in
     let declared = ap (signatures g.F.Functions.set c.args.self.now) (sym c.as_str.ensures.value) ∙ sym c.signature.ensures ∙ ap (option_map signature_view) c.in-Some.is in
     let down = level_down (signatures g.F.Functions.set c.args.self.now) c.args.self.now.depth c.deeper.result.depth (omega (arith, c.if-self-eq0.false)) c.deeper.ensures.depth in
-    let after = blanks_past_one _ _ _ _ c.take_char.ensures.value c.skip_blanks.ensures.left in
-    let read = rw (c.deeper.ensures.functions, c.params.ensures, after) at c.in_ok-parse_parameters.ensures.gives in (
+    let read = rw (c.deeper.ensures.functions, c.params.ensures, c.skip_blanks.ensures.left) at c.in_ok-parse_parameters.ensures.gives in (
       call f read.0,
       (c.in_ok-call.ensures.made read.0 (rw (read.1.1, c.new-arguments.ensures.items) read.1.2), rw declared (ap (λ k. Some k) (sym c.result.ensures))),
-      rw (down, declared, read.2) refl,
+      rw (down, declared, c.take_char.ensures.value, read.2) refl,
       grows_call f (signature_view c.in-Some.signature) read.0 declared read.3 c.call.ensures.keeps c.in_ok-call.ensures.calls,
     )
 
@@ -218,8 +214,7 @@ parse_inside-returns-then-self-eq0-clause-gives g t c =
 
 pub parse_inside-returns-clause-gives : goal.parse_inside-returns-clause-gives
 parse_inside-returns-clause-gives g t c =
-    let after = blanks_past_one _ _ _ _ c.take_char.ensures.value c.skip_blanks.ensures.left in
-    rw (level_down (signatures g.F.Functions.set c.args.self.now) c.args.self.now.depth c.deeper.result.depth (omega (arith, c.if-self-eq0.false)) c.deeper.ensures.depth, ← after) (rw c.deeper.ensures.functions at c.parse_logical_or.ensures.gives)
+    rw (level_down (signatures g.F.Functions.set c.args.self.now) c.args.self.now.depth c.deeper.result.depth (omega (arith, c.if-self-eq0.false)) c.deeper.ensures.depth, c.take_char.ensures.value, ← c.skip_blanks.ensures.left) (rw c.deeper.ensures.functions at c.parse_logical_or.ensures.gives)
 
 pub parse_named-returns-then-sees-clause-gives : goal.parse_named-returns-then-sees-clause-gives
 unfolding named_at named_call_at
@@ -314,20 +309,17 @@ parse_or_from-parts-init g t c = record {
 pub parse_or_from-returns-in_err-part-clause-gives : goal.parse_or_from-returns-in_err-part-clause-gives
 parse_or_from-returns-in_err-part-clause-gives g t c = λ x is.
     let p = err_from_is_err_and c.from_residual-in_err-part.result c.from_residual-in_err-part.ensures.1 in
-    let after = blanks_past_two _ _ _ _ c.sees_both.ensures.stays c.take_two.ensures.left c.skip_blanks.ensures.left in
-    rw (p.1, p.2) (row_fails (ors_stand _ _) (sym c.sees_both.ensures.value ∙ c.parts-test.true) after (c.parts.invariant.so_far x is) c.in_err-part.field-0.0 c.in_err-part.ensures.gives)
+    rw (p.1, p.2) (row_fails (ors_stand _ _) (grind (arith, common_steps)) (grind (arith, common_steps)) (c.parts.invariant.so_far x is) c.in_err-part.field-0.0 c.in_err-part.ensures.gives)
 
 pub parse_or_from-parts-smaller : goal.parse_or_from-parts-smaller
 parse_or_from-parts-smaller g t c =
-    let after = blanks_past_two _ _ _ _ c.sees_both.ensures.stays c.take_two.ensures.left c.skip_blanks.ensures.left in
-    row_shorter (ors_stand _ _) (sym c.sees_both.ensures.value ∙ c.parts-test.true) after c.in_ok-part.ensures.gives
+    row_shorter (ors_stand _ _) (grind (arith, common_steps)) (grind (arith, common_steps)) c.in_ok-part.ensures.gives
 
 pub parse_or_from-parts-preserved : goal.parse_or_from-parts-preserved
 parse_or_from-parts-preserved g t c =
-    let after = blanks_past_two _ _ _ _ c.sees_both.ensures.stays c.take_two.ensures.left c.skip_blanks.ensures.left in
     record {
       moves = grind (arith, common_steps);
-      so_far = λ x is. row_goes_on (ors_stand _ _) (sym c.sees_both.ensures.value ∙ c.parts-test.true) after c.in_ok-part.ensures.gives (c.parts.invariant.so_far x is) c.in_ok-push-2.ensures.items;
+      so_far = λ x is. row_goes_on (ors_stand _ _) (grind (arith, common_steps)) (grind (arith, common_steps)) c.in_ok-part.ensures.gives (c.parts.invariant.so_far x is) c.in_ok-push-2.ensures.items;
     }
 
 pub parse_or_from-logical_or-requires : goal.parse_or_from-logical_or-requires
@@ -383,8 +375,7 @@ pub parse_segments-returns-in_err-part-clause-gives : goal.parse_segments-return
 parse_segments-returns-in_err-part-clause-gives g t c =
     let p = err_from_is_err_and c.from_residual.result c.from_residual.ensures.1 in
     let so_far = c.segments.invariant.so_far in
-    let starts = ap (begins opens) (sym so_far.2) ∙ sym c.sees_segment.ensures ∙ c.segments-test.true in
-    rw (p.1, p.2) (row_fails (segments_stand _ _ _) starts so_far.2 so_far.3 c.in_err-part.field-0.0 c.in_err-part.ensures.gives)
+    rw (p.1, p.2) (row_fails (segments_stand _ _ _) (grind (arith, common_steps)) so_far.2 so_far.3 c.in_err-part.field-0.0 c.in_err-part.ensures.gives)
 
 pub parse_segments-returns-in_err-part-clause-spares : goal.parse_segments-returns-in_err-part-clause-spares
 parse_segments-returns-in_err-part-clause-spares g t c =
@@ -398,15 +389,14 @@ parse_segments-returns-in_err-push-clause-spares g t c =
 
 pub parse_segments-segments-smaller : goal.parse_segments-segments-smaller
 parse_segments-segments-smaller g t c =
-    let opened = sym c.sees_segment.ensures ∙ c.segments-test.true in
-    let shorter = segment_shorter (signatures g.F.Functions.set c.args.self.now) c.args.self.now.depth c.args.context _ _ c.in_ok-part.ensures.gives.0 opened c.in_ok-part.ensures.gives.2 in
+    let shorter = segment_shorter (signatures g.F.Functions.set c.args.self.now) c.args.self.now.depth c.args.context _ _ c.in_ok-part.ensures.gives.0 (grind (arith, common_steps)) c.in_ok-part.ensures.gives.2 in
     rw c.skip_blanks-in-segments.ensures.left (omega (arith, shorter, no_longer (left c.parse_segment.new.reader)))
 
 pub parse_segments-segments-preserved : goal.parse_segments-segments-preserved
 parse_segments-segments-preserved g t c =
     let so_far = c.segments.invariant.so_far in
     let opened = sym c.sees_segment.ensures ∙ c.segments-test.true in
-    let further = row_goes_on (segments_stand _ _ _) (ap (begins opens) (sym so_far.2) ∙ opened) so_far.2 c.in_ok-part.ensures.gives so_far.3 c.in_ok-push.ensures.items in
+    let further = row_goes_on (segments_stand _ _ _) (grind (arith, common_steps)) so_far.2 c.in_ok-part.ensures.gives so_far.3 c.in_ok-push.ensures.items in
     record {
       moves = grind (arith, common_steps);
       none = λ e. absurd (true≢false (sym opened ∙ c.segments.invariant.none e));
@@ -417,8 +407,7 @@ pub parse_segments-returns-clause-gives : goal.parse_segments-returns-clause-giv
 parse_segments-returns-clause-gives g t c =
     let so_far = c.segments.invariant.so_far in
     let row = so_far.3 in
-    let ended = ap (begins opens) (sym so_far.2) ∙ sym c.sees_segment.ensures ∙ c.segments-test.false in
-    (row.items, so_far.0, row.are, so_far.1, so_far.2, row_done (segments_stand _ _ _) row ended refl, row.grown c.args.builder.now (grows_none c.args.builder.now))
+    (row.items, so_far.0, row.are, so_far.1, so_far.2, row_done (segments_stand _ _ _) row (grind (arith, common_steps)) refl, row.grown c.args.builder.now (grows_none c.args.builder.now))
 
 pub parse_selector-returns-in_err-test-clause-gives : goal.parse_selector-returns-in_err-test-clause-gives
 parse_selector-returns-in_err-test-clause-gives g t c =
@@ -442,20 +431,17 @@ parse_selectors-selectors-init g t c =
 pub parse_selectors-returns-in_err-part-clause-gives : goal.parse_selectors-returns-in_err-part-clause-gives
 parse_selectors-returns-in_err-part-clause-gives g t c =
     let p = err_from_is_err_and c.from_residual-in_err-part.result c.from_residual-in_err-part.ensures.1 in
-    let after = blanks_past_one _ _ _ _ c.take_char.ensures.value c.skip_blanks-in-selectors.ensures.left in
-    rw (p.1, p.2) (row_fails (selectors_stand _ _) (sym c.sees.ensures ∙ c.selectors-test.true) after c.selectors.invariant.so_far c.in_err-part.field-0.0 c.in_err-part.ensures.gives)
+    rw (p.1, p.2) (row_fails (selectors_stand _ _) (grind (arith, common_steps)) (grind (arith, common_steps)) c.selectors.invariant.so_far c.in_err-part.field-0.0 c.in_err-part.ensures.gives)
 
 pub parse_selectors-selectors-smaller : goal.parse_selectors-selectors-smaller
 parse_selectors-selectors-smaller g t c =
-    let after = blanks_past_one _ _ _ _ c.take_char.ensures.value c.skip_blanks-in-selectors.ensures.left in
-    row_shorter (selectors_stand _ _) (sym c.sees.ensures ∙ c.selectors-test.true) after c.in_ok-part.ensures.gives
+    row_shorter (selectors_stand _ _) (grind (arith, common_steps)) (grind (arith, common_steps)) c.in_ok-part.ensures.gives
 
 pub parse_selectors-selectors-preserved : goal.parse_selectors-selectors-preserved
 parse_selectors-selectors-preserved g t c =
-    let after = blanks_past_one _ _ _ _ c.take_char.ensures.value c.skip_blanks-in-selectors.ensures.left in
     record {
       moves = grind (arith, common_steps);
-      so_far = row_goes_on (selectors_stand _ _) (sym c.sees.ensures ∙ c.selectors-test.true) after c.in_ok-part.ensures.gives c.selectors.invariant.so_far c.in_ok-push-2.ensures.items;
+      so_far = row_goes_on (selectors_stand _ _) (grind (arith, common_steps)) (grind (arith, common_steps)) c.in_ok-part.ensures.gives c.selectors.invariant.so_far c.in_ok-push-2.ensures.items;
     }
 
 pub parse_selectors-returns-clause-gives : goal.parse_selectors-returns-clause-gives
