@@ -1,6 +1,6 @@
 -- How the builder grows, and by which calls; and which parts stand for no segment.
 use Rattle.std.proofs.Common.{◌≡◌, ◌≤◌, ℕ, List, [], ◌∷◌, ◌++◌, inl, inr, Some, Option, Result, Ok, Err, refl, sym, ap, subst, ◌∙◌, append_assoc}
-use Rattle.serde_json_path_parser.proofs.Words.{append-nil, map-append, name_of, names_of, calls_in_segments, calls_from, calls_in_arguments, KeepsParts}
+use Rattle.serde_json_path_parser.proofs.Words.{◌↔◌, append-nil, map-append, name_of, names_of, calls_in_segments, calls_from, calls_in_arguments, KeepsParts}
 use Rattle.serde_json_path_parser.proofs.Words.{KeepsTrees, calls_in, AreDeclared, MayFinish, deepest, names_in, IsTyped, depth, Part, query, root, Segments}
 use Rattle.serde_json_path_parser.proofs.Words.{Call, call, Arguments, SyntaxBuilder, Signature, Grows, Parsed, Failure, Reader, Ghosts, SegmentKind, Segment}
 use Rattle.serde_json_path_parser.proofs.Words.{ArePartsOf, segment_list}
@@ -64,13 +64,11 @@ module _ (signature : List ℕ → Option Signature) (begun grown whole : Syntax
       ((grows_kept grows keeps).names ∙ ap (λ us. names_in us ++ names_of (calls_in_segments segs)) silent) all_declared
 
 -- no part stands for no segment, and for nothing else
-pub no_part : (builder : SyntaxBuilder) (parts : List Part) (ss : List (SegmentKind × Segment)) → ArePartsOf builder parts (segment_list ss) → parts ≡ [] → ss ≡ []
-no_part builder parts [] h none = refl
-no_part builder parts (s ∷ ss) h none = absurd (subst (λ (ps : List Part). ArePartsOf builder ps (segment_list (s ∷ ss))) none h)
-
-pub no_segment : (builder : SyntaxBuilder) (parts : List Part) (ss : List (SegmentKind × Segment)) → ArePartsOf builder parts (segment_list ss) → ss ≡ [] → parts ≡ []
-no_segment builder [] ss h none = refl
-no_segment builder (part ∷ parts) ss h none = absurd (subst (λ (xs : List (SegmentKind × Segment)). ArePartsOf builder (part ∷ parts) (segment_list xs)) none h)
+pub none_for_none : (builder : SyntaxBuilder) (parts : List Part) (ss : List (SegmentKind × Segment)) → ArePartsOf builder parts (segment_list ss) → parts ≡ [] ↔ ss ≡ []
+none_for_none builder [] [] h = ((λ none. refl), (λ none. refl))
+none_for_none builder (part ∷ parts) (s ∷ ss) h = ((λ none. absurd cc), (λ none. absurd cc))
+none_for_none builder [] (s ∷ ss) h = absurd h
+none_for_none builder (part ∷ parts) [] h = absurd h
 
 -- ---- what was made, where more is known of how the builder grew
 

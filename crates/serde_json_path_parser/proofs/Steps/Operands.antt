@@ -1,5 +1,6 @@
 -- The steps of the code at operands, and at what an argument's type is.
-use Rattle.std.proofs.Common.{◌≡◌, Bool, true, false, refl, sym}
+use Rattle.std.proofs.Common.{◌≡◌, Bool, refl}
+use Rattle.std.proofs.lemmas.Bool.Decides.{same_from_decides}
 use Rattle.serde_json_path_parser.proofs.Words.{◌↔◌, IsTrue, Operand, calls_in_operand, calls_in_argument, alone, is_singular, is_whole}
 use Rattle.serde_json_path_parser.proofs.Words.{is_value_literal, Literal, text, number, truth, null, IsValueLiteral, Query, IsSingular, a_literal}
 use Rattle.serde_json_path_parser.proofs.Words.{a_call}
@@ -14,21 +15,11 @@ alone_calls (a_call c) = refl
 
 -- a test that says whether a query is a singular one
 pub singular_by : (b : Bool) (q : Query) → IsTrue b ↔ IsSingular q → is_singular q ≡ b
-singular_by true q h = query_singular q (h.0 refl)
-singular_by false q h = other (is_singular q) refl
-  where
-    other : (s : Bool) → is_singular q ≡ s → is_singular q ≡ false
-    other true e = absurd (let wrong : false ≡ true = h.1 (singular_query q e) in cc)
-    other false e = e
+singular_by b q h = same_from_decides (is_singular q) b (singular_query q, query_singular q) h
 
 -- a test that says whether a literal is one for a parameter of values
 pub value_by : (b : Bool) (l : Literal) → IsTrue b ↔ IsValueLiteral l → b ≡ is_value_literal l
-value_by true (number amount) h = let w = h.0 refl in sym (amount_whole amount w.0 w.1)
-value_by false (number amount) h = other (is_whole amount) refl
-  where
-    other : (s : Bool) → is_whole amount ≡ s → false ≡ is_whole amount
-    other true e = absurd (let wrong : false ≡ true = h.1 (whole_amount amount e) in cc)
-    other false e = sym e
+value_by b (number amount) h = same_from_decides b (is_whole amount) h (whole_amount amount, λ w. amount_whole amount w.0 w.1)
 value_by b (text t) h = h.1 tt
 value_by b (truth v) h = h.1 tt
 value_by b null h = h.1 tt

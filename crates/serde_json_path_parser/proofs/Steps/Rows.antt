@@ -22,9 +22,8 @@ joined {each = each} {all = all} law (y ∷ xs) x =
 pushed_part : (builder : SyntaxBuilder) (parts : List Part) (pieces : List Piece) (part : Part) (piece : Piece) → ArePartsFor builder parts pieces → IsPart builder part piece
     → ArePartsFor builder (parts ++ part ∷ []) (pieces ++ piece ∷ [])
 pushed_part builder [] [] part piece h p = (p, tt)
-pushed_part builder [] (x ∷ pieces) part piece h p = absurd h
-pushed_part builder (q ∷ parts) [] part piece h p = absurd h
 pushed_part builder (q ∷ parts) (x ∷ pieces) part piece h p = (h.0, pushed_part builder parts pieces part piece h.1 p)
+pushed_part builder _ _ part piece h p = absurd h
 
 -- How items stand in a row: each is read after what is before it, all have these pieces and calls, and they make up a whole.
 pub record Row (A B : Type 0) : Type 0 where

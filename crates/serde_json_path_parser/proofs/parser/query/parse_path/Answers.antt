@@ -2,7 +2,7 @@ use Rattle.std.proofs.Common.{◌≡◌, ◌∙◌, [], true≢false, Ok, sym, a
 use Rattle.serde_json_path_parser.proofs.Words.{err_from_is_err_and, parts_in, query, root, AreCalled, Fits, path_at, segment_list, left, calls_in}
 use Rattle.serde_json_path_parser.proofs.Grammar.Paths.{all_read, none_read, path_outcome}
 use Rattle.serde_json_path_syntax.proofs.Names.Once.{called_once, each_fits, fits_once}
-use Rattle.serde_json_path_parser.proofs.Steps.Growth.{all_declared, finishes, no_part, no_segment}
+use Rattle.serde_json_path_parser.proofs.Steps.Growth.{all_declared, finishes, none_for_none}
 use Rattle.serde_json_path_parser.proofs.parser.query.parse_path.Goals as goal
 
 pub returns-then-is_empty-clause-gives : goal.returns-then-is_empty-clause-gives
@@ -10,7 +10,7 @@ unfolding path_at
 returns-then-is_empty-clause-gives g c =
     let gives = c.in_ok-parts.ensures.gives in
     let ended = all_read gives.1 c.in_ok-parts.rest gives.3 (omega (arith, c.if-rest-ne0.false)) in
-    let empty = no_part c.parse_segments.new.builder (parts_in c.in_ok-parts.parts) gives.0 gives.2 (c.is_empty.ensures.0 c.if-is_empty.true) in (
+    let empty = (none_for_none c.parse_segments.new.builder (parts_in c.in_ok-parts.parts) gives.0 gives.2).0 (c.is_empty.ensures.0 c.if-is_empty.true) in (
       segment_list gives.0,
       c.new.ensures.tree ∙ ap (λ ss. query root (segment_list ss)) (sym empty),
       rw (sym c.sees.ensures ∙ c.if-not-sees.false, c.take_char.ensures.value, gives.5, ended) refl,
@@ -24,7 +24,7 @@ returns-in_err-part-clause-spares g c =
     let gives = c.in_ok-parts.ensures.gives in
     rw p.1 (λ closed.
     let none = none_read (g.F.Functions.set c.args.functions.now).signature (left c.args.reader.now) (left c.take_char.new.self) gives.1 c.take_char.result gives.0 (sym c.sees.ensures ∙ c.if-not-sees.false) c.take_char.ensures.value gives.5 closed in
-    let empty = c.is_empty.ensures.1 (no_segment c.parse_segments.new.builder (parts_in c.in_ok-parts.parts) gives.0 gives.2 none) in
+    let empty = c.is_empty.ensures.1 ((none_for_none c.parse_segments.new.builder (parts_in c.in_ok-parts.parts) gives.0 gives.2).1 none) in
     absurd (true≢false (sym empty ∙ c.if-is_empty.false)))
 
 pub finish-requires : goal.finish-requires

@@ -64,24 +64,22 @@ pub parse_argument-returns-then-sees_expression-clause-gives : goal.parse_argume
 unfolding argument_at
 parse_argument-returns-then-sees_expression-clause-gives g t c =
     let e = c.in_ok-expression.ensures.gives in
-    (logical_argument e.0, (e.0, refl, e.1), rw (sym c.sees_expression.ensures ∙ c.if-sees_expression.true, e.2) refl, e.3)
+    (logical_argument e.0, (e.0, refl, e.1), grind (arith, common_steps), e.3)
 
 pub parse_argument-returns-then-sees_end_of_argument-clause-gives : goal.parse_argument-returns-then-sees_end_of_argument-clause-gives
 unfolding argument_at
 parse_argument-returns-then-sees_end_of_argument-clause-gives g t c =
     let o = c.in_ok-operand.ensures.gives in
-    let ends = sym c.sees_end_of_argument.ensures ∙ c.if-sees_end_of_argument.true in
-    (alone o.0, (o.0, refl, o.1), rw (sym c.sees_expression.ensures ∙ c.if-sees_expression.false, o.2, ends) refl, grows_same (alone_calls o.0) o.3)
+    (alone o.0, (o.0, refl, o.1), grind (arith, common_steps), grows_same (alone_calls o.0) o.3)
 
 pub parse_argument-returns-clause-gives : goal.parse_argument-returns-clause-gives
 unfolding argument_at logical_from
 parse_argument-returns-clause-gives g t c =
     let o = c.in_ok-operand.ensures.gives in
-    let open_yet = sym c.sees_end_of_argument.ensures ∙ c.if-sees_end_of_argument.false in
     let b = rw c.bytes_left-place.ensures.value at (c.in_ok-basic.ensures.gives o.0 o.1) in
     let a = c.in_ok-and.ensures.gives b.0 b.1 in
     let e = c.in_ok-expression-2.ensures.gives a.0 a.1 in
-    (logical_argument e.0, (e.0, refl, e.1), rw (sym c.sees_expression.ensures ∙ c.if-sees_expression.false, o.2, open_yet, b.2, a.2, e.2) refl, e.3 c.args.builder.now (a.3 c.args.builder.now (b.3 c.args.builder.now o.3)))
+    (logical_argument e.0, (e.0, refl, e.1), grind (arith, common_steps, b.2, a.2, e.2), e.3 c.args.builder.now (a.3 c.args.builder.now (b.3 c.args.builder.now o.3)))
 
 pub parse_arguments-returns-in_err-argument-clause-gives : goal.parse_arguments-returns-in_err-argument-clause-gives
 parse_arguments-returns-in_err-argument-clause-gives g t c = λ fuel enough.
@@ -111,31 +109,29 @@ parse_arguments-returns-then-not-fits-clause-gives g t c = λ fuel enough.
 pub parse_arguments-returns-then-sees-clause-gives : goal.parse_arguments-returns-then-sees-clause-gives
 unfolding judged
 parse_arguments-returns-then-sees-clause-gives g t c = λ fuel enough.
-    let signature = signatures g.F.Functions.set c.args.self.now in
     let step = first_argument (signatures g.F.Functions.set c.args.self.now) (deeper g.F.Functions.set c.args.self.now) c.args.place (map kind_view c.args.kinds.now) fuel (left c.args.reader.now) enough in
     let a = c.in_ok-argument.ensures.gives in
-    let fitting = sym (c.fits.ensures signature a.0 a.1) ∙ c.if-not-fits.false in
+    let fitting = sym (c.fits.ensures _ a.0 a.1) ∙ c.if-not-fits.false in
     let comma = sym c.sees.ensures ∙ c.if-sees.true in
     let further = c.skip_blanks.ensures.left ∙ ap (λ cs. past_blanks (drop 1 cs)) (sym c.take_char.ensures.value) in
-    let shorter = after_comma signature _ c.args.self.now.depth (level_laws signature c.args.self.now.depth) _ _ a.0 a.2 comma in
-    one_made a.0 _ c.args.parts.now.items _ _ c.parse_arguments.result _ _ c.in_ok-push.ensures.items (c.in_ok-part.ensures.made signature a.0 a.1) (grows_kept a.3 c.part.ensures.keeps)
+    let shorter = after_comma _ _ c.args.self.now.depth (level_laws _ c.args.self.now.depth) _ _ a.0 a.2 comma in
+    one_made a.0 _ c.args.parts.now.items _ _ c.parse_arguments.result _ _ c.in_ok-push.ensures.items (c.in_ok-part.ensures.made _ a.0 a.1) (grows_kept a.3 c.part.ensures.keeps)
     (step.2 ∙ rw (a.2, sym c.sees_end_of_argument.ensures ∙ c.if-not-sees_end_of_argument.false, c.in-Some.ensures.cases.0, fitting, comma, further) refl) (c.parse_arguments.ensures.gives step.0 (rw further (omega (arith, shorter, step.1))))
 
 pub parse_arguments-returns-clause-gives : goal.parse_arguments-returns-clause-gives
 unfolding judged
 parse_arguments-returns-clause-gives g t c = λ fuel enough.
-    let signature = signatures g.F.Functions.set c.args.self.now in
     let step = first_argument (signatures g.F.Functions.set c.args.self.now) (deeper g.F.Functions.set c.args.self.now) c.args.place (map kind_view c.args.kinds.now) fuel (left c.args.reader.now) enough in
     let a = c.in_ok-argument.ensures.gives in
-    let fitting = sym (c.fits.ensures signature a.0 a.1) ∙ c.if-not-fits.false in
-    one_made a.0 _ c.args.parts.now.items _ _ c.parse_end.result _ _ c.in_ok-push.ensures.items (c.in_ok-part.ensures.made signature a.0 a.1) (grows_kept a.3 c.part.ensures.keeps)
-    (step.2 ∙ rw (a.2, sym c.sees_end_of_argument.ensures ∙ c.if-not-sees_end_of_argument.false, c.in-Some.ensures.cases.0, fitting, sym c.sees.ensures ∙ c.if-sees.false) refl) (none_made signature c.part.new.builder c.push.new.self.items _ _ _ c.parse_end.ensures.gives)
+    let fitting = sym (c.fits.ensures _ a.0 a.1) ∙ c.if-not-fits.false in
+    one_made a.0 _ c.args.parts.now.items _ _ c.parse_end.result _ _ c.in_ok-push.ensures.items (c.in_ok-part.ensures.made _ a.0 a.1) (grows_kept a.3 c.part.ensures.keeps)
+    (step.2 ∙ rw (a.2, sym c.sees_end_of_argument.ensures ∙ c.if-not-sees_end_of_argument.false, c.in-Some.ensures.cases.0, fitting, sym c.sees.ensures ∙ c.if-sees.false) refl) (none_made _ c.part.new.builder c.push.new.self.items _ _ _ c.parse_end.ensures.gives)
 
 pub parse_basic-returns-then-sees-clause-gives : goal.parse_basic-returns-then-sees-clause-gives
 unfolding basic_at
 parse_basic-returns-then-sees-clause-gives g t c =
     let inner = c.in_ok-inner.ensures.gives in
-    (tree.paren inner.0, c.in_ok-paren.ensures.made inner.0 inner.1, rw (sym c.sees.ensures ∙ c.if-sees.true, inner.2) refl, grows_kept inner.3 c.paren.ensures.keeps)
+    (tree.paren inner.0, c.in_ok-paren.ensures.made inner.0 inner.1, grind (arith, common_steps), grows_kept inner.3 c.paren.ensures.keeps)
 
 pub parse_basic_from-returns-in_default-clause-gives : goal.parse_basic_from-returns-in_default-clause-gives
 unfolding basic_from relation_at
@@ -170,7 +166,7 @@ parse_bracket-returns-clause-gives g t c =
     let read = c.in_ok-selectors.ensures.gives in (
       (kind, tree.long_hand (selector_list read.0)),
       c.in_ok-long_hand.ensures.made (selector_list read.0) read.1,
-      rw (read.2, sym c.sees.ensures ∙ c.if-not-sees.false, c.take_char.ensures.value) refl,
+      grind (arith, common_steps),
       grows_kept read.3 c.long_hand.ensures.keeps,
     )
 
@@ -232,19 +228,19 @@ pub parse_negated-returns-then-sees-clause-gives : goal.parse_negated-returns-th
 unfolding negated_at
 parse_negated-returns-then-sees-clause-gives g t c =
     let inner = c.in_ok-inner.ensures.gives in
-    (tree.not_paren inner.0, c.in_ok-not_paren.ensures.made inner.0 inner.1, rw (sym c.sees.ensures ∙ c.if-sees.true, inner.2) refl, grows_kept inner.3 c.not_paren.ensures.keeps)
+    (tree.not_paren inner.0, c.in_ok-not_paren.ensures.made inner.0 inner.1, grind (arith, common_steps), grows_kept inner.3 c.not_paren.ensures.keeps)
 
 pub parse_negated-returns-then-sees-2-clause-gives : goal.parse_negated-returns-then-sees-2-clause-gives
 unfolding negated_at
 parse_negated-returns-then-sees-2-clause-gives g t c =
     let q = c.in_ok-query.ensures.gives in
-    (tree.not_exist q.0, c.in_ok-not_exist.ensures.made q.0 q.1, rw (sym c.sees.ensures ∙ c.if-sees.false, sym c.sees-2.ensures ∙ c.if-sees-2.true, q.2) refl, grows_kept q.3 c.not_exist.ensures.keeps)
+    (tree.not_exist q.0, c.in_ok-not_exist.ensures.made q.0 q.1, grind (arith, common_steps), grows_kept q.3 c.not_exist.ensures.keeps)
 
 pub parse_negated-returns-then-sees-3-clause-gives : goal.parse_negated-returns-then-sees-3-clause-gives
 unfolding negated_at
 parse_negated-returns-then-sees-3-clause-gives g t c =
     let q = c.in_ok-query-2.ensures.gives in
-    (tree.not_exist q.0, c.in_ok-not_exist-2.ensures.made q.0 q.1, rw (sym c.sees.ensures ∙ c.if-sees.false, sym c.sees-2.ensures ∙ c.if-sees-2.false, sym c.sees-3.ensures ∙ c.if-sees-3.true, q.2) refl, grows_kept q.3 c.not_exist-then-sees-3.ensures.keeps)
+    (tree.not_exist q.0, c.in_ok-not_exist-2.ensures.made q.0 q.1, grind (arith, common_steps), grows_kept q.3 c.not_exist-then-sees-3.ensures.keeps)
 
 pub parse_negated-returns-in_err-call-clause-gives : goal.parse_negated-returns-in_err-call-clause-gives
 parse_negated-returns-in_err-call-clause-gives g t c =
@@ -279,13 +275,13 @@ pub parse_operand-returns-then-sees-3-clause-gives : goal.parse_operand-returns-
 unfolding operand_at
 parse_operand-returns-then-sees-3-clause-gives g t c =
     let q = c.in_ok-query.ensures.gives in
-    (a_query q.0, (q.0, refl, q.1), rw (sym c.sees.ensures ∙ c.if-sees.false, sym c.sees-2.ensures ∙ c.if-sees-2.false, sym c.sees-3.ensures ∙ c.if-sees-3.true, q.2) refl, q.3)
+    (a_query q.0, (q.0, refl, q.1), grind (arith, common_steps), q.3)
 
 pub parse_operand-returns-then-sees-4-clause-gives : goal.parse_operand-returns-then-sees-4-clause-gives
 unfolding operand_at
 parse_operand-returns-then-sees-4-clause-gives g t c =
     let q = c.in_ok-query-2.ensures.gives in
-    (a_query q.0, (q.0, refl, q.1), rw (sym c.sees.ensures ∙ c.if-sees.false, sym c.sees-2.ensures ∙ c.if-sees-2.false, sym c.sees-3.ensures ∙ c.if-sees-3.false, sym c.sees-4.ensures ∙ c.if-sees-4.true, q.2) refl, q.3)
+    (a_query q.0, (q.0, refl, q.1), grind (arith, common_steps), q.3)
 
 pub parse_operand-returns-then-sees_small_letter-clause-gives : goal.parse_operand-returns-then-sees_small_letter-clause-gives
 unfolding operand_at named_at
@@ -296,8 +292,7 @@ parse_operand-returns-then-sees_small_letter-clause-gives g t c =
 pub parse_operand-returns-clause-gives : goal.parse_operand-returns-clause-gives
 unfolding operand_at
 parse_operand-returns-clause-gives g t c =
-    let no_letter = sym c.sees_small_letter.ensures ∙ c.if-sees_small_letter.false in
-    (a_literal (number (number_amount c.in_ok-number.number)), refl, rw (sym c.sees.ensures ∙ c.if-sees.false, sym c.sees-2.ensures ∙ c.if-sees-2.false, sym c.sees-3.ensures ∙ c.if-sees-3.false, sym c.sees-4.ensures ∙ c.if-sees-4.false, no_letter, c.in_ok-number.ensures.gives, c.skip_blanks.ensures.left) refl, grows_none c.args.builder.now)
+    (a_literal (number (number_amount c.in_ok-number.number)), refl, grind (arith, common_steps), grows_none c.args.builder.now)
 
 pub parse_or_from-parts-init : goal.parse_or_from-parts-init
 unfolding or_from next_and_at
@@ -348,7 +343,7 @@ parse_query-returns-clause-gives g t c =
     let read = c.in_ok-parts.ensures.gives in (
       tree.query kind (segment_list read.0),
       c.in_ok-query.ensures.made (segment_list read.0) read.2,
-      rw (c.take_char.ensures.value, read.5, read.4) refl,
+      grind (arith, common_steps),
       grows_kept read.6 c.query.ensures.keeps,
     )
 
