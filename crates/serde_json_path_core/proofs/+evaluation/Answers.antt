@@ -1,10 +1,10 @@
-use Rattle.std.proofs.Common.{◌≡◌, ◌+◌, length, map, take, [], drop, option_map, refl, sym, subst, ap, ◌∙◌, arith, ◌∷◌, ◌++◌, ◌⊎◌, inl, inr, rules, filter as keep, append_assoc, Option, Some, List, slice_get, ◌<◌}
+use Rattle.std.proofs.Common.{◌≡◌, ◌+◌, length, map, take, [], drop, option_map, refl, sym, subst, ap, ◌∙◌, arith, ◌∷◌, ◌++◌, ◌⊎◌, inl, inr, rules, append_assoc, Option, Some, List, slice_get, ◌<◌}
 use Rattle.std.proofs.lemmas.Option.{slice_get_within}
 use Rattle.serde_json_path_core.proofs.Words.{get_or_default, map-append, common_steps, option_map_or, length-set, ∥∥₁_map, iter_rest, Data, view}
-use Rattle.serde_json_path_core.proofs.Words.{Step, Located, node_value, Passes, step_view, child, descendant, cursor_left, segment_kind_view}
-use Rattle.serde_json_path_core.proofs.Words.{segment_in, segments_at, piece_at, basic_at, comparable_at, or_at, call_at, part_query, pieces}
+use Rattle.serde_json_path_core.proofs.Words.{Located, node_value, Passes, child, descendant, cursor_left, segment_kind_view}
+use Rattle.serde_json_path_core.proofs.Words.{segment_in, segments_at, piece_at, basic_at, comparable_at, call_at, part_query, pieces}
 use Rattle.serde_json_path_core.proofs.Words.{operator_view, term_view, StandsIn, Sound, IsTypedOr, IsTypedAnd, AreTypedArguments, calls_in_or}
-use Rattle.serde_json_path_core.proofs.Words.{calls_in_and, name_of, arguments_of, nodes_of, top_of, frame_view, frames_view, admitted, node_at}
+use Rattle.serde_json_path_core.proofs.Words.{calls_in_and, name_of, arguments_of, nodes_of, top_of, frame_view, frames_view, admitted}
 use Rattle.serde_json_path_core.proofs.Words.{rest_of, work, IsStack, IsStackIn, IsInside, selector_view, stage_at, stages_at, child_view}
 use Rattle.serde_json_path_core.proofs.Words.{values_from, Bor, Value, IsIn, within_get, within_bound, below_length, past_length, signatures_of}
 use Rattle.serde_json_path_core.proofs.Words.{params_of}

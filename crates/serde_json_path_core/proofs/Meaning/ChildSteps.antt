@@ -10,13 +10,10 @@ use Rattle.serde_json_path_core.proofs.Words.{cases_Bool, in_option, ◌<ℤ◌,
 
 -- the child at a step, with that step
 by_step : (v : Data) (s t : Step) (c : Data) → child_by v s ≡ Some (t, c) → (t ≡ s) × (child_at v s ≡ Some c)
-by_step v s t c e = split (child_at v s) refl
-  where
-    split : (o : Option Data) → child_at v s ≡ o → (t ≡ s) × (child_at v s ≡ Some c)
-    split None f = absurd (none-some (t, c) (sym (ap (option_map (λ d. (s, d))) f) ∙ e))
-    split (Some d) f =
-        let same = same_Some {A = Step × Data} (s, d) (t, c) (sym (ap (option_map (λ x. (s, x))) f) ∙ e) in
-        (sym (ap (λ (x : Step × Data). x.0) same), f ∙ ap (λ (x : Step × Data). Some x.1) same)
+by_step v s t c e = elim (child_at v s) as (λ o. ◌≡◌ {A = Option (Step × Data)} (option_map (λ d. (s, d)) o) (Some (t, c)) → (t ≡ s) × (o ≡ Some c)) [
+  | None ↦ λ f. absurd (none-some (t, c) f)
+  | Some d ↦ λ f. let same = same_Some {A = Step × Data} (s, d) (t, c) f in (sym (ap (λ (x : Step × Data). x.0) same), ap (λ (x : Step × Data). Some x.1) same)
+] e
 
 -- and the other way round
 there_by : (v : Data) (s : Step) (c : Data) → child_at v s ≡ Some c → child_by v s ≡ Some (s, c)
@@ -147,12 +144,11 @@ below_trans k l (member m d ms) h a = (nat_list_cmp_total.trans k l m h a.0, bel
 
 below-put : (l k : List ℕ) (d : Data) (ms : Members) → slice_cmp nat_cmp l k ≡ Less → IsBelow l ms → IsBelow l (put k d ms)
 below-put l k d no_members h a = (h, tt)
-below-put l k d (member m e ms) h a = by (slice_cmp nat_cmp k m) (below-put l k d ms h a.1)
-  where
-    by : (o : Ordering) → IsBelow l (put k d ms) → IsBelow l (match_ordering o (member k d (member m e ms)) (member m d ms) (member m e (put k d ms)))
-    by Less later = (h, a)
-    by Equal later = a
-    by Greater later = (a.0, later)
+below-put l k d (member m e ms) h a = elim (slice_cmp nat_cmp k m) as (λ o. IsBelow l (match_ordering o (member k d (member m e ms)) (member m d ms) (member m e (put k d ms)))) [
+  | Less ↦ (h, a)
+  | Equal ↦ a
+  | Greater ↦ (a.0, below-put l k d ms h a.1)
+]
 
 rising-put : (k : List ℕ) (d : Data) (ms : Members) → AreRising ms → AreRising (put k d ms)
 rising-put k d no_members r = (tt, tt)

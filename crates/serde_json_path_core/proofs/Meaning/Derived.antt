@@ -30,12 +30,11 @@ nonempty_is (x ∷ xs) = (λ e. (x, inl refl), λ h. refl)
 
 pub at-append : (v : Data) (ls ms : List Step) → at v (ls ++ ms) ≡ option_and_then (λ d. at d ms) (at v ls)
 at-append v [] ms = refl
-at-append v (s ∷ ls) ms = by (child_at v s) (λ c. at-append c ls ms)
-  where
-    by : (o : Option Data) → ((c : Data) → at c (ls ++ ms) ≡ option_and_then (λ d. at d ms) (at c ls))
-        → option_and_then (λ c. at c (ls ++ ms)) o ≡ option_and_then (λ d. at d ms) (option_and_then (λ c. at c ls) o)
-    by None later = refl
-    by (Some c) later = later c
+at-append v (s ∷ ls) ms =
+    elim (child_at v s) as (λ o. option_and_then (λ c. at c (ls ++ ms)) o ≡ option_and_then (λ d. at d ms) (option_and_then (λ c. at c ls) o)) [
+      | None ↦ refl
+      | Some c ↦ at-append c ls ms
+    ]
 
 -- what stands below a child of a value below v
 pub at_below : (v : Data) (down : List Step) (d : Data) (s : Step) (c : Data) (rest : List Step)

@@ -1,5 +1,5 @@
 -- The computed values below a value are those at its locations, in document order.
-use Rattle.std.proofs.Common.{◌≡◌, ℕ, zero, suc, ◌+◌, ◌≤◌, max, length, List, [], ◌∷◌, ◌++◌, map, flat_map, Ordering, Less, Equal, Greater, nat_cmp, Some, option_and_then, ◌↔◌, inl, inr, refl, sym, ap, subst, ◌∙◌, arith}
+use Rattle.std.proofs.Common.{◌≡◌, ℕ, zero, suc, ◌+◌, ◌≤◌, max, length, List, [], ◌∷◌, ◌++◌, map, flat_map, Ordering, Less, nat_cmp, Some, option_and_then, ◌↔◌, inl, inr, refl, sym, ap, subst, ◌∙◌, arith}
 use Rattle.serde_json_path_core.proofs.Words.{insert_entry, slice_cmp, match_ordering, same_Some, option_and_then_some, Data}
 use Rattle.serde_json_path_core.proofs.Words.{array, object, Items, no_items, item, Members, no_members, member, put, Step}
 use Rattle.serde_json_path_core.proofs.Words.{by_name, by_position, child_at, at, Located, StepBefore, DescentBefore, IsIn, IsInOrder, beneath, children}

@@ -25,11 +25,7 @@ module _ (admit : Selector → List (Step × Data) → List (Step × Data)) (num
 
   -- where a segment begins
   pub next_opened : (sels : List Selector) → map onward (all_of sels) ++ map downward (lower kind v) ≡ tasks admit number kind sels (opened kind sels v) v
-  next_opened [] = by_kind kind
-    where
-      by_kind : (k : SegmentKind) → map downward (lower k v) ≡ tasks admit number k [] (opened k [] v) v
-      by_kind child = refl
-      by_kind descendant = refl
+  next_opened [] = elim kind as (λ k. map downward (lower k v) ≡ tasks admit number k [] (opened k [] v) v) [ child ↦ refl | descendant ↦ refl ]
   next_opened (sel ∷ more) = ap (λ xs. map onward (admit sel (candidates sel v) ++ all_of more) ++ map downward xs) (sym (lower_left-lower kind sel more (candidates sel v) v))
 
   -- the selector at work passes some that it admits
@@ -54,11 +50,8 @@ module _ (admit : Selector → List (Step × Data) → List (Step × Data)) (num
 
   -- after the last selector there is nothing left
   pub is_done : (sels : List Selector) (cs : List (Step × Data)) → sels ≡ [] → (kind ≡ descendant → cs ≡ []) → tasks admit number kind sels cs v ≡ []
-  is_done sels cs e h = ap (λ xs. tasks admit number kind xs cs v) e ∙ by_kind kind h
-    where
-      by_kind : (k : SegmentKind) → (k ≡ descendant → cs ≡ []) → tasks admit number k [] cs v ≡ []
-      by_kind child g = refl
-      by_kind descendant g = ap (map downward) (g refl)
+  is_done sels cs e h =
+      rw e (elim kind as (λ k. (k ≡ descendant → cs ≡ []) → tasks admit number k [] cs v ≡ []) [ child ↦ λ g. refl | descendant ↦ λ g. ap (map downward) (g refl) ] h)
 
 -- ---- ends of lists
 

@@ -9,19 +9,15 @@ and-false false = refl
 -- lists of two lengths are not equal
 items_differ : (xs ys : List Value) → (length xs ≡ length ys → ⊥) → false ≡ same_items (items_view xs) (items_view ys)
 items_differ [] [] h = absurd (h refl)
-items_differ [] (y ∷ ys) h = refl
-items_differ (x ∷ xs) [] h = refl
-items_differ (x ∷ xs) (y ∷ ys) h =
-    sym (and-false (same_data (view x) (view y))) ∙ ap (λ b. same_data (view x) (view y) && b) (items_differ xs ys (λ e. h (ap suc e)))
+items_differ (x ∷ xs) (y ∷ ys) h = rw (sym (items_differ xs ys (λ e. h (ap suc e))), and-false (same_data (view x) (view y))) refl
+items_differ _ _ h = refl
 
 -- objects of two sizes are not equal
 members_differ : (xs ys : List (String Global × Value)) → (length xs ≡ length ys → ⊥) → false ≡ same_members (members_view xs) (members_view ys)
 members_differ [] [] h = absurd (h refl)
-members_differ [] (y ∷ ys) h = refl
-members_differ (x ∷ xs) [] h = refl
 members_differ (x ∷ xs) (y ∷ ys) h =
-    let more = sym (and-false (same_data (view x.1) (view y.1))) ∙ ap (λ b. same_data (view x.1) (view y.1) && b) (members_differ xs ys (λ e. h (ap suc e))) in
-    sym (and-false (bytes_eq (string_bytes x.0) (string_bytes y.0))) ∙ ap (λ b. bytes_eq (string_bytes x.0) (string_bytes y.0) && b) more
+    rw (sym (members_differ xs ys (λ e. h (ap suc e))), and-false (same_data (view x.1) (view y.1)), and-false (bytes_eq (string_bytes x.0) (string_bytes y.0))) refl
+members_differ _ _ h = refl
 
 pub same_items-returns-then-len : goal.same_items-returns-then-len
 same_items-returns-then-len t c =

@@ -1,6 +1,6 @@
-use Rattle.std.proofs.Common.{◌∷◌, rules, arith, sym, ap, subst, ◌∙◌, ◌<◌, option_map}
-use Rattle.serde_json_path_core.proofs.Words.{∥∥₁_map, view, step_view, segments_at, nodes_in, signatures_of, document_of, rest_of, IsStack}
-use Rattle.serde_json_path_core.proofs.Words.{IsStackIn, stages, stages_at, frames_view, segments_of, node_at, work}
+use Rattle.std.proofs.Common.{refl, rules, arith, sym, ap, subst, ◌∙◌, ◌<◌}
+use Rattle.serde_json_path_core.proofs.Words.{∥∥₁_map, view, segments_at, nodes_in, signatures_of, document_of, rest_of, IsStack}
+use Rattle.serde_json_path_core.proofs.Words.{IsStackIn, stages, stages_at, frames_view, segments_of, work}
 use Rattle.serde_json_path_core.specs.Walks.{set_of, query_of}
 use Rattle.serde_json_path_core.proofs.Sound.Parts.{sound-segments, whole-sound}
 use Rattle.serde_json_path_core.proofs.Walks.Chains.{root_stands}
@@ -49,16 +49,9 @@ returns-in-None-clause-given g c =
 
 pub returns-in_ok-node-in-Some-clause-given : goal.returns-in_ok-node-in-Some-clause-given
 returns-in_ok-node-in-Some-clause-given g c =
-    let w = c.args.self.now in
-    let rest = rest_of (set_of w) (document_of w) (stages_at (nodes_in w.scope.query.now) c.segments-segments.result.now) in
-    let found = c.in-Some.found in
-    let frames = c.find_next.new.frames.items in
-    let at = found-some _ _ c.in_ok-find_next.field-0 found c.in-Some.is c.in_ok-find_next.ensures.found in
-    let node = c.in_ok-node-in-Some.ensures.node ∙ ap (λ fs. node_at (frames_view fs) (option_map step_view found.step) (view found.value.now)) c.as_slice.ensures.value in
+    let at = found-some _ _ c.in_ok-find_next.field-0 c.in-Some.found c.in-Some.is c.in_ok-find_next.ensures.found in
     rw (← c.segments-segments.ensures.tree)
-    (c.find_next.ensures.kept.0 ∙ at.1.0
-    ∙ ap (λ left. node_at (frames_view frames) (option_map step_view found.step) (view found.value.now) ∷ rest left) (sym c.pass_found.ensures)
-    ∙ ap (λ n. n ∷ rest (frames_view c.pass_found.new.frames.items)) (sym node))
+    (c.find_next.ensures.kept.0 ∙ rw (at.1.0, sym c.pass_found.ensures, c.in_ok-node-in-Some.ensures.node, c.as_slice.ensures.value) refl)
 
 pub returns-in_ok-node-in-Some-clause-nearer : goal.returns-in_ok-node-in-Some-clause-nearer
 returns-in_ok-node-in-Some-clause-nearer g c =
