@@ -143,13 +143,10 @@ module _ (F : FunctionSet) (top : Data) where
 
   through_ordered : (kind : SegmentKind) (seg : Segment) (v : Data) → IsInOrder (λ (t u : Triple × Data). TripleBefore seg t.0 u.0) (through kind seg v)
   through_ordered kind seg v =
+      let in_levels = elim kind as (λ k. IsInOrder (λ (m n : Located). DescentBefore m.location n.location) (levels k v)) [ child ↦ (λ y h. absurd h, tt) | descendant ↦ descents_ordered v ] in
       in_order-flat_map (λ (m n : Located). DescentBefore m.location n.location) (λ (t u : Triple × Data). TripleBefore seg t.0 u.0)
-      (λ (m : Located). picks seg m.location m.value) (levels kind v) (in_levels kind) (λ m h. picks_ordered seg m.location m.value)
+      (λ (m : Located). picks seg m.location m.value) (levels kind v) in_levels (λ m h. picks_ordered seg m.location m.value)
       (λ m n t u before h g. inl (rw (picks_place seg m.location m.value t h, picks_place seg n.location n.value u g) before))
-    where
-      in_levels : (kind : SegmentKind) → IsInOrder (λ (m n : Located). DescentBefore m.location n.location) (levels kind v)
-      in_levels child = (λ y h. absurd h, tt)
-      in_levels descendant = descents_ordered v
 
   -- the derivations stand in their order
   pub ends_ordered : (segs : Segments) (v : Data) → IsInOrder (λ (d e : End). Before segs d.0 e.0) (ends segs v)

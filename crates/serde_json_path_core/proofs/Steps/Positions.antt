@@ -28,9 +28,7 @@ pub falling-counted : (s : Slice) (len stride start end first count : ℕ) → p
 falling-counted s len stride start end first count from upto f g =
     let a : start ≡ nat_abs (top_of s.start len) = ap nat_abs from in
     let b : end ≡ nat_abs (bottom_of s.end len) = ap nat_abs upto in
-    let i = f ∙ ap (λ n. n - 1) a in
-    let j = g ∙ ap (λ n. count_within (n - end) stride) a ∙ ap (λ n. count_within (nat_abs (top_of s.start len) - n) stride) b in
-    λ k. record { upwards = false; first = i k; stride = stride; count = j k }
+    rw (f, g, a, b) refl
 
 -- ---- one position more
 

@@ -151,9 +151,7 @@ leaf-lower descendant v h = leaf-candidates wildcard v h
 pub leaf-done : (F : FunctionSet) (top : Data) (step : Option Step) (number : ℕ) (stage : Stage) (more : List Stage) (v : Data) → is_leaf v ≡ true
     → frame_tasks (admitted F top) stage (entered step number (stage ∷ more) v) ≡ []
 leaf-done F top step number stage more v h =
-    sym (next_opened (admitted F top) number stage.kind v stage.selectors)
-    ∙ ap (λ cs. map (λ c. (number + 1, c)) cs ++ map (λ c. (number, c)) (lower stage.kind v)) (leaf-picks F top stage.selectors v h)
-    ∙ ap (map (λ c. (number, c))) (leaf-lower stage.kind v h)
+    rw (sym (next_opened (admitted F top) number stage.kind v stage.selectors), leaf-picks F top stage.selectors v h, leaf-lower stage.kind v h) refl
 
 -- ---- what remains, and how much work, after one step of a walk
 
@@ -199,9 +197,7 @@ work-moved all ps p m stage more front number c d t ms mk =
 -- the last frame has no task left, and is dropped
 pub rest-dropped : (F : FunctionSet) (top : Data) (all : List Stage) (ps : List Frame) (p : Frame) (stage : Stage) (more : List Stage) → drop p.segment all ≡ stage ∷ more
     → frame_tasks (admitted F top) stage p ≡ [] → rest_of F top all (ps ++ p ∷ []) ≡ rest_of F top all ps
-rest-dropped F top all ps p stage more d t =
-    let of_task : ℕ × (Step × Data) → List Located = λ x. visit (admitted F top) [] (λ n. n ∷ []) (drop x.0 all) (record { location = here (stack_path [] ps) p ++ x.1.0 ∷ []; value = x.1.1 }) in
-    drops (admitted F top) [] (λ n. n ∷ []) all ps p stage more d ∙ ap (λ ts. flat_map of_task ts ++ rest_of F top all ps) t
+rest-dropped F top all ps p stage more d t = drops (admitted F top) [] (λ n. n ∷ []) all ps p stage more d ∙ rw t refl
 
 -- ---- what a walk that begins has left is the result of the segments
 
