@@ -40,11 +40,10 @@ parse_and_from-parts-smaller g t c =
     row_shorter (ands_stand _ _) (grind (arith, common_steps)) (grind (arith, common_steps)) c.in_ok-part.ensures.gives
 
 pub parse_and_from-parts-preserved : goal.parse_and_from-parts-preserved
-parse_and_from-parts-preserved g t c =
-    record {
-      moves = grind (arith, common_steps);
-      so_far = λ x is. row_goes_on (ands_stand _ _) (grind (arith, common_steps)) (grind (arith, common_steps)) c.in_ok-part.ensures.gives (c.parts.invariant.so_far x is) c.in_ok-push-2.ensures.items;
-    }
+parse_and_from-parts-preserved g t c = record {
+  moves = grind (arith, common_steps);
+  so_far = λ x is. row_goes_on (ands_stand _ _) (grind (arith, common_steps)) (grind (arith, common_steps)) c.in_ok-part.ensures.gives (c.parts.invariant.so_far x is) c.in_ok-push-2.ensures.items;
+}
 
 pub parse_and_from-logical_and-requires : goal.parse_and_from-logical_and-requires
 parse_and_from-logical_and-requires g t c =
@@ -56,7 +55,7 @@ parse_and_from-returns-clause-gives g t c = λ x is.
     let so_far = c.parts.invariant.so_far x is in (
       and_list so_far.items,
       c.in_ok-logical_and.ensures.made (and_list so_far.items) (some_ands c.parts.builder _ _ so_far.some so_far.are),
-      row_done (ands_stand _ _) so_far (sym c.sees_both.ensures.value ∙ c.parts-test.false) c.sees_both.ensures.stays,
+      row_done (ands_stand _ _) so_far (grind (arith, common_steps)) c.sees_both.ensures.stays,
       λ before grown. grows_kept (so_far.grown before grown) c.logical_and.ensures.keeps,
     )
 
@@ -103,8 +102,8 @@ unfolding judged
 parse_arguments-returns-then-not-fits-clause-gives g t c = λ fuel enough.
     let step = first_argument (signatures g.F.Functions.set c.args.self.now) (deeper g.F.Functions.set c.args.self.now) c.args.place (map kind_view c.args.kinds.now) fuel (left c.args.reader.now) enough in
     let a = c.in_ok-argument.ensures.gives in
-    let misfit = sym (c.fits.ensures (signatures g.F.Functions.set c.args.self.now) a.0 a.1) ∙ c.if-not-fits.true in
-    rw (c.in_long_hand-then-not-fits.ensures, c.bytes_left-argument_place.ensures.value, step.2, a.2, sym c.sees_end_of_argument.ensures ∙ c.if-not-sees_end_of_argument.false, c.in-Some.ensures.cases.0, misfit) refl
+    let fits = c.fits.ensures _ a.0 a.1 in
+    rw step.2 (grind (arith, common_steps, a.2, fits))
 
 pub parse_arguments-returns-then-sees-clause-gives : goal.parse_arguments-returns-then-sees-clause-gives
 unfolding judged
@@ -311,11 +310,10 @@ parse_or_from-parts-smaller g t c =
     row_shorter (ors_stand _ _) (grind (arith, common_steps)) (grind (arith, common_steps)) c.in_ok-part.ensures.gives
 
 pub parse_or_from-parts-preserved : goal.parse_or_from-parts-preserved
-parse_or_from-parts-preserved g t c =
-    record {
-      moves = grind (arith, common_steps);
-      so_far = λ x is. row_goes_on (ors_stand _ _) (grind (arith, common_steps)) (grind (arith, common_steps)) c.in_ok-part.ensures.gives (c.parts.invariant.so_far x is) c.in_ok-push-2.ensures.items;
-    }
+parse_or_from-parts-preserved g t c = record {
+  moves = grind (arith, common_steps);
+  so_far = λ x is. row_goes_on (ors_stand _ _) (grind (arith, common_steps)) (grind (arith, common_steps)) c.in_ok-part.ensures.gives (c.parts.invariant.so_far x is) c.in_ok-push-2.ensures.items;
+}
 
 pub parse_or_from-logical_or-requires : goal.parse_or_from-logical_or-requires
 parse_or_from-logical_or-requires g t c =
@@ -327,7 +325,7 @@ parse_or_from-returns-clause-gives g t c = λ x is.
     let so_far = c.parts.invariant.so_far x is in (
       or_list so_far.items,
       c.in_ok-logical_or.ensures.made (or_list so_far.items) (some_ors c.parts.builder _ _ so_far.some so_far.are),
-      row_done (ors_stand _ _) so_far (sym c.sees_both.ensures.value ∙ c.parts-test.false) c.sees_both.ensures.stays,
+      row_done (ors_stand _ _) so_far (grind (arith, common_steps)) c.sees_both.ensures.stays,
       λ before grown. grows_kept (so_far.grown before grown) c.logical_or.ensures.keeps,
     )
 
@@ -390,11 +388,10 @@ parse_segments-segments-smaller g t c =
 pub parse_segments-segments-preserved : goal.parse_segments-segments-preserved
 parse_segments-segments-preserved g t c =
     let so_far = c.segments.invariant.so_far in
-    let opened = sym c.sees_segment.ensures ∙ c.segments-test.true in
     let further = row_goes_on (segments_stand _ _ _) (grind (arith, common_steps)) so_far.2 c.in_ok-part.ensures.gives so_far.3 c.in_ok-push.ensures.items in
     record {
       moves = grind (arith, common_steps);
-      none = λ e. absurd (true≢false (sym opened ∙ c.segments.invariant.none e));
+      none = λ e. absurd (true≢false (sym c.segments-test.true ∙ c.sees_segment.ensures ∙ c.segments.invariant.none e));
       so_far = (left c.parse_segment.new.reader, c.bytes_left-rest-in-segments.ensures.value, c.skip_blanks-in-segments.ensures.left, further);
     }
 
@@ -433,16 +430,15 @@ parse_selectors-selectors-smaller g t c =
     row_shorter (selectors_stand _ _) (grind (arith, common_steps)) (grind (arith, common_steps)) c.in_ok-part.ensures.gives
 
 pub parse_selectors-selectors-preserved : goal.parse_selectors-selectors-preserved
-parse_selectors-selectors-preserved g t c =
-    record {
-      moves = grind (arith, common_steps);
-      so_far = row_goes_on (selectors_stand _ _) (grind (arith, common_steps)) (grind (arith, common_steps)) c.in_ok-part.ensures.gives c.selectors.invariant.so_far c.in_ok-push-2.ensures.items;
-    }
+parse_selectors-selectors-preserved g t c = record {
+  moves = grind (arith, common_steps);
+  so_far = row_goes_on (selectors_stand _ _) (grind (arith, common_steps)) (grind (arith, common_steps)) c.in_ok-part.ensures.gives c.selectors.invariant.so_far c.in_ok-push-2.ensures.items;
+}
 
 pub parse_selectors-returns-clause-gives : goal.parse_selectors-returns-clause-gives
 parse_selectors-returns-clause-gives g t c =
     let so_far = c.selectors.invariant.so_far in
-    (so_far.items, some_selectors c.selectors.builder _ _ so_far.some so_far.are, row_done (selectors_stand _ _) so_far (sym c.sees.ensures ∙ c.selectors-test.false) refl, so_far.grown c.args.builder.now (grows_none c.args.builder.now))
+    (so_far.items, some_selectors c.selectors.builder _ _ so_far.some so_far.are, row_done (selectors_stand _ _) so_far (grind (arith, common_steps)) refl, so_far.grown c.args.builder.now (grows_none c.args.builder.now))
 
 pub parse_and_from-returns-clause-made : goal.parse_and_from-returns-clause-made
 parse_and_from-returns-clause-made g t c =
