@@ -1,5 +1,5 @@
-use Rattle.std.proofs.Common.{◌∙◌, sym, refl}
-use Rattle.serde_json_path_parser.proofs.Words.{string_bytes, segment_kind_view, dotted_at}
+use Rattle.std.proofs.Common.{arith}
+use Rattle.serde_json_path_parser.proofs.Words.{common_steps, string_bytes, segment_kind_view, dotted_at}
 use Rattle.serde_json_path_syntax.specs.Tree as tree
 use Rattle.serde_json_path_parser.proofs.Steps.Growth.{grows_leaf}
 use Rattle.serde_json_path_parser.proofs.parser.segment.parse_dotted.Goals as goal
@@ -9,7 +9,7 @@ unfolding dotted_at
 returns-then-sees-clause-gives g c = λ signature. (
   (segment_kind_view c.args.kind, tree.dot_wildcard),
   c.in_ok-dot_wildcard.ensures.made,
-  rw (sym c.sees.ensures ∙ c.if-sees.true, c.take_char.ensures.value) refl,
+  grind (arith, common_steps),
   grows_leaf c.in_ok-dot_wildcard.ensures.keeps,
 )
 
@@ -18,6 +18,6 @@ unfolding dotted_at
 returns-clause-gives g c = λ signature. (
   (segment_kind_view c.args.kind, tree.dot_name (string_bytes c.in_ok-text.text)),
   c.in_ok-dot_name.ensures.made,
-  rw (sym c.sees.ensures ∙ c.if-sees.false, c.in_ok-text.ensures.gives) refl,
+  grind (arith, common_steps),
   grows_leaf c.in_ok-dot_name.ensures.keeps,
 )

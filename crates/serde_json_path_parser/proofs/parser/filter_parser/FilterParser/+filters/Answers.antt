@@ -6,7 +6,7 @@ use Rattle.serde_json_path_parser.proofs.Words.{and_at, parameters_at, level, an
 use Rattle.serde_json_path_parser.proofs.Words.{a_literal, a_call, calls_in_operand, left, common_steps, bracket_at, next_selector_at, selectors_at}
 use Rattle.serde_json_path_parser.proofs.Words.{selector_list, next_segment_at, segments_at, segment_list, argument_at, logical_from, judged}
 use Rattle.serde_json_path_parser.proofs.Words.{operand_at, named_call_at, call_at, basic_from, relation_at, right_side_at, query_at, negated_at}
-use Rattle.serde_json_path_parser.proofs.Words.{and_from, or_from, next_basic_at, next_and_at, literal_word}
+use Rattle.serde_json_path_parser.proofs.Words.{and_from, or_from, next_basic_at, next_and_at}
 use Rattle.serde_json_path_parser.specs.Inside.Levels.{filter_at}
 use Rattle.serde_json_path_parser.specs.Operands.{a_query}
 use Rattle.serde_json_path_parser.proofs.Steps.Arguments.{first_argument, after_comma, none_made, one_made}
@@ -89,7 +89,7 @@ parse_arguments-returns-in_err-argument-clause-gives g t c = λ fuel enough.
 pub parse_arguments-returns-then-not-sees_end_of_argument-clause-gives : goal.parse_arguments-returns-then-not-sees_end_of_argument-clause-gives
 parse_arguments-returns-then-not-sees_end_of_argument-clause-gives g t c = λ fuel enough.
     let step = first_argument (signatures g.F.Functions.set c.args.self.now) (deeper g.F.Functions.set c.args.self.now) c.args.place (map kind_view c.args.kinds.now) fuel (left c.args.reader.now) enough in
-    rw (c.refuse.ensures.value, step.2, c.in_ok-argument.ensures.gives.2, sym c.sees_end_of_argument.ensures ∙ c.if-not-sees_end_of_argument.true) refl
+    rw step.2 (grind (arith, common_steps))
 
 pub parse_arguments-returns-in_default-clause-gives : goal.parse_arguments-returns-in_default-clause-gives
 unfolding judged
@@ -110,21 +110,20 @@ unfolding judged
 parse_arguments-returns-then-sees-clause-gives g t c = λ fuel enough.
     let step = first_argument (signatures g.F.Functions.set c.args.self.now) (deeper g.F.Functions.set c.args.self.now) c.args.place (map kind_view c.args.kinds.now) fuel (left c.args.reader.now) enough in
     let a = c.in_ok-argument.ensures.gives in
-    let fitting = sym (c.fits.ensures _ a.0 a.1) ∙ c.if-not-fits.false in
-    let comma = sym c.sees.ensures ∙ c.if-sees.true in
+    let fits = c.fits.ensures _ a.0 a.1 in
     let further = c.skip_blanks.ensures.left ∙ ap (λ cs. past_blanks (drop 1 cs)) (sym c.take_char.ensures.value) in
-    let shorter = after_comma _ _ c.args.self.now.depth (level_laws _ c.args.self.now.depth) _ _ a.0 a.2 comma in
+    let shorter = after_comma _ _ c.args.self.now.depth (level_laws _ c.args.self.now.depth) _ _ a.0 a.2 (grind (arith, common_steps)) in
     one_made a.0 _ c.args.parts.now.items _ _ c.parse_arguments.result _ _ c.in_ok-push.ensures.items (c.in_ok-part.ensures.made _ a.0 a.1) (grows_kept a.3 c.part.ensures.keeps)
-    (step.2 ∙ rw (a.2, sym c.sees_end_of_argument.ensures ∙ c.if-not-sees_end_of_argument.false, c.in-Some.ensures.cases.0, fitting, comma, further) refl) (c.parse_arguments.ensures.gives step.0 (rw further (omega (arith, shorter, step.1))))
+    (step.2 ∙ grind (arith, common_steps, a.2, fits, further)) (c.parse_arguments.ensures.gives step.0 (rw further (omega (arith, shorter, step.1))))
 
 pub parse_arguments-returns-clause-gives : goal.parse_arguments-returns-clause-gives
 unfolding judged
 parse_arguments-returns-clause-gives g t c = λ fuel enough.
     let step = first_argument (signatures g.F.Functions.set c.args.self.now) (deeper g.F.Functions.set c.args.self.now) c.args.place (map kind_view c.args.kinds.now) fuel (left c.args.reader.now) enough in
     let a = c.in_ok-argument.ensures.gives in
-    let fitting = sym (c.fits.ensures _ a.0 a.1) ∙ c.if-not-fits.false in
+    let fits = c.fits.ensures _ a.0 a.1 in
     one_made a.0 _ c.args.parts.now.items _ _ c.parse_end.result _ _ c.in_ok-push.ensures.items (c.in_ok-part.ensures.made _ a.0 a.1) (grows_kept a.3 c.part.ensures.keeps)
-    (step.2 ∙ rw (a.2, sym c.sees_end_of_argument.ensures ∙ c.if-not-sees_end_of_argument.false, c.in-Some.ensures.cases.0, fitting, sym c.sees.ensures ∙ c.if-sees.false) refl) (none_made _ c.part.new.builder c.push.new.self.items _ _ _ c.parse_end.ensures.gives)
+    (step.2 ∙ grind (arith, common_steps, a.2, fits)) (none_made _ c.part.new.builder c.push.new.self.items _ _ _ c.parse_end.ensures.gives)
 
 pub parse_basic-returns-then-sees-clause-gives : goal.parse_basic-returns-then-sees-clause-gives
 unfolding basic_at
@@ -177,8 +176,7 @@ parse_call-returns-then-self-eq0-clause-gives g t c =
 pub parse_call-returns-in_default-clause-gives : goal.parse_call-returns-in_default-clause-gives
 unfolding call_at
 parse_call-returns-in_default-clause-gives g t c =
-    let undefined = ap (signatures g.F.Functions.set c.args.self.now) (sym c.as_str.ensures.value) ∙ sym c.signature.ensures ∙ ap (option_map signature_view) c.in_default.is in
-    rw (c.in_long_hand-in_default.ensures, level_down (signatures g.F.Functions.set c.args.self.now) c.args.self.now.depth _ (omega (arith, c.if-self-eq0.false)) refl, undefined) refl
+    rw (level_down (signatures g.F.Functions.set c.args.self.now) c.args.self.now.depth _ (omega (arith, c.if-self-eq0.false)) refl) (grind (arith, common_steps))
 
 pub parse_call-returns-in_err-parse_parameters-clause-gives : goal.parse_call-returns-in_err-parse_parameters-clause-gives
 unfolding call_at
@@ -220,8 +218,8 @@ parse_named-returns-then-sees-clause-gives g t c =
 pub parse_named-returns-in-Some-clause-gives : goal.parse_named-returns-in-Some-clause-gives
 unfolding named_at
 parse_named-returns-in-Some-clause-gives g t c =
-    let literal = ap literal_word (sym c.in_ok-word.ensures.word ∙ sym c.as_str.ensures.value) ∙ sym c.literal_word.ensures ∙ ap (option_map literal_view) c.in-Some.is in
-    (a_literal (literal_view c.in-Some.literal), refl, rw (c.requires, literal_word_reads (left c.args.reader.now), literal, ← c.in_ok-word.ensures.rest, sym c.sees.ensures ∙ c.if-sees.false, c.skip_blanks.ensures.left) refl, grows_none c.args.builder.now)
+    let reads = literal_word_reads (left c.args.reader.now) in
+    (a_literal (literal_view c.in-Some.literal), refl, grind (arith, common_steps, reads), grows_none c.args.builder.now)
 
 pub parse_negated-returns-then-sees-clause-gives : goal.parse_negated-returns-then-sees-clause-gives
 unfolding negated_at
