@@ -1,9 +1,23 @@
--- The lines of some nodes, with the line of another node after them; what a write leaves.
-use Rattle.std.proofs.Common.{◌≡◌, ℕ, List, [], ◌∷◌, ◌++◌, if◌then◌else◌, Result, Ok, Err, is_ok, OnOk, refl, sym, ap, ◌∙◌, append_assoc}
-use Rattle.std.proofs.lemmas.List.{append-nil}
+-- The lines of some nodes, with the line of another node after them; what a write leaves, and the beginnings of texts.
+use Rattle.std.proofs.Common.{◌≡◌, ℕ, ◌-◌, List, ◌++◌, length, take, drop, Option, sym, ap, ◌∙◌, append_assoc, take-append-drop, [], ◌∷◌, if◌then◌else◌, Result, Ok, Err, is_ok, OnOk, refl}
+use Rattle.std.proofs.lemmas.List.{take_rest, append-nil}
+use Rattle.jsonpath_report.specs.Run.{AppendsBeginning}
 use Rattle.serde_json_path_nodes.specs.Location.{Located}
 use Rattle.jsonpath_report.specs.Report.{IsLineIn, AreLinesIn}
 use Rattle.jsonpath_report.specs.declared.report.LineForm.{LineForm}
+
+-- ---- what writes up to a failure leave of a text, and the beginnings of texts that were appended
+
+pub split_further : (text begun rest : List ℕ) (n : ℕ) → text ≡ begun ++ rest → text ≡ (begun ++ take n rest) ++ take (length rest - n) (drop n rest)
+split_further text begun rest n e =
+    e ∙ ap (λ l. begun ++ l) (sym (take-append-drop n rest)) ∙ sym (append_assoc begun (take n rest) (drop n rest)) ∙ ap (λ l. (begun ++ take n rest) ++ l) (sym (take_rest rest n))
+
+-- a beginning of a text is one of each longer text
+pub beginning_of_longer : (old new : Option (List ℕ)) (text longer rest : List ℕ) → longer ≡ text ++ rest → AppendsBeginning old new text → AppendsBeginning old new longer
+beginning_of_longer old new text longer rest e h =
+    (h.0, h.1 ++ rest, e ∙ ap (λ l. l ++ rest) h.2 ∙ append_assoc h.0 h.1 rest, h.3)
+
+-- ---- the lines of some nodes, with the line of another node after them; what a write leaves
 
 pub lines_pushed : (form : LineForm) (ns : List Located) (text line : List ℕ) (n : Located) → AreLinesIn form ns text → IsLineIn form n line → AreLinesIn form (ns ++ n ∷ []) (text ++ line)
 lines_pushed form [] text line n h l = (line, [], l, refl, ap (λ (t : List ℕ). t ++ line) h ∙ sym (append-nil line))

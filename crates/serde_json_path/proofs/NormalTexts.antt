@@ -1,18 +1,69 @@
--- The normalised path of a location is accepted, with the tree that goes down its steps.
-use Rattle.std.proofs.Common.{◌≡◌, ℕ, List, [], ◌∷◌, ◌++◌, Option, codes, refl, sym, ap, ◌∙◌, append-nil, arith}
-use Rattle.std.specs.List.{flat_map}
+-- The normalised path of a location is accepted, with a tree that goes down its steps and selects the node there alone.
+use Rattle.std.proofs.Common.{◌≡◌, ℕ, List, [], ◌∷◌, ◌++◌, map, flat_map, Option, Some, option_map, option_to_list, refl, sym, ap, subst, ◌∙◌, append_assoc, codes, append-nil, arith}
+use Rattle.std.proofs.lemmas.Option.{none-some, option_and_then_some, same_Some}
+use Rattle.serde_json.specs.Data.{Data, array}
+use Rattle.serde_json_path_nodes.specs.Location.{Step, by_name, by_position, child_at, at, Located, IsProper}
+use Rattle.serde_json_path_syntax.specs.Tree.{query, root, long_hand, no_selectors, selector, Segments, child, segment}
+use Rattle.serde_json_path_syntax.specs.Typing.{AreTypedSegments}
+use Rattle.serde_json_path_syntax.specs.Depth.{segments_depth}
+use Rattle.serde_json_path_core.specs.Meaning.{IsResult}
+use Rattle.serde_json_path_core.specs.Inside.Computed.{chosen, itself, placed, results_from}
+use Rattle.serde_json_path_core.proofs.Meaning.Derived.{computed_result}
+use Rattle.serde_json_path_functions.specs.Functions.{Signature, FunctionSet}
+use Rattle.serde_json_path_syntax.specs.Calls.{calls_in_segments}
+use Rattle.serde_json_path.specs.Laws.{selector_to, segments_to, ArePositionsWritten}
 use Rattle.std.specs.Str.{chars}
 use Rattle.std.proofs.lemmas.Str.{chars-encodes}
-use Rattle.serde_json_path_nodes.specs.Location.{Step, by_name, by_position, IsProper}
 use Rattle.serde_json_path_nodes.specs.Text.{normal_step, normal}
-use Rattle.serde_json_path_syntax.specs.Tree.{query, root, Segments, child, segment, long_hand, no_selectors, selector}
-use Rattle.serde_json_path_functions.specs.Functions.{Signature}
 use Rattle.serde_json_path_parser.specs.Grammar.{ReadSegments, ReadsSelector}
 use Rattle.serde_json_path_parser.specs.Accepted.{IsAccepted}
-use Rattle.serde_json_path.specs.Laws.{ArePositionsWritten, selector_to, segments_to}
 use Rattle.serde_json_path_parser.proofs.Printing.QuotedTexts.{Spelt, spell_both, spell_sign, spelt_nothing, quoted_spelt}
 use Rattle.serde_json_path_parser.proofs.Printing.Literals.{position_spelt}
-use Rattle.serde_json_path.proofs.NormalMeaning.{segments_typed, segments_shallow}
+
+-- ---- what the tree is
+
+pub segments_typed : (signature : List ℕ → Option Signature) (steps : List Step) → AreTypedSegments signature (segments_to steps)
+segments_typed signature [] = tt
+segments_typed signature (by_name k ∷ steps) = ((tt, tt), segments_typed signature steps)
+segments_typed signature (by_position p ∷ steps) = ((tt, tt), segments_typed signature steps)
+
+pub segments_shallow : (steps : List Step) → segments_depth (segments_to steps) ≡ 0
+segments_shallow [] = refl
+segments_shallow (by_name k ∷ steps) = rw (segments_shallow steps) refl
+segments_shallow (by_position p ∷ steps) = rw (segments_shallow steps) refl
+
+pub segments_silent : (steps : List Step) → calls_in_segments (segments_to steps) ≡ []
+segments_silent [] = refl
+segments_silent (by_name k ∷ steps) = segments_silent steps
+segments_silent (by_position p ∷ steps) = segments_silent steps
+
+-- ---- what it selects
+
+-- the step's selector selects the child at the step
+child_chosen : (F : FunctionSet) (top : Data) (s : Step) (v c : Data) → child_at v s ≡ Some c → chosen F top (long_hand (selector (selector_to s) no_selectors)) v ≡ (s, c) ∷ []
+child_chosen F top (by_name k) v c e = ap (λ o. option_to_list (option_map (λ d. (by_name k, d)) o) ++ []) e
+child_chosen F top (by_position p) (array items) c e = ap (λ o. option_to_list (option_map (λ d. (by_position p, d)) o) ++ []) e
+child_chosen F top (by_position p) _ c e = absurd (none-some c e)
+
+-- and the steps' segments the node at their end
+node_reached : (F : FunctionSet) (top : Data) (steps : List Step) (n : Located) (end : Data) → at n.value steps ≡ Some end
+    → results_from F top (segments_to steps) n ≡ record { location = n.location ++ steps; value = end } ∷ []
+node_reached F top [] n end e =
+    ap (λ l. record { location = l; value = n.value } ∷ []) (sym (append-nil n.location))
+    ∙ ap (λ d. record { location = n.location ++ []; value = d } ∷ []) (same_Some n.value end e)
+node_reached F top (s ∷ steps) n end e =
+    option_and_then_some (λ (c : Data). at c steps) (child_at n.value s) end e (λ c f g.
+    ap (λ cs. flat_map (results_from F top (segments_to steps)) (map (placed n.location) cs) ++ []) (child_chosen F top s n.value c f)
+    ∙ ap (λ ns. (ns ++ []) ++ []) (node_reached F top steps (placed n.location (s, c)) end g)
+    ∙ ap (λ l. record { location = l; value = end } ∷ []) (append_assoc n.location (s ∷ []) steps))
+
+-- the node is the query's result
+pub node_selected : (F : FunctionSet) (top : Data) (node : Located) → at top node.location ≡ Some node.value → IsResult F top (query root (segments_to node.location)) top (node ∷ [])
+node_selected F top node e =
+    subst (IsResult F top (query root (segments_to node.location)) top) (node_reached F top node.location (itself top) node.value e)
+    (computed_result F top (query root (segments_to node.location)) top (segments_typed F.signature node.location))
+
+-- ---- the normalised path of a location is accepted, with the tree that goes down its steps
 
 -- a bracket with a selector alone, and more brackets
 module _ (s : Step) (bytes : List ℕ) (segs : Segments) (more : List ℕ) where

@@ -70,7 +70,7 @@ pub use Rattle.serde_json_path_core.specs.Compared.{AreEqual, AreEqualAmounts, A
 pub use Rattle.serde_json_path_core.specs.Compared.{IsLess, amount_of, billionths, literal_compared, nothing, value_compared}
 pub use Rattle.serde_json_path_core.specs.Derivation.{Before, BelongsTo, SelectedBefore, SelectedBeforeBy, SelectedBeforeIn, Triple, TripleBefore, beneath}
 pub use Rattle.serde_json_path_core.specs.Derivation.{location_of, start_of}
-pub use Rattle.serde_json_path_core.specs.Inside.Advances.{ComesTo, IsAtAdmitted, IsAtNode, IsAtTask, IsDone, IsSameFrame, Passes, Skips}
+pub use Rattle.serde_json_path_core.specs.Inside.Rest.{ComesTo, IsAtAdmitted, IsAtNode, IsAtTask, IsDone, IsSameFrame, Passes, Skips}
 pub use Rattle.serde_json_path_core.specs.Inside.Computed.{SlicePositions, all_true, answer, answer_compared, answer_holds, argument_as, arguments}
 pub use Rattle.serde_json_path_core.specs.Inside.Computed.{at_positions, basic_true, below_member, children, chosen, chosen_by, comes_before, compare}
 pub use Rattle.serde_json_path_core.specs.Inside.Computed.{compare_sides, compared, count_within, descents, falling, in_order, is_nonempty, is_same, is_true}
@@ -86,7 +86,7 @@ pub use Rattle.serde_json_path_core.specs.Inside.Rest.{begun, candidates, entere
 pub use Rattle.serde_json_path_core.specs.Inside.Rest.{node_at, opened, passed, rest_of, stack_path, tasks, unfiltered, visit, visit_place}
 pub use Rattle.serde_json_path_core.specs.Inside.Rest.{visit_rest, visit_stack, without_node, work}
 pub use Rattle.serde_json_path_core.specs.Inside.Scopes.{nodes_of, top_of}
-pub use Rattle.serde_json_path_core.specs.Inside.Selected.{child_by, item_at, position_in}
+pub use Rattle.serde_json_path_core.specs.Inside.Computed.{child_by, item_at, position_in}
 pub use Rattle.serde_json_path_core.specs.Inside.SingleChildren.{SelectOnly, single_view, values_from}
 pub use Rattle.serde_json_path_core.specs.Inside.Scopes.{IsSound}
 unfoldable pub use Rattle.serde_json_path_core.specs.Inside.Scopes.{AreCallsOf}

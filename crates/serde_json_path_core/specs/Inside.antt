@@ -2,14 +2,10 @@
 
 -- ---- what the code computes, on plain data
 
--- the one child that a name or an index selects, computed
-pub mod Selected
 -- what a query selects, computed
 pub mod Computed
--- the nodes that remain of a walk, from the frames on its stack, the document and the query's segments alone
+-- the nodes that remain of a walk, and how a frame moves on
 pub mod Rest
--- how a frame moves on
-pub mod Advances
 -- ---- the code's values as the definitions see them
 
 -- children, cursors, slice positions and frames as the definitions see them

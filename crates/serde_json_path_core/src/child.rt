@@ -4,7 +4,7 @@ ghost use Rattle.std.specs.Prelude.{◌≡◌, option_map};
 ghost use Rattle.serde_json.specs.Data.{array, object};
 ghost use Rattle.serde_json.specs.View.{view, items_view, members_view};
 ghost use Rattle.serde_json_path_nodes.specs.Location.{by_name};
-ghost use Rattle.serde_json_path_core.specs.Inside.Selected.{child_by, item_at, position_in};
+ghost use Rattle.serde_json_path_core.specs.Inside.Computed.{child_by, item_at, position_in};
 ghost use Rattle.serde_json_path_core.specs.Inside.Views.{child_view};
 
 use serde_json::{Map, Value};

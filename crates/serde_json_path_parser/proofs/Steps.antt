@@ -1,16 +1,8 @@
 -- Steps of the code.
 
--- which literal a word is
-pub mod Words
--- how the builder grows, and by which calls
-pub mod Growth
--- items in a row, which a loop reads one after another
+-- rows of items that a loop reads, how the builder grows by them, and the four rows of a path
 pub mod Rows
--- the rows of segments, of selectors, and of what `||` and `&&` join
-pub mod RowKinds
--- a step within a filter
+-- steps within filters: words, operands and arguments
 pub mod Filters
--- a step within an operand
-pub mod Operands
 -- a step within arguments
 pub mod Arguments

@@ -66,13 +66,13 @@ pub use Rattle.serde_json_path_parser.specs.Grammar.{InParentheses, IsBound, IsL
 pub use Rattle.serde_json_path_parser.specs.Grammar.{ReadMoreArguments, ReadMoreOrs, ReadMoreSelectors, ReadSegments, ReadSelectors, Reads, ReadsAnd}
 pub use Rattle.serde_json_path_parser.specs.Grammar.{ReadsArgument, ReadsBasic, ReadsCall, ReadsComparable, ReadsOr, ReadsSegment, ReadsSelector, StandsAlone}
 pub use Rattle.serde_json_path_parser.specs.Grammar.{dots_before_bracket, dots_before_name, operator_sign, query_sign}
-pub use Rattle.serde_json_path_parser.specs.Inside.Ahead.{IsAhead, is_ascii, limit_of}
+pub use Rattle.serde_json_path_parser.specs.Inside.Reading.{IsAhead, is_ascii, limit_of}
 pub use Rattle.serde_json_path_parser.specs.Inside.Giving.{Fails, Gives, Grows, GrowsFrom, IsOperandOf, IsRefused, IsWithin, Makes}
 pub use Rattle.serde_json_path_parser.specs.Inside.Giving.{MakesArguments, MakesFrom, MakesOf, error_of, segment_piece}
 pub use Rattle.serde_json_path_parser.specs.Inside.Levels.{at_level, deeper, signatures}
-pub use Rattle.serde_json_path_parser.specs.Inside.Looking.{LooksOn}
+pub use Rattle.serde_json_path_parser.specs.Inside.Reading.{LooksOn}
 pub use Rattle.serde_json_path_parser.specs.Inside.Reading.{Moves, left}
-pub use Rattle.serde_json_path_parser.specs.Inside.Stretches.{Gathered, Stretched, is_ascii_name_char, is_ascii_plain}
+pub use Rattle.serde_json_path_parser.specs.Inside.Reading.{Gathered, Stretched, is_ascii_name_char, is_ascii_plain}
 pub use Rattle.serde_json_path_parser.specs.Inside.Words.{literal_word}
 pub use Rattle.serde_json_path_parser.specs.Lexical.{AllPass, ArePieces, IsAmount, IsBlank, IsDecimal, IsFraction, IsFunctionName, IsHex4, IsHighSurrogate}
 pub use Rattle.serde_json_path_parser.specs.Lexical.{IsInt, IsLowSurrogate, IsName, IsNumber, IsPiece, IsQuote, IsString, Joined, are_at, begins, begins_both}

@@ -1,13 +1,7 @@
 -- What contracts of private functions, and proofs, cite alone.
 
--- how often and how far a source is looked at
-pub mod Looking
--- the bytes ahead of a reader
-pub mod Ahead
--- a reader of a text
+-- what a reader sees: the bytes ahead, what was looked at, the characters left, and stretches of them
 pub mod Reading
--- characters many at a time
-pub mod Stretches
 -- words
 pub mod Words
 -- what is read at a level

@@ -1,12 +1,13 @@
 use Rattle.std.proofs.Common.{◌≡◌, ◌+◌, ◌-◌, ◌*◌, ◌≤◌, ◌++◌, drop, length, map, max}
 use Rattle.std.specs.Prelude.{filter as keep}
-use Rattle.serde_json_path_core.proofs.Words.{iter_rest, Data, view, Step, Located, node_value, kind_of_term, term_view, arguments_of, calls_in_arguments}
-use Rattle.serde_json_path_core.proofs.Words.{name_of, AreTypedArguments, params_of, or_at, and_at, ors_in, ands_in, arguments_in, call_at, pieces}
-use Rattle.serde_json_path_core.proofs.Words.{pieces_named, segments_at, parts_bound, selector_bound, cursor_left, rest_of, work, EndsIn, IsStackIn, Passes}
-use Rattle.serde_json_path_core.proofs.Words.{values_from, stage_at, stages_at, Sound, nodes_of, top_of, frame_view, frames_view}
+use Rattle.serde_json_path_core.proofs.Words.{iter_rest, Data, view, Step, Located, node_value, kind_of_term, term_view, arguments_of}
+use Rattle.serde_json_path_core.proofs.Words.{calls_in_arguments, name_of, AreTypedArguments, params_of, or_at, and_at, ors_in, ands_in, arguments_in}
+use Rattle.serde_json_path_core.proofs.Words.{call_at, pieces, pieces_named, segments_at, parts_bound, selector_bound, cursor_left, rest_of, work}
+use Rattle.serde_json_path_core.proofs.Words.{EndsIn, IsStackIn, Passes, values_from, stage_at, stages_at, Sound, nodes_of, top_of, frame_view}
+use Rattle.serde_json_path_core.proofs.Words.{frames_view}
 use Rattle.serde_json_path_functions.specs.Terms.{kind_view}
 use Rattle.serde_json_path_core.specs.Inside.Computed as computed
-use Rattle.serde_json_path_core.specs.Inside.Advances.{IsKept}
+use Rattle.serde_json_path_core.specs.Inside.Rest.{IsKept}
 use Rattle.serde_json_path_core.specs.Inside.Scopes.{set_of}
 use Rattle.serde_json_path_core.proofs.+evaluation.Given as goal
 

@@ -3,13 +3,13 @@ use Rattle.std.proofs.Common.{◌≡◌, ℕ, ◌+◌, ◌<◌, List, [], ◌∷
 use Rattle.serde_json_path_core.proofs.Words.{frame_view, frames_view, Frame, last_passed, passed, get_or_append_left, take_all, length-set}
 use Rattle.serde_json_path_core.proofs.Words.{map-append, drop_all, drop_more, none-some, slice_get_read, slice_get_past, Piece, Node, Part, piece_in}
 use Rattle.serde_json_path_core.proofs.Words.{pieces, pieces_named, segment_in, segment_kind_in, segments_in, stage_of, stages, stage_at, stages_at}
-use Rattle.serde_json_path_core.proofs.Words.{append-nil, take-append_seam, Data, Step, FunctionSet, Stage, admitted, entered, entering}
-use Rattle.serde_json_path_core.proofs.Words.{is_leaf, rest_of, stack_path, work, IsAtStart, IsStack, ComesTo, IsAtNode, IsDone, Passes}
-use Rattle.serde_json_path_core.proofs.Words.{cases_Bool, get_or_default, view, IsAtTask, task_view}
+use Rattle.serde_json_path_core.proofs.Words.{append-nil, take-append_seam, Data, Step, FunctionSet, Stage, admitted, entered, entering, is_leaf}
+use Rattle.serde_json_path_core.proofs.Words.{rest_of, stack_path, work, IsAtStart, IsStack, ComesTo, IsAtNode, IsDone, Passes, cases_Bool}
+use Rattle.serde_json_path_core.proofs.Words.{get_or_default, view, IsAtTask, task_view}
 use Rattle.std.proofs.lemmas.List.{set-append_left, take_more, take_more_set, take-set}
 use Rattle.serde_json_path_core.specs.declared.evaluation.frame.Frame as declared
 use Rattle.std.proofs.lemmas.Option.{get_or_from_slice_get, slice_get_cases, slice_get_within}
-use Rattle.serde_json_path_core.specs.Inside.Advances.{IsKept}
+use Rattle.serde_json_path_core.specs.Inside.Rest.{IsKept}
 use Rattle.serde_json_path_core.proofs.Walks.Chains.{begun-of, chain-front, chain-last, stack-held, stack-moved}
 use Rattle.serde_json_path_core.proofs.Walks.Stacks.{gives, leaf-done, located, moves, passes, rest-dropped, stack_path-last, work-fewer, work-held, work-moved}
 use Rattle.serde_json_path_core.specs.declared.evaluation.frame.Task.{Task}

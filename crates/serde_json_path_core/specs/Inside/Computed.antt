@@ -1,17 +1,15 @@
--- What a query selects, computed: the nodes of its result as a list, and its tests as truth values
--- (RFC 9535, sections 2.1 to 2.5), under a function set and at the root of a document. Objects have their members in
--- the order of the names' bytes, the first of each name.
-use Rattle.std.specs.Prelude.{ℕ, zero, suc, ◌+◌, ◌-◌, ◌/◌, ℤ, pos, negsuc, ◌+ℤ◌, ◌-ℤ◌, int_lt, nat_abs, List, [], ◌∷◌, ◌++◌, map, flat_map, filter as keep, Bool, true, false, not, ◌&&◌, ◌||◌, Option, Some, None, option_to_list, bytes_eq}
+-- What a query selects, computed.
+use Rattle.std.specs.Prelude.{ℕ, ◌+◌, ◌-◌, nat_lt, ℤ, pos, negsuc, Option, Some, None, option_map, option_and_then, if◌then◌else◌, zero, suc, ◌/◌, ◌+ℤ◌, ◌-ℤ◌, int_lt, nat_abs, List, [], ◌∷◌, ◌++◌, map, flat_map, filter as keep, Bool, true, false, not, ◌&&◌, ◌||◌, option_to_list, bytes_eq}
+use Rattle.serde_json.specs.Data.{Data, array, null as null_data, boolean, number, string, object, Items, no_items, item, Members, no_members, member, put}
+use Rattle.serde_json.specs.Events.{items_len}
+use Rattle.serde_json_path_nodes.specs.Location.{Step, by_position, child_at, by_name, Located}
 use Rattle.std.specs.Bool.{beq}
 use Rattle.std.specs.Option.{option_map_or}
 use Rattle.std.specs.Ordering.{nat_cmp, int_eq, is_lt}
 use Rattle.std.specs.BTreeMap.{insert_entry}
 use Rattle.std.specs.Cmp.Lexicographic.{slice_cmp}
 use Rattle.std.specs.Str.{chars}
-use Rattle.serde_json.specs.Data.{Data, null as null_data, boolean, number, string, array, object, Items, no_items, item, Members, no_members, member, put}
 use Rattle.serde_json.specs.Find.{get_item, as_integer}
-use Rattle.serde_json.specs.Events.{items_len}
-use Rattle.serde_json_path_nodes.specs.Location.{Step, by_name, by_position, Located}
 use Rattle.serde_json_path_syntax.specs.Tree.{Query, query, Segments, no_segments, segment, SegmentKind, child, descendant, Segment, dot_name, dot_wildcard, long_hand, Selectors, no_selectors, selector, Selector, name, wildcard, index, slice, filter, Slice, LogicalOr, no_or, or, LogicalAnd, no_and, and, Basic, paren, not_paren, relation, exist, not_exist, test, not_test, Operator, equal, not_equal, less, less_or_equal, greater, greater_or_equal, Comparable, literal, singular, called, Call, call, Arguments, no_arguments, argument, Argument, literal_argument, query_argument, call_argument, logical_argument}
 use Rattle.serde_json_path_core.specs.Slices.{step_of, bound_of}
 use Rattle.serde_json_path_functions.specs.Functions.{Kind, of_value, of_nodes, of_logical, Term, nodes, logical, FunctionSet}
@@ -19,7 +17,21 @@ use Rattle.serde_json_path_functions.specs.Functions as functions
 use Rattle.serde_json_path_core.specs.Compared.{Compared, nothing, value, billionths, amount_of, literal_compared, value_compared}
 use Rattle.serde_json_path_core.specs.Derivation.{start_of, beneath}
 use Rattle.serde_json_path_core.specs.Meaning.{literal_value, first_value, params_of}
-use Rattle.serde_json_path_core.specs.Inside.Selected.{child_by, item_at}
+
+-- ---- the one child that a name or an index selects, computed
+
+-- the child at that step, with the step
+abbrev pub child_by : Data → Step → Option (Step × Data)
+child_by v s = option_map (λ c. (s, c)) (child_at v s)
+
+-- the position that an index means in an array of that length
+abbrev pub position_in : ℤ → ℕ → Option ℕ
+position_in (pos p) len = Some p
+position_in (negsuc k) len = if nat_lt k len then Some (len - (k + 1)) else None
+
+abbrev pub item_at : Data → ℤ → Option (Step × Data)
+item_at (array items) i = option_and_then (λ p. child_by (array items) (by_position p)) (position_in i (items_len items))
+item_at _ i = None
 
 -- ---- children and descendants
 

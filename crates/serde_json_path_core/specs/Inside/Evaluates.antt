@@ -12,7 +12,7 @@ use Rattle.serde_json_path_syntax.specs.Flat.{or_at, and_at, basic_at, comparabl
 use Rattle.serde_json_path_syntax.specs.Literals.{operator_view}
 use Rattle.serde_json_path_syntax.specs.declared.operator.ComparisonOperator.{ComparisonOperator}
 use Rattle.serde_json_path_syntax.specs.Stages.{selector_view, stage_at, stages_at}
-use Rattle.serde_json_path_core.specs.Inside.Advances as advances
+use Rattle.serde_json_path_core.specs.Inside.Rest as advances
 use Rattle.serde_json_path_core.specs.Compared.{Compared}
 use Rattle.serde_json_path_core.specs.Inside.Computed as computed
 use Rattle.serde_json_path_core.specs.Inside.Rest.{Frame}

@@ -10,7 +10,7 @@ use Rattle.serde_json_path_parser.proofs.Reading.Runs.{no_longer}
 use Rattle.serde_json_path_parser.proofs.Grammar.Calls.{argument_outcome}
 use Rattle.serde_json_path_parser.proofs.Grammar.LogicalForms.{DeeperLaws}
 use Rattle.serde_json_path_parser.proofs.Reading.Many.{first_fails}
-use Rattle.serde_json_path_parser.proofs.Steps.Growth.{grows_none, grows_then}
+use Rattle.serde_json_path_parser.proofs.Steps.Rows.{grows_none, grows_then}
 
 module _ (signature : List ℕ → Option Signature) (deeper : Deeper) where
   -- what is read after an argument, with the fuel that is left

@@ -1,19 +1,39 @@
--- The steps of the code within a filter.
-use Rattle.std.proofs.Common.{inl, inr, cond, ◌≡◌, ℕ, true, false, List, drop, Option, Some, Ok, Err, refl, zero, suc, ◌-◌, ◌<◌, arith}
+-- Steps within filters: words, operands and arguments.
+use Rattle.std.proofs.Common.{◌≡◌, ℕ, List, Option, Some, None, Ok, Err, arith, inl, inr, cond, true, false, drop, refl, zero, suc, ◌-◌, ◌<◌, Bool}
+use Rattle.serde_json_path_parser.proofs.Words.{nat_tests, Literal, ExpectedExpression, Parsed, refusal, past_blanks, Operand, a_literal, word}
+use Rattle.serde_json_path_parser.proofs.Words.{past_word, literal_word_at, literal_word, cases_Bool, not_test, Call, result_kind, Part}
+use Rattle.serde_json_path_parser.proofs.Words.{SyntaxBuilder, of_value, Signature, kind_view, WrongReturnType, begins_call, Deeper, named_call_at}
+use Rattle.serde_json_path_parser.proofs.Words.{named_at, negated_call_at, negated_at, IsOperandOf, a_call, is_result, ◌>>=◌, Basic, None, Some, ◌==◌}
+use Rattle.serde_json_path_parser.proofs.Words.{filter, is_at, begins, byte_count, selector_at, or_at, call_at, level, ◌↔◌, IsTrue, calls_in_operand}
+use Rattle.serde_json_path_parser.proofs.Words.{calls_in_argument, alone, is_singular, is_whole, is_value_literal, text, number, truth, null}
+use Rattle.serde_json_path_parser.proofs.Words.{IsValueLiteral, Query, IsSingular}
+use Rattle.serde_json_path_parser.specs.declared.error.Context.TheVariants as context
 use denote.Enum.Bare.{sameb}
-use Rattle.serde_json_path_parser.proofs.Words.{cases_Bool, not_test, Call, Literal, result_kind, Part, SyntaxBuilder, of_value, Signature, kind_view, ExpectedExpression}
-use Rattle.serde_json_path_parser.proofs.Words.{WrongReturnType, word, begins_call, Deeper, named_call_at, named_at, negated_call_at, negated_at, IsOperandOf}
-use Rattle.serde_json_path_parser.proofs.Words.{Operand, a_call, is_result, Parsed, ◌>>=◌, refusal, past_blanks, literal_word, Basic, None, Some, ◌==◌, filter}
-use Rattle.serde_json_path_parser.proofs.Words.{is_at, begins, byte_count, selector_at, or_at, call_at, level}
-use Rattle.serde_json_path_parser.proofs.Steps.Words.{read_literal, literal_word_reads}
 use Rattle.serde_json_path_functions.specs.contracts.types.FunctionArgType.{the_type}
 use Rattle.serde_json_path_functions.specs.declared.types.FunctionArgType.{FunctionArgType}
 use Rattle.serde_json_path_functions.specs.declared.types.FunctionArgType.TheVariants as kinds
-use Rattle.serde_json_path_parser.specs.declared.error.Context.TheVariants as context
 use Rattle.serde_json_path_parser.specs.declared.parser.operand.Operand as declared
 use Rattle.serde_json_path_parser.specs.declared.parser.operand.Operand.TheVariants as the_operands
 use Rattle.serde_json_path_parser.specs.Filters.{filter_at}
 use Rattle.serde_json_path_parser.proofs.Reading.Runs.{begins_differs}
+use Rattle.std.proofs.lemmas.Bool.Decides.{same_from_decides}
+use Rattle.serde_json_path_parser.specs.Operands.{a_query}
+use Rattle.serde_json_path_parser.proofs.Grammar.Calls.{amount_whole, whole_amount}
+use Rattle.serde_json_path_parser.proofs.Grammar.LogicalForms.{singular_query, query_singular}
+
+-- ---- which literal a word is
+
+-- what reading gives where the word is that literal's, or none's
+abbrev pub read_literal : Option Literal → List ℕ → Parsed Operand
+read_literal (Some l) cs = Ok (a_literal l, past_blanks (past_word cs))
+read_literal None cs = Err (refusal ExpectedExpression context.LongHand cs)
+
+-- the tests for each literal's word, one after another, give what the word's literal does
+pub literal_word_reads : (cs : List ℕ) → literal_word_at cs ≡ read_literal (literal_word (word cs)) cs
+unfolding literal_word_at
+literal_word_reads cs = grind (arith, nat_tests)
+
+-- ---- the steps of the code within a filter
 
 -- how what stands in a filter, a parenthesis or a call is read one level deeper
 pub level_down : (signature : List ℕ → Option Signature) (n m : ℕ) → 0 < n → m ≡ n - 1 → level signature n ≡ record {
@@ -68,3 +88,21 @@ module _ (signature : List ℕ → Option Signature) (cs : List ℕ) where
         by_word : (l : Option Literal) → Err (refusal ExpectedExpression context.LongHand cs) ≡ (read_literal l cs >>= λ o. negated o.0 o.1)
         by_word (Some l) = refl
         by_word None = refl
+
+-- ---- the steps of the code at operands, and at what an argument's type is
+
+pub alone_calls : (x : Operand) → calls_in_operand x ≡ calls_in_argument (alone x)
+alone_calls (a_literal l) = refl
+alone_calls (a_query q) = refl
+alone_calls (a_call c) = refl
+
+-- a test that says whether a query is a singular one
+pub singular_by : (b : Bool) (q : Query) → IsTrue b ↔ IsSingular q → is_singular q ≡ b
+singular_by b q h = same_from_decides (is_singular q) b (singular_query q, query_singular q) h
+
+-- a test that says whether a literal is one for a parameter of values
+pub value_by : (b : Bool) (l : Literal) → IsTrue b ↔ IsValueLiteral l → b ≡ is_value_literal l
+value_by b (number amount) h = same_from_decides b (is_whole amount) h (whole_amount amount, λ w. amount_whole amount w.0 w.1)
+value_by b (text t) h = h.1 tt
+value_by b (truth v) h = h.1 tt
+value_by b null h = h.1 tt

@@ -1,11 +1,101 @@
--- Items in a row, which a loop reads one after another and whose parts it lists.
-use Rattle.std.proofs.Common.{◌≡◌, ◌<◌, ◌≤◌, ℕ, Bool, true, false, List, [], ◌∷◌, ◌++◌, length, Option, Ok, Err, refl, sym, ap, ◌∙◌, append_assoc, arith}
-use Rattle.serde_json_path_parser.proofs.Words.{append-nil, length-append, Call, Signature, Piece, Part, SyntaxBuilder, IsPart, ArePartsFor, parts_for_kept}
-use Rattle.serde_json_path_parser.proofs.Words.{Failure, Fails, Grows, GrowsFrom, Parsed, ◌>>=◌, many}
+-- Rows of items that a loop reads, how the builder grows by them, and the four rows of a path.
+use Rattle.std.proofs.Common.{◌≡◌, ◌≤◌, ℕ, List, [], ◌∷◌, ◌++◌, inl, inr, Some, Option, Result, Ok, Err, refl, sym, ap, subst, ◌∙◌, append_assoc, ◌<◌, Bool, true, false, length, arith, drop}
+use Rattle.serde_json_path_parser.proofs.Words.{◌↔◌, append-nil, map-append, name_of, names_of, calls_in_segments, calls_from, calls_in_arguments}
+use Rattle.serde_json_path_parser.proofs.Words.{KeepsParts, KeepsTrees, calls_in, AreDeclared, MayFinish, deepest, names_in, IsTyped, depth, Part}
+use Rattle.serde_json_path_parser.proofs.Words.{query, root, Segments, Call, call, Arguments, SyntaxBuilder, Signature, Grows, Parsed, Failure}
+use Rattle.serde_json_path_parser.proofs.Words.{Reader, Ghosts, SegmentKind, Segment, ArePartsOf, segment_list, length-append, Piece, IsPart}
+use Rattle.serde_json_path_parser.proofs.Words.{ArePartsFor, parts_for_kept, Fails, GrowsFrom, ◌>>=◌, many, Selector, LogicalOr, LogicalAnd, Basic}
+use Rattle.serde_json_path_parser.proofs.Words.{Deeper, a_selector, an_and, a_basic, segment_piece, segment_pieces, selector_pieces, or_pieces}
+use Rattle.serde_json_path_parser.proofs.Words.{and_pieces, calls_in_selectors, calls_in_or, calls_in_and, selector_list, or_list, and_list}
+use Rattle.serde_json_path_parser.proofs.Words.{AreSelectorsOf, AreOrPartsOf, AreAndPartsOf, past_blanks, is_at, are_at, begins, opens, opens_next}
+use Rattle.serde_json_path_parser.proofs.Words.{level, segment_at, next_segment_at, selector_at, next_selector_at, and_at, next_and_at, basic_at}
+use Rattle.serde_json_path_parser.proofs.Words.{next_basic_at}
+use Rattle.serde_json_path_parser.specs.Inside.Giving.{MakesSo}
+use Rattle.serde_json_path_syntax.proofs.Names.Finishing.{may_finish}
+use Rattle.serde_json_path_syntax.proofs.Lists.InLists.{in_append}
 use Rattle.serde_json_path_syntax.specs.Piece.{calls_in_piece}
 use Rattle.serde_json_path_parser.specs.declared.error.Failure.TheVariants as failures
 use Rattle.serde_json_path_parser.proofs.Reading.Many as m
-use Rattle.serde_json_path_parser.proofs.Steps.Growth.{grows_same, grows_then}
+use Rattle.serde_json_path_parser.specs.declared.error.Context as declared
+use Rattle.serde_json_path_parser.specs.Filters.{filter_at}
+use Rattle.serde_json_path_parser.proofs.Grammar.Brackets as brackets
+use Rattle.serde_json_path_parser.proofs.Grammar.LogicalForms.{FilterLaws, filter_laws, IsGoodInside}
+use Rattle.serde_json_path_parser.proofs.Grammar.Calls.{level_laws}
+use Rattle.serde_json_path_parser.proofs.Grammar.LogicalExpressions.{next_basic_takes, next_and_takes}
+use Rattle.serde_json_path_parser.proofs.Grammar.Segments as segments
+
+-- ---- how the builder grows, and by which calls; and which parts stand for no segment
+
+module _ {signature : List ℕ → Option Signature} where
+  -- it has not grown
+  pub grows_none : (builder : SyntaxBuilder) → Grows signature builder builder []
+  grows_none builder = record { trees = λ part piece h. h; names = sym (append-nil (names_in (calls_in builder))); declared = λ h. h }
+
+  -- it has grown by what makes no call
+  pub grows_kept : {old mid new : SyntaxBuilder} {calls : List Call} → Grows signature old mid calls → KeepsParts mid new → Grows signature old new calls
+  grows_kept grown keeps = record {
+    trees = λ part piece h. keeps.trees part piece (grown.trees part piece h);
+    names = ap names_in keeps.calls ∙ grown.names;
+    declared = λ h. subst (AreDeclared signature) (sym keeps.calls) (grown.declared h);
+  }
+
+  pub grows_leaf : {old new : SyntaxBuilder} → KeepsParts old new → Grows signature old new []
+  grows_leaf {old} keeps = grows_kept (grows_none old) keeps
+
+  pub grows_same : {old new : SyntaxBuilder} {calls others : List Call} → calls ≡ others → Grows signature old new calls
+      → Grows signature old new others
+  grows_same {old} {new} e grown = subst (Grows signature old new) e grown
+
+  pub grows_then : {old mid new : SyntaxBuilder} {calls more : List Call} → Grows signature old mid calls → Grows signature mid new more
+      → Grows signature old new (calls ++ more)
+  grows_then {old} {calls = calls} {more = more} grown further = record {
+    trees = λ part piece h. further.trees part piece (grown.trees part piece h);
+    names = further.names ∙ ap (λ ns. ns ++ names_of more) grown.names ∙ append_assoc (names_in (calls_in old)) (names_of calls) (names_of more)
+        ∙ ap (λ ns. names_in (calls_in old) ++ ns) (sym (map-append name_of calls more));
+    declared = λ h. further.declared (grown.declared h);
+  }
+
+  -- by a call, after its arguments
+  pub grows_call : {old mid new : SyntaxBuilder} (name : List ℕ) (s : Signature) (args : Arguments) → signature name ≡ Some s → Grows signature old mid (calls_in_arguments args)
+      → KeepsTrees mid new → calls_in new ≡ calls_in mid ++ (name, s) ∷ [] → Grows signature old new (calls_from (call name args))
+  grows_call {mid = mid} name s args is grown keeps last = grows_then grown (record {
+    trees = keeps;
+    names = ap names_in last ∙ map-append (λ (u : List ℕ × Signature). u.0) (calls_in mid) ((name, s) ∷ []);
+    declared = λ h. subst (AreDeclared signature) (sym last) (λ u i. elim ((in_append u (calls_in mid) ((name, s) ∷ [])).0 i) [
+      | inl k ↦ h u k
+      | inr k ↦ elim k [ inl e ↦ ap (λ (v : List ℕ × Signature). signature v.0) e ∙ is ∙ ap (λ (v : List ℕ × Signature). Some v.1) (sym e) | inr none ↦ absurd none ]
+    ]);
+  })
+
+-- ---- the whole query
+
+module _ (signature : List ℕ → Option Signature) (begun grown whole : SyntaxBuilder) (segs : Segments) (silent : calls_in begun ≡ [])
+    (grows : Grows signature begun grown (calls_in_segments segs)) (keeps : KeepsParts grown whole) where
+  -- each call of the builder has the signature that its name has
+  pub all_declared : AreDeclared signature (calls_in whole)
+  all_declared = (grows_kept grows keeps).declared (subst (AreDeclared signature) (sym silent) (λ u i. absurd i))
+
+  -- a query of these segments may be finished, where it is well-typed and not too deep
+  pub finishes : IsTyped signature (query root segs) → depth (query root segs) ≤ deepest → MayFinish (calls_in whole) (query root segs)
+  finishes typed shallow =
+      may_finish signature (calls_in whole) (query root segs) refl typed shallow
+      ((grows_kept grows keeps).names ∙ ap (λ us. names_in us ++ names_of (calls_in_segments segs)) silent) all_declared
+
+-- no part stands for no segment, and for nothing else
+pub none_for_none : (builder : SyntaxBuilder) (parts : List Part) (ss : List (SegmentKind × Segment)) → ArePartsOf builder parts (segment_list ss) → parts ≡ [] ↔ ss ≡ []
+none_for_none builder [] [] h = ((λ none. refl), (λ none. refl))
+none_for_none builder (part ∷ parts) (s ∷ ss) h = ((λ none. absurd cc), (λ none. absurd cc))
+none_for_none builder [] (s ∷ ss) h = absurd h
+none_for_none builder (part ∷ parts) [] h = absurd h
+
+-- ---- what was made, where more is known of how the builder grew
+
+pub grown_so : {X A S : Type 0} {g : Ghosts S} (Is : X → A → Type 0) (Grown More : A → Type 0) (reader : Reader S g) (read : Parsed A) (result : Result X Failure)
+    → MakesSo Is Grown result reader read → ((a : A) → Grown a → More a) → MakesSo Is More result reader read
+grown_so Is Grown More reader read (Ok x) h more = (h.0, h.1, h.2, more h.0 h.3)
+grown_so Is Grown More reader read (Err e) h more = h
+
+-- ---- items in a row, which a loop reads one after another and whose parts it lists
 
 -- the list of all is that of each, one after another
 pub record Joins {A C : Type 0} (each : A → List C) (all : List A → List C) : Type 0 where
@@ -108,3 +198,110 @@ module _ {A B : Type 0} {row : Row A B} (law : IsRow row) where
   row_done {cs = cs} so_far ends stays =
       sym so_far.reads ∙ ap (after row so_far.items) (m.many_end row.more (next row) cs ends) ∙ ap (λ l. Ok (row.whole l, cs)) (append-nil so_far.items)
       ∙ ap (λ l. Ok (row.whole so_far.items, l)) (sym stays)
+
+-- ---- the rows that are read at a level: segments, selectors, and what `||` and `&&` join
+
+module _ (signature : List ℕ → Option Signature) (deeper : Deeper) where
+  abbrev pub segment_row : declared.Context → Row (SegmentKind × Segment) (List (SegmentKind × Segment))
+  segment_row here = record {
+    more = opens_next;
+    before = past_blanks;
+    item = segment_at (filter_at signature deeper) here;
+    piece = segment_piece;
+    pieces = λ ss. segment_pieces (segment_list ss);
+    calls = λ ss. calls_in_segments (segment_list ss);
+    whole = λ ss. ss;
+    least = 0;
+  }
+
+  abbrev pub selector_row : Row Selector (List Selector)
+  selector_row = record {
+    more = is_at ",";
+    before = λ cs. past_blanks (drop 1 cs);
+    item = selector_at (filter_at signature deeper);
+    piece = a_selector;
+    pieces = λ ss. selector_pieces (selector_list ss);
+    calls = λ ss. calls_in_selectors (selector_list ss);
+    whole = λ ss. ss;
+    least = 1;
+  }
+
+  abbrev pub or_row : Row LogicalAnd LogicalOr
+  or_row = record {
+    more = are_at "||";
+    before = λ cs. past_blanks (drop 2 cs);
+    item = and_at signature deeper;
+    piece = an_and;
+    pieces = λ xs. or_pieces (or_list xs);
+    calls = λ xs. calls_in_or (or_list xs);
+    whole = or_list;
+    least = 1;
+  }
+
+  abbrev pub and_row : Row Basic LogicalAnd
+  and_row = record {
+    more = are_at "&&";
+    before = λ cs. past_blanks (drop 2 cs);
+    item = basic_at signature deeper;
+    piece = a_basic;
+    pieces = λ bs. and_pieces (and_list bs);
+    calls = λ bs. calls_in_and (and_list bs);
+    whole = and_list;
+    least = 1;
+  }
+
+module _ (signature : List ℕ → Option Signature) (n : ℕ) where
+  abbrev here : Deeper
+  here = level signature n
+
+  laws : FilterLaws signature (IsGoodInside signature n) (filter_at signature here)
+  laws = filter_laws signature n here (level_laws signature n)
+
+  pub segments_stand : (at : declared.Context) → IsRow (segment_row signature here at)
+  unfolding next_segment_at
+  segments_stand at = record {
+    takes = segments.next_takes (filter_at signature here) (IsGoodInside signature n) laws at;
+    pieces = record { none = refl; some = λ s ss. refl };
+    calls = record { none = refl; some = λ s ss. refl };
+  }
+
+  pub segment_shorter : (at : declared.Context) (cs rest : List ℕ) (x : SegmentKind × Segment) → begins opens cs ≡ true → segment_at (filter_at signature here) at cs ≡ Ok (x, rest) → length rest < length cs
+  segment_shorter at = segments.segment_shorter (filter_at signature here) (IsGoodInside signature n) laws at
+
+  pub selectors_stand : IsRow (selector_row signature here)
+  unfolding next_selector_at
+  selectors_stand = record {
+    takes = brackets.next_takes (filter_at signature here) (IsGoodInside signature n) laws;
+    pieces = record { none = refl; some = λ s ss. refl };
+    calls = record { none = refl; some = λ s ss. refl };
+  }
+
+  pub ors_stand : IsRow (or_row signature here)
+  unfolding next_and_at
+  ors_stand = record {
+    takes = next_and_takes signature n here (level_laws signature n);
+    pieces = record { none = refl; some = λ x xs. refl };
+    calls = record { none = refl; some = λ x xs. refl };
+  }
+
+  pub ands_stand : IsRow (and_row signature here)
+  unfolding next_basic_at
+  ands_stand = record {
+    takes = next_basic_takes signature n here (level_laws signature n);
+    pieces = record { none = refl; some = λ b bs. refl };
+    calls = record { none = refl; some = λ b bs. refl };
+  }
+
+-- where there is one part at least
+pub some_selectors : (builder : SyntaxBuilder) (parts : List Part) (ss : List Selector) → 1 ≤ length parts → ArePartsFor builder parts (selector_pieces (selector_list ss))
+    → AreSelectorsOf builder parts (selector_list ss)
+some_selectors builder [] ss some h = absurd (omega (arith, some))
+some_selectors builder (part ∷ parts) ss some h = h
+
+pub some_ors : (builder : SyntaxBuilder) (parts : List Part) (e : LogicalOr) → 1 ≤ length parts → ArePartsFor builder parts (or_pieces e) → AreOrPartsOf builder parts e
+some_ors builder [] e some h = absurd (omega (arith, some))
+some_ors builder (part ∷ parts) e some h = h
+
+pub some_ands : (builder : SyntaxBuilder) (parts : List Part) (e : LogicalAnd) → 1 ≤ length parts → ArePartsFor builder parts (and_pieces e) → AreAndPartsOf builder parts e
+some_ands builder [] e some h = absurd (omega (arith, some))
+some_ands builder (part ∷ parts) e some h = h

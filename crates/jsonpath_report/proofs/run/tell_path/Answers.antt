@@ -5,7 +5,7 @@ use Rattle.serde_json_path_parser.specs.declared.error.ParseErrorKind.TheVariant
 use Rattle.jsonpath_report.specs.Run.{AppendsBeginning, line_of}
 use Rattle.jsonpath_report.specs.declared.report.ReportError.TheVariants.{Path}
 use Rattle.jsonpath_report.proofs.Runs.{no_memory_line}
-use Rattle.jsonpath_report.proofs.Writing.{beginning_of_longer}
+use Rattle.jsonpath_report.proofs.Lines.{beginning_of_longer}
 use Rattle.jsonpath_report.proofs.run.tell_path.Goals as goal
 
 pub returns-then-eq : goal.returns-then-eq

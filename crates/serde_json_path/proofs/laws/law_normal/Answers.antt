@@ -1,7 +1,6 @@
 use Rattle.serde_json_path_parser.proofs.Grammar.Paths.{one_tree_at_most}
 use Rattle.serde_json_path.specs.Laws.{tree_to}
-use Rattle.serde_json_path.proofs.NormalMeaning.{segments_silent, segments_shallow, node_selected}
-use Rattle.serde_json_path.proofs.NormalTexts.{normal_accepted}
+use Rattle.serde_json_path.proofs.NormalTexts.{segments_silent, segments_shallow, node_selected, normal_accepted}
 use Rattle.serde_json_path.proofs.laws.law_normal.Goals as goal
 
 pub returns : goal.returns

@@ -2,7 +2,7 @@ use Rattle.std.proofs.Common.{◌∙◌, ap, length, subst, sym}
 use Rattle.std.proofs.lemmas.Slice.Zip.{AllZip-long}
 use Rattle.serde_json_path_syntax.specs.Flat.{IsGrown, calls_among, pieces}
 use Rattle.serde_json_path_syntax.specs.Kinds.{AreFitting}
-use Rattle.serde_json_path_syntax.proofs.Tree.Copies.{copied_calls, copied_fitting, copied_grown, copied_pieces}
+use Rattle.serde_json_path_syntax.proofs.Tree.Growing.{copied_calls, copied_fitting, copied_grown, copied_pieces}
 use Rattle.serde_json_path_syntax.proofs.arena.Arena.try_clone.Goals as goal
 
 pub invariant_of-result : goal.invariant_of-result

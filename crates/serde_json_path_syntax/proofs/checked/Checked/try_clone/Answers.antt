@@ -1,4 +1,4 @@
-use Rattle.serde_json_path_syntax.proofs.Tree.Copies.{same_query}
+use Rattle.serde_json_path_syntax.proofs.Tree.Growing.{same_query}
 use Rattle.serde_json_path_syntax.proofs.checked.Checked.try_clone.Goals as goal
 
 pub invariant_of-result-clause-typed : goal.invariant_of-result-clause-typed
