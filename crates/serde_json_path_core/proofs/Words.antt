@@ -1,4 +1,6 @@
 -- The words of definitions that proofs cite, from one place.
+unfoldable pub use Rattle.serde_json_path_core.specs.Inside.Rest.{AreChildrenOf}
+unfoldable pub use Rattle.serde_json_path_core.specs.Inside.Scopes.{AreCallsOf}
 pub use Rattle.std.proofs.Math.Logic.{∥∥₁_elim, ∥∥₁_map, ∥∥₁_map₂, ∥∥₁_prop}
 pub use Rattle.std.proofs.Math.Seq.{take-append_seam}
 pub use Rattle.std.proofs.lemmas.Bool.{cases_Bool, cases_lt}
@@ -36,11 +38,9 @@ pub use Rattle.serde_json_path_nodes.specs.Views.{located, node_value, step_view
 pub use Rattle.serde_json_path_functions.specs.Functions.{Fits, FunctionSet, KeepsTypes, Kind, Signature, Term, kind_of_term, logical, nodes, of_logical}
 pub use Rattle.serde_json_path_functions.specs.Functions.{of_nodes, of_value}
 pub use Rattle.serde_json_path_functions.specs.Terms.{term_view}
-pub use Rattle.serde_json_path_syntax.proofs.Lists.InLists.{flat_map-flat_map, flat_map-same, in_append, in_flat_map, in_keep, in_map, in_option}
-pub use Rattle.serde_json_path_syntax.proofs.Lists.InLists.{in_order-append, in_order-flat_map, in_order-keep, in_order-map, in_order-option, map-flat_map}
-pub use Rattle.serde_json_path_syntax.proofs.Lists.InLists.{map_in, weaker}
-pub use Rattle.serde_json_path_syntax.proofs.Tree.NamedParts.{within_bound, within_get}
-pub use Rattle.serde_json_path_syntax.proofs.Tree.NamedParts.{below_length, past_length}
+pub use Rattle.serde_json_path_syntax.proofs.Lists.{flat_map-flat_map, flat_map-same, in_append, in_flat_map, in_keep, in_map, in_option, in_order-append}
+pub use Rattle.serde_json_path_syntax.proofs.Lists.{in_order-flat_map, in_order-keep, in_order-map, in_order-option, map-flat_map, map_in, weaker}
+pub use Rattle.serde_json_path_syntax.proofs.Tree.NamedParts.{within_bound, within_get, below_length, past_length}
 pub use Rattle.serde_json_path_syntax.proofs.Typing.TypedParts.{typed_segment}
 pub use Rattle.serde_json_path_syntax.specs.Calls.{arguments_of, calls_from, calls_in_and, calls_in_argument, calls_in_arguments, calls_in_basic}
 pub use Rattle.serde_json_path_syntax.specs.Calls.{calls_in_comparable, calls_in_or, calls_in_segment, calls_in_segments, calls_in_selector, calls_in_selectors}
@@ -70,27 +70,20 @@ pub use Rattle.serde_json_path_core.specs.Compared.{AreEqual, AreEqualAmounts, A
 pub use Rattle.serde_json_path_core.specs.Compared.{IsLess, amount_of, billionths, literal_compared, nothing, value_compared}
 pub use Rattle.serde_json_path_core.specs.Derivation.{Before, BelongsTo, SelectedBefore, SelectedBeforeBy, SelectedBeforeIn, Triple, TripleBefore, beneath}
 pub use Rattle.serde_json_path_core.specs.Derivation.{location_of, start_of}
-pub use Rattle.serde_json_path_core.specs.Inside.Rest.{ComesTo, IsAtAdmitted, IsAtNode, IsAtTask, IsDone, IsSameFrame, Passes, Skips}
+pub use Rattle.serde_json_path_core.specs.Inside.Rest.{ComesTo, IsAtAdmitted, IsAtNode, IsAtTask, IsDone, IsSameFrame, Passes, Skips, AllStandIn, EndsIn, Frame}
+pub use Rattle.serde_json_path_core.specs.Inside.Rest.{IsAtChild, IsAtStart, IsChain, IsInside, IsOfValue, IsStack, IsStackIn, admitted, begun, candidates}
+pub use Rattle.serde_json_path_core.specs.Inside.Rest.{entered, entering, frame_tasks, here, is_leaf, last_passed, lower, lower_left, node_at, opened, passed}
+pub use Rattle.serde_json_path_core.specs.Inside.Rest.{rest_of, stack_path, tasks, unfiltered, visit, visit_place, visit_rest, visit_stack, without_node, work}
 pub use Rattle.serde_json_path_core.specs.Inside.Computed.{SlicePositions, all_true, answer, answer_compared, answer_holds, argument_as, arguments}
 pub use Rattle.serde_json_path_core.specs.Inside.Computed.{at_positions, basic_true, below_member, children, chosen, chosen_by, comes_before, compare}
 pub use Rattle.serde_json_path_core.specs.Inside.Computed.{compare_sides, compared, count_within, descents, falling, in_order, is_nonempty, is_same, is_true}
 pub use Rattle.serde_json_path_core.specs.Inside.Computed.{items_descents, items_from, itself, members_all, members_descents, next_position, placed}
 pub use Rattle.serde_json_path_core.specs.Inside.Computed.{positions_by, reached, results, results_from, rising, rising_amount, same_amount, same_data}
-pub use Rattle.serde_json_path_core.specs.Inside.Computed.{same_items, same_members, selected, sliced, strided}
-pub use Rattle.serde_json_path_core.specs.Inside.Views.{cursor_left}
+pub use Rattle.serde_json_path_core.specs.Inside.Computed.{same_items, same_members, selected, sliced, strided, child_by, item_at, position_in}
+pub use Rattle.serde_json_path_core.specs.Inside.Views.{cursor_left, frame_view, frames_view, task_view, child_view}
 pub use Rattle.serde_json_path_core.specs.Inside.Evaluates.{Sound}
-pub use Rattle.serde_json_path_core.specs.Inside.Views.{frame_view, frames_view, task_view}
-pub use Rattle.serde_json_path_core.specs.Inside.Rest.{AllStandIn, EndsIn, Frame, IsAtChild, IsAtStart, IsChain, IsInside, IsOfValue, IsStack, IsStackIn, admitted}
-unfoldable pub use Rattle.serde_json_path_core.specs.Inside.Rest.{AreChildrenOf}
-pub use Rattle.serde_json_path_core.specs.Inside.Rest.{begun, candidates, entered, entering, frame_tasks, here, is_leaf, last_passed, lower, lower_left}
-pub use Rattle.serde_json_path_core.specs.Inside.Rest.{node_at, opened, passed, rest_of, stack_path, tasks, unfiltered, visit, visit_place}
-pub use Rattle.serde_json_path_core.specs.Inside.Rest.{visit_rest, visit_stack, without_node, work}
-pub use Rattle.serde_json_path_core.specs.Inside.Scopes.{nodes_of, top_of}
-pub use Rattle.serde_json_path_core.specs.Inside.Computed.{child_by, item_at, position_in}
+pub use Rattle.serde_json_path_core.specs.Inside.Scopes.{nodes_of, top_of, IsSound}
 pub use Rattle.serde_json_path_core.specs.Inside.SingleChildren.{SelectOnly, single_view, values_from}
-pub use Rattle.serde_json_path_core.specs.Inside.Scopes.{IsSound}
-unfoldable pub use Rattle.serde_json_path_core.specs.Inside.Scopes.{AreCallsOf}
-pub use Rattle.serde_json_path_core.specs.Inside.Views.{child_view}
 pub use Rattle.serde_json_path_core.specs.Laws.{AreChildren, AreResultsAt, AreSubtreeResults, with_segment}
 pub use Rattle.serde_json_path_core.specs.Meaning.{Admits, AdmitsBy, AdmitsIn, Answers, AnswersYes, AreArguments, Derives, Exists, Holds, HoldsAll, HoldsBasic}
 pub use Rattle.serde_json_path_core.specs.Meaning.{IsArgument, IsComparedAs, IsPositionOf, IsResult, IsTruthOf, MayDescend, SelectsIndex, first_value}

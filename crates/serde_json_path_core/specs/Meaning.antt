@@ -1,6 +1,5 @@
 -- What a query selects (RFC 9535, sections 2.1 to 2.5), under a function set and at the root of a document.
-use Rattle.std.specs.Prelude.{◌≡◌, ◌≢◌, ℕ, zero, suc, ℤ, pos, ◌+ℤ◌, ◌<ℤ◌, List, [], ◌∷◌, map, ◌⊎◌, ◌↔◌, Bool, Option, Some, None, IsTrue}
-use Rattle.std.specs.Prelude.{int_div}
+use Rattle.std.specs.Prelude.{◌≡◌, ◌≢◌, ℕ, zero, suc, ℤ, pos, ◌+ℤ◌, ◌<ℤ◌, List, [], ◌∷◌, map, ◌⊎◌, ◌↔◌, Bool, Option, Some, None, IsTrue, int_div}
 use Rattle.std.specs.List.{AllZip}
 use Rattle.serde_json.specs.Data.{Data, Items, null as null_data, boolean, number as number_data, string}
 use Rattle.serde_json.specs.Find.{as_array, of_integer}

@@ -1,4 +1,18 @@
 -- The words of definitions that proofs cite, from one place.
+unfoldable pub use Rattle.serde_json_path_nodes.specs.Text.{in_decimal}
+unfoldable pub use Rattle.serde_json_path_parser.specs.Filters.{and_at, and_from, argument_at, arguments_at, basic_at, basic_from}
+unfoldable pub use Rattle.serde_json_path_parser.specs.Filters.{call_at, comparable_at, ended, judged, level, literal_word_at, logical_from, named_at}
+unfoldable pub use Rattle.serde_json_path_parser.specs.Filters.{named_call_at, negated_at, negated_call_at, next_and_at, next_basic_at, operand_at}
+unfoldable pub use Rattle.serde_json_path_parser.specs.Filters.{or_at, or_from, parameters_at, paren_at, path_at, query_at, relation_at}
+unfoldable pub use Rattle.serde_json_path_parser.specs.Filters.{right_side_at, test_at, text_at}
+unfoldable pub use Rattle.serde_json_path_parser.specs.Numbers.{amount_at, digits_after_point_at, fraction_at, number_at, whole_at}
+unfoldable pub use Rattle.serde_json_path_parser.specs.Parsed.{many, many_at}
+unfoldable pub use Rattle.serde_json_path_parser.specs.Parsing.{bound_at, bracket_at, descendant_at, digits_at, dot_at, dotted_at, int_at}
+unfoldable pub use Rattle.serde_json_path_parser.specs.Parsing.{name_at, next_segment_at, next_selector_at}
+unfoldable pub use Rattle.serde_json_path_parser.specs.Parsing.{position_at, quoted_at, segment_at, selector_at}
+unfoldable pub use Rattle.serde_json_path_parser.specs.Parsing.{selectors_at, slice_at, step_at}
+unfoldable pub use Rattle.serde_json_path_parser.specs.Strings.{escape_at, hex4_at, hexadecimal_at}
+unfoldable pub use Rattle.serde_json_path_parser.specs.Strings.{low_at, piece_at, string_at, unicode_at}
 pub use Rattle.std.proofs.Math.Nat.{le-mul_of_pos_right, mul-le-mul_right, mul-lt-mul_of_pos_right, mul-mod_left, mul-sub, mul_assoc, mul_comm, one-le-pow}
 pub use Rattle.std.proofs.Math.Nat.{pow-succ'}
 pub use Rattle.std.proofs.Math.Seq.{drop-append_seam, drop-cons, take-append_seam}
@@ -23,7 +37,6 @@ pub use Rattle.std.specs.Prelude.{string_bytes, ℤ, ◌%◌, ◌&&◌, ◌*ℤ�
 pub use Rattle.std.specs.Str.{IsAscii, IsCharBoundary, IsUtf8, all_scalars, chars, encode_utf8_all, is_utf8}
 pub use Rattle.std.specs.Str.Pattern.{StartsWithChar}
 pub use Rattle.serde_json_path_nodes.specs.Text.{escape_of, hexadecimal_escape, in_quotes, quoted}
-unfoldable pub use Rattle.serde_json_path_nodes.specs.Text.{in_decimal}
 pub use Rattle.serde_json_path_functions.specs.Functions.{Fits, Kind, Signature, of_logical, of_nodes, of_value}
 pub use Rattle.serde_json_path_functions.specs.Terms.{kind_view, signature_view}
 pub use Rattle.serde_json_path_syntax.proofs.Tree.NamedParts.{parts_for_kept}
@@ -33,8 +46,8 @@ pub use Rattle.serde_json_path_syntax.specs.Depth.{and_depth, argument_depth, ar
 pub use Rattle.serde_json_path_syntax.specs.Depth.{segment_depth, segments_depth, selector_depth, selectors_depth}
 pub use Rattle.serde_json_path_syntax.specs.Flat.{parts_in, segment_kind_view}
 pub use Rattle.serde_json_path_syntax.specs.Literals.{literal_view, number_amount, operator_view}
-pub use Rattle.serde_json_path_syntax.specs.Parts.{AreAndPartsOf, AreOrPartsOf, ArePartsFor, ArePartsOf, AreSelectorsOf, IsPart, KeepsParts}
-pub use Rattle.serde_json_path_syntax.specs.Parts.{KeepsTrees, and_pieces, calls_in, or_pieces, segment_pieces, selector_pieces, signatures_of, tree_of}
+pub use Rattle.serde_json_path_syntax.specs.Parts.{AreAndPartsOf, AreOrPartsOf, ArePartsFor, ArePartsOf, AreSelectorsOf, IsPart, KeepsParts, KeepsTrees}
+pub use Rattle.serde_json_path_syntax.specs.Parts.{and_pieces, calls_in, or_pieces, segment_pieces, selector_pieces, signatures_of, tree_of}
 pub use Rattle.serde_json_path_syntax.specs.Piece.{Piece, a_basic, a_comparable, a_selector, an_and, an_argument, an_or}
 pub use Rattle.serde_json_path_syntax.specs.Text.{amount_text, and_text, and_texts, argument_text, argument_texts, basic_text, basic_texts, bracket_dots_of}
 pub use Rattle.serde_json_path_syntax.specs.Text.{call_text, comparable_text, dots_of, fraction_digits, fraction_text, integer_text, joined, literal_text}
@@ -53,26 +66,16 @@ pub use Rattle.serde_json_path_syntax.specs.Typing.{TakesResult, result_kind}
 pub use Rattle.serde_json_path_syntax.specs.Used.{AreCalled, AreDeclared, MayFinish, deepest, names_in}
 pub use Rattle.serde_json_path_syntax.specs.declared.builder.SyntaxBuilder.{SyntaxBuilder}
 pub use Rattle.serde_json_path_syntax.specs.declared.node.Part.{Part}
-pub use Rattle.serde_json_path_parser.specs.Filters.{Deeper, alone, and_list, begins_call}
-unfoldable pub use Rattle.serde_json_path_parser.specs.Filters.{and_at, and_from, argument_at, arguments_at, basic_at, basic_from}
-pub use Rattle.serde_json_path_parser.specs.Filters.{ends_argument}
-unfoldable pub use Rattle.serde_json_path_parser.specs.Filters.{call_at, comparable_at, ended, judged, level, literal_word_at, logical_from, named_at}
-unfoldable pub use Rattle.serde_json_path_parser.specs.Filters.{named_call_at, negated_at, negated_call_at, next_and_at, next_basic_at, operand_at}
-pub use Rattle.serde_json_path_parser.specs.Filters.{operator_at, or_list, past_word}
-unfoldable pub use Rattle.serde_json_path_parser.specs.Filters.{or_at, or_from, parameters_at, paren_at, path_at, query_at, relation_at}
-pub use Rattle.serde_json_path_parser.specs.Filters.{word}
-unfoldable pub use Rattle.serde_json_path_parser.specs.Filters.{right_side_at, test_at, text_at}
+pub use Rattle.serde_json_path_parser.specs.Filters.{Deeper, alone, and_list, begins_call, ends_argument, operator_at, or_list, past_word, word}
 pub use Rattle.serde_json_path_parser.specs.Grammar.{InParentheses, IsBound, IsLiteral, IsSign, IsSlice, IsSliceStep, Negated, ReadArguments, ReadMoreAnds}
 pub use Rattle.serde_json_path_parser.specs.Grammar.{ReadMoreArguments, ReadMoreOrs, ReadMoreSelectors, ReadSegments, ReadSelectors, Reads, ReadsAnd}
 pub use Rattle.serde_json_path_parser.specs.Grammar.{ReadsArgument, ReadsBasic, ReadsCall, ReadsComparable, ReadsOr, ReadsSegment, ReadsSelector, StandsAlone}
 pub use Rattle.serde_json_path_parser.specs.Grammar.{dots_before_bracket, dots_before_name, operator_sign, query_sign}
-pub use Rattle.serde_json_path_parser.specs.Inside.Reading.{IsAhead, is_ascii, limit_of}
-pub use Rattle.serde_json_path_parser.specs.Inside.Giving.{Fails, Gives, Grows, GrowsFrom, IsOperandOf, IsRefused, IsWithin, Makes}
-pub use Rattle.serde_json_path_parser.specs.Inside.Giving.{MakesArguments, MakesFrom, MakesOf, error_of, segment_piece}
-pub use Rattle.serde_json_path_parser.specs.Inside.Levels.{at_level, deeper, signatures}
-pub use Rattle.serde_json_path_parser.specs.Inside.Reading.{LooksOn}
+pub use Rattle.serde_json_path_parser.specs.Inside.Looking.{IsAhead, is_ascii, limit_of, LooksOn, Gathered, Stretched, is_ascii_name_char, is_ascii_plain}
 pub use Rattle.serde_json_path_parser.specs.Inside.Reading.{Moves, left}
-pub use Rattle.serde_json_path_parser.specs.Inside.Reading.{Gathered, Stretched, is_ascii_name_char, is_ascii_plain}
+pub use Rattle.serde_json_path_parser.specs.Inside.Giving.{Fails, Gives, Grows, GrowsFrom, IsOperandOf, IsRefused, IsWithin, Makes, MakesArguments, MakesFrom}
+pub use Rattle.serde_json_path_parser.specs.Inside.Giving.{MakesOf, error_of, segment_piece}
+pub use Rattle.serde_json_path_parser.specs.Inside.Levels.{at_level, deeper, signatures}
 pub use Rattle.serde_json_path_parser.specs.Inside.Words.{literal_word}
 pub use Rattle.serde_json_path_parser.specs.Lexical.{AllPass, ArePieces, IsAmount, IsBlank, IsDecimal, IsFraction, IsFunctionName, IsHex4, IsHighSurrogate}
 pub use Rattle.serde_json_path_parser.specs.Lexical.{IsInt, IsLowSurrogate, IsName, IsNumber, IsPiece, IsQuote, IsString, Joined, are_at, begins, begins_both}
@@ -80,25 +83,16 @@ pub use Rattle.serde_json_path_parser.specs.Lexical.{between, escaped_by, fracti
 pub use Rattle.serde_json_path_parser.specs.Lexical.{is_name_char, is_name_first, is_plain, is_small_letter, letter_escape, opens, pair_escape, pair_of, plain}
 pub use Rattle.serde_json_path_parser.specs.Lexical.{quote_escape, value_from, ◌∈◌}
 pub use Rattle.serde_json_path_parser.specs.Numbers.{greatest_amount, is_exponent}
-unfoldable pub use Rattle.serde_json_path_parser.specs.Numbers.{amount_at, digits_after_point_at, fraction_at, number_at, whole_at}
 pub use Rattle.serde_json_path_parser.specs.Operands.{Operand, a_call, a_literal, are_singular, calls_in_operand, fits, is_result, is_singular}
 pub use Rattle.serde_json_path_parser.specs.Operands.{is_singular_segment, is_test, is_value_literal, is_whole, takes_result}
 pub use Rattle.serde_json_path_parser.specs.Parse.{Answers, NeedsNoMemory, ParsedQuery, checked_view, is_dollar}
 pub use Rattle.serde_json_path_parser.specs.Parsed.{Parsed, byte_count, front, past, past_blanks, refusal, refusal_at, ◌>>=◌}
-unfoldable pub use Rattle.serde_json_path_parser.specs.Parsed.{many, many_at}
-pub use Rattle.serde_json_path_parser.specs.Parsing.{after_dot, begins_int}
-unfoldable pub use Rattle.serde_json_path_parser.specs.Parsing.{bound_at, bracket_at, descendant_at, digits_at, dot_at, dotted_at, int_at}
-pub use Rattle.serde_json_path_parser.specs.Parsing.{is_first_digit, negative, opens_after_root}
-unfoldable pub use Rattle.serde_json_path_parser.specs.Parsing.{name_at, next_segment_at, next_selector_at}
-pub use Rattle.serde_json_path_parser.specs.Parsing.{opens_next, segment_list, segments_at, selector_list}
-unfoldable pub use Rattle.serde_json_path_parser.specs.Parsing.{position_at, quoted_at, segment_at, selector_at}
-unfoldable pub use Rattle.serde_json_path_parser.specs.Parsing.{selectors_at, slice_at, step_at}
+pub use Rattle.serde_json_path_parser.specs.Parsing.{after_dot, begins_int, is_first_digit, negative, opens_after_root, opens_next, segment_list, segments_at}
+pub use Rattle.serde_json_path_parser.specs.Parsing.{selector_list}
 pub use Rattle.serde_json_path_parser.specs.Reported.{IsUndeclared, Reports, reported}
 pub use Rattle.serde_json_path_parser.specs.Source.{Told, greatest_usize, looked, one_more}
-pub use Rattle.serde_json_path_parser.specs.Strings.{head, hexadecimal_value, is_control, is_hexadecimal, is_high}
-unfoldable pub use Rattle.serde_json_path_parser.specs.Strings.{escape_at, hex4_at, hexadecimal_at}
-pub use Rattle.serde_json_path_parser.specs.Strings.{is_inside, is_letter_escape, is_low, letter_value}
-unfoldable pub use Rattle.serde_json_path_parser.specs.Strings.{low_at, piece_at, string_at, unicode_at}
+pub use Rattle.serde_json_path_parser.specs.Strings.{head, hexadecimal_value, is_control, is_hexadecimal, is_high, is_inside, is_letter_escape, is_low}
+pub use Rattle.serde_json_path_parser.specs.Strings.{letter_value}
 pub use Rattle.serde_json_path_parser.specs.declared.error.Failure.{Failure}
 pub use Rattle.serde_json_path_parser.specs.declared.error.ParseErrorKind.{ParseErrorKind}
 pub use Rattle.serde_json_path_parser.specs.declared.error.ParseErrorKind.TheVariants.{BadEscape, BadMemberName, ControlCharacter, ExpectedClosingBracket}

@@ -1,7 +1,9 @@
 -- What contracts of private functions, and proofs, cite alone.
 
--- what a reader sees: the bytes ahead, what was looked at, the characters left, and stretches of them
+-- a reader of a text
 pub mod Reading
+-- what the bytes ahead tell, what was looked at, and stretches of characters
+pub mod Looking
 -- words
 pub mod Words
 -- what is read at a level

@@ -1,4 +1,134 @@
--- Printed texts.
+-- What is printed of a part of any kind.
+use Rattle.std.proofs.Common.{◌≡◌, ◌≢◌, ◌∙◌, ℕ, zero, suc, ◌+◌, ◌-◌, ◌*◌, ◌/◌, ◌%◌, ◌<◌, ℤ, pos, negsuc, List, [], ◌++◌, codes, true, false, refl, sym, ap, append_assoc, arith, ◌≤◌, ◌∷◌, length, map, take, get_or, append-nil}
+use lib.Signed.{lt_z}
+use Rattle.std.proofs.Math.IntN.{nat_abs}
+use Rattle.std.proofs.lemmas.Int.{ints}
+use Rattle.std.specs.Fmt.{decimal}
+use Rattle.serde_json_path_syntax.specs.Text.{amount_text, fraction_digits, number_text, query_text, joined, piece_text, and_text, and_texts, argument_text, argument_texts, basic_text, basic_texts, call_text, comparable_text, or_text, segment_text, segments_text, selector_text, selector_texts}
+use Rattle.std.specs.Prelude.{codes}
+use Rattle.std.proofs.Math.Seq.{take-suc}
+use Rattle.std.proofs.Math.Numerals.{add-one}
+use Rattle.std.proofs.lemmas.Grind.{flat_map-append}
+use Rattle.std.proofs.lemmas.List.{map-append, take_all}
+use Rattle.std.specs.List.{flat_map}
+use Rattle.serde_json_path_syntax.proofs.Tree.NamedParts.{others, others-cons}
+use Rattle.serde_json_path_syntax.specs.Flat.{piece_in, pieces_named, ands_in, arguments_in, call_in, comparable_in, or_in, ors_in, query_in, segments_in, selectors_in}
+use Rattle.serde_json_path_syntax.specs.Piece.{Piece, a_query, a_segment, a_selector, an_or, an_and, a_basic, a_comparable, a_call, an_argument}
+use Rattle.serde_json_path_syntax.specs.declared.node.Part.{Part}
+use Rattle.serde_json_path_syntax.specs.Kinds.{each_is, is_and, is_argument, is_basic, is_call, is_comparable, is_or, is_query, is_segment, is_selector}
 
--- what is printed of a part of any kind
-pub mod OfKinds
+-- ---- the digits of a fraction, one after another; numbers with a sign and without
+
+-- where the rest is 0
+pub fraction_ended : (places rest : ℕ) → rest ≡ 0 → fraction_digits places rest ≡ []
+fraction_ended zero rest e = refl
+fraction_ended (suc places) rest e = rw e refl
+
+one_digit : (places rest : ℕ) → rest ≢ 0 → fraction_digits (suc places) rest ≡ decimal (rest / 100000000) ++ fraction_digits places ((rest % 100000000) * 10)
+one_digit places rest h = grind (arith, h)
+
+-- one digit more
+pub fraction_more : (done : List ℕ) (counter rest : ℕ) → counter < 9 → rest ≢ 0
+    → (done ++ decimal (rest / 100000000)) ++ fraction_digits (9 - (counter + 1)) ((rest % 100000000) * 10) ≡ done ++ fraction_digits (9 - counter) rest
+fraction_more done counter rest h there =
+    let left : 9 - counter ≡ suc (9 - (counter + 1)) = omega (arith, h) in
+    append_assoc done _ _ ∙ ap (λ t. done ++ t) (sym (ap (λ n. fraction_digits n rest) left ∙ one_digit (9 - (counter + 1)) rest there))
+
+-- ---- numbers by their sign and their size
+
+pub negative : (i : ℤ) (size : ℕ) → size ≡ nat_abs i → lt_z i (pos 0) ≡ true → codes "-" ++ amount_text size ≡ number_text i
+negative (pos n) size e below = absurd (omega (arith, ints, below))
+negative (negsuc n) size e below = ap (λ m. codes "-" ++ amount_text m) e
+
+pub natural : (i : ℤ) (size : ℕ) → size ≡ nat_abs i → lt_z i (pos 0) ≡ false → amount_text size ≡ number_text i
+natural (pos n) size e above = ap amount_text e
+natural (negsuc n) size e above = absurd (omega (arith, ints, above))
+
+-- ---- texts of parts that are printed one after another
+
+module _ (separator : List ℕ) (ps : List Piece) where
+  abbrev text_of : Part → List ℕ
+  text_of part = piece_text (piece_in ps part.number)
+
+  -- what is printed of the first i parts, each after a separator
+  abbrev pub begun : List Part → ℕ → List ℕ
+  begun parts i = flat_map (λ t. separator ++ t) (map text_of (take i parts))
+
+  pub begun_more : (parts : List Part) (i : ℕ) (d : Part) → i < length parts → begun parts i ++ (separator ++ text_of (get_or parts i d)) ≡ begun parts (i + 1)
+  begun_more parts i d h =
+      let separated = λ (t : List ℕ). separator ++ t in
+      let texts = map text_of (take i parts) in
+      let x = text_of (get_or parts i d) in
+      let more : texts ++ x ∷ [] ≡ map text_of (take (i + 1) parts) =
+      sym (map-append text_of (take i parts) (get_or parts i d ∷ [])) ∙ ap (map text_of) (sym (take-suc parts i d h) ∙ ap (λ n. take n parts) (sym (add-one i))) in
+      ap (λ t. begun parts i ++ t) (sym (append-nil (separator ++ x))) ∙ sym (flat_map-append separated texts (x ∷ [])) ∙ ap (flat_map separated) more
+
+  listed : (parts : List Part) → map text_of parts ≡ map piece_text (pieces_named ps parts)
+  listed [] = refl
+  listed (part ∷ parts) = ap (λ ts. text_of part ∷ ts) (listed parts)
+
+  -- a first part, and what is printed of the others once none is left
+  pub begun_whole : (parts : List Part) (d : Part) (i : ℕ) → 1 ≤ length parts → length (others parts) ≤ i → text_of (get_or parts 0 d) ++ begun (others parts) i ≡ joined separator (map piece_text (pieces_named ps parts))
+  begun_whole [] d i some all = absurd (omega (arith, some))
+  begun_whole (part ∷ parts) d i some all =
+      ap (λ xs. text_of part ++ flat_map (λ t. separator ++ t) (map text_of xs)) (take_all i (others (part ∷ parts)) all ∙ others-cons part parts)
+      ∙ ap (λ ts. text_of part ++ flat_map (λ t. separator ++ t) ts) (listed parts)
+
+-- ---- one
+
+pub text_of_query : (p : Piece) → is_query p ≡ true → piece_text p ≡ query_text (query_in p)
+text_of_query (a_query q) h = refl
+text_of_query _ h = absurd cc
+
+pub text_of_or : (p : Piece) → is_or p ≡ true → piece_text p ≡ or_text (or_in p)
+text_of_or (an_or e) h = refl
+text_of_or _ h = absurd cc
+
+pub text_of_comparable : (p : Piece) → is_comparable p ≡ true → piece_text p ≡ comparable_text (comparable_in p)
+text_of_comparable (a_comparable c) h = refl
+text_of_comparable _ h = absurd cc
+
+pub text_of_call : (p : Piece) → is_call p ≡ true → piece_text p ≡ call_text (call_in p)
+text_of_call (a_call c) h = refl
+text_of_call _ h = absurd cc
+
+-- ---- many
+
+more_segments : (ps : List Piece) → each_is is_segment ps ≡ true → flat_map (λ t. [] ++ t) (map piece_text ps) ≡ segments_text (segments_in ps)
+more_segments [] h = refl
+more_segments (a_segment kind seg ∷ ps) h = ap (λ t. segment_text seg kind ++ t) (more_segments ps h)
+more_segments (_ ∷ ps) h = absurd cc
+
+pub text_of_segments : (ps : List Piece) → each_is is_segment ps ≡ true → joined [] (map piece_text ps) ≡ segments_text (segments_in ps)
+text_of_segments [] h = refl
+text_of_segments (p ∷ ps) h = more_segments (p ∷ ps) h
+
+pub texts_of_selectors : (ps : List Piece) → each_is is_selector ps ≡ true → map piece_text ps ≡ selector_texts (selectors_in ps)
+texts_of_selectors [] h = refl
+texts_of_selectors (a_selector sel ∷ ps) h = ap (λ ts. selector_text sel ∷ ts) (texts_of_selectors ps h)
+texts_of_selectors (_ ∷ ps) h = absurd cc
+
+texts_of_ands : (ps : List Piece) → each_is is_and ps ≡ true → map piece_text ps ≡ and_texts (ors_in ps)
+texts_of_ands [] h = refl
+texts_of_ands (an_and e ∷ ps) h = ap (λ ts. and_text e ∷ ts) (texts_of_ands ps h)
+texts_of_ands (_ ∷ ps) h = absurd cc
+
+pub text_of_ands : (ps : List Piece) → each_is is_and ps ≡ true → joined (codes " || ") (map piece_text ps) ≡ or_text (ors_in ps)
+text_of_ands [] h = refl
+text_of_ands (p ∷ ps) h = ap (joined (codes " || ")) (texts_of_ands (p ∷ ps) h)
+
+texts_of_basics : (ps : List Piece) → each_is is_basic ps ≡ true → map piece_text ps ≡ basic_texts (ands_in ps)
+texts_of_basics [] h = refl
+texts_of_basics (a_basic b ∷ ps) h = ap (λ ts. basic_text b ∷ ts) (texts_of_basics ps h)
+texts_of_basics (_ ∷ ps) h = absurd cc
+
+pub text_of_basics : (ps : List Piece) → each_is is_basic ps ≡ true → joined (codes " && ") (map piece_text ps) ≡ and_text (ands_in ps)
+text_of_basics [] h = refl
+text_of_basics (p ∷ ps) h = ap (joined (codes " && ")) (texts_of_basics (p ∷ ps) h)
+
+pub texts_of_arguments : (ps : List Piece) → each_is is_argument ps ≡ true → map piece_text ps ≡ argument_texts (arguments_in ps)
+texts_of_arguments [] h = refl
+texts_of_arguments (an_argument a ∷ ps) h = ap (λ ts. argument_text a ∷ ts) (texts_of_arguments ps h)
+texts_of_arguments (_ ∷ ps) h = absurd cc
+
+pub ruleset of_kinds = (text_of_query, text_of_or, text_of_comparable, text_of_call, text_of_segments, texts_of_selectors, text_of_ands, text_of_basics, texts_of_arguments)

@@ -64,7 +64,7 @@ fn same_parts(mine: &Checked, lefts: &[Part], theirs: &Checked, rights: &[Part])
 
 /// Whether two parts are of one kind and the same.
 #[cycle(comparing)]
-#[tactic(auto, using(crate::proofs::Equality::OfKinds::of_kinds))]
+#[tactic(auto, using(crate::proofs::Equality::of_kinds))]
 fn same_part(mine: &Checked, left: Part, theirs: &Checked, right: Part) -> bool
     requires left_within { number_of left < length (nodes_in mine.now) }
     requires right_within { number_of right < length (nodes_in theirs.now) }
@@ -117,7 +117,7 @@ fn same_part(mine: &Checked, left: Part, theirs: &Checked, right: Part) -> bool
 
 /// Whether two segments select alike.
 #[cycle(comparing)]
-#[tactic(auto, using(crate::proofs::Equality::OfKinds::of_kinds))]
+#[tactic(auto, using(crate::proofs::Equality::of_kinds))]
 fn same_segment(mine: &Checked, left: &Segment, theirs: &Checked, right: &Segment) -> bool
     requires left_within { parts_bound (segment_parts left.now) ≤ length (nodes_in mine.now) }
     requires left_fits { segment_fits (pieces (nodes_in mine.now)) left.now ≡ true }
@@ -138,7 +138,7 @@ fn same_segment(mine: &Checked, left: &Segment, theirs: &Checked, right: &Segmen
 
 /// Whether two selectors are the same.
 #[cycle(comparing)]
-#[tactic(auto, using(crate::proofs::Equality::OfKinds::of_kinds))]
+#[tactic(auto, using(crate::proofs::Equality::of_kinds))]
 fn same_selector(mine: &Checked, left: &Selector, theirs: &Checked, right: &Selector) -> bool
     requires left_within { parts_bound (selector_parts left.now) ≤ length (nodes_in mine.now) }
     requires left_fits { selector_fits (pieces (nodes_in mine.now)) left.now ≡ true }
@@ -159,7 +159,7 @@ fn same_selector(mine: &Checked, left: &Selector, theirs: &Checked, right: &Sele
 
 /// Whether two operands of `&&` are the same.
 #[cycle(comparing)]
-#[tactic(auto, using(crate::proofs::Equality::OfKinds::of_kinds))]
+#[tactic(auto, using(crate::proofs::Equality::of_kinds))]
 fn same_basic(mine: &Checked, left: &Basic, theirs: &Checked, right: &Basic) -> bool
     requires left_within { parts_bound (basic_parts left.now) ≤ length (nodes_in mine.now) }
     requires left_fits { basic_fits (pieces (nodes_in mine.now)) left.now ≡ true }
@@ -197,7 +197,7 @@ fn same_basic(mine: &Checked, left: &Basic, theirs: &Checked, right: &Basic) -> 
 
 /// Whether two sides of comparisons are the same.
 #[cycle(comparing)]
-#[tactic(auto, using(crate::proofs::Equality::OfKinds::of_kinds))]
+#[tactic(auto, using(crate::proofs::Equality::of_kinds))]
 fn same_comparable(mine: &Checked, left: &Comparable, theirs: &Checked, right: &Comparable) -> bool
     requires left_within { parts_bound (comparable_parts left.now) ≤ length (nodes_in mine.now) }
     requires left_fits { comparable_fits (pieces (nodes_in mine.now)) left.now ≡ true }
@@ -219,7 +219,7 @@ fn same_comparable(mine: &Checked, left: &Comparable, theirs: &Checked, right: &
 
 /// Whether two arguments are the same.
 #[cycle(comparing)]
-#[tactic(auto, using(crate::proofs::Equality::OfKinds::of_kinds))]
+#[tactic(auto, using(crate::proofs::Equality::of_kinds))]
 fn same_argument(mine: &Checked, left: &Argument, theirs: &Checked, right: &Argument) -> bool
     requires left_within { parts_bound (argument_parts left.now) ≤ length (nodes_in mine.now) }
     requires left_fits { argument_fits (pieces (nodes_in mine.now)) left.now ≡ true }

@@ -58,7 +58,7 @@ fn write_path<W: Write>(
 
 /// Writes a segment, after the sign of its query where it is the first.
 #[cycle(printing)]
-#[tactic(auto, using(crate::proofs::Printing::OfKinds::of_kinds))]
+#[tactic(auto, using(crate::proofs::Printing::of_kinds))]
 #[inline(always)]
 fn write_segment<W: Write>(
     f: &mut Formatter<W>,
@@ -120,7 +120,7 @@ fn write_selectors<W: Write>(
 
 /// Writes a selector after its opening.
 #[cycle(printing)]
-#[tactic(auto, using(crate::proofs::Printing::OfKinds::of_kinds))]
+#[tactic(auto, using(crate::proofs::Printing::of_kinds))]
 #[inline(always)]
 fn write_selector<W: Write>(
     f: &mut Formatter<W>,
@@ -163,7 +163,7 @@ fn write_selector<W: Write>(
 
 /// Writes a part of any kind.
 #[cycle(printing)]
-#[tactic(auto, using(crate::proofs::Printing::OfKinds::of_kinds))]
+#[tactic(auto, using(crate::proofs::Printing::of_kinds))]
 fn write_part<W: Write>(f: &mut Formatter<W>, tree: &Checked, part: Part) -> fmt::Result
     requires within { number_of part < length (nodes_in tree.now) }
     ensures { WritesOnOk W.write_str_gives f.old result
@@ -218,7 +218,7 @@ fn write_joined<W: Write>(
 
 /// Writes an operand of `&&`.
 #[cycle(printing)]
-#[tactic(auto, using(crate::proofs::Printing::OfKinds::of_kinds))]
+#[tactic(auto, using(crate::proofs::Printing::of_kinds))]
 #[inline(always)]
 fn write_basic<W: Write>(f: &mut Formatter<W>, tree: &Checked, basic: &Basic) -> fmt::Result
     requires within { parts_bound (basic_parts basic.now) ≤ length (nodes_in tree.now) }
@@ -261,7 +261,7 @@ fn write_basic<W: Write>(f: &mut Formatter<W>, tree: &Checked, basic: &Basic) ->
 
 /// Writes a side of a comparison.
 #[cycle(printing)]
-#[tactic(auto, using(crate::proofs::Printing::OfKinds::of_kinds))]
+#[tactic(auto, using(crate::proofs::Printing::of_kinds))]
 #[inline(always)]
 fn write_comparable<W: Write>(
     f: &mut Formatter<W>,
@@ -282,7 +282,7 @@ fn write_comparable<W: Write>(
 
 /// Writes an argument.
 #[cycle(printing)]
-#[tactic(auto, using(crate::proofs::Printing::OfKinds::of_kinds))]
+#[tactic(auto, using(crate::proofs::Printing::of_kinds))]
 #[inline(always)]
 fn write_argument<W: Write>(
     f: &mut Formatter<W>,

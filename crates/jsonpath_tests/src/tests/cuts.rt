@@ -36,10 +36,8 @@ const DOCUMENTS: &[&str] = &[
 
 /// Whether a text is one line.
 fn is_line(text: &str) -> bool {
-    match text.strip_suffix("\n") {
-        Some(line) => !line.contains("\n"),
-        None => false,
-    }
+    text.strip_suffix("\n")
+        .is_some_and(|line| !line.contains("\n"))
 }
 
 /// Fails where the report of a document under `$` is not one line, and the document is a JSON text.

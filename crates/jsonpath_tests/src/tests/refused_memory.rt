@@ -145,11 +145,8 @@ fn try_clone(rt: HostRuntime) -> Result<(), Fail> {
 
 /// The text that a path prints, or nothing where memory is refused.
 fn printed(alloc: Global, text: &str) -> Result<Option<String>, Fail> {
-    Ok(
-        JsonPath::parse_with(alloc, text, &Samples)?
-            .to_text(alloc)
-            .ok(),
-    )
+    let path = JsonPath::parse_with(alloc, text, &Samples)?;
+    Ok(path.to_text(alloc).ok())
 }
 
 #[test]

@@ -1,13 +1,12 @@
 use Rattle.std.proofs.Common.{◌≡◌, ◌+◌, length, map, take, [], drop, option_map, refl, sym, subst, ap, ◌∙◌, arith, ◌∷◌, ◌++◌, ◌⊎◌, inl, inr, rules, append_assoc, Option, Some, List, slice_get, ◌<◌}
 use Rattle.std.proofs.lemmas.Option.{slice_get_within}
 use Rattle.serde_json_path_core.proofs.Words.{get_or_default, map-append, common_steps, option_map_or, length-set, ∥∥₁_map, iter_rest, Data, view}
-use Rattle.serde_json_path_core.proofs.Words.{Located, node_value, Passes, child, descendant, cursor_left, segment_kind_view}
-use Rattle.serde_json_path_core.proofs.Words.{segment_in, segments_at, piece_at, basic_at, comparable_at, call_at, part_query, pieces}
-use Rattle.serde_json_path_core.proofs.Words.{operator_view, term_view, StandsIn, Sound, IsTypedOr, IsTypedAnd, AreTypedArguments, calls_in_or}
-use Rattle.serde_json_path_core.proofs.Words.{calls_in_and, name_of, arguments_of, nodes_of, top_of, frame_view, frames_view, admitted}
-use Rattle.serde_json_path_core.proofs.Words.{rest_of, work, IsStack, IsStackIn, IsInside, selector_view, stage_at, stages_at, child_view}
-use Rattle.serde_json_path_core.proofs.Words.{values_from, Bor, Value, IsIn, within_get, within_bound, below_length, past_length, signatures_of}
-use Rattle.serde_json_path_core.proofs.Words.{params_of}
+use Rattle.serde_json_path_core.proofs.Words.{Located, node_value, Passes, child, descendant, cursor_left, segment_kind_view, segment_in, segments_at}
+use Rattle.serde_json_path_core.proofs.Words.{piece_at, basic_at, comparable_at, call_at, part_query, pieces, operator_view, term_view, StandsIn}
+use Rattle.serde_json_path_core.proofs.Words.{Sound, IsTypedOr, IsTypedAnd, AreTypedArguments, calls_in_or, calls_in_and, name_of, arguments_of}
+use Rattle.serde_json_path_core.proofs.Words.{nodes_of, top_of, frame_view, frames_view, admitted, rest_of, work, IsStack, IsStackIn, IsInside}
+use Rattle.serde_json_path_core.proofs.Words.{selector_view, stage_at, stages_at, child_view, values_from, Bor, Value, IsIn, within_get, within_bound}
+use Rattle.serde_json_path_core.proofs.Words.{below_length, past_length, signatures_of, params_of}
 use Rattle.serde_json_path_functions.specs.Terms.{kind_view}
 use Rattle.serde_json_path_core.specs.Inside.Evaluates.{IsKept}
 use Rattle.serde_json_path_core.specs.Inside.Scopes.{query_of, set_of}
@@ -17,7 +16,7 @@ use Rattle.serde_json_path_core.proofs.Steps.Lookups.{found-none, found-some}
 use Rattle.serde_json_path_core.proofs.Walks.Frames.{at_selector, ends-trans, passes-over, passes-skipped, at-onward, at-downward, done}
 use Rattle.serde_json_path_core.proofs.Walks.Stacks.{rest-started}
 use Rattle.serde_json_path_core.proofs.Walks.Chains.{left_stands, entered-inside, stack-inside, ends-stand}
-use Rattle.serde_json_path_core.proofs.Sound.Parts.{argument-calls, next-calls, side-calls, sound-segment, sound-selector, sound-and, sound-basic, typed-arguments, parameters-known}
+use Rattle.serde_json_path_core.proofs.Sound.{argument-calls, next-calls, side-calls, sound-segment, sound-selector, sound-and, sound-basic, typed-arguments, parameters-known}
 use Rattle.serde_json_path_core.proofs.Walks.Turns.{sees_replaced, Came, came-dropped, came-entered, came-kept, came-node, came-start, came-turned, drop-some, drop-none, missing}
 use Rattle.serde_json_path_core.proofs.Walks.SingleChildren.{first-of-values}
 use Rattle.serde_json_path_core.proofs.+evaluation.Goals.{evaluation::frame::Frame::next_task-In-Some, evaluation::frame::Frame::next_task-In_default, evaluation::frame::Frame::next_task-After-next_admitted, evaluation::stack::find_next-After-next_task}

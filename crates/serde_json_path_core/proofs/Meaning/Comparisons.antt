@@ -8,7 +8,7 @@ use Rattle.serde_json_path_core.proofs.Words.{EqualData, EqualItems, EqualMember
 use Rattle.serde_json_path_core.proofs.Words.{same_items, same_members, is_same, comes_before, compare}
 use Rattle.std.specs.Cmp.{booleans_Decides}
 use Rattle.serde_json_path_core.specs.Compared.{value}
-use Rattle.serde_json_path_syntax.proofs.Lists.InLists.{always, never}
+use Rattle.serde_json_path_syntax.proofs.Lists.{always, never}
 
 Decides-int_lt : (a b : ℤ) → Decides (int_lt a b) (a <ℤ b)
 Decides-int_lt a b = (λ e. grind (arith, ints), λ h. grind (arith, ints))

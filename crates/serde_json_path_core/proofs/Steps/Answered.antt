@@ -9,7 +9,7 @@ use Rattle.serde_json_path_functions.specs.declared.error.QueryError.{QueryError
 use Rattle.serde_json_path_functions.specs.declared.error.QueryError.TheVariants.{Pattern}
 use Rattle.serde_json_path_functions.specs.declared.types.FunctionArgType.{FunctionArgType}
 use Rattle.serde_json_path_functions.specs.declared.types.FunctionValue.{FunctionValue}
-use Rattle.serde_json_path_core.proofs.Sound.Parts.{own-call}
+use Rattle.serde_json_path_core.proofs.Sound.{own-call}
 use Rattle.serde_json_path_core.proofs.Meaning.Derived.{arguments_right}
 
 module _ (F : FunctionSet) (top : Data) where

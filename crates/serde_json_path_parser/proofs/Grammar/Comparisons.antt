@@ -6,11 +6,10 @@ use Rattle.serde_json_path_parser.proofs.Words.{call, Signature, ExpectedExpress
 use Rattle.serde_json_path_parser.proofs.Words.{IsQuote, AllPass, is_blank, is_name_char, IsNumber, opens, IsLiteral, Reads, ReadsCall, query_sign}
 use Rattle.serde_json_path_parser.proofs.Words.{Parsed, past_blanks, byte_count, string_at, segment_list, begins_int, opens_next, Operand, a_literal}
 use Rattle.serde_json_path_parser.proofs.Words.{a_call, Deeper, word, past_word, begins_call, literal_word_at, query_at, named_call_at, text_at}
-use Rattle.serde_json_path_parser.proofs.Words.{operand_at, ◌>>=◌, Basic, relation, exist, test, Comparable, literal, singular}
-use Rattle.serde_json_path_parser.proofs.Words.{called, Operator, equal, less, greater, Query}
-use Rattle.serde_json_path_parser.proofs.Words.{result_kind, IsTestKind, Kind, of_value, of_nodes, of_logical, NonSingularQuery, WrongReturnType}
-use Rattle.serde_json_path_parser.proofs.Words.{ExpectedComparisonOperator, IsBlank, operator_sign, is_result, operator_at, comparable_at, test_at}
-use Rattle.serde_json_path_parser.proofs.Words.{right_side_at, relation_at, basic_from}
+use Rattle.serde_json_path_parser.proofs.Words.{operand_at, ◌>>=◌, Basic, relation, exist, test, Comparable, literal, singular, called, Operator}
+use Rattle.serde_json_path_parser.proofs.Words.{equal, less, greater, Query, result_kind, IsTestKind, Kind, of_value, of_nodes, of_logical}
+use Rattle.serde_json_path_parser.proofs.Words.{NonSingularQuery, WrongReturnType, ExpectedComparisonOperator, IsBlank, operator_sign, is_result}
+use Rattle.serde_json_path_parser.proofs.Words.{operator_at, comparable_at, test_at, right_side_at, relation_at, basic_from}
 use Rattle.serde_json_path_parser.specs.declared.error.Context.TheVariants as context
 use Rattle.serde_json_path_parser.specs.Operands.{a_query}
 use Rattle.serde_json_path_parser.specs.Filters.{filter_at}

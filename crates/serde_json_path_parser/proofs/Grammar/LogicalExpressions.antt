@@ -5,9 +5,8 @@ use Rattle.serde_json_path_parser.proofs.Words.{not_paren, relation, exist, not_
 use Rattle.serde_json_path_parser.proofs.Words.{result_kind, IsTypedOr, IsTypedAnd, IsTestKind, or_depth, and_depth, Signature, WrongReturnType}
 use Rattle.serde_json_path_parser.proofs.Words.{ExpectedClosingParenthesis, ExpectedExpression, is_at, are_at, begins, begins_both, IsBlank, is_blank}
 use Rattle.serde_json_path_parser.proofs.Words.{is_small_letter, InParentheses, ReadsOr, ReadMoreOrs, ReadMoreAnds, Reads, ReadsCall, Parsed, ◌>>=◌}
-use Rattle.serde_json_path_parser.proofs.Words.{past_blanks, many, a_call, begins_call, and_list, or_list, Deeper, paren_at}
-use Rattle.serde_json_path_parser.proofs.Words.{negated_call_at, negated_at, basic_at, next_basic_at, and_from, and_at, next_and_at, or_from, or_at}
-use Rattle.serde_json_path_parser.proofs.Words.{past_word}
+use Rattle.serde_json_path_parser.proofs.Words.{past_blanks, many, a_call, begins_call, and_list, or_list, Deeper, paren_at, negated_call_at}
+use Rattle.serde_json_path_parser.proofs.Words.{negated_at, basic_at, next_basic_at, and_from, and_at, next_and_at, or_from, or_at, past_word}
 use Rattle.serde_json_path_parser.specs.declared.error.Context.TheVariants as context
 use Rattle.serde_json_path_parser.proofs.Reading.Outcomes as r
 use Rattle.serde_json_path_parser.proofs.Reading.Many as m

@@ -3,7 +3,7 @@ use Rattle.std.proofs.Common.{◌≡◌, ℕ, List, Option, Some, None, Ok, Err,
 use Rattle.serde_json_path_parser.proofs.Words.{nat_tests, Literal, ExpectedExpression, Parsed, refusal, past_blanks, Operand, a_literal, word}
 use Rattle.serde_json_path_parser.proofs.Words.{past_word, literal_word_at, literal_word, cases_Bool, not_test, Call, result_kind, Part}
 use Rattle.serde_json_path_parser.proofs.Words.{SyntaxBuilder, of_value, Signature, kind_view, WrongReturnType, begins_call, Deeper, named_call_at}
-use Rattle.serde_json_path_parser.proofs.Words.{named_at, negated_call_at, negated_at, IsOperandOf, a_call, is_result, ◌>>=◌, Basic, None, Some, ◌==◌}
+use Rattle.serde_json_path_parser.proofs.Words.{named_at, negated_call_at, negated_at, IsOperandOf, a_call, is_result, ◌>>=◌, Basic, ◌==◌}
 use Rattle.serde_json_path_parser.proofs.Words.{filter, is_at, begins, byte_count, selector_at, or_at, call_at, level, ◌↔◌, IsTrue, calls_in_operand}
 use Rattle.serde_json_path_parser.proofs.Words.{calls_in_argument, alone, is_singular, is_whole, is_value_literal, text, number, truth, null}
 use Rattle.serde_json_path_parser.proofs.Words.{IsValueLiteral, Query, IsSingular}

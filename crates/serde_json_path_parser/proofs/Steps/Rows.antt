@@ -12,7 +12,7 @@ use Rattle.serde_json_path_parser.proofs.Words.{level, segment_at, next_segment_
 use Rattle.serde_json_path_parser.proofs.Words.{next_basic_at}
 use Rattle.serde_json_path_parser.specs.Inside.Giving.{MakesSo}
 use Rattle.serde_json_path_syntax.proofs.Names.Finishing.{may_finish}
-use Rattle.serde_json_path_syntax.proofs.Lists.InLists.{in_append}
+use Rattle.serde_json_path_syntax.proofs.Lists.{in_append}
 use Rattle.serde_json_path_syntax.specs.Piece.{calls_in_piece}
 use Rattle.serde_json_path_parser.specs.declared.error.Failure.TheVariants as failures
 use Rattle.serde_json_path_parser.proofs.Reading.Many as m

@@ -5,7 +5,7 @@ ghost use Rattle.std.specs.Option.{ForSome};
 ghost use Rattle.std.specs.Str.{IsUtf8};
 ghost use Rattle.std.specs.Str.Pattern.{StartsWithChar};
 ghost use Rattle.std.specs.Char.{IsScalar};
-ghost use Rattle.serde_json_path_parser.specs.Inside.Reading.{LooksOn, up_to};
+ghost use Rattle.serde_json_path_parser.specs.Inside.Looking.{LooksOn, up_to};
 
 use crate::source::PathSource;
 

@@ -3,10 +3,8 @@
 ghost use Rattle.std.specs.Prelude.{◌≡◌, ◌==◌, ◌<◌, ◌≤◌, ◌+◌, ◌-◌, ◌^◌, ◌∷◌, ℕ, length, slice_get, drop, true, max, None, IfOk, IsTrue, is_ok, string_bytes, ◌++◌};
 ghost use Rattle.std.specs.Str.{is_utf8, chars, encode_utf8_all as encoded};
 ghost use Rattle.std.specs.Char.{IsScalar};
-ghost use Rattle.serde_json_path_parser.specs.Inside.Reading.{is_ascii_plain, Stretched};
+ghost use Rattle.serde_json_path_parser.specs.Inside.Looking.{is_ascii_plain, Stretched, is_ascii, limit_of, IsAhead, IsSecond, up_to};
 ghost use Rattle.serde_json_path_parser.specs.Lexical.{begins, begins_both, is_blank, is_digit, is_name_first, is_name_char, is_small_letter, is_function_char};
-ghost use Rattle.serde_json_path_parser.specs.Inside.Reading.{is_ascii, limit_of, IsAhead, IsSecond};
-ghost use Rattle.serde_json_path_parser.specs.Inside.Reading.{up_to};
 ghost use Rattle.serde_json_path_parser.specs.Source.{greatest_usize};
 ghost use Rattle.serde_json_path_parser.specs.Parsed.{front, past};
 ghost use Rattle.serde_json_path_parser.specs.Numbers.{is_exponent};

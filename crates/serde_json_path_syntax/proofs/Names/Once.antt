@@ -3,7 +3,7 @@ use Rattle.std.proofs.Common.{List, [], ◌∷◌, ◌++◌, inl, inr, refl, ari
 use Rattle.serde_json_path_syntax.specs.Tree.{Call, call, Query}
 use Rattle.serde_json_path_syntax.specs.Calls.{OfEach, calls_from, calls_in_arguments}
 use Rattle.serde_json_path_syntax.specs.Lists.{IsIn, IsInOrder}
-use Rattle.serde_json_path_syntax.proofs.Lists.InLists.{in_append, in_keep, in_map, in_order-keep, map_in}
+use Rattle.serde_json_path_syntax.proofs.Lists.{in_append, in_keep, in_map, in_order-keep, map_in}
 use Rattle.std.proofs.lemmas.Bool.Decides.{nat_tests}
 use Rattle.std.proofs.lemmas.Option.{none-some, same_Some}
 use Rattle.std.proofs.lemmas.Slice.Eq.{bytes_eq-Decides}

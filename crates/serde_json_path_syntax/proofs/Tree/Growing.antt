@@ -5,7 +5,7 @@ use Rattle.std.proofs.lemmas.List.{append-nil, drop_more}
 use Rattle.std.specs.declared.alloc.AllocError.{AllocError}
 use Rattle.serde_json_path_functions.specs.Functions.{Signature, FunctionSet, Fits}
 use Rattle.serde_json_path_syntax.specs.Lists.{IsIn}
-use Rattle.serde_json_path_syntax.proofs.Lists.InLists.{in_append}
+use Rattle.serde_json_path_syntax.proofs.Lists.{in_append}
 use Rattle.serde_json_path_syntax.proofs.Names.Once.{fits_append}
 use Rattle.serde_json_path_syntax.specs.Kinds.{fits, AreFitting}
 use Rattle.serde_json_path_syntax.specs.Piece.{Piece}

@@ -7,7 +7,7 @@ use Rattle.serde_json_path_syntax.specs.Typing.{IsTestKind, IsTyped, AreTypedSeg
 use Rattle.serde_json_path_syntax.specs.Calls.{OfEach, name_of, names_of, calls_of, calls_in_segments, calls_in_segment, calls_in_selectors, calls_in_selector, calls_in_or, calls_in_and, calls_in_basic, calls_in_comparable, calls_from, calls_in_arguments, calls_in_argument}
 use Rattle.serde_json_path_syntax.specs.Lists.{IsIn}
 use Rattle.serde_json_path_syntax.proofs.Names.Once.{in_from, of_both}
-use Rattle.serde_json_path_syntax.proofs.Lists.InLists.{map_in}
+use Rattle.serde_json_path_syntax.proofs.Lists.{map_in}
 
 module _ (few many : List ℕ → Option Signature) where
   -- where the call's name has a signature, it keeps it

@@ -37,12 +37,7 @@ const MESSAGES: &[&str] = &[
 
 /// Whether the table has a message.
 fn is_message(message: &str) -> bool {
-    for &told in MESSAGES {
-        if told == message {
-            return true;
-        }
-    }
-    false
+    MESSAGES.iter().any(|told| *told == message)
 }
 
 /// Fails where a refusal does not stand at a character of the text or its end, or where its message is none of its kind.

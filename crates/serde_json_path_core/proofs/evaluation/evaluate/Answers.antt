@@ -1,7 +1,7 @@
 use Rattle.std.proofs.Common.{sym, ap, ◌∙◌}
 use Rattle.serde_json_path_core.proofs.Words.{view, start_of, segments_at, nodes_in, signatures_of, tree_of, results}
 use Rattle.serde_json_path_core.proofs.Meaning.Derived.{computed_result}
-use Rattle.serde_json_path_core.proofs.Sound.Parts.{sound-segments, whole-sound}
+use Rattle.serde_json_path_core.proofs.Sound.{sound-segments, whole-sound}
 use Rattle.serde_json_path_core.proofs.Walks.Chains.{root_stands}
 use Rattle.serde_json_path_core.proofs.Walks.SingleChildren.{values-query}
 use Rattle.serde_json_path_core.proofs.evaluation.evaluate.Goals as goal

@@ -3,7 +3,7 @@ use Rattle.serde_json_path_core.proofs.Words.{view, start_of, segments_at, nodes
 use Rattle.serde_json_path_core.proofs.Words.{IsResult}
 use Rattle.serde_json_path_core.proofs.Walks.Chains.{stack-started}
 use Rattle.serde_json_path_core.proofs.Meaning.Derived.{computed_result}
-use Rattle.serde_json_path_core.proofs.Sound.Parts.{sound-segments, whole-sound}
+use Rattle.serde_json_path_core.proofs.Sound.{sound-segments, whole-sound}
 use Rattle.serde_json_path_core.proofs.Walks.Stacks.{begun-results}
 use Rattle.serde_json_path_core.proofs.evaluation.walk.Goals as goal
 

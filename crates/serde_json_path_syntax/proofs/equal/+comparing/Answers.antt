@@ -1,6 +1,6 @@
 use Rattle.std.proofs.Common.{◌≡◌, false, inl, inr, sym, ◌∙◌, rules}
 use Rattle.std.specs.Slice.Iter.{iter_rest}
-use Rattle.serde_json_path_syntax.proofs.Equality.OfKinds.{all_left, none_left, uneven, unlike_next}
+use Rattle.serde_json_path_syntax.proofs.Equality.{all_left, none_left, uneven, unlike_next}
 use Rattle.serde_json_path_syntax.proofs.equal.+comparing.Goals as goal
 
 pub same_parts-returns-then-lefts-rights : goal.same_parts-returns-then-lefts-rights

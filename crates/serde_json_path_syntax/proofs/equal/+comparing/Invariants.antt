@@ -3,7 +3,7 @@ use Rattle.std.specs.Slice.Iter.{iter_rest}
 use Rattle.serde_json_path_syntax.specs.Flat.{argument_parts, basic_parts, comparable_parts, pieces, segment_parts, selector_parts}
 use Rattle.serde_json_path_syntax.specs.PartBounds.{parts_bound}
 use Rattle.serde_json_path_syntax.specs.Parts.{nodes_in}
-use Rattle.serde_json_path_syntax.proofs.Equality.OfKinds.{AreLeft}
+use Rattle.serde_json_path_syntax.proofs.Equality.{AreLeft}
 use Rattle.serde_json_path_syntax.proofs.equal.+comparing.Given as goal
 
 -- a function that compares two parts goes to parts with lower numbers

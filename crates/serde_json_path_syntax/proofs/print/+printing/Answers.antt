@@ -8,7 +8,7 @@ use Rattle.serde_json_path_syntax.specs.Piece.{a_segment}
 use Rattle.serde_json_path_syntax.specs.Text.{bracket_dots_of, joined, piece_text, query_kind_text, sign_text}
 use Rattle.serde_json_path_syntax.specs.Tree.{long_hand}
 use Rattle.serde_json_path_syntax.proofs.Tree.NamedParts.{within_get, one_is, others, others-bound, others_are}
-use Rattle.serde_json_path_syntax.proofs.Printing.OfKinds.{begun_more, begun_whole, text_of_segments, texts_of_arguments, texts_of_selectors}
+use Rattle.serde_json_path_syntax.proofs.Printing.{begun_more, begun_whole, text_of_segments, texts_of_arguments, texts_of_selectors}
 use Rattle.serde_json_path_syntax.proofs.print.+printing.Goals as goal
 
 -- ---- segments, after the sign of a query

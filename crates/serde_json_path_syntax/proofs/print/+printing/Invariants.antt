@@ -3,7 +3,7 @@ use Rattle.std.specs.Fmt.{HasWritten, IsPlainFormatter}
 use Rattle.serde_json_path_syntax.specs.Flat.{argument_parts, basic_parts, comparable_parts, pieces}
 use Rattle.serde_json_path_syntax.specs.PartBounds.{parts_bound}
 use Rattle.serde_json_path_syntax.specs.Parts.{nodes_in}
-use Rattle.serde_json_path_syntax.proofs.Printing.OfKinds.{begun}
+use Rattle.serde_json_path_syntax.proofs.Printing.{begun}
 use Rattle.serde_json_path_syntax.proofs.print.+printing.Given as goal
 
 -- a function that writes a part goes to parts with lower numbers

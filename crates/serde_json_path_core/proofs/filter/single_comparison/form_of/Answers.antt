@@ -2,7 +2,7 @@ use Rattle.std.proofs.Common.{◌≡◌, rules, subst}
 use Rattle.serde_json_path_core.proofs.Words.{comparable_at, part_query, segments_at, singular, calls_in_comparable, IsTypedComparable, nodes_of, Sound}
 use Rattle.serde_json_path_core.specs.Inside.Evaluates.{SoundQuery}
 use Rattle.serde_json_path_core.specs.Inside.Scopes.{query_of, set_of}
-use Rattle.serde_json_path_core.proofs.Sound.Parts.{sound-segments}
+use Rattle.serde_json_path_core.proofs.Sound.{sound-segments}
 use Rattle.serde_json_path_core.proofs.filter.single_comparison.form_of.Goals.{In-Comparable-Singular}
 use Rattle.serde_json_path_core.proofs.filter.single_comparison.form_of.Goals as goal
 

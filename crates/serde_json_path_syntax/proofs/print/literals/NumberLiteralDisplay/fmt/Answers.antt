@@ -5,7 +5,7 @@ use Rattle.std.proofs.Math.Facts.{to_z-of_z}
 use Rattle.std.proofs.Output.{has_written_append, has_written_from_eq, has_written_of_eq, has_written_to_eq}
 use Rattle.serde_json_path_syntax.specs.Literals.{number_amount}
 use Rattle.serde_json_path_syntax.specs.Text.{number_text}
-use Rattle.serde_json_path_syntax.proofs.Printing.OfKinds.{natural, negative}
+use Rattle.serde_json_path_syntax.proofs.Printing.{natural, negative}
 use Rattle.serde_json_path_syntax.proofs.print.literals.NumberLiteralDisplay.fmt.Goals as goal
 use Rattle.serde_json_path_syntax.proofs.print.literals.NumberLiteralDisplay.fmt.Goals.{then-self-lt0+in_ok-write_str, else-self-lt0}
 
