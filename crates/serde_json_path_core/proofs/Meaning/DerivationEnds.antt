@@ -167,8 +167,12 @@ module _ (F : FunctionSet) (top : Data) where
       → map (child_of n) (picks_by sels number down v) ≡ map (placed (n.location ++ down)) (chosen_by F top sels v)
   child_of-picks_by no_selectors number n down v = refl
   child_of-picks_by (selector sel more) number n down v =
-      rw (map-append (child_of n) (map (triple_at down number) (selected F top sel v)) (picks_by more (number + 1) down v), child_of-triple n down number (selected F top sel v),
-      child_of-picks_by more (number + 1) n down v, map-append (placed (n.location ++ down)) (selected F top sel v) (chosen_by F top more v)) refl
+      rw (
+        map-append (child_of n) (map (triple_at down number) (selected F top sel v)) (picks_by more (number + 1) down v),
+        child_of-triple n down number (selected F top sel v),
+        child_of-picks_by more (number + 1) n down v,
+        map-append (placed (n.location ++ down)) (selected F top sel v) (chosen_by F top more v),
+      ) refl
 
   child_of-picks : (seg : Segment) (n : Located) (down : List Step) (v : Data) → map (child_of n) (picks seg down v) ≡ map (placed (n.location ++ down)) (chosen F top seg v)
   child_of-picks (dot_name k) n down v = child_of-triple n down 0 (option_to_list (child_by v (by_name k)))

@@ -32,8 +32,14 @@ module _ (admit : Selector → List (Step × Data) → List (Step × Data)) (num
   pub skips_over : (sels : List Selector) (sel : Selector) (more : List Selector) (cs ds front : List (Step × Data))
       → sels ≡ sel ∷ more → admit sel cs ≡ front ++ admit sel ds → tasks admit number kind sels cs v ≡ map onward front ++ tasks admit number kind sels ds v
   skips_over sels sel more cs ds front e a =
-      rw (e, a, append_assoc front (admit sel ds) (all_of more), map-append onward front (admit sel ds ++ all_of more), lower_left-lower kind sel more cs v,
-      lower_left-lower kind sel more ds v) (append_assoc (map onward front) (map onward (admit sel ds ++ all_of more)) (map downward (lower kind v)))
+      rw (
+        e,
+        a,
+        append_assoc front (admit sel ds) (all_of more),
+        map-append onward front (admit sel ds ++ all_of more),
+        lower_left-lower kind sel more cs v,
+        lower_left-lower kind sel more ds v,
+      ) (append_assoc (map onward front) (map onward (admit sel ds ++ all_of more)) (map downward (lower kind v)))
 
   -- the next selector begins, past what this one still admits
   pub turns_over : (sels : List Selector) (sel : Selector) (more : List Selector) (cs ds : List (Step × Data))

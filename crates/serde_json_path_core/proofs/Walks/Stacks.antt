@@ -70,8 +70,13 @@ module _ (admit : Selector → List (Step × Data) → List (Step × Data)) {A :
       let xs = picks stage.selectors n.value in
       let ys = lower stage.kind n.value in
       unrolled (λ m. before ++ flat_map (λ c. made more (placed m.location c)) (picks stage.selectors m.value)) stage.kind n
-      ∙ rw (flat_map-append (of_task n.location) (map (λ c. (number + 1, c)) xs) (map (λ c. (number, c)) ys), flat_map-map (of_task n.location) (λ c. (number + 1, c)) xs,
-      flat_map-map (of_task n.location) (λ c. (number, c)) ys, next_stage all number stage more e, sym e)
+      ∙ rw (
+        flat_map-append (of_task n.location) (map (λ c. (number + 1, c)) xs) (map (λ c. (number, c)) ys),
+        flat_map-map (of_task n.location) (λ c. (number + 1, c)) xs,
+        flat_map-map (of_task n.location) (λ c. (number, c)) ys,
+        next_stage all number stage more e,
+        sym e,
+      )
       (append_assoc before (flat_map (λ c. made more (placed n.location c)) xs) (flat_map (λ c. made (stage ∷ more) (placed n.location c)) ys))
 
   of_stack-last : (above : List Step) (ps : List Frame) (p : Frame)
@@ -123,8 +128,16 @@ module _ (admit : Selector → List (Step × Data) → List (Step × Data)) {A :
       let Q = visit_place admit before leaf all (L ++ c.0 ∷ []) q in
       let passed = flat_map (of_task L) front in
       passes ps p m stage more (front ++ task ∷ []) d (t ∙ sym (append_assoc front (task ∷ []) (frame_tasks admit stage m))) ms mk
-      ∙ rw (flat_map-append (of_task L) front (task ∷ []), append-nil (of_task L task), enters (Some c.0) number (drop number all) (placed L c) refl,
-      append_assoc passed (before ++ Q) S, append_assoc before Q S, of_stack-last [] (ps ++ m ∷ []) q, stack_path-last [] ps m, ms) refl
+      ∙ rw (
+        flat_map-append (of_task L) front (task ∷ []),
+        append-nil (of_task L task),
+        enters (Some c.0) number (drop number all) (placed L c) refl,
+        append_assoc passed (before ++ Q) S,
+        append_assoc before Q S,
+        of_stack-last [] (ps ++ m ∷ []) q,
+        stack_path-last [] ps m,
+        ms,
+      ) refl
 
 -- ---- leaves
 
