@@ -42,17 +42,9 @@ pub(crate) fn words(alloc: Global, of: &[&str]) -> Result<Vec<String>, AllocErro
     Ok(words)
 }
 
-/// Asserts the status of a run.
-fn ends(rt: &impl Abort, status: u8, wanted: u8) {
-    assert!(rt; status == wanted, "{status} in place of {wanted}");
-}
-
 /// Asserts what was written.
 pub(crate) fn wrote(rt: &impl Abort, written: &[u8], wanted: &str) {
-    assert!(rt;
-        written == wanted.as_bytes(),
-        "{written:?} in place of {wanted:?}"
-    );
+    assert_eq!(rt; written, wanted.as_bytes());
 }
 
 /// The words, the input, and the status and the texts on the output and on the output of errors.
@@ -129,7 +121,7 @@ fn runs_on_bytes(rt: HostRuntime) -> Result<(), Fail> {
     for (path, wanted) in [("$[0]", 0), ("$[1]", 0), ("x", 1)] {
         let path = words(rt.alloc(), &[path])?;
         let status = run_on_bytes(rt.alloc(), &path, b"[1.5,null]", &mut out, &mut err);
-        ends(&rt, status, wanted);
+        assert_eq!(rt; status, wanted);
     }
     wrote(&rt, out.as_slice(), "$[0]\t1.5\n$[1]\tnull\n");
     let refused = "jsonpath: path: at position 1, expected '$'\n";
@@ -145,7 +137,7 @@ fn short_and_interrupted_writes(rt: HostRuntime) -> Result<(), Fail> {
         let mut out = Writer::new(rt.alloc(), fails_at, false);
         let mut err = Vec::new(rt.alloc());
         let answer = run(rt.alloc(), &root, &mut "1".as_bytes(), &mut out, &mut err);
-        ends(&rt, answer, status);
+        assert_eq!(rt; answer, status);
         wrote(&rt, out.taken.as_slice(), written);
     }
     Ok(())
@@ -159,16 +151,12 @@ fn full_writers(rt: HostRuntime) -> Result<(), Fail> {
         (2, 3, "$\t", "jsonpath:"),
         (0, 3, "", "jsonpath:"),
     ] {
-        let mut out = Full {
-            taken: Vec::new(rt.alloc()),
-            room,
-        };
-        let mut err = Full {
-            taken: Vec::new(rt.alloc()),
-            room: 9,
-        };
+        let taken = Vec::new(rt.alloc());
+        let mut out = Full { taken, room };
+        let taken = Vec::new(rt.alloc());
+        let mut err = Full { taken, room: 9 };
         let answer = run(rt.alloc(), &root, &mut "1".as_bytes(), &mut out, &mut err);
-        ends(&rt, answer, status);
+        assert_eq!(rt; answer, status);
         wrote(&rt, out.taken.as_slice(), written);
         wrote(&rt, err.taken.as_slice(), told);
     }
@@ -183,7 +171,7 @@ fn reports_refused_queries(rt: HostRuntime) -> Result<(), Fail> {
     ] {
         let mut err = Vec::new(rt.alloc());
         let status = refuse(rt.alloc(), &ReportError::Query(error), &mut err);
-        ends(&rt, status, 3);
+        assert_eq!(rt; status, 3);
         wrote(&rt, err.as_slice(), line);
     }
     Ok(())

@@ -157,11 +157,8 @@ fn refusals_of_paths_and_documents(rt: HostRuntime) -> Result<(), Fail> {
     let mut table = Table::new();
     for &(path, document, text) in REFUSED {
         let of = format!(in rt.alloc(); "{document:?}")?;
-        table.hold(
-            &rt,
-            (of.as_str(), path, text),
-            refusal(rt.alloc(), path, document),
-        );
+        let came = refusal(rt.alloc(), path, document);
+        table.hold(&rt, (of.as_str(), path, text), came);
     }
     table.end()
 }

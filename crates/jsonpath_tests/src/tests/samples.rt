@@ -8,7 +8,6 @@ use serde_json_path::functions::{Builtin, Functions};
 use serde_json_path_core_tests::rows::Table;
 use serde_json_path_core_tests::texts::locations;
 use std::alloc::Global;
-use std::process::Abort;
 use std::test::Fail;
 
 /// Two shelves of books.
@@ -63,11 +62,8 @@ fn selected(alloc: Global, path: &str, document: &str) -> Result<String, Fail> {
 fn filters_call_the_samples(rt: HostRuntime) -> Result<(), Fail> {
     let mut table = Table::new();
     for &(path, document, wanted) in SELECTED {
-        table.hold(
-            &rt,
-            (document, path, wanted),
-            selected(rt.alloc(), path, document),
-        );
+        let came = selected(rt.alloc(), path, document);
+        table.hold(&rt, (document, path, wanted), came);
     }
     table.end()
 }
@@ -119,28 +115,18 @@ fn typed_calls_of_the_samples(rt: HostRuntime) -> Result<(), Fail> {
     table.hold_each(&rt, alloc, "samples", REFUSED, |alloc, text| {
         refusal(alloc, &Samples, text)
     });
-    table.hold_each(
-        &rt,
-        alloc,
-        "built-in functions",
-        NOT_BUILTIN,
-        |alloc, text| { refusal(alloc, &Builtin, text) },
-    );
+    table.hold_each(&rt, alloc, "built-in", NOT_BUILTIN, |alloc, text| {
+        refusal(alloc, &Builtin, text)
+    });
     table.end()
-}
-
-/// Asserts that a path fits the samples, and whether it fits the built-in functions alone.
-fn fits(rt: &impl Abort, path: &JsonPath, is_builtin: bool) {
-    assert!(rt; path.fits(&Samples));
-    assert!(rt; path.fits(&Builtin) == is_builtin);
 }
 
 #[test]
 fn paths_fit_the_samples_or_not(rt: HostRuntime) -> Result<(), Fail> {
     let alloc = rt.alloc();
     let path = JsonPath::parse_with(alloc, "$[?first(@.*) == 4]", &Samples)?;
-    fits(&rt, &path, false);
+    assert!(rt; path.fits(&Samples) && !path.fits(&Builtin));
     let plain = JsonPath::parse(alloc, "$.a")?;
-    fits(&rt, &plain, true);
+    assert!(rt; plain.fits(&Samples) && plain.fits(&Builtin));
     Ok(())
 }
