@@ -3,7 +3,7 @@ use Rattle.std.proofs.Common.{ℕ, List, [], ◌∷◌, Bool, true, false, Optio
 use Rattle.std.specs.List.{starts_with}
 use Rattle.serde_json.specs.Data.{Data, string}
 use Rattle.serde_json_path_functions.specs.OwnSets.{Keeps, declared_keeps}
-use Rattle.serde_json_path_functions.specs.Functions.{of_value, of_logical, Signature, Term, value, logical, FunctionSet, KeepsTypes}
+use Rattle.serde_json_path_functions.specs.Functions.{of_value, of_logical, Signature, Term, value, logical, FunctionSet, KeepsTypes, whole_numbers}
 use Rattle.serde_json_path_functions.specs.Patterns.{KeepsPatterns, keeps_no_patterns}
 
 abbrev pub prefixes_signature : List ℕ → Option Signature
@@ -21,7 +21,7 @@ all_begin (value text ∷ value start ∷ []) = begins_with text start
 all_begin _ = false
 
 abbrev pub prefixes : FunctionSet
-prefixes = record { signature = prefixes_signature; meaning = λ name ts. logical (all_begin ts); by_regex = λ name. None }
+prefixes = record { signature = prefixes_signature; meaning = λ name ts. logical (all_begin ts); by_regex = λ name. None; numbers = whole_numbers }
 
 -- ---- types
 

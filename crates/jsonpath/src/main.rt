@@ -8,9 +8,7 @@
 //! `run` of `jsonpath_report` is the program over any streams; `main` hands in the words and the standard streams.
 #![tactic(auto)]
 
-mod arguments;
-
-use crate::arguments::words_after_first;
+use jsonpath_report::arguments::words_after_first;
 use jsonpath_report::run::run;
 use std::env;
 use std::process::ExitCode;

@@ -2,7 +2,7 @@
 use Rattle.std.proofs.Common.{◌&&◌, ℕ, List, [], ◌∷◌, Bool, true, false, Option, Some, None, bytes_eq, codes, if◌then◌else◌, refl, arith, slice_get}
 use Rattle.serde_json.specs.Data.{Data}
 use Rattle.serde_json_path_functions.specs.OwnSets.{Keeps, declared_keeps}
-use Rattle.serde_json_path_functions.specs.Functions.{of_value, of_nodes, of_logical, Signature, Term, value, nodes, logical, FunctionSet, KeepsTypes}
+use Rattle.serde_json_path_functions.specs.Functions.{of_value, of_nodes, of_logical, Signature, Term, value, nodes, logical, FunctionSet, KeepsTypes, whole_numbers}
 use Rattle.serde_json_path_functions.specs.Patterns.{KeepsPatterns, keeps_no_patterns}
 
 -- `first(Nodes) -> Value`, `both(Logical, Logical) -> Logical` and `none() -> Value`
@@ -30,7 +30,7 @@ samples_meaning name ts =
     else value None
 
 abbrev pub samples : FunctionSet
-samples = record { signature = samples_signature; meaning = samples_meaning; by_regex = λ name. None }
+samples = record { signature = samples_signature; meaning = samples_meaning; by_regex = λ name. None; numbers = whole_numbers }
 
 -- ---- types
 

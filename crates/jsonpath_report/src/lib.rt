@@ -9,12 +9,14 @@
 //! ```
 //!
 //! [`run::run`] reads the document, writes the lines or tells a fault in a line, and answers the exit status of the program.
-//! [`samples::Samples`] is a function set as an example for other programs.
+//! [`arguments::words_after_first`] takes the program's name off its words. [`samples::Samples`] is a function set as an
+//! example for other programs.
 //!
 //! Definitions are in `specs/`: `Report` says what the lines are, `Run` what the statuses mean and what is told, `Samples` what
 //! the sample functions mean.
 #![tactic(auto)]
 
+pub mod arguments;
 pub mod report;
 pub mod run;
 pub mod samples;

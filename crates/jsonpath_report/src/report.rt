@@ -5,10 +5,11 @@ ghost use Rattle.serde_json.specs.Data.{Data};
 ghost use Rattle.serde_json.specs.View.{view};
 ghost use Rattle.serde_json_path_nodes.specs.Location.{Located};
 ghost use Rattle.serde_json_path_nodes.specs.Views.{located};
+ghost use Rattle.serde_json_path_functions.specs.Functions.{Fits};
 ghost use Rattle.serde_json_path_functions.specs.Patterns.{before_builtin};
-ghost use Rattle.serde_json_path_core.specs.Selects.{OnlyMemoryOrPattern};
+ghost use Rattle.serde_json_path_core.specs.Selects.{OnlyMemoryOrPattern, Selects};
 ghost use Rattle.serde_json_path_core.specs.Walks.{rest, query_of, set_of, document_of};
-ghost use Rattle.serde_json_path.specs.Paths.{path_view};
+ghost use Rattle.serde_json_path.specs.Paths.{path_signatures, path_tree, path_view};
 ghost use Rattle.serde_json_path_parser.specs.Parse.{IsParseOf};
 ghost use Rattle.serde_json_path_parser.specs.Reported.{ReportsFirst};
 ghost use Rattle.serde_json_path_parser.specs.declared.error.ParseError as path_error;
@@ -166,6 +167,27 @@ fn lines<F: Functions + Drop>(
     Ok(text)
 }
 
+/// One line for each node that a path selects, in order, in a text that is empty before.
+fn selected<F: Functions>(
+    alloc: Global,
+    form: LineForm,
+    text: String,
+    path: &JsonPath,
+    document: &Value,
+    functions: &F,
+) -> Result<String, QueryError>
+    requires empty { string_bytes text ≡ [] }
+    requires fits { Fits (before_builtin (F.set functions.now)) (path_signatures path.now) }
+    ensures lines { IfOk result (λ text.
+        (nodes : List Located) × AreLinesIn form nodes (string_bytes text)
+        × Selects (before_builtin (F.set functions.now)) (path_tree path.now) (view document.now) nodes) }
+    ensures refused { OnlyMemoryOrPattern (before_builtin (F.set functions.now))
+        (path_tree path.now) (view document.now) result }
+{
+    let walk = path.walk(alloc, document, functions)?;
+    lines(alloc, form, text, walk)
+}
+
 /// One line for each node of the document that the path selects, in order: its normalised path, a tab, its compact JSON
 /// and a line feed.
 ///
@@ -241,9 +263,6 @@ pub fn report_in<F: Functions>(
     let path = JsonPath::parse_with(alloc, path, functions).map_err(ReportError::Path)?;
     let text = room(alloc);
     let value = self::document(alloc, document).map_err(ReportError::Document)?;
-    let walk = path
-        .walk(alloc, &value, functions)
-        .map_err(ReportError::Query)?;
-    let text = lines(alloc, form, text, walk).map_err(ReportError::Query)?;
+    let text = selected(alloc, form, text, &path, &value, functions).map_err(ReportError::Query)?;
     Ok(text)
 }

@@ -3,7 +3,7 @@
 use serde_json_path::QueryError;
 use serde_json_path::functions::FunctionArgType::{Logical, Nodelist};
 use serde_json_path::functions::{
-    FunctionArgType, FunctionValue, Functions, LogicalType, Signature, ValueType,
+    FunctionArgType, FunctionValue, Functions, LogicalType, Numbers, Signature, ValueType,
 };
 use std::alloc::Global;
 
@@ -33,6 +33,10 @@ impl Functions for Samples {
             "none" => Signature::new(&[], FunctionArgType::Value),
             _ => None,
         }
+    }
+
+    fn numbers(&self) -> Numbers {
+        Numbers::Whole
     }
 
     fn call<'b>(

@@ -43,11 +43,6 @@ next-calls q ps parts part more e each =
     both-calls q (calls_in_argument (argument_in (piece_in ps part.number))) (calls_in_arguments (arguments_in (pieces_named ps more)))
     (subst (λ list. AreCallsOf q (calls_in_arguments (arguments_in (pieces_named ps list)))) e each)
 
--- those of the two sides of a comparison
-pub side-calls : (q : Query) (a : Comparable) (op : Operator) (b : Comparable) (e : Basic) → e ≡ relation a op b → AreCallsOf q (calls_in_basic e)
-    → AreCallsOf q (calls_in_comparable a) × AreCallsOf q (calls_in_comparable b)
-side-calls q a op b e is each = both-calls q (calls_in_comparable a) (calls_in_comparable b) (subst (λ x. AreCallsOf q (calls_in_basic x)) is each)
-
 -- ---- parts
 
 -- the last of some parts have no greater numbers
@@ -94,15 +89,22 @@ module _ (F : FunctionSet) (q : Query) where
   sound-basic ps (p ∷ parts) zero d h s = (s.0.0, (both-calls q _ _ s.1).0)
   sound-basic ps (p ∷ parts) (suc i) d h s = sound-basic ps parts i d (omega (arith, h)) (s.0.1, (both-calls q _ _ s.1).1)
 
-  -- both sides of the comparison of which an expression consists
+  -- both sides of a comparison
+  pub sound-relation : (x : Comparable) (op : Operator) (y : Comparable) (b : Basic) → b ≡ relation x op y
+      → IsSound F q IsTypedBasic calls_in_basic b → IsSound F q IsTypedComparable calls_in_comparable x × IsSound F q IsTypedComparable calls_in_comparable y
+  sound-relation x op y b is sound =
+      let s = subst (IsSound F q IsTypedBasic calls_in_basic) is sound in
+      let sides = both-calls q (calls_in_comparable x) (calls_in_comparable y) s.1 in
+      ((s.0.0, sides.0), (s.0.1, sides.1))
+
+  -- the same of an expression that consists of it
   pub sound-sides : (e : LogicalOr) (x : Comparable) (op : Operator) (y : Comparable) → e ≡ or (and (relation x op y) no_and) no_or
       → IsSound F q IsTypedOr calls_in_or e → IsSound F q IsTypedComparable calls_in_comparable x × IsSound F q IsTypedComparable calls_in_comparable y
   sound-sides e x op y is sound =
       let s = subst (IsSound F q IsTypedOr calls_in_or) is sound in
       let in_and = (both-calls q (calls_in_and (and (relation x op y) no_and)) (calls_in_or no_or) s.1).0 in
       let in_basic = (both-calls q (calls_in_basic (relation x op y)) (calls_in_and no_and) in_and).0 in
-      let sides = side-calls q x op y (relation x op y) refl in_basic in
-      ((s.0.0.0.0, sides.0), (s.0.0.0.1, sides.1))
+      sound-relation x op y (relation x op y) refl (s.0.0.0, in_basic)
 
   sound-bracketed : (sels : Selectors) (n : ℕ) (sel : Selector) → slice_get (selectors_list sels) n ≡ Some sel
       → IsSound F q AreTypedSelectors calls_in_selectors sels → IsSound F q IsTypedSelector calls_in_selector sel

@@ -15,7 +15,7 @@ pub mod SingleChildren
 -- the sides of a comparison as the definitions see them
 pub mod Sides
 -- filters that are one comparison
-pub mod SingleComparisons
+pub mod Comparisons
 -- what all parts of an evaluation share, and what it asks of the query
 pub mod Scopes
 -- the words of the functions that evaluate

@@ -1,9 +1,13 @@
 -- Laws of the definitions.
-use Rattle.std.specs.Prelude.{◌≡◌, ◌≢◌, ◌≤◌, ℕ, List, [], ◌∷◌, ◌++◌, length, map, ◌⊎◌, ◌↔◌, Some}
+use Rattle.std.specs.Prelude.{◌≡◌, ◌≢◌, ◌≤◌, ℕ, ℤ, List, [], ◌∷◌, ◌++◌, length, map, ◌⊎◌, ◌↔◌, Some}
 use Rattle.serde_json.specs.Data.{Data}
 use Rattle.serde_json_path_nodes.specs.Location.{Step, child_at, StepBefore, Located}
 use Rattle.serde_json_path_syntax.specs.Tree.{QueryKind, Query, query, current, Segments, no_segments, segment, SegmentKind, child, descendant, Segment, relation, equal, not_equal, less, less_or_equal, Comparable, IsSingular}
-use Rattle.serde_json_path_functions.specs.Functions.{FunctionSet, KeepsTypes}
+use Rattle.serde_json.specs.View.{view}
+use Rattle.serde_json.specs.declared.value.Value.{Value}
+use Rattle.serde_json_path_numbers.specs.Numbers.{IsInLiteralRange}
+use Rattle.serde_json_path_functions.specs.Functions.{FunctionSet, KeepsTypes, all_numbers}
+use Rattle.serde_json_path_core.specs.Compared.{Compared, nothing, value, billionths, AreEqual}
 use Rattle.serde_json_path_syntax.specs.Lists.{IsIn, IsInOrder}
 use Rattle.serde_json_path_core.specs.Height.{IsHeight}
 use Rattle.serde_json_path_core.specs.Derivation.{beneath, Triple, start_of, Before}
@@ -20,6 +24,15 @@ abbrev pub NotEqualNegatesEqual : Type 0
 NotEqualNegatesEqual =
     (F : FunctionSet) (top : Data) (a b : Comparable) (v : Data) → KeepsTypes F → IsTypedComparable F.signature a → IsTypedComparable F.signature b
     → HoldsBasic F top (relation a not_equal b) v ↔ (HoldsBasic F top (relation a equal b) v → ⊥)
+
+-- by all numbers every value of a document equals itself, and so do Nothing and every literal; equal sides are equal either
+-- way round, and sides that equal the same are equal (section 2.3.5.2.2)
+pub record EqualityIsAnEquivalence : Type 0 where
+  pub documents : (document : Value) → AreEqual all_numbers (value (view document)) (value (view document))
+  pub literals : (amount : ℤ) → IsInLiteralRange amount → AreEqual all_numbers (billionths amount) (billionths amount)
+  pub nothings : AreEqual all_numbers nothing nothing
+  pub symmetric : (a b : Compared) → AreEqual all_numbers a b → AreEqual all_numbers b a
+  pub transitive : (a b c : Compared) → AreEqual all_numbers a b → AreEqual all_numbers b c → AreEqual all_numbers a c
 
 -- `<=` holds exactly where `<` or `==` does (section 2.3.5.2.2)
 abbrev pub LessOrEqualIsEither : Type 0

@@ -94,7 +94,7 @@ module _ (F : FunctionSet) (top : Data) where
     pub HoldsBasic : Basic → Data → Type 0
     HoldsBasic (paren e) v = Holds e v
     HoldsBasic (not_paren e) v = Holds e v → ⊥
-    HoldsBasic (relation a op b) v = (x y : Compared) × IsComparedAs a v x × IsComparedAs b v y × Compares op x y
+    HoldsBasic (relation a op b) v = (x y : Compared) × IsComparedAs a v x × IsComparedAs b v y × Compares F.numbers op x y
     HoldsBasic (exist q) v = Exists q v
     HoldsBasic (not_exist q) v = Exists q v → ⊥
     HoldsBasic (test c) v = (t : Term) × Answers c v t × AnswersYes t

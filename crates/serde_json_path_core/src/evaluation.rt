@@ -23,7 +23,7 @@ ghost use Rattle.serde_json_path_functions.specs.declared.error.QueryError.TheVa
 use crate::evaluation::frame::started;
 use crate::evaluation::scope::Scope;
 use crate::evaluation::walks::Walk;
-use crate::filter::logic::all_from;
+use crate::filter::query::all_from;
 use serde_json::Value;
 use serde_json_path_functions::{Functions, QueryError};
 use serde_json_path_nodes::{LocatedNodeList, NodeList};

@@ -1,8 +1,9 @@
 //! What the parts of a filter stand for (RFC 9535, section 2.3.5).
 
 pub(crate) mod call;
-pub(crate) mod compare;
+mod compare;
+pub(crate) mod comparison;
 mod equality;
 pub(crate) mod logic;
+pub(crate) mod query;
 mod side;
-pub(crate) mod single_comparison;

@@ -7,7 +7,7 @@ ghost use Rattle.serde_json_path_syntax.specs.Tree.{Query, segments_of};
 ghost use Rattle.serde_json_path_functions.specs.Functions.{FunctionSet};
 ghost use Rattle.serde_json_path_core.specs.Derivation.{Triple, Before};
 ghost use Rattle.serde_json_path_core.specs.Meaning.{IsResult};
-ghost use Rattle.serde_json_path_core.specs.Laws.{DescendantsInDocumentOrder, EachDocumentHasAHeight, EveryQueryHasAResult, LastSegmentSelectsAtEach, LessOrEqualIsEither, NotEqualNegatesEqual, OrderIsTotal, SingularQuerySelectsAtMostOne};
+ghost use Rattle.serde_json_path_core.specs.Laws.{DescendantsInDocumentOrder, EachDocumentHasAHeight, EqualityIsAnEquivalence, EveryQueryHasAResult, LastSegmentSelectsAtEach, LessOrEqualIsEither, NotEqualNegatesEqual, OrderIsTotal, SingularQuerySelectsAtMostOne};
 
 /// Of two derivations of one query, at most one comes before the other (RFC 9535, sections 2.5.1.2 and 2.5.2.2).
 pub fn law_before_is_asymmetric()
@@ -31,6 +31,16 @@ pub fn law_result_exists()
 pub fn law_result_is_unique()
     ensures { (F : FunctionSet) (top : Data) (q : Query) (node : Data) (some other : List Located)
         → IsResult F top q node some → IsResult F top q node other → some ≡ other }
+{}
+
+/// Where comparisons take all numbers, `==` is an equivalence: every document's value equals itself, and so does every
+/// literal and Nothing; equal sides are equal either way round, and sides that equal the same are equal.
+///
+/// That `<` is a strict order of numbers which agrees with it is [`law_order_of_numbers`].
+///
+/// [`law_order_of_numbers`]: serde_json_path_numbers::law_order_of_numbers
+pub fn law_equality_is_an_equivalence()
+    ensures { EqualityIsAnEquivalence }
 {}
 
 /// A singular query selects at most one node (RFC 9535, section 2.3.5.1).

@@ -24,8 +24,8 @@ pub use evaluation::walks::Walk;
 pub use evaluation::{evaluate, evaluate_located, walk};
 pub use laws::{
     law_append, law_before_is_asymmetric, law_descendants_in_document_order,
-    law_each_document_has_a_height, law_less_or_equal_is_either, law_not_equal_negates_equal,
-    law_order_is_total, law_result_exists, law_result_is_unique,
+    law_each_document_has_a_height, law_equality_is_an_equivalence, law_less_or_equal_is_either,
+    law_not_equal_negates_equal, law_order_is_total, law_result_exists, law_result_is_unique,
     law_singular_query_selects_at_most_one,
 };
 pub use serde_json_path_functions as functions;
@@ -34,6 +34,7 @@ pub use serde_json_path_nodes::{
     AtMostOneError, ExactlyOneError, LocatedNode, LocatedNodeList, LocatedNodes, Locations,
     NodeList, Nodes, NormalizedPath, PathElement, PathElements, law_texts_tell_locations,
 };
+pub use serde_json_path_numbers::law_order_of_numbers;
 pub use serde_json_path_syntax::{
     Checked, ComparisonOperator, Literal, NumberLiteral, Part, Parts, QueryKind, SegmentKind,
     Slice, SyntaxBuilder,

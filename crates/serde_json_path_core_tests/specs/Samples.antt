@@ -2,7 +2,7 @@
 use Rattle.std.proofs.Common.{ℕ, List, [], ◌∷◌, Bool, true, false, ◌||◌, Option, Some, None, bytes_eq, codes, if◌then◌else◌, refl, arith}
 use Rattle.serde_json.specs.Data.{boolean}
 use Rattle.serde_json_path_functions.specs.OwnSets.{Keeps, KeepsPattern, declared_keeps, pattern_kept, pattern_typed}
-use Rattle.serde_json_path_functions.specs.Functions.{of_value, of_nodes, of_logical, Signature, Term, value, logical, Matching, any_part, FunctionSet, KeepsTypes, matching_signature}
+use Rattle.serde_json_path_functions.specs.Functions.{of_value, of_nodes, of_logical, Signature, Term, value, logical, Matching, any_part, FunctionSet, KeepsTypes, matching_signature, whole_numbers}
 use Rattle.serde_json_path_functions.specs.Patterns.{pattern_meaning, KeepsPatterns, meaning_by}
 
 -- `pattern(Value, Value) -> Logical`, which stands for `search`, and `memory() -> Logical` are refused
@@ -32,6 +32,7 @@ own_functions = record {
   signature = λ name. signature_by (bytes_eq name (codes "pattern")) (is_own_name name) (bytes_eq name (codes "memory"));
   meaning = λ name ts. meaning_by (matching_by (bytes_eq name (codes "pattern"))) (term_by (is_own_name name)) ts;
   by_regex = λ name. matching_by (bytes_eq name (codes "pattern"));
+  numbers = whole_numbers;
 }
 
 own_kept : (is_pattern is_own is_memory : Bool)

@@ -15,4 +15,5 @@ before_itself F = λ i. record {
   signature = λ name. (same_signature (F.signature name)) i;
   meaning = λ name ts. (same_either (F.signature name) (F.meaning name ts)) i;
   by_regex = λ name. (same_either (F.signature name) (F.by_regex name)) i;
+  numbers = F.numbers;
 }

@@ -25,12 +25,18 @@ pub data Matching : Type 0 where
   whole_text : Matching
   any_part : Matching
 
--- A function set: the signature of each name that it declares, the meaning of a name at its arguments, and which names
--- stand for the built-in `match` or `search`. Names are the bytes of their characters.
+-- how comparisons take the numbers of documents: those held as integers alone, or all of them
+pub data Numbers : Type 0 where
+  whole_numbers : Numbers
+  all_numbers : Numbers
+
+-- A function set: the signature of each name that it declares, the meaning of a name at its arguments, which names stand
+-- for the built-in `match` or `search`, and how comparisons take numbers. Names are the bytes of their characters.
 pub record FunctionSet : Type 0 where
   pub signature : List ℕ → Option Signature
   pub meaning : List ℕ → List Term → Term
   pub by_regex : List ℕ → Option Matching
+  pub numbers : Numbers
 
 -- the set declares each of these names with that signature
 abbrev pub Fits : FunctionSet → List (List ℕ × Signature) → Type 0
@@ -60,7 +66,7 @@ KeepsTypes F =
     (name : List ℕ) (s : Signature) → F.signature name ≡ Some s
     → (length s.params ≤ 8) × ((ts : List Term) → map kind_of_term ts ≡ s.params → kind_of_term (F.meaning name ts) ≡ s.result)
 
--- ---- two sets, one before the other: the names of the first, then the other names of the second
+-- ---- two sets, one before the other: the names of the first, then the other names of the second; numbers as the first takes them
 
 abbrev pub first_signature : Option Signature → Option Signature → Option Signature
 first_signature None other = other
@@ -76,7 +82,12 @@ both A B = record {
   signature = λ name. first_signature (A.signature name) (B.signature name);
   meaning = λ name ts. of_first (A.signature name) (A.meaning name ts) (B.meaning name ts);
   by_regex = λ name. of_first (A.signature name) (A.by_regex name) (B.by_regex name);
+  numbers = A.numbers;
 }
+
+-- the same functions, where comparisons take all numbers
+abbrev pub with_all_numbers : FunctionSet → FunctionSet
+with_all_numbers F = record F { numbers = all_numbers }
 
 -- ---- the built-in functions
 

@@ -3,7 +3,7 @@ use Rattle.std.specs.Prelude.{◌≡◌, ℕ, ◌≤◌, List, [], ◌∷◌, �
 use Rattle.regex_syntax.specs.Grammar.{read}
 use Rattle.regex.specs.Patterns.{default_config, find_str}
 use Rattle.serde_json.specs.Data.{string}
-use Rattle.serde_json_path_functions.specs.Functions.{Term, value, logical, Matching, whole_text, any_part, FunctionSet, Takes, matching_signature, builtin_signature, builtin_by_regex, plain_meaning, both}
+use Rattle.serde_json_path_functions.specs.Functions.{Term, value, logical, Matching, whole_text, any_part, FunctionSet, Takes, matching_signature, builtin_signature, builtin_by_regex, plain_meaning, both, whole_numbers}
 
 -- the text that is built of a pattern
 abbrev pub built_text : Matching → List ℕ → List ℕ
@@ -53,6 +53,7 @@ builtin_functions = record {
   signature = builtin_signature;
   meaning = λ name ts. meaning_by (builtin_by_regex name) (plain_meaning name ts) ts;
   by_regex = builtin_by_regex;
+  numbers = whole_numbers;
 }
 
 -- a set's functions, and the built-in ones after them: of two functions with one name that of the set counts

@@ -4,10 +4,12 @@ use Rattle.std.specs.Borrow.{Bor}
 use Rattle.serde_json.specs.Data.{Data}
 use Rattle.serde_json.specs.View.{view}
 use Rattle.serde_json.specs.declared.value.Value.{Value}
-use Rattle.serde_json_path_functions.specs.Functions.{Kind, of_value, of_nodes, of_logical, Signature, Term, value, nodes, logical, whole_text, any_part}
+use Rattle.serde_json_path_functions.specs.Functions.{Kind, of_value, of_nodes, of_logical, Signature, Term, value, nodes, logical, whole_text, any_part, whole_numbers, all_numbers}
 use Rattle.serde_json_path_functions.specs.Functions as spec
 use Rattle.serde_json_path_functions.specs.declared.types.FunctionArgType.{FunctionArgType}
 use Rattle.serde_json_path_functions.specs.declared.types.FunctionArgType.TheVariants as kind
+use Rattle.serde_json_path_functions.specs.declared.numbers.Numbers.{Numbers}
+use Rattle.serde_json_path_functions.specs.declared.numbers.Numbers.TheVariants.{Whole, All}
 use Rattle.serde_json_path_functions.specs.declared.types.LogicalType.{LogicalType}
 use Rattle.serde_json_path_functions.specs.declared.types.LogicalType.TheVariants as truth
 use Rattle.serde_json_path_functions.specs.declared.types.ValueType.{ValueType}
@@ -48,6 +50,10 @@ term_view (function.Logical b) = logical (truth_view b)
 
 abbrev pub signature_view : declared.Signature → Signature
 signature_view s = record { params = map kind_view (take s.count s.types); result = kind_view s.answer }
+
+abbrev pub numbers_view : Numbers → spec.Numbers
+numbers_view Whole = whole_numbers
+numbers_view All = all_numbers
 
 abbrev pub matching_view : Matching → spec.Matching
 matching_view WholeText = whole_text

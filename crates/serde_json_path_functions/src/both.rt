@@ -1,12 +1,14 @@
 //! One function set before another.
 
 use crate::error::QueryError;
+use crate::numbers::Numbers;
 use crate::set::Functions;
 use crate::signature::Signature;
 use crate::types::FunctionValue;
 use std::alloc::Global;
 
-/// The functions of the first set, and then those of the second whose names the first does not declare.
+/// The functions of the first set, and then those of the second whose names the first does not declare. Comparisons take
+/// numbers as the first set says.
 ///
 /// A `Both<&F, Builtin>` puts your own functions before the built-in ones, and replaces those of the same name:
 ///
@@ -35,15 +37,24 @@ impl<A: Functions, B: Functions> Functions for Both<A, B> {
         }
     }
 
+    fn declares(&self, name: &str) -> bool {
+        self.0.declares(name) || self.1.declares(name)
+    }
+
+    fn numbers(&self) -> Numbers {
+        self.0.numbers()
+    }
+
     fn call<'b>(
         &self,
         alloc: Global,
         name: &str,
         args: Vec<FunctionValue<'b>>,
     ) -> Result<FunctionValue<'b>, QueryError> {
-        match self.0.signature(name) {
-            Some(_) => self.0.call(alloc, name, args),
-            None => self.1.call(alloc, name, args),
+        if self.0.declares(name) {
+            self.0.call(alloc, name, args)
+        } else {
+            self.1.call(alloc, name, args)
         }
     }
 }

@@ -9,6 +9,7 @@ ghost use Rattle.serde_json_path_functions.specs.Functions as spec;
 ghost use Rattle.serde_json_path_functions.specs.declared.error.QueryError.TheVariants.{Pattern};
 
 use crate::error::QueryError;
+use crate::numbers::Numbers;
 use crate::patterns::{Matching, is_found};
 use crate::set::Functions;
 use crate::signature::Signature;
@@ -135,6 +136,14 @@ impl Functions for Builtin {
             ),
             _ => None,
         }
+    }
+
+    fn declares(&self, name: &str) -> bool {
+        matches!(name, "length" | "count" | "value" | "match" | "search")
+    }
+
+    fn numbers(&self) -> Numbers {
+        Numbers::Whole
     }
 
     fn call<'b>(

@@ -1,7 +1,8 @@
 //! Functions of filters, their arguments and answers (RFC 9535, section 2.4), and why a query is refused.
 //!
 //! [`Functions`] is the trait of a function set: it declares names with their [`Signature`]s, and answers their calls.
-//! [`Builtin`] is the set of `length`, `count`, `value`, `match` and `search`; [`Both`] puts one set before another.
+//! [`Builtin`] is the set of `length`, `count`, `value`, `match` and `search`; [`Both`] puts one set before another, and
+//! [`AllNumbers`] has comparisons take all numbers.
 //! Arguments and answers are [`FunctionValue`]s.
 //!
 //! ```text
@@ -19,6 +20,7 @@
 mod both;
 mod builtin;
 mod error;
+mod numbers;
 mod patterns;
 mod set;
 mod signature;
@@ -27,6 +29,7 @@ mod types;
 pub use both::Both;
 pub use builtin::Builtin;
 pub use error::QueryError;
+pub use numbers::{AllNumbers, Numbers};
 pub use set::Functions;
 pub use signature::Signature;
 pub use types::{FunctionArgType, FunctionValue, LogicalType, NodesType, ValueType};

@@ -1,12 +1,13 @@
 //! The trait of function sets.
 
-ghost use Rattle.std.specs.Prelude.{◌≡◌, IfOk, Err, map, option_map};
+ghost use Rattle.std.specs.Prelude.{◌≡◌, IfOk, Err, is_some, map, option_map};
 ghost use Rattle.serde_json_path_functions.specs.Functions.{FunctionSet, Takes, Gives, KeepsTypes};
 ghost use Rattle.serde_json_path_functions.specs.Patterns.{KeepsPatterns, MayRefuse};
-ghost use Rattle.serde_json_path_functions.specs.Terms.{term_view, signature_view};
+ghost use Rattle.serde_json_path_functions.specs.Terms.{numbers_view, term_view, signature_view};
 ghost use Rattle.serde_json_path_functions.specs.declared.error.QueryError.TheVariants.{Pattern};
 
 use crate::error::QueryError;
+use crate::numbers::Numbers;
 use crate::signature::Signature;
 use crate::types::FunctionValue;
 use std::alloc::Global;
@@ -28,6 +29,17 @@ pub trait Functions {
     /// The signature of a name, or `None` for a name that the set does not declare.
     fn signature(&self, name: &str) -> Option<Signature>
         ensures { option_map signature_view result ≡ (set self.now).signature name.now };
+
+    /// Whether the set declares a name.
+    fn declares(&self, name: &str) -> bool
+        ensures { result ≡ is_some ((set self.now).signature name.now) }
+    {
+        self.signature(name).is_some()
+    }
+
+    /// How comparisons take the numbers of documents. With the built-in functions alone it is `Numbers::Whole`.
+    fn numbers(&self) -> Numbers
+        ensures { numbers_view result ≡ (set self.now).numbers };
 
     /// The answer of a declared name to arguments of the declared types.
     ///
@@ -57,6 +69,14 @@ impl<F: Functions> Functions for &F {
 
     fn signature(&self, name: &str) -> Option<Signature> {
         (**self).signature(name)
+    }
+
+    fn declares(&self, name: &str) -> bool {
+        (**self).declares(name)
+    }
+
+    fn numbers(&self) -> Numbers {
+        (**self).numbers()
     }
 
     fn call<'b>(

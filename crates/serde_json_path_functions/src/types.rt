@@ -52,7 +52,7 @@ impl From<bool> for LogicalType {
 pub enum ValueType<'b> {
     /// A value that a function has made.
     Value(Value),
-    /// The value of a node of the document.
+    /// The value of a node of the document, or a literal of the query.
     Node(&'b Value),
     /// No value.
     Nothing,

@@ -4,5 +4,5 @@
 pub mod Rows
 -- steps within filters: words, operands and arguments
 pub mod Filters
--- a step within arguments
+-- what the loop over the arguments of a call has made
 pub mod Arguments

@@ -1,7 +1,7 @@
 -- The words of definitions that proofs cite, from one place.
 unfoldable pub use Rattle.serde_json_path_nodes.specs.Text.{in_decimal}
 unfoldable pub use Rattle.serde_json_path_parser.specs.Filters.{and_at, and_from, argument_at, arguments_at, basic_at, basic_from}
-unfoldable pub use Rattle.serde_json_path_parser.specs.Filters.{call_at, comparable_at, ended, judged, level, literal_word_at, logical_from, named_at}
+unfoldable pub use Rattle.serde_json_path_parser.specs.Filters.{call_at, comparable_at, ended, level, literal_word_at, logical_from, named_at}
 unfoldable pub use Rattle.serde_json_path_parser.specs.Filters.{named_call_at, negated_at, negated_call_at, next_and_at, next_basic_at, operand_at}
 unfoldable pub use Rattle.serde_json_path_parser.specs.Filters.{or_at, or_from, parameters_at, paren_at, path_at, query_at, relation_at}
 unfoldable pub use Rattle.serde_json_path_parser.specs.Filters.{right_side_at, test_at, text_at}
@@ -45,6 +45,7 @@ pub use Rattle.serde_json_path_syntax.specs.Calls.{calls_in_segments, calls_in_s
 pub use Rattle.serde_json_path_syntax.specs.Depth.{and_depth, argument_depth, arguments_depth, basic_depth, call_depth, comparable_depth, depth, or_depth}
 pub use Rattle.serde_json_path_syntax.specs.Depth.{segment_depth, segments_depth, selector_depth, selectors_depth}
 pub use Rattle.serde_json_path_syntax.specs.Flat.{parts_in, segment_kind_view}
+pub use Rattle.serde_json_path_syntax.specs.Kinds.{are_singular, is_singular, is_singular_segment}
 pub use Rattle.serde_json_path_syntax.specs.Literals.{literal_view, number_amount, operator_view}
 pub use Rattle.serde_json_path_syntax.specs.Parts.{AreAndPartsOf, AreOrPartsOf, ArePartsFor, ArePartsOf, AreSelectorsOf, IsPart, KeepsParts, KeepsTrees}
 pub use Rattle.serde_json_path_syntax.specs.Parts.{and_pieces, calls_in, or_pieces, segment_pieces, selector_pieces, signatures_of, tree_of}
@@ -83,8 +84,8 @@ pub use Rattle.serde_json_path_parser.specs.Lexical.{between, escaped_by, fracti
 pub use Rattle.serde_json_path_parser.specs.Lexical.{is_name_char, is_name_first, is_plain, is_small_letter, letter_escape, opens, pair_escape, pair_of, plain}
 pub use Rattle.serde_json_path_parser.specs.Lexical.{quote_escape, value_from, ◌∈◌}
 pub use Rattle.serde_json_path_parser.specs.Numbers.{greatest_amount, is_exponent}
-pub use Rattle.serde_json_path_parser.specs.Operands.{Operand, a_call, a_literal, are_singular, calls_in_operand, fits, is_result, is_singular}
-pub use Rattle.serde_json_path_parser.specs.Operands.{is_singular_segment, is_test, is_value_literal, is_whole, takes_result}
+pub use Rattle.serde_json_path_parser.specs.Operands.{Operand, a_call, a_literal, calls_in_operand, fits, is_result}
+pub use Rattle.serde_json_path_parser.specs.Operands.{is_test, is_value_literal, is_whole, takes_result}
 pub use Rattle.serde_json_path_parser.specs.Parse.{Answers, NeedsNoMemory, ParsedQuery, checked_view, is_dollar}
 pub use Rattle.serde_json_path_parser.specs.Parsed.{Parsed, byte_count, front, past, past_blanks, refusal, refusal_at, ◌>>=◌}
 pub use Rattle.serde_json_path_parser.specs.Parsing.{after_dot, begins_int, is_first_digit, negative, opens_after_root, opens_next, segment_list, segments_at}

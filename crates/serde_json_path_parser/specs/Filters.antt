@@ -2,6 +2,7 @@
 -- characters. An operand is read before its use is known; what follows it decides. Each piece takes the blanks after it, but
 -- for segments.
 use Rattle.std.specs.Prelude.{ℕ, zero, suc, ◌==◌, ◌&&◌, Bool, true, false, List, [], ◌∷◌, length, drop, codes, bytes_eq, Option, Some, None, Result, Ok, Err, if◌then◌else◌}
+use Rattle.serde_json_path_syntax.specs.Kinds.{is_singular}
 use Rattle.serde_json_path_syntax.specs.Tree.{QueryKind, root, current, Query, query, Segments, Selector, filter, LogicalOr, no_or, or, LogicalAnd, no_and, and, Basic, paren, not_paren, relation, exist, not_exist, test, not_test, Comparable, literal, singular, called, Call, call, Arguments, no_arguments, argument, Argument, literal_argument, query_argument, call_argument, logical_argument, text, number, truth, null, Operator, equal, not_equal, less, less_or_equal, greater, greater_or_equal}
 use Rattle.serde_json_path_syntax.specs.Typing.{result_kind}
 use Rattle.serde_json_path_syntax.specs.Used.{deepest}
@@ -14,7 +15,7 @@ use Rattle.serde_json_path_parser.specs.Lexical.{◌∈◌, is_at, are_at, begin
 use Rattle.serde_json_path_parser.specs.Parsed.{Parsed, ◌>>=◌, refusal, front, past, past_blanks, many, refusal_at, byte_count}
 use Rattle.serde_json_path_parser.specs.Strings.{string_at}
 use Rattle.serde_json_path_parser.specs.Numbers.{number_at}
-use Rattle.serde_json_path_parser.specs.Operands.{Operand, a_literal, a_query, a_call, is_singular, is_result, fits}
+use Rattle.serde_json_path_parser.specs.Operands.{Operand, a_literal, a_query, a_call, is_result, fits}
 use Rattle.serde_json_path_parser.specs.Parsing.{segments_at, segment_list}
 
 -- ---- words
@@ -203,24 +204,22 @@ module _ (signature : List ℕ → Option Signature) (deeper : Deeper) where
       if begins (λ c. c ∈ "(!") cs then (or_at cs >>= λ e. Ok (logical_argument e.0, e.1))
       else (operand_at cs >>= λ o. if begins ends_argument o.1 then Ok (alone o.0, o.1) else logical_from (byte_count cs) o.0 o.1)
 
-  -- an argument that begins at begin is judged, and gives the types of the parameters after it
-  unfoldable pub judged : ℕ → ℕ → List Kind → Argument → Result (List Kind) Refusal
-  judged start begin [] a = Err (refusal_at WrongNumberOfArguments context.LongHand start)
-  judged start begin (kind ∷ kinds) a = if fits signature a kind then Ok kinds else Err (refusal_at WrongArgumentType context.LongHand begin)
-
-  -- one argument or more, of a call that begins at start, for parameters of these types; at most fuel of them
-  unfoldable pub arguments_at : ℕ → ℕ → List Kind → List ℕ → Parsed Arguments
-  arguments_at zero start kinds cs = Err (refusal ExpectedExpression context.LongHand cs)
-  arguments_at (suc fuel) start kinds cs = argument_at cs >>= λ a.
+  -- one argument or more, of a call that begins at start, for parameters of these types
+  unfoldable pub arguments_at : ℕ → List Kind → List ℕ → Parsed Arguments
+  arguments_at start [] cs = argument_at cs >>= λ a.
+      if begins ends_argument a.1 then Err (refusal_at WrongNumberOfArguments context.LongHand start)
+      else Err (refusal ExpectedClosingParenthesis context.LongHand a.1)
+  arguments_at start (kind ∷ kinds) cs = argument_at cs >>= λ a.
       if begins ends_argument a.1 then
-      (judged start (byte_count cs) kinds a.0 >>= λ left.
-      (if is_at "," a.1 then arguments_at fuel start left (past_blanks (drop 1 a.1)) else ended start left (drop 1 a.1)) >>= λ more.
+      (if fits signature a.0 kind then
+      ((if is_at "," a.1 then arguments_at start kinds (past_blanks (drop 1 a.1)) else ended start kinds (drop 1 a.1)) >>= λ more.
       Ok (argument a.0 more.0, more.1))
+      else Err (refusal_at WrongArgumentType context.LongHand (byte_count cs)))
       else Err (refusal ExpectedClosingParenthesis context.LongHand a.1)
 
   -- after `(` and blanks
   unfoldable pub parameters_at : ℕ → List Kind → List ℕ → Parsed Arguments
-  parameters_at start kinds cs = if is_at ")" cs then ended start kinds (drop 1 cs) else arguments_at (length cs) start kinds cs
+  parameters_at start kinds cs = if is_at ")" cs then ended start kinds (drop 1 cs) else arguments_at start kinds cs
 
   -- a call of a name that has this signature
   unfoldable pub call_at : ℕ → List ℕ → Option Signature → List ℕ → Parsed Call

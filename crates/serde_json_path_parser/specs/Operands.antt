@@ -1,8 +1,9 @@
 -- What a filter compares or tests: a literal, a query or a call, which is read before its use is known; and what decides
 -- how it may be used.
-use Rattle.std.specs.Prelude.{ℕ, ◌+◌, ◌%◌, ◌==◌, ◌&&◌, ◌||◌, Bool, true, false, ℤ, pos, negsuc, List, [], Option, Some}
+use Rattle.std.specs.Prelude.{ℕ, ◌+◌, ◌%◌, ◌==◌, ◌||◌, Bool, true, false, ℤ, pos, negsuc, List, [], Option, Some}
 use Rattle.serde_json_path_syntax.specs.Calls.{calls_of, calls_from}
-use Rattle.serde_json_path_syntax.specs.Tree.{Query, query, Segments, no_segments, segment, child, descendant, Segment, dot_name, long_hand, selector, no_selectors, name, index, Call, Argument, literal_argument, query_argument, call_argument, logical_argument, Literal, number}
+use Rattle.serde_json_path_syntax.specs.Kinds.{is_singular}
+use Rattle.serde_json_path_syntax.specs.Tree.{Query, Call, Argument, literal_argument, query_argument, call_argument, logical_argument, Literal, number}
 use Rattle.serde_json_path_syntax.specs.Typing.{result_kind}
 use Rattle.serde_json_path_functions.specs.Functions.{Kind, of_value, of_nodes, of_logical, Signature}
 
@@ -16,22 +17,6 @@ abbrev pub calls_in_operand : Operand → List Call
 calls_in_operand (a_literal l) = []
 calls_in_operand (a_query q) = calls_of q
 calls_in_operand (a_call c) = calls_from c
-
--- ---- singular queries (RFC 9535, section 2.3.5.1)
-
-abbrev pub is_singular_segment : Segment → Bool
-is_singular_segment (dot_name k) = true
-is_singular_segment (long_hand (selector (name k) no_selectors)) = true
-is_singular_segment (long_hand (selector (index i) no_selectors)) = true
-is_singular_segment _ = false
-
-abbrev pub are_singular : Segments → Bool
-are_singular no_segments = true
-are_singular (segment child seg more) = is_singular_segment seg && are_singular more
-are_singular (segment descendant seg more) = false
-
-abbrev pub is_singular : Query → Bool
-is_singular (query kind segs) = are_singular segs
 
 -- ---- results (section 2.4.3)
 

@@ -2,7 +2,6 @@
 
 mod call;
 mod decode;
-mod filter_parser;
 mod logical;
 mod operand;
 pub(crate) mod primitive;
@@ -13,7 +12,7 @@ mod selector;
 mod slice;
 mod stretch;
 
-ghost use Rattle.std.specs.Prelude.{◌≡◌, ◌+◌, ◌-◌, ◌*◌, ◌^◌, ◌≤◌, max, true, length, IfOk, IfErr};
+ghost use Rattle.std.specs.Prelude.{◌≡◌, ◌+◌, ◌-◌, ◌*◌, ◌^◌, ◌<◌, ◌≤◌, max, true, length, IfOk, IfErr};
 ghost use Rattle.serde_json_path_syntax.specs.Parts.{signatures_of};
 ghost use Rattle.serde_json_path_functions.specs.Functions.{Fits};
 ghost use Rattle.serde_json_path_parser.specs.Source.{greatest_usize};
@@ -74,5 +73,33 @@ pub fn parse<S: PathSource, F: Functions>(
     match read {
         Ok(checked) => Ok(checked),
         Err(stop) => Err(stop.in_text(total)),
+    }
+}
+
+/// How many filters, parentheses and calls may be nested.
+pub(crate) const DEEPEST: u8 = 128;
+
+/// Parses pieces of a path, at one level of nesting.
+#[derive(Drop)]
+pub(crate) struct Parser<'f, F: Functions> {
+    pub(crate) alloc: Global,
+    /// The functions that may be called.
+    pub(crate) functions: &'f F,
+    /// How many more filters, parentheses and calls may be nested here.
+    pub(crate) depth: u8,
+}
+
+impl<'f, F: Functions> Parser<'f, F> {
+    /// The parser inside another filter, parenthesis or call.
+    pub(crate) fn deeper(&self) -> Parser<'f, F>
+        requires { 0 < self.now.depth }
+        ensures functions { result.functions.now ≡ self.now.functions.now }
+        ensures depth { result.depth ≡ self.now.depth - 1 }
+    {
+        Parser {
+            alloc: self.alloc,
+            functions: self.functions,
+            depth: self.depth - 1,
+        }
     }
 }

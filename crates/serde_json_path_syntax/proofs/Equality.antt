@@ -7,6 +7,7 @@ use Rattle.serde_json_path_syntax.specs.Piece.{Piece, a_query, a_segment, a_sele
 use Rattle.serde_json_path_syntax.specs.SameTree.{same_piece, same_and, same_arguments, same_call, same_comparable, same_or, same_query, same_segments, same_selectors}
 use Rattle.serde_json_path_syntax.specs.declared.node.Part.{Part}
 use Rattle.std.proofs.lemmas.Bool.{and_parts}
+use Rattle.serde_json_path_syntax.proofs.Tree.NamedParts.{query_of_singular}
 use Rattle.serde_json_path_syntax.specs.Kinds.{each_is, is_and, is_argument, is_basic, is_call, is_comparable, is_or, is_query, is_segment, is_selector}
 
 -- ---- parts of two trees that are compared one by one
@@ -120,4 +121,4 @@ arguments_same = listed (record { ended = refl; shorter = λ q ys. refl; longer 
     more _ _ xs ys h g = absurd cc
 
 -- what the trees of pieces are the same by
-pub ruleset of_kinds = (query_same, or_same, comparable_same, call_same, segments_same, selectors_same, ors_same, ands_same, arguments_same)
+pub ruleset of_kinds = (query_of_singular, query_same, or_same, comparable_same, call_same, segments_same, selectors_same, ors_same, ands_same, arguments_same)

@@ -11,7 +11,7 @@ use Rattle.std.proofs.Math.Numerals.{add-one}
 use Rattle.std.proofs.lemmas.Grind.{flat_map-append}
 use Rattle.std.proofs.lemmas.List.{map-append, take_all}
 use Rattle.std.specs.List.{flat_map}
-use Rattle.serde_json_path_syntax.proofs.Tree.NamedParts.{others, others-cons}
+use Rattle.serde_json_path_syntax.proofs.Tree.NamedParts.{others, others-cons, query_of_singular}
 use Rattle.serde_json_path_syntax.specs.Flat.{piece_in, pieces_named, ands_in, arguments_in, call_in, comparable_in, or_in, ors_in, query_in, segments_in, selectors_in}
 use Rattle.serde_json_path_syntax.specs.Piece.{Piece, a_query, a_segment, a_selector, an_or, an_and, a_basic, a_comparable, a_call, an_argument}
 use Rattle.serde_json_path_syntax.specs.declared.node.Part.{Part}
@@ -131,4 +131,4 @@ texts_of_arguments [] h = refl
 texts_of_arguments (an_argument a ∷ ps) h = ap (λ ts. argument_text a ∷ ts) (texts_of_arguments ps h)
 texts_of_arguments (_ ∷ ps) h = absurd cc
 
-pub ruleset of_kinds = (text_of_query, text_of_or, text_of_comparable, text_of_call, text_of_segments, texts_of_selectors, text_of_ands, text_of_basics, texts_of_arguments)
+pub ruleset of_kinds = (query_of_singular, text_of_query, text_of_or, text_of_comparable, text_of_call, text_of_segments, texts_of_selectors, text_of_ands, text_of_basics, texts_of_arguments)

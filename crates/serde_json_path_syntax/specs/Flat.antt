@@ -5,7 +5,7 @@ use Rattle.serde_json.specs.View.{view}
 use Rattle.serde_json_path_syntax.specs.Tree.{QueryKind, root, current, SegmentKind, child, descendant, Query, query, Segments, no_segments, segment, Segment, dot_name, dot_wildcard, long_hand, Selectors, no_selectors, selector, Selector, name, wildcard, index, slice, filter, LogicalOr, no_or, or, LogicalAnd, no_and, and, Basic, paren, not_paren, relation, exist, not_exist, test, not_test, Comparable, literal, singular, called, Call, call, Arguments, no_arguments, argument, Argument, literal_argument, query_argument, call_argument, logical_argument, Literal, text, truth, null}
 use Rattle.serde_json_path_syntax.specs.Tree as tree
 use Rattle.serde_json_path_syntax.specs.SliceView.{slice_view}
-use Rattle.serde_json_path_syntax.specs.Literals.{literal_view, number_amount, operator_view}
+use Rattle.serde_json_path_syntax.specs.Literals.{number_amount, operator_view}
 use Rattle.serde_json_path_functions.specs.Functions.{Signature}
 use Rattle.serde_json_path_functions.specs.Terms.{signature_view}
 use Rattle.serde_json_path_syntax.specs.PartBounds.{parts_bound}
@@ -20,6 +20,8 @@ use Rattle.serde_json_path_syntax.specs.declared.node.Basic as basics
 use Rattle.serde_json_path_syntax.specs.declared.node.Basic.TheVariants.{Paren, NotParen, Relation, Exist, NotExist, Test, NotTest}
 use Rattle.serde_json_path_syntax.specs.declared.node.Comparable as comparables
 use Rattle.serde_json_path_syntax.specs.declared.node.Comparable.TheVariants as side
+use Rattle.serde_json_path_syntax.specs.declared.literal.LiteralValue as held
+use Rattle.serde_json_path_syntax.specs.declared.literal.LiteralValue.TheVariants.{Value, Number}
 use Rattle.serde_json_path_syntax.specs.declared.node.Argument as given
 use Rattle.serde_json_path_syntax.specs.declared.node.Argument.TheVariants as given_as
 use Rattle.serde_json_path_syntax.specs.declared.node.Part.{Part}
@@ -162,11 +164,6 @@ basic_of earlier (NotExist part) = not_exist (query_in (piece_in earlier part.nu
 basic_of earlier (Test part) = test (call_in (piece_in earlier part.number))
 basic_of earlier (NotTest part) = not_test (call_in (piece_in earlier part.number))
 
-abbrev pub comparable_of : List Piece → comparables.Comparable → Comparable
-comparable_of earlier (side.Literal l) = literal (literal_view l)
-comparable_of earlier (side.Singular part) = singular (query_in (piece_in earlier part.number))
-comparable_of earlier (side.Called part) = called (call_in (piece_in earlier part.number))
-
 -- the literal that writes a text, a truth value or null; any other value, which no builder makes, stands in as a number that is not whole
 abbrev pub literal_of : Data → Literal
 literal_of (string t) = text t
@@ -174,9 +171,18 @@ literal_of (boolean b) = truth b
 literal_of null_data = null
 literal_of _ = tree.number (pos 1)
 
+-- a literal as a tree holds it
+abbrev pub held_view : held.LiteralValue → Literal
+held_view (Value v) = literal_of (view v)
+held_view (Number n) = tree.number (number_amount n)
+
+abbrev pub comparable_of : List Piece → comparables.Comparable → Comparable
+comparable_of earlier (side.Literal l) = literal (held_view l)
+comparable_of earlier (side.Singular part) = singular (query_in (piece_in earlier part.number))
+comparable_of earlier (side.Called part) = called (call_in (piece_in earlier part.number))
+
 abbrev pub argument_of : List Piece → given.Argument → Argument
-argument_of earlier (given_as.Value v) = literal_argument (literal_of (view v))
-argument_of earlier (given_as.Number n) = literal_argument (tree.number (number_amount n))
+argument_of earlier (given_as.Literal l) = literal_argument (held_view l)
 argument_of earlier (given_as.Query part) = query_argument (query_in (piece_in earlier part.number))
 argument_of earlier (given_as.Call part) = call_argument (call_in (piece_in earlier part.number))
 argument_of earlier (given_as.Logical part) = logical_argument (or_in (piece_in earlier part.number))
@@ -273,8 +279,7 @@ comparable_parts (side.Singular part) = part ∷ []
 comparable_parts (side.Called part) = part ∷ []
 
 abbrev pub argument_parts : given.Argument → List Part
-argument_parts (given_as.Value v) = []
-argument_parts (given_as.Number n) = []
+argument_parts (given_as.Literal l) = []
 argument_parts (given_as.Query part) = part ∷ []
 argument_parts (given_as.Call part) = part ∷ []
 argument_parts (given_as.Logical part) = part ∷ []

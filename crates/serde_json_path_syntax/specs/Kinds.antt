@@ -3,6 +3,7 @@ use Rattle.std.specs.Prelude.{◌≡◌, ◌<◌, ◌&&◌, ℕ, Bool, true, fal
 use Rattle.serde_json.specs.Data.{Data, null as null_data, boolean, string}
 use Rattle.serde_json.specs.View.{view}
 use Rattle.serde_json_path_syntax.specs.Flat.{parts_in, piece_in, pieces, pieces_named, segment_parts}
+use Rattle.serde_json_path_syntax.specs.Tree.{Query, query, Segments, no_segments, segment, child, descendant, Segment, dot_name, long_hand, selector, no_selectors, name, index}
 use Rattle.serde_json_path_syntax.specs.Piece.{Piece, a_query, a_segment, a_selector, an_or, an_and, a_basic, a_comparable, a_call, an_argument}
 use Rattle.serde_json_path_syntax.specs.declared.node.Node.{Node}
 use Rattle.serde_json_path_syntax.specs.declared.node.Node.TheVariants as node
@@ -13,12 +14,33 @@ use Rattle.serde_json_path_syntax.specs.declared.node.Basic as basics
 use Rattle.serde_json_path_syntax.specs.declared.node.Basic.TheVariants.{Paren, NotParen, Relation, Exist, NotExist, Test, NotTest}
 use Rattle.serde_json_path_syntax.specs.declared.node.Comparable as comparables
 use Rattle.serde_json_path_syntax.specs.declared.node.Comparable.TheVariants as side
+use Rattle.serde_json_path_syntax.specs.declared.literal.LiteralValue.{LiteralValue}
+use Rattle.serde_json_path_syntax.specs.declared.literal.LiteralValue.TheVariants.{Value, Number}
 use Rattle.serde_json_path_syntax.specs.declared.node.Argument as given
 use Rattle.serde_json_path_syntax.specs.declared.node.Argument.TheVariants as given_as
+
+-- whether a query is a singular one, computed (RFC 9535, section 2.3.5.1)
+abbrev pub is_singular_segment : Segment → Bool
+is_singular_segment (dot_name k) = true
+is_singular_segment (long_hand (selector (name k) no_selectors)) = true
+is_singular_segment (long_hand (selector (index i) no_selectors)) = true
+is_singular_segment _ = false
+
+abbrev pub are_singular : Segments → Bool
+are_singular no_segments = true
+are_singular (segment child seg more) = is_singular_segment seg && are_singular more
+are_singular (segment descendant seg more) = false
+
+abbrev pub is_singular : Query → Bool
+is_singular (query kind segs) = are_singular segs
 
 abbrev pub is_query : Piece → Bool
 is_query (a_query q) = true
 is_query _ = false
+
+abbrev pub is_singular_query : Piece → Bool
+is_singular_query (a_query q) = is_singular q
+is_singular_query _ = false
 
 abbrev pub is_segment : Piece → Bool
 is_segment (a_segment kind seg) = true
@@ -75,11 +97,6 @@ basic_fits earlier (NotExist part) = is_query (piece_in earlier part.number)
 basic_fits earlier (Test part) = is_call (piece_in earlier part.number)
 basic_fits earlier (NotTest part) = is_call (piece_in earlier part.number)
 
-abbrev pub comparable_fits : List Piece → comparables.Comparable → Bool
-comparable_fits earlier (side.Literal l) = true
-comparable_fits earlier (side.Singular part) = is_query (piece_in earlier part.number)
-comparable_fits earlier (side.Called part) = is_call (piece_in earlier part.number)
-
 -- a value that a literal writes: a text, a truth value or null
 abbrev pub is_written : Data → Bool
 is_written (string t) = true
@@ -87,9 +104,17 @@ is_written (boolean b) = true
 is_written null_data = true
 is_written _ = false
 
+abbrev pub literal_fits : LiteralValue → Bool
+literal_fits (Value v) = is_written (view v)
+literal_fits (Number n) = true
+
+abbrev pub comparable_fits : List Piece → comparables.Comparable → Bool
+comparable_fits earlier (side.Literal l) = literal_fits l
+comparable_fits earlier (side.Singular part) = is_singular_query (piece_in earlier part.number)
+comparable_fits earlier (side.Called part) = is_call (piece_in earlier part.number)
+
 abbrev pub argument_fits : List Piece → given.Argument → Bool
-argument_fits earlier (given_as.Value v) = is_written (view v)
-argument_fits earlier (given_as.Number n) = true
+argument_fits earlier (given_as.Literal l) = literal_fits l
 argument_fits earlier (given_as.Query part) = is_query (piece_in earlier part.number)
 argument_fits earlier (given_as.Call part) = is_call (piece_in earlier part.number)
 argument_fits earlier (given_as.Logical part) = is_or (piece_in earlier part.number)

@@ -10,7 +10,6 @@ use crate::operator::ComparisonOperator;
 use crate::parts::Parts;
 use crate::singular::is_singular;
 use crate::slice::Slice;
-use serde_json::Value;
 use serde_json_path_functions::Signature;
 use std::alloc::{AllocError, Global};
 
@@ -244,10 +243,11 @@ impl SyntaxBuilder {
             IsPart self.new part (a_comparable (tree.literal (literal_view literal)))) }
         ensures keeps { KeepsParts self.old self.new }
     {
-        self.push(Node::Comparable(Comparable::Literal(literal)))
+        self.push(Node::Comparable(Comparable::Literal(literal.held())))
     }
 
     /// A singular query as a side of a comparison, as `@.a[0]` (RFC 9535, section 2.3.5.1).
+    #[tactic(auto, using(crate::proofs::Tree::NamedParts::query_singular))]
     pub fn singular(&mut self, query: Part) -> Result<Part, AllocError>
         requires { (q : tree.Query) × IsPart self.old query (a_query q) × tree.IsSingular q }
         ensures made { IfOk result (λ part. (q : tree.Query) → IsPart self.old query (a_query q)
@@ -330,13 +330,7 @@ impl SyntaxBuilder {
             IsPart self.new part (an_argument (tree.literal_argument (literal_view literal)))) }
         ensures keeps { KeepsParts self.old self.new }
     {
-        let argument = match literal {
-            Literal::String(text) => Argument::Value(Value::String(text)),
-            Literal::Number(number) => Argument::Number(number),
-            Literal::Bool(truth) => Argument::Value(Value::Bool(truth)),
-            Literal::Null => Argument::Value(Value::Null),
-        };
-        self.push(Node::Argument(argument))
+        self.push(Node::Argument(Argument::Literal(literal.held())))
     }
 
     /// A query as an argument (RFC 9535, section 2.4).

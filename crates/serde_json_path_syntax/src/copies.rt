@@ -36,7 +36,7 @@ impl Node {
             Node::LogicalOr(parts) => Ok(Node::LogicalOr(parts.try_clone(alloc)?)),
             Node::LogicalAnd(parts) => Ok(Node::LogicalAnd(parts.try_clone(alloc)?)),
             Node::Basic(basic) => Ok(Node::Basic(*basic)),
-            Node::Comparable(comparable) => Ok(Node::Comparable(comparable.try_clone(alloc)?)),
+            Node::Comparable(comparable) => Ok(Node::Comparable(comparable.try_clone()?)),
             Node::Call {
                 name,
                 signature,
@@ -89,12 +89,12 @@ impl Comparable {
     ghost use Rattle.serde_json_path_syntax.specs.Flat.{comparable_of, comparable_parts};
 
     /// A copy of the side.
-    fn try_clone(&self, alloc: Global) -> Result<Comparable, AllocError>
+    fn try_clone(&self) -> Result<Comparable, AllocError>
         ensures { IfOk result (λ copy.
             IsCopyIn comparable_of kinds.comparable_fits comparable_parts self.now copy) }
     {
         match self {
-            Comparable::Literal(literal) => Ok(Comparable::Literal(literal.try_clone(alloc)?)),
+            Comparable::Literal(literal) => Ok(Comparable::Literal(literal.try_clone()?)),
             Comparable::Singular(query) => Ok(Comparable::Singular(*query)),
             Comparable::Called(call) => Ok(Comparable::Called(*call)),
         }
@@ -110,8 +110,7 @@ impl Argument {
             IsCopyIn argument_of kinds.argument_fits argument_parts self.now copy) }
     {
         match self {
-            Argument::Value(value) => Ok(Argument::Value(value.clone()?)),
-            Argument::Number(number) => Ok(Argument::Number(*number)),
+            Argument::Literal(literal) => Ok(Argument::Literal(literal.try_clone()?)),
             Argument::Query(query) => Ok(Argument::Query(*query)),
             Argument::Call(call) => Ok(Argument::Call(*call)),
             Argument::Logical(expression) => Ok(Argument::Logical(*expression)),

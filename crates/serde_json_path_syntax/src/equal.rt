@@ -2,17 +2,15 @@
 
 ghost use Rattle.std.specs.Prelude.{◌≡◌, ◌<◌, ◌≤◌, ◌↔◌, IsTrue, true, length};
 ghost use Rattle.std.specs.Cmp.Lexicographic.{pointwise};
-ghost use Rattle.serde_json.specs.View.{view};
-ghost use Rattle.serde_json_path_syntax.specs.Flat.{argument_of, argument_parts, basic_of, basic_parts, comparable_of, comparable_parts, literal_of, piece_at, pieces, pieces_named, segment_of, segment_parts, selector_of, selector_parts};
-ghost use Rattle.serde_json_path_syntax.specs.Kinds.{argument_fits, basic_fits, comparable_fits, is_written, segment_fits, selector_fits};
-ghost use Rattle.serde_json_path_syntax.specs.Literals.{literal_view};
+ghost use Rattle.serde_json_path_syntax.specs.Flat.{argument_of, argument_parts, basic_of, basic_parts, comparable_of, comparable_parts, held_view, piece_at, pieces, pieces_named, segment_of, segment_parts, selector_of, selector_parts};
+ghost use Rattle.serde_json_path_syntax.specs.Kinds.{argument_fits, basic_fits, comparable_fits, literal_fits, segment_fits, selector_fits};
 ghost use Rattle.serde_json_path_syntax.specs.PartBounds.{parts_bound};
 ghost use Rattle.serde_json_path_syntax.specs.Parts.{nodes_in, number_of, tree_of};
 ghost use Rattle.serde_json_path_syntax.specs.SameTree as trees;
 ghost use Rattle.serde_json_path_syntax.specs.SliceView.{slice_view};
 
 use crate::checked::Checked;
-use crate::literal::Literal;
+use crate::literal::LiteralValue;
 use crate::node::{Argument, Basic, Comparable, Node, Part, Segment, Selector};
 use crate::slice::Slice;
 use serde_json::Value;
@@ -229,10 +227,7 @@ fn same_argument(mine: &Checked, left: &Argument, theirs: &Checked, right: &Argu
         (argument_of (pieces (nodes_in theirs.now)) right.now) }
 {
     match (left, right) {
-        (Argument::Value(value), Argument::Value(other)) => same_value(value, other),
-        (Argument::Number(number), Argument::Number(other)) => {
-            number.billionths() == other.billionths()
-        }
+        (Argument::Literal(literal), Argument::Literal(other)) => same_literal(literal, other),
         (Argument::Query(left), Argument::Query(right))
         | (Argument::Call(left), Argument::Call(right))
         | (Argument::Logical(left), Argument::Logical(right)) => {
@@ -250,31 +245,21 @@ fn same_slice(slice: Slice, other: Slice) -> bool
 }
 
 /// Whether two literals are the same.
-fn same_literal(literal: &Literal, other: &Literal) -> bool
-    ensures { result ≡ trees.same_literal (literal_view literal.now) (literal_view other.now) }
+fn same_literal(literal: &LiteralValue, other: &LiteralValue) -> bool
+    requires left_fits { literal_fits literal.now ≡ true }
+    requires right_fits { literal_fits other.now ≡ true }
+    ensures { result ≡ trees.same_literal (held_view literal.now) (held_view other.now) }
 {
     match (literal, other) {
-        (Literal::String(text), Literal::String(other)) => text == other,
-        (Literal::Number(number), Literal::Number(other)) => {
+        (LiteralValue::Number(number), LiteralValue::Number(other)) => {
             number.billionths() == other.billionths()
         }
-        (Literal::Bool(truth), Literal::Bool(other)) => truth == other,
-        (Literal::Null, Literal::Null) => true,
-        _ => false,
-    }
-}
-
-/// Whether two values stand for the same literal.
-fn same_value(value: &Value, other: &Value) -> bool
-    requires value { is_written (view value.now) ≡ true }
-    requires other { is_written (view other.now) ≡ true }
-    ensures { result
-        ≡ trees.same_literal (literal_of (view value.now)) (literal_of (view other.now)) }
-{
-    match (value, other) {
-        (Value::String(text), Value::String(other)) => text == other,
-        (Value::Bool(truth), Value::Bool(other)) => truth == other,
-        (Value::Null, Value::Null) => true,
+        (LiteralValue::Value(value), LiteralValue::Value(other)) => match (value, other) {
+            (Value::String(text), Value::String(other)) => text == other,
+            (Value::Bool(truth), Value::Bool(other)) => truth == other,
+            (Value::Null, Value::Null) => true,
+            _ => false,
+        },
         _ => false,
     }
 }

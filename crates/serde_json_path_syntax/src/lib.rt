@@ -31,7 +31,7 @@ mod slice;
 
 pub use builder::SyntaxBuilder;
 pub use checked::Checked;
-pub use literal::{Literal, NumberLiteral};
+pub use literal::{Literal, LiteralValue, NumberLiteral};
 pub use node::{
     Argument, Basic, Comparable, Node, Part, QueryKind, Segment, SegmentKind, Selector,
 };

@@ -3,7 +3,7 @@
 ghost use Rattle.serde_json_path_syntax.specs.WellFormed.{IsLiteralAmount};
 
 use serde_json::Value;
-use std::alloc::{AllocError, Global};
+use std::alloc::AllocError;
 
 /// One, in billionths.
 pub(crate) const ONE: i128 = 1_000_000_000;
@@ -75,7 +75,9 @@ pub enum Literal {
 }
 
 impl Literal {
-    ghost use Rattle.std.specs.Prelude.{◌≡◌, ◌↔◌, IfOk, IsTrue};
+    ghost use Rattle.std.specs.Prelude.{◌≡◌, ◌↔◌, IsTrue, true};
+    ghost use Rattle.serde_json_path_syntax.specs.Flat.{held_view};
+    ghost use Rattle.serde_json_path_syntax.specs.Kinds.{literal_fits};
     ghost use Rattle.serde_json_path_syntax.specs.Literals.{literal_view};
     ghost use Rattle.serde_json_path_syntax.specs.Typing.{IsValueLiteral};
 
@@ -90,15 +92,42 @@ impl Literal {
         }
     }
 
-    /// A copy of the literal. An error comes only where memory is refused.
-    pub(crate) fn try_clone(&self, alloc: Global) -> Result<Literal, AllocError>
-        ensures { IfOk result (λ copy. literal_view copy ≡ literal_view self.now) }
+    /// The literal as a tree holds it.
+    pub(crate) fn held(self) -> LiteralValue
+        ensures is { held_view result ≡ literal_view self }
+        ensures fits { literal_fits result ≡ true }
     {
         match self {
-            Literal::String(text) => Ok(Literal::String(String::from_str(alloc, text.as_str())?)),
-            Literal::Number(number) => Ok(Literal::Number(*number)),
-            Literal::Bool(truth) => Ok(Literal::Bool(*truth)),
-            Literal::Null => Ok(Literal::Null),
+            Literal::String(text) => LiteralValue::Value(Value::String(text)),
+            Literal::Number(number) => LiteralValue::Number(number),
+            Literal::Bool(truth) => LiteralValue::Value(Value::Bool(truth)),
+            Literal::Null => LiteralValue::Value(Value::Null),
+        }
+    }
+}
+
+/// A literal as a tree holds it, so that comparisons and functions are lent it.
+#[derive(Drop)]
+pub enum LiteralValue {
+    /// A text, a truth value or `null`.
+    Value(Value),
+    /// A number.
+    Number(NumberLiteral),
+}
+
+impl LiteralValue {
+    ghost use Rattle.std.specs.Prelude.{◌≡◌, IfOk};
+    ghost use Rattle.serde_json_path_syntax.specs.Flat.{held_view};
+    ghost use Rattle.serde_json_path_syntax.specs.Kinds.{literal_fits};
+
+    /// A copy of the literal. An error comes only where memory is refused.
+    pub(crate) fn try_clone(&self) -> Result<LiteralValue, AllocError>
+        ensures is { IfOk result (λ copy. held_view copy ≡ held_view self.now) }
+        ensures fits { IfOk result (λ copy. literal_fits copy ≡ literal_fits self.now) }
+    {
+        match self {
+            LiteralValue::Value(value) => Ok(LiteralValue::Value(value.clone()?)),
+            LiteralValue::Number(number) => Ok(LiteralValue::Number(*number)),
         }
     }
 }

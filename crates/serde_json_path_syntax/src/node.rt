@@ -1,10 +1,9 @@
 //! The nodes of a syntax tree.
 
-use crate::literal::{Literal, NumberLiteral};
+use crate::literal::LiteralValue;
 use crate::operator::ComparisonOperator;
 use crate::parts::Parts;
 use crate::slice::Slice;
-use serde_json::Value;
 use serde_json_path_functions::Signature;
 
 /// Where a query starts (RFC 9535, sections 2.2.1 and 2.3.5.1).
@@ -84,7 +83,7 @@ pub enum Basic {
 #[derive(Drop)]
 pub enum Comparable {
     /// A literal.
-    Literal(Literal),
+    Literal(LiteralValue),
     /// A singular query.
     Singular(Part),
     /// A call.
@@ -94,10 +93,8 @@ pub enum Comparable {
 /// An argument of a call.
 #[derive(Drop)]
 pub enum Argument {
-    /// A literal other than a number, as a value.
-    Value(Value),
-    /// A number literal.
-    Number(NumberLiteral),
+    /// A literal.
+    Literal(LiteralValue),
     /// A query.
     Query(Part),
     /// A call.

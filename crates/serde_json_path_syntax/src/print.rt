@@ -14,7 +14,7 @@ mod openings;
 
 use crate::checked::Checked;
 use crate::node::{Argument, Basic, Comparable, Node, Part, QueryKind, Segment, Selector};
-use literals::write_value;
+use literals::write_literal;
 use openings::{Opening, dots, sign};
 use serde_json_path_nodes::Quoted;
 use std::fmt;
@@ -274,7 +274,7 @@ fn write_comparable<W: Write>(
         (comparable_text (comparable_of (pieces (nodes_in tree.now)) comparable.now)) f.new }
 {
     match comparable {
-        Comparable::Literal(literal) => write!(f, "{literal}"),
+        Comparable::Literal(literal) => write_literal(f, literal),
         Comparable::Singular(query) => write_part(f, tree, *query),
         Comparable::Called(call) => write_part(f, tree, *call),
     }
@@ -295,8 +295,7 @@ fn write_argument<W: Write>(
         (argument_text (argument_of (pieces (nodes_in tree.now)) argument.now)) f.new }
 {
     match argument {
-        Argument::Value(value) => write_value(f, value),
-        Argument::Number(number) => write!(f, "{number}"),
+        Argument::Literal(literal) => write_literal(f, literal),
         Argument::Query(query) => write_part(f, tree, *query),
         Argument::Call(call) => write_part(f, tree, *call),
         Argument::Logical(expression) => write_part(f, tree, *expression),

@@ -1,7 +1,7 @@
 -- The function sets of the tests: what their names mean, and that they keep types and patterns.
 use Rattle.std.proofs.Common.{◌≡◌, ◌+◌, ◌&&◌, ◌||◌, ℕ, List, [], ◌∷◌, length, Bool, true, false, Option, Some, None, bytes_eq, codes, if◌then◌else◌, refl, arith}
 use Rattle.serde_json_path_functions.specs.OwnSets.{Keeps, declared_keeps}
-use Rattle.serde_json_path_functions.specs.Functions.{of_value, of_nodes, of_logical, Signature, Term, value, nodes, logical, counted, kind_of_term, FunctionSet, KeepsTypes}
+use Rattle.serde_json_path_functions.specs.Functions.{of_value, of_nodes, of_logical, Signature, Term, value, nodes, logical, counted, kind_of_term, FunctionSet, KeepsTypes, whole_numbers}
 use Rattle.serde_json_path_functions.specs.Patterns.{KeepsPatterns, keeps_no_patterns}
 
 -- ---- `kids` gives its nodes back, `both` whether both are true, `none` Nothing; the others are true
@@ -39,6 +39,7 @@ own_functions = record {
   signature = λ name. own_signature_by (bytes_eq name (codes "kids")) (bytes_eq name (codes "both")) (bytes_eq name (codes "none")) (is_plain_name name) (bytes_eq name (codes "eight"));
   meaning = λ name ts. own_meaning_by (bytes_eq name (codes "kids")) (bytes_eq name (codes "both")) (bytes_eq name (codes "none")) ts;
   by_regex = λ name. None;
+  numbers = whole_numbers;
 }
 
 kids_typed : (ts : List Term) → kind_of_term (kids_meaning ts) ≡ of_nodes
@@ -75,7 +76,7 @@ abbrev pub odd_signature : List ℕ → Option Signature
 odd_signature name = if bytes_eq name (codes "length") then Some (record { params = of_nodes ∷ []; result = of_value }) else None
 
 abbrev pub odd_functions : FunctionSet
-odd_functions = record { signature = odd_signature; meaning = λ name ts. odd_meaning ts; by_regex = λ name. None }
+odd_functions = record { signature = odd_signature; meaning = λ name ts. odd_meaning ts; by_regex = λ name. None; numbers = whole_numbers }
 
 odd_typed : (ts : List Term) → kind_of_term (odd_meaning ts) ≡ of_value
 odd_typed (nodes ds ∷ []) = refl

@@ -1,5 +1,6 @@
 //! What paths select, how texts that are none are refused, and the pieces of a path's text.
 
+mod all_numbers;
 mod blanks;
 mod bookstore;
 mod calls;

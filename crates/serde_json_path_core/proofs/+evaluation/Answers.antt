@@ -8,7 +8,7 @@ use Rattle.serde_json_path_core.proofs.Words.{nodes_of, top_of, frame_view, fram
 use Rattle.serde_json_path_core.proofs.Words.{selector_view, stage_at, stages_at, child_view, values_from, Bor, Value, IsIn, within_get, within_bound}
 use Rattle.serde_json_path_core.proofs.Words.{below_length, past_length, signatures_of, params_of}
 use Rattle.serde_json_path_functions.specs.Terms.{kind_view}
-use Rattle.serde_json_path_core.specs.Inside.Evaluates.{IsKept}
+use Rattle.serde_json_path_core.specs.Inside.Evaluates.{IsKept, SoundComparable}
 use Rattle.serde_json_path_core.specs.Inside.Scopes.{query_of, set_of}
 use Rattle.serde_json_path_core.specs.Inside.Computed as computed
 use Rattle.serde_json_path_core.proofs.Steps.Answered.{given-all, answered, by_pattern, if_refused}
@@ -16,10 +16,10 @@ use Rattle.serde_json_path_core.proofs.Steps.Lookups.{found-none, found-some}
 use Rattle.serde_json_path_core.proofs.Walks.Frames.{at_selector, ends-trans, passes-over, passes-skipped, at-onward, at-downward, done}
 use Rattle.serde_json_path_core.proofs.Walks.Stacks.{rest-started}
 use Rattle.serde_json_path_core.proofs.Walks.Chains.{left_stands, entered-inside, stack-inside, ends-stand}
-use Rattle.serde_json_path_core.proofs.Sound.{argument-calls, next-calls, side-calls, sound-segment, sound-selector, sound-and, sound-basic, typed-arguments, parameters-known}
+use Rattle.serde_json_path_core.proofs.Sound.{argument-calls, next-calls, sound-relation, sound-segment, sound-selector, sound-and, sound-basic, typed-arguments, parameters-known}
 use Rattle.serde_json_path_core.proofs.Walks.Turns.{sees_replaced, Came, came-dropped, came-entered, came-kept, came-node, came-start, came-turned, drop-some, drop-none, missing}
 use Rattle.serde_json_path_core.proofs.Walks.SingleChildren.{first-of-values}
-use Rattle.serde_json_path_core.proofs.+evaluation.Goals.{evaluation::frame::Frame::next_task-In-Some, evaluation::frame::Frame::next_task-In_default, evaluation::frame::Frame::next_task-After-next_admitted, evaluation::stack::find_next-After-next_task}
+use Rattle.serde_json_path_core.proofs.+evaluation.Goals.{filter::logic::basic_holds-In-Relation, evaluation::frame::Frame::next_task-In-Some, evaluation::frame::Frame::next_task-In_default, evaluation::frame::Frame::next_task-After-next_admitted, evaluation::stack::find_next-After-next_task}
 use Rattle.serde_json_path_core.proofs.+evaluation.Goals as goal
 
 -- ---- frames
@@ -117,8 +117,8 @@ evaluation::frame::Frame::next_task-returns-in-Some-peek-clause-found g t c =
     at-downward (set_of scope) (top_of scope) stage (frame_view c.loop-selector_ref.self) (child_view c.in-Some-peek.child) here (sym c.segment_kind.ensures ∙ ap segment_kind_view c.in-Descendant.is)
     c.in-Some-peek.ensures
 
-pub evaluation::frame::next_passing-is_true_by-requires : goal.evaluation::frame::next_passing-is_true_by-requires
-evaluation::frame::next_passing-is_true_by-requires g t c =
+pub evaluation::frame::next_passing-filter_holds-requires : goal.evaluation::frame::next_passing-filter_holds-requires
+evaluation::frame::next_passing-filter_holds-requires g t c =
     let top = top_of c.args.scope.now in
     let child = child_view c.in-Some.child in
     let inside = ends-stand top (cursor_left c.args.cursor.now) (cursor_left c.loop-child.cursor) c.loop-child.invariant.1 c.requires.inside child (subst (IsIn child) (sym c.in-Some.ensures) (inl refl)) in
@@ -126,7 +126,7 @@ evaluation::frame::next_passing-is_true_by-requires g t c =
 
 pub evaluation::frame::next_passing-returns-then-branch-clause-found : goal.evaluation::frame::next_passing-returns-then-branch-clause-found
 evaluation::frame::next_passing-returns-then-branch-clause-found g t c =
-    (c.in-Some.ensures, rw (c.in-Some.ensures, sym c.in_ok-is_true_by.ensures.means ∙ c.if-branch.true) refl)
+    (c.in-Some.ensures, rw (c.in-Some.ensures, sym c.in_ok-filter_holds.ensures.means ∙ c.if-branch.true) refl)
 
 pub evaluation::frame::next_passing-loop-child-smaller : goal.evaluation::frame::next_passing-loop-child-smaller
 evaluation::frame::next_passing-loop-child-smaller g t c =
@@ -138,7 +138,7 @@ pub evaluation::frame::next_passing-loop-child-preserved : goal.evaluation::fram
 evaluation::frame::next_passing-loop-child-preserved g t c =
     let child = child_view c.in-Some.child in
     let before = c.loop-child.invariant in (
-      before.0 ∙ rw (c.in-Some.ensures, sym c.in_ok-is_true_by.ensures.means ∙ c.if-branch.false, c.pass.ensures) refl,
+      before.0 ∙ rw (c.in-Some.ensures, sym c.in_ok-filter_holds.ensures.means ∙ c.if-branch.false, c.pass.ensures) refl,
       ends-trans _ _ _ before.1 (child ∷ [], c.in-Some.ensures ∙ ap (λ cs. child ∷ cs) (sym c.pass.ensures)),
     )
 
@@ -241,38 +241,38 @@ evaluation::stack::find_next-loop-last-preserved g t c =
 
 -- ---- queries in expressions
 
-pub filter::logic::first_from-started-requires-clause-typed : goal.filter::logic::first_from-started-requires-clause-typed
-filter::logic::first_from-started-requires-clause-typed g t c =
+pub filter::query::first_from-started-requires-clause-typed : goal.filter::query::first_from-started-requires-clause-typed
+filter::query::first_from-started-requires-clause-typed g t c =
     ((set_of c.args.scope.now).signature, c.requires.sound.0)
 
-pub filter::logic::all_from-started-requires-clause-typed : goal.filter::logic::all_from-started-requires-clause-typed
-filter::logic::all_from-started-requires-clause-typed g t c =
+pub filter::query::all_from-started-requires-clause-typed : goal.filter::query::all_from-started-requires-clause-typed
+filter::query::all_from-started-requires-clause-typed g t c =
     ((set_of c.args.scope.now).signature, c.requires.sound.0)
 
-pub filter::logic::first_from-find_next-requires : goal.filter::logic::first_from-find_next-requires
-filter::logic::first_from-find_next-requires g t c =
+pub filter::query::first_from-find_next-requires : goal.filter::query::first_from-find_next-requires
+filter::query::first_from-find_next-requires g t c =
     let scope = c.args.scope.now in
     let frames = frames_view c.in_ok-frames.frames.items in
     let inside : ∥ IsStackIn (top_of scope) frames ∥₁ =
     ∣ entered-inside (top_of scope) (view c.args.value.now) (stages_at (nodes_of scope) c.args.segments.now) frames c.requires.inside c.in_ok-frames.ensures ∣₁ in
     search rules
 
-pub filter::logic::first_from-returns-in-Some-clause-means : goal.filter::logic::first_from-returns-in-Some-clause-means
-filter::logic::first_from-returns-in-Some-clause-means g t c =
+pub filter::query::first_from-returns-in-Some-clause-means : goal.filter::query::first_from-returns-in-Some-clause-means
+filter::query::first_from-returns-in-Some-clause-means g t c =
     let scope = c.args.scope.now in
     let begins = rest-started (set_of scope) (top_of scope) (segments_at (nodes_of scope) c.args.segments.now) (view c.args.value.now) _ c.in_ok-frames.ensures in
     let at = found-some _ _ c.in_ok-found.field-0 c.in-Some.found c.in-Some.is c.in_ok-found.ensures.found in
     rw (sym begins, c.find_next.ensures.kept.0, at.1.0) refl
 
-pub filter::logic::first_from-returns-clause-means : goal.filter::logic::first_from-returns-clause-means
-filter::logic::first_from-returns-clause-means g t c =
+pub filter::query::first_from-returns-clause-means : goal.filter::query::first_from-returns-clause-means
+filter::query::first_from-returns-clause-means g t c =
     let scope = c.args.scope.now in
     let begins = rest-started (set_of scope) (top_of scope) (segments_at (nodes_of scope) c.args.segments.now) (view c.args.value.now) _ c.in_ok-frames.ensures in
     let none = found-none _ _ c.in_ok-found.field-0 c.in-None.is c.in_ok-found.ensures.found in
     rw (sym begins, c.find_next.ensures.kept.0, none) refl
 
-pub filter::logic::all_from-values-init : goal.filter::logic::all_from-values-init
-filter::logic::all_from-values-init g t c =
+pub filter::query::all_from-values-init : goal.filter::query::all_from-values-init
+filter::query::all_from-values-init g t c =
     let scope = c.args.scope.now in
     let all = stages_at (nodes_of scope) c.args.segments.now in
     let begins = rest-started (set_of scope) (top_of scope) (segments_at (nodes_of scope) c.args.segments.now) (view c.args.value.now) _ c.in_ok-frames.ensures in
@@ -284,11 +284,11 @@ filter::logic::all_from-values-init g t c =
       inside = ∣ entered-inside (top_of scope) (view c.args.value.now) all frames c.requires.inside c.in_ok-frames.ensures ∣₁;
     }
 
-pub filter::logic::all_from-pass_found-requires : goal.filter::logic::all_from-pass_found-requires
-filter::logic::all_from-pass_found-requires g t c = (found-some _ _ c.in_ok-node.field-0 c.in-Some.node c.in-Some.is c.in_ok-node.ensures.found).0
+pub filter::query::all_from-pass_found-requires : goal.filter::query::all_from-pass_found-requires
+filter::query::all_from-pass_found-requires g t c = (found-some _ _ c.in_ok-node.field-0 c.in-Some.node c.in-Some.is c.in_ok-node.ensures.found).0
 
-pub filter::logic::all_from-values-smaller : goal.filter::logic::all_from-values-smaller
-filter::logic::all_from-values-smaller g t c =
+pub filter::query::all_from-values-smaller : goal.filter::query::all_from-values-smaller
+filter::query::all_from-values-smaller g t c =
     let scope = c.args.scope.now in
     let all = stages_at (nodes_of scope) c.args.segments.now in
     let node = c.in-Some.node in
@@ -297,8 +297,8 @@ filter::logic::all_from-values-smaller g t c =
     let less = c.find_next.ensures.kept.1 in
     omega arith
 
-pub filter::logic::all_from-values-preserved : goal.filter::logic::all_from-values-preserved
-filter::logic::all_from-values-preserved g t c =
+pub filter::query::all_from-values-preserved : goal.filter::query::all_from-values-preserved
+filter::query::all_from-values-preserved g t c =
     let scope = c.args.scope.now in
     let all = stages_at (nodes_of scope) c.args.segments.now in
     let node = c.in-Some.node in
@@ -313,18 +313,18 @@ filter::logic::all_from-values-preserved g t c =
       inside = ∥∥₁_map c.values.invariant.inside (λ h. (h.0, h.1, subst (IsStack h.0) (sym c.pass_found.ensures) (at.1.2 h.0 (c.find_next.ensures.kept.2 h.0 h.2))));
     }
 
-pub filter::logic::first-returns-in-None-clause-means : goal.filter::logic::first-returns-in-None-clause-means
-filter::logic::first-returns-in-None-clause-means g t c =
+pub filter::query::first-returns-in-None-clause-means : goal.filter::query::first-returns-in-None-clause-means
+filter::query::first-returns-in-None-clause-means g t c =
     let scope = c.args.scope.now in
     let reached = c.reached-reached.result in
     let below : Option (Bor Value) → List Data = λ o. option_map_or (λ (v : Bor Value). values_from (set_of scope) (top_of scope) (segments_at (nodes_of scope) reached.segments.now) (view v.now)) o [] in
-    sym (first-of-values (computed.results (set_of scope) (top_of scope) (part_query (nodes_of scope) c.args.query) (view c.args.value.now))
+    sym (first-of-values (computed.results (set_of scope) (top_of scope) (part_query (nodes_of scope) c.args.query) (view c.args.current.now))
     ∙ ap (λ vs. slice_get vs 0) (c.reached-reached.ensures.selects ∙ ap below c.in-None.is))
 
 -- ---- logical expressions and calls
 
-pub filter::logic::is_true-all_true-requires : goal.filter::logic::is_true-all_true-requires
-filter::logic::is_true-all_true-requires g t c =
+pub filter::logic::or_holds-and_holds-requires : goal.filter::logic::or_holds-and_holds-requires
+filter::logic::or_holds-and_holds-requires g t c =
     let scope = c.args.scope.now in
     let parts = c.or_parts-part-items.result.now in
     let i = c.loop-part.part-index in
@@ -334,8 +334,8 @@ filter::logic::is_true-all_true-requires g t c =
     (subst (Sound scope IsTypedOr calls_in_or) c.or_parts-part-items.ensures.tree c.requires.sound) in
     search rules
 
-pub filter::logic::all_true-basic_true-requires : goal.filter::logic::all_true-basic_true-requires
-filter::logic::all_true-basic_true-requires g t c =
+pub filter::logic::and_holds-basic_holds-requires : goal.filter::logic::and_holds-basic_holds-requires
+filter::logic::and_holds-basic_holds-requires g t c =
     let scope = c.args.scope.now in
     let parts = c.and_parts-part-items.result.now in
     let i = c.loop-part.part-index in
@@ -345,19 +345,17 @@ filter::logic::all_true-basic_true-requires g t c =
     (subst (Sound scope IsTypedAnd calls_in_and) c.and_parts-part-items.ensures.tree c.requires.sound) in
     search rules
 
-pub filter::logic::basic_true-decided-requires : goal.filter::logic::basic_true-decided-requires
-filter::logic::basic_true-decided-requires g t c =
+sides : (g : _) (t : _) (c : filter::logic::basic_holds-In-Relation g t) → SoundComparable c.args.scope.now c.in-Relation.left × SoundComparable c.args.scope.now c.in-Relation.right
+sides g t c =
     let scope = c.args.scope.now in
-    let sides = side-calls (query_of scope) (comparable_at (nodes_of scope) c.in-Basic-Relation.left) (operator_view c.in-Basic-Relation.operator) (comparable_at (nodes_of scope) c.in-Basic-Relation.right) (basic_at (nodes_of scope) c.args.expression)
-    (search rules) c.requires.sound.1 in
-    search rules
+    sound-relation (set_of scope) (query_of scope) (comparable_at (nodes_of scope) c.in-Relation.left) (operator_view c.in-Relation.operator) (comparable_at (nodes_of scope) c.in-Relation.right) (basic_at (nodes_of scope) c.args.expression)
+    (search rules) c.requires.sound
 
-pub filter::logic::evaluated_true-relation_true-requires : goal.filter::logic::evaluated_true-relation_true-requires
-filter::logic::evaluated_true-relation_true-requires g t c =
-    let scope = c.args.scope.now in
-    let sides = side-calls (query_of scope) (comparable_at (nodes_of scope) c.in-Relation.left) (operator_view c.in-Relation.operator) (comparable_at (nodes_of scope) c.in-Relation.right) (basic_at (nodes_of scope) c.args.expression)
-    (search rules) c.requires.sound.1 in
-    search rules
+pub filter::logic::basic_holds-form_of-left-requires-clause-sound : goal.filter::logic::basic_holds-form_of-left-requires-clause-sound
+filter::logic::basic_holds-form_of-left-requires-clause-sound g t c = (sides g t (goal.at.filter::logic::basic_holds-form_of-left-requires-clause-sound g t c).In-Relation).0
+
+pub filter::logic::basic_holds-form_of-right-requires-clause-sound : goal.filter::logic::basic_holds-form_of-right-requires-clause-sound
+filter::logic::basic_holds-form_of-right-requires-clause-sound g t c = (sides g t (goal.at.filter::logic::basic_holds-form_of-right-requires-clause-sound g t c).In-Relation).1
 
 pub filter::call::answer-loop-argument-init : goal.filter::call::answer-loop-argument-init
 filter::call::answer-loop-argument-init g t c =
@@ -396,7 +394,7 @@ pub filter::call::answer-returns-clause-refused : goal.filter::call::answer-retu
 filter::call::answer-returns-clause-refused g t c =
     let scope = c.args.scope.now in
     let asked = call_at (nodes_of scope) c.args.call in
-    let v = view c.args.value.now in
+    let v = view c.args.current.now in
     let parts = iter_rest c.loop-argument.argument-iterator.a in
     let kinds = iter_rest c.loop-argument.argument-iterator.b in
     let given = map term_view c.loop-argument.given.items in
@@ -408,7 +406,7 @@ pub filter::call::answer-returns-clause-means : goal.filter::call::answer-return
 filter::call::answer-returns-clause-means g t c =
     let scope = c.args.scope.now in
     let asked = call_at (nodes_of scope) c.args.call in
-    let v = view c.args.value.now in
+    let v = view c.args.current.now in
     let parts = iter_rest c.loop-argument.argument-iterator.a in
     let kinds = iter_rest c.loop-argument.argument-iterator.b in
     let given = map term_view c.loop-argument.given.items in

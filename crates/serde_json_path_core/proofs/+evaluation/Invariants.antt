@@ -6,43 +6,53 @@ use Rattle.serde_json_path_core.proofs.Words.{call_at, pieces, pieces_named, seg
 use Rattle.serde_json_path_core.proofs.Words.{EndsIn, IsStackIn, Passes, values_from, stage_at, stages_at, Sound, nodes_of, top_of, frame_view}
 use Rattle.serde_json_path_core.proofs.Words.{frames_view}
 use Rattle.serde_json_path_functions.specs.Terms.{kind_view}
+use Rattle.serde_json_path_core.specs.Inside.Comparisons.{form_bound}
 use Rattle.serde_json_path_core.specs.Inside.Computed as computed
 use Rattle.serde_json_path_core.specs.Inside.Rest.{IsKept}
 use Rattle.serde_json_path_core.specs.Inside.Scopes.{set_of}
 use Rattle.serde_json_path_core.proofs.+evaluation.Given as goal
 
-abbrev pub decreases-filter::logic::is_true : goal.decreases-filter::logic::is_true
-decreases-filter::logic::is_true g l = 8 * l.expression.number + 5
+abbrev pub decreases-filter::logic::or_holds : goal.decreases-filter::logic::or_holds
+decreases-filter::logic::or_holds g l = 8 * l.expression.number + 5
 
-abbrev pub decreases-filter::logic::is_true_by : goal.decreases-filter::logic::is_true_by
-decreases-filter::logic::is_true_by g l = 8 * l.expression.number + 6
+abbrev pub decreases-filter::logic::filter_holds : goal.decreases-filter::logic::filter_holds
+decreases-filter::logic::filter_holds g l = 8 * l.expression.number + 6
 
-abbrev pub decreases-filter::logic::all_true : goal.decreases-filter::logic::all_true
-decreases-filter::logic::all_true g l = 8 * l.expression.number + 5
+abbrev pub decreases-filter::logic::and_holds : goal.decreases-filter::logic::and_holds
+decreases-filter::logic::and_holds g l = 8 * l.expression.number + 5
 
-abbrev pub decreases-filter::logic::basic_true : goal.decreases-filter::logic::basic_true
-decreases-filter::logic::basic_true g l = 8 * l.expression.number + 5
+abbrev pub decreases-filter::logic::basic_holds : goal.decreases-filter::logic::basic_holds
+decreases-filter::logic::basic_holds g l = 8 * l.expression.number + 5
 
-abbrev pub decreases-filter::logic::evaluated_true : goal.decreases-filter::logic::evaluated_true
-decreases-filter::logic::evaluated_true g l = 8 * l.expression.number + 4
+abbrev pub decreases-filter::logic::compares : goal.decreases-filter::logic::compares
+decreases-filter::logic::compares g l = 8 * max (form_bound l.comparison.now.left) (form_bound l.comparison.now.right) + 2
 
-abbrev pub decreases-filter::logic::relation_true : goal.decreases-filter::logic::relation_true
-decreases-filter::logic::relation_true g l = 8 * max l.left.number l.right.number + 6
+abbrev pub decreases-filter::logic::answer_compares : goal.decreases-filter::logic::answer_compares
+decreases-filter::logic::answer_compares g l = 8 * max (l.call.number + 1) (form_bound l.right) + 1
 
-abbrev pub decreases-filter::logic::compared : goal.decreases-filter::logic::compared
-decreases-filter::logic::compared g l = 8 * l.comparable.number + 5
+abbrev pub decreases-filter::logic::compares_with : goal.decreases-filter::logic::compares_with
+decreases-filter::logic::compares_with g l = 8 * form_bound l.right
 
-abbrev pub decreases-filter::logic::first : goal.decreases-filter::logic::first
-decreases-filter::logic::first g l = 8 * l.query.number + 6
+abbrev pub decreases-filter::logic::compares_with_answer : goal.decreases-filter::logic::compares_with_answer
+decreases-filter::logic::compares_with_answer g l = 8 * l.call.number + 7
 
-abbrev pub decreases-filter::logic::first_from : goal.decreases-filter::logic::first_from
-decreases-filter::logic::first_from g l = 8 * parts_bound l.segments.now + 5
+abbrev pub decreases-filter::logic::exists : goal.decreases-filter::logic::exists
+decreases-filter::logic::exists g l = 8 * l.query.number + 7
 
-abbrev pub decreases-filter::logic::all_from : goal.decreases-filter::logic::all_from
-decreases-filter::logic::all_from g l = 8 * parts_bound l.segments.now + 5
+abbrev pub decreases-filter::logic::call_holds : goal.decreases-filter::logic::call_holds
+decreases-filter::logic::call_holds g l = 8 * l.call.number + 6
 
-abbrev pub decreases-filter::logic::all_values : goal.decreases-filter::logic::all_values
-decreases-filter::logic::all_values g l = 8 * l.query.number + 6
+abbrev pub decreases-filter::query::first : goal.decreases-filter::query::first
+decreases-filter::query::first g l = 8 * l.query.number + 6
+
+abbrev pub decreases-filter::query::first_from : goal.decreases-filter::query::first_from
+decreases-filter::query::first_from g l = 8 * parts_bound l.segments.now + 5
+
+abbrev pub decreases-filter::query::all_from : goal.decreases-filter::query::all_from
+decreases-filter::query::all_from g l = 8 * parts_bound l.segments.now + 5
+
+abbrev pub decreases-filter::query::all_values : goal.decreases-filter::query::all_values
+decreases-filter::query::all_values g l = 8 * l.query.number + 6
 
 abbrev pub decreases-filter::call::answer : goal.decreases-filter::call::answer
 decreases-filter::call::answer g l = 8 * l.call.number + 5
@@ -65,15 +75,15 @@ decreases-evaluation::frame::next_admitted g l = 8 * selector_bound l.selector_r
 abbrev pub decreases-evaluation::frame::next_passing : goal.decreases-evaluation::frame::next_passing
 decreases-evaluation::frame::next_passing g l = 8 * l.test.number + 7
 
-abbrev pub invariant-filter::logic::is_true-loop-part : goal.invariant-filter::logic::is_true-loop-part
-invariant-filter::logic::is_true-loop-part g l =
-    computed.is_true (set_of l.fn.scope) (top_of l.fn.scope) (or_at (nodes_of l.fn.scope) l.fn.expression) (view l.fn.value)
-    ≡ computed.is_true (set_of l.scope) (top_of l.scope) (ors_in (pieces_named (pieces (nodes_of l.scope)) (drop l.part-index l.part-items))) (view l.value)
+abbrev pub invariant-filter::logic::or_holds-loop-part : goal.invariant-filter::logic::or_holds-loop-part
+invariant-filter::logic::or_holds-loop-part g l =
+    computed.is_true (set_of l.fn.scope) (top_of l.fn.scope) (or_at (nodes_of l.fn.scope) l.fn.expression) (view l.fn.current)
+    ≡ computed.is_true (set_of l.scope) (top_of l.scope) (ors_in (pieces_named (pieces (nodes_of l.scope)) (drop l.part-index l.part-items))) (view l.current)
 
-abbrev pub invariant-filter::logic::all_true-loop-part : goal.invariant-filter::logic::all_true-loop-part
-invariant-filter::logic::all_true-loop-part g l =
-    computed.all_true (set_of l.fn.scope) (top_of l.fn.scope) (and_at (nodes_of l.fn.scope) l.fn.expression) (view l.fn.value)
-    ≡ computed.all_true (set_of l.scope) (top_of l.scope) (ands_in (pieces_named (pieces (nodes_of l.scope)) (drop l.part-index l.part-items))) (view l.value)
+abbrev pub invariant-filter::logic::and_holds-loop-part : goal.invariant-filter::logic::and_holds-loop-part
+invariant-filter::logic::and_holds-loop-part g l =
+    computed.all_true (set_of l.fn.scope) (top_of l.fn.scope) (and_at (nodes_of l.fn.scope) l.fn.expression) (view l.fn.current)
+    ≡ computed.all_true (set_of l.scope) (top_of l.scope) (ands_in (pieces_named (pieces (nodes_of l.scope)) (drop l.part-index l.part-items))) (view l.current)
 
 abbrev pub invariant-evaluation::frame::Frame::next_task-loop-selector_ref : goal.invariant-evaluation::frame::Frame::next_task-loop-selector_ref
 invariant-evaluation::frame::Frame::next_task-loop-selector_ref g l =
@@ -98,15 +108,15 @@ invariant-evaluation::stack::find_next-loop-last g l =
 abbrev pub decreases-evaluation::stack::find_next-loop-last : goal.decreases-evaluation::stack::find_next-loop-last
 decreases-evaluation::stack::find_next-loop-last g l = work (stages_at (nodes_of l.scope) l.segments) (frames_view l.frames.items)
 
-abbrev pub invariant-filter::logic::all_from-values : goal.invariant-filter::logic::all_from-values
-invariant-filter::logic::all_from-values g l = record {
+abbrev pub invariant-filter::query::all_from-values : goal.invariant-filter::query::all_from-values
+invariant-filter::query::all_from-values g l = record {
   values : values_from (set_of l.fn.scope) (top_of l.fn.scope) (segments_at (nodes_of l.fn.scope) l.fn.segments) (view l.fn.value)
       ≡ map node_value l.found.items ++ map (λ (n : Located). n.value) (rest_of (set_of l.scope) (top_of l.scope) (stages_at (nodes_of l.scope) l.segments) (frames_view l.frames.items));
   inside : ∥ IsStackIn (top_of l.scope) (frames_view l.frames.items) ∥₁;
 }
 
-abbrev pub decreases-filter::logic::all_from-values : goal.decreases-filter::logic::all_from-values
-decreases-filter::logic::all_from-values g l = work (stages_at (nodes_of l.scope) l.segments) (frames_view l.frames.items)
+abbrev pub decreases-filter::query::all_from-values : goal.decreases-filter::query::all_from-values
+decreases-filter::query::all_from-values g l = work (stages_at (nodes_of l.scope) l.segments) (frames_view l.frames.items)
 
 abbrev pub invariant-filter::call::answer-loop-argument : goal.invariant-filter::call::answer-loop-argument
 invariant-filter::call::answer-loop-argument g l =
@@ -120,6 +130,6 @@ invariant-filter::call::answer-loop-argument g l =
       below : parts_bound parts ≤ l.fn.call.number;
       sound : Sound l.scope (λ signature args. AreTypedArguments signature args kinds) calls_in_arguments left;
       typed : map kind_of_term given ++ kinds ≡ params_of (F.signature (name_of call));
-      means : computed.arguments F (top_of l.scope) (arguments_of call) (params_of (F.signature (name_of call))) (view l.value)
-          ≡ given ++ computed.arguments F (top_of l.scope) left kinds (view l.value);
+      means : computed.arguments F (top_of l.scope) (arguments_of call) (params_of (F.signature (name_of call))) (view l.current)
+          ≡ given ++ computed.arguments F (top_of l.scope) left kinds (view l.current);
     }

@@ -7,6 +7,13 @@ use Rattle.serde_json_path_core.proofs.Words.{greater_or_equal, Compared, nothin
 use Rattle.serde_json_path_core.proofs.Words.{EqualData, EqualItems, EqualMembers, AreEqual, IsLess, Compares, same_amount, rising_amount, same_data}
 use Rattle.serde_json_path_core.proofs.Words.{same_items, same_members, is_same, comes_before, compare}
 use Rattle.std.specs.Cmp.{booleans_Decides}
+use Rattle.std.specs.Float.Ieee.{Float, eq, lt}
+use Rattle.std.specs.Prelude.{Bool, IsTrue}
+use Rattle.serde_json.specs.Data.{Num}
+use Rattle.serde_json_path_numbers.specs.Numbers.{document_number}
+use Rattle.serde_json_path_functions.specs.Functions.{Numbers, whole_numbers, all_numbers}
+use Rattle.serde_json_path_core.specs.Compared.{AreEqualExact, AreRisingExact, EqualNumbers, EqualSides, RisingSides, exact_of}
+use Rattle.serde_json_path_core.specs.Inside.Computed.{rising_exact, rising_sides, same_exact, same_number, same_sides}
 use Rattle.serde_json_path_core.specs.Compared.{value}
 use Rattle.serde_json_path_syntax.proofs.Lists.{always, never}
 
@@ -28,48 +35,75 @@ amounts_rising (Some a) (Some b) = Decides-int_lt a b
 amounts_rising (Some a) None = never
 amounts_rising None b = never
 
-mutual
-  -- two values are the same exactly where they are equal
-  pub data_same : (a b : Data) → Decides (same_data a b) (EqualData a b)
-  data_same null null = always
-  data_same (boolean a) (boolean b) = booleans_Decides a b
-  data_same (number a) (number b) = amounts_same (as_integer a) (as_integer b)
-  data_same (string a) (string b) = bytes_eq-Decides a b
-  data_same (array xs) (array ys) = items_same xs ys
-  data_same (object xs) (object ys) = members_same xs ys
-  data_same _ _ = never
+-- a test that is its own fact
+Decides-true : (b : Bool) → Decides b (IsTrue b)
+Decides-true b = (λ e. e, λ h. h)
 
-  items_same : (xs ys : Items) → Decides (same_items xs ys) (EqualItems xs ys)
-  items_same no_items no_items = always
-  items_same (item a xs) (item b ys) = Decides-and (same_data a b) (same_items xs ys) (data_same a b) (items_same xs ys)
-  items_same _ _ = never
+exact_same : (a b : Option Float) → Decides (same_exact a b) (AreEqualExact a b)
+exact_same (Some a) (Some b) = Decides-true (eq a b)
+exact_same (Some a) None = never
+exact_same None b = never
 
-  members_same : (xs ys : Members) → Decides (same_members xs ys) (EqualMembers xs ys)
-  members_same no_members no_members = always
-  members_same (member k a xs) (member l b ys) =
-      let rest = Decides-and (same_data a b) (same_members xs ys) (data_same a b) (members_same xs ys) in
-      let all = Decides-and (bytes_eq k l) (same_data a b && same_members xs ys) (bytes_eq-Decides k l) rest in
-      (λ e. let h = all.0 e in (h.0, h.1.0, h.1.1), λ h. all.1 (h.0, (h.1, h.2)))
-  members_same _ _ = never
+exact_rising : (a b : Option Float) → Decides (rising_exact a b) (AreRisingExact a b)
+exact_rising (Some a) (Some b) = Decides-true (lt a b)
+exact_rising (Some a) None = never
+exact_rising None b = never
 
--- `==`
-pub Decides-is_same : (a b : Compared) → Decides (is_same a b) (AreEqual a b)
-Decides-is_same nothing nothing = always
-Decides-is_same (value a) (value b) = data_same a b
-Decides-is_same (value a) (billionths b) = amounts_same (amount_of (value a)) (Some b)
-Decides-is_same (billionths a) b = amounts_same (Some a) (amount_of b)
-Decides-is_same _ _ = never
+numbers_same : (numbers : Numbers) (a b : Num) → Decides (same_number numbers a b) (EqualNumbers numbers a b)
+numbers_same whole_numbers a b = amounts_same (as_integer a) (as_integer b)
+numbers_same all_numbers a b = Decides-true (eq (document_number a) (document_number b))
 
--- `<`
-pub Decides-comes_before : (a b : Compared) → Decides (comes_before a b) (IsLess a b)
-Decides-comes_before (value (string a)) (value (string b)) = Decides-is_lt (slice_cmp nat_cmp (chars a) (chars b))
-Decides-comes_before a b = amounts_rising (amount_of a) (amount_of b)
+sides_same : (numbers : Numbers) (a b : Compared) → Decides (same_sides numbers a b) (EqualSides numbers a b)
+sides_same whole_numbers a b = amounts_same (amount_of a) (amount_of b)
+sides_same all_numbers a b = exact_same (exact_of a) (exact_of b)
 
--- a comparison of what two sides stand for holds exactly where it computes to true
-pub Decides-compare : (op : Operator) (a b : Compared) → Decides (compare op a b) (Compares op a b)
-Decides-compare equal a b = Decides-is_same a b
-Decides-compare not_equal a b = Decides-not (is_same a b) (Decides-is_same a b)
-Decides-compare less a b = Decides-comes_before a b
-Decides-compare less_or_equal a b = Decides-or (comes_before a b) (is_same a b) (Decides-comes_before a b) (Decides-is_same a b)
-Decides-compare greater a b = Decides-comes_before b a
-Decides-compare greater_or_equal a b = Decides-or (comes_before b a) (is_same b a) (Decides-comes_before b a) (Decides-is_same b a)
+sides_rising : (numbers : Numbers) (a b : Compared) → Decides (rising_sides numbers a b) (RisingSides numbers a b)
+sides_rising whole_numbers a b = amounts_rising (amount_of a) (amount_of b)
+sides_rising all_numbers a b = exact_rising (exact_of a) (exact_of b)
+
+module _ (numbers : Numbers) where
+  mutual
+    -- two values are the same exactly where they are equal
+    pub data_same : (a b : Data) → Decides (same_data numbers a b) (EqualData numbers a b)
+    data_same null null = always
+    data_same (boolean a) (boolean b) = booleans_Decides a b
+    data_same (number a) (number b) = numbers_same numbers a b
+    data_same (string a) (string b) = bytes_eq-Decides a b
+    data_same (array xs) (array ys) = items_same xs ys
+    data_same (object xs) (object ys) = members_same xs ys
+    data_same _ _ = never
+
+    items_same : (xs ys : Items) → Decides (same_items numbers xs ys) (EqualItems numbers xs ys)
+    items_same no_items no_items = always
+    items_same (item a xs) (item b ys) = Decides-and (same_data numbers a b) (same_items numbers xs ys) (data_same a b) (items_same xs ys)
+    items_same _ _ = never
+
+    members_same : (xs ys : Members) → Decides (same_members numbers xs ys) (EqualMembers numbers xs ys)
+    members_same no_members no_members = always
+    members_same (member k a xs) (member l b ys) =
+        let rest = Decides-and (same_data numbers a b) (same_members numbers xs ys) (data_same a b) (members_same xs ys) in
+        let all = Decides-and (bytes_eq k l) (same_data numbers a b && same_members numbers xs ys) (bytes_eq-Decides k l) rest in
+        (λ e. let h = all.0 e in (h.0, h.1.0, h.1.1), λ h. all.1 (h.0, (h.1, h.2)))
+    members_same _ _ = never
+
+  -- `==`
+  pub Decides-is_same : (a b : Compared) → Decides (is_same numbers a b) (AreEqual numbers a b)
+  Decides-is_same nothing nothing = always
+  Decides-is_same (value a) (value b) = data_same a b
+  Decides-is_same (value a) (billionths b) = sides_same numbers (value a) (billionths b)
+  Decides-is_same (billionths a) b = sides_same numbers (billionths a) b
+  Decides-is_same _ _ = never
+
+  -- `<`
+  pub Decides-comes_before : (a b : Compared) → Decides (comes_before numbers a b) (IsLess numbers a b)
+  Decides-comes_before (value (string a)) (value (string b)) = Decides-is_lt (slice_cmp nat_cmp (chars a) (chars b))
+  Decides-comes_before a b = sides_rising numbers a b
+
+  -- a comparison of what two sides stand for holds exactly where it computes to true
+  pub Decides-compare : (op : Operator) (a b : Compared) → Decides (compare numbers op a b) (Compares numbers op a b)
+  Decides-compare equal a b = Decides-is_same a b
+  Decides-compare not_equal a b = Decides-not (is_same numbers a b) (Decides-is_same a b)
+  Decides-compare less a b = Decides-comes_before a b
+  Decides-compare less_or_equal a b = Decides-or (comes_before numbers a b) (is_same numbers a b) (Decides-comes_before a b) (Decides-is_same a b)
+  Decides-compare greater a b = Decides-comes_before b a
+  Decides-compare greater_or_equal a b = Decides-or (comes_before numbers b a) (is_same numbers b a) (Decides-comes_before b a) (Decides-is_same b a)

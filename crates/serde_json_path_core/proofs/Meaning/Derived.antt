@@ -1,5 +1,6 @@
 -- The computed ends are those of the derivations, and the computed tests hold where the defined ones do.
 use Rattle.std.proofs.Common.{◌≡◌, ℕ, zero, suc, ◌+◌, List, [], ◌∷◌, ◌++◌, map, ◌↔◌, inl, inr, Bool, true, Option, Some, None, option_and_then, option_to_list, refl, sym, ap, subst, ◌∙◌, arith, true≢false, append_assoc, zero-add}
+use Rattle.serde_json_path_functions.specs.Functions.{Numbers}
 use Rattle.serde_json_path_core.proofs.Words.{Decides, AllZip, Decides-and, Decides-or, Decides-not, same_from_decides, same_Some, none-some, Data, Step}
 use Rattle.serde_json_path_core.proofs.Words.{by_name, child_at, at, Located, QueryKind, Query, query, SegmentKind, child, descendant, Segments, no_segments}
 use Rattle.serde_json_path_core.proofs.Words.{segment, Segment, dot_name, dot_wildcard, long_hand, Selectors, no_selectors, selector, Selector, name, wildcard}
@@ -72,15 +73,15 @@ truth_of : (P : Type 0) (b : Bool) (t : Term) → Decides b P → IsTruthOf P t 
 truth_of P b t d = (λ h. h.1 ∙ ap logical (same_from_decides h.0 b h.2 d), λ e. (b, e, d))
 
 -- a relation of what the sides stand for
-relation_right : (op : Operator) (o p : Option Compared) (A B : Compared → Type 0) → ((x : Compared) → A x ↔ (o ≡ Some x)) → ((y : Compared) → B y ↔ (p ≡ Some y))
-    → Decides (compare_sides op o p) ((x y : Compared) × A x × B y × Compares op x y)
-relation_right op (Some a) (Some b) A B f g =
-    let d = Decides-compare op a b in (
+relation_right : (numbers : Numbers) (op : Operator) (o p : Option Compared) (A B : Compared → Type 0) → ((x : Compared) → A x ↔ (o ≡ Some x)) → ((y : Compared) → B y ↔ (p ≡ Some y))
+    → Decides (compare_sides numbers op o p) ((x y : Compared) × A x × B y × Compares numbers op x y)
+relation_right numbers op (Some a) (Some b) A B f g =
+    let d = Decides-compare numbers op a b in (
       λ e. (a, b, (f a).1 refl, (g b).1 refl, d.0 e),
-      λ h. d.1 (subst (λ x. Compares op x b) (sym (same_Some a h.0 ((f h.0).0 h.2))) (subst (Compares op h.0) (sym (same_Some b h.1 ((g h.1).0 h.3))) h.4)),
+      λ h. d.1 (subst (λ x. Compares numbers op x b) (sym (same_Some a h.0 ((f h.0).0 h.2))) (subst (Compares numbers op h.0) (sym (same_Some b h.1 ((g h.1).0 h.3))) h.4)),
     )
-relation_right op None p A B f g = (λ e. absurd (true≢false (sym e)), λ h. absurd (none-some h.0 ((f h.0).0 h.2)))
-relation_right op (Some a) None A B f g = (λ e. absurd (true≢false (sym e)), λ h. absurd (none-some h.1 ((g h.1).0 h.3)))
+relation_right numbers op None p A B f g = (λ e. absurd (true≢false (sym e)), λ h. absurd (none-some h.0 ((f h.0).0 h.2)))
+relation_right numbers op (Some a) None A B f g = (λ e. absurd (true≢false (sym e)), λ h. absurd (none-some h.1 ((g h.1).0 h.3)))
 
 -- an answer as a side of a comparison
 answer_side : (a : Term) (A : Term → Type 0) → ((t : Term) → A t ↔ (t ≡ a)) → (x : Compared) → ((o : Option Data) × A (value o) × (x ≡ value_compared o)) ↔ (answer_compared a ≡ Some x)
@@ -291,7 +292,7 @@ module _ (F : FunctionSet) (top : Data) where
     basic_right (paren e) typed v = or_right e typed v
     basic_right (not_paren e) typed v = Decides-not (is_true F top e v) (or_right e typed v)
     basic_right (relation a op b) typed v =
-        relation_right op (compared F top a v) (compared F top b v) (IsComparedAs F top a v) (IsComparedAs F top b v) (compared_right a typed.0 v) (compared_right b typed.1 v)
+        relation_right F.numbers op (compared F top a v) (compared F top b v) (IsComparedAs F top a v) (IsComparedAs F top b v) (compared_right a typed.0 v) (compared_right b typed.1 v)
     basic_right (exist q) typed v = (query_right q typed v).1
     basic_right (not_exist q) typed v = Decides-not (is_nonempty (results F top q v)) (query_right q typed v).1
     basic_right (test c) typed v = answer_test (answer F top c v) (Answers F top c v) (call_right c typed.0 v)

@@ -56,8 +56,8 @@ alone false = refl
 
 -- it holds where the comparison does
 pub only-comparison : (F : FunctionSet) (top : Data) (e : LogicalOr) (x : Comparable) (op : Operator) (y : Comparable)
-    → e ≡ or (and (relation x op y) no_and) no_or → (v : Data) → is_true F top e v ≡ compare_sides op (compared F top x v) (compared F top y v)
-only-comparison F top e x op y is v = ap (λ e. is_true F top e v) is ∙ alone (compare_sides op (compared F top x v) (compared F top y v))
+    → e ≡ or (and (relation x op y) no_and) no_or → (v : Data) → is_true F top e v ≡ compare_sides F.numbers op (compared F top x v) (compared F top y v)
+only-comparison F top e x op y is v = ap (λ e. is_true F top e v) is ∙ alone (compare_sides F.numbers op (compared F top x v) (compared F top y v))
 
 -- ---- a look-up in a map or a vector finds what the same look-up in their data finds
 

@@ -6,7 +6,12 @@ use Rattle.serde_json_path_core.proofs.Words.{stage_at, stage_of, Stage, piece_a
 use Rattle.serde_json_path_core.proofs.Words.{flat_map-same, map-flat_map, chosen, descents, itself, placed, reached, results, results_from, start_of}
 use Rattle.serde_json_path_core.proofs.Words.{beneath, first_value, admitted, candidates, AreChildrenOf, EndsIn, IsIn, child_at, SelectOnly}
 use Rattle.serde_json_path_core.proofs.Words.{single_view, values_from}
-use Rattle.std.proofs.Common.{◌≡◌, ℕ, ◌+◌, ◌<◌, List, [], ◌∷◌, ◌++◌, ◌-◌, ◌≤◌, map, take, drop, flat_map, length, get_or, arith, subst, inl, Option, Some, None, option_to_list, slice_get, slice_index_or, refl, sym, ap, ◌∙◌}
+use Rattle.std.proofs.Common.{◌≡◌, ℕ, ◌+◌, ◌<◌, List, [], ◌∷◌, ◌++◌, ◌-◌, ◌≤◌, map, option_map, take, drop, flat_map, length, get_or, arith, subst, inl, Option, Some, None, option_to_list, slice_get, slice_index_or, true, refl, sym, ap, ◌∙◌}
+use Rattle.serde_json_path_syntax.specs.Kinds.{are_singular}
+use Rattle.serde_json_path_syntax.specs.Tree.{dot_name, index, long_hand, name, no_selectors, selector}
+use Rattle.serde_json_path_nodes.specs.Views.{node_value}
+use Rattle.serde_json_path_core.specs.Inside.SingleChildren.{is_single, values_reached}
+use Rattle.serde_json_path_core.specs.declared.evaluation.single_children.Reached.{Reached}
 use Rattle.serde_json_path_core.proofs.Walks.Frames.{candidates-of}
 use Rattle.serde_json_path_core.specs.declared.evaluation.single_children.SingleSelector.{SingleSelector}
 use Rattle.serde_json_path_core.specs.declared.evaluation.single_children.SingleSelector.TheVariants as single
@@ -45,6 +50,21 @@ child-selected s v c e = candidates-of (single_view s) v c (subst (IsIn c) e (in
 pub only_stage : (stage : Stage) (sel : Selector) → stage.kind ≡ child → slice_get stage.selectors 0 ≡ Some sel → slice_get stage.selectors 1 ≡ None
     → stage ≡ record { kind = child; selectors = sel ∷ [] }
 only_stage stage sel kind some none = let sels = alone stage.selectors sel some none in λ i. record { kind = kind i; selectors = sels i }
+
+-- a segment of a singular query is one of a name or an index
+pub singular_stage : (kind : SegmentKind) (seg : Segment) (more : Segments) → are_singular (segment kind seg more) ≡ true
+    → (sel : Selector) × (stage_of kind seg ≡ record { kind = child; selectors = sel ∷ [] }) × (is_single sel ≡ true) × (are_singular more ≡ true)
+singular_stage child (dot_name k) more h = (name k, refl, refl, h)
+singular_stage child (long_hand (selector (name k) no_selectors)) more h = (name k, refl, refl, h)
+singular_stage child (long_hand (selector (index i) no_selectors)) more h = (index i, refl, refl, h)
+singular_stage _ _ more h = absurd cc
+
+-- the same of one part more of so many
+pub next-singular : (nodes : List Node) (parts : List Part) (i : ℕ) (part : Part) → i < length parts → part ≡ get_or parts i part → are_singular (segments_at nodes (drop i parts)) ≡ true
+    → (sel : Selector) × (stage_at nodes part ≡ record { kind = child; selectors = sel ∷ [] }) × (is_single sel ≡ true) × (are_singular (segments_at nodes (drop (i + 1) parts)) ≡ true)
+next-singular nodes parts i part within is h =
+    singular_stage (segment_kind_in (piece_at nodes part.number)) (segment_in (piece_at nodes part.number)) (segments_at nodes (drop (i + 1) parts))
+    (subst (λ ps. are_singular (segments_at nodes ps) ≡ true) (drop_more parts i part within ∙ ap (λ p. p ∷ drop (i + 1) parts) (sym is)) h)
 
 -- it is that of a name or an index, if this is the selector
 pub single_stage : (stage : Stage) (sel : Selector) (single : Option SingleSelector) → stage ≡ record { kind = child; selectors = sel ∷ [] }
@@ -123,12 +143,15 @@ pub first-of-values : (ns : List Located) → first_value ns ≡ slice_get (map 
 first-of-values [] = refl
 first-of-values (n ∷ ns) = refl
 
--- where no segment is left, the first value is the one that was reached
-pub first-reached : (F : FunctionSet) (top : Data) (nodes : List Node) (ns : List Located) (parts : List Part) (found : Option (Bor Value)) (node : Bor Value)
-    → map value_of ns ≡ option_map_or (λ (v : Bor Value). values_from F top (segments_at nodes parts) (view v.now)) found [] → found ≡ Some node → length parts ≡ 0 → first_value ns ≡ Some (view node.now)
-first-reached F top nodes ns [] found node e is none =
-    first-of-values ns ∙ ap (λ vs. slice_get vs 0) (e ∙ ap (λ (o : Option (Bor Value)). option_map_or (λ (v : Bor Value). values_from F top (segments_at nodes []) (view v.now)) o []) is)
-first-reached F top nodes ns (part ∷ parts) found node e is none = absurd (omega arith)
+-- what a singular query selects is what is reached
+pub first-reached : (F : FunctionSet) (top : Data) (nodes : List Node) (reached : Reached) → IfSome reached.value (λ v. reached.segments.now ≡ [])
+    → option_map node_value reached.value ≡ slice_get (values_reached F top nodes reached) 0
+first-reached F top nodes reached h = by reached.value h
+  where
+    by : (found : Option (Bor Value)) → IfSome found (λ v. reached.segments.now ≡ [])
+        → option_map node_value found ≡ slice_get (option_map_or (λ (v : Bor Value). values_from F top (segments_at nodes reached.segments.now) (view v.now)) found []) 0
+    by None h = refl
+    by (Some v) h = sym (ap (λ parts. slice_get (values_from F top (segments_at nodes parts) (view v.now)) 0) h)
 
 -- ---- segments that are one child segment of one selector
 

@@ -1,8 +1,10 @@
 -- What a query selects, computed.
 use Rattle.std.specs.Prelude.{ℕ, ◌+◌, ◌-◌, nat_lt, ℤ, pos, negsuc, Option, Some, None, option_map, option_and_then, if◌then◌else◌, zero, suc, ◌/◌, ◌+ℤ◌, ◌-ℤ◌, int_lt, nat_abs, List, [], ◌∷◌, ◌++◌, map, flat_map, filter as keep, Bool, true, false, not, ◌&&◌, ◌||◌, option_to_list, bytes_eq}
-use Rattle.serde_json.specs.Data.{Data, array, null as null_data, boolean, number, string, object, Items, no_items, item, Members, no_members, member, put}
+use Rattle.serde_json.specs.Data.{Num, Data, array, null as null_data, boolean, number, string, object, Items, no_items, item, Members, no_members, member, put}
 use Rattle.serde_json.specs.Events.{items_len}
 use Rattle.serde_json_path_nodes.specs.Location.{Step, by_position, child_at, by_name, Located}
+use Rattle.std.specs.Float.Ieee.{Float, eq, lt}
+use Rattle.serde_json_path_numbers.specs.Numbers.{document_number}
 use Rattle.std.specs.Bool.{beq}
 use Rattle.std.specs.Option.{option_map_or}
 use Rattle.std.specs.Ordering.{nat_cmp, int_eq, is_lt}
@@ -12,9 +14,9 @@ use Rattle.std.specs.Str.{chars}
 use Rattle.serde_json.specs.Find.{get_item, as_integer}
 use Rattle.serde_json_path_syntax.specs.Tree.{Query, query, Segments, no_segments, segment, SegmentKind, child, descendant, Segment, dot_name, dot_wildcard, long_hand, Selectors, no_selectors, selector, Selector, name, wildcard, index, slice, filter, Slice, LogicalOr, no_or, or, LogicalAnd, no_and, and, Basic, paren, not_paren, relation, exist, not_exist, test, not_test, Operator, equal, not_equal, less, less_or_equal, greater, greater_or_equal, Comparable, literal, singular, called, Call, call, Arguments, no_arguments, argument, Argument, literal_argument, query_argument, call_argument, logical_argument}
 use Rattle.serde_json_path_core.specs.Slices.{step_of, bound_of}
-use Rattle.serde_json_path_functions.specs.Functions.{Kind, of_value, of_nodes, of_logical, Term, nodes, logical, FunctionSet}
+use Rattle.serde_json_path_functions.specs.Functions.{Kind, of_value, of_nodes, of_logical, Term, nodes, logical, FunctionSet, Numbers, whole_numbers, all_numbers}
 use Rattle.serde_json_path_functions.specs.Functions as functions
-use Rattle.serde_json_path_core.specs.Compared.{Compared, nothing, value, billionths, amount_of, literal_compared, value_compared}
+use Rattle.serde_json_path_core.specs.Compared.{Compared, nothing, value, billionths, amount_of, exact_of, literal_compared, value_compared}
 use Rattle.serde_json_path_core.specs.Derivation.{start_of, beneath}
 use Rattle.serde_json_path_core.specs.Meaning.{literal_value, first_value, params_of}
 
@@ -160,55 +162,80 @@ abbrev pub rising_amount : Option ℤ → Option ℤ → Bool
 rising_amount (Some a) (Some b) = int_lt a b
 rising_amount _ _ = false
 
-abbrev mutual
-  -- whether two values are equal
-  pub same_data : Data → Data → Bool
-  same_data null_data null_data = true
-  same_data (boolean a) (boolean b) = beq a b
-  same_data (number a) (number b) = same_amount (as_integer a) (as_integer b)
-  same_data (string a) (string b) = bytes_eq a b
-  same_data (array xs) (array ys) = same_items xs ys
-  same_data (object xs) (object ys) = same_members xs ys
-  same_data _ _ = false
+-- the same of exact numbers
+abbrev pub same_exact : Option Float → Option Float → Bool
+same_exact (Some a) (Some b) = eq a b
+same_exact _ _ = false
 
-  -- whether two arrays are equal, item by item
-  pub same_items : Items → Items → Bool
-  same_items no_items no_items = true
-  same_items (item a xs) (item b ys) = same_data a b && same_items xs ys
-  same_items _ _ = false
+abbrev pub rising_exact : Option Float → Option Float → Bool
+rising_exact (Some a) (Some b) = lt a b
+rising_exact _ _ = false
 
-  -- whether two objects are equal, by their names and values in order
-  pub same_members : Members → Members → Bool
-  same_members no_members no_members = true
-  same_members (member k a xs) (member l b ys) = bytes_eq k l && (same_data a b && same_members xs ys)
-  same_members _ _ = false
+-- two numbers of documents are equal
+abbrev pub same_number : Numbers → Num → Num → Bool
+same_number whole_numbers a b = same_amount (as_integer a) (as_integer b)
+same_number all_numbers a b = eq (document_number a) (document_number b)
 
--- `==`
-abbrev pub is_same : Compared → Compared → Bool
-is_same nothing nothing = true
-is_same (value a) (value b) = same_data a b
-is_same (value a) (billionths b) = same_amount (amount_of (value a)) (Some b)
-is_same (billionths a) b = same_amount (Some a) (amount_of b)
-is_same _ _ = false
+-- two sides are numbers, one at least of a literal, and equal
+abbrev pub same_sides : Numbers → Compared → Compared → Bool
+same_sides whole_numbers a b = same_amount (amount_of a) (amount_of b)
+same_sides all_numbers a b = same_exact (exact_of a) (exact_of b)
 
--- `<`
-abbrev pub comes_before : Compared → Compared → Bool
-comes_before (value (string a)) (value (string b)) = is_lt (slice_cmp nat_cmp (chars a) (chars b))
-comes_before a b = rising_amount (amount_of a) (amount_of b)
+-- two sides are numbers, and the first is less
+abbrev pub rising_sides : Numbers → Compared → Compared → Bool
+rising_sides whole_numbers a b = rising_amount (amount_of a) (amount_of b)
+rising_sides all_numbers a b = rising_exact (exact_of a) (exact_of b)
 
--- a comparison of what its sides stand for
-abbrev pub compare : Operator → Compared → Compared → Bool
-compare equal a b = is_same a b
-compare not_equal a b = not (is_same a b)
-compare less a b = comes_before a b
-compare less_or_equal a b = comes_before a b || is_same a b
-compare greater a b = comes_before b a
-compare greater_or_equal a b = comes_before b a || is_same b a
+module _ (numbers : Numbers) where
+  abbrev mutual
+    -- whether two values are equal
+    pub same_data : Data → Data → Bool
+    same_data null_data null_data = true
+    same_data (boolean a) (boolean b) = beq a b
+    same_data (number a) (number b) = same_number numbers a b
+    same_data (string a) (string b) = bytes_eq a b
+    same_data (array xs) (array ys) = same_items xs ys
+    same_data (object xs) (object ys) = same_members xs ys
+    same_data _ _ = false
 
--- the same, where a side may stand for nothing that is compared: then it is false
-abbrev pub compare_sides : Operator → Option Compared → Option Compared → Bool
-compare_sides op (Some a) (Some b) = compare op a b
-compare_sides op _ _ = false
+    -- whether two arrays are equal, item by item
+    pub same_items : Items → Items → Bool
+    same_items no_items no_items = true
+    same_items (item a xs) (item b ys) = same_data a b && same_items xs ys
+    same_items _ _ = false
+
+    -- whether two objects are equal, by their names and values in order
+    pub same_members : Members → Members → Bool
+    same_members no_members no_members = true
+    same_members (member k a xs) (member l b ys) = bytes_eq k l && (same_data a b && same_members xs ys)
+    same_members _ _ = false
+
+  -- `==`
+  abbrev pub is_same : Compared → Compared → Bool
+  is_same nothing nothing = true
+  is_same (value a) (value b) = same_data a b
+  is_same (value a) (billionths b) = same_sides numbers (value a) (billionths b)
+  is_same (billionths a) b = same_sides numbers (billionths a) b
+  is_same _ _ = false
+
+  -- `<`
+  abbrev pub comes_before : Compared → Compared → Bool
+  comes_before (value (string a)) (value (string b)) = is_lt (slice_cmp nat_cmp (chars a) (chars b))
+  comes_before a b = rising_sides numbers a b
+
+  -- a comparison of what its sides stand for
+  abbrev pub compare : Operator → Compared → Compared → Bool
+  compare equal a b = is_same a b
+  compare not_equal a b = not (is_same a b)
+  compare less a b = comes_before a b
+  compare less_or_equal a b = comes_before a b || is_same a b
+  compare greater a b = comes_before b a
+  compare greater_or_equal a b = comes_before b a || is_same b a
+
+  -- the same, where a side may stand for nothing that is compared: then it is false
+  abbrev pub compare_sides : Operator → Option Compared → Option Compared → Bool
+  compare_sides op (Some a) (Some b) = compare op a b
+  compare_sides op _ _ = false
 
 -- ---- answers of calls (section 2.4)
 
@@ -288,7 +315,7 @@ module _ (F : FunctionSet) (top : Data) where
     pub basic_true : Basic → Data → Bool
     basic_true (paren e) v = is_true e v
     basic_true (not_paren e) v = not (is_true e v)
-    basic_true (relation a op b) v = compare_sides op (compared a v) (compared b v)
+    basic_true (relation a op b) v = compare_sides F.numbers op (compared a v) (compared b v)
     basic_true (exist q) v = is_nonempty (results q v)
     basic_true (not_exist q) v = not (is_nonempty (results q v))
     basic_true (test c) v = answer_holds (answer c v)

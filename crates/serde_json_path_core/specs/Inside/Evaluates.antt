@@ -9,8 +9,6 @@ use Rattle.serde_json_path_syntax.specs.Typing.{IsTyped, AreTypedSegments, IsTyp
 use Rattle.serde_json_path_syntax.specs.declared.node.Part.{Part}
 use Rattle.serde_json_path_syntax.specs.declared.selector_ref.SelectorRef.{SelectorRef}
 use Rattle.serde_json_path_syntax.specs.Flat.{or_at, and_at, basic_at, comparable_at, call_at, argument_at, part_query, segment_at, segments_at}
-use Rattle.serde_json_path_syntax.specs.Literals.{operator_view}
-use Rattle.serde_json_path_syntax.specs.declared.operator.ComparisonOperator.{ComparisonOperator}
 use Rattle.serde_json_path_syntax.specs.Stages.{selector_view, stage_at, stages_at}
 use Rattle.serde_json_path_core.specs.Inside.Rest as advances
 use Rattle.serde_json_path_core.specs.Compared.{Compared}
@@ -71,10 +69,6 @@ basic_holds scope part v = computed.basic_true (set_of scope) (top_of scope) (ba
 -- what a side of a comparison stands for
 abbrev pub compared_at : {F : Type 0} {g : _} → Scope F g → Part → Data → Option Compared
 compared_at scope part v = computed.compared (set_of scope) (top_of scope) (comparable_at (nodes_of scope) part) v
-
--- whether a comparison of two comparables holds
-abbrev pub relation_holds : {F : Type 0} {g : _} → Scope F g → Part → ComparisonOperator → Part → Data → Bool
-relation_holds scope left operator right v = computed.compare_sides (operator_view operator) (compared_at scope left v) (compared_at scope right v)
 
 -- what a call answers
 abbrev pub answer_at : {F : Type 0} {g : _} → Scope F g → Part → Data → Term

@@ -1,5 +1,5 @@
 -- Where a query goes on after segments that select one child at most (RFC 9535, section 2.3.5.1).
-use Rattle.std.specs.Prelude.{◌≡◌, List, [], map}
+use Rattle.std.specs.Prelude.{◌≡◌, List, [], map, Bool, true, false}
 use Rattle.std.specs.Option.{option_map_or}
 use Rattle.serde_json.specs.Data.{Data}
 use Rattle.serde_json.specs.View.{view}
@@ -18,6 +18,12 @@ use Rattle.serde_json_path_core.specs.declared.evaluation.single_children.Single
 abbrev pub single_view : SingleSelector → Selector
 single_view (single.Name k) = name k.now
 single_view (single.Index i) = index i
+
+-- it is a name or an index
+abbrev pub is_single : Selector → Bool
+is_single (name k) = true
+is_single (index i) = true
+is_single _ = false
 
 -- the values that segments select from a value, in order
 abbrev pub values_from : FunctionSet → Data → Segments → Data → List Data

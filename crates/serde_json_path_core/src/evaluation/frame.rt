@@ -19,8 +19,8 @@ ghost use Rattle.serde_json_path_functions.specs.declared.error.QueryError.TheVa
 use crate::child::{Child, item, member};
 use crate::evaluation::cursor::Cursor;
 use crate::evaluation::scope::Scope;
-use crate::filter::logic::is_true_by;
-use crate::filter::single_comparison::single_comparison;
+use crate::filter::comparison::only_comparison;
+use crate::filter::logic::filter_holds;
 use serde_json::Value;
 use serde_json_path_functions::{Functions, QueryError};
 use serde_json_path_nodes::PathElement;
@@ -229,9 +229,9 @@ fn next_passing<'b, F: Functions>(
         (cursor_left cursor.new) (option_map child_view found)) }
     ensures refused { IfErr result (λ e. e ≡ Pattern → MayRefuse scope.now) }
 {
-    let comparison = single_comparison(scope, test);
+    let comparison = only_comparison(scope, test);
     while let Some(child) = cursor.peek() {
-        if is_true_by(scope, test, comparison.as_ref(), child.value)? {
+        if filter_holds(scope, test, comparison.as_ref(), child.value)? {
             return Ok(Some(child));
         }
         cursor.pass();

@@ -1,6 +1,6 @@
 //! Going down by segments that select one child at most, without a frame.
 
-ghost use Rattle.std.specs.Prelude.{◌≡◌, ◌∷◌, [], ◌≤◌, ◌<◌, List, IfSome, IsTrue, length, option_map, option_to_list};
+ghost use Rattle.std.specs.Prelude.{◌≡◌, ◌∷◌, [], ◌≤◌, ◌<◌, List, IfSome, IsSome, IsTrue, true, length, option_map, option_to_list};
 ghost use Rattle.serde_json.specs.Data.{Data};
 ghost use Rattle.serde_json.specs.View.{view};
 ghost use Rattle.serde_json_path_functions.specs.Functions.{FunctionSet};
@@ -9,11 +9,12 @@ ghost use Rattle.serde_json_path_syntax.specs.Parts.{nodes_in};
 ghost use Rattle.serde_json_path_syntax.specs.PartBounds.{parts_bound};
 ghost use Rattle.serde_json_path_syntax.specs.Stages.{selector_view, stage_at};
 ghost use Rattle.serde_json_path_syntax.specs.declared.node.Node.{Node};
-ghost use Rattle.serde_json_path_syntax.specs.Tree.{child, wildcard};
+ghost use Rattle.serde_json_path_syntax.specs.Kinds.{are_singular};
+ghost use Rattle.serde_json_path_syntax.specs.Tree.{Selector, child, wildcard};
 ghost use Rattle.serde_json_path_syntax.specs.Typing.{AreTypedSegments, IsTypedSegment, UnderSome};
 ghost use Rattle.serde_json_path_core.specs.PatternCalls.{StandsIn};
 ghost use Rattle.serde_json_path_core.specs.Inside.Rest.{candidates, EndsIn};
-ghost use Rattle.serde_json_path_core.specs.Inside.SingleChildren.{SelectOnly, single_view, values_from, values_reached};
+ghost use Rattle.serde_json_path_core.specs.Inside.SingleChildren.{SelectOnly, is_single, single_view, values_from, values_reached};
 ghost use Rattle.serde_json_path_core.specs.Inside.Views.{child_view};
 
 use crate::child::{Child, item, member};
@@ -41,8 +42,10 @@ pub(crate) struct Reached<'q, 'b> {
 /// A name or an index; `None` for any other selector.
 #[inline(always)]
 fn name_or_index(selector_ref: SelectorRef<'_>) -> Option<SingleSelector<'_>>
-    ensures { (nodes : List Node) → IfSome result (λ single.
+    ensures is { (nodes : List Node) → IfSome result (λ single.
         selector_view nodes selector_ref.entry ≡ single_view single) }
+    ensures each { (nodes : List Node) → is_single (selector_view nodes selector_ref.entry) ≡ true
+        → IsSome result }
 {
     match selector_ref {
         SelectorRef::Name(name) => Some(SingleSelector::Name(name)),
@@ -56,8 +59,10 @@ fn name_or_index(selector_ref: SelectorRef<'_>) -> Option<SingleSelector<'_>>
 fn only_selector(query: &Checked, segment: Part) -> Option<SelectorRef<'_>>
     requires within { segment.number < length (nodes_in query.now) }
     requires typed { UnderSome IsTypedSegment (segment_at (nodes_in query.now) segment) }
-    ensures { IfSome result (λ only. stage_at (nodes_in query.now) segment
+    ensures is { IfSome result (λ only. stage_at (nodes_in query.now) segment
         ≡ record { kind = child; selectors = selector_view (nodes_in query.now) only ∷ [] }) }
+    ensures each { (only : Selector) → stage_at (nodes_in query.now) segment
+        ≡ record { kind = child; selectors = only ∷ [] } → IsSome result }
 {
     match query.segment_kind(segment) {
         SegmentKind::Descendant => None,
@@ -76,8 +81,10 @@ fn only_selector(query: &Checked, segment: Part) -> Option<SelectorRef<'_>>
 fn single_selector(query: &Checked, segment: Part) -> Option<SingleSelector<'_>>
     requires within { segment.number < length (nodes_in query.now) }
     requires typed { UnderSome IsTypedSegment (segment_at (nodes_in query.now) segment) }
-    ensures { IfSome result (λ single. stage_at (nodes_in query.now) segment
+    ensures is { IfSome result (λ single. stage_at (nodes_in query.now) segment
         ≡ record { kind = child; selectors = single_view single ∷ [] }) }
+    ensures each { (only : Selector) → stage_at (nodes_in query.now) segment
+        ≡ record { kind = child; selectors = only ∷ [] } → is_single only ≡ true → IsSome result }
 {
     match only_selector(query, segment) {
         Some(only) => name_or_index(only),
@@ -86,6 +93,7 @@ fn single_selector(query: &Checked, segment: Part) -> Option<SingleSelector<'_>>
 }
 
 /// The name or index of which segments consist; `None` for any others.
+#[inline(always)]
 pub(crate) fn only_child<'q>(query: &'q Checked, segments: &[Part]) -> Option<SingleSelector<'q>>
     requires within { parts_bound segments.now ≤ length (nodes_in query.now) }
     requires typed { UnderSome AreTypedSegments (segments_at (nodes_in query.now) segments.now) }
@@ -134,6 +142,8 @@ pub(crate) fn go_down<'q, 'b>(
     ensures selects { (F : FunctionSet) (top : Data)
         → values_from F top (segments_at (nodes_in query.now) segments.now) (view value.now)
         ≡ values_reached F top (nodes_in query.now) result }
+    ensures whole { are_singular (segments_at (nodes_in query.now) segments.now) ≡ true
+        → IfSome result.value (λ v. result.segments.now ≡ []) }
     ensures ends { EndsIn segments.now result.segments.now }
     ensures inside { (top : Data) → StandsIn top (view value.now)
         → IfSome result.value (λ v. StandsIn top (view v.now)) }

@@ -2,9 +2,8 @@
 
 ghost use Rattle.std.specs.Prelude.{◌≡◌, ◌<◌, Some, IfOk, IfErr, length};
 ghost use Rattle.serde_json.specs.View.{view};
-ghost use Rattle.serde_json_path_functions.specs.Functions.{kind_of_term, of_value};
+ghost use Rattle.serde_json_path_functions.specs.Functions.{kind_of_term};
 ghost use Rattle.serde_json_path_core.specs.Inside.Evaluates.{SoundArgument, SoundCall, SoundQuery, answer_at, given_at, results_at};
-ghost use Rattle.serde_json_path_core.specs.Inside.Sides.{compared_view};
 ghost use Rattle.serde_json_path_functions.specs.Terms.{kind_view, term_view};
 ghost use Rattle.serde_json_path_syntax.specs.Typing.{result_kind};
 ghost use Rattle.serde_json_path_core.specs.PatternCalls.{StandsIn};
@@ -14,13 +13,13 @@ ghost use Rattle.serde_json_path_core.specs.Inside.Scopes.{MayRefuse, nodes_of, 
 ghost use Rattle.serde_json_path_functions.specs.declared.error.QueryError.TheVariants.{Pattern};
 
 use crate::evaluation::scope::Scope;
-use crate::filter::logic::{all_values, first, is_true};
-use crate::filter::side::{ComparedValue, Side, side_of_value};
+use crate::filter::logic::or_holds;
+use crate::filter::query::{all_values, first};
 use serde_json::Value;
 use serde_json_path_functions::{
     FunctionArgType, FunctionValue, Functions, LogicalType, NodesType, QueryError, ValueType,
 };
-use serde_json_path_syntax::{Argument, Node, Part};
+use serde_json_path_syntax::{Argument, LiteralValue, Node, Part};
 
 /// Whether a function's answer holds as a test (RFC 9535, section 2.4.2).
 pub(crate) fn answer_holds(answer: &FunctionValue<'_>) -> bool
@@ -30,19 +29,6 @@ pub(crate) fn answer_holds(answer: &FunctionValue<'_>) -> bool
         FunctionValue::Value(_) => false,
         FunctionValue::Nodes(nodes) => !nodes.is_empty(),
         FunctionValue::Logical(truth) => *truth == LogicalType::True,
-    }
-}
-
-/// An answer of type Value as a side of a comparison (RFC 9535, section 2.4.2).
-pub(crate) fn compared_answer<'x>(answer: FunctionValue<'x>) -> ComparedValue<'x>
-    requires { kind_of_term (term_view answer) ≡ of_value }
-    ensures { Some (compared_view result) ≡ computed.answer_compared (term_view answer.entry) }
-{
-    match answer {
-        FunctionValue::Value(ValueType::Value(value)) => ComparedValue::Made(value),
-        FunctionValue::Value(ValueType::Node(value)) => ComparedValue::Lent(side_of_value(value)),
-        FunctionValue::Value(ValueType::Nothing) => ComparedValue::Lent(Side::Nothing),
-        FunctionValue::Nodes(_) | FunctionValue::Logical(_) => unreachable!(),
     }
 }
 
@@ -63,23 +49,23 @@ fn answer_as<'x>(answer: FunctionValue<'x>, kind: FunctionArgType) -> FunctionVa
 pub(crate) fn answer<'x, 'q: 'x, 'b: 'x, F: Functions>(
     scope: &Scope<'q, 'b, F>,
     call: Part,
-    value: &'b Value,
+    current: &'b Value,
 ) -> Result<FunctionValue<'x>, QueryError>
     requires below { call.number < length (nodes_of scope.now) }
     requires sound { SoundCall scope.now call }
-    requires inside { StandsIn (top_of scope.now) (view value.now) }
+    requires inside { StandsIn (top_of scope.now) (view current.now) }
     ensures kind { IfOk result (λ answer.
         Some (kind_of_term (term_view answer))
         ≡ result_kind (set_of scope.now).signature (call_at (nodes_of scope.now) call)) }
     ensures means { IfOk result (λ answer.
-        term_view answer ≡ answer_at scope.now call (view value.now)) }
+        term_view answer ≡ answer_at scope.now call (view current.now)) }
     ensures refused { IfErr result (λ e. e ≡ Pattern → MayRefuse scope.now) }
 {
     let name = scope.query.called_name(call);
     let parameters = scope.query.parameters(call);
     let mut given: Vec<FunctionValue<'x>> = Vec::new(scope.alloc);
     for (argument, kind) in scope.query.arguments(call).iter().zip(parameters.iter()) {
-        let term: FunctionValue<'x> = argument_as(scope, *argument, *kind, value)?;
+        let term: FunctionValue<'x> = argument_as(scope, *argument, *kind, current)?;
         given.push(term)?;
     }
     scope.functions.call(scope.alloc, name, given)
@@ -91,30 +77,32 @@ fn argument_as<'x, 'q: 'x, 'b: 'x, F: Functions>(
     scope: &Scope<'q, 'b, F>,
     argument: Part,
     kind: FunctionArgType,
-    value: &'b Value,
+    current: &'b Value,
 ) -> Result<FunctionValue<'x>, QueryError>
     requires below { argument.number < length (nodes_of scope.now) }
     requires sound { SoundArgument scope.now (kind_view kind) argument }
-    requires inside { StandsIn (top_of scope.now) (view value.now) }
+    requires inside { StandsIn (top_of scope.now) (view current.now) }
     ensures kind { IfOk result (λ term. kind_of_term (term_view term) ≡ kind_view kind) }
     ensures means { IfOk result (λ term.
-        term_view term ≡ given_at scope.now argument (kind_view kind) (view value.now)) }
+        term_view term ≡ given_at scope.now argument (kind_view kind) (view current.now)) }
     ensures refused { IfErr result (λ e. e ≡ Pattern → MayRefuse scope.now) }
 {
     match scope.query.node(argument) {
         Node::Argument(argument) => match argument {
-            Argument::Value(literal) => {
+            Argument::Literal(LiteralValue::Value(literal)) => {
                 let literal: &'x Value = literal;
                 Ok(FunctionValue::Value(ValueType::Node(literal)))
             }
-            Argument::Number(number) => Ok(FunctionValue::Value(ValueType::Value(number.value()))),
-            Argument::Query(query) => result_as(scope, *query, kind, value),
+            Argument::Literal(LiteralValue::Number(number)) => {
+                Ok(FunctionValue::Value(ValueType::Value(number.value())))
+            }
+            Argument::Query(query) => result_as(scope, *query, kind, current),
             Argument::Call(call) => {
-                let answer: FunctionValue<'x> = answer(scope, *call, value)?;
+                let answer: FunctionValue<'x> = answer(scope, *call, current)?;
                 Ok(answer_as(answer, kind))
             }
             Argument::Logical(test) => {
-                let holds = is_true(scope, *test, value)?;
+                let holds = or_holds(scope, *test, current)?;
                 Ok(FunctionValue::Logical(LogicalType::from(holds)))
             }
         },
@@ -128,19 +116,19 @@ fn result_as<'x, 'q: 'x, 'b: 'x, F: Functions>(
     scope: &Scope<'q, 'b, F>,
     query: Part,
     kind: FunctionArgType,
-    value: &'b Value,
+    current: &'b Value,
 ) -> Result<FunctionValue<'x>, QueryError>
     requires below { query.number < length (nodes_of scope.now) }
     requires sound { SoundQuery scope.now query }
-    requires inside { StandsIn (top_of scope.now) (view value.now) }
+    requires inside { StandsIn (top_of scope.now) (view current.now) }
     ensures kind { IfOk result (λ term. kind_of_term (term_view term) ≡ kind_view kind) }
     ensures means { IfOk result (λ term.
         term_view term
-        ≡ computed.result_as (kind_view kind) (results_at scope.now query (view value.now))) }
+        ≡ computed.result_as (kind_view kind) (results_at scope.now query (view current.now))) }
     ensures refused { IfErr result (λ e. e ≡ Pattern → MayRefuse scope.now) }
 {
     match kind {
-        FunctionArgType::Value => match first(scope, query, value)? {
+        FunctionArgType::Value => match first(scope, query, current)? {
             Some(node) => {
                 let node: &'x Value = node;
                 Ok(FunctionValue::Value(ValueType::Node(node)))
@@ -148,11 +136,11 @@ fn result_as<'x, 'q: 'x, 'b: 'x, F: Functions>(
             None => Ok(FunctionValue::Value(ValueType::Nothing)),
         },
         FunctionArgType::Nodelist => {
-            let nodes: Vec<&'x Value> = all_values(scope, query, value)?;
+            let nodes: Vec<&'x Value> = all_values(scope, query, current)?;
             Ok(FunctionValue::Nodes(NodesType::from(nodes)))
         }
         FunctionArgType::Logical => {
-            let exists = first(scope, query, value)?.is_some();
+            let exists = first(scope, query, current)?.is_some();
             Ok(FunctionValue::Logical(LogicalType::from(exists)))
         }
     }

@@ -1,55 +1,102 @@
 //! Comparisons (RFC 9535, section 2.3.5.2.2).
 
-ghost use Rattle.std.specs.Prelude.{◌≡◌, ◌||◌};
+ghost use Rattle.std.specs.Prelude.{◌≡◌, ◌||◌, option_map};
 ghost use Rattle.std.specs.Ordering.{nat_cmp, is_lt};
 ghost use Rattle.std.specs.Cmp.Lexicographic.{slice_cmp};
 ghost use Rattle.std.specs.Str.{chars};
-ghost use Rattle.serde_json_path_core.specs.Inside.Computed.{comes_before, compare as comparison, is_same, rising_amount};
+ghost use Rattle.serde_json_path_numbers.specs.Views.{exact_view};
+ghost use Rattle.serde_json_path_functions.specs.Terms.{numbers_view};
+ghost use Rattle.serde_json_path_core.specs.Inside.Computed.{comes_before, compare as comparison, is_same, rising_amount, rising_exact, rising_sides, same_exact, same_sides};
 ghost use Rattle.serde_json_path_syntax.specs.Literals.{operator_view};
 ghost use Rattle.serde_json_path_core.specs.Inside.Sides.{side_view};
 
-use crate::filter::equality::{same_amounts, same_items, same_members, same_numbers};
-use crate::filter::side::{Side, amount};
+use crate::filter::equality::{same_amounts, same_values};
+use crate::filter::side::{Side, amount_of, exact_of};
+use serde_json::Value;
+use serde_json_path_functions::Numbers;
+use serde_json_path_numbers::ExactNumber;
 use serde_json_path_syntax::ComparisonOperator;
 
 /// Whether a comparison of two sides holds.
 #[inline(always)]
-pub(crate) fn compare_sides(operator: ComparisonOperator, left: Side, right: Side) -> bool
-    ensures { result
-        ≡ comparison (operator_view operator) (side_view left.entry) (side_view right.entry) }
+pub(crate) fn compare_sides(
+    numbers: Numbers,
+    operator: ComparisonOperator,
+    left: Side,
+    right: Side,
+) -> bool
+    ensures { result ≡ comparison (numbers_view numbers)
+        (operator_view operator) (side_view left.entry) (side_view right.entry) }
 {
     match operator {
-        ComparisonOperator::EqualTo => is_equal(left, right),
-        ComparisonOperator::NotEqualTo => !is_equal(left, right),
-        ComparisonOperator::LessThan => is_less(left, right),
-        ComparisonOperator::LessThanEqualTo => is_less_or_equal(left, right),
-        ComparisonOperator::GreaterThan => is_less(right, left),
-        ComparisonOperator::GreaterThanEqualTo => is_less_or_equal(right, left),
+        ComparisonOperator::EqualTo => is_equal(numbers, left, right),
+        ComparisonOperator::NotEqualTo => !is_equal(numbers, left, right),
+        ComparisonOperator::LessThan => is_less(numbers, left, right),
+        ComparisonOperator::LessThanEqualTo => is_less_or_equal(numbers, left, right),
+        ComparisonOperator::GreaterThan => is_less(numbers, right, left),
+        ComparisonOperator::GreaterThanEqualTo => is_less_or_equal(numbers, right, left),
     }
 }
 
 /// Whether two sides are equal.
 #[inline(always)]
-fn is_equal(left: Side, right: Side) -> bool
-    ensures { result ≡ is_same (side_view left.entry) (side_view right.entry) }
+fn is_equal(numbers: Numbers, left: Side, right: Side) -> bool
+    ensures { result ≡ is_same (numbers_view numbers)
+        (side_view left.entry) (side_view right.entry) }
 {
     match (left, right) {
-        (Side::Nothing, Side::Nothing) | (Side::Null, Side::Null) => true,
-        (Side::Bool(left), Side::Bool(right)) => left == right,
-        (Side::Number(left), Side::Number(right)) => same_numbers(left, right),
-        (Side::Number(left), Side::Literal(right)) => {
-            same_amounts(amount(left), Some(right.billionths()))
-        }
-        (Side::Literal(left), Side::Number(right)) => {
-            same_amounts(Some(left.billionths()), amount(right))
-        }
-        (Side::Literal(left), Side::Literal(right)) => {
-            same_amounts(Some(left.billionths()), Some(right.billionths()))
-        }
-        (Side::Text(left), Side::Text(right)) => left == right,
-        (Side::Array(left), Side::Array(right)) => same_items(left, right),
-        (Side::Object(left), Side::Object(right)) => same_members(left, right),
+        (Side::Nothing, Side::Nothing) => true,
+        (Side::Value(left), Side::Value(right)) => same_values(numbers, left, right),
+        (Side::Nothing, _) | (_, Side::Nothing) => false,
+        _ => equal_numbers(numbers, left, right),
+    }
+}
+
+/// Whether two sides are numbers, one at least of a literal, and equal.
+#[inline(always)]
+fn equal_numbers(numbers: Numbers, left: Side, right: Side) -> bool
+    ensures { result ≡ same_sides (numbers_view numbers)
+        (side_view left.entry) (side_view right.entry) }
+{
+    match numbers {
+        Numbers::Whole => same_amounts(amount_of(left), amount_of(right)),
+        Numbers::All => equal_exactly(exact_of(left), exact_of(right)),
+    }
+}
+
+/// Whether two numbers are there, and equal.
+fn equal_exactly(left: Option<ExactNumber>, right: Option<ExactNumber>) -> bool
+    ensures { result ≡ same_exact (option_map exact_view left) (option_map exact_view right) }
+{
+    match (left, right) {
+        (Some(left), Some(right)) => left.is_equal(right),
         _ => false,
+    }
+}
+
+/// Whether the first side is a text or a number before the second.
+#[inline(always)]
+fn is_less(numbers: Numbers, left: Side, right: Side) -> bool
+    ensures { result ≡ comes_before (numbers_view numbers)
+        (side_view left.entry) (side_view right.entry) }
+{
+    match (left, right) {
+        (Side::Value(Value::String(left)), Side::Value(Value::String(right))) => {
+            comes_before(left.as_str(), right.as_str())
+        }
+        _ => rising_numbers(numbers, left, right),
+    }
+}
+
+/// Whether two sides are numbers, and the first is less.
+#[inline(always)]
+fn rising_numbers(numbers: Numbers, left: Side, right: Side) -> bool
+    ensures { result ≡ rising_sides (numbers_view numbers)
+        (side_view left.entry) (side_view right.entry) }
+{
+    match numbers {
+        Numbers::Whole => rising_amounts(amount_of(left), amount_of(right)),
+        Numbers::All => rising_exactly(exact_of(left), exact_of(right)),
     }
 }
 
@@ -64,33 +111,23 @@ fn rising_amounts(left: Option<i128>, right: Option<i128>) -> bool
     }
 }
 
-/// Whether the first side is a text or a number before the second.
-#[inline(always)]
-fn is_less(left: Side, right: Side) -> bool
-    ensures { result ≡ comes_before (side_view left.entry) (side_view right.entry) }
+/// Whether two numbers are there, and the first is less.
+fn rising_exactly(left: Option<ExactNumber>, right: Option<ExactNumber>) -> bool
+    ensures { result ≡ rising_exact (option_map exact_view left) (option_map exact_view right) }
 {
     match (left, right) {
-        (Side::Number(left), Side::Number(right)) => rising_amounts(amount(left), amount(right)),
-        (Side::Number(left), Side::Literal(right)) => {
-            rising_amounts(amount(left), Some(right.billionths()))
-        }
-        (Side::Literal(left), Side::Number(right)) => {
-            rising_amounts(Some(left.billionths()), amount(right))
-        }
-        (Side::Literal(left), Side::Literal(right)) => {
-            rising_amounts(Some(left.billionths()), Some(right.billionths()))
-        }
-        (Side::Text(left), Side::Text(right)) => comes_before(left, right),
+        (Some(left), Some(right)) => left.is_less(right),
         _ => false,
     }
 }
 
 /// Whether the first side is a text or a number before the second, or equal to it.
-fn is_less_or_equal(left: Side, right: Side) -> bool
-    ensures { result ≡ comes_before (side_view left.entry) (side_view right.entry)
-        || is_same (side_view left.entry) (side_view right.entry) }
+fn is_less_or_equal(numbers: Numbers, left: Side, right: Side) -> bool
+    ensures { result
+        ≡ comes_before (numbers_view numbers) (side_view left.entry) (side_view right.entry)
+        || is_same (numbers_view numbers) (side_view left.entry) (side_view right.entry) }
 {
-    is_less(left, right) || is_equal(left, right)
+    is_less(numbers, left, right) || is_equal(numbers, left, right)
 }
 
 /// Whether the first text is before the second, by Unicode scalar values.

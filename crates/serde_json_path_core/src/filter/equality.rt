@@ -3,30 +3,46 @@
 ghost use Rattle.std.specs.Prelude.{◌≡◌};
 ghost use Rattle.serde_json.specs.Find.{as_integer};
 ghost use Rattle.serde_json.specs.View.{view, items_view, members_view, number_view};
-ghost use Rattle.serde_json_path_core.specs.Inside.Computed.{same_amount, same_data, same_items as same_items_of, same_members as same_members_of};
+ghost use Rattle.serde_json_path_functions.specs.Terms.{numbers_view};
+ghost use Rattle.serde_json_path_core.specs.Inside.Computed.{same_amount, same_number, same_data, same_items as same_items_of, same_members as same_members_of};
 
 use crate::filter::side::amount;
 use serde_json::{Map, Number, Value};
+use serde_json_path_functions::Numbers;
+use serde_json_path_numbers::ExactNumber;
 
 /// Whether two values are equal.
 #[cycle(same)]
-fn same_values(left: &Value, right: &Value) -> bool
-    ensures { result ≡ same_data (view left.now) (view right.now) }
+#[inline(always)]
+pub(crate) fn same_values(numbers: Numbers, left: &Value, right: &Value) -> bool
+    ensures { result ≡ same_data (numbers_view numbers) (view left.now) (view right.now) }
 {
     match (left, right) {
         (Value::Null, Value::Null) => true,
         (Value::Bool(left), Value::Bool(right)) => *left == *right,
-        (Value::Number(left), Value::Number(right)) => same_numbers(left, right),
+        (Value::Number(left), Value::Number(right)) => same_numbers(numbers, left, right),
         (Value::String(left), Value::String(right)) => left.as_str() == right.as_str(),
-        (Value::Array(left), Value::Array(right)) => same_items(left, right),
-        (Value::Object(left), Value::Object(right)) => same_members(left, right),
+        (Value::Array(left), Value::Array(right)) => same_items(numbers, left, right),
+        (Value::Object(left), Value::Object(right)) => same_members(numbers, left, right),
         _ => false,
+    }
+}
+
+/// Whether two numbers are equal.
+#[inline(always)]
+fn same_numbers(numbers: Numbers, left: &Number, right: &Number) -> bool
+    ensures { result
+        ≡ same_number (numbers_view numbers) (number_view left.now) (number_view right.now) }
+{
+    match numbers {
+        Numbers::Whole => same_whole_numbers(left, right),
+        Numbers::All => ExactNumber::of_number(left).is_equal(ExactNumber::of_number(right)),
     }
 }
 
 /// Whether two numbers are held as integers and equal.
 #[inline(always)]
-pub(crate) fn same_numbers(left: &Number, right: &Number) -> bool
+fn same_whole_numbers(left: &Number, right: &Number) -> bool
     ensures { result
         ≡ same_amount (as_integer (number_view left.now)) (as_integer (number_view right.now)) }
 {
@@ -49,14 +65,15 @@ pub(crate) fn same_amounts(left: Option<i128>, right: Option<i128>) -> bool
 
 /// Whether two arrays are equal, item by item.
 #[cycle(same)]
-pub(crate) fn same_items(left: &Vec<Value>, right: &Vec<Value>) -> bool
-    ensures { result ≡ same_items_of (items_view left.now.items) (items_view right.now.items) }
+fn same_items(numbers: Numbers, left: &Vec<Value>, right: &Vec<Value>) -> bool
+    ensures { result ≡ same_items_of (numbers_view numbers)
+        (items_view left.now.items) (items_view right.now.items) }
 {
     if left.len() != right.len() {
         return false;
     }
     for (item, other) in left.iter().zip(right.iter()) {
-        if !same_values(item, other) {
+        if !same_values(numbers, item, other) {
             return false;
         }
     }
@@ -65,15 +82,15 @@ pub(crate) fn same_items(left: &Vec<Value>, right: &Vec<Value>) -> bool
 
 /// Whether two objects have the same names with equal values.
 #[cycle(same)]
-pub(crate) fn same_members(left: &Map<String, Value>, right: &Map<String, Value>) -> bool
-    ensures { result
-        ≡ same_members_of (members_view left.now.entries) (members_view right.now.entries) }
+fn same_members(numbers: Numbers, left: &Map<String, Value>, right: &Map<String, Value>) -> bool
+    ensures { result ≡ same_members_of (numbers_view numbers)
+        (members_view left.now.entries) (members_view right.now.entries) }
 {
     if left.len() != right.len() {
         return false;
     }
     for ((name, value), (other_name, other)) in left.iter().zip(right.iter()) {
-        if name.as_str() != other_name.as_str() || !same_values(value, other) {
+        if name.as_str() != other_name.as_str() || !same_values(numbers, value, other) {
             return false;
         }
     }

@@ -1,49 +1,43 @@
-//! Logical expressions of filters, and the queries in them.
+//! Logical expressions of filters (RFC 9535, section 2.3.5).
 
-ghost use Rattle.std.specs.Prelude.{◌≡◌, ◌<◌, ◌≤◌, Some, IfOk, IfErr, IfSome, length, map, option_map, slice_get};
+ghost use Rattle.std.specs.Prelude.{◌≡◌, ◌<◌, Some, IfOk, IfErr, IfSome, length};
 ghost use Rattle.serde_json.specs.View.{view};
-ghost use Rattle.serde_json_path_nodes.specs.Views.{node_value};
-ghost use Rattle.serde_json_path_core.specs.Inside.Evaluates.{SoundAnd, SoundBasic, SoundComparable, SoundOr, SoundQuery, SoundSegments, and_holds, basic_holds, compared_at, or_holds, relation_holds, results_at, values_at, values_of_segments};
+ghost use Rattle.serde_json_path_core.specs.Inside.Comparisons.{IsComparisonOf, SoundForm, compared_by, compared_with, holds_by};
+ghost use Rattle.serde_json_path_core.specs.Inside.Computed.{is_nonempty, answer_holds as holds_as_test};
+ghost use Rattle.serde_json_path_core.specs.Inside.Evaluates.{SoundAnd, SoundBasic, SoundCall, SoundOr, SoundQuery, and_holds, answer_at, basic_holds, or_holds, results_at};
+ghost use Rattle.serde_json_path_core.specs.Inside.Sides.{side_view};
 ghost use Rattle.serde_json_path_core.specs.PatternCalls.{StandsIn};
-ghost use Rattle.serde_json_path_core.specs.Meaning.{first_value};
-ghost use Rattle.serde_json_path_syntax.specs.PartBounds.{parts_bound};
-ghost use Rattle.serde_json_path_core.specs.Inside.Sides.{compared_view};
-ghost use Rattle.serde_json_path_core.specs.Inside.SingleChildren.{values_reached};
-ghost use Rattle.serde_json_path_core.specs.Inside.SingleComparisons.{IsComparisonOf};
-ghost use Rattle.serde_json_path_core.specs.Inside.Scopes.{MayRefuse, nodes_of, set_of, top_of};
+ghost use Rattle.serde_json_path_core.specs.Inside.Scopes.{MayRefuse, nodes_of, top_of};
+ghost use Rattle.serde_json_path_syntax.specs.Literals.{operator_view};
 ghost use Rattle.serde_json_path_functions.specs.declared.error.QueryError.TheVariants.{Pattern};
 
-use crate::evaluation::child_values::child_values;
-use crate::evaluation::frame::started;
 use crate::evaluation::scope::Scope;
-use crate::evaluation::single_children::{Reached, go_down, is_wildcard};
-use crate::evaluation::stack::{find_next, pass_found};
-use crate::evaluation::start;
-use crate::filter::call::{answer, answer_holds, compared_answer};
+use crate::filter::call::{answer, answer_holds};
 use crate::filter::compare::compare_sides;
-use crate::filter::side::{ComparedValue, Side, side_of, side_of_literal, side_of_value};
-use crate::filter::single_comparison::{SideForm, SingleComparison, decided};
+use crate::filter::comparison::{Comparison, SideForm, form_of, plain_side};
+use crate::filter::query::first;
+use crate::filter::side::{Side, side_of_answer};
 use serde_json::Value;
-use serde_json_path_functions::{FunctionValue, Functions, QueryError};
-use serde_json_path_syntax::{Basic, Comparable, ComparisonOperator, Literal, Node, Part};
+use serde_json_path_functions::{Functions, QueryError};
+use serde_json_path_syntax::{Basic, ComparisonOperator, Node, Part};
 
 /// Whether a logical expression holds for `@` at the value: whether one of its operands of `||` does.
 #[cycle(evaluation)]
 #[inline]
-pub(crate) fn is_true<'b, F: Functions>(
+pub(crate) fn or_holds<'b, F: Functions>(
     scope: &Scope<'_, 'b, F>,
     expression: Part,
-    value: &'b Value,
+    current: &'b Value,
 ) -> Result<bool, QueryError>
     requires below { expression.number < length (nodes_of scope.now) }
     requires sound { SoundOr scope.now expression }
-    requires inside { StandsIn (top_of scope.now) (view value.now) }
+    requires inside { StandsIn (top_of scope.now) (view current.now) }
     ensures means { IfOk result (λ holds.
-        holds ≡ or_holds scope.now expression (view value.now)) }
+        holds ≡ or_holds scope.now expression (view current.now)) }
     ensures refused { IfErr result (λ e. e ≡ Pattern → MayRefuse scope.now) }
 {
     for part in scope.query.or_parts(expression) {
-        if all_true(scope, *part, value)? {
+        if and_holds(scope, *part, current)? {
             return Ok(true);
         }
     }
@@ -53,308 +47,222 @@ pub(crate) fn is_true<'b, F: Functions>(
 /// The same, where the comparison of which the expression consists, if it does, is at hand.
 #[cycle(evaluation)]
 #[inline(always)]
-pub(crate) fn is_true_by<'b, F: Functions>(
+pub(crate) fn filter_holds<'b, F: Functions>(
     scope: &Scope<'_, 'b, F>,
     expression: Part,
-    comparison: Option<&SingleComparison<'_>>,
-    value: &'b Value,
+    comparison: Option<&Comparison<'_>>,
+    current: &'b Value,
 ) -> Result<bool, QueryError>
     requires below { expression.number < length (nodes_of scope.now) }
     requires sound { SoundOr scope.now expression }
-    requires single { IfSome comparison (λ c. IsComparisonOf scope.now c.now expression) }
-    requires inside { StandsIn (top_of scope.now) (view value.now) }
+    requires only { IfSome comparison (λ c. IsComparisonOf scope.now c.now expression) }
+    requires inside { StandsIn (top_of scope.now) (view current.now) }
     ensures means { IfOk result (λ holds.
-        holds ≡ or_holds scope.now expression (view value.now)) }
+        holds ≡ or_holds scope.now expression (view current.now)) }
     ensures refused { IfErr result (λ e. e ≡ Pattern → MayRefuse scope.now) }
 {
-    let Some(comparison) = comparison else {
-        return is_true(scope, expression, value);
-    };
-    match decided(scope, comparison, value) {
-        Some(holds) => Ok(holds),
-        None => relation_true(
-            scope,
-            comparison.left,
-            comparison.operator,
-            comparison.right,
-            value,
-        ),
+    match comparison {
+        Some(comparison) => compares(scope, comparison, current),
+        None => or_holds(scope, expression, current),
     }
 }
 
 /// Whether all operands of `&&` hold.
 #[cycle(evaluation)]
 #[inline(always)]
-fn all_true<'b, F: Functions>(
+fn and_holds<'b, F: Functions>(
     scope: &Scope<'_, 'b, F>,
     expression: Part,
-    value: &'b Value,
+    current: &'b Value,
 ) -> Result<bool, QueryError>
     requires below { expression.number < length (nodes_of scope.now) }
     requires sound { SoundAnd scope.now expression }
-    requires inside { StandsIn (top_of scope.now) (view value.now) }
+    requires inside { StandsIn (top_of scope.now) (view current.now) }
     ensures means { IfOk result (λ holds.
-        holds ≡ and_holds scope.now expression (view value.now)) }
+        holds ≡ and_holds scope.now expression (view current.now)) }
     ensures refused { IfErr result (λ e. e ≡ Pattern → MayRefuse scope.now) }
 {
     for part in scope.query.and_parts(expression) {
-        if !basic_true(scope, *part, value)? {
+        if !basic_holds(scope, *part, current)? {
             return Ok(false);
         }
     }
     Ok(true)
 }
 
-/// Whether a parenthesis, a comparison or a test holds. Comparisons of what is at hand come first.
+/// Whether a parenthesis, a comparison or a test holds.
 #[cycle(evaluation)]
 #[inline(always)]
-fn basic_true<'b, F: Functions>(
+fn basic_holds<'b, F: Functions>(
     scope: &Scope<'_, 'b, F>,
     expression: Part,
-    value: &'b Value,
+    current: &'b Value,
 ) -> Result<bool, QueryError>
     requires below { expression.number < length (nodes_of scope.now) }
     requires sound { SoundBasic scope.now expression }
-    requires inside { StandsIn (top_of scope.now) (view value.now) }
+    requires inside { StandsIn (top_of scope.now) (view current.now) }
     ensures means { IfOk result (λ holds.
-        holds ≡ basic_holds scope.now expression (view value.now)) }
-    ensures refused { IfErr result (λ e. e ≡ Pattern → MayRefuse scope.now) }
-{
-    if let Node::Basic(
-        Basic::Relation {
-            left,
-            operator,
-            right,
-        },
-    ) = scope.query.node(expression)
-    {
-        let comparison = SingleComparison {
-            left: *left,
-            left_form: SideForm::Other,
-            operator: *operator,
-            right: *right,
-            right_form: SideForm::Other,
-        };
-        if let Some(holds) = decided(scope, &comparison, value) {
-            return Ok(holds);
-        }
-    }
-    evaluated_true(scope, expression, value)
-}
-
-/// The same, by evaluation of what is in it.
-#[cycle(evaluation)]
-#[inline(never)]
-fn evaluated_true<'b, F: Functions>(
-    scope: &Scope<'_, 'b, F>,
-    expression: Part,
-    value: &'b Value,
-) -> Result<bool, QueryError>
-    requires below { expression.number < length (nodes_of scope.now) }
-    requires sound { SoundBasic scope.now expression }
-    requires inside { StandsIn (top_of scope.now) (view value.now) }
-    ensures means { IfOk result (λ holds.
-        holds ≡ basic_holds scope.now expression (view value.now)) }
+        holds ≡ basic_holds scope.now expression (view current.now)) }
     ensures refused { IfErr result (λ e. e ≡ Pattern → MayRefuse scope.now) }
 {
     match scope.query.node(expression) {
         Node::Basic(basic) => match basic {
-            Basic::Paren(inner) => is_true(scope, *inner, value),
-            Basic::NotParen(inner) => Ok(!is_true(scope, *inner, value)?),
             Basic::Relation {
                 left,
                 operator,
                 right,
-            } => relation_true(scope, *left, *operator, *right, value),
-            Basic::Exist(query) => Ok(first(scope, *query, value)?.is_some()),
-            Basic::NotExist(query) => Ok(first(scope, *query, value)?.is_none()),
-            Basic::Test(call) => {
-                let answer = answer(scope, *call, value)?;
-                Ok(answer_holds(&answer))
+            } => {
+                let left = form_of(scope, *left);
+                let right = form_of(scope, *right);
+                let operator = *operator;
+                let comparison = Comparison {
+                    left,
+                    operator,
+                    right,
+                };
+                compares(scope, &comparison, current)
             }
-            Basic::NotTest(call) => {
-                let answer = answer(scope, *call, value)?;
-                Ok(!answer_holds(&answer))
-            }
+            Basic::Paren(inner) => or_holds(scope, *inner, current),
+            Basic::NotParen(inner) => Ok(!or_holds(scope, *inner, current)?),
+            Basic::Exist(query) => exists(scope, *query, current),
+            Basic::NotExist(query) => Ok(!exists(scope, *query, current)?),
+            Basic::Test(call) => call_holds(scope, *call, current),
+            Basic::NotTest(call) => Ok(!call_holds(scope, *call, current)?),
         },
         _ => unreachable!(),
     }
 }
 
-/// Whether a comparison holds, of which a side has to be evaluated.
+/// Whether a query selects a node (RFC 9535, section 2.3.5.2.1).
 #[cycle(evaluation)]
 #[inline(never)]
-fn relation_true<'b, F: Functions>(
+fn exists<'b, F: Functions>(
     scope: &Scope<'_, 'b, F>,
-    left: Part,
-    operator: ComparisonOperator,
-    right: Part,
-    value: &'b Value,
+    query: Part,
+    current: &'b Value,
 ) -> Result<bool, QueryError>
-    requires below_left { left.number < length (nodes_of scope.now) }
-    requires below_right { right.number < length (nodes_of scope.now) }
-    requires sound_left { SoundComparable scope.now left }
-    requires sound_right { SoundComparable scope.now right }
-    requires inside { StandsIn (top_of scope.now) (view value.now) }
+    requires below { query.number < length (nodes_of scope.now) }
+    requires sound { SoundQuery scope.now query }
+    requires inside { StandsIn (top_of scope.now) (view current.now) }
     ensures means { IfOk result (λ holds.
-        holds ≡ relation_holds scope.now left operator right (view value.now)) }
+        holds ≡ is_nonempty (results_at scope.now query (view current.now))) }
     ensures refused { IfErr result (λ e. e ≡ Pattern → MayRefuse scope.now) }
 {
-    let left = compared(scope, left, value)?;
-    let right = compared(scope, right, value)?;
-    Ok(compare_sides(operator, side_of(&left), side_of(&right)))
+    Ok(first(scope, query, current)?.is_some())
 }
 
-/// What a side of a comparison stands for.
+/// Whether a call's answer holds as a test (RFC 9535, section 2.4.2).
 #[cycle(evaluation)]
-fn compared<'x, 'q: 'x, 'b: 'x, F: Functions>(
-    scope: &Scope<'q, 'b, F>,
-    comparable: Part,
-    value: &'b Value,
-) -> Result<ComparedValue<'x>, QueryError>
-    requires below { comparable.number < length (nodes_of scope.now) }
-    requires sound { SoundComparable scope.now comparable }
-    requires inside { StandsIn (top_of scope.now) (view value.now) }
-    ensures means { IfOk result (λ compared_value.
-        Some (compared_view compared_value) ≡ compared_at scope.now comparable (view value.now)) }
-    ensures refused { IfErr result (λ e. e ≡ Pattern → MayRefuse scope.now) }
-{
-    match scope.query.node(comparable) {
-        Node::Comparable(comparable) => match comparable {
-            Comparable::Literal(literal) => {
-                let literal: &'x Literal = literal;
-                Ok(ComparedValue::Lent(side_of_literal(literal)))
-            }
-            Comparable::Singular(query) => match first(scope, *query, value)? {
-                Some(node) => {
-                    let node: &'x Value = node;
-                    Ok(ComparedValue::Lent(side_of_value(node)))
-                }
-                None => Ok(ComparedValue::Lent(Side::Nothing)),
-            },
-            Comparable::Called(call) => {
-                let answer: FunctionValue<'x> = answer(scope, *call, value)?;
-                Ok(compared_answer(answer))
-            }
-        },
-        _ => unreachable!(),
-    }
-}
-
-/// Where a query goes on from its start, after the segments that select one child at most.
-#[inline(always)]
-pub(crate) fn reached<'q, 'b, F: Functions>(
-    scope: &Scope<'q, 'b, F>,
-    query: Part,
-    value: &'b Value,
-) -> Reached<'q, 'b>
-    requires below { query.number < length (nodes_of scope.now) }
-    requires sound { SoundQuery scope.now query }
-    requires inside { StandsIn (top_of scope.now) (view value.now) }
-    ensures selects { values_at scope.now query (view value.now)
-        ≡ values_reached (set_of scope.now) (top_of scope.now) (nodes_of scope.now) result }
-    ensures below { parts_bound result.segments.now ≤ query.number }
-    ensures sound { SoundSegments scope.now result.segments.now }
-    ensures inside { IfSome result.value (λ v. StandsIn (top_of scope.now) (view v.now)) }
-{
-    let start = start(scope.query.part_kind(query), value, scope.root);
-    go_down(scope.query, scope.query.part_segments(query), start)
-}
-
-/// The value of the first node that segments select from a value, if there is one.
-#[cycle(evaluation)]
-fn first_from<'b, F: Functions>(
+#[inline(never)]
+fn call_holds<'b, F: Functions>(
     scope: &Scope<'_, 'b, F>,
-    segments: &[Part],
-    value: &'b Value,
-) -> Result<Option<&'b Value>, QueryError>
-    requires below { parts_bound segments.now ≤ length (nodes_of scope.now) }
-    requires sound { SoundSegments scope.now segments.now }
-    requires inside { StandsIn (top_of scope.now) (view value.now) }
-    ensures means { IfOk result (λ found. option_map node_value found
-        ≡ slice_get (values_of_segments scope.now segments.now (view value.now)) 0) }
+    call: Part,
+    current: &'b Value,
+) -> Result<bool, QueryError>
+    requires below { call.number < length (nodes_of scope.now) }
+    requires sound { SoundCall scope.now call }
+    requires inside { StandsIn (top_of scope.now) (view current.now) }
+    ensures means { IfOk result (λ holds.
+        holds ≡ holds_as_test (answer_at scope.now call (view current.now))) }
     ensures refused { IfErr result (λ e. e ≡ Pattern → MayRefuse scope.now) }
 {
-    let mut frames = started(scope.alloc, scope.query, segments, value)?;
-    match find_next(scope, segments, &mut frames)? {
-        Some(found) => Ok(Some(found.value)),
-        None => Ok(None),
-    }
+    let answer = answer(scope, call, current)?;
+    Ok(answer_holds(&answer))
 }
 
-/// The value of the first node that a query selects, if there is one. A singular query takes no memory.
+/// Whether a comparison holds. Without a call it takes no memory.
 #[cycle(evaluation)]
 #[inline(always)]
-pub(crate) fn first<'b, F: Functions>(
+fn compares<'b, F: Functions>(
     scope: &Scope<'_, 'b, F>,
-    query: Part,
-    value: &'b Value,
-) -> Result<Option<&'b Value>, QueryError>
-    requires below { query.number < length (nodes_of scope.now) }
-    requires sound { SoundQuery scope.now query }
-    requires inside { StandsIn (top_of scope.now) (view value.now) }
-    ensures means { IfOk result (λ found.
-        option_map node_value found ≡ first_value (results_at scope.now query (view value.now))) }
+    comparison: &Comparison<'_>,
+    current: &'b Value,
+) -> Result<bool, QueryError>
+    requires left { SoundForm scope.now comparison.now.left }
+    requires right { SoundForm scope.now comparison.now.right }
+    requires inside { StandsIn (top_of scope.now) (view current.now) }
+    ensures means { IfOk result (λ holds.
+        holds ≡ holds_by scope.now comparison.now (view current.now)) }
     ensures refused { IfErr result (λ e. e ≡ Pattern → MayRefuse scope.now) }
 {
-    let reached = reached(scope, query, value);
-    match reached.value {
-        None => Ok(None),
-        Some(value) => {
-            if reached.segments.is_empty() {
-                return Ok(Some(value));
-            }
-            first_from(scope, reached.segments, value)
+    match comparison.left {
+        SideForm::Plain(left) => {
+            let left = plain_side(scope, left, current);
+            compares_with(scope, left, comparison.operator, comparison.right, current)
+        }
+        SideForm::Called(left) => {
+            answer_compares(scope, left, comparison.operator, comparison.right, current)
         }
     }
 }
 
-/// The values of all nodes that segments select from a value, in order.
+/// Whether a comparison holds whose left side is the answer of a call.
 #[cycle(evaluation)]
-pub(crate) fn all_from<'x, 'b: 'x, F: Functions>(
+#[inline(never)]
+fn answer_compares<'b, F: Functions>(
     scope: &Scope<'_, 'b, F>,
-    segments: &[Part],
-    value: &'b Value,
-) -> Result<Vec<&'x Value>, QueryError>
-    requires below { parts_bound segments.now ≤ length (nodes_of scope.now) }
-    requires sound { SoundSegments scope.now segments.now }
-    requires inside { StandsIn (top_of scope.now) (view value.now) }
-    ensures means { IfOk result (λ found. map node_value found.items
-        ≡ values_of_segments scope.now segments.now (view value.now)) }
+    call: Part,
+    operator: ComparisonOperator,
+    right: SideForm<'_>,
+    current: &'b Value,
+) -> Result<bool, QueryError>
+    requires left { SoundForm scope.now (SideForm.Called call) }
+    requires right { SoundForm scope.now right }
+    requires inside { StandsIn (top_of scope.now) (view current.now) }
+    ensures means { IfOk result (λ holds.
+        holds ≡ compared_with scope.now
+        (compared_by scope.now (SideForm.Called call) (view current.now))
+        (operator_view operator) right.entry (view current.now)) }
     ensures refused { IfErr result (λ e. e ≡ Pattern → MayRefuse scope.now) }
 {
-    let mut frames = started(scope.alloc, scope.query, segments, value)?;
-    let mut found: Vec<&'x Value> = Vec::new(scope.alloc);
-    'values: while let Some(node) = find_next(scope, segments, &mut frames)? {
-        pass_found(&mut frames, node);
-        let value: &'x Value = node.value;
-        found.push(value)?;
-    }
-    Ok(found)
+    let answer = answer(scope, call, current)?;
+    compares_with(scope, side_of_answer(&answer), operator, right, current)
 }
 
-/// The values of all nodes that a query selects, in order.
+/// Whether a comparison holds whose left side is found.
 #[cycle(evaluation)]
-pub(crate) fn all_values<'x, 'q: 'x, 'b: 'x, F: Functions>(
-    scope: &Scope<'q, 'b, F>,
-    query: Part,
-    value: &'b Value,
-) -> Result<Vec<&'x Value>, QueryError>
-    requires below { query.number < length (nodes_of scope.now) }
-    requires sound { SoundQuery scope.now query }
-    requires inside { StandsIn (top_of scope.now) (view value.now) }
-    ensures means { IfOk result (λ found.
-        map node_value found.items ≡ values_at scope.now query (view value.now)) }
+#[inline(always)]
+fn compares_with<'b, F: Functions>(
+    scope: &Scope<'_, 'b, F>,
+    left: Side<'_>,
+    operator: ComparisonOperator,
+    right: SideForm<'_>,
+    current: &'b Value,
+) -> Result<bool, QueryError>
+    requires right { SoundForm scope.now right }
+    requires inside { StandsIn (top_of scope.now) (view current.now) }
+    ensures means { IfOk result (λ holds.
+        holds ≡ compared_with scope.now (Some (side_view left.entry))
+        (operator_view operator) right.entry (view current.now)) }
     ensures refused { IfErr result (λ e. e ≡ Pattern → MayRefuse scope.now) }
 {
-    let reached = reached(scope, query, value);
-    match reached.value {
-        None => Ok(Vec::new(scope.alloc)),
-        Some(value) => {
-            if is_wildcard(scope.query, reached.segments) {
-                return Ok(child_values(scope.alloc, value)?);
-            }
-            all_from(scope, reached.segments, value)
+    match right {
+        SideForm::Plain(right) => {
+            let right = plain_side(scope, right, current);
+            Ok(compare_sides(scope.functions.numbers(), operator, left, right))
         }
+        SideForm::Called(right) => compares_with_answer(scope, left, operator, right, current),
     }
+}
+
+/// Whether a comparison holds whose left side is found, and whose right side is the answer of a call.
+#[cycle(evaluation)]
+#[inline(never)]
+fn compares_with_answer<'b, F: Functions>(
+    scope: &Scope<'_, 'b, F>,
+    left: Side<'_>,
+    operator: ComparisonOperator,
+    call: Part,
+    current: &'b Value,
+) -> Result<bool, QueryError>
+    requires right { SoundForm scope.now (SideForm.Called call) }
+    requires inside { StandsIn (top_of scope.now) (view current.now) }
+    ensures means { IfOk result (λ holds.
+        holds ≡ compared_with scope.now (Some (side_view left.entry))
+        (operator_view operator) (SideForm.Called call) (view current.now)) }
+    ensures refused { IfErr result (λ e. e ≡ Pattern → MayRefuse scope.now) }
+{
+    let answer = answer(scope, call, current)?;
+    let right = side_of_answer(&answer);
+    Ok(compare_sides(scope.functions.numbers(), operator, left, right))
 }

@@ -1,47 +1,85 @@
-//! Values by the kind that a comparison tells apart.
+//! What the sides of a comparison stand for (RFC 9535, section 2.3.5.1).
 
-ghost use Rattle.std.specs.Prelude.{◌≡◌};
+ghost use Rattle.std.specs.Prelude.{◌≡◌, Some, option_map, true};
 ghost use Rattle.serde_json.specs.Data.{number as number_data};
-ghost use Rattle.serde_json.specs.View.{view, number_view};
-ghost use Rattle.serde_json_path_core.specs.Compared.{amount_of, value as a_value, literal_compared};
-ghost use Rattle.serde_json_path_syntax.specs.Literals.{literal_view};
-ghost use Rattle.serde_json_path_core.specs.Inside.Sides.{compared_view, side_view};
+ghost use Rattle.serde_json.specs.View.{number_view};
+ghost use Rattle.serde_json_path_functions.specs.Functions.{kind_of_term, of_value};
+ghost use Rattle.serde_json_path_functions.specs.Terms.{term_view};
+ghost use Rattle.serde_json_path_nodes.specs.Views.{node_value};
+ghost use Rattle.serde_json_path_core.specs.Compared.{amount_of, exact_of, value as a_value, literal_compared, value_compared};
+ghost use Rattle.serde_json_path_core.specs.Inside.Computed as computed;
+ghost use Rattle.serde_json_path_numbers.specs.Views.{exact_view};
+ghost use Rattle.serde_json_path_syntax.specs.Flat.{held_view};
+ghost use Rattle.serde_json_path_syntax.specs.Kinds.{literal_fits};
+ghost use Rattle.serde_json_path_core.specs.Inside.Sides.{side_view};
+ghost use Rattle.serde_json_path_core.specs.Inside.Views.{child_view};
 
-use serde_json::{Map, Number, Value};
-use serde_json_path_syntax::{Literal, NumberLiteral};
+use crate::child::Child;
+use serde_json::{Number, Value};
+use serde_json_path_functions::{FunctionValue, ValueType};
+use serde_json_path_numbers::ExactNumber;
+use serde_json_path_syntax::{LiteralValue, NumberLiteral};
 
 /// One, in billionths.
 const ONE: i128 = 1_000_000_000;
 
-/// What a side of a comparison stands for, by its kind (RFC 9535, section 2.3.5.1). A literal and an equal value of the
-/// document look the same, but for numbers.
+/// What a side of a comparison stands for.
 #[derive(Clone, Copy)]
 pub(crate) enum Side<'s> {
     /// No value.
     Nothing,
-    /// The value `null`.
-    Null,
-    /// A truth value.
-    Bool(bool),
-    /// A number of the document.
-    Number(&'s Number),
+    /// A value of the document, of a function, or of a literal that is no number.
+    Value(&'s Value),
     /// A number of the query.
-    Literal(&'s NumberLiteral),
-    /// A text.
-    Text(&'s str),
-    /// An array.
-    Array(&'s Vec<Value>),
-    /// An object.
-    Object(&'s Map<String, Value>),
+    Number(&'s NumberLiteral),
 }
 
-/// A side, or the value that a call of a function has made for it.
-#[derive(Drop)]
-pub(crate) enum ComparedValue<'x> {
-    /// What is at hand.
-    Lent(Side<'x>),
-    /// A value that a function has made.
-    Made(Value),
+/// A value, or Nothing without one.
+#[inline(always)]
+pub(crate) fn side_of_value(found: Option<&Value>) -> Side<'_>
+    ensures { side_view result ≡ value_compared (option_map node_value found.entry) }
+{
+    match found {
+        Some(value) => Side::Value(value),
+        None => Side::Nothing,
+    }
+}
+
+/// A child's value, or Nothing without a child.
+#[inline(always)]
+pub(crate) fn side_of_child<'b>(child: Option<Child<'b>>) -> Side<'b>
+    ensures { side_view result
+        ≡ value_compared (option_map (λ c. c.1) (option_map child_view child.entry)) }
+{
+    match child {
+        Some(child) => Side::Value(child.value),
+        None => Side::Nothing,
+    }
+}
+
+/// A literal.
+#[inline(always)]
+pub(crate) fn side_of_literal(literal: &LiteralValue) -> Side<'_>
+    requires { literal_fits literal.now ≡ true }
+    ensures { side_view result ≡ literal_compared (held_view literal.now) }
+{
+    match literal {
+        LiteralValue::Value(value) => Side::Value(value),
+        LiteralValue::Number(number) => Side::Number(number),
+    }
+}
+
+/// An answer of type Value (RFC 9535, section 2.4.2).
+pub(crate) fn side_of_answer<'s>(answer: &'s FunctionValue<'_>) -> Side<'s>
+    requires { kind_of_term (term_view answer.now) ≡ of_value }
+    ensures { Some (side_view result) ≡ computed.answer_compared (term_view answer.now) }
+{
+    match answer {
+        FunctionValue::Value(ValueType::Value(value)) => Side::Value(value),
+        FunctionValue::Value(ValueType::Node(value)) => Side::Value(*value),
+        FunctionValue::Value(ValueType::Nothing) => Side::Nothing,
+        FunctionValue::Nodes(_) | FunctionValue::Logical(_) => unreachable!(),
+    }
 }
 
 /// A number in billionths, if it is held as an integer; any other number equals none.
@@ -56,41 +94,25 @@ pub(crate) fn amount(number: &Number) -> Option<i128>
     }
 }
 
-/// A value by its kind.
+/// The billionths of what is a whole number or the number of a literal.
 #[inline(always)]
-pub(crate) fn side_of_value(value: &Value) -> Side<'_>
-    ensures { side_view result ≡ a_value (view value.now) }
+pub(crate) fn amount_of(side: Side) -> Option<i128>
+    ensures { result ≡ amount_of (side_view side.entry) }
 {
-    match value {
-        Value::Null => Side::Null,
-        Value::Bool(truth) => Side::Bool(*truth),
-        Value::Number(number) => Side::Number(number),
-        Value::String(text) => Side::Text(text.as_str()),
-        Value::Array(items) => Side::Array(items),
-        Value::Object(members) => Side::Object(members),
+    match side {
+        Side::Value(Value::Number(number)) => amount(number),
+        Side::Number(literal) => Some(literal.billionths()),
+        Side::Value(_) | Side::Nothing => None,
     }
 }
 
-/// A literal by its kind.
-#[inline(always)]
-pub(crate) fn side_of_literal(literal: &Literal) -> Side<'_>
-    ensures { side_view result ≡ literal_compared (literal_view literal.now) }
+/// The exact number of what is a number.
+pub(crate) fn exact_of(side: Side) -> Option<ExactNumber>
+    ensures { option_map exact_view result ≡ exact_of (side_view side.entry) }
 {
-    match literal {
-        Literal::String(text) => Side::Text(text.as_str()),
-        Literal::Number(number) => Side::Literal(number),
-        Literal::Bool(truth) => Side::Bool(*truth),
-        Literal::Null => Side::Null,
-    }
-}
-
-/// A compared value by its kind.
-#[inline(always)]
-pub(crate) fn side_of<'s>(compared_value: &'s ComparedValue<'s>) -> Side<'s>
-    ensures { side_view result ≡ compared_view compared_value.now }
-{
-    match compared_value {
-        ComparedValue::Lent(side) => *side,
-        ComparedValue::Made(value) => side_of_value(value),
+    match side {
+        Side::Value(Value::Number(number)) => Some(ExactNumber::of_number(number)),
+        Side::Number(literal) => Some(ExactNumber::of_billionths(literal.billionths())),
+        Side::Value(_) | Side::Nothing => None,
     }
 }

@@ -1,5 +1,5 @@
 -- Arguments and calls, by what holds one level deeper; and the laws of these pieces at every level.
-use Rattle.std.proofs.Common.{cond, ◌≡◌, ℕ, ◌≤◌, inl, inr, Bool, true, false, List, [], ◌∷◌, ◌++◌, Option, Some, Ok, Err, refl, sym, ap, subst, ◌∙◌, append_assoc, arith, ◌+◌, zero, suc, length, drop, None, ◌<◌}
+use Rattle.std.proofs.Common.{cond, ◌≡◌, ℕ, ◌≤◌, inl, inr, Bool, true, false, List, [], ◌∷◌, ◌++◌, Option, Some, Ok, Err, refl, sym, ap, subst, ◌∙◌, append_assoc, arith, ◌+◌, zero, suc, drop, None}
 use Rattle.serde_json_path_parser.proofs.Words.{Call, ◌==◌, ◌||◌, ℤ, pos, negsuc, ◌*ℤ◌, ◌-ℤ◌, ◌/◌, ◌%◌, ◌*◌, eqb-true, eq-eqb, or_parts, ints, cases_Bool}
 use Rattle.serde_json_path_parser.proofs.Words.{div-add-mod', LogicalOr, LogicalAnd, Basic, exist, test, Argument, literal_argument, query_argument}
 use Rattle.serde_json_path_parser.proofs.Words.{call_argument, logical_argument, number, Operator, no_or, or, no_and, and, result_kind, TakesResult}
@@ -9,14 +9,15 @@ use Rattle.serde_json_path_parser.proofs.Words.{byte_count, Operand, a_literal, 
 use Rattle.serde_json_path_parser.proofs.Words.{ends_argument, Deeper, operand_at, test_at, relation_at, basic_from, basic_at, next_basic_at}
 use Rattle.serde_json_path_parser.proofs.Words.{and_from, and_at, next_and_at, or_from, or_at, logical_from, argument_at, mul-mod_left, is_blank}
 use Rattle.serde_json_path_parser.proofs.Words.{ReadsCall, append-nil, Reads, Parsed, codes, call, Arguments, no_arguments, argument}
-use Rattle.serde_json_path_parser.proofs.Words.{AreTypedArguments, IsTypedCall, arguments_depth, call_depth, ExpectedExpression}
+use Rattle.serde_json_path_parser.proofs.Words.{AreTypedArguments, IsTypedCall, arguments_depth, call_depth}
 use Rattle.serde_json_path_parser.proofs.Words.{ExpectedClosingParenthesis, WrongArgumentType, UndefinedFunction, WrongNumberOfArguments}
-use Rattle.serde_json_path_parser.proofs.Words.{IsFunctionName, ReadMoreArguments, ReadArguments, judged, ended, arguments_at, parameters_at, call_at}
-use Rattle.serde_json_path_parser.proofs.Words.{length-append, NestedTooDeep, level}
+use Rattle.serde_json_path_parser.proofs.Words.{IsFunctionName, ReadMoreArguments, ReadArguments, ended, arguments_at, parameters_at, call_at}
+use Rattle.serde_json_path_parser.proofs.Words.{NestedTooDeep, level}
 use Rattle.serde_json_path_parser.specs.declared.error.Context.TheVariants as context
 use Rattle.serde_json_path_parser.specs.Operands.{a_query}
 use Rattle.serde_json_path_parser.proofs.Reading.Runs.{past_all, split_again, blanks_of, are_blank, split_blanks, past_some, spread, begins_where, differs, no_blank, begins_differs}
-use Rattle.serde_json_path_parser.proofs.Grammar.LogicalForms.{IsGoodOr, IsGoodQuery, IsGoodCall, DeeperLaws, singular_query, Follows, ends_operand, ends_basic, ends_or, query_singular, IsOperandText, IsOrText, begins_operand, begins_expression, operand_begins, as_expression, or_begins, no_blank_begins}
+use Rattle.serde_json_path_syntax.proofs.Tree.NamedParts.{query_singular}
+use Rattle.serde_json_path_parser.proofs.Grammar.LogicalForms.{IsGoodOr, IsGoodQuery, IsGoodCall, DeeperLaws, singular_query, Follows, ends_operand, ends_basic, ends_or, IsOperandText, IsOrText, begins_operand, begins_expression, operand_begins, as_expression, or_begins, no_blank_begins}
 use Rattle.serde_json_path_parser.proofs.Grammar.LogicalExpressions.{or_again, or_outcome, and_from_outcome, or_from_outcome}
 use Rattle.serde_json_path_parser.proofs.Grammar.Comparisons.{operand_again, operand_outcome, no_operator, basic_from_outcome}
 use Rattle.serde_json_path_parser.proofs.Reading.Many.{Read, Spaced, bind_ok, ok_is, after_one, many_end}
@@ -297,22 +298,13 @@ module _ (signature : List ℕ → Option Signature) (n : ℕ) (deeper : Deeper)
   ended_outcome start before [] cs split good = read_spaced (no_arguments, cs) (record { text = before; is_so = good refl; split = split })
   ended_outcome start before (kind ∷ kinds) cs split good = refused WrongNumberOfArguments context.LongHand (inl refl)
 
-  -- a judgement is reported at the argument, or where the call begins
-  judged_outcome : {B : Type 0} {next : List Kind → Parsed B} (is : List Kind → List ℕ → B → Type 0) (before start cs : List ℕ) (kinds : List Kind) (a : Argument) → start ≡ before ++ cs
-      → ((kind : Kind) (left : List Kind) → fits signature a kind ≡ true → Outcome (is (kind ∷ left)) (Inner signature) start (next left))
-      → Outcome (is kinds) (Inner signature) start (judged signature deeper (byte_count start) (byte_count cs) kinds a >>= next)
-  unfolding judged
-  judged_outcome is before start cs [] a split good = refused WrongNumberOfArguments context.LongHand (inl refl)
-  judged_outcome is before start cs (kind ∷ kinds) a split good = elim (cases_Bool (fits signature a kind)) [
-    | inl e ↦ rw e (good kind kinds e)
-    | inr e ↦ rw e (past before split (refused WrongArgumentType context.LongHand (inl refl)))
-  ]
-
-  arguments_outcome : (fuel : ℕ) (before start : List ℕ) (kinds : List Kind) (cs : List ℕ) → start ≡ before ++ cs
-      → Outcome (Spaced (Past before (AreSome kinds))) (Inner signature) start (arguments_at signature deeper fuel (byte_count start) kinds cs)
+  arguments_outcome : (before start : List ℕ) (kinds : List Kind) (cs : List ℕ) → start ≡ before ++ cs
+      → Outcome (Spaced (Past before (AreSome kinds))) (Inner signature) start (arguments_at signature deeper (byte_count start) kinds cs)
   unfolding arguments_at
-  arguments_outcome zero before start kinds cs split = past before split (refused ExpectedExpression context.LongHand (inl refl))
-  arguments_outcome (suc fuel) before start kinds cs split =
+  arguments_outcome before start [] cs split =
+      onward_at before split (argument_outcome signature n deeper laws cs) (λ a f s. choose (λ _. refused WrongNumberOfArguments context.LongHand (inl refl)) (λ _.
+      past (before ++ s.text) (split_again before s.text a.1 split s.split) (refused ExpectedClosingParenthesis context.LongHand (inl refl))))
+  arguments_outcome before start (kind ∷ kinds) cs split =
       onward_at before split (argument_outcome signature n deeper laws cs) (λ a f s.
       let t = s.is_so.0 in
       let k = s.is_so.1 in
@@ -320,15 +312,16 @@ module _ (signature : List ℕ → Option Signature) (n : ℕ) (deeper : Deeper)
       let whole : start ≡ here ++ a.1 = split_again before (t ++ k) a.1 split (s.split ∙ ap (λ (l : List ℕ). l ++ a.1) s.is_so.4) in
       choose (λ ends.
       let is = argument_is signature n deeper laws cs a s f ends in
-      judged_outcome (λ kinds. Spaced (Past before (AreSome kinds))) before start cs kinds a.0 split (λ kind left fit.
-      remade {is = Past here (AreMore k left)} (λ more. argument a.0 more)
-      (λ u more h. ((t ++ k) ++ h.0, with_first a.0 kind left t k h.0 more is (fits_typed signature n a.0 kind is.0 fit) h.1, h.2 ∙ append_assoc before (t ++ k) h.0))
+      choose (λ fit.
+      remade {is = Past here (AreMore k kinds)} (λ more. argument a.0 more)
+      (λ u more h. ((t ++ k) ++ h.0, with_first a.0 kind kinds t k h.0 more is (fits_typed signature n a.0 kind is.0 fit) h.1, h.2 ∙ append_assoc before (t ++ k) h.0))
       (choose (λ comma.
       let i = blanks_of (drop 1 a.1) in
-      weaker_spaced (λ u args h. (44 ∷ (i ++ h.0), after_comma k i left h.0 args s.is_so.3 (are_blank (drop 1 a.1)) h.1, h.2 ∙ append_assoc here (44 ∷ i) h.0))
-      (arguments_outcome fuel (here ++ (44 ∷ i)) start left (past_blanks (drop 1 a.1)) (split_again here (44 ∷ i) (past_blanks (drop 1 a.1)) whole (after_sign 44 a.1 comma))))
+      weaker_spaced (λ u args h. (44 ∷ (i ++ h.0), after_comma k i kinds h.0 args s.is_so.3 (are_blank (drop 1 a.1)) h.1, h.2 ∙ append_assoc here (44 ∷ i) h.0))
+      (arguments_outcome (here ++ (44 ∷ i)) start kinds (past_blanks (drop 1 a.1)) (split_again here (44 ∷ i) (past_blanks (drop 1 a.1)) whole (after_sign 44 a.1 comma))))
       (λ no_comma.
-      ended_outcome start (here ++ 41 ∷ []) left (drop 1 a.1) (split_again here (41 ∷ []) (drop 1 a.1) whole (after_one 41 a.1 (closes a.1 ends no_comma))) (λ none. (41 ∷ [], ((none, omega arith), [], k, refl, s.is_so.3, refl), refl))))))
+      ended_outcome start (here ++ 41 ∷ []) kinds (drop 1 a.1) (split_again here (41 ∷ []) (drop 1 a.1) whole (after_one 41 a.1 (closes a.1 ends no_comma))) (λ none. (41 ∷ [], ((none, omega arith), [], k, refl, s.is_so.3, refl), refl)))))
+      (λ _. past before split (refused WrongArgumentType context.LongHand (inl refl))))
       (λ _. past here whole (refused ExpectedClosingParenthesis context.LongHand (inl refl))))
     where
       closes : (cs : List ℕ) → begins ends_argument cs ≡ true → is_at "," cs ≡ false → is_at ")" cs ≡ true
@@ -343,7 +336,7 @@ module _ (signature : List ℕ → Option Signature) (n : ℕ) (deeper : Deeper)
   parameters_outcome before start kinds cs split =
       choose (λ e.
       ended_outcome start (before ++ 41 ∷ []) kinds (drop 1 cs) (split_again before (41 ∷ []) (drop 1 cs) split (after_one 41 cs e)) (λ none. (41 ∷ [], ((none, omega arith), [], [], refl, tt, refl), refl))) (λ _.
-      weaker_spaced (λ u args h. (h.0, some_closed kinds h.0 args h.1, h.2)) (arguments_outcome (length cs) before start kinds cs split))
+      weaker_spaced (λ u args h. (h.0, some_closed kinds h.0 args h.1, h.2)) (arguments_outcome before start kinds cs split))
 
   -- a call of this name, which begins at start
   pub call_outcome : (start f cs : List ℕ) (sig : Option Signature) → IsFunctionName f f → start ≡ f ++ (40 ∷ cs) → signature f ≡ sig
@@ -372,29 +365,21 @@ module _ (signature : List ℕ → Option Signature) (n : ℕ) (deeper : Deeper)
     follows (argument a more) t (s, b, c, (j, i, blanks, after, sign), is, are, e) =
         ap (begins ends_argument) (at_sign (codes ",") t s j i b c closing (λ cs. refl) blanks sign e)
 
-    arguments_again : (fuel : ℕ) (start : List ℕ) (kinds : List Kind) (a : Argument) (more : Arguments) (t others : List ℕ) → AreTypedArguments signature (argument a more) kinds → arguments_depth (argument a more) ≤ n
-        → ReadsArgument a t → ReadMoreArguments more others → length (t ++ (others ++ closing)) ≤ fuel
-        → arguments_at signature deeper fuel (byte_count start) kinds (t ++ (others ++ closing)) ≡ Ok (argument a more, past_blanks rest)
-    unfolding arguments_at judged ended
-    arguments_again zero start kinds a more t others typed shallow is are enough =
-        absurd (omega (arith, enough, length-append t (others ++ closing), length-append others closing, length-append k (41 ∷ rest)))
-    arguments_again (suc fuel) start [] a more t others typed shallow is are enough = absurd typed
-    arguments_again (suc fuel) start (kind ∷ kinds) a no_arguments t others typed shallow is are enough =
+    arguments_again : (start : List ℕ) (kinds : List Kind) (a : Argument) (more : Arguments) (t others : List ℕ) → AreTypedArguments signature (argument a more) kinds → arguments_depth (argument a more) ≤ n
+        → ReadsArgument a t → ReadMoreArguments more others → arguments_at signature deeper (byte_count start) kinds (t ++ (others ++ closing)) ≡ Ok (argument a more, past_blanks rest)
+    unfolding arguments_at ended
+    arguments_again start [] a more t others typed shallow is are = absurd typed
+    arguments_again start (kind ∷ kinds) a no_arguments t others typed shallow is are =
         let read : argument_at signature deeper (t ++ (others ++ closing)) ≡ Ok (a, 41 ∷ rest) =
         argument_again signature n deeper laws t a (others ++ closing) (typed_good signature n a kind typed.0 (omega (arith, shallow)), is) (follows no_arguments others are)
         ∙ ap (λ (l : List ℕ). Ok (a, l)) (ap (λ (l : List ℕ). past_blanks (l ++ closing)) are ∙ at_closing) in
         rw (read, typed_fits signature a kind typed.0, typed.1) refl
-    arguments_again (suc fuel) start (kind ∷ kinds) a (argument b more) t others typed shallow is (s, c, d, (j, i, blanks, after, sign), next, are, e) enough =
-        let split : others ≡ (j ++ (44 ∷ i)) ++ (c ++ d) = e ∙ ap (λ (l : List ℕ). l ++ (c ++ d)) sign in
+    arguments_again start (kind ∷ kinds) a (argument b more) t others typed shallow is (s, c, d, (j, i, blanks, after, sign), next, are, e) =
         let read : argument_at signature deeper (t ++ (others ++ closing)) ≡ Ok (a, 44 ∷ (i ++ (c ++ (d ++ closing)))) =
         argument_again signature n deeper laws t a (others ++ closing) (typed_good signature n a kind typed.0 (omega (arith, shallow)), is) (follows (argument b more) others (s, c, d, (j, i, blanks, after, sign), next, are, e))
         ∙ ap (λ (l : List ℕ). Ok (a, l)) (at_sign (codes ",") others s j i c d closing (λ cs. refl) blanks sign e) in
         let onward : past_blanks (i ++ (c ++ (d ++ closing))) ≡ c ++ (d ++ closing) = past_all i (c ++ (d ++ closing)) after (no_blank_begins (c ++ (d ++ closing)) (argument_begins signature n deeper laws c b (d ++ closing) next)) in
-        let front : length others ≡ length (j ++ (44 ∷ i)) + length (c ++ d) = ap length split ∙ length-append (j ++ (44 ∷ i)) (c ++ d) in
-        let ahead : length (c ++ (d ++ closing)) < length (t ++ (others ++ closing)) =
-        omega (arith, front, length-append t (others ++ closing), length-append others closing, length-append j (44 ∷ i), length-append c d, length-append c (d ++ closing), length-append d closing) in
-        let shorter : length (c ++ (d ++ closing)) ≤ fuel = omega (arith, enough, ahead) in
-        rw (read, typed_fits signature a kind typed.0, onward, arguments_again fuel start kinds b more c d typed.1 (omega (arith, shallow)) next are shorter) refl
+        rw (read, typed_fits signature a kind typed.0, onward, arguments_again start kinds b more c d typed.1 (omega (arith, shallow)) next are) refl
 
     -- after `(` and blanks
     parameters_again : (start : List ℕ) (kinds : List Kind) (args : Arguments) (t : List ℕ) → AreTypedArguments signature args kinds → arguments_depth args ≤ n → ReadArguments args t
@@ -408,7 +393,7 @@ module _ (signature : List ℕ → Option Signature) (n : ℕ) (deeper : Deeper)
         let begun : begins begins_expression (b ++ (others ++ closing)) ≡ true = argument_begins signature n deeper laws b a (others ++ closing) is in
         let here : past_blanks (t ++ closing) ≡ b ++ (others ++ closing) = ap past_blanks whole ∙ past_all [] (b ++ (others ++ closing)) tt (no_blank_begins (b ++ (others ++ closing)) begun) in
         let closes_not : is_at ")" (b ++ (others ++ closing)) ≡ false = begins_differs begins_expression 41 (b ++ (others ++ closing)) refl begun in
-        rw (here, closes_not) (arguments_again (length (b ++ (others ++ closing))) start kinds a more b others typed shallow is are (omega arith))
+        rw (here, closes_not) (arguments_again start kinds a more b others typed shallow is are)
 
   -- ---- calls
 

@@ -13,7 +13,8 @@ use Rattle.serde_json_path_parser.proofs.Words.{operator_at, comparable_at, test
 use Rattle.serde_json_path_parser.specs.declared.error.Context.TheVariants as context
 use Rattle.serde_json_path_parser.specs.Operands.{a_query}
 use Rattle.serde_json_path_parser.specs.Filters.{filter_at}
-use Rattle.serde_json_path_parser.proofs.Grammar.LogicalForms.{filter_laws, IsGoodInside, IsGoodQuery, IsGoodCall, good_segments, DeeperLaws, Follows, ends_operand, segments_good, IsCallText, IsOperandText, singular_query, ends_basic, query_singular, IsBasicText, IsComparableText, begins_operand, operand_begins, as_expression, no_blank_begins}
+use Rattle.serde_json_path_syntax.proofs.Tree.NamedParts.{query_singular}
+use Rattle.serde_json_path_parser.proofs.Grammar.LogicalForms.{filter_laws, IsGoodInside, IsGoodQuery, IsGoodCall, good_segments, DeeperLaws, Follows, ends_operand, segments_good, IsCallText, IsOperandText, singular_query, ends_basic, IsBasicText, IsComparableText, begins_operand, operand_begins, as_expression, no_blank_begins}
 use Rattle.serde_json_path_parser.proofs.Grammar.Numbers.{number_outcome, goes_on, number_first, number_again}
 use Rattle.serde_json_path_parser.proofs.Reading.Runs.{whole, front_each, front_begins, some_begun, begins_front, begins_where, differs, begins_differs, front_all, past_run, no_blank, blanks_of, are_blank, split_blanks, begins_not, past_all}
 use Rattle.serde_json_path_parser.proofs.Grammar.Segments.{segments_outcome, same_segments, segments_again}

@@ -176,27 +176,13 @@ singular_is (long_hand (selector (name k) no_selectors)) e = tt
 singular_is (long_hand (selector (index i) no_selectors)) e = tt
 singular_is _ e = absurd cc
 
-is_singular_so : (seg : Segment) → IsSingularSegment seg → is_singular_segment seg ≡ true
-is_singular_so (dot_name k) h = refl
-is_singular_so (long_hand (selector (name k) no_selectors)) h = refl
-is_singular_so (long_hand (selector (index i) no_selectors)) h = refl
-is_singular_so _ h = absurd h
-
 singular_segments : (segs : Segments) → are_singular segs ≡ true → AreSingular segs
 singular_segments no_segments e = tt
 singular_segments (segment child seg more) e = let h = and_parts _ _ e in (singular_is seg h.0, singular_segments more h.1)
 singular_segments (segment descendant seg more) e = absurd cc
 
-segments_singular : (segs : Segments) → AreSingular segs → are_singular segs ≡ true
-segments_singular no_segments h = refl
-segments_singular (segment child seg more) h = rw (is_singular_so seg h.0, segments_singular more h.1) refl
-segments_singular (segment descendant seg more) h = absurd h
-
 pub singular_query : (q : Query) → is_singular q ≡ true → IsSingular q
 singular_query (query kind segs) e = singular_segments segs e
-
-pub query_singular : (q : Query) → IsSingular q → is_singular q ≡ true
-query_singular (query kind segs) h = segments_singular segs h
 
 -- ---- how operands and logical expressions begin
 

@@ -19,7 +19,8 @@ use Rattle.serde_json_path_parser.proofs.Reading.Runs.{begins_differs}
 use Rattle.std.proofs.lemmas.Bool.Decides.{same_from_decides}
 use Rattle.serde_json_path_parser.specs.Operands.{a_query}
 use Rattle.serde_json_path_parser.proofs.Grammar.Calls.{amount_whole, whole_amount}
-use Rattle.serde_json_path_parser.proofs.Grammar.LogicalForms.{singular_query, query_singular}
+use Rattle.serde_json_path_parser.proofs.Grammar.LogicalForms.{singular_query}
+use Rattle.serde_json_path_syntax.proofs.Tree.NamedParts.{query_singular}
 
 -- ---- which literal a word is
 

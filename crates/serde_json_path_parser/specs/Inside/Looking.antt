@@ -44,7 +44,7 @@ pub record LooksOn (old new : Told) (count number : ℕ) : Type 0 where
   pub looks : new.looks ≤ old.looks + count
   pub farthest : new.farthest ≤ max old.farthest number
 
--- ---- aSCII characters that are taken many at a time
+-- ---- ASCII characters that are taken many at a time
 
 -- an ASCII character of a member name
 abbrev pub is_ascii_name_char : ℕ → Bool

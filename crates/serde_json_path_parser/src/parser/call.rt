@@ -1,6 +1,6 @@
 //! Calls of functions (RFC 9535, section 2.4).
 
-ghost use Rattle.std.specs.Prelude.{◌≡◌, ◌==◌, ◌<◌, ℕ, List, drop, length, map, true, string_bytes, ◌≤◌, Option, IfOk};
+ghost use Rattle.std.specs.Prelude.{◌≡◌, ◌==◌, ◌<◌, ℕ, List, drop, length, map, true, string_bytes, Option, IfOk};
 ghost use Rattle.serde_json_path_syntax.specs.Parts.{KeepsParts, IsPart};
 ghost use Rattle.serde_json_path_syntax.specs.Piece.{an_argument};
 ghost use Rattle.serde_json_path_functions.specs.Functions.{Signature};
@@ -16,7 +16,7 @@ ghost use Rattle.serde_json_path_syntax.specs.Tree as tree;
 ghost use Rattle.serde_json_path_syntax.specs.Tree.{no_arguments};
 
 use crate::error::{Context, Failure, ParseErrorKind};
-use crate::parser::filter_parser::FilterParser;
+use crate::parser::Parser;
 use crate::parser::operand::Operand;
 use crate::parser::reader::Reader;
 use crate::source::PathSource;
@@ -35,27 +35,27 @@ pub(crate) enum Argument {
 
 impl Argument {
     /// Whether a parameter of that type takes the argument (RFC 9535, section 2.4.3).
-    fn fits(&self, builder: &SyntaxBuilder, kind: FunctionArgType) -> bool
+    fn fits(&self, builder: &SyntaxBuilder, wanted: FunctionArgType) -> bool
         requires { (signature : List ℕ → Option Signature) × (x : tree.Argument)
             × IsArgumentOf signature builder.now self.now x }
         ensures { (signature : List ℕ → Option Signature) (x : tree.Argument)
             → IsArgumentOf signature builder.now self.now x
-            → result ≡ operands.fits signature x (kind_view kind) }
+            → result ≡ operands.fits signature x (kind_view wanted) }
     {
         match self {
-            Argument::Operand(Operand::Literal(literal)) => match kind {
+            Argument::Operand(Operand::Literal(literal)) => match wanted {
                 FunctionArgType::Value => literal.is_value(),
                 _ => false,
             },
-            Argument::Operand(Operand::Query(query)) => match kind {
+            Argument::Operand(Operand::Query(query)) => match wanted {
                 FunctionArgType::Value => builder.is_singular(*query),
                 _ => true,
             },
             Argument::Operand(Operand::Call(_, result)) => {
-                kind == *result
-                    || kind == FunctionArgType::Logical && *result == FunctionArgType::Nodelist
+                wanted == *result
+                    || wanted == FunctionArgType::Logical && *result == FunctionArgType::Nodelist
             }
-            Argument::Logical(_) => kind == FunctionArgType::Logical,
+            Argument::Logical(_) => wanted == FunctionArgType::Logical,
         }
     }
 
@@ -77,20 +77,20 @@ impl Argument {
     }
 }
 
-/// Parses the end of a call, at its `)`, and the blanks after it. `kinds` are the types of the parameters that have
+/// Parses the end of a call, at its `)`, and the blanks after it. `types` are those of the parameters that have
 /// no argument yet. `place` bytes are left where the call begins.
 #[tactic(auto, unfolding(crate::specs::Filters::ended))]
 fn parse_end<S: PathSource>(
     reader: &mut Reader<'_, S>,
     place: usize,
-    kinds: &[FunctionArgType],
+    types: &[FunctionArgType],
 ) -> Result<(), Failure>
     requires { 0 < length (left reader.old) }
     ensures moves { MovesTo result reader.old reader.new }
     ensures gives { Gives (λ u. no_arguments) result reader.new
-        (ended place (map kind_view kinds.now) (drop 1 (left reader.old))) }
+        (ended place (map kind_view types.now) (drop 1 (left reader.old))) }
 {
-    if !kinds.is_empty() {
+    if !types.is_empty() {
         return Err(Failure::in_long_hand(ParseErrorKind::WrongNumberOfArguments, place));
     }
     reader.take_char();
@@ -98,7 +98,7 @@ fn parse_end<S: PathSource>(
     Ok(())
 }
 
-impl<F: Functions> FilterParser<'_, F> {
+impl<F: Functions> Parser<'_, F> {
     /// Parses a call of the function of that name, from its `(` on, and the blanks after it: the call, and the type
     /// of its result. `place` bytes are left where the call begins.
     #[cycle(filters)]
@@ -125,7 +125,7 @@ impl<F: Functions> FilterParser<'_, F> {
         reader.skip_blanks();
         let mut arguments = Vec::new(self.alloc);
         self.deeper()
-            .parse_parameters(builder, reader, place, signature.params(), &mut arguments)?;
+            .parse_arguments(builder, reader, place, signature.params(), &mut arguments)?;
         let call = builder.call(name, signature, arguments)?;
         Ok((call, signature.result()))
     }
@@ -134,66 +134,51 @@ impl<F: Functions> FilterParser<'_, F> {
     /// are appended to `parts`.
     #[cycle(filters)]
     #[tactic(auto, unfolding(crate::specs::Filters::parameters_at))]
-    fn parse_parameters<S: PathSource>(
-        &self,
-        builder: &mut SyntaxBuilder,
-        reader: &mut Reader<'_, S>,
-        place: usize,
-        kinds: &[FunctionArgType],
-        parts: &mut Vec<Part>,
-    ) -> Result<(), Failure>
-        ensures moves { MovesTo result reader.old reader.new }
-        ensures gives { MakesArguments (signatures F.set self.now) builder.old builder.new
-            parts.old.items parts.new.items result reader.new
-            (at_level F.set self.now filters.parameters_at place (map kind_view kinds.now)
-            (left reader.old)) }
-    {
-        if reader.sees(b')') {
-            return parse_end(reader, place, kinds);
-        }
-        self.parse_arguments(builder, reader, place, kinds, parts)
-    }
-
-    /// Parses one argument or more, and the end of the call.
-    // A call has at most eight parameters, and a ninth argument is refused, so that the recursion stays flat.
-    #[cycle(filters)]
     fn parse_arguments<S: PathSource>(
         &self,
         builder: &mut SyntaxBuilder,
         reader: &mut Reader<'_, S>,
         place: usize,
-        kinds: &[FunctionArgType],
+        types: &[FunctionArgType],
         parts: &mut Vec<Part>,
     ) -> Result<(), Failure>
         ensures moves { MovesTo result reader.old reader.new }
-        ensures gives { (fuel : ℕ) → length (left reader.old) ≤ fuel
-            → MakesArguments (signatures F.set self.now) builder.old builder.new
+        ensures gives { MakesArguments (signatures F.set self.now) builder.old builder.new
             parts.old.items parts.new.items result reader.new
-            (at_level F.set self.now filters.arguments_at fuel place (map kind_view kinds.now)
+            (at_level F.set self.now filters.parameters_at place (map kind_view types.now)
             (left reader.old)) }
     {
-        let argument_place = reader.bytes_left();
-        let argument = self.parse_argument(builder, reader)?;
-        if !reader.sees_end_of_argument() {
-            return Err(reader.refuse(
-                ParseErrorKind::ExpectedClosingParenthesis,
-                Context::LongHand,
-            ));
+        if reader.sees(b')') {
+            return parse_end(reader, place, types);
         }
-        let Some((kind, more)) = kinds.split_first() else {
-            return Err(Failure::in_long_hand(ParseErrorKind::WrongNumberOfArguments, place));
-        };
-        if !argument.fits(builder, *kind) {
-            return Err(Failure::in_long_hand(ParseErrorKind::WrongArgumentType, argument_place));
-        }
-        let part = argument.part(builder)?;
-        parts.push(part)?;
-        if reader.sees(b',') {
+        let mut types = types;
+        'arguments: loop {
+            let argument_place = reader.bytes_left();
+            let argument = self.parse_argument(builder, reader)?;
+            if !reader.sees_end_of_argument() {
+                return Err(reader.refuse(
+                    ParseErrorKind::ExpectedClosingParenthesis,
+                    Context::LongHand,
+                ));
+            }
+            let Some((first, others)) = types.split_first() else {
+                return Err(Failure::in_long_hand(ParseErrorKind::WrongNumberOfArguments, place));
+            };
+            if !argument.fits(builder, *first) {
+                return Err(Failure::in_long_hand(
+                    ParseErrorKind::WrongArgumentType,
+                    argument_place,
+                ));
+            }
+            let part = argument.part(builder)?;
+            parts.push(part)?;
+            if !reader.sees(b',') {
+                return parse_end(reader, place, others);
+            }
             reader.take_char();
             reader.skip_blanks();
-            return self.parse_arguments(builder, reader, place, more, parts);
+            types = others;
         }
-        parse_end(reader, place, more)
     }
 
     /// Parses an argument and the blanks after it.
@@ -209,7 +194,7 @@ impl<F: Functions> FilterParser<'_, F> {
             result reader.new
             (at_level F.set self.now argument_at (left reader.old)) }
     {
-        if reader.sees_expression() {
+        if reader.sees_parenthesis_or_negation() {
             let expression = self.parse_logical_or(builder, reader)?;
             return Ok(Argument::Logical(expression));
         }

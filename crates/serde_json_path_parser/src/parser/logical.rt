@@ -16,7 +16,7 @@ ghost use Rattle.serde_json_path_parser.specs.Parsed.{byte_count, past_blanks};
 ghost use Rattle.serde_json_path_parser.specs.Inside.Reading.{left};
 
 use crate::error::{Context, Failure, ParseErrorKind};
-use crate::parser::filter_parser::FilterParser;
+use crate::parser::Parser;
 use crate::parser::operand::Operand;
 use crate::parser::primitive::operator::parse_operator;
 use crate::parser::reader::Reader;
@@ -24,7 +24,7 @@ use crate::source::PathSource;
 use serde_json_path_functions::{FunctionArgType, Functions};
 use serde_json_path_syntax::{Part, Parts, QueryKind, SyntaxBuilder};
 
-impl<F: Functions> FilterParser<'_, F> {
+impl<F: Functions> Parser<'_, F> {
     /// Parses the expression of a filter or a parenthesis, from its `?` or `(` on.
     #[cycle(filters)]
     pub(crate) fn parse_inside<S: PathSource>(
@@ -221,7 +221,7 @@ impl<F: Functions> FilterParser<'_, F> {
     }
 
     /// Parses what is negated, after `!` and blanks, and the blanks after it.
-    // Within `parse_basic` its nodes would widen the frame of each parenthesis.
+    // Inlined into `parse_basic`, it would widen the stack frame of each parenthesis.
     #[inline(never)]
     #[cycle(filters)]
     #[tactic(auto, unfolding(crate::specs::Filters::negated_at))]

@@ -15,7 +15,7 @@ ghost use Rattle.serde_json_path_parser.specs.Operands.{calls_in_operand};
 ghost use Rattle.serde_json_path_parser.specs.Inside.Reading.{left};
 
 use crate::error::{Context, Failure, ParseErrorKind};
-use crate::parser::filter_parser::FilterParser;
+use crate::parser::Parser;
 use crate::parser::primitive::number::parse_number;
 use crate::parser::primitive::string::parse_string;
 use crate::parser::primitive::word::{literal_word, read_word};
@@ -56,7 +56,7 @@ fn parse_text<S: PathSource>(
     Ok(Operand::Literal(Literal::String(text)))
 }
 
-impl<F: Functions> FilterParser<'_, F> {
+impl<F: Functions> Parser<'_, F> {
     /// Parses a query in a filter, from its `@` or `$` on, and the blanks after it.
     #[cycle(filters)]
     #[tactic(auto, unfolding(crate::specs::Filters::query_at))]

@@ -7,8 +7,8 @@ ghost use Rattle.serde_json_path_parser.specs.Parsing.{opens_after_root};
 ghost use Rattle.serde_json_path_parser.specs.Inside.Reading.{left};
 
 use crate::error::{Context, Failure, ParseErrorKind, Refusal};
-use crate::parser::filter_parser::{DEEPEST, FilterParser};
 use crate::parser::reader::Reader;
+use crate::parser::{DEEPEST, Parser};
 use crate::source::PathSource;
 use serde_json_path_functions::Functions;
 use serde_json_path_syntax::{Checked, QueryKind, SyntaxBuilder};
@@ -35,12 +35,12 @@ pub(crate) fn parse_path<S: PathSource, F: Functions>(
     }
     reader.take_char();
     let mut builder = SyntaxBuilder::new(alloc);
-    let filters = FilterParser {
+    let parser = Parser {
         alloc,
         functions,
         depth: DEEPEST,
     };
-    let (parts, rest) = filters.parse_segments(&mut builder, reader, Context::Path)?;
+    let (parts, rest) = parser.parse_segments(&mut builder, reader, Context::Path)?;
     if rest != 0 {
         return Err(Failure::Refused(Refusal {
             kind: ParseErrorKind::TextAfterPath,

@@ -1,9 +1,9 @@
 //! A text that is read character by character, and each byte looked at once.
 
-ghost use Rattle.std.specs.Prelude.{◌≡◌, ◌==◌, ◌<◌, ◌≤◌, ◌+◌, ◌-◌, ◌^◌, ◌∷◌, ℕ, length, slice_get, drop, true, max, None, IfOk, IsTrue, is_ok, string_bytes, ◌++◌};
-ghost use Rattle.std.specs.Str.{is_utf8, chars, encode_utf8_all as encoded};
+ghost use Rattle.std.specs.Prelude.{◌≡◌, ◌==◌, ◌<◌, ◌≤◌, ◌+◌, ◌-◌, ◌^◌, ◌∷◌, ℕ, length, slice_get, drop, true, max, None, Some, IfOk, IsTrue, is_ok, string_bytes, ◌++◌};
+ghost use Rattle.std.specs.Str.{is_utf8, chars};
 ghost use Rattle.std.specs.Char.{IsScalar};
-ghost use Rattle.serde_json_path_parser.specs.Inside.Looking.{is_ascii_plain, Stretched, is_ascii, limit_of, IsAhead, IsSecond, up_to};
+ghost use Rattle.serde_json_path_parser.specs.Inside.Looking.{is_ascii_plain, Stretched, is_ascii, limit_of, IsAhead, IsSecond};
 ghost use Rattle.serde_json_path_parser.specs.Lexical.{begins, begins_both, is_blank, is_digit, is_name_first, is_name_char, is_small_letter, is_function_char};
 ghost use Rattle.serde_json_path_parser.specs.Source.{greatest_usize};
 ghost use Rattle.serde_json_path_parser.specs.Parsed.{front, past};
@@ -63,28 +63,6 @@ impl<'s, S: PathSource> Reader<'s, S> {
         }
     }
 
-    /// A reader at an index of a text, where this byte is next.
-    fn resume(source: &'s mut S, index: usize, next: Option<u8>) -> Reader<'s, S>
-        requires short { length (S.told source.old).text < greatest_usize }
-        requires within { index ≤ length (S.told source.old).text }
-        requires utf8 { is_utf8 (drop index (S.told source.old).text) ≡ true }
-        requires next_is { next ≡ slice_get (S.told source.old).text index }
-        ensures same_source { result.source.ghost_name ≡ source.entry.ghost_name }
-        ensures told { told result ≡ S.told source.old }
-        ensures index { result.index ≡ index }
-        ensures next { result.next ≡ next }
-        ensures second { result.second ≡ None }
-    {
-        let limit = source.len();
-        Reader {
-            source,
-            index,
-            next,
-            second: None,
-            limit,
-        }
-    }
-
     /// The byte that is next.
     fn peek(&self) -> Option<u8>
         ensures { IsAhead result (left self.now) }
@@ -135,14 +113,14 @@ impl<'s, S: PathSource> Reader<'s, S> {
         self.take_char();
     }
 
-    /// Whether a parenthesis or a negation begins here.
-    pub(crate) fn sees_expression(&self) -> bool
+    /// Whether `(` or `!` is next.
+    pub(crate) fn sees_parenthesis_or_negation(&self) -> bool
         ensures { result ≡ begins (λ c. c ∈ "(!") (left self.now) }
     {
         self.sees(b'(') || self.sees(b'!')
     }
 
-    /// Whether an argument ends here.
+    /// Whether `,` or `)` is next, which end an argument.
     pub(crate) fn sees_end_of_argument(&self) -> bool
         ensures { result ≡ begins ends_argument (left self.now) }
     {
@@ -303,35 +281,31 @@ impl<'s, S: PathSource> Reader<'s, S> {
             ≡ string_bytes text.old ++ encode_utf8_all (front is_name_char (left self.old))) }
         ensures rest { IfOk result (λ u. left self.new ≡ past is_name_char (left self.old)) }
     {
-        if self.second.is_some() {
-            if !self.sees_name_char() {
-                return Ok(());
+        'chars: while self.sees_name_char() {
+            let first = self.next.unwrap();
+            // Many at a time only after a longer text, since a short name would gain nothing.
+            if first >= 0x80 || text.len() < 32 || self.second.is_some() {
+                text.push(self.take_char())?;
+                continue;
             }
-            text.push(self.take_char())?;
+            self.take_name_stretch(first, text)?;
         }
-        let (index, next, pushed) = name_chars(self.source, self.index, self.next, text);
-        self.index = index;
-        self.next = next;
-        pushed
+        Ok(())
     }
 
-    /// Takes one or more characters of a member name that are next, and appends them to a text.
-    fn take_name_part(&mut self, text: &mut String) -> Result<(), AllocError>
+    /// Takes one or more ASCII characters of a member name, the first of which is this one, and appends them to a text.
+    fn take_name_stretch(&mut self, first: u8, text: &mut String) -> Result<(), AllocError>
+        requires ascii { first < 128 }
+        requires first_is { self.old.next ≡ Some first }
         requires begun { begins is_name_char (left self.old) ≡ true }
         requires second { self.old.second ≡ None }
         ensures moves { Moves self.old self.new }
-        ensures second { self.new.second ≡ None }
         ensures less { length (left self.new) < length (left self.old) }
         ensures text { IfOk result (λ u.
             string_bytes text.new ++ encode_utf8_all (front is_name_char (left self.new))
             ≡ string_bytes text.old ++ encode_utf8_all (front is_name_char (left self.old))) }
         ensures rest { past is_name_char (left self.new) ≡ past is_name_char (left self.old) }
     {
-        let first = self.next.unwrap();
-        // Many at a time only after a longer text, since a short name would gain nothing.
-        if first >= 0x80 || text.len() < 32 {
-            return text.push(self.take_char());
-        }
         let (index, next, pushed) = push_stretch(self.source, self.index, first, &NameChars, text);
         self.index = index;
         self.next = next;
@@ -430,46 +404,4 @@ impl<'s, S: PathSource> Reader<'s, S> {
             limit: _,
         } = self;
     }
-}
-
-/// Takes the characters of a member name from an index on, where this byte is next. Returns the index after them, and
-/// the byte there. The reader is a local one, so that long names are read without a step through memory for each
-/// byte.
-fn name_chars<S: PathSource>(
-    source: &mut S,
-    index: usize,
-    next: Option<u8>,
-    text: &mut String,
-) -> (usize, Option<u8>, Result<(), AllocError>)
-    requires short { length (S.told source.old).text < greatest_usize }
-    requires within { index ≤ length (S.told source.old).text }
-    requires utf8 { is_utf8 (drop index (S.told source.old).text) ≡ true }
-    requires next_is { next ≡ slice_get (S.told source.old).text index }
-    ensures same_text { (S.told source.new).text ≡ (S.told source.old).text }
-    ensures within { result.0 ≤ length (S.told source.new).text }
-    ensures utf8 { is_utf8 (drop result.0 (S.told source.new).text) ≡ true }
-    ensures next_is { result.1 ≡ slice_get (S.told source.new).text result.0 }
-    ensures looks { (S.told source.new).looks + up_to index next
-        ≤ (S.told source.old).looks + up_to result.0 result.1 }
-    ensures farthest { (S.told source.new).farthest
-        ≤ max (S.told source.old).farthest (up_to result.0 result.1) }
-    ensures on { up_to index next ≤ up_to result.0 result.1 }
-    ensures text { IfOk result.2 (λ u. string_bytes text.new
-        ≡ string_bytes text.old ++ encoded (front is_name_char
-        (chars (drop index (S.told source.old).text)))) }
-    ensures rest { IfOk result.2 (λ u. chars (drop result.0 (S.told source.new).text)
-        ≡ past is_name_char (chars (drop index (S.told source.old).text))) }
-{
-    let mut reader = Reader::resume(source, index, next);
-    let mut pushed = Ok(());
-    while reader.sees_name_char() {
-        pushed = reader.take_name_part(text);
-        if pushed.is_err() {
-            break;
-        }
-    }
-    let index = reader.index;
-    let next = reader.next;
-    reader.close();
-    (index, next, pushed)
 }

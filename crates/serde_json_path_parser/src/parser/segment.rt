@@ -10,7 +10,7 @@ ghost use Rattle.serde_json_path_parser.specs.Parsing.{bracket_at, after_dot, do
 ghost use Rattle.serde_json_path_parser.specs.Inside.Reading.{left};
 
 use crate::error::{Context, Failure, ParseErrorKind};
-use crate::parser::filter_parser::FilterParser;
+use crate::parser::Parser;
 use crate::parser::primitive::name::parse_name;
 use crate::parser::reader::Reader;
 use crate::source::PathSource;
@@ -19,7 +19,7 @@ use serde_json_path_syntax::{Part, Parts, SegmentKind, SyntaxBuilder};
 use std::alloc::Global;
 
 /// Parses what follows the dots of a segment: a member name or `*`.
-// Within `parse_segment` its name would widen the frame of each bracket.
+// Inlined into `parse_segment`, it would widen the stack frame of each bracket.
 #[inline(never)]
 #[tactic(auto, unfolding(crate::specs::Parsing::dotted_at))]
 fn parse_dotted<S: PathSource>(
@@ -52,7 +52,7 @@ fn after_one_dot(context: Context) -> Context
     }
 }
 
-impl<F: Functions> FilterParser<'_, F> {
+impl<F: Functions> Parser<'_, F> {
     /// Parses what follows `[`: selectors and `]`.
     #[cycle(filters)]
     #[tactic(auto, unfolding(crate::specs::Parsing::bracket_at))]

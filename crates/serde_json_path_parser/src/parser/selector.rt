@@ -12,7 +12,7 @@ ghost use Rattle.serde_json_path_parser.specs.Parsing.{position_at, quoted_at, s
 ghost use Rattle.serde_json_path_parser.specs.Inside.Reading.{left};
 
 use crate::error::Failure;
-use crate::parser::filter_parser::FilterParser;
+use crate::parser::Parser;
 use crate::parser::primitive::int::parse_int;
 use crate::parser::primitive::string::parse_string;
 use crate::parser::reader::Reader;
@@ -97,7 +97,7 @@ fn parse_plain_selector<S: PathSource>(
     parse_index_or_slice(builder, reader)
 }
 
-impl<F: Functions> FilterParser<'_, F> {
+impl<F: Functions> Parser<'_, F> {
     /// Parses a selector and the blanks after it (RFC 9535, section 2.3).
     #[cycle(filters)]
     fn parse_selector<S: PathSource>(

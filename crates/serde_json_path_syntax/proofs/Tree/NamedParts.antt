@@ -5,8 +5,8 @@ use Rattle.serde_json_path_syntax.specs.declared.node.Part.{Part}
 use Rattle.std.proofs.lemmas.Bool.{and_parts}
 use Rattle.std.proofs.lemmas.List.{take_all}
 use Rattle.serde_json_path_syntax.specs.Flat.{piece_in, pieces_named, selector_in, selectors_in, pieces, segments_in, ors_in, ands_in, arguments_in}
-use Rattle.serde_json_path_syntax.specs.Kinds.{each_is, is_and, is_argument, is_basic, is_segment, is_selector}
-use Rattle.serde_json_path_syntax.specs.Piece.{Piece}
+use Rattle.serde_json_path_syntax.specs.Kinds.{are_singular, each_is, is_and, is_argument, is_basic, is_query, is_segment, is_selector, is_singular, is_singular_query, is_singular_segment}
+use Rattle.serde_json_path_syntax.specs.Piece.{Piece, a_query}
 use Rattle.serde_json_path_syntax.specs.Tree.{long_hand, Selectors, selector, Selector, name, wildcard, index, slice, filter, IsSingularSegment}
 use Rattle.serde_json_path_syntax.specs.Tree as tree
 use Rattle.serde_json_path_syntax.specs.declared.builder.SyntaxBuilder.{SyntaxBuilder}
@@ -153,6 +153,26 @@ or_parts_for builder (part ∷ parts) e h = h
 pub and_parts_for : (builder : SyntaxBuilder) (parts : List Part) (e : tree.LogicalAnd) → AreAndPartsOf builder parts e → ArePartsFor builder parts (and_pieces e)
 and_parts_for builder [] e h = absurd h
 and_parts_for builder (part ∷ parts) e h = h
+
+-- ---- singular queries
+
+segment_singular : (seg : tree.Segment) → IsSingularSegment seg → is_singular_segment seg ≡ true
+segment_singular (tree.dot_name k) h = refl
+segment_singular (long_hand (selector (name k) tree.no_selectors)) h = refl
+segment_singular (long_hand (selector (index i) tree.no_selectors)) h = refl
+segment_singular _ h = absurd h
+
+segments_singular : (segs : tree.Segments) → tree.AreSingular segs → are_singular segs ≡ true
+segments_singular tree.no_segments h = refl
+segments_singular (tree.segment tree.child seg more) h = rw (segment_singular seg h.0, segments_singular more h.1) refl
+segments_singular (tree.segment tree.descendant seg more) h = absurd h
+
+pub query_singular : (q : tree.Query) → tree.IsSingular q → is_singular q ≡ true
+query_singular (tree.query kind segs) h = segments_singular segs h
+
+pub query_of_singular : (p : Piece) → is_singular_query p ≡ true → is_query p ≡ true
+query_of_singular (a_query q) h = refl
+query_of_singular _ h = absurd cc
 
 -- what a node is made of that names several parts
 pub ruleset of_named_parts = (

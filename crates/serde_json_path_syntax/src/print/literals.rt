@@ -2,13 +2,12 @@
 
 ghost use Rattle.std.specs.Prelude.{◌≡◌, ◌<◌, ◌/◌, ◌^◌, Some, true};
 ghost use Rattle.std.specs.Fmt.{WritesOnOk};
-ghost use Rattle.serde_json.specs.View.{view};
-ghost use Rattle.serde_json_path_syntax.specs.Flat.{literal_of};
+ghost use Rattle.serde_json_path_syntax.specs.Flat.{held_view};
 ghost use Rattle.serde_json_path_syntax.specs.Literals.{literal_view, number_amount};
 ghost use Rattle.serde_json_path_syntax.specs.Text.{amount_text, fraction_text, literal_text, number_text};
-ghost use Rattle.serde_json_path_syntax.specs.Kinds.{is_written};
+ghost use Rattle.serde_json_path_syntax.specs.Kinds.{literal_fits};
 
-use crate::literal::{Literal, NumberLiteral, ONE};
+use crate::literal::{Literal, LiteralValue, NumberLiteral, ONE};
 use serde_json::Value;
 use serde_json_path_nodes::Quoted;
 use std::fmt;
@@ -73,17 +72,18 @@ impl fmt::Display for Literal {
     }
 }
 
-/// A value that stands for a literal.
-pub(crate) fn write_value<W: Write>(f: &mut Formatter<W>, value: &Value) -> fmt::Result
-    requires { is_written (view value.now) ≡ true }
+/// A literal of a tree, as it is written in a path.
+pub(crate) fn write_literal<W: Write>(f: &mut Formatter<W>, literal: &LiteralValue) -> fmt::Result
+    requires { literal_fits literal.now ≡ true }
     ensures { WritesOnOk W.write_str_gives f.old result
-        (literal_text (literal_of (view value.now))) f.new }
+        (literal_text (held_view literal.now)) f.new }
 {
-    match value {
-        Value::String(text) => write!(f, "{}", Quoted(text.as_str())),
-        Value::Bool(true) => f.write_str("true"),
-        Value::Bool(false) => f.write_str("false"),
-        Value::Null => f.write_str("null"),
-        _ => unreachable!(),
+    match literal {
+        LiteralValue::Number(number) => write!(f, "{number}"),
+        LiteralValue::Value(Value::String(text)) => write!(f, "{}", Quoted(text.as_str())),
+        LiteralValue::Value(Value::Bool(true)) => f.write_str("true"),
+        LiteralValue::Value(Value::Bool(false)) => f.write_str("false"),
+        LiteralValue::Value(Value::Null) => f.write_str("null"),
+        LiteralValue::Value(_) => unreachable!(),
     }
 }

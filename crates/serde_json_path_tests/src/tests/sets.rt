@@ -9,7 +9,7 @@ use crate::tests::walks::of_walk;
 use serde_json::Value;
 use serde_json_path::functions::FunctionArgType::{Logical, Nodelist};
 use serde_json_path::functions::{
-    Builtin, FunctionArgType, FunctionValue, Functions, LogicalType, Signature, ValueType,
+    Builtin, FunctionArgType, FunctionValue, Functions, LogicalType, Numbers, Signature, ValueType,
 };
 use serde_json_path::{JsonPath, QueryError};
 use serde_json_path_core_tests::rows::{Table, hold_rows};
@@ -61,6 +61,10 @@ impl Functions for Own {
         }
     }
 
+    fn numbers(&self) -> Numbers {
+        Numbers::Whole
+    }
+
     fn call<'b>(
         &self,
         alloc: Global,
@@ -105,6 +109,10 @@ impl Functions for Odd {
             "length" => Signature::new(&[Nodelist], FunctionArgType::Value),
             _ => None,
         }
+    }
+
+    fn numbers(&self) -> Numbers {
+        Numbers::Whole
     }
 
     fn call<'b>(

@@ -13,8 +13,8 @@ compared_once F top a v x y typed h g = same_Some x y (sym ((compared_right F to
 not_equal_negates : (F : FunctionSet) (top : Data) (a b : Comparable) (v : Data) → KeepsTypes F → IsTypedComparable F.signature a → IsTypedComparable F.signature b
     → HoldsBasic F top (relation a not_equal b) v ↔ (HoldsBasic F top (relation a equal b) v → ⊥)
 not_equal_negates F top a b v keeps typed_a typed_b = (
-  λ h g. h.4 (subst (λ x. AreEqual x h.1) (compared_once F top a v g.0 h.0 typed_a g.2 h.2)
-      (subst (AreEqual g.0) (compared_once F top b v g.1 h.1 typed_b g.3 h.3) g.4)),
+  λ h g. h.4 (subst (λ x. AreEqual F.numbers x h.1) (compared_once F top a v g.0 h.0 typed_a g.2 h.2)
+      (subst (AreEqual F.numbers g.0) (compared_once F top b v g.1 h.1 typed_b g.3 h.3) g.4)),
   λ never.
       let x = compared_there F top keeps a typed_a v in
       let y = compared_there F top keeps b typed_b v in

@@ -9,8 +9,8 @@ ghost use Rattle.serde_json_path_functions.specs.Terms.{term_view};
 use serde_json::Value;
 use serde_json_path_functions::FunctionArgType::{Logical, Nodelist};
 use serde_json_path_functions::{
-    Both, Builtin, FunctionArgType, FunctionValue, Functions, NodesType, QueryError, Signature,
-    ValueType,
+    Both, Builtin, FunctionArgType, FunctionValue, Functions, NodesType, Numbers, QueryError,
+    Signature, ValueType,
 };
 use std::alloc::Global;
 use std::test::Fail;
@@ -38,6 +38,10 @@ impl Functions for Own {
             "memory" => Signature::new(&[], Logical),
             _ => None,
         }
+    }
+
+    fn numbers(&self) -> Numbers {
+        Numbers::Whole
     }
 
     fn call<'b>(

@@ -1,7 +1,7 @@
-use Rattle.std.proofs.Common.{get_or, None, Some, ◌∙◌, arith}
+use Rattle.std.proofs.Common.{get_or, None, Some, ◌∙◌, arith, sym, true≢false}
 use Rattle.serde_json_path_core.proofs.Words.{get_or_default, view, pieces, nodes_in, Part, within_get, typed_segment, child_view}
 use Rattle.serde_json_path_core.proofs.Walks.Chains.{child_stands}
-use Rattle.serde_json_path_core.proofs.Walks.SingleChildren.{child-selected, ends-at, goes_down}
+use Rattle.serde_json_path_core.proofs.Walks.SingleChildren.{child-selected, ends-at, goes_down, next-singular}
 use Rattle.serde_json_path_core.proofs.evaluation.single_children.go_down.Goals as goal
 
 pub single_selector-requires-clause-within : goal.single_selector-requires-clause-within
@@ -37,7 +37,7 @@ returns-in-None-clause-selects c = λ F top.
     let first : Part = record { number = 0 } in
     c.loop-passed.invariant.selects F top
     ∙ goes_down F top (nodes_in c.args.query.now) parts i (get_or parts i first) (view c.loop-passed.reached.now) c.in-Some.selector None c.loop-passed-test.true
-    (get_or_default parts i first (get_or parts i first) c.loop-passed-test.true) c.in-Some.ensures c.in-None.ensures
+    (get_or_default parts i first (get_or parts i first) c.loop-passed-test.true) c.in-Some.ensures.is c.in-None.ensures
 
 pub loop-passed-preserved : goal.loop-passed-preserved
 loop-passed-preserved c =
@@ -49,7 +49,18 @@ loop-passed-preserved c =
       selects = λ F top.
           c.loop-passed.invariant.selects F top
           ∙ goes_down F top (nodes_in c.args.query.now) parts i (get_or parts i first) (view c.loop-passed.reached.now) c.in-Some.selector (Some child) c.loop-passed-test.true
-          (get_or_default parts i first (get_or parts i first) c.loop-passed-test.true) c.in-Some.ensures c.in-Some-select.ensures;
+          (get_or_default parts i first (get_or parts i first) c.loop-passed-test.true) c.in-Some.ensures.is c.in-Some-select.ensures;
+      singular = λ all.
+          (next-singular (nodes_in c.args.query.now) parts i (get_or parts i first) c.loop-passed-test.true (get_or_default parts i first (get_or parts i first) c.loop-passed-test.true) (c.loop-passed.invariant.singular all)).3;
       inside = λ top stands.
           child_stands top (view c.loop-passed.reached.now) child.0 child.1 (child-selected c.in-Some.selector (view c.loop-passed.reached.now) child c.in-Some-select.ensures) (c.loop-passed.invariant.inside top stands);
     }
+
+pub returns-in_default-clause-whole : goal.returns-in_default-clause-whole
+returns-in_default-clause-whole c = λ all.
+    let parts = c.args.segments.now in
+    let i = c.loop-passed.passed in
+    let first : Part = record { number = 0 } in
+    let next = next-singular (nodes_in c.args.query.now) parts i (get_or parts i first) c.loop-passed-test.true (get_or_default parts i first (get_or parts i first) c.loop-passed-test.true) (c.loop-passed.invariant.singular all) in
+    let some = c.single_selector.ensures.each next.0 next.1 next.2 in
+    absurd (true≢false (sym (rw c.in_default.is at some)))

@@ -1,4 +1,5 @@
 use Rattle.std.proofs.Common.{◌≡◌, suc, List, [], ◌∷◌, length, String, Global, string_bytes, bytes_eq, Bool, true, false, ◌&&◌, refl, sym, ap, ◌∙◌}
+use Rattle.serde_json_path_functions.specs.Functions.{Numbers}
 use Rattle.serde_json_path_core.proofs.Words.{view, items_view, members_view, Value, same_data, same_items, same_members}
 use Rattle.serde_json_path_core.proofs.filter.equality.+same.Goals as goal
 
@@ -7,22 +8,22 @@ and-false true = refl
 and-false false = refl
 
 -- lists of two lengths are not equal
-items_differ : (xs ys : List Value) → (length xs ≡ length ys → ⊥) → false ≡ same_items (items_view xs) (items_view ys)
-items_differ [] [] h = absurd (h refl)
-items_differ (x ∷ xs) (y ∷ ys) h = rw (sym (items_differ xs ys (λ e. h (ap suc e))), and-false (same_data (view x) (view y))) refl
-items_differ _ _ h = refl
+items_differ : (numbers : Numbers) (xs ys : List Value) → (length xs ≡ length ys → ⊥) → false ≡ same_items numbers (items_view xs) (items_view ys)
+items_differ numbers [] [] h = absurd (h refl)
+items_differ numbers (x ∷ xs) (y ∷ ys) h = rw (sym (items_differ numbers xs ys (λ e. h (ap suc e))), and-false (same_data numbers (view x) (view y))) refl
+items_differ numbers _ _ h = refl
 
 -- objects of two sizes are not equal
-members_differ : (xs ys : List (String Global × Value)) → (length xs ≡ length ys → ⊥) → false ≡ same_members (members_view xs) (members_view ys)
-members_differ [] [] h = absurd (h refl)
-members_differ (x ∷ xs) (y ∷ ys) h =
-    rw (sym (members_differ xs ys (λ e. h (ap suc e))), and-false (same_data (view x.1) (view y.1)), and-false (bytes_eq (string_bytes x.0) (string_bytes y.0))) refl
-members_differ _ _ h = refl
+members_differ : (numbers : Numbers) (xs ys : List (String Global × Value)) → (length xs ≡ length ys → ⊥) → false ≡ same_members numbers (members_view xs) (members_view ys)
+members_differ numbers [] [] h = absurd (h refl)
+members_differ numbers (x ∷ xs) (y ∷ ys) h =
+    rw (sym (members_differ numbers xs ys (λ e. h (ap suc e))), and-false (same_data numbers (view x.1) (view y.1)), and-false (bytes_eq (string_bytes x.0) (string_bytes y.0))) refl
+members_differ numbers _ _ h = refl
 
 pub same_items-returns-then-len : goal.same_items-returns-then-len
 same_items-returns-then-len t c =
-    items_differ _ _ (λ e. c.if-len.true (c.len.ensures ∙ c.args.left.now.ok.0 ∙ e ∙ sym c.args.right.now.ok.0 ∙ sym c.len-2.ensures))
+    items_differ _ _ _ (λ e. c.if-len.true (c.len.ensures ∙ c.args.left.now.ok.0 ∙ e ∙ sym c.args.right.now.ok.0 ∙ sym c.len-2.ensures))
 
 pub same_members-returns-then-len : goal.same_members-returns-then-len
 same_members-returns-then-len t c =
-    members_differ _ _ (λ e. c.if-len.true (c.len.ensures.len ∙ e ∙ sym c.len-2.ensures.len))
+    members_differ _ _ _ (λ e. c.if-len.true (c.len.ensures.len ∙ e ∙ sym c.len-2.ensures.len))

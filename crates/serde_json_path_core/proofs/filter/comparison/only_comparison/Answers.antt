@@ -1,0 +1,57 @@
+use Rattle.std.proofs.Common.{◌≡◌, ◌∙◌, ap, arith, rules, subst, sym}
+use Rattle.serde_json_path_core.proofs.Words.{common_steps, calls_in_or, comparable_at, or_at, pieces, operator_view, and, no_and, no_or, or}
+use Rattle.serde_json_path_core.proofs.Words.{relation, IsTypedOr, Part, Sound, nodes_of, top_of, within_get, compare_sides}
+use Rattle.serde_json_path_core.specs.Inside.Scopes.{query_of, set_of}
+use Rattle.serde_json_path_core.proofs.Sound.{sound-and, sound-sides}
+use Rattle.serde_json_path_core.proofs.Steps.Lookups.{one-comparison, only-comparison}
+use Rattle.serde_json_path_core.specs.Inside.Comparisons.{compared_by}
+use Rattle.serde_json_path_core.specs.Inside.Evaluates.{SoundComparable, compared_at}
+use Rattle.serde_json_path_core.proofs.filter.comparison.only_comparison.Goals.{In-Basic-Relation}
+use Rattle.serde_json_path_core.proofs.filter.comparison.only_comparison.Goals as goal
+
+pub and_parts-requires-clause-typed : goal.and_parts-requires-clause-typed
+and_parts-requires-clause-typed g c =
+    let scope = c.args.scope.now in
+    let sound =
+    sound-and (set_of scope) (query_of scope) (pieces (nodes_of scope)) c.or_parts.result.now 0 (record { number = 0 }) c.in-len1.len_at_least
+    (subst (Sound scope IsTypedOr calls_in_or) c.or_parts.ensures.tree c.requires.sound) in
+    ((set_of scope).signature, sound.0)
+
+-- the filter is that comparison alone
+only : (g : _) (c : In-Basic-Relation g)
+    → or_at (nodes_of c.args.scope.now) c.args.test
+    ≡ or (and (relation (comparable_at (nodes_of c.args.scope.now) c.in-Basic-Relation.left) (operator_view c.in-Basic-Relation.operator) (comparable_at (nodes_of c.args.scope.now) c.in-Basic-Relation.right)) no_and) no_or
+only g c =
+    let nodes = nodes_of c.args.scope.now in
+    let d : Part = record { number = 0 } in
+    one-comparison (pieces nodes) (or_at nodes c.args.test) c.or_parts.result.now c.and_parts.result.now d _ _ _
+    c.in-len1.len_at_least c.in-len1.len_below c.in-len1-and_parts.len_at_least c.in-len1-and_parts.len_below
+    c.or_parts.ensures.tree c.and_parts.ensures.tree (search rules)
+
+sound : (g : _) (c : In-Basic-Relation g) → SoundComparable c.args.scope.now c.in-Basic-Relation.left × SoundComparable c.args.scope.now c.in-Basic-Relation.right
+sound g c =
+    let scope = c.args.scope.now in
+    sound-sides (set_of scope) (query_of scope) (or_at (nodes_of scope) c.args.test) _ _ _ (only g c) c.requires.sound
+
+pub form_of-left-requires-clause-sound : goal.form_of-left-requires-clause-sound
+form_of-left-requires-clause-sound g c = (sound g (goal.at.form_of-left-requires-clause-sound g c).In-Basic-Relation).0
+
+pub form_of-right-requires-clause-sound : goal.form_of-right-requires-clause-sound
+form_of-right-requires-clause-sound g c = (sound g (goal.at.form_of-right-requires-clause-sound g c).In-Basic-Relation).1
+
+pub returns-in-Basic-Relation : goal.returns-in-Basic-Relation
+returns-in-Basic-Relation g c =
+    let scope = c.args.scope.now in
+    let at = (goal.at.returns-in-Basic-Relation g c).In-Basic-Relation in
+    let d : Part = record { number = 0 } in
+    let op = operator_view c.in-Basic-Relation.operator in
+    let in_or = within_get c.or_parts.result.now 0 d c.in-len1.len_at_least in
+    let in_and = within_get c.and_parts.result.now 0 d c.in-len1-and_parts.len_at_least in (
+      λ v. only-comparison (set_of scope) (top_of scope) (or_at (nodes_of scope) c.args.test) _ _ _ (only g at) v
+          ∙ ap (λ side. compare_sides (set_of scope).numbers op side (compared_at scope c.in-Basic-Relation.right v)) (sym (c.form_of-left.ensures.is v))
+          ∙ ap (compare_sides (set_of scope).numbers op (compared_by scope c.form_of-left.result v)) (sym (c.form_of-right.ensures.is v)),
+      grind (arith, common_steps),
+      grind (arith, common_steps),
+      c.form_of-left.ensures.sound,
+      c.form_of-right.ensures.sound,
+    )

@@ -1,0 +1,167 @@
+use Rattle.std.proofs.Common.{◌≡◌, List, [], ◌∷◌, Option, Some, None, pos, true, refl, sym, subst, ◌∙◌}
+use Rattle.std.specs.Prelude.{String}
+use Rattle.std.specs.declared.alloc.Global.{Global}
+use Rattle.serde_json.specs.Number.{is_valid, num_of}
+use Rattle.serde_json.specs.View.{number_view, view_step}
+use Rattle.serde_json.specs.declared.number.N.{N}
+use Rattle.serde_json.specs.declared.number.N.TheVariants.{PosInt, NegInt, Float as Double}
+use Rattle.serde_json.specs.declared.value.Value.{map-Value, out-Value, fold_out-Value}
+use Rattle.serde_json.specs.declared.value.Value.TheOpen.{Value-F}
+use Rattle.serde_json.specs.Data.{Num, float}
+use Rattle.serde_json_path_numbers.proofs.Floats.{equality}
+use Rattle.serde_json_path_numbers.proofs.Finite.{all_finite}
+use Rattle.serde_json_path_numbers.specs.Laws.{IsFinite}
+use Rattle.serde_json_path_numbers.specs.Numbers.{document_number, literal_number}
+use Rattle.serde_json_path_functions.specs.Functions.{all_numbers}
+use Rattle.serde_json_path_core.specs.Compared.{value}
+use Rattle.serde_json_path_core.proofs.Words.{Data, null, boolean, number, string, array, object, Items, no_items, item, Members, no_members, member}
+use Rattle.serde_json_path_core.proofs.Words.{Value, view, items_view, members_view, Compared, nothing, billionths, AreEqual, EqualData, EqualItems, EqualMembers}
+use Rattle.serde_json_path_core.proofs.laws.law_equality_is_an_equivalence.Goals as goal
+
+-- ---- what a document holds equals itself
+
+-- the data is that of a value
+abbrev IsOfValue : Data → Type 0
+IsOfValue d = (v : Value) × (view v ≡ d)
+
+abbrev AreOfValues : Items → Type 0
+AreOfValues xs = (vs : List Value) × (items_view vs ≡ xs)
+
+abbrev AreOfEntries : Members → Type 0
+AreOfEntries ms = (es : List (String Global × Value)) × (members_view es ≡ ms)
+
+finite_held : (x : N) → is_valid x ≡ true → IsFinite (document_number (num_of x))
+finite_held (PosInt k) h = all_finite.integers (pos k)
+finite_held (NegInt z) h = all_finite.integers z
+finite_held (Double x) h = h
+
+number_in : (layer : Value-F Value) (n : Num) → view_step (map-Value Value Data view layer) ≡ number n → IsFinite (document_number n)
+number_in (Value-F.Number x) n h = let same : number_view x ≡ n = cc in subst (λ m. IsFinite (document_number m)) same (finite_held x.n x.valid)
+number_in _ n h = absurd cc
+
+items_in : (layer : Value-F Value) (xs : Items) → view_step (map-Value Value Data view layer) ≡ array xs → AreOfValues xs
+items_in (Value-F.Array items) xs h = (items.items, cc)
+items_in _ xs h = absurd cc
+
+members_in : (layer : Value-F Value) (ms : Members) → view_step (map-Value Value Data view layer) ≡ object ms → AreOfEntries ms
+members_in (Value-F.Object members) ms h = (members.entries, cc)
+members_in _ ms h = absurd cc
+
+layer_of : (v : Value) (d : Data) → view v ≡ d → view_step (map-Value Value Data view (out-Value v)) ≡ d
+layer_of v d h = sym (fold_out-Value Data view_step v) ∙ h
+
+mutual
+  itself : (d : Data) → IsOfValue d → EqualData all_numbers d d
+  itself null h = tt
+  itself (boolean b) h = refl
+  itself (number n) h = equality.reflexive (document_number n) (number_in (out-Value h.0) n (layer_of h.0 (number n) h.1))
+  itself (string t) h = refl
+  itself (array xs) h = items_themselves xs (items_in (out-Value h.0) xs (layer_of h.0 (array xs) h.1))
+  itself (object ms) h = members_themselves ms (members_in (out-Value h.0) ms (layer_of h.0 (object ms) h.1))
+
+  items_themselves : (xs : Items) → AreOfValues xs → EqualItems all_numbers xs xs
+  items_themselves no_items h = tt
+  items_themselves (item d xs) ([], e) = absurd cc
+  items_themselves (item d xs) (v ∷ vs, e) = (itself d (v, cc), items_themselves xs (vs, cc))
+
+  members_themselves : (ms : Members) → AreOfEntries ms → EqualMembers all_numbers ms ms
+  members_themselves no_members h = tt
+  members_themselves (member k d ms) ([], h) = absurd cc
+  members_themselves (member k d ms) (e ∷ es, h) = (refl, itself d (e.1, cc), members_themselves ms (es, cc))
+
+-- ---- equal values are equal either way round, and what is equal to the same is equal
+
+mutual
+  data_symmetric : (a b : Data) → EqualData all_numbers a b → EqualData all_numbers b a
+  data_symmetric null null h = tt
+  data_symmetric (boolean a) (boolean b) h = sym h
+  data_symmetric (number a) (number b) h = equality.symmetric (document_number a) (document_number b) h
+  data_symmetric (string a) (string b) h = sym h
+  data_symmetric (array xs) (array ys) h = items_symmetric xs ys h
+  data_symmetric (object xs) (object ys) h = members_symmetric xs ys h
+  data_symmetric _ _ h = absurd h
+
+  items_symmetric : (xs ys : Items) → EqualItems all_numbers xs ys → EqualItems all_numbers ys xs
+  items_symmetric no_items no_items h = tt
+  items_symmetric (item a xs) (item b ys) h = (data_symmetric a b h.0, items_symmetric xs ys h.1)
+  items_symmetric _ _ h = absurd h
+
+  members_symmetric : (xs ys : Members) → EqualMembers all_numbers xs ys → EqualMembers all_numbers ys xs
+  members_symmetric no_members no_members h = tt
+  members_symmetric (member k a xs) (member l b ys) h = (sym h.0, data_symmetric a b h.1, members_symmetric xs ys h.2)
+  members_symmetric _ _ h = absurd h
+
+mutual
+  data_transitive : (a b c : Data) → EqualData all_numbers a b → EqualData all_numbers b c → EqualData all_numbers a c
+  data_transitive null null c h g = g
+  data_transitive (boolean a) (boolean b) (boolean c) h g = h ∙ g
+  data_transitive (boolean a) (boolean b) _ h g = absurd g
+  data_transitive (number a) (number b) (number c) h g = equality.transitive (document_number a) (document_number b) (document_number c) h g
+  data_transitive (number a) (number b) _ h g = absurd g
+  data_transitive (string a) (string b) (string c) h g = h ∙ g
+  data_transitive (string a) (string b) _ h g = absurd g
+  data_transitive (array xs) (array ys) (array zs) h g = items_transitive xs ys zs h g
+  data_transitive (array xs) (array ys) _ h g = absurd g
+  data_transitive (object xs) (object ys) (object zs) h g = members_transitive xs ys zs h g
+  data_transitive (object xs) (object ys) _ h g = absurd g
+  data_transitive _ _ c h g = absurd h
+
+  items_transitive : (xs ys zs : Items) → EqualItems all_numbers xs ys → EqualItems all_numbers ys zs → EqualItems all_numbers xs zs
+  items_transitive no_items no_items zs h g = g
+  items_transitive (item a xs) (item b ys) (item c zs) h g = (data_transitive a b c h.0 g.0, items_transitive xs ys zs h.1 g.1)
+  items_transitive (item a xs) (item b ys) no_items h g = absurd g
+  items_transitive _ _ zs h g = absurd h
+
+  members_transitive : (xs ys zs : Members) → EqualMembers all_numbers xs ys → EqualMembers all_numbers ys zs → EqualMembers all_numbers xs zs
+  members_transitive no_members no_members zs h g = g
+  members_transitive (member k a xs) (member l b ys) (member m c zs) h g = (h.0 ∙ g.0, data_transitive a b c h.1 g.1, members_transitive xs ys zs h.2 g.2)
+  members_transitive (member k a xs) (member l b ys) no_members h g = absurd g
+  members_transitive _ _ zs h g = absurd h
+
+-- ---- sides: a number literal is as the value of its exact number
+
+abbrev as_value : Compared → Option Data
+as_value nothing = None
+as_value (value d) = Some d
+as_value (billionths amount) = Some (number (float (literal_number amount)))
+
+abbrev EqualValues : Option Data → Option Data → Type 0
+EqualValues None None = Unit {0}
+EqualValues (Some a) (Some b) = EqualData all_numbers a b
+EqualValues _ _ = ⊥
+
+to_values : (x y : Compared) → AreEqual all_numbers x y → EqualValues (as_value x) (as_value y)
+to_values (value (number a)) (billionths b) h = h
+to_values (billionths a) (value (number b)) h = h
+to_values (billionths a) (billionths b) h = h
+to_values nothing nothing h = h
+to_values (value a) (value b) h = h
+to_values _ _ h = absurd h
+
+of_values : (x y : Compared) → EqualValues (as_value x) (as_value y) → AreEqual all_numbers x y
+of_values (value (number a)) (billionths b) h = h
+of_values (billionths a) (value (number b)) h = h
+of_values (billionths a) (billionths b) h = h
+of_values nothing nothing h = h
+of_values (value a) (value b) h = h
+of_values _ _ h = absurd h
+
+values_symmetric : (a b : Option Data) → EqualValues a b → EqualValues b a
+values_symmetric None None h = tt
+values_symmetric (Some a) (Some b) h = data_symmetric a b h
+values_symmetric _ _ h = absurd h
+
+values_transitive : (a b c : Option Data) → EqualValues a b → EqualValues b c → EqualValues a c
+values_transitive None None c h g = g
+values_transitive (Some a) (Some b) (Some c) h g = data_transitive a b c h g
+values_transitive (Some a) (Some b) None h g = absurd g
+values_transitive _ _ c h g = absurd h
+
+pub returns : goal.returns
+returns c = record {
+  documents = λ document. itself (view document) (document, refl);
+  literals = λ amount range. equality.reflexive (literal_number amount) (all_finite.literals amount range);
+  nothings = tt;
+  symmetric = λ a b h. of_values b a (values_symmetric (as_value a) (as_value b) (to_values a b h));
+  transitive = λ a b c h g. of_values a c (values_transitive (as_value a) (as_value b) (as_value c) (to_values a b h) (to_values b c g));
+}

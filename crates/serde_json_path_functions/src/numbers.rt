@@ -1,0 +1,55 @@
+//! How comparisons take numbers (RFC 9535, section 2.3.5.2.2).
+
+use crate::error::QueryError;
+use crate::set::Functions;
+use crate::signature::Signature;
+use crate::types::FunctionValue;
+use std::alloc::Global;
+
+/// How comparisons take the numbers of documents.
+#[derive(Clone, Copy, Debug, PartialEq, Eq)]
+pub enum Numbers {
+    /// By value, if they are held as integers. Any other number equals none, and is not ordered.
+    Whole,
+    /// All by their exact value. A literal with a fraction is the double nearest to it.
+    All,
+}
+
+/// The functions of a set, where comparisons take all numbers:
+///
+/// ```text
+/// let nodes = path.query_with(alloc, &document, &AllNumbers(Builtin))?;
+/// ```
+#[derive(Debug, Drop)]
+pub struct AllNumbers<F>(pub F);
+
+impl<F: Functions> Functions for AllNumbers<F> {
+    ghost use Rattle.serde_json_path_functions.specs.Functions.{with_all_numbers};
+
+    ghost set = { λ functions. with_all_numbers (F.set functions.0) };
+
+    ghost typed = { λ functions. F.typed functions.0 };
+
+    ghost patterned = { λ functions. F.patterned functions.0 };
+
+    fn signature(&self, name: &str) -> Option<Signature> {
+        self.0.signature(name)
+    }
+
+    fn declares(&self, name: &str) -> bool {
+        self.0.declares(name)
+    }
+
+    fn numbers(&self) -> Numbers {
+        Numbers::All
+    }
+
+    fn call<'b>(
+        &self,
+        alloc: Global,
+        name: &str,
+        args: Vec<FunctionValue<'b>>,
+    ) -> Result<FunctionValue<'b>, QueryError> {
+        self.0.call(alloc, name, args)
+    }
+}

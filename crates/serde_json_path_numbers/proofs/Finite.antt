@@ -1,0 +1,82 @@
+-- Numbers of literals are in range, and finite.
+use Rattle.std.proofs.Common.{◌≡◌, ℕ, zero, suc, cond, ◌*◌, ◌^◌, ◌<◌, Bool, true, false, T, refl, sym, ap, ◌∙◌, arith, lit<, lt-ltb, ◌/◌, ◌%◌, to_z, of_z, to_z-of_z}
+use Rattle.std.specs.Prelude.{ℤ, pos, negsuc, neg_ℤ, int_div, int_lt, unsigned_abs, ◌==◌, if◌then◌else◌, Some, None}
+use Rattle.std.specs.Int.{w128}
+use Rattle.std.specs.Float.{float_is_finite}
+use Rattle.std.specs.Float.Ieee.{Float, nan, inf, fin, binary64, round, le, units, odd}
+use Rattle.std.proofs.lemmas.Int.{ints}
+use Rattle.serde_json_path_numbers.specs.Numbers.{integer, IsInLiteralRange}
+use Rattle.serde_json_path_numbers.specs.Laws.{IsFinite, NumbersAreFinite}
+use Rattle.fast_float.specs.Rounding.{nearest_to_decimal}
+use Rattle.serde_json_path_numbers.specs.Inside.{is_exact}
+use Rattle.serde_json_path_numbers.specs.declared.exact_number.Form.TheVariants.{Integer}
+use Rattle.serde_json_path_numbers.proofs.Forms.{in_range, finite_integer}
+use lib.Ieee.Exact.{HasValue, round_exact}
+use lib.Ieee.Back.{round_whole}
+use lib.Ieee.Order.{round_mono}
+use lib.Ieee.Fits.{round_is}
+
+-- between two finite numbers all are finite
+between : (x y z : Float) (a b : ℕ) → HasValue x false a 1 → HasValue z false b 1 → T (le x y) → T (le y z) → float_is_finite y ≡ true
+unfolding le float_is_finite
+between nan y z a b v w h k = absurd v
+between (inf s) y z a b v w h k = absurd v
+between (fin s m e) y nan a b v w h k = absurd w
+between (fin s m e) y (inf u) a b v w h k = absurd w
+between (fin s m e) nan (fin u j g) a b v w h k = absurd h
+between (fin s m e) (inf true) (fin u j g) a b v w h k = absurd h
+between (fin s m e) (inf false) (fin u j g) a b v w h k = absurd k
+between (fin s m e) (fin t n d) (fin u j g) a b v w h k = refl
+
+-- the sign of what rounds does not matter
+same_finite : (s : Bool) (num den : ℕ) → float_is_finite (round binary64 s num den) ≡ float_is_finite (round binary64 false num den)
+unfolding float_is_finite units odd
+same_finite s num den = ap float_is_finite (round_is binary64 s num den) ∙ go _ _ _ ∙ ap float_is_finite (sym (round_is binary64 false num den))
+  where
+    go : (b : Bool) (q k : ℕ) → float_is_finite (cond b (odd 54 s q k 1074) (inf s)) ≡ float_is_finite (cond b (odd 54 false q k 1074) (inf false))
+    go true zero k = refl
+    go true (suc q) k = refl
+    go false q k = refl
+
+pub finite_rounded : (s : Bool) (n d : ℕ) → 0 < d → n < 2 ^ 64 * d → float_is_finite (round binary64 s n d) ≡ true
+finite_rounded s n d D h =
+    let least = round_whole binary64 false 0 (omega arith) in
+    let most = round_exact binary64 false (2 ^ 64) 1 1 1138 (omega arith) (lit< tt) (lit< tt) refl in
+    let size = between (round binary64 false 0 1) (round binary64 false n d) (round binary64 false (2 ^ 64) 1) 0 (2 ^ 64) least most
+    (round_mono binary64 0 1 n d (omega arith) D (omega arith)) (round_mono binary64 n d (2 ^ 64) 1 D (omega arith) (omega arith)) in
+    same_finite s n d ∙ size
+
+-- a literal's size
+pub size_in_range : (b : ℤ) → IsInLiteralRange b → unsigned_abs b < 2 ^ 64 * 1000000000
+size_in_range b h = omega (arith, ints)
+
+whole_size : (b : ℤ) → unsigned_abs (int_div b (pos 1000000000)) ≡ unsigned_abs b / 1000000000
+whole_size (pos n) = refl
+whole_size (negsuc n) = size (suc n / 1000000000)
+  where
+    size : (k : ℕ) → unsigned_abs (neg_ℤ (pos k)) ≡ k
+    size zero = refl
+    size (suc k) = refl
+
+given : (t : Bool) (v whole : ℤ) → Some v ≡ (if t then Some whole else None) → v ≡ whole
+given true v whole e = cc
+given false v whole e = cc
+
+-- its whole number, where it has no fraction
+pub whole_in_range : (b v : ℤ) → IsInLiteralRange b → Some v ≡ (if unsigned_abs b % 1000000000 == 0 then Some (int_div b (pos 1000000000)) else None) → is_exact (Integer (to_z w128 (of_z w128 v))) ≡ true
+whole_in_range b v h e =
+    let whole = int_div b (pos 1000000000) in
+    let size : unsigned_abs whole < 2 ^ 64 = rw (whole_size b) (omega (arith, size_in_range b h)) in
+    let exact : is_exact (Integer v) ≡ true = rw (given (unsigned_abs b % 1000000000 == 0) v whole e) (lt-ltb (unsigned_abs whole) (2 ^ 64) size) in
+    rw (to_z-of_z (in_range v exact)) exact
+
+pub all_finite : NumbersAreFinite
+all_finite = record {
+  integers = finite_integer;
+  literals = λ b h. go b h (unsigned_abs b % 1000000000 == 0);
+}
+  where
+    go : (b : ℤ) → IsInLiteralRange b → (t : Bool)
+        → IsFinite (if t then integer (int_div b (pos 1000000000)) else nearest_to_decimal binary64 (int_lt b (pos 0)) (unsigned_abs b) (negsuc 8))
+    go b h true = finite_integer (int_div b (pos 1000000000))
+    go b h false = finite_rounded (int_lt b (pos 0)) (unsigned_abs b) 1000000000 (omega arith) (size_in_range b h)

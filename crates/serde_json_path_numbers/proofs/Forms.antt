@@ -1,0 +1,76 @@
+-- Numbers by what holds them; integers keep their order.
+use Rattle.std.proofs.Common.{◌≡◌, suc, ◌+◌, ◌*◌, ◌^◌, true, T, eqb, ltb, arith, refl, sym, ap, ◌∙◌, subst, mul-one, ltb→lt, lt→ltb, eqb→eq, ltb-true, eq-eqb, lt-ltb, to_z-of_z, to_z, of_z, Ordering}
+use Rattle.std.specs.Prelude.{ℤ, pos, negsuc, nat_eq, int_lt, FitsSigned}
+use Rattle.std.specs.Int.{w128}
+use Rattle.std.specs.Float.{float_is_finite}
+use Rattle.std.specs.Float.Ieee.{Float, lt, eq}
+use Rattle.std.proofs.lemmas.Float.{T_from_true}
+use Rattle.serde_json_path_numbers.specs.Numbers.{integer}
+use Rattle.serde_json_path_numbers.specs.Inside.{IsOrder, held_number, is_exact}
+use Rattle.serde_json_path_numbers.specs.declared.exact_number.Form.{Form}
+use Rattle.serde_json_path_numbers.specs.declared.exact_number.Form.TheVariants.{Integer, Double}
+use Rattle.serde_json_path_numbers.proofs.Floats.{same, sure, equality, IsTold, told}
+use Rattle.serde_json_path_numbers.specs.Laws.{IntegersKeepTheirOrder}
+use lib.Signed.{lt_z_yes}
+use lib.Ieee.Fits.{and_l, and_r}
+
+pub in_range : (z : ℤ) → is_exact (Integer z) ≡ true → FitsSigned w128 z
+in_range (pos n) h = record { sfits = omega (arith, ltb-true n (2 ^ 64) h) }
+in_range (negsuc n) h = record { sfits = omega (arith, ltb-true (suc n) (2 ^ 64) h) }
+
+integers_less : (a b : ℤ) → int_lt a b ≡ lt (integer a) (integer b)
+unfolding lt
+integers_less (pos m) (pos n) = simp mul-one
+integers_less (pos m) (negsuc n) = refl
+integers_less (negsuc m) (pos n) = sym (lt-ltb 0 (suc m * 1 * 1 + n * 1 * 1) (omega arith))
+integers_less (negsuc m) (negsuc n) =
+    same (ltb n m) (ltb (suc n * 1 * 1) (suc m * 1 * 1)) (λ t. lt→ltb _ _ (omega (arith, ltb→lt n m t))) (λ t. lt→ltb n m (omega (arith, ltb→lt (suc n * 1 * 1) (suc m * 1 * 1) t)))
+
+integers_equal : (a b : ℤ) → T (eq (integer a) (integer b)) → a ≡ b
+unfolding eq
+integers_equal (pos m) (pos n) h = ap pos (omega (arith, eqb→eq (m * 1 * 1) (n * 1 * 1) (and_l _ true h)))
+integers_equal (pos m) (negsuc n) h =
+    absurd (omega (arith, eqb→eq (m * 1 * 1) (suc n * 1 * 1) (and_l _ (eqb (m * 1 * 1) 0) h), eqb→eq (m * 1 * 1) 0 (and_r (eqb (m * 1 * 1) (suc n * 1 * 1)) _ h)))
+integers_equal (negsuc m) (pos n) h = absurd (omega (arith, eqb→eq (suc m * 1 * 1) 0 (and_r (eqb (suc m * 1 * 1) (n * 1 * 1)) _ h)))
+integers_equal (negsuc m) (negsuc n) h = ap negsuc (omega (arith, eqb→eq (suc m * 1 * 1) (suc n * 1 * 1) (and_l _ true h)))
+
+pub finite_integer : (z : ℤ) → float_is_finite (integer z) ≡ true
+unfolding float_is_finite
+finite_integer (pos n) = refl
+finite_integer (negsuc n) = refl
+
+pub order_kept : IntegersKeepTheirOrder
+order_kept = record {
+  equal = λ a b. (
+    λ h. integers_equal a b (T_from_true _ h),
+    λ e. rw e (equality.reflexive (integer b) (finite_integer b)),
+  );
+  less = λ a b. (
+    λ h. lt_z_yes (T_from_true _ (integers_less a b ∙ h)),
+    λ l. sym (integers_less a b) ∙ sure (int_lt a b) l.lt,
+  );
+}
+
+module _ (f g : Form) (a b : ℤ) (at : f ≡ Integer a) (by : g ≡ Integer b) (x : is_exact f ≡ true) (y : is_exact g ≡ true) where
+  left : to_z w128 (of_z w128 a) ≡ a
+  left = to_z-of_z (in_range a (sym (ap is_exact at) ∙ x))
+
+  right : to_z w128 (of_z w128 b) ≡ b
+  right = to_z-of_z (in_range b (sym (ap is_exact by) ∙ y))
+
+  pub less_integers : int_lt (to_z w128 (of_z w128 a)) (to_z w128 (of_z w128 b)) ≡ lt (held_number f) (held_number g)
+  less_integers = rw (left, right, at, by) (integers_less a b)
+
+  pub equal_integers : nat_eq (of_z w128 a) (of_z w128 b) ≡ eq (held_number f) (held_number g)
+  equal_integers =
+      rw (at, by) (same (nat_eq (of_z w128 a) (of_z w128 b)) (eq (integer a) (integer b))
+      (λ t.
+      let e : a ≡ b = sym left ∙ ap (to_z w128) (eqb→eq (of_z w128 a) (of_z w128 b) t) ∙ right in
+      rw e (T_from_true _ (equality.reflexive (integer b) (finite_integer b))))
+      (λ t. T_from_true _ (eq-eqb (of_z w128 a) (of_z w128 b) (ap (of_z w128) (integers_equal a b t)))))
+
+-- an integer and a double
+pub mixed : (f g : Form) (n : ℤ) (x : Float) (o : Ordering) → f ≡ Integer n → g ≡ Double x → is_exact f ≡ true
+    → IsOrder (integer (to_z w128 (of_z w128 n))) x o → IsTold (held_number f) (held_number g) o
+mixed f g n x o at by exact h =
+    rw (at, by) (told (integer n) x o (subst (λ z. IsOrder (integer z) x o) (to_z-of_z (in_range n (sym (ap is_exact at) ∙ exact))) h))

@@ -1,0 +1,13 @@
+-- Lemmas; the folders have the proofs of functions.
+-- Floats: comparisons of floats as facts, and the laws.
+-- Ratios: a double that is not below zero, as a ratio beside integers.
+-- Orders: an integer and a double, by the double's whole part and fraction.
+-- Forms: numbers by what holds them; integers keep their order.
+-- Digits: digits written from the last to the first.
+-- Finite: numbers of literals are in range, and finite.
+mod Digits
+pub mod Finite
+pub mod Floats
+mod Forms
+mod Orders
+mod Ratios

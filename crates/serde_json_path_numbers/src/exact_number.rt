@@ -1,0 +1,83 @@
+//! A number as its exact value.
+
+ghost use Rattle.std.specs.Prelude.{◌≡◌, true};
+ghost use Rattle.serde_json_path_numbers.specs.Inside.{is_exact};
+
+use crate::comparison::compare;
+use crate::literal::{nearest_double, whole_number};
+use serde_json::Number;
+
+/// What holds the number.
+#[derive(Clone, Copy, Debug)]
+pub(crate) enum Form {
+    /// An integer.
+    Integer(i128),
+    /// A double.
+    Double(f64),
+}
+
+/// An exact number: an integer of 64 bits and a sign, or a finite double.
+#[derive(Clone, Copy, Debug)]
+pub struct ExactNumber {
+    form: Form,
+    ghost exact: { is_exact form ≡ true },
+}
+
+impl ExactNumber {
+    ghost use Rattle.std.specs.Float.Ieee.{eq, lt};
+    ghost use Rattle.serde_json.specs.View.{number_view};
+    ghost use Rattle.serde_json_path_numbers.specs.Numbers.{document_number, literal_number, IsInLiteralRange};
+    ghost use Rattle.serde_json_path_numbers.specs.Views.{exact_view};
+
+    /// The number of a document.
+    #[inline]
+    pub fn of_number(number: &Number) -> ExactNumber
+        ensures { exact_view result ≡ document_number (number_view number.now) }
+    {
+        let form = match (number.as_i64(), number.as_u64()) {
+            (Some(n), _) => Form::Integer(n as i128),
+            (None, Some(n)) => Form::Integer(n as i128),
+            (None, None) => Form::Double(number.as_f64().unwrap()),
+        };
+        ExactNumber { form }
+    }
+
+    /// The number of a literal of that many billionths: an integer, or with a fraction the nearest double.
+    #[inline]
+    pub fn of_billionths(billionths: i128) -> ExactNumber
+        requires { IsInLiteralRange billionths }
+        ensures { exact_view result ≡ literal_number billionths }
+    {
+        let form = match whole_number(billionths) {
+            Some(whole) => Form::Integer(whole),
+            None => Form::Double(nearest_double(billionths < 0, billionths.unsigned_abs())),
+        };
+        ExactNumber { form }
+    }
+
+    /// Whether the two are the same number.
+    #[inline]
+    pub fn is_equal(self, other: ExactNumber) -> bool
+        ensures { result ≡ eq (exact_view self) (exact_view other) }
+    {
+        match (self.form, other.form) {
+            (Form::Integer(a), Form::Integer(b)) => a == b,
+            (Form::Double(a), Form::Double(b)) => a == b,
+            (Form::Integer(n), Form::Double(x)) => compare(n, x).is_eq(),
+            (Form::Double(x), Form::Integer(n)) => compare(n, x).is_eq(),
+        }
+    }
+
+    /// Whether this number is less than the other.
+    #[inline]
+    pub fn is_less(self, other: ExactNumber) -> bool
+        ensures { result ≡ lt (exact_view self) (exact_view other) }
+    {
+        match (self.form, other.form) {
+            (Form::Integer(a), Form::Integer(b)) => a < b,
+            (Form::Double(a), Form::Double(b)) => a < b,
+            (Form::Integer(n), Form::Double(x)) => compare(n, x).is_lt(),
+            (Form::Double(x), Form::Integer(n)) => compare(n, x).is_gt(),
+        }
+    }
+}

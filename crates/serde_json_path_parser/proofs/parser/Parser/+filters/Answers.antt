@@ -1,0 +1,466 @@
+use Rattle.serde_json_path_parser.proofs.Reading.Many.{first_fails}
+use Rattle.std.proofs.Common.{drop, ◌∙◌, [], Some, Err, refl, sym, ap, option_map, arith, true≢false}
+use Rattle.serde_json_path_parser.proofs.Words.{past_blanks, string_bytes, nil_from_length, err_from_is_err_and, literal_view, number_amount}
+use Rattle.serde_json_path_parser.proofs.Words.{operator_view, a_comparable, logical_argument, call, number, signature_view, alone}
+use Rattle.serde_json_path_parser.proofs.Words.{basic_at, or_at, and_at, parameters_at, level, and_list, or_list, named_at, signatures, deeper}
+use Rattle.serde_json_path_parser.proofs.Words.{begins, opens, a_literal, a_call, calls_in_operand, left, common_steps, bracket_at, next_selector_at}
+use Rattle.serde_json_path_parser.proofs.Words.{selectors_at, selector_list, next_segment_at, segments_at, segment_list, argument_at, logical_from}
+use Rattle.serde_json_path_parser.proofs.Words.{arguments_at, operand_at, named_call_at, call_at, basic_from, relation_at, right_side_at, query_at}
+use Rattle.serde_json_path_parser.proofs.Words.{negated_at, and_from, or_from, next_basic_at, next_and_at}
+use Rattle.serde_json_path_parser.specs.Inside.Levels.{filter_at}
+use Rattle.serde_json_path_parser.specs.Operands.{a_query}
+use Rattle.serde_json_path_parser.proofs.Steps.Arguments.{none_made, one_more, first_refused, first_open}
+use Rattle.serde_json_path_parser.proofs.Steps.Filters.{alone_calls, literal_word_reads, level_down, at_mark, value_kind, negated_named, no_call}
+use Rattle.serde_json_path_syntax.specs.Flat.{segment_kind_view, kind_view as query_kind_view}
+use Rattle.serde_json_path_parser.proofs.Reading.Runs.{no_longer}
+use Rattle.serde_json_path_parser.proofs.Steps.Rows.{grows_none, grows_kept, grows_same, grows_then, grows_call, grown_so, begins_row, row_fails, row_shorter, row_goes_on, row_done, segments_stand, selectors_stand, ors_stand, ands_stand, segment_shorter, some_selectors, some_ors, some_ands}
+use Rattle.serde_json_path_parser.proofs.parser.Parser.+filters.Goals as goal
+use Rattle.serde_json_path_syntax.specs.Tree as tree
+use Rattle.serde_json_path_parser.proofs.Reading.Many as m
+
+pub parse_and_from-parts-init : goal.parse_and_from-parts-init
+unfolding and_from next_basic_at
+parse_and_from-parts-init g t c = record {
+  moves = grind (arith, common_steps);
+  so_far = λ x is. begins_row (ands_stand _ _) x (omega arith) c.new-parts.ensures.items c.in_ok-push.ensures.items is (λ before grown. grown) refl;
+}
+
+pub parse_and_from-returns-in_err-part-clause-gives : goal.parse_and_from-returns-in_err-part-clause-gives
+parse_and_from-returns-in_err-part-clause-gives g t c = λ x is.
+    let p = err_from_is_err_and c.from_residual-in_err-part.result c.from_residual-in_err-part.ensures.1 in
+    rw (p.1, p.2) (row_fails (ands_stand _ _) (grind (arith, common_steps)) (grind (arith, common_steps)) (c.parts.invariant.so_far x is) c.in_err-part.field-0.0 c.in_err-part.ensures.gives)
+
+pub parse_and_from-parts-smaller : goal.parse_and_from-parts-smaller
+parse_and_from-parts-smaller g t c =
+    row_shorter (ands_stand _ _) (grind (arith, common_steps)) (grind (arith, common_steps)) c.in_ok-part.ensures.gives
+
+pub parse_and_from-parts-preserved : goal.parse_and_from-parts-preserved
+parse_and_from-parts-preserved g t c = record {
+  moves = grind (arith, common_steps);
+  so_far = λ x is. row_goes_on (ands_stand _ _) (grind (arith, common_steps)) (grind (arith, common_steps)) c.in_ok-part.ensures.gives (c.parts.invariant.so_far x is) c.in_ok-push-2.ensures.items;
+}
+
+pub parse_and_from-logical_and-requires : goal.parse_and_from-logical_and-requires
+parse_and_from-logical_and-requires g t c =
+    let so_far = c.parts.invariant.so_far c.requires.0 c.requires.1 in
+    (and_list so_far.items, some_ands c.parts.builder _ _ so_far.some so_far.are)
+
+pub parse_and_from-returns-clause-gives : goal.parse_and_from-returns-clause-gives
+parse_and_from-returns-clause-gives g t c = λ x is.
+    let so_far = c.parts.invariant.so_far x is in (
+      and_list so_far.items,
+      c.in_ok-logical_and.ensures.made (and_list so_far.items) (some_ands c.parts.builder _ _ so_far.some so_far.are),
+      row_done (ands_stand _ _) so_far (grind (arith, common_steps)) c.sees_both.ensures.stays,
+      λ before grown. grows_kept (so_far.grown before grown) c.logical_and.ensures.keeps,
+    )
+
+pub parse_argument-returns-then-sees_parenthesis_or_negation-clause-gives : goal.parse_argument-returns-then-sees_parenthesis_or_negation-clause-gives
+unfolding argument_at
+parse_argument-returns-then-sees_parenthesis_or_negation-clause-gives g t c =
+    let e = c.in_ok-expression.ensures.gives in
+    (logical_argument e.0, (e.0, refl, e.1), grind (arith, common_steps), e.3)
+
+pub parse_argument-returns-then-sees_end_of_argument-clause-gives : goal.parse_argument-returns-then-sees_end_of_argument-clause-gives
+unfolding argument_at
+parse_argument-returns-then-sees_end_of_argument-clause-gives g t c =
+    let o = c.in_ok-operand.ensures.gives in
+    (alone o.0, (o.0, refl, o.1), grind (arith, common_steps), grows_same (alone_calls o.0) o.3)
+
+pub parse_argument-returns-clause-gives : goal.parse_argument-returns-clause-gives
+unfolding argument_at logical_from
+parse_argument-returns-clause-gives g t c =
+    let o = c.in_ok-operand.ensures.gives in
+    let b = rw c.bytes_left-place.ensures.value at (c.in_ok-basic.ensures.gives o.0 o.1) in
+    let a = c.in_ok-and.ensures.gives b.0 b.1 in
+    let e = c.in_ok-expression-2.ensures.gives a.0 a.1 in
+    (logical_argument e.0, (e.0, refl, e.1), grind (arith, common_steps, b.2, a.2, e.2), e.3 c.args.builder.now (a.3 c.args.builder.now (b.3 c.args.builder.now o.3)))
+
+pub parse_arguments-returns-then-sees-clause-gives : goal.parse_arguments-returns-then-sees-clause-gives
+unfolding parameters_at
+parse_arguments-returns-then-sees-clause-gives g t c =
+    rw (sym c.sees.ensures ∙ c.if-sees.true) (none_made _ c.args.builder.now c.args.parts.now.items _ _ _ c.parse_end.ensures.gives)
+
+pub parse_arguments-arguments-init : goal.parse_arguments-arguments-init
+unfolding parameters_at
+parse_arguments-arguments-init g t c = record { moves = grind (arith, common_steps); so_far = record { made = λ new after reader result made. rw (sym c.sees.ensures ∙ c.if-sees.false) made } }
+
+pub parse_arguments-returns-in_err-argument-clause-gives : goal.parse_arguments-returns-in_err-argument-clause-gives
+parse_arguments-returns-in_err-argument-clause-gives g t c =
+    let p = err_from_is_err_and c.from_residual.result c.from_residual.ensures.1 in
+    let s = c.in_err-argument.field-0.0 in
+    rw (p.1, p.2) (c.arguments.invariant.so_far.made c.arguments.builder [] c.arguments.reader (Err s) (first_refused _ _ _ _ _ s c.in_err-argument.ensures.gives))
+
+pub parse_arguments-returns-then-not-sees_end_of_argument-clause-gives : goal.parse_arguments-returns-then-not-sees_end_of_argument-clause-gives
+parse_arguments-returns-then-not-sees_end_of_argument-clause-gives g t c =
+    c.arguments.invariant.so_far.made c.arguments.builder [] c.arguments.reader (Err c.refuse.result)
+    (rw c.refuse.ensures.value (first_open _ _ _ _ _ _ c.in_ok-argument.ensures.gives.2 (sym c.sees_end_of_argument.ensures ∙ c.if-not-sees_end_of_argument.true)))
+
+pub parse_arguments-returns-in_default-clause-gives : goal.parse_arguments-returns-in_default-clause-gives
+unfolding arguments_at
+parse_arguments-returns-in_default-clause-gives g t c =
+    c.arguments.invariant.so_far.made c.arguments.builder [] c.arguments.reader (Err c.in_long_hand.result)
+    (rw (c.in_long_hand.ensures, nil_from_length c.arguments.types.now c.in_default.ensures.cases, c.in_ok-argument.ensures.gives.2, sym c.sees_end_of_argument.ensures ∙ c.if-not-sees_end_of_argument.false) refl)
+
+pub parse_arguments-returns-then-not-fits-clause-gives : goal.parse_arguments-returns-then-not-fits-clause-gives
+unfolding arguments_at
+parse_arguments-returns-then-not-fits-clause-gives g t c =
+    let a = c.in_ok-argument.ensures.gives in
+    let fits = c.fits.ensures _ a.0 a.1 in
+    c.arguments.invariant.so_far.made c.arguments.builder [] c.arguments.reader (Err c.in_long_hand-then-not-fits.result) (grind (arith, common_steps, a.2, fits))
+
+pub parse_arguments-arguments-preserved : goal.parse_arguments-arguments-preserved
+unfolding arguments_at
+parse_arguments-arguments-preserved g t c =
+    let a = c.in_ok-argument.ensures.gives in
+    let fits = c.fits.ensures _ a.0 a.1 in
+    let further = c.skip_blanks.ensures.left ∙ ap (λ cs. past_blanks (drop 1 cs)) (sym c.take_char.ensures.value) in
+    record {
+      moves = grind (arith, common_steps);
+      so_far = one_more a.0 c.arguments.invariant.so_far c.in_ok-push.ensures.items (c.in_ok-part.ensures.made _ a.0 a.1) (grows_kept a.3 c.part.ensures.keeps) (grind (arith, common_steps, a.2, fits, further));
+    }
+
+pub parse_arguments-returns-then-not-sees-clause-gives : goal.parse_arguments-returns-then-not-sees-clause-gives
+unfolding arguments_at
+parse_arguments-returns-then-not-sees-clause-gives g t c =
+    let a = c.in_ok-argument.ensures.gives in
+    let fits = c.fits.ensures _ a.0 a.1 in
+    (one_more a.0 c.arguments.invariant.so_far c.in_ok-push.ensures.items (c.in_ok-part.ensures.made _ a.0 a.1) (grows_kept a.3 c.part.ensures.keeps) (grind (arith, common_steps, a.2, fits))).made _ _ _ c.parse_end-then-not-sees.result
+    (none_made _ c.part.new.builder c.push.new.self.items _ _ _ c.parse_end-then-not-sees.ensures.gives)
+
+pub parse_basic-returns-then-sees-clause-gives : goal.parse_basic-returns-then-sees-clause-gives
+unfolding basic_at
+parse_basic-returns-then-sees-clause-gives g t c =
+    let inner = c.in_ok-inner.ensures.gives in
+    (tree.paren inner.0, c.in_ok-paren.ensures.made inner.0 inner.1, grind (arith, common_steps), grows_kept inner.3 c.paren.ensures.keeps)
+
+pub parse_basic_from-returns-in_default-clause-gives : goal.parse_basic_from-returns-in_default-clause-gives
+unfolding basic_from relation_at
+parse_basic_from-returns-in_default-clause-gives g t c = λ x is.
+    rw (c.in_default.ensures.value, ← c.in_default.ensures.stays refl) (grown_so _ _ _ _ _ c.as_test.result (c.as_test.ensures.gives x is) (λ b same before grown. grows_same same (grows_kept grown c.as_test.ensures.keeps)))
+
+pub parse_basic_from-relation-requires-clause-left : goal.parse_basic_from-relation-requires-clause-left
+parse_basic_from-relation-requires-clause-left g t c =
+    let a = c.in_ok-left.ensures.gives c.requires.0 c.requires.1 in
+    (a.0, c.as_comparable-2.ensures.keeps.trees c.in_ok-left.left (a_comparable a.0) (c.in_ok-operand.ensures.gives.3.trees c.in_ok-left.left (a_comparable a.0) a.1))
+
+pub parse_basic_from-returns-clause-gives : goal.parse_basic_from-returns-clause-gives
+unfolding basic_from relation_at right_side_at
+parse_basic_from-returns-clause-gives g t c = λ x is.
+    let a = c.in_ok-left.ensures.gives x is in
+    let o = c.in_ok-operand.ensures.gives in
+    let b = rw c.bytes_left-right_place.ensures.value at (c.in_ok-right.ensures.gives o.0 o.1) in
+    let kept = c.as_comparable-2.ensures.keeps.trees c.in_ok-left.left (a_comparable a.0) (o.3.trees c.in_ok-left.left (a_comparable a.0) a.1) in (
+      tree.relation a.0 (operator_view c.in-Some.operator) b.0,
+      c.in_ok-relation.ensures.made a.0 b.0 kept b.1,
+      rw (c.in-Some.ensures.value, ← c.skip_blanks.ensures.left, a.2, o.2, b.2) refl,
+      λ before grown.
+          let left_side = grows_same a.3 (grows_kept {new = c.as_comparable.new.builder} grown c.as_comparable.ensures.keeps) in
+          let right_side = grows_same b.3 (grows_kept {new = c.as_comparable-2.new.builder} o.3 c.as_comparable-2.ensures.keeps) in
+          grows_kept (grows_then left_side right_side) c.relation.ensures.keeps,
+    )
+
+pub parse_bracket-returns-clause-gives : goal.parse_bracket-returns-clause-gives
+unfolding bracket_at
+parse_bracket-returns-clause-gives g t c =
+    let kind = segment_kind_view c.args.kind in
+    let read = c.in_ok-selectors.ensures.gives in (
+      (kind, tree.long_hand (selector_list read.0)),
+      c.in_ok-long_hand.ensures.made (selector_list read.0) read.1,
+      grind (arith, common_steps),
+      grows_kept read.3 c.long_hand.ensures.keeps,
+    )
+
+pub parse_call-returns-then-self-eq0-clause-gives : goal.parse_call-returns-then-self-eq0-clause-gives
+unfolding level
+parse_call-returns-then-self-eq0-clause-gives g t c =
+    rw (c.in_long_hand.ensures, c.if-self-eq0.true) refl
+
+pub parse_call-returns-in_default-clause-gives : goal.parse_call-returns-in_default-clause-gives
+unfolding call_at
+parse_call-returns-in_default-clause-gives g t c =
+    rw (level_down (signatures g.F.Functions.set c.args.self.now) c.args.self.now.depth _ (omega (arith, c.if-self-eq0.false)) refl) (grind (arith, common_steps))
+
+pub parse_call-returns-in_err-parse_arguments-clause-gives : goal.parse_call-returns-in_err-parse_arguments-clause-gives
+unfolding call_at
+parse_call-returns-in_err-parse_arguments-clause-gives g t c =
+    let p = err_from_is_err_and c.from_residual.result c.from_residual.ensures.1 in
+    let declared = ap (signatures g.F.Functions.set c.args.self.now) (sym c.as_str.ensures.value) ∙ sym c.signature.ensures ∙ ap (option_map signature_view) c.in-Some.is in
+    let down = level_down (signatures g.F.Functions.set c.args.self.now) c.args.self.now.depth c.deeper.result.depth (omega (arith, c.if-self-eq0.false)) c.deeper.ensures.depth in
+    let read = rw (c.deeper.ensures.functions, c.params.ensures, c.skip_blanks.ensures.left) at c.in_err-parse_arguments.ensures.gives in
+    rw (p.1, p.2, down, declared, c.take_char.ensures.value) (first_fails c.in_err-parse_arguments.field-0.0 _ _ read)
+
+pub parse_call-returns-clause-gives : goal.parse_call-returns-clause-gives
+unfolding call_at
+parse_call-returns-clause-gives g t c =
+    let f = string_bytes c.args.name in
+    let declared = ap (signatures g.F.Functions.set c.args.self.now) (sym c.as_str.ensures.value) ∙ sym c.signature.ensures ∙ ap (option_map signature_view) c.in-Some.is in
+    let down = level_down (signatures g.F.Functions.set c.args.self.now) c.args.self.now.depth c.deeper.result.depth (omega (arith, c.if-self-eq0.false)) c.deeper.ensures.depth in
+    let read = rw (c.deeper.ensures.functions, c.params.ensures, c.skip_blanks.ensures.left) at c.in_ok-parse_arguments.ensures.gives in (
+      call f read.0,
+      (c.in_ok-call.ensures.made read.0 (rw (read.1.1, c.new-arguments.ensures.items) read.1.2), rw declared (ap (λ k. Some k) (sym c.result.ensures))),
+      rw (down, declared, c.take_char.ensures.value, read.2) refl,
+      grows_call f (signature_view c.in-Some.signature) read.0 declared read.3 c.call.ensures.keeps c.in_ok-call.ensures.calls,
+    )
+
+pub parse_inside-returns-then-self-eq0-clause-gives : goal.parse_inside-returns-then-self-eq0-clause-gives
+unfolding level
+parse_inside-returns-then-self-eq0-clause-gives g t c =
+    rw (c.refuse.ensures.value, c.if-self-eq0.true) refl
+
+pub parse_inside-returns-clause-gives : goal.parse_inside-returns-clause-gives
+parse_inside-returns-clause-gives g t c =
+    rw (level_down (signatures g.F.Functions.set c.args.self.now) c.args.self.now.depth c.deeper.result.depth (omega (arith, c.if-self-eq0.false)) c.deeper.ensures.depth, c.take_char.ensures.value, ← c.skip_blanks.ensures.left) (rw c.deeper.ensures.functions at c.parse_logical_or.ensures.gives)
+
+pub parse_named-returns-then-sees-clause-gives : goal.parse_named-returns-then-sees-clause-gives
+unfolding named_at named_call_at
+parse_named-returns-then-sees-clause-gives g t c =
+    let k = rw c.bytes_left-place.ensures.value at c.in_ok-call.ensures.gives in
+    (a_call k.0, (k.0, refl, k.1.0, k.1.1), rw (c.requires, ← c.in_ok-word.ensures.rest, sym c.sees.ensures ∙ c.if-sees.true, named_call_at, ← c.in_ok-word.ensures.word, k.2) refl, k.3)
+
+pub parse_named-returns-in-Some-clause-gives : goal.parse_named-returns-in-Some-clause-gives
+unfolding named_at
+parse_named-returns-in-Some-clause-gives g t c =
+    let reads = literal_word_reads (left c.args.reader.now) in
+    (a_literal (literal_view c.in-Some.literal), refl, grind (arith, common_steps, reads), grows_none c.args.builder.now)
+
+pub parse_negated-returns-then-sees-clause-gives : goal.parse_negated-returns-then-sees-clause-gives
+unfolding negated_at
+parse_negated-returns-then-sees-clause-gives g t c =
+    let inner = c.in_ok-inner.ensures.gives in
+    (tree.not_paren inner.0, c.in_ok-not_paren.ensures.made inner.0 inner.1, grind (arith, common_steps), grows_kept inner.3 c.not_paren.ensures.keeps)
+
+pub parse_negated-returns-then-sees-2-clause-gives : goal.parse_negated-returns-then-sees-2-clause-gives
+unfolding negated_at
+parse_negated-returns-then-sees-2-clause-gives g t c =
+    let q = c.in_ok-query.ensures.gives in
+    (tree.not_exist q.0, c.in_ok-not_exist.ensures.made q.0 q.1, grind (arith, common_steps), grows_kept q.3 c.not_exist.ensures.keeps)
+
+pub parse_negated-returns-then-sees-3-clause-gives : goal.parse_negated-returns-then-sees-3-clause-gives
+unfolding negated_at
+parse_negated-returns-then-sees-3-clause-gives g t c =
+    let q = c.in_ok-query-2.ensures.gives in
+    (tree.not_exist q.0, c.in_ok-not_exist-2.ensures.made q.0 q.1, grind (arith, common_steps), grows_kept q.3 c.not_exist-then-sees-3.ensures.keeps)
+
+pub parse_negated-returns-in_err-call-clause-gives : goal.parse_negated-returns-in_err-call-clause-gives
+parse_negated-returns-in_err-call-clause-gives g t c =
+    let p = err_from_is_err_and c.from_residual-in_err-call.result c.from_residual-in_err-call.ensures.1 in
+    rw (p.1, p.2, negated_named _ _ _ (sym c.sees.ensures ∙ c.if-sees.false) (sym c.sees-2.ensures ∙ c.if-sees-2.false) (sym c.sees-3.ensures ∙ c.if-sees-3.false)) (first_fails c.in_err-call.field-0.0 _ _ c.in_err-call.ensures.gives)
+
+pub parse_negated-returns-in_default : goal.parse_negated-returns-in_default
+parse_negated-returns-in_default g t c =
+    let o = c.in_ok-call.ensures.gives in
+    record {
+      moves = record { moves = c.parse_named.ensures.moves.moves; near = rw c.in_long_hand.ensures (λ e. absurd cc) };
+      gives = rw (c.in_long_hand.ensures, c.bytes_left-place.ensures.value, negated_named _ _ _ (sym c.sees.ensures ∙ c.if-sees.false) (sym c.sees-2.ensures ∙ c.if-sees-2.false) (sym c.sees-3.ensures ∙ c.if-sees-3.false), o.2) (no_call _ _ c.parse_named.new.builder _ o.0 _ c.in_default.not-Call o.1);
+    }
+
+pub parse_negated-returns-then-eq-clause-gives : goal.parse_negated-returns-then-eq-clause-gives
+parse_negated-returns-then-eq-clause-gives g t c =
+    let o = c.in_ok-call.ensures.gives in
+    let f = rw c.in-Call.is at o.1 in
+    rw (c.in_long_hand-then-eq.ensures, c.bytes_left-place.ensures.value, negated_named _ _ _ (sym c.sees.ensures ∙ c.if-sees.false) (sym c.sees-2.ensures ∙ c.if-sees-2.false) (sym c.sees-3.ensures ∙ c.if-sees-3.false), o.2, f.1, f.3, value_kind c.in-Call.result ∙ sym c.eq.ensures ∙ c.if-eq.true) refl
+
+pub parse_negated-returns-clause-gives : goal.parse_negated-returns-clause-gives
+parse_negated-returns-clause-gives g t c =
+    let o = c.in_ok-call.ensures.gives in
+    let f = rw c.in-Call.is at o.1 in (
+      tree.not_test f.0,
+      c.in_ok-not_test.ensures.made f.0 f.2,
+      rw (negated_named _ _ _ (sym c.sees.ensures ∙ c.if-sees.false) (sym c.sees-2.ensures ∙ c.if-sees-2.false) (sym c.sees-3.ensures ∙ c.if-sees-3.false), o.2) (simp (f.1, f.3, value_kind c.in-Call.result ∙ sym c.eq.ensures ∙ c.if-eq.false) refl),
+      grows_kept (grows_same (ap calls_in_operand f.1) o.3) c.not_test.ensures.keeps,
+    )
+
+pub parse_operand-returns-then-sees-3-clause-gives : goal.parse_operand-returns-then-sees-3-clause-gives
+unfolding operand_at
+parse_operand-returns-then-sees-3-clause-gives g t c =
+    let q = c.in_ok-query.ensures.gives in
+    (a_query q.0, (q.0, refl, q.1), grind (arith, common_steps), q.3)
+
+pub parse_operand-returns-then-sees-4-clause-gives : goal.parse_operand-returns-then-sees-4-clause-gives
+unfolding operand_at
+parse_operand-returns-then-sees-4-clause-gives g t c =
+    let q = c.in_ok-query-2.ensures.gives in
+    (a_query q.0, (q.0, refl, q.1), grind (arith, common_steps), q.3)
+
+pub parse_operand-returns-then-sees_small_letter-clause-gives : goal.parse_operand-returns-then-sees_small_letter-clause-gives
+unfolding operand_at named_at
+parse_operand-returns-then-sees_small_letter-clause-gives g t c =
+    let letter = sym c.sees_small_letter.ensures ∙ c.if-sees_small_letter.true in
+    rw (sym c.sees.ensures ∙ c.if-sees.false, sym c.sees-2.ensures ∙ c.if-sees-2.false, sym c.sees-3.ensures ∙ c.if-sees-3.false, sym c.sees-4.ensures ∙ c.if-sees-4.false, letter) (rw letter at c.parse_named.ensures.gives)
+
+pub parse_operand-returns-clause-gives : goal.parse_operand-returns-clause-gives
+unfolding operand_at
+parse_operand-returns-clause-gives g t c =
+    (a_literal (number (number_amount c.in_ok-number.number)), refl, grind (arith, common_steps), grows_none c.args.builder.now)
+
+pub parse_or_from-parts-init : goal.parse_or_from-parts-init
+unfolding or_from next_and_at
+parse_or_from-parts-init g t c = record {
+  moves = grind (arith, common_steps);
+  so_far = λ x is. begins_row (ors_stand _ _) x (omega arith) c.new-parts.ensures.items c.in_ok-push.ensures.items is (λ before grown. grown) refl;
+}
+
+pub parse_or_from-returns-in_err-part-clause-gives : goal.parse_or_from-returns-in_err-part-clause-gives
+parse_or_from-returns-in_err-part-clause-gives g t c = λ x is.
+    let p = err_from_is_err_and c.from_residual-in_err-part.result c.from_residual-in_err-part.ensures.1 in
+    rw (p.1, p.2) (row_fails (ors_stand _ _) (grind (arith, common_steps)) (grind (arith, common_steps)) (c.parts.invariant.so_far x is) c.in_err-part.field-0.0 c.in_err-part.ensures.gives)
+
+pub parse_or_from-parts-smaller : goal.parse_or_from-parts-smaller
+parse_or_from-parts-smaller g t c =
+    row_shorter (ors_stand _ _) (grind (arith, common_steps)) (grind (arith, common_steps)) c.in_ok-part.ensures.gives
+
+pub parse_or_from-parts-preserved : goal.parse_or_from-parts-preserved
+parse_or_from-parts-preserved g t c = record {
+  moves = grind (arith, common_steps);
+  so_far = λ x is. row_goes_on (ors_stand _ _) (grind (arith, common_steps)) (grind (arith, common_steps)) c.in_ok-part.ensures.gives (c.parts.invariant.so_far x is) c.in_ok-push-2.ensures.items;
+}
+
+pub parse_or_from-logical_or-requires : goal.parse_or_from-logical_or-requires
+parse_or_from-logical_or-requires g t c =
+    let so_far = c.parts.invariant.so_far c.requires.0 c.requires.1 in
+    (or_list so_far.items, some_ors c.parts.builder _ _ so_far.some so_far.are)
+
+pub parse_or_from-returns-clause-gives : goal.parse_or_from-returns-clause-gives
+parse_or_from-returns-clause-gives g t c = λ x is.
+    let so_far = c.parts.invariant.so_far x is in (
+      or_list so_far.items,
+      c.in_ok-logical_or.ensures.made (or_list so_far.items) (some_ors c.parts.builder _ _ so_far.some so_far.are),
+      row_done (ors_stand _ _) so_far (grind (arith, common_steps)) c.sees_both.ensures.stays,
+      λ before grown. grows_kept (so_far.grown before grown) c.logical_or.ensures.keeps,
+    )
+
+pub parse_query-returns-clause-gives : goal.parse_query-returns-clause-gives
+unfolding query_at
+parse_query-returns-clause-gives g t c =
+    let kind = query_kind_view c.args.kind in
+    let read = c.in_ok-parts.ensures.gives in (
+      tree.query kind (segment_list read.0),
+      c.in_ok-query.ensures.made (segment_list read.0) read.2,
+      grind (arith, common_steps),
+      grows_kept read.6 c.query.ensures.keeps,
+    )
+
+pub parse_segments-segments-init : goal.parse_segments-segments-init
+unfolding next_segment_at
+parse_segments-segments-init g t c = record {
+  moves = c.skip_blanks.ensures.moves;
+  none = λ e. ap (begins opens) c.skip_blanks.ensures.left ∙ e;
+  so_far = (
+    left c.args.reader.now,
+    c.bytes_left-rest.ensures.value,
+    c.skip_blanks.ensures.left,
+    record {
+      items = [];
+      are = rw c.new-parts.ensures.items tt;
+      some = omega arith;
+      reads = m.with_none (segments_at (filter_at g.F.Functions.set c.args.self.now) c.args.context (left c.args.reader.now));
+      grown = λ before grown. grown;
+    },
+  );
+}
+
+pub parse_segments-returns-in_err-part-clause-gives : goal.parse_segments-returns-in_err-part-clause-gives
+parse_segments-returns-in_err-part-clause-gives g t c =
+    let p = err_from_is_err_and c.from_residual.result c.from_residual.ensures.1 in
+    let so_far = c.segments.invariant.so_far in
+    rw (p.1, p.2) (row_fails (segments_stand _ _ _) (grind (arith, common_steps)) so_far.2 so_far.3 c.in_err-part.field-0.0 c.in_err-part.ensures.gives)
+
+pub parse_segments-returns-in_err-part-clause-spares : goal.parse_segments-returns-in_err-part-clause-spares
+parse_segments-returns-in_err-part-clause-spares g t c =
+    let p = err_from_is_err_and c.from_residual.result c.from_residual.ensures.1 in
+    rw p.1 (λ e. absurd (true≢false (sym c.segments-test.true ∙ c.sees_segment.ensures ∙ c.segments.invariant.none e)))
+
+pub parse_segments-returns-in_err-push-clause-spares : goal.parse_segments-returns-in_err-push-clause-spares
+parse_segments-returns-in_err-push-clause-spares g t c =
+    let p = err_from_is_err_and c.from_residual-in_err-push.result c.from_residual-in_err-push.ensures.1 in
+    rw p.1 (λ e. absurd (true≢false (sym c.segments-test.true ∙ c.sees_segment.ensures ∙ c.segments.invariant.none e)))
+
+pub parse_segments-segments-smaller : goal.parse_segments-segments-smaller
+parse_segments-segments-smaller g t c =
+    let shorter = segment_shorter (signatures g.F.Functions.set c.args.self.now) c.args.self.now.depth c.args.context _ _ c.in_ok-part.ensures.gives.0 (grind (arith, common_steps)) c.in_ok-part.ensures.gives.2 in
+    rw c.skip_blanks-in-segments.ensures.left (omega (arith, shorter, no_longer (left c.parse_segment.new.reader)))
+
+pub parse_segments-segments-preserved : goal.parse_segments-segments-preserved
+parse_segments-segments-preserved g t c =
+    let so_far = c.segments.invariant.so_far in
+    let further = row_goes_on (segments_stand _ _ _) (grind (arith, common_steps)) so_far.2 c.in_ok-part.ensures.gives so_far.3 c.in_ok-push.ensures.items in
+    record {
+      moves = grind (arith, common_steps);
+      none = λ e. absurd (true≢false (sym c.segments-test.true ∙ c.sees_segment.ensures ∙ c.segments.invariant.none e));
+      so_far = (left c.parse_segment.new.reader, c.bytes_left-rest-in-segments.ensures.value, c.skip_blanks-in-segments.ensures.left, further);
+    }
+
+pub parse_segments-returns-clause-gives : goal.parse_segments-returns-clause-gives
+parse_segments-returns-clause-gives g t c =
+    let so_far = c.segments.invariant.so_far in
+    let row = so_far.3 in
+    (row.items, so_far.0, row.are, so_far.1, so_far.2, row_done (segments_stand _ _ _) row (grind (arith, common_steps)) refl, row.grown c.args.builder.now (grows_none c.args.builder.now))
+
+pub parse_selector-returns-in_err-test-clause-gives : goal.parse_selector-returns-in_err-test-clause-gives
+parse_selector-returns-in_err-test-clause-gives g t c =
+    let p = err_from_is_err_and c.from_residual.result c.from_residual.ensures.1 in
+    rw (p.1, p.2, at_mark (signatures g.F.Functions.set c.args.self.now) (deeper g.F.Functions.set c.args.self.now) (left c.args.reader.now) (sym c.sees.ensures ∙ c.if-sees.true)) (first_fails c.in_err-test.field-0.0 _ _ c.in_err-test.ensures.gives)
+
+pub parse_selector-returns-then-sees-clause-gives : goal.parse_selector-returns-then-sees-clause-gives
+parse_selector-returns-then-sees-clause-gives g t c =
+    let read = c.in_ok-test.ensures.gives in
+    (tree.filter read.0, c.in_ok-filter.ensures.made read.0 read.1, rw (at_mark (signatures g.F.Functions.set c.args.self.now) (deeper g.F.Functions.set c.args.self.now) (left c.args.reader.now) (sym c.sees.ensures ∙ c.if-sees.true), read.2) refl, grows_kept read.3 c.filter.ensures.keeps)
+
+pub parse_selectors-selectors-init : goal.parse_selectors-selectors-init
+unfolding selectors_at next_selector_at
+parse_selectors-selectors-init g t c =
+    let read = c.in_ok-first.ensures.gives in
+    record {
+      moves = grind (arith, common_steps);
+      so_far = begins_row (selectors_stand _ _) read.0 (omega arith) c.new-parts.ensures.items c.in_ok-push.ensures.items read.1 (λ before grown. grows_then grown read.3) (rw (← c.skip_blanks.ensures.left, read.2) refl);
+    }
+
+pub parse_selectors-returns-in_err-part-clause-gives : goal.parse_selectors-returns-in_err-part-clause-gives
+parse_selectors-returns-in_err-part-clause-gives g t c =
+    let p = err_from_is_err_and c.from_residual-in_err-part.result c.from_residual-in_err-part.ensures.1 in
+    rw (p.1, p.2) (row_fails (selectors_stand _ _) (grind (arith, common_steps)) (grind (arith, common_steps)) c.selectors.invariant.so_far c.in_err-part.field-0.0 c.in_err-part.ensures.gives)
+
+pub parse_selectors-selectors-smaller : goal.parse_selectors-selectors-smaller
+parse_selectors-selectors-smaller g t c =
+    row_shorter (selectors_stand _ _) (grind (arith, common_steps)) (grind (arith, common_steps)) c.in_ok-part.ensures.gives
+
+pub parse_selectors-selectors-preserved : goal.parse_selectors-selectors-preserved
+parse_selectors-selectors-preserved g t c = record {
+  moves = grind (arith, common_steps);
+  so_far = row_goes_on (selectors_stand _ _) (grind (arith, common_steps)) (grind (arith, common_steps)) c.in_ok-part.ensures.gives c.selectors.invariant.so_far c.in_ok-push-2.ensures.items;
+}
+
+pub parse_selectors-returns-clause-gives : goal.parse_selectors-returns-clause-gives
+parse_selectors-returns-clause-gives g t c =
+    let so_far = c.selectors.invariant.so_far in
+    (so_far.items, some_selectors c.selectors.builder _ _ so_far.some so_far.are, row_done (selectors_stand _ _) so_far (grind (arith, common_steps)) refl, so_far.grown c.args.builder.now (grows_none c.args.builder.now))
+
+pub parse_and_from-returns-clause-made : goal.parse_and_from-returns-clause-made
+parse_and_from-returns-clause-made g t c =
+    let made = parse_and_from-returns-clause-gives g t c c.requires.0 c.requires.1 in
+    (made.0, made.1)
+
+pub parse_basic_from-returns-clause-made : goal.parse_basic_from-returns-clause-made
+parse_basic_from-returns-clause-made g t c =
+    let made = parse_basic_from-returns-clause-gives g t c c.requires.0 c.requires.1 in
+    (made.0, made.1)
+
+pub parse_logical_or-returns-clause-gives : goal.parse_logical_or-returns-clause-gives
+unfolding or_at
+parse_logical_or-returns-clause-gives g t c =
+    let one = c.in_ok-first.ensures.gives in
+    rw one.2 (grown_so _ _ _ _ _ c.parse_or_from.result (c.parse_or_from.ensures.gives one.0 one.1) (λ e grown. grown c.args.builder.now one.3))
+
+pub parse_logical_and-returns-clause-gives : goal.parse_logical_and-returns-clause-gives
+unfolding and_at
+parse_logical_and-returns-clause-gives g t c =
+    let one = c.in_ok-first.ensures.gives in
+    rw one.2 (grown_so _ _ _ _ _ c.parse_and_from.result (c.parse_and_from.ensures.gives one.0 one.1) (λ e grown. grown c.args.builder.now one.3))
+
+pub parse_basic-returns-clause-gives : goal.parse_basic-returns-clause-gives
+unfolding basic_at
+parse_basic-returns-clause-gives g t c =
+    let o = c.in_ok-operand.ensures.gives in
+    let made = rw c.bytes_left-place.ensures.value at (c.parse_basic_from.ensures.gives o.0 o.1) in
+    rw (sym c.sees.ensures ∙ c.if-sees.false, sym c.sees-2.ensures ∙ c.if-sees-2.false, o.2)
+    (grown_so _ _ _ _ _ c.parse_basic_from.result made (λ b grown. grown c.args.builder.now o.3))

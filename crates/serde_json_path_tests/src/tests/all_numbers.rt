@@ -1,0 +1,102 @@
+//! Comparisons that take all numbers, beside those that take whole numbers alone.
+
+use crate::tests::sets::Own;
+use serde_json::Value;
+use serde_json_path::JsonPath;
+use serde_json_path::functions::{AllNumbers, Both, Builtin, Functions};
+use serde_json_path_core_tests::rows::{Table, fields};
+use serde_json_path_core_tests::texts::{BOOKSTORE, locations};
+use std::alloc::Global;
+use std::test::Fail;
+
+/// The locations of what a path selects from a document under a set.
+fn located<F: Functions>(
+    alloc: Global,
+    functions: &F,
+    path: &str,
+    document: &str,
+) -> Result<String, Fail> {
+    let document = Value::from_str(alloc, document)?;
+    let path = JsonPath::parse_with(alloc, path, functions)?;
+    locations(
+        alloc,
+        &path.query_located_with(alloc, &document, functions)?,
+    )
+}
+
+/// The same where comparisons take all numbers, and where they take whole numbers alone.
+fn by_both_rules(alloc: Global, path: &str, document: &str) -> Result<String, Fail> {
+    let all = located(alloc, &AllNumbers(Builtin), path, document)?;
+    let whole = located(alloc, &Builtin, path, document)?;
+    Ok(format!(in alloc; "{all} ~ {whole}")?)
+}
+
+/// The same of a path and a document.
+fn of_row(alloc: Global, given: &str) -> Result<String, Fail> {
+    let (path, document) = fields(given)?;
+    by_both_rules(alloc, path, document)
+}
+
+/// A path, and what it selects from [`BOOKSTORE`] by all numbers, and by whole numbers.
+const BOOKS: &[&str] = &[
+    "$..book[?@.price < 10].title -> $['store']['book'][0]['title'] $['store']['book'][2]['title'] ~ ",
+    "$..book[?@.price == 8.95] -> $['store']['book'][0] ~ ",
+    "$..book[?@.price < 8.95] ->  ~ ",
+    "$..book[?@.price <= 8.95] -> $['store']['book'][0] ~ ",
+    "$..book[?@.price != 8.95] -> $['store']['book'][1] $['store']['book'][2] $['store']['book'][3] ~ $['store']['book'][0] $['store']['book'][1] $['store']['book'][2] $['store']['book'][3]",
+    "$..book[?@.price > 8.95 && @.price < 13] -> $['store']['book'][1] $['store']['book'][2] ~ ",
+];
+
+/// A path, a document, and what the path selects there by all numbers, and by whole numbers.
+const ROWS: &[&str] = &[
+    r#"$[?@ == 4] ~ [4,4.0,4e0,40e-1,"4"] -> $[0] $[1] $[2] $[3] ~ $[0]"#,
+    r#"$[?@ == 4.0] ~ [4,4.0,4e0,40e-1,"4"] -> $[0] $[1] $[2] $[3] ~ $[0]"#,
+    "$[?@ == 100] ~ [1e2,100] -> $[0] $[1] ~ $[1]",
+    "$[?@ == 9007199254740993] ~ [9007199254740993,9007199254740992.0,9007199254740993.0] -> $[0] ~ $[0]",
+    "$[?@ == 9007199254740992] ~ [9007199254740993,9007199254740992.0,9007199254740993.0] -> $[1] $[2] ~ ",
+    "$[?@ > $[1]] ~ [9007199254740993,9007199254740992.0] -> $[0] ~ ",
+    "$[?@ < @] ~ [18446744073709551615,18446744073709551615.0] ->  ~ ",
+    "$[?@ == 18446744073709551615] ~ [18446744073709551615,18446744073709551615.0] -> $[0] ~ $[0]",
+    "$[?@ > 18446744073709551615] ~ [18446744073709551615,18446744073709551615.0] -> $[1] ~ ",
+    "$[?@ == 0] ~ [-0.0,0,0.0] -> $[0] $[1] $[2] ~ $[1]",
+    "$[?@ == -0.0] ~ [-0.0,0,0.0] -> $[0] $[1] $[2] ~ $[1]",
+    "$[?@ < 0] ~ [-0.0,0,0.0] ->  ~ ",
+    "$[?@ > 0] ~ [5e-324,1e308,-1e308] -> $[0] $[1] ~ ",
+    "$[?@ < 0.000000001] ~ [5e-324,1e308,-1e308] -> $[0] $[2] ~ ",
+    "$[?@ >= 18446744073709551615] ~ [5e-324,1e308,-1e308] -> $[1] ~ ",
+    r#"$[?@ == @] ~ [1,1.5,[1.5],{"a":1.5}] -> $[0] $[1] $[2] $[3] ~ $[0]"#,
+    r#"$[?@ == $[0]] ~ [[1.0,{"a":2}],[1,{"a":2.0}]] -> $[0] $[1] ~ "#,
+    r#"$[?@ == $[0]] ~ [{"a":1.0,"b":[2]},{"a":1,"b":[2.0]},{"a":1}] -> $[0] $[1] ~ "#,
+    "$[?@ == 0.1] ~ [0.1,0.10,0.2] -> $[0] $[1] ~ ",
+    "$[?@ < 1.5] ~ [1,1.5,2] -> $[0] ~ $[0]",
+    "$[?0.1 == 0.10 && 1.5 > 1 && 2 >= 2.0] ~ [0] -> $[0] ~ $[0]",
+    r#"$[?@.a == 1.5 || @.b < 2.5] ~ [{"a":1.5},{"b":2.25},{"b":3}] -> $[0] $[1] ~ "#,
+    r#"$[?value(@.a) == 1.5] ~ [{"a":1.5},{"a":2}] -> $[0] ~ "#,
+    r#"$[?value(@.a) < value(@.b)] ~ [{"a":1.5,"b":2},{"a":2,"b":1.5}] -> $[0] ~ "#,
+    r#"$[?length(@) == 2.0] ~ ["ab","a"] -> $[0] ~ $[0]"#,
+    r#"$[?@ < 'b'] ~ ["a","c",1.5] -> $[0] ~ $[0]"#,
+];
+
+#[test]
+fn compares_all_numbers_where_the_set_says_so(rt: HostRuntime) -> Result<(), Fail> {
+    let mut table = Table::new();
+    table.hold_each(&rt, rt.alloc(), "the bookstore", BOOKS, |alloc, path| {
+        by_both_rules(alloc, path, BOOKSTORE)
+    });
+    table.hold_each(&rt, rt.alloc(), "both rules", ROWS, of_row);
+    table.end()
+}
+
+#[test]
+fn has_the_choice_of_the_first_set(rt: HostRuntime) -> Result<(), Fail> {
+    let alloc = rt.alloc();
+    let row = |wanted| ("[1.5]", "$[?none() == none() && @ == 1.5]", wanted);
+    let ((document, path, _), mut table) = (row(""), Table::new());
+    let all = AllNumbers(Own::refusing(0));
+    table.hold(&rt, row("$[0]"), located(alloc, &all, path, document));
+    let first = Both(all, Own::refusing(0));
+    table.hold(&rt, row("$[0]"), located(alloc, &first, path, document));
+    let second = Both(Own::refusing(0), AllNumbers(Builtin));
+    table.hold(&rt, row(""), located(alloc, &second, path, document));
+    table.end()
+}
