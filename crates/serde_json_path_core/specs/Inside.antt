@@ -14,7 +14,7 @@ pub mod Views
 pub mod SingleChildren
 -- the sides of a comparison as the definitions see them
 pub mod Sides
--- filters that are one comparison
+-- comparisons, by how their sides are found
 pub mod Comparisons
 -- what all parts of an evaluation share, and what it asks of the query
 pub mod Scopes
