@@ -5,11 +5,11 @@ use Rattle.std.specs.Int.{w128}
 use Rattle.std.specs.Float.{float_is_finite}
 use Rattle.std.specs.Float.Ieee.{Float, nan, inf, fin, binary64, round, le, units, odd}
 use Rattle.std.proofs.lemmas.Int.{ints}
-use Rattle.serde_json_path_numbers.specs.Numbers.{integer, IsInLiteralRange}
+use Rattle.serde_json_path_numbers.specs.Numbers.{integer, literal_double, IsInLiteralRange}
 use Rattle.serde_json_path_numbers.specs.Laws.{IsFinite, NumbersAreFinite}
 use Rattle.fast_float.specs.Rounding.{nearest_to_decimal}
 use Rattle.serde_json_path_numbers.specs.Inside.{is_exact}
-use Rattle.serde_json_path_numbers.specs.declared.exact_number.Form.TheVariants.{Integer}
+use Rattle.serde_json_path_numbers.specs.declared.exact_number.Form.TheVariants.{Integer, Double}
 use Rattle.serde_json_path_numbers.proofs.Forms.{in_range, finite_integer}
 use lib.Ieee.Exact.{HasValue, round_exact}
 use lib.Ieee.Back.{round_whole}
@@ -58,17 +58,22 @@ whole_size (negsuc n) = size (suc n / 1000000000)
     size zero = refl
     size (suc k) = refl
 
-given : (t : Bool) (v whole : ℤ) → Some v ≡ (if t then Some whole else None) → v ≡ whole
-given true v whole e = cc
-given false v whole e = cc
+-- its whole part
+pub whole_is_exact : (b whole : ℤ) → IsInLiteralRange b → whole ≡ int_div b (pos 1000000000) → is_exact (Integer (to_z w128 (of_z w128 whole))) ≡ true
+whole_is_exact b whole h e =
+    let size : unsigned_abs whole < 2 ^ 64 = rw (e, whole_size b) (omega (arith, size_in_range b h)) in
+    let exact : is_exact (Integer whole) ≡ true = lt-ltb (unsigned_abs whole) (2 ^ 64) size in
+    rw (to_z-of_z (in_range whole exact)) exact
 
--- its whole number, where it has no fraction
-pub whole_in_range : (b v : ℤ) → IsInLiteralRange b → Some v ≡ (if unsigned_abs b % 1000000000 == 0 then Some (int_div b (pos 1000000000)) else None) → is_exact (Integer (to_z w128 (of_z w128 v))) ≡ true
-whole_in_range b v h e =
-    let whole = int_div b (pos 1000000000) in
-    let size : unsigned_abs whole < 2 ^ 64 = rw (whole_size b) (omega (arith, size_in_range b h)) in
-    let exact : is_exact (Integer v) ≡ true = rw (given (unsigned_abs b % 1000000000 == 0) v whole e) (lt-ltb (unsigned_abs whole) (2 ^ 64) size) in
-    rw (to_z-of_z (in_range v exact)) exact
+-- its double, where it has a fraction
+pub double_is_exact : (b : ℤ) (x : Float) → IsInLiteralRange b → Some x ≡ literal_double b → is_exact (Double x) ≡ true
+double_is_exact b x h e = go (unsigned_abs b % 1000000000 == 0) e
+  where
+    go : (t : Bool) → Some x ≡ (if t then None else Some (nearest_to_decimal binary64 (int_lt b (pos 0)) (unsigned_abs b) (negsuc 8))) → is_exact (Double x) ≡ true
+    go true e = cc
+    go false e =
+        let is : x ≡ nearest_to_decimal binary64 (int_lt b (pos 0)) (unsigned_abs b) (negsuc 8) = cc in
+        rw is (finite_rounded (int_lt b (pos 0)) (unsigned_abs b) 1000000000 (omega arith) (size_in_range b h))
 
 pub all_finite : NumbersAreFinite
 all_finite = record {

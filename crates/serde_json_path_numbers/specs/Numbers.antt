@@ -1,5 +1,5 @@
 -- Exact numbers of documents and literals, and how they compare.
-use Rattle.std.specs.Prelude.{suc, ◌*◌, ◌-◌, ◌%◌, ◌^◌, ◌==◌, false, true, IsTrue, if◌then◌else◌, ℤ, pos, negsuc, ◌-ℤ◌, ◌≤ℤ◌, int_lt, int_div, unsigned_abs}
+use Rattle.std.specs.Prelude.{suc, ◌*◌, ◌-◌, ◌%◌, ◌^◌, ◌==◌, false, true, IsTrue, Option, None, Some, if◌then◌else◌, ℤ, pos, negsuc, ◌-ℤ◌, ◌≤ℤ◌, int_lt, int_div, unsigned_abs}
 use Rattle.std.specs.Float.Ieee.{Float, fin, eq, lt, binary64}
 use Rattle.fast_float.specs.Rounding.{nearest_to_decimal}
 use Rattle.serde_json.specs.Data.{Num, unsigned, negative, float}
@@ -20,6 +20,12 @@ abbrev pub literal_number : ℤ → Float
 literal_number b =
     if unsigned_abs b % 1000000000 == 0 then integer (int_div b (pos 1000000000))
     else nearest_to_decimal binary64 (int_lt b (pos 0)) (unsigned_abs b) (negsuc 8)
+
+-- the double nearest to a literal of that many billionths that has a fraction
+abbrev pub literal_double : ℤ → Option Float
+literal_double b =
+    if unsigned_abs b % 1000000000 == 0 then None
+    else Some (nearest_to_decimal binary64 (int_lt b (pos 0)) (unsigned_abs b) (negsuc 8))
 
 -- a literal's number is from -2 ^ 63 to 2 ^ 64 - 1; this is in billionths
 abbrev pub IsInLiteralRange : ℤ → Type 0

@@ -4,7 +4,7 @@ ghost use Rattle.std.specs.Prelude.{◌≡◌, true};
 ghost use Rattle.serde_json_path_numbers.specs.Inside.{is_exact};
 
 use crate::comparison::compare;
-use crate::literal::{nearest_double, whole_number};
+use crate::literal::{literal_double, whole_part};
 use serde_json::Number;
 
 /// What holds the number.
@@ -27,6 +27,7 @@ impl ExactNumber {
     ghost use Rattle.std.specs.Float.Ieee.{eq, lt};
     ghost use Rattle.serde_json.specs.View.{number_view};
     ghost use Rattle.serde_json_path_numbers.specs.Numbers.{document_number, literal_number, IsInLiteralRange};
+    ghost use Rattle.serde_json_path_numbers.specs.Numbers as numbers;
     ghost use Rattle.serde_json_path_numbers.specs.Views.{exact_view};
 
     /// The number of a document.
@@ -48,9 +49,19 @@ impl ExactNumber {
         requires { IsInLiteralRange billionths }
         ensures { exact_view result ≡ literal_number billionths }
     {
-        let form = match whole_number(billionths) {
-            Some(whole) => Form::Integer(whole),
-            None => Form::Double(nearest_double(billionths < 0, billionths.unsigned_abs())),
+        ExactNumber::of_literal(billionths, literal_double(billionths))
+    }
+
+    /// The same of a literal whose nearest double, if it has a fraction, is at hand (see [`literal_double`]).
+    #[inline]
+    pub fn of_literal(billionths: i128, double: Option<f64>) -> ExactNumber
+        requires range { IsInLiteralRange billionths }
+        requires double { double ≡ numbers.literal_double billionths }
+        ensures { exact_view result ≡ literal_number billionths }
+    {
+        let form = match double {
+            None => Form::Integer(whole_part(billionths)),
+            Some(double) => Form::Double(double),
         };
         ExactNumber { form }
     }

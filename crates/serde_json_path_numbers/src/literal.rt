@@ -1,9 +1,11 @@
 //! The number of a literal, which is given in billionths.
 
-ghost use Rattle.std.specs.Prelude.{◌≡◌, ◌*◌, ◌%◌, ◌^◌, ◌<◌, ◌==◌, length, negsuc, pos, int_div, unsigned_abs, if◌then◌else◌, Some, None};
+ghost use Rattle.std.specs.Prelude.{◌≡◌, ◌*◌, ◌%◌, ◌^◌, ◌<◌, ◌==◌, length, negsuc, pos, int_div, unsigned_abs};
 ghost use Rattle.std.specs.Float.{binary64};
 ghost use Rattle.std.specs.Str.Parse.{digits_value, AllDigits};
 ghost use Rattle.fast_float.specs.Rounding.{nearest_to_decimal};
+ghost use Rattle.serde_json_path_numbers.specs.Numbers.{IsInLiteralRange};
+ghost use Rattle.serde_json_path_numbers.specs.Numbers as numbers;
 
 use fast_float::{Numeral, from_parts};
 
@@ -13,16 +15,38 @@ const ONE: i128 = 1_000_000_000;
 /// The same of 64 bits, by which it takes no call to divide.
 const SHORT_ONE: i64 = 1_000_000_000;
 
-/// The whole number, or `None` where there is a fraction.
+/// Whether so many billionths are a whole number.
 #[inline]
-pub(crate) fn whole_number(billionths: i128) -> Option<i128>
-    ensures { result ≡ (if unsigned_abs billionths % 1000000000 == 0
-        then Some (int_div billionths (pos 1000000000)) else None) }
+fn is_whole(billionths: i128) -> bool
+    ensures { result ≡ (unsigned_abs billionths % 1000000000 == 0) }
 {
     match i64::try_from(billionths) {
-        Ok(short) if short % SHORT_ONE == 0 => Some((short / SHORT_ONE) as i128),
-        Err(_) if billionths % ONE == 0 => Some(billionths / ONE),
-        _ => None,
+        Ok(short) => short % SHORT_ONE == 0,
+        Err(_) => billionths % ONE == 0,
+    }
+}
+
+/// The whole part, rounded toward zero.
+#[inline]
+pub(crate) fn whole_part(billionths: i128) -> i128
+    ensures { result ≡ int_div billionths (pos 1000000000) }
+{
+    match i64::try_from(billionths) {
+        Ok(short) => (short / SHORT_ONE) as i128,
+        Err(_) => billionths / ONE,
+    }
+}
+
+/// The double nearest to a literal of that many billionths, if it has a fraction; `None` for a whole number.
+#[inline]
+pub fn literal_double(billionths: i128) -> Option<f64>
+    requires { IsInLiteralRange billionths }
+    ensures { result ≡ numbers.literal_double billionths }
+{
+    if is_whole(billionths) {
+        None
+    } else {
+        Some(nearest_double(billionths < 0, billionths.unsigned_abs()))
     }
 }
 

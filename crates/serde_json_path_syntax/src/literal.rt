@@ -1,8 +1,11 @@
 //! Literals of filters (RFC 9535, section 2.3.5.1).
 
+ghost use Rattle.std.specs.Prelude.{◌≡◌};
+ghost use Rattle.serde_json_path_numbers.specs.Numbers as numbers;
 ghost use Rattle.serde_json_path_syntax.specs.WellFormed.{IsLiteralAmount};
 
 use serde_json::Value;
+use serde_json_path_numbers::{ExactNumber, literal_double};
 use std::alloc::AllocError;
 
 /// One, in billionths.
@@ -15,17 +18,23 @@ const LEAST: i128 = -(1 << 63) * ONE;
 const GREATEST: i128 = ((1 << 64) - 1) * ONE;
 
 /// A number literal from -2^63 to 2^64 - 1, as a whole number of billionths: 1.5 is 1500000000.
+///
+/// One with a fraction keeps the double nearest to it, so that no comparison has to find it.
 #[derive(Clone, Copy, Debug)]
 pub struct NumberLiteral {
     pub(crate) billionths: i128,
+    double: Option<f64>,
     ghost range: { IsLiteralAmount billionths },
+    ghost nearest: { double ≡ numbers.literal_double billionths },
 }
 
 impl NumberLiteral {
-    ghost use Rattle.std.specs.Prelude.{◌≡◌, ◌↔◌, IsSome, IfSome, int_div, pos};
+    ghost use Rattle.std.specs.Prelude.{◌↔◌, IsSome, IfSome, int_div, pos};
     ghost use Rattle.serde_json.specs.Data.{number};
     ghost use Rattle.serde_json.specs.Find.{of_integer};
     ghost use Rattle.serde_json.specs.View.{view};
+    ghost use Rattle.serde_json_path_numbers.specs.Numbers.{literal_number};
+    ghost use Rattle.serde_json_path_numbers.specs.Views.{exact_view};
     ghost use Rattle.serde_json_path_syntax.specs.Literals.{number_amount};
 
     /// The number of that many billionths, or `None` if it is out of range.
@@ -34,7 +43,10 @@ impl NumberLiteral {
         ensures amount { IfSome result (λ literal. number_amount literal ≡ billionths) }
     {
         if LEAST <= billionths && billionths <= GREATEST {
-            Some(NumberLiteral { billionths })
+            Some(NumberLiteral {
+                billionths,
+                double: literal_double(billionths),
+            })
         } else {
             None
         }
@@ -45,6 +57,14 @@ impl NumberLiteral {
         ensures { result ≡ number_amount self.now }
     {
         self.billionths
+    }
+
+    /// The exact number that it denotes: an integer, or with a fraction the double nearest to it (RFC 8259, section 6).
+    #[inline]
+    pub fn exact(&self) -> ExactNumber
+        ensures { exact_view result ≡ literal_number (number_amount self.now) }
+    {
+        ExactNumber::of_literal(self.billionths, self.double)
     }
 
     /// The whole part, rounded toward zero, as a document's number.

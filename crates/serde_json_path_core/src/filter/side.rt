@@ -112,7 +112,7 @@ pub(crate) fn exact_of(side: Side) -> Option<ExactNumber>
 {
     match side {
         Side::Value(Value::Number(number)) => Some(ExactNumber::of_number(number)),
-        Side::Number(literal) => Some(ExactNumber::of_billionths(literal.billionths())),
+        Side::Number(literal) => Some(literal.exact()),
         Side::Value(_) | Side::Nothing => None,
     }
 }
