@@ -161,8 +161,10 @@ fn lines<F: Functions + Drop>(
     ensures refused { OnlyMemoryOrPattern (set_of walk.entry) (query_of walk.entry)
         (document_of walk.entry) result }
 {
-    'nodes: while let Some(node) = walk.next()? {
+    let mut steps = Vec::new(alloc);
+    'nodes: while let Some(node) = walk.next_into(steps)? {
         push_line(alloc, &mut text, form, &node)?;
+        steps = node.into_steps();
     }
     Ok(text)
 }

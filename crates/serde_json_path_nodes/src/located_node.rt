@@ -1,9 +1,10 @@
 //! A node with its location.
 
-ghost use Rattle.std.specs.Prelude.{◌≡◌};
+ghost use Rattle.std.specs.Prelude.{◌≡◌, map};
 ghost use Rattle.serde_json.specs.View.{view};
 
 use crate::normalized_path::NormalizedPath;
+use crate::path_element::PathElement;
 use serde_json::Value;
 use std::cmp::Ordering;
 
@@ -19,7 +20,7 @@ pub struct LocatedNode<'b> {
 }
 
 impl<'b> LocatedNode<'b> {
-    ghost use Rattle.serde_json_path_nodes.specs.Views.{located};
+    ghost use Rattle.serde_json_path_nodes.specs.Views.{located, step_view};
     ghost use Rattle.serde_json_path_nodes.specs.Inside.NodeOrder.{node_cmp};
 
     /// The node with this location. Takes no memory.
@@ -45,6 +46,13 @@ impl<'b> LocatedNode<'b> {
         ensures { view result.now ≡ (located self.now).value }
     {
         self.node
+    }
+
+    /// The steps of the node's location, for `Walk::next_into` to use their memory again.
+    pub fn into_steps(self) -> Vec<PathElement<'b>>
+        ensures { map step_view result.items ≡ (located self.entry).location }
+    {
+        self.location.into_steps()
     }
 
     /// The number that was set last.

@@ -43,6 +43,13 @@ impl<'b> NormalizedPath<'b> {
         NormalizedPath { steps }
     }
 
+    /// The steps from the root on, in the vector that holds them. Takes no memory.
+    pub fn into_steps(self) -> Vec<PathElement<'b>>
+        ensures { map step_view result.items ≡ self.entry }
+    {
+        self.steps
+    }
+
     /// How many steps there are; 0 for the root.
     pub fn len(&self) -> usize
         ensures { result ≡ length self.now }

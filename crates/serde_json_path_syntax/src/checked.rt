@@ -37,7 +37,8 @@ impl Checked {
     ghost use Rattle.std.specs.Prelude.{ℕ, List, true, map, Some, IfOk, string_bytes};
     ghost use Rattle.serde_json_path_syntax.specs.Kinds.{each_is, fits, is_segment, is_selector};
     ghost use Rattle.serde_json_path_syntax.specs.Lists.{IsIn};
-    ghost use Rattle.serde_json_path_syntax.specs.Tree.{query, no_segments, segments_of};
+    ghost use Rattle.serde_json_path_syntax.specs.Tree as tree;
+    ghost use Rattle.serde_json_path_syntax.specs.Tree.{child, query, no_segments, segments_of};
     ghost use Rattle.serde_json_path_functions.specs.Functions.{FunctionSet, Signature};
     ghost use Rattle.serde_json_path_functions.specs.Terms.{kind_view};
     ghost use Rattle.serde_json_path_syntax.specs.Calls.{arguments_of, name_of};
@@ -315,6 +316,51 @@ impl Checked {
                 Segment::LongHand(selectors) => self.bracketed(selectors.as_slice(), number),
             },
             _ => unreachable!(),
+        }
+    }
+    /// The selector of a child segment that has one; `None` for any other segment.
+    #[inline]
+    pub fn only_selector(&self, segment: Part) -> Option<SelectorRef<'_>>
+        requires within { number_of segment < length (nodes_in self.now) }
+        requires typed { UnderSome IsTypedSegment (segment_at (nodes_in self.now) segment) }
+        ensures is { IfSome result (λ only. stage_at (nodes_in self.now) segment
+            ≡ record { kind = child; selectors = selector_view (nodes_in self.now) only ∷ [] }) }
+        ensures each { (only : tree.Selector) → stage_at (nodes_in self.now) segment
+            ≡ record { kind = child; selectors = only ∷ [] } → IsSome result }
+    {
+        match self.node(segment) {
+            Node::Segment { kind, segment } => match (*kind, segment) {
+                (SegmentKind::Descendant, _) => None,
+                (SegmentKind::Child, Segment::DotName(name)) => {
+                    Some(SelectorRef::Name(name.as_str()))
+                }
+                (SegmentKind::Child, Segment::DotWildcard) => Some(SelectorRef::Wildcard),
+                (SegmentKind::Child, Segment::LongHand(selectors)) => {
+                    self.only_bracketed(selectors.as_slice())
+                }
+            },
+            _ => unreachable!(),
+        }
+    }
+
+    /// The selector in brackets, if there is only one.
+    #[inline]
+    #[tactic(auto, using(crate::proofs::Tree::NamedParts::of_one_selector, crate::proofs::Tree::NamedParts::one_named))]
+    fn only_bracketed(&self, selectors: &[Part]) -> Option<SelectorRef<'_>>
+        requires within { parts_bound selectors.now ≤ length (nodes_in self.now) }
+        requires are { each_is is_selector
+            (pieces_named (pieces (nodes_in self.now)) selectors.now) ≡ true }
+        ensures is { IfSome result (λ only.
+            selectors_list (selectors_at (nodes_in self.now) selectors.now)
+            ≡ selector_view (nodes_in self.now) only ∷ []) }
+        ensures each { (only : tree.Selector) →
+            selectors_list (selectors_at (nodes_in self.now) selectors.now) ≡ only ∷ []
+            → IsSome result }
+    {
+        if selectors.len() == 1 {
+            Some(self.selector(selectors[0]))
+        } else {
+            None
         }
     }
 }

@@ -29,12 +29,6 @@ values-reached : (kind : SegmentKind) (n : Located) → map value_of (reached ki
 values-reached child n = refl
 values-reached descendant n = values-beneath [] (descents n.value) ∙ sym (values-beneath n.location (descents n.value))
 
--- a list of one selector
-alone : (sels : List Selector) (sel : Selector) → slice_get sels 0 ≡ Some sel → slice_get sels 1 ≡ None → sels ≡ sel ∷ []
-alone [] sel some none = absurd (none-some sel some)
-alone (first ∷ []) sel some none = ap (λ s. s ∷ []) (same_Some first sel some)
-alone (first ∷ second ∷ more) sel some none = absurd (none-some second (sym none))
-
 -- some parts end with those from that one on
 pub ends-at : {A : Type 0} (xs : List A) (i : ℕ) → EndsIn xs (take (length xs - i) (drop i xs))
 ends-at xs i =
@@ -45,11 +39,6 @@ ends-at xs i =
 pub child-selected : (s : SingleSelector) (v : Data) (c : Step × Data) → c ∷ [] ≡ candidates (single_view s) v → child_at v c.0 ≡ Some c.1
 unfolding AreChildrenOf
 child-selected s v c e = candidates-of (single_view s) v c (subst (IsIn c) e (inl refl))
-
--- a child segment of one selector
-pub only_stage : (stage : Stage) (sel : Selector) → stage.kind ≡ child → slice_get stage.selectors 0 ≡ Some sel → slice_get stage.selectors 1 ≡ None
-    → stage ≡ record { kind = child; selectors = sel ∷ [] }
-only_stage stage sel kind some none = let sels = alone stage.selectors sel some none in λ i. record { kind = kind i; selectors = sels i }
 
 -- a segment of a singular query is one of a name or an index
 pub singular_stage : (kind : SegmentKind) (seg : Segment) (more : Segments) → are_singular (segment kind seg more) ≡ true

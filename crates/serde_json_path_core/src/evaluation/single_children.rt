@@ -19,7 +19,7 @@ ghost use Rattle.serde_json_path_core.specs.Inside.Views.{child_view};
 
 use crate::child::{Child, item, member};
 use serde_json::Value;
-use serde_json_path_syntax::{Checked, Part, SegmentKind, SelectorRef};
+use serde_json_path_syntax::{Checked, Part, SelectorRef};
 
 /// A selector of one child at most.
 #[derive(Clone, Copy)]
@@ -54,28 +54,6 @@ fn name_or_index(selector_ref: SelectorRef<'_>) -> Option<SingleSelector<'_>>
     }
 }
 
-/// The selector of a child segment that has one; `None` for any other segment.
-#[inline(always)]
-fn only_selector(query: &Checked, segment: Part) -> Option<SelectorRef<'_>>
-    requires within { segment.number < length (nodes_in query.now) }
-    requires typed { UnderSome IsTypedSegment (segment_at (nodes_in query.now) segment) }
-    ensures is { IfSome result (λ only. stage_at (nodes_in query.now) segment
-        ≡ record { kind = child; selectors = selector_view (nodes_in query.now) only ∷ [] }) }
-    ensures each { (only : Selector) → stage_at (nodes_in query.now) segment
-        ≡ record { kind = child; selectors = only ∷ [] } → IsSome result }
-{
-    match query.segment_kind(segment) {
-        SegmentKind::Descendant => None,
-        SegmentKind::Child => match query.selector_ref(segment, 0) {
-            None => None,
-            Some(first) => match query.selector_ref(segment, 1) {
-                None => Some(first),
-                Some(_) => None,
-            },
-        },
-    }
-}
-
 /// The selector of a child segment that is one name or one index; `None` for any other segment.
 #[inline(always)]
 fn single_selector(query: &Checked, segment: Part) -> Option<SingleSelector<'_>>
@@ -86,7 +64,7 @@ fn single_selector(query: &Checked, segment: Part) -> Option<SingleSelector<'_>>
     ensures each { (only : Selector) → stage_at (nodes_in query.now) segment
         ≡ record { kind = child; selectors = only ∷ [] } → is_single only ≡ true → IsSome result }
 {
-    match only_selector(query, segment) {
+    match query.only_selector(segment) {
         Some(only) => name_or_index(only),
         None => None,
     }
@@ -115,7 +93,7 @@ pub(crate) fn is_wildcard(query: &Checked, segments: &[Part]) -> bool
     let [segment] = segments else {
         return false;
     };
-    matches!(only_selector(query, *segment), Some(SelectorRef::Wildcard))
+    matches!(query.only_selector(*segment), Some(SelectorRef::Wildcard))
 }
 
 /// The child that a selector selects, if there is one.

@@ -20,7 +20,6 @@ use serde_json::Value;
 use serde_json_path_functions::{Functions, QueryError};
 use serde_json_path_nodes::{LocatedNode, NormalizedPath, PathElement};
 use serde_json_path_syntax::{Checked, Part};
-use std::alloc::Global;
 
 /// The node that a walk has come to, and has not passed.
 #[derive(Clone, Copy)]
@@ -31,9 +30,9 @@ pub(crate) struct Found<'b> {
     pub(crate) value: &'b Value,
 }
 
-/// The node that a walk has come to, with its location.
+/// The node that a walk has come to, with its location in the memory of a vector, whose steps are lost.
 pub(crate) fn located_at<'b>(
-    alloc: Global,
+    mut steps: Vec<PathElement<'b>>,
     frames: &[Frame<'b>],
     found: Found<'b>,
 ) -> Result<LocatedNode<'b>, QueryError>
@@ -43,7 +42,8 @@ pub(crate) fn located_at<'b>(
     }) }
     ensures refused { IfErr result (λ e. e ≡ Memory) }
 {
-    let mut steps = Vec::with_capacity(alloc, frames.len())?;
+    steps.clear();
+    steps.reserve_exact(frames.len())?;
     for frame in frames {
         if let Some(step) = frame.step {
             steps.push(step)?;

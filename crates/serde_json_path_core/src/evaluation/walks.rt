@@ -8,7 +8,7 @@ use crate::evaluation::frame::Frame;
 use crate::evaluation::scope::Scope;
 use crate::evaluation::stack::{find_next, located_at, pass_found};
 use serde_json_path_functions::{Functions, QueryError};
-use serde_json_path_nodes::LocatedNode;
+use serde_json_path_nodes::{LocatedNode, PathElement};
 
 /// The nodes that a query selects, one at a time, in order.
 ///
@@ -64,12 +64,44 @@ impl<'q, 'b, F: Functions> Walk<'q, 'b, F> {
         ensures refused { OnlyMemoryOrPattern (set_of self.old) (query_of self.old)
             (document_of self.old) result }
     {
+        let steps = Vec::new(self.scope.alloc);
+        self.next_into(steps)
+    }
+
+    /// The next node as [`Walk::next`] gives it, with its location in the memory of a vector, whose steps are lost. A loop that
+    /// hands in the steps of the node before takes memory only where a location is longer than all before it:
+    ///
+    /// ```text
+    /// let mut steps = Vec::new(alloc);
+    /// while let Some(node) = walk.next_into(steps)? {
+    ///     println!(rt; "{}", node.location())?;
+    ///     steps = node.into_steps();
+    /// }
+    /// ```
+    pub fn next_into(
+        &mut self,
+        steps: Vec<PathElement<'b>>,
+    ) -> Result<Option<LocatedNode<'b>>, QueryError>
+        ensures query { query_of self.new ≡ query_of self.old }
+        ensures set { set_of self.new ≡ set_of self.old }
+        ensures document { document_of self.new ≡ document_of self.old }
+        ensures given { IfOk result (λ next. MatchOption next
+            ((rest self.old ≡ []) × (rest self.new ≡ []))
+            (λ node. rest self.old ≡ located node ∷ rest self.new)) }
+        ensures ended { IfOk result (λ next. IfNone next (places_of self.new ≡ 0)) }
+        ensures after_end { places_of self.old ≡ 0 → result ≡ Ok None }
+        ensures nearer { IfOk result (λ next.
+            IfSome next (λ node. steps_of self.new < steps_of self.old)) }
+        ensures unchanged { IfErr result (λ e. rest self.new ≡ rest self.old) }
+        ensures refused { OnlyMemoryOrPattern (set_of self.old) (query_of self.old)
+            (document_of self.old) result }
+    {
         let scope = &self.scope;
         let segments = scope.query.segments();
         match find_next(scope, segments, &mut self.frames)? {
             None => Ok(None),
             Some(found) => {
-                let node = located_at(self.scope.alloc, self.frames.as_slice(), found)?;
+                let node = located_at(steps, self.frames.as_slice(), found)?;
                 pass_found(&mut self.frames, found);
                 Ok(Some(node))
             }

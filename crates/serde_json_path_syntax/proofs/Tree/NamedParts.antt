@@ -211,3 +211,11 @@ selectors_get ps (part ∷ parts) (suc i) = selectors_get ps parts i
 
 -- one of several selectors
 pub ruleset of_one_selector = (selectors_get, one_is, within_bound, slice_get_read, slice_get_past, below_length, past_length)
+
+-- ---- a bracket with one selector
+
+-- it names one part
+pub one_named : (ps : List Piece) (parts : List Part) (only : Selector) → selectors_list (selectors_in (pieces_named ps parts)) ≡ only ∷ [] → length parts ≡ 1
+one_named ps [] only e = absurd cc
+one_named ps (part ∷ []) only e = refl
+one_named ps (part ∷ other ∷ parts) only e = absurd cc

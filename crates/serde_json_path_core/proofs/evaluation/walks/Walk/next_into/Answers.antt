@@ -5,7 +5,7 @@ use Rattle.serde_json_path_core.specs.Walks.{set_of, query_of}
 use Rattle.serde_json_path_core.proofs.Sound.{sound-segments, whole-sound}
 use Rattle.serde_json_path_core.proofs.Walks.Chains.{root_stands}
 use Rattle.serde_json_path_core.proofs.Steps.Lookups.{found-none, found-some, if-err}
-use Rattle.serde_json_path_core.proofs.evaluation.walks.Walk.next.Goals as goal
+use Rattle.serde_json_path_core.proofs.evaluation.walks.Walk.next_into.Goals as goal
 
 pub find_next-requires : goal.find_next-requires
 find_next-requires g c =
