@@ -48,7 +48,8 @@ impl<'b> LocatedNode<'b> {
         self.node
     }
 
-    /// The steps of the node's location, for `Walk::next_into` to use their memory again.
+    /// The steps of the node's location, in the vector that holds them, so that the next location can have its memory. Takes
+    /// no memory.
     pub fn into_steps(self) -> Vec<PathElement<'b>>
         ensures { map step_view result.items ≡ (located self.entry).location }
     {

@@ -43,8 +43,8 @@ impl<'b> NormalizedPath<'b> {
         NormalizedPath { steps }
     }
 
-    /// The steps from the root on, in the vector that holds them. Takes no memory.
-    pub fn into_steps(self) -> Vec<PathElement<'b>>
+    /// The steps from the root on, in the vector that holds them.
+    pub(crate) fn into_steps(self) -> Vec<PathElement<'b>>
         ensures { map step_view result.items ≡ self.entry }
     {
         self.steps

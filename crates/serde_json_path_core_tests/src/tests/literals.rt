@@ -1,7 +1,9 @@
 //! Which literals may be arguments of the type of values (RFC 9535, section 2.4.3), and numbers as literals.
 
 use crate::rows::Table;
+use serde_json::Value;
 use serde_json_path_core::{Literal, NumberLiteral};
+use serde_json_path_numbers::ExactNumber;
 use std::alloc::Global;
 use std::test::Fail;
 
@@ -53,6 +55,33 @@ fn takes_no_fraction_as_a_value(rt: HostRuntime) -> Result<(), Fail> {
     assert!(rt; Literal::String(text).is_value());
     assert!(rt; Literal::Bool(false).is_value() && Literal::Null.is_value());
     table.end()
+}
+
+/// The billionths of a literal, and a document's number that is the same.
+const SAME: &[(i128, &str)] = &[
+    (1_500_000_000, "1.5"),
+    (-100_000_000, "-0.1"),
+    (8_950_000_000, "8.95"),
+    (4_000_000_000, "4"),
+    (-4_000_000_000, "-4.0"),
+    (GREATEST, "18446744073709551615"),
+];
+
+/// Whether a literal's exact number is that of a document's number.
+fn is_number(alloc: Global, billionths: i128, text: &str) -> Result<bool, Fail> {
+    let literal = NumberLiteral::from_billionths(billionths).ok_or("out of range")?;
+    match Value::from_str(alloc, text)? {
+        Value::Number(number) => Ok(literal.exact().is_equal(ExactNumber::of_number(&number))),
+        _ => Err(Fail::new("no number")),
+    }
+}
+
+#[test]
+fn literals_denote_numbers_of_documents(rt: HostRuntime) -> Result<(), Fail> {
+    for &(billionths, text) in SAME {
+        assert!(rt; is_number(rt.alloc(), billionths, text)?, "{text}");
+    }
+    Ok(())
 }
 
 #[test]

@@ -56,6 +56,41 @@ fn walks_give_one_node_after_the_other(rt: HostRuntime) -> Result<(), Fail> {
     })
 }
 
+/// What a walk answers to so many calls that hand in the steps of the node before, as [`walked`] gives it.
+fn walked_into<F: Functions>(
+    alloc: Global,
+    walk: &mut Walk<'_, '_, Both<&F, Builtin>>,
+    calls: u32,
+) -> Result<String, Fail> {
+    let mut text = String::new(alloc);
+    let mut steps = Vec::new(alloc);
+    for _ in 0..calls {
+        match walk.next_into(steps)? {
+            Some(node) => {
+                write!(text, "{}, ", node.location())?;
+                steps = node.into_steps();
+            }
+            None => {
+                text.push_str("none, ")?;
+                steps = Vec::new(alloc);
+            }
+        }
+    }
+    text.push_str("0 refused")?;
+    Ok(text)
+}
+
+#[test]
+fn walks_give_the_same_into_steps(rt: HostRuntime) -> Result<(), Fail> {
+    hold_rows(&rt, rt.alloc(), WALKED, |alloc, given| {
+        let (path, document) = fields(given)?;
+        let document = Value::from_str(alloc, document)?;
+        let path = JsonPath::parse_with(alloc, path, &Builtin)?;
+        let mut walk = path.walk(alloc, &document, &Builtin)?;
+        walked_into(alloc, &mut walk, 5)
+    })
+}
+
 /// Which calls of `kids` are refused, and how many are before the sixth that is not: the filter is asked of six items.
 const REFUSED: &[(u64, u32)] = &[
     (0, 0),
