@@ -19,6 +19,7 @@
 
 mod both;
 mod builtin;
+mod cached;
 mod error;
 mod numbers;
 mod patterns;
@@ -28,6 +29,7 @@ mod types;
 
 pub use both::Both;
 pub use builtin::Builtin;
+pub use cached::{CachedPatterns, PatternStore};
 pub use error::QueryError;
 pub use numbers::{AllNumbers, Numbers};
 pub use set::Functions;
