@@ -71,6 +71,7 @@ fn plain_answer<'b>(name: &str, mut args: Vec<FunctionValue<'b>>) -> ValueType<'
 }
 
 impl FindsPatterns for Builtin {
+    #[inline(never)]
     fn is_found(
         &self,
         alloc: Global,

@@ -109,8 +109,10 @@ impl<'p> KeptPatterns<'p> {
         }
     }
 
-    /// Whether a text matches a pattern, which is kept.
-    fn is_found(
+    /// Whether a text matches a pattern whose matcher is not kept. Either is kept now, if there is memory.
+    #[cold]
+    #[inline(never)]
+    fn found_otherwise(
         &mut self,
         alloc: Global,
         matching: Matching,
@@ -122,9 +124,6 @@ impl<'p> KeptPatterns<'p> {
         ensures refused { result ≡ Err Pattern
             → IsReadable (spec.built_text (matching_view matching) pattern.now) }
     {
-        if let Some(found) = self.found_by_matcher(matching, pattern, text) {
-            return Ok(found);
-        }
         match self.take_recent(matching, pattern) {
             Some(read) => {
                 let found = PatternMatcher::new(alloc, &read)?.is_found(text);
@@ -169,7 +168,10 @@ impl<'p> FindsPatterns for CachedPatterns<'p> {
         text: &str,
     ) -> Result<bool, QueryError> {
         match self.kept.try_borrow_mut() {
-            Ok(mut kept) => kept.is_found(alloc, matching, pattern, text),
+            Ok(mut kept) => match kept.found_by_matcher(matching, pattern, text) {
+                Some(found) => Ok(found),
+                None => kept.found_otherwise(alloc, matching, pattern, text),
+            },
             Err(_) => Builtin.is_found(alloc, matching, pattern, text),
         }
     }
