@@ -17,20 +17,23 @@ use crate::types::FunctionValue;
 use std::alloc::Global;
 use std::cell::{OnceCell, RefCell};
 
-/// How many patterns have their matchers kept.
-const MOST_MATCHERS: usize = 16;
+/// How many patterns have their matchers kept. Few paths have more; each takes memory, and a look-up compares them in turn.
+const MOST_MATCHERS: usize = 8;
 
 /// How many more patterns are kept, without their matchers.
-const MOST_RECENT: usize = 16;
+const MOST_RECENT: usize = 8;
 
-/// The place of the patterns whose matchers a [`CachedPatterns`] keeps. It must outlive the set, whose matchers borrow from it.
+/// Where a [`CachedPatterns`] puts the patterns whose matchers it keeps: matchers borrow, so the store outlives the set.
+///
+/// It takes no memory of its own, and holds at most eight patterns until it is dropped. A store is for one set: a second set
+/// finds the places taken, and keeps its patterns without matchers.
 #[derive(Drop)]
 pub struct PatternStore {
     places: [OnceCell<ReadPattern>; MOST_MATCHERS],
 }
 
 impl PatternStore {
-    /// An empty store. It takes no memory.
+    /// An empty store. Takes no memory.
     pub fn new() -> PatternStore {
         PatternStore {
             places: std::array::from_fn(|_| OnceCell::new()),
@@ -54,14 +57,14 @@ impl PatternStore {
 #[derive(Drop)]
 struct KeptPatterns<'p> {
     store: &'p PatternStore,
-    /// The patterns that were used again while they were recent.
+    /// Those that were asked again while they were recent, until the store is full.
     matchers: Vec<PatternMatcher<'p>>,
-    /// The last used last.
+    /// The others, the one last asked at the end.
     recent: Vec<ReadPattern>,
 }
 
 impl<'p> KeptPatterns<'p> {
-    /// Whether a text matches a pattern whose matcher is kept, or `None` for any other pattern.
+    /// Whether a text matches, by a matcher that is kept; `None` for a pattern without one.
     fn found_by_matcher(&mut self, matching: Matching, pattern: &str, text: &str) -> Option<bool>
         ensures { IfSome result (λ found.
             found ≡ spec.is_found (spec.built_text (matching_view matching) pattern.now) text.now) }
@@ -86,22 +89,22 @@ impl<'p> KeptPatterns<'p> {
         None
     }
 
-    /// Keeps a pattern as the one last used. The first one goes if there are too many.
+    /// Keeps a pattern as the one last asked. If there are too many, the one goes that was not asked for longest. For want of
+    /// memory the pattern is not kept.
     fn keep_recent(&mut self, pattern: ReadPattern) {
         if self.recent.len() >= MOST_RECENT {
             drop(self.recent.remove(0));
         }
-        // For want of memory it is not kept.
         let _ = self.recent.push(pattern);
     }
 
-    /// Keeps a pattern with its matcher if there is room, else as the one last used.
+    /// Keeps a pattern with its matcher, or as the one last asked if the store is full. For want of memory the matcher is not
+    /// kept.
     fn keep_matcher(&mut self, alloc: Global, pattern: ReadPattern) {
         match self.store.put(pattern) {
             Ok(None) => {}
             Ok(Some(pattern)) => {
                 if let Ok(matcher) = PatternMatcher::new(alloc, pattern) {
-                    // For want of memory it is not kept.
                     let _ = self.matchers.push(matcher);
                 }
             }
@@ -109,7 +112,9 @@ impl<'p> KeptPatterns<'p> {
         }
     }
 
-    /// Whether a text matches a pattern whose matcher is not kept. Either is kept now, if there is memory.
+    /// Whether a text matches a pattern whose matcher is not kept. The pattern is kept, and at its second call its matcher.
+    ///
+    /// Not inlined, because a function pays at each call for the size of its values, and matchers are large.
     #[cold]
     #[inline(never)]
     fn found_otherwise(
@@ -140,14 +145,25 @@ impl<'p> KeptPatterns<'p> {
     }
 }
 
-/// The built-in functions, which keep the patterns that they read.
+/// The built-in functions, which keep the patterns that they read: `match` and `search` read a pattern that comes again only
+/// once.
+///
+/// Its answers are those of [`Builtin`]. It keeps the matchers of eight patterns, each from its second call on, and eight
+/// more patterns, of which the least recently used goes first. A pattern that `regex` cannot read is kept as such. What cannot be
+/// kept for want of memory is used and dropped. All goes when the set and its store are dropped.
+///
+/// ```text
+/// let store = PatternStore::new();
+/// let functions = CachedPatterns::new(alloc, &store);
+/// let walk = path.walk(alloc, &document, &functions)?;
+/// ```
 #[derive(Drop)]
 pub struct CachedPatterns<'p> {
     kept: RefCell<KeptPatterns<'p>>,
 }
 
 impl<'p> CachedPatterns<'p> {
-    /// The functions, before they have read a pattern. It takes no memory.
+    /// The functions, before they have read a pattern. Takes no memory.
     pub fn new(alloc: Global, store: &'p PatternStore) -> CachedPatterns<'p> {
         CachedPatterns {
             kept: RefCell::new(KeptPatterns {

@@ -113,7 +113,7 @@ impl ReadPattern {
     }
 }
 
-/// What searches for a pattern. Its caches grow as it is used.
+/// A pattern, and what searches for it, which grows as it is used.
 #[derive(Drop)]
 pub(crate) struct PatternMatcher<'p> {
     pub(crate) pattern: &'p ReadPattern,
