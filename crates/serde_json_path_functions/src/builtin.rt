@@ -10,7 +10,7 @@ ghost use Rattle.serde_json_path_functions.specs.declared.error.QueryError.TheVa
 
 use crate::error::QueryError;
 use crate::numbers::Numbers;
-use crate::patterns::{FindsPatterns, Matching, PatternMatcher, ReadPattern};
+use crate::patterns::{FindsPatterns, Matching, ReadPattern};
 use crate::set::Functions;
 use crate::signature::Signature;
 use crate::types::{FunctionArgType, FunctionValue, LogicalType, NodesType, ValueType};
@@ -71,7 +71,6 @@ fn plain_answer<'b>(name: &str, mut args: Vec<FunctionValue<'b>>) -> ValueType<'
 }
 
 impl FindsPatterns for Builtin {
-    #[inline(never)]
     fn is_found(
         &self,
         alloc: Global,
@@ -79,8 +78,7 @@ impl FindsPatterns for Builtin {
         pattern: &str,
         text: &str,
     ) -> Result<bool, QueryError> {
-        let read = ReadPattern::new(alloc, matching, pattern)?;
-        Ok(PatternMatcher::new(alloc, &read)?.is_found(text))
+        Ok(ReadPattern::new(alloc, matching, pattern)?.is_found(alloc, text)?)
     }
 }
 

@@ -100,6 +100,9 @@ impl<'p> KeptPatterns<'p> {
 
     /// Keeps a pattern with its matcher, or as the one last asked if the store is full. For want of memory the matcher is not
     /// kept.
+    ///
+    /// Not inlined, because a function pays at each call for the size of its values, and matchers are large.
+    #[inline(never)]
     fn keep_matcher(&mut self, alloc: Global, pattern: ReadPattern) {
         match self.store.put(pattern) {
             Ok(None) => {}
@@ -113,8 +116,6 @@ impl<'p> KeptPatterns<'p> {
     }
 
     /// Whether a text matches a pattern whose matcher is not kept. The pattern is kept, and at its second call its matcher.
-    ///
-    /// Not inlined, because a function pays at each call for the size of its values, and matchers are large.
     #[cold]
     #[inline(never)]
     fn found_otherwise(
@@ -131,13 +132,13 @@ impl<'p> KeptPatterns<'p> {
     {
         match self.take_recent(matching, pattern) {
             Some(read) => {
-                let found = PatternMatcher::new(alloc, &read)?.is_found(text);
+                let found = read.is_found(alloc, text)?;
                 self.keep_matcher(alloc, read);
                 Ok(found)
             }
             None => {
                 let read = ReadPattern::new(alloc, matching, pattern)?;
-                let found = PatternMatcher::new(alloc, &read)?.is_found(text);
+                let found = read.is_found(alloc, text)?;
                 self.keep_recent(read);
                 Ok(found)
             }

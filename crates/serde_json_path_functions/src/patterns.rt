@@ -85,9 +85,10 @@ pub(crate) struct ReadPattern {
 }
 
 impl ReadPattern {
-    ghost use Rattle.serde_json_path_functions.specs.Kept.{IsOf};
+    ghost use Rattle.serde_json_path_functions.specs.Kept.{IsOf, built_of};
 
     /// Reads a pattern. The error is `Pattern` only where `regex` can read it.
+    #[inline(never)]
     pub(crate) fn new(
         alloc: Global,
         matching: Matching,
@@ -105,6 +106,17 @@ impl ReadPattern {
         })
     }
 
+    /// Whether a text matches the pattern, by a matcher that is made for it.
+    #[inline(never)]
+    pub(crate) fn is_found(&self, alloc: Global, text: &str) -> Result<bool, AllocError>
+        ensures { IfOk result (λ found. found ≡ spec.is_found (built_of self.now) text.now) }
+    {
+        match &self.regex {
+            Some(regex) => Ok(regex.matcher(alloc)?.is_match(text)),
+            None => Ok(false),
+        }
+    }
+
     /// Whether this is the pattern that was read.
     pub(crate) fn is_of(&self, matching: Matching, pattern: &str) -> bool
         ensures { IsTrue result → IsOf (matching_view matching) pattern.now self.now }
@@ -113,7 +125,7 @@ impl ReadPattern {
     }
 }
 
-/// A pattern, and what searches for it, which grows as it is used.
+/// A pattern, and a matcher of its own, which grows as it is used.
 #[derive(Drop)]
 pub(crate) struct PatternMatcher<'p> {
     pub(crate) pattern: &'p ReadPattern,
