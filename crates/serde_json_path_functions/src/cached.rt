@@ -57,7 +57,7 @@ impl PatternStore {
 #[derive(Drop)]
 struct KeptPatterns<'p> {
     store: &'p PatternStore,
-    /// Those that were asked again while they were recent, until the store is full.
+    /// Those that were asked first, until the store is full.
     matchers: Vec<PatternMatcher<'p>>,
     /// The others, the one last asked at the end.
     recent: Vec<ReadPattern>,
@@ -77,16 +77,23 @@ impl<'p> KeptPatterns<'p> {
         None
     }
 
-    /// Takes a pattern out of the recent ones.
-    fn take_recent(&mut self, matching: Matching, pattern: &str) -> Option<ReadPattern>
-        ensures { IfSome result (IsOf (matching_view matching) pattern.now) }
+    /// A pattern, taken out of the recent ones or read anew.
+    fn take(
+        &mut self,
+        alloc: Global,
+        matching: Matching,
+        pattern: &str,
+    ) -> Result<ReadPattern, QueryError>
+        ensures of { IfOk result (IsOf (matching_view matching) pattern.now) }
+        ensures refused { result ≡ Err Pattern
+            → IsReadable (spec.built_text (matching_view matching) pattern.now) }
     {
         for place in 0..self.recent.len() {
             if self.recent[place].is_of(matching, pattern) {
-                return Some(self.recent.remove(place));
+                return Ok(self.recent.remove(place));
             }
         }
-        None
+        ReadPattern::new(alloc, matching, pattern)
     }
 
     /// Keeps a pattern as the one last asked. If there are too many, the one goes that was not asked for longest. For want of
@@ -98,12 +105,11 @@ impl<'p> KeptPatterns<'p> {
         let _ = self.recent.push(pattern);
     }
 
-    /// Keeps a pattern with its matcher, or as the one last asked if the store is full. For want of memory the matcher is not
-    /// kept.
+    /// Keeps a pattern with a matcher, or as the one last asked if the store is full. For want of memory the matcher is not kept.
     ///
     /// Not inlined, because a function pays at each call for the size of its values, and matchers are large.
     #[inline(never)]
-    fn keep_matcher(&mut self, alloc: Global, pattern: ReadPattern) {
+    fn keep(&mut self, alloc: Global, pattern: ReadPattern) {
         match self.store.put(pattern) {
             Ok(None) => {}
             Ok(Some(pattern)) => {
@@ -115,7 +121,7 @@ impl<'p> KeptPatterns<'p> {
         }
     }
 
-    /// Whether a text matches a pattern whose matcher is not kept. The pattern is kept, and at its second call its matcher.
+    /// Whether a text matches a pattern whose matcher is not kept. What it takes is kept for the next call.
     #[cold]
     #[inline(never)]
     fn found_otherwise(
@@ -130,27 +136,18 @@ impl<'p> KeptPatterns<'p> {
         ensures refused { result ≡ Err Pattern
             → IsReadable (spec.built_text (matching_view matching) pattern.now) }
     {
-        match self.take_recent(matching, pattern) {
-            Some(read) => {
-                let found = read.is_found(alloc, text)?;
-                self.keep_matcher(alloc, read);
-                Ok(found)
-            }
-            None => {
-                let read = ReadPattern::new(alloc, matching, pattern)?;
-                let found = read.is_found(alloc, text)?;
-                self.keep_recent(read);
-                Ok(found)
-            }
-        }
+        let read = self.take(alloc, matching, pattern)?;
+        let found = read.is_found(alloc, text)?;
+        self.keep(alloc, read);
+        Ok(found)
     }
 }
 
 /// The built-in functions, which keep the patterns that they read: `match` and `search` read a pattern that comes again only
 /// once.
 ///
-/// Its answers are those of [`Builtin`]. It keeps the matchers of eight patterns, each from its second call on, and eight
-/// more patterns, of which the least recently used goes first. A pattern that `regex` cannot read is kept as such. What cannot be
+/// Its answers are those of [`Builtin`]. It keeps the first eight patterns with their matchers, and eight more patterns, of
+/// which the least recently used goes first. A pattern that `regex` cannot read is kept as such. What cannot be
 /// kept for want of memory is used and dropped. All goes when the set and its store are dropped.
 ///
 /// ```text
