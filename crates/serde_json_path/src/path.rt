@@ -134,8 +134,8 @@ impl JsonPath {
             (view value.now) result }
     {
         let store = PatternStore::new();
-        let functions = CachedPatterns::new(alloc, &store);
-        evaluate_located(alloc, &self.checked, value, functions)
+        let builtin = CachedPatterns::new(alloc, &store);
+        evaluate_located(alloc, &self.checked, value, builtin)
     }
 
     /// The nodes that the path selects from a document, with their locations, in order, as `query_located` gives them. The
@@ -154,8 +154,8 @@ impl JsonPath {
             (path_tree self.now) (view value.now) result }
     {
         let store = PatternStore::new();
-        let functions = Both(functions, CachedPatterns::new(alloc, &store));
-        evaluate_located(alloc, &self.checked, value, functions)
+        let builtin = CachedPatterns::new(alloc, &store);
+        evaluate_located(alloc, &self.checked, value, Both(functions, builtin))
     }
 
     /// The nodes that the path selects from a document, in order, without their locations. Errors are as those of
@@ -173,8 +173,8 @@ impl JsonPath {
             (view value.now) result }
     {
         let store = PatternStore::new();
-        let functions = CachedPatterns::new(alloc, &store);
-        evaluate(alloc, &self.checked, value, functions)
+        let builtin = CachedPatterns::new(alloc, &store);
+        evaluate(alloc, &self.checked, value, builtin)
     }
 
     /// The nodes that the path selects from a document, in order, without their locations. The path must fit the set
@@ -192,8 +192,8 @@ impl JsonPath {
             (path_tree self.now) (view value.now) result }
     {
         let store = PatternStore::new();
-        let functions = Both(functions, CachedPatterns::new(alloc, &store));
-        evaluate(alloc, &self.checked, value, functions)
+        let builtin = CachedPatterns::new(alloc, &store);
+        evaluate(alloc, &self.checked, value, Both(functions, builtin))
     }
 
     /// A walk over the nodes that the path selects from a document, one at a time. The path must fit the set combined with

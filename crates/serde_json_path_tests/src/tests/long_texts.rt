@@ -171,7 +171,10 @@ fn of_cycle(alloc: Global, cycle: &str) -> Result<String, Fail> {
     for member in 0..300usize {
         let before = if member == 0 { "" } else { "," };
         let number = if cycle == 0 { 0 } else { member % cycle };
-        write!(document, r#"{before}["n{number}","n{number}","n{number}x"]"#)?;
+        write!(
+            document,
+            r#"{before}["n{number}","n{number}","n{number}x"]"#
+        )?;
     }
     document.push(']')?;
     count(

@@ -287,7 +287,12 @@ fn of_next<F: Functions>(alloc: Global, functions: &F, row: &str) -> Result<Stri
 
 #[test]
 fn next(rt: HostRuntime) -> Result<(), Fail> {
-    hold_rows(&rt, rt.alloc(), LOCATIONS, |alloc, row| of_next(alloc, &Builtin, row))
+    hold_rows(
+        &rt,
+        rt.alloc(),
+        LOCATIONS,
+        |alloc, row| of_next(alloc, &Builtin, row),
+    )
 }
 
 /// The same, where the set keeps patterns: what a refused call has kept, the next one finds.
