@@ -13,7 +13,7 @@ ghost use Rattle.serde_json_path_parser.specs.Reported.{ReportsFirst};
 ghost use Rattle.serde_json_path.specs.Paths.{path_signatures, path_view};
 
 use serde_json::Value;
-use serde_json_path::functions::Builtin;
+use serde_json_path::functions::{Builtin, CachedPatterns, PatternStore};
 use serde_json_path::{JsonPath, ParseError, QueryError, TextSource, parse_source};
 use std::alloc::{AllocError, Global};
 use std::io;
@@ -66,7 +66,9 @@ fn count(alloc: Global, path: &JsonPath, document: &Value) -> Result<usize, Quer
     requires { Fits (before_builtin builtin_functions) (path_signatures path.now) }
     ensures { IfOk result (λ n. n ≤ NODES) }
 {
-    let mut walk = path.walk(alloc, document, &Builtin)?;
+    let store = PatternStore::new();
+    let functions = CachedPatterns::new(alloc, &store);
+    let mut walk = path.walk(alloc, document, &functions)?;
     for nodes in 0..NODES {
         if walk.next()?.is_none() {
             return Ok(nodes);

@@ -16,7 +16,7 @@ ghost use Rattle.serde_json_path_parser.specs.declared.error.ParseError as path_
 ghost use Rattle.jsonpath_report.specs.Report.{ReadsAs, EndsLine, IsLineIn, AreLinesIn, IsNoPath, CallsByPatternOn, IsReportIn, IsReportOf};
 
 use serde_json::Value;
-use serde_json_path::functions::Functions;
+use serde_json_path::functions::{Both, CachedPatterns, Functions, PatternStore};
 use serde_json_path::{JsonPath, LocatedNode, ParseError, QueryError, Walk};
 use std::alloc::{AllocError, Global};
 use thiserror::Error;
@@ -186,7 +186,9 @@ fn selected<F: Functions>(
     ensures refused { OnlyMemoryOrPattern (before_builtin (F.set functions.now))
         (path_tree path.now) (view document.now) result }
 {
-    let walk = path.walk(alloc, document, functions)?;
+    let store = PatternStore::new();
+    let functions = Both(functions, CachedPatterns::new(alloc, &store));
+    let walk = path.walk(alloc, document, &functions)?;
     lines(alloc, form, text, walk)
 }
 

@@ -12,7 +12,7 @@ ghost use Rattle.serde_json_path_functions.specs.declared.error.QueryError.TheVa
 
 use crate::source::parse_source;
 use serde_json::Value;
-use serde_json_path_core::functions::{Both, Builtin, Functions};
+use serde_json_path_core::functions::{Both, Builtin, CachedPatterns, Functions, PatternStore};
 use serde_json_path_core::{Checked, QueryError, Walk, evaluate, evaluate_located, walk};
 use serde_json_path_nodes::{LocatedNodeList, NodeList};
 use serde_json_path_parser::{ParseError, TextSource, parse};
@@ -133,7 +133,9 @@ impl JsonPath {
         ensures refused { OnlyMemoryOrPattern builtin_functions (path_tree self.now)
             (view value.now) result }
     {
-        evaluate_located(alloc, &self.checked, value, Builtin)
+        let store = PatternStore::new();
+        let builtin = CachedPatterns::new(alloc, &store);
+        evaluate_located(alloc, &self.checked, value, builtin)
     }
 
     /// The nodes that the path selects from a document, with their locations, in order, as `query_located` gives them. The
@@ -151,7 +153,9 @@ impl JsonPath {
         ensures refused { OnlyMemoryOrPattern (before_builtin (F.set functions.now))
             (path_tree self.now) (view value.now) result }
     {
-        evaluate_located(alloc, &self.checked, value, Both(functions, Builtin))
+        let store = PatternStore::new();
+        let builtin = CachedPatterns::new(alloc, &store);
+        evaluate_located(alloc, &self.checked, value, Both(functions, builtin))
     }
 
     /// The nodes that the path selects from a document, in order, without their locations. Errors are as those of
@@ -168,7 +172,9 @@ impl JsonPath {
         ensures refused { OnlyMemoryOrPattern builtin_functions (path_tree self.now)
             (view value.now) result }
     {
-        evaluate(alloc, &self.checked, value, Builtin)
+        let store = PatternStore::new();
+        let builtin = CachedPatterns::new(alloc, &store);
+        evaluate(alloc, &self.checked, value, builtin)
     }
 
     /// The nodes that the path selects from a document, in order, without their locations. The path must fit the set
@@ -185,7 +191,9 @@ impl JsonPath {
         ensures refused { OnlyMemoryOrPattern (before_builtin (F.set functions.now))
             (path_tree self.now) (view value.now) result }
     {
-        evaluate(alloc, &self.checked, value, Both(functions, Builtin))
+        let store = PatternStore::new();
+        let builtin = CachedPatterns::new(alloc, &store);
+        evaluate(alloc, &self.checked, value, Both(functions, builtin))
     }
 
     /// A walk over the nodes that the path selects from a document, one at a time. The path must fit the set combined with

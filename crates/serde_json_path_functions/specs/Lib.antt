@@ -4,10 +4,12 @@
 -- Terms: what contracts see of arguments, answers and signatures.
 -- Errors: the texts of errors.
 -- OwnSets: lemmas for a set of your own, that it keeps types and patterns.
+-- Kept: what contracts see of the patterns that are kept.
 -- Inside: that the sets here keep theirs. A law of a trait may cite `specs` alone.
 pub mod Functions
 pub mod Patterns
 pub mod Terms
 pub mod Errors
 pub mod OwnSets
+pub mod Kept
 pub mod Inside

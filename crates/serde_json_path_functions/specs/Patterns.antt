@@ -1,7 +1,7 @@
 -- The patterns of `match` and `search`, as `regex` reads them (RFC 9535, sections 2.4.6 and 2.4.7).
-use Rattle.std.specs.Prelude.{◌≡◌, ℕ, ◌≤◌, List, [], ◌∷◌, ◌++◌, Bool, false, Option, None, Some, IsSomeAnd, is_some, option_and_then, codes, chars, nat_le, if◌then◌else◌}
+use Rattle.std.specs.Prelude.{◌≡◌, ℕ, ◌<◌, ◌≤◌, List, get_or, [], ◌∷◌, ◌++◌, Bool, false, Option, None, Some, IsSomeAnd, is_some, option_and_then, codes, chars, nat_le, if◌then◌else◌}
 use Rattle.regex_syntax.specs.Grammar.{read}
-use Rattle.regex.specs.Patterns.{default_config, find_str}
+use Rattle.regex.specs.Patterns.{Re, default_config, find_str}
 use Rattle.serde_json.specs.Data.{string}
 use Rattle.serde_json_path_functions.specs.Functions.{Term, value, logical, Matching, whole_text, any_part, FunctionSet, Takes, matching_signature, builtin_signature, builtin_by_regex, plain_meaning, both, whole_numbers}
 
@@ -25,6 +25,15 @@ is_found pattern text =
     is_some (option_and_then
     (λ (re, names). if nat_le re.depth default_config.nest_limit then find_str re.value text 0 else None)
     (read default_config (chars pattern)))
+
+-- where a reading is found in a text: nowhere, if there is none
+abbrev pub reading_finds : Option Re → List ℕ → Bool
+reading_finds None text = false
+reading_finds (Some re) text = is_some (find_str re text 0)
+
+-- what is read of a text is found where the text is
+abbrev pub IsReadingOf : List ℕ → Option Re → Type 0
+IsReadingOf source reading = (text : List ℕ) → ((k : ℕ) → get_or text k 0 < 256) → reading_finds reading text ≡ is_found source text
 
 -- `match` and `search` of a text and a pattern; false unless both are texts (sections 2.4.6 and 2.4.7)
 abbrev pub pattern_meaning : Matching → List Term → Term

@@ -2,7 +2,7 @@
 
 ghost use Rattle.std.specs.Prelude.{◌≡◌, [], ◌∷◌, length, map, IfOk, Err};
 ghost use Rattle.std.specs.Str.{chars};
-ghost use Rattle.serde_json_path_functions.specs.Functions.{value, logical, of_logical, kind_of_term, Takes, plain_signature, plain_meaning, counted, length_of, value_of_one};
+ghost use Rattle.serde_json_path_functions.specs.Functions.{value, logical, of_logical, kind_of_term, Takes, Gives, plain_signature, plain_meaning, counted, length_of, value_of_one};
 ghost use Rattle.serde_json_path_functions.specs.Patterns.{MayRefuse, pattern_meaning, builtin_functions};
 ghost use Rattle.serde_json_path_functions.specs.Terms.{term_view, value_view, nodes_view, matching_view};
 ghost use Rattle.serde_json_path_functions.specs.Functions as spec;
@@ -10,7 +10,7 @@ ghost use Rattle.serde_json_path_functions.specs.declared.error.QueryError.TheVa
 
 use crate::error::QueryError;
 use crate::numbers::Numbers;
-use crate::patterns::{Matching, is_found};
+use crate::patterns::{FindsPatterns, Matching, ReadPattern};
 use crate::set::Functions;
 use crate::signature::Signature;
 use crate::types::{FunctionArgType, FunctionValue, LogicalType, NodesType, ValueType};
@@ -70,8 +70,21 @@ fn plain_answer<'b>(name: &str, mut args: Vec<FunctionValue<'b>>) -> ValueType<'
     }
 }
 
+impl FindsPatterns for Builtin {
+    fn is_found(
+        &self,
+        alloc: Global,
+        matching: Matching,
+        pattern: &str,
+        text: &str,
+    ) -> Result<bool, QueryError> {
+        Ok(ReadPattern::new(alloc, matching, pattern)?.is_found(alloc, text)?)
+    }
+}
+
 /// Whether a text matches a pattern; false unless both are texts.
-fn texts_match(
+fn texts_match<P: FindsPatterns>(
+    patterns: &P,
     alloc: Global,
     matching: Matching,
     text: &ValueType,
@@ -85,14 +98,15 @@ fn texts_match(
 {
     match (text.as_value(), pattern.as_value()) {
         (Some(Value::String(text)), Some(Value::String(pattern))) => {
-            is_found(alloc, matching, pattern.as_str(), text.as_str())
+            patterns.is_found(alloc, matching, pattern.as_str(), text.as_str())
         }
         _ => Ok(false),
     }
 }
 
 /// The answer of `match` or `search`; false unless there are two arguments.
-fn pattern_answer<'b>(
+fn pattern_answer<'b, P: FindsPatterns>(
+    patterns: &P,
     alloc: Global,
     matching: Matching,
     args: &[FunctionValue<'b>],
@@ -106,13 +120,35 @@ fn pattern_answer<'b>(
     let found = match args {
         [text, pattern] => match (text, pattern) {
             (FunctionValue::Value(text), FunctionValue::Value(pattern)) => {
-                texts_match(alloc, matching, text, pattern)?
+                texts_match(patterns, alloc, matching, text, pattern)?
             }
             _ => false,
         },
         _ => false,
     };
     Ok(FunctionValue::Logical(LogicalType::from(found)))
+}
+
+/// The answer of a built-in function.
+pub(crate) fn answer_by<'b, P: FindsPatterns>(
+    patterns: &P,
+    alloc: Global,
+    name: &str,
+    args: Vec<FunctionValue<'b>>,
+) -> Result<FunctionValue<'b>, QueryError>
+    requires { Takes (builtin_functions.signature name.now) (map term_view args.items) }
+    ensures means { IfOk result (λ answer.
+        term_view answer ≡ builtin_functions.meaning name.now (map term_view args.entry.items)) }
+    ensures typed_answer { IfOk result (λ answer.
+        Gives (builtin_functions.signature name.now) (term_view answer)) }
+    ensures pattern { result ≡ Err Pattern
+        → MayRefuse (builtin_functions.by_regex name.now) (map term_view args.entry.items) }
+{
+    match name {
+        "match" => pattern_answer(patterns, alloc, Matching::WholeText, args.as_slice()),
+        "search" => pattern_answer(patterns, alloc, Matching::AnyPart, args.as_slice()),
+        _ => Ok(FunctionValue::Value(plain_answer(name, args))),
+    }
 }
 
 impl Functions for Builtin {
@@ -152,10 +188,6 @@ impl Functions for Builtin {
         name: &str,
         args: Vec<FunctionValue<'b>>,
     ) -> Result<FunctionValue<'b>, QueryError> {
-        match name {
-            "match" => pattern_answer(alloc, Matching::WholeText, args.as_slice()),
-            "search" => pattern_answer(alloc, Matching::AnyPart, args.as_slice()),
-            _ => Ok(FunctionValue::Value(plain_answer(name, args))),
-        }
+        answer_by(self, alloc, name, args)
     }
 }

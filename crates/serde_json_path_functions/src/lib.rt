@@ -1,8 +1,8 @@
 //! Functions of filters, their arguments and answers (RFC 9535, section 2.4), and why a query is refused.
 //!
 //! [`Functions`] is the trait of a function set: it declares names with their [`Signature`]s, and answers their calls.
-//! [`Builtin`] is the set of `length`, `count`, `value`, `match` and `search`; [`Both`] puts one set before another, and
-//! [`AllNumbers`] has comparisons take all numbers.
+//! [`Builtin`] is the set of `length`, `count`, `value`, `match` and `search`, and [`CachedPatterns`] the same with the patterns
+//! that it has read; [`Both`] puts one set before another, and [`AllNumbers`] has comparisons take all numbers.
 //! Arguments and answers are [`FunctionValue`]s.
 //!
 //! ```text
@@ -19,6 +19,7 @@
 
 mod both;
 mod builtin;
+mod cached;
 mod error;
 mod numbers;
 mod patterns;
@@ -28,6 +29,7 @@ mod types;
 
 pub use both::Both;
 pub use builtin::Builtin;
+pub use cached::{CachedPatterns, PatternStore};
 pub use error::QueryError;
 pub use numbers::{AllNumbers, Numbers};
 pub use set::Functions;

@@ -47,6 +47,9 @@ pub(crate) const PATTERNS: &[&str] = &[
     r#"$[?match(@.foo,'|')] ~ [{"foo":"bar"},{"foo":"biz"}] -> nothing"#,
     r#"$[?match(@.foo,'(')] ~ [{"foo":"bar"},{"foo":"biz"}] -> nothing"#,
     r#"$[?@.a=='x'&&!match(@.b , "b")] ~ [{"a":"x","b":"b"},{"a":"x","b":"c"}] -> $[1] ~ {"a":"x","b":"c"}"#,
+    r#"$[?search(@,'b') && !match(@,'b')] ~ ["abc","b","xb","b"] -> $[0] $[2] ~ "abc" "xb""#,
+    r#"$[?match(@.a,@.p)].a ~ [{"a":"x","p":"x|y"},{"a":"x","p":"z*"},{"a":"y","p":"x|y"},{"a":"zz","p":"z*"},{"a":"z","p":"x|y"},{"a":"","p":"z*"}] -> $[0]['a'] $[2]['a'] $[3]['a'] $[5]['a'] ~ "x" "y" "zz" """#,
+    r#"$[?search(@[0],@[1])] ~ [["a(","("],["a(","[(]"],["b(","("],["b(","[(]"],["c(","("],["c","[(]"]] -> $[1] $[3] ~ ["a(","[(]"] ["b(","[(]"]"#,
     r#"$[?match(@.timezone, 'Europe/.*')] ~ [{"timezone":"Europe/Paris"},{"timezone":"Asia/Tokyo"}] -> $[0] ~ {"timezone":"Europe/Paris"}"#,
 ];
 

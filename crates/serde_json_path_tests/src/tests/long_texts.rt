@@ -160,3 +160,31 @@ const LOOKED: &[(Nesting<'static>, usize, &str)] = &[
 fn looks_at_texts(rt: HostRuntime) -> Result<(), Fail> {
     hold_nested(&rt, rt.alloc(), LOOKED, of_looks)
 }
+
+/// After how many members of a document its patterns come again, and how many members match theirs.
+const CYCLES: &[&str] = &["1 -> 300", "2 -> 300", "12 -> 300", "300 -> 300"];
+
+/// How many of 300 members match their pattern, where these come again after so many members, and not the next pattern.
+fn of_cycle(alloc: Global, cycle: &str) -> Result<String, Fail> {
+    let cycle = cycle.parse::<usize>()?;
+    let mut document = String::from_str(alloc, "[")?;
+    for member in 0..300usize {
+        let before = if member == 0 { "" } else { "," };
+        let number = if cycle == 0 { 0 } else { member % cycle };
+        write!(
+            document,
+            r#"{before}["n{number}","n{number}","n{number}x"]"#
+        )?;
+    }
+    document.push(']')?;
+    count(
+        alloc,
+        "$[?match(@[0], @[1]) && !search(@[0], @[2])]",
+        document.as_str(),
+    )
+}
+
+#[test]
+fn patterns_come_again(rt: HostRuntime) -> Result<(), Fail> {
+    hold_rows(&rt, rt.alloc(), CYCLES, of_cycle)
+}

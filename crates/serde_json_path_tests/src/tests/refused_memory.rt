@@ -10,7 +10,9 @@ ghost use Rattle.serde_json_path.specs.Paths.{path_signatures};
 
 use crate::tests::rows::{located_nodes, nodes};
 use serde_json::Value;
-use serde_json_path::functions::{Builtin, FunctionArgType, Functions, LogicalType, Signature};
+use serde_json_path::functions::{
+    Builtin, CachedPatterns, FunctionArgType, Functions, LogicalType, PatternStore, Signature,
+};
 use serde_json_path::{
     FromJsonError, JsonPath, JsonPathExt, LocatedNode, LocatedNodeList, NodeList, ParseErrorKind,
     PathSource, TextSource, law_set_before_itself, parse_source,
@@ -191,6 +193,11 @@ const VALUES: &[&str] = &[
     "$.foo['bar'][1:10][?@.baz > 10 && @.foo.bar < 20] ~ null -> ",
 ];
 
+/// The same, where the path has a pattern of its own and those of the document, one of which `regex` cannot read.
+const BY_PATTERNS: &[&str] = &[
+    r#"$[?match(@[0], 'b+') || search(@[0], @[1])] ~ [["b"],["xcx","c"],["x","("],["y"],["z","c"],["y","("],["c","c"]] -> $[0] $[1] $[6]"#,
+];
+
 /// What a query gives, as values or as locations, or nothing where memory is refused.
 fn queried(
     alloc: Global,
@@ -261,21 +268,42 @@ fn query_located_with(rt: HostRuntime) -> Result<(), Fail> {
 }
 
 #[test]
+fn query_located_by_patterns(rt: HostRuntime) -> Result<(), Fail> {
+    hold_queries(&rt, rt.alloc(), Querying::QueryLocated, BY_PATTERNS)
+}
+
+#[test]
 fn walk(rt: HostRuntime) -> Result<(), Fail> {
     hold_queries(&rt, rt.alloc(), Querying::Walk, LOCATIONS)
 }
 
-/// The locations that a walk gives, of which a call that is refused is made again.
-fn of_next(alloc: Global, row: &str) -> Result<String, Fail> {
+/// The locations that a walk gives under a set, of which a call that is refused is made again.
+fn of_next<F: Functions>(alloc: Global, functions: &F, row: &str) -> Result<String, Fail> {
     let (path, document) = fields(row)?;
-    let path = JsonPath::parse_with(alloc, path, &Builtin)?;
+    let path = JsonPath::parse_with(alloc, path, functions)?;
     let document = Value::from_str(alloc, document)?;
-    of_calls(alloc, &mut path.walk(alloc, &document, &Builtin)?)
+    of_calls(alloc, &mut path.walk(alloc, &document, functions)?)
 }
 
 #[test]
 fn next(rt: HostRuntime) -> Result<(), Fail> {
-    hold_rows(&rt, rt.alloc(), LOCATIONS, of_next)
+    hold_rows(
+        &rt,
+        rt.alloc(),
+        LOCATIONS,
+        |alloc, row| of_next(alloc, &Builtin, row),
+    )
+}
+
+/// The same, where the set keeps patterns: what a refused call has kept, the next one finds.
+fn of_next_by_patterns(alloc: Global, row: &str) -> Result<String, Fail> {
+    let store = PatternStore::new();
+    of_next(alloc, &CachedPatterns::new(alloc, &store), row)
+}
+
+#[test]
+fn next_by_patterns(rt: HostRuntime) -> Result<(), Fail> {
+    hold_rows(&rt, rt.alloc(), BY_PATTERNS, of_next_by_patterns)
 }
 
 /// A path, a document, and the pointer of the one node that the path selects there.
@@ -314,7 +342,9 @@ fn takes_none_where_the_root_is_missing(rt: HostRuntime) -> Result<(), Fail> {
 #[test]
 fn takes_none_of_the_new_path(rt: HostRuntime) -> Result<(), Fail> {
     let path = JsonPath::new(rt.alloc());
-    assert!(rt; path == JsonPath::new(rt.alloc()) && path.fits(&Builtin));
+    let store = PatternStore::new();
+    let functions = CachedPatterns::new(rt.alloc(), &store);
+    assert!(rt; path == JsonPath::new(rt.alloc()) && path.fits(&functions));
     Ok(())
 }
 

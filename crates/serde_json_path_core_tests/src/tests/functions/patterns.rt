@@ -4,9 +4,11 @@ ghost use Rattle.std.specs.Prelude.{◌≡◌, map, Some, IfOk};
 ghost use Rattle.serde_json_path_functions.specs.Functions.{Takes, matching_signature, builtin_signature};
 ghost use Rattle.serde_json_path_functions.specs.Terms.{term_view};
 
-use crate::rows::{Table, fields, hold_rows};
+use crate::rows::{Table, alike, fields, hold_rows};
 use serde_json::Value;
-use serde_json_path_functions::{Builtin, FunctionValue, Functions, LogicalType, ValueType};
+use serde_json_path_functions::{
+    Builtin, CachedPatterns, FunctionValue, Functions, LogicalType, PatternStore, ValueType,
+};
 use std::alloc::Global;
 use std::test::Fail;
 
@@ -32,12 +34,16 @@ pub(crate) fn arguments(
     Ok(args)
 }
 
-/// What a function answers to two values, each a JSON text: whether they match, or that the pattern is refused.
-fn answer_to(alloc: Global, name: &str, given: &str) -> Result<String, Fail>
-    requires { builtin_signature name.now ≡ Some matching_signature }
+/// What a set answers: whether the text matches, or that the pattern is refused.
+fn told<F: Functions>(
+    alloc: Global,
+    functions: &F,
+    name: &str,
+    args: Vec<FunctionValue<'static>>,
+) -> Result<String, Fail>
+    requires { Takes ((F.set functions.now).signature name.now) (map term_view args.items) }
 {
-    let (text, pattern) = fields(given)?;
-    match Builtin.call(alloc, name, arguments(alloc, text, pattern)?) {
+    match functions.call(alloc, name, args) {
         Ok(FunctionValue::Logical(truth)) => {
             let is_true = truth == LogicalType::True;
             Ok(format!(in alloc; "{is_true}")?)
@@ -45,6 +51,22 @@ fn answer_to(alloc: Global, name: &str, given: &str) -> Result<String, Fail>
         Ok(_) => Err(Fail::from("another type")),
         Err(e) => Ok(e.to_string(alloc)?),
     }
+}
+
+/// What a function answers to two values, each a JSON text. It is asked of `Builtin`, and twice of a set that keeps patterns,
+/// which has a matcher at the second time.
+fn answer_to(alloc: Global, name: &str, given: &str) -> Result<String, Fail>
+    requires { builtin_signature name.now ≡ Some matching_signature }
+{
+    let (text, pattern) = fields(given)?;
+    let store = PatternStore::new();
+    let kept = CachedPatterns::new(alloc, &store);
+    let mut answer = told(alloc, &Builtin, name, arguments(alloc, text, pattern)?)?;
+    for _ in 0..2 {
+        let args = arguments(alloc, text, pattern)?;
+        answer = alike(answer, told(alloc, &kept, name, args)?)?;
+    }
+    Ok(answer)
 }
 
 /// A text, a pattern, and whether `match` is true of them.

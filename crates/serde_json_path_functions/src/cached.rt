@@ -1,0 +1,223 @@
+//! The built-in functions, which keep the patterns that they read.
+
+ghost use Rattle.std.specs.Prelude.{◌≡◌, IfOk, IfSome, Err};
+ghost use Rattle.serde_json_path_functions.specs.Patterns.{IsReadable, builtin_functions};
+ghost use Rattle.serde_json_path_functions.specs.Patterns as spec;
+ghost use Rattle.serde_json_path_functions.specs.Terms.{matching_view};
+ghost use Rattle.serde_json_path_functions.specs.Kept.{IsOf};
+ghost use Rattle.serde_json_path_functions.specs.declared.error.QueryError.TheVariants.{Pattern};
+
+use crate::builtin::{Builtin, answer_by};
+use crate::error::QueryError;
+use crate::numbers::Numbers;
+use crate::patterns::{FindsPatterns, Matching, PatternMatcher, ReadPattern};
+use crate::set::Functions;
+use crate::signature::Signature;
+use crate::types::FunctionValue;
+use std::alloc::Global;
+use std::cell::{OnceCell, RefCell};
+
+/// How many patterns have their matchers kept. Few paths have more; each takes memory, and a look-up compares them in turn.
+const MOST_MATCHERS: usize = 8;
+
+/// How many more patterns are kept, without their matchers.
+const MOST_RECENT: usize = 8;
+
+/// Where a [`CachedPatterns`] puts the patterns whose matchers it keeps: matchers borrow, so the store outlives the set.
+///
+/// It takes no memory of its own, and holds at most eight patterns until it is dropped. A store is for one set: a second set
+/// finds the places taken, and keeps its patterns without matchers.
+#[derive(Drop)]
+pub struct PatternStore {
+    places: [OnceCell<ReadPattern>; MOST_MATCHERS],
+}
+
+impl PatternStore {
+    /// An empty store. Takes no memory.
+    pub fn new() -> PatternStore {
+        PatternStore {
+            places: std::array::from_fn(|_| OnceCell::new()),
+        }
+    }
+
+    /// Puts a pattern into a free place, or gives it back where there is none.
+    fn put(&self, pattern: ReadPattern) -> Result<Option<&ReadPattern>, ReadPattern> {
+        let mut pattern = pattern;
+        for place in self.places.iter() {
+            match place.set(pattern) {
+                Ok(()) => return Ok(place.get()),
+                Err(back) => pattern = back,
+            }
+        }
+        Err(pattern)
+    }
+}
+
+/// The patterns that a set keeps.
+#[derive(Drop)]
+struct KeptPatterns<'p> {
+    store: &'p PatternStore,
+    /// Those that were asked first, until the store is full.
+    matchers: Vec<PatternMatcher<'p>>,
+    /// The others, the one last asked at the end.
+    recent: Vec<ReadPattern>,
+}
+
+impl<'p> KeptPatterns<'p> {
+    /// Whether a text matches, by a matcher that is kept; `None` for a pattern without one.
+    fn found_by_matcher(&mut self, matching: Matching, pattern: &str, text: &str) -> Option<bool>
+        ensures { IfSome result (λ found.
+            found ≡ spec.is_found (spec.built_text (matching_view matching) pattern.now) text.now) }
+    {
+        for matcher in self.matchers.iter_mut() {
+            if matcher.pattern.is_of(matching, pattern) {
+                return Some(matcher.is_found(text));
+            }
+        }
+        None
+    }
+
+    /// A pattern, taken out of the recent ones or read anew.
+    fn take(
+        &mut self,
+        alloc: Global,
+        matching: Matching,
+        pattern: &str,
+    ) -> Result<ReadPattern, QueryError>
+        ensures of { IfOk result (IsOf (matching_view matching) pattern.now) }
+        ensures refused { result ≡ Err Pattern
+            → IsReadable (spec.built_text (matching_view matching) pattern.now) }
+    {
+        for place in 0..self.recent.len() {
+            if self.recent[place].is_of(matching, pattern) {
+                return Ok(self.recent.remove(place));
+            }
+        }
+        ReadPattern::new(alloc, matching, pattern)
+    }
+
+    /// Keeps a pattern as the one last asked. If there are too many, the one goes that was not asked for longest. For want of
+    /// memory the pattern is not kept.
+    fn keep_recent(&mut self, pattern: ReadPattern) {
+        if self.recent.len() >= MOST_RECENT {
+            drop(self.recent.remove(0));
+        }
+        let _ = self.recent.push(pattern);
+    }
+
+    /// Keeps a pattern with a matcher, or as the one last asked if the store is full. For want of memory the matcher is not kept.
+    ///
+    /// Not inlined, because a function pays at each call for the size of its values, and matchers are large.
+    #[inline(never)]
+    fn keep(&mut self, alloc: Global, pattern: ReadPattern) {
+        match self.store.put(pattern) {
+            Ok(None) => {}
+            Ok(Some(pattern)) => {
+                if let Ok(matcher) = PatternMatcher::new(alloc, pattern) {
+                    let _ = self.matchers.push(matcher);
+                }
+            }
+            Err(pattern) => self.keep_recent(pattern),
+        }
+    }
+
+    /// Whether a text matches a pattern whose matcher is not kept. What it takes is kept for the next call.
+    #[cold]
+    #[inline(never)]
+    fn found_otherwise(
+        &mut self,
+        alloc: Global,
+        matching: Matching,
+        pattern: &str,
+        text: &str,
+    ) -> Result<bool, QueryError>
+        ensures means { IfOk result (λ found.
+            found ≡ spec.is_found (spec.built_text (matching_view matching) pattern.now) text.now) }
+        ensures refused { result ≡ Err Pattern
+            → IsReadable (spec.built_text (matching_view matching) pattern.now) }
+    {
+        let read = self.take(alloc, matching, pattern)?;
+        let found = read.is_found(alloc, text)?;
+        self.keep(alloc, read);
+        Ok(found)
+    }
+}
+
+/// The built-in functions, which keep the patterns that they read: `match` and `search` read a pattern that comes again only
+/// once.
+///
+/// Its answers are those of [`Builtin`]. It keeps the first eight patterns with their matchers, and eight more patterns, of
+/// which the least recently used goes first. A pattern that `regex` cannot read is kept as such. What cannot be
+/// kept for want of memory is used and dropped. All goes when the set and its store are dropped.
+///
+/// ```text
+/// let store = PatternStore::new();
+/// let functions = CachedPatterns::new(alloc, &store);
+/// let walk = path.walk(alloc, &document, &functions)?;
+/// ```
+#[derive(Drop)]
+pub struct CachedPatterns<'p> {
+    kept: RefCell<KeptPatterns<'p>>,
+}
+
+impl<'p> CachedPatterns<'p> {
+    /// The functions, before they have read a pattern. Takes no memory.
+    pub fn new(alloc: Global, store: &'p PatternStore) -> CachedPatterns<'p> {
+        CachedPatterns {
+            kept: RefCell::new(KeptPatterns {
+                store,
+                matchers: Vec::new(alloc),
+                recent: Vec::new(alloc),
+            }),
+        }
+    }
+}
+
+impl<'p> FindsPatterns for CachedPatterns<'p> {
+    fn is_found(
+        &self,
+        alloc: Global,
+        matching: Matching,
+        pattern: &str,
+        text: &str,
+    ) -> Result<bool, QueryError> {
+        match self.kept.try_borrow_mut() {
+            Ok(mut kept) => match kept.found_by_matcher(matching, pattern, text) {
+                Some(found) => Ok(found),
+                None => kept.found_otherwise(alloc, matching, pattern, text),
+            },
+            Err(_) => Builtin.is_found(alloc, matching, pattern, text),
+        }
+    }
+}
+
+impl<'p> Functions for CachedPatterns<'p> {
+    ghost use Rattle.serde_json_path_functions.specs.Inside.BuiltinTypes.{builtin_keeps_types, builtin_keeps_patterns};
+
+    ghost set = { λ _. builtin_functions };
+
+    ghost typed = { λ _. builtin_keeps_types };
+
+    ghost patterned = { λ _. builtin_keeps_patterns };
+
+    fn signature(&self, name: &str) -> Option<Signature> {
+        Builtin.signature(name)
+    }
+
+    fn declares(&self, name: &str) -> bool {
+        Builtin.declares(name)
+    }
+
+    fn numbers(&self) -> Numbers {
+        Builtin.numbers()
+    }
+
+    fn call<'b>(
+        &self,
+        alloc: Global,
+        name: &str,
+        args: Vec<FunctionValue<'b>>,
+    ) -> Result<FunctionValue<'b>, QueryError> {
+        answer_by(self, alloc, name, args)
+    }
+}
