@@ -10,12 +10,12 @@ nodes-preserved g c =
     let before = c.nodes.invariant in
     let done = before.written.0 in
     let node = c.in-Some.node in
-    let left = rest c.next.new.self in
+    let left = rest c.next_into.new.self in
     let pushed = c.in_ok-push_line.ensures in
     record {
-      set = c.next.ensures.set ∙ before.set;
-      query = c.next.ensures.query ∙ before.query;
-      document = c.next.ensures.document ∙ before.document;
+      set = c.next_into.ensures.set ∙ before.set;
+      query = c.next_into.ensures.query ∙ before.query;
+      document = c.next_into.ensures.document ∙ before.document;
       written = (
         done ++ located node ∷ [],
         subst (AreLinesIn c.args.form (done ++ located node ∷ [])) (sym pushed.2) (lines_pushed c.args.form done (string_bytes c.nodes.text) pushed.0 (located node) before.written.1 pushed.1),
