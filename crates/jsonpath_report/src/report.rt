@@ -188,7 +188,7 @@ fn selected<F: Functions>(
 {
     let store = PatternStore::new();
     let functions = Both(functions, CachedPatterns::new(alloc, &store));
-    let walk = path.walk(alloc, document, &functions)?;
+    let walk = path.walk_under(alloc, document, functions)?;
     lines(alloc, form, text, walk)
 }
 

@@ -220,6 +220,31 @@ impl JsonPath {
         ensures document { IfOk result (λ walk. document_of walk ≡ view value.now) }
         ensures refused { IfErr result (λ e. e ≡ Memory) }
     {
-        walk(alloc, &self.checked, value, Both(functions, Builtin))
+        self.walk_under(alloc, value, Both(functions, Builtin))
+    }
+
+    /// A walk as `walk` makes it, under a function set alone, which the walk keeps: the built-in functions are there only if
+    /// the set has them. So a set that keeps patterns can stand in the place of the built-in functions.
+    ///
+    /// ```text
+    /// let store = PatternStore::new();
+    /// let functions = Both(&own, CachedPatterns::new(alloc, &store));
+    /// let mut walk = path.walk_under(alloc, &document, functions)?;
+    /// ```
+    pub fn walk_under<'q, 'b, F: Functions + Drop>(
+        &'q self,
+        alloc: Global,
+        value: &'b Value,
+        functions: F,
+    ) -> Result<Walk<'q, 'b, F>, QueryError>
+        requires { Fits (F.set functions) (path_signatures self.now) }
+        ensures selects { IfOk result (λ walk.
+            Selects (F.set functions) (path_tree self.now) (view value.now) (rest walk)) }
+        ensures query { IfOk result (λ walk. query_of walk ≡ path_tree self.now) }
+        ensures set { IfOk result (λ walk. set_of walk ≡ F.set functions) }
+        ensures document { IfOk result (λ walk. document_of walk ≡ view value.now) }
+        ensures refused { IfErr result (λ e. e ≡ Memory) }
+    {
+        walk(alloc, &self.checked, value, functions)
     }
 }

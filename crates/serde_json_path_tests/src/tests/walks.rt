@@ -2,7 +2,7 @@
 
 use crate::tests::sets::Own;
 use serde_json::Value;
-use serde_json_path::functions::{Both, Builtin, Functions};
+use serde_json_path::functions::{Both, Builtin, CachedPatterns, Functions, PatternStore};
 use serde_json_path::{JsonPath, PathElement, QueryError, Walk};
 use serde_json_path_core_tests::rows::{Table, fields, hold_rows};
 use std::alloc::Global;
@@ -12,7 +12,7 @@ use std::test::Fail;
 /// What a walk answers to so many calls: locations, `none` for none, and how many of the calls are refused memory.
 fn walked<F: Functions>(
     alloc: Global,
-    walk: &mut Walk<'_, '_, Both<&F, Builtin>>,
+    walk: &mut Walk<'_, '_, F>,
     calls: u32,
 ) -> Result<String, Fail> {
     let mut text = String::new(alloc);
@@ -59,7 +59,7 @@ fn walks_give_one_node_after_the_other(rt: HostRuntime) -> Result<(), Fail> {
 /// What a walk answers to so many calls that hand in the steps of the node before, as [`walked`] gives it.
 fn walked_into<F: Functions>(
     alloc: Global,
-    walk: &mut Walk<'_, '_, Both<&F, Builtin>>,
+    walk: &mut Walk<'_, '_, F>,
     calls: u32,
 ) -> Result<String, Fail> {
     let mut text = String::new(alloc);
@@ -88,6 +88,25 @@ fn walks_give_the_same_into_steps(rt: HostRuntime) -> Result<(), Fail> {
         let path = JsonPath::parse_with(alloc, path, &Builtin)?;
         let mut walk = path.walk(alloc, &document, &Builtin)?;
         walked_into(alloc, &mut walk, 5)
+    })
+}
+
+/// A path, a document, and what three calls of a walk under a set that keeps patterns answer.
+const UNDER_A_SET: &[&str] = &[
+    r#"$[?match(@, 'b.')] ~ ["ab","bc","bcd"] -> $[1], none, none, 0 refused"#,
+    r#"$[?search(@.a, @.b)] ~ [{"a":"xy","b":"y"},{"a":"xy","b":"z"},{"a":"x","b":"["}] -> $[0], none, none, 0 refused"#,
+];
+
+#[test]
+fn walks_go_under_a_set_alone(rt: HostRuntime) -> Result<(), Fail> {
+    hold_rows(&rt, rt.alloc(), UNDER_A_SET, |alloc, given| {
+        let (path, document) = fields(given)?;
+        let document = Value::from_str(alloc, document)?;
+        let path = JsonPath::parse(alloc, path)?;
+        let store = PatternStore::new();
+        let functions = CachedPatterns::new(alloc, &store);
+        let mut walk = path.walk_under(alloc, &document, functions)?;
+        walked(alloc, &mut walk, 3)
     })
 }
 
