@@ -27,9 +27,15 @@ const MOST_RECENT: usize = 8;
 ///
 /// It takes no memory of its own, and holds at most eight patterns until it is dropped. A store is for one set: a second set
 /// finds the places taken, and keeps its patterns without matchers.
-#[derive(Drop)]
 pub struct PatternStore {
     places: [OnceCell<ReadPattern>; MOST_MATCHERS],
+}
+
+// Written out, so that a caller's proof sees one call and not the drop of each field.
+impl Drop for PatternStore {
+    fn drop(self) {
+        let PatternStore { places: _places } = self;
+    }
 }
 
 impl PatternStore {
@@ -155,9 +161,15 @@ impl<'p> KeptPatterns<'p> {
 /// let functions = CachedPatterns::new(alloc, &store);
 /// let walk = path.walk(alloc, &document, &functions)?;
 /// ```
-#[derive(Drop)]
 pub struct CachedPatterns<'p> {
     kept: RefCell<KeptPatterns<'p>>,
+}
+
+// Written out, for the same reason as that of `PatternStore`.
+impl<'p> Drop for CachedPatterns<'p> {
+    fn drop(self) {
+        let CachedPatterns { kept: _kept } = self;
+    }
 }
 
 impl<'p> CachedPatterns<'p> {
