@@ -3,7 +3,8 @@ use Rattle.std.proofs.Common.{◌≡◌, ◌≢◌, ◌∙◌, ℕ, zero, suc, �
 use lib.Signed.{lt_z}
 use Rattle.std.proofs.Math.IntN.{nat_abs}
 use Rattle.std.proofs.lemmas.Int.{ints}
-use Rattle.std.specs.Fmt.{decimal}
+use Rattle.std.specs.Fmt.{decimal, HasWritten, IsPlainFormatter}
+use Rattle.std.specs.declared.fmt.Formatter.{Formatter}
 use Rattle.serde_json_path_syntax.specs.Text.{amount_text, fraction_digits, number_text, query_text, joined, piece_text, and_text, and_texts, argument_text, argument_texts, basic_text, basic_texts, call_text, comparable_text, or_text, segment_text, segments_text, selector_text, selector_texts}
 use Rattle.std.specs.Prelude.{codes}
 use Rattle.std.proofs.Math.Seq.{take-suc}
@@ -11,7 +12,7 @@ use Rattle.std.proofs.Math.Numerals.{add-one}
 use Rattle.std.proofs.lemmas.Grind.{flat_map-append}
 use Rattle.std.proofs.lemmas.List.{map-append, take_all}
 use Rattle.std.specs.List.{flat_map}
-use Rattle.serde_json_path_syntax.proofs.Tree.NamedParts.{others, others-cons, query_of_singular}
+use Rattle.serde_json_path_syntax.proofs.Tree.NamedParts.{one_is, others, others-bound, others-cons, others_are, query_of_singular, within_get}
 use Rattle.serde_json_path_syntax.specs.Flat.{piece_in, pieces_named, ands_in, arguments_in, call_in, comparable_in, or_in, ors_in, query_in, segments_in, selectors_in}
 use Rattle.serde_json_path_syntax.specs.Piece.{Piece, a_query, a_segment, a_selector, an_or, an_and, a_basic, a_comparable, a_call, an_argument}
 use Rattle.serde_json_path_syntax.specs.declared.node.Part.{Part}
@@ -74,6 +75,10 @@ module _ (separator : List ℕ) (ps : List Piece) where
       ap (λ xs. text_of part ++ flat_map (λ t. separator ++ t) (map text_of xs)) (take_all i (others (part ∷ parts)) all ∙ others-cons part parts)
       ∙ ap (λ ts. text_of part ++ flat_map (λ t. separator ++ t) ts) (listed parts)
 
+-- before anything is printed
+pub nothing_printed : {W : Type 0} (took : W → List ℕ → W → Type 0) (f : Formatter W) → IsPlainFormatter f → HasWritten took f [] f
+nothing_printed took f plain = record { wrote = record { parts = []; calls = refl; whole = refl }; plain = plain }
+
 -- ---- one
 
 pub text_of_query : (p : Piece) → is_query p ≡ true → piece_text p ≡ query_text (query_in p)
@@ -95,40 +100,38 @@ text_of_call _ h = absurd cc
 -- ---- many
 
 more_segments : (ps : List Piece) → each_is is_segment ps ≡ true → flat_map (λ t. [] ++ t) (map piece_text ps) ≡ segments_text (segments_in ps)
-more_segments [] h = refl
 more_segments (a_segment kind seg ∷ ps) h = ap (λ t. segment_text seg kind ++ t) (more_segments ps h)
-more_segments (_ ∷ ps) h = absurd cc
+more_segments _ h = cc
 
 pub text_of_segments : (ps : List Piece) → each_is is_segment ps ≡ true → joined [] (map piece_text ps) ≡ segments_text (segments_in ps)
 text_of_segments [] h = refl
 text_of_segments (p ∷ ps) h = more_segments (p ∷ ps) h
 
 pub texts_of_selectors : (ps : List Piece) → each_is is_selector ps ≡ true → map piece_text ps ≡ selector_texts (selectors_in ps)
-texts_of_selectors [] h = refl
 texts_of_selectors (a_selector sel ∷ ps) h = ap (λ ts. selector_text sel ∷ ts) (texts_of_selectors ps h)
-texts_of_selectors (_ ∷ ps) h = absurd cc
+texts_of_selectors _ h = cc
 
 texts_of_ands : (ps : List Piece) → each_is is_and ps ≡ true → map piece_text ps ≡ and_texts (ors_in ps)
-texts_of_ands [] h = refl
 texts_of_ands (an_and e ∷ ps) h = ap (λ ts. and_text e ∷ ts) (texts_of_ands ps h)
-texts_of_ands (_ ∷ ps) h = absurd cc
+texts_of_ands _ h = cc
 
 pub text_of_ands : (ps : List Piece) → each_is is_and ps ≡ true → joined (codes " || ") (map piece_text ps) ≡ or_text (ors_in ps)
 text_of_ands [] h = refl
 text_of_ands (p ∷ ps) h = ap (joined (codes " || ")) (texts_of_ands (p ∷ ps) h)
 
 texts_of_basics : (ps : List Piece) → each_is is_basic ps ≡ true → map piece_text ps ≡ basic_texts (ands_in ps)
-texts_of_basics [] h = refl
 texts_of_basics (a_basic b ∷ ps) h = ap (λ ts. basic_text b ∷ ts) (texts_of_basics ps h)
-texts_of_basics (_ ∷ ps) h = absurd cc
+texts_of_basics _ h = cc
 
 pub text_of_basics : (ps : List Piece) → each_is is_basic ps ≡ true → joined (codes " && ") (map piece_text ps) ≡ and_text (ands_in ps)
 text_of_basics [] h = refl
 text_of_basics (p ∷ ps) h = ap (joined (codes " && ")) (texts_of_basics (p ∷ ps) h)
 
 pub texts_of_arguments : (ps : List Piece) → each_is is_argument ps ≡ true → map piece_text ps ≡ argument_texts (arguments_in ps)
-texts_of_arguments [] h = refl
 texts_of_arguments (an_argument a ∷ ps) h = ap (λ ts. argument_text a ∷ ts) (texts_of_arguments ps h)
-texts_of_arguments (_ ∷ ps) h = absurd cc
+texts_of_arguments _ h = cc
 
 pub ruleset of_kinds = (query_of_singular, text_of_query, text_of_or, text_of_comparable, text_of_call, text_of_segments, texts_of_selectors, text_of_ands, text_of_basics, texts_of_arguments)
+
+-- several parts, one after another
+pub ruleset of_parts = (nothing_printed, one_is, others-bound, others_are, within_get)

@@ -1,4 +1,4 @@
-use Rattle.std.proofs.Common.{◌≡◌, ◌∙◌, ◌++◌, [], true, refl, sym, ap, map, codes, option_map, append_assoc, rules}
+use Rattle.std.proofs.Common.{◌≡◌, ◌∙◌, ◌++◌, [], true, sym, ap, map, codes, option_map, append_assoc, rules}
 use Rattle.std.proofs.Output.{has_written_append, has_written_of_eq}
 use Rattle.serde_json_path_syntax.specs.Flat.{kind_view, parts_in, piece_at, pieces, pieces_named, segment_kind_view, selectors_in}
 use Rattle.serde_json_path_syntax.specs.Inside.Openings.{opening_text}
@@ -12,14 +12,6 @@ use Rattle.serde_json_path_syntax.proofs.Printing.{begun_more, begun_whole, text
 use Rattle.serde_json_path_syntax.proofs.print.+printing.Goals as goal
 
 -- ---- segments, after the sign of a query
-
-pub write_path-loop-segment-init : goal.write_path-loop-segment-init
-write_path-loop-segment-init g t c = λ plain. record { wrote = record { parts = []; calls = refl; whole = refl }; plain = plain }
-
-pub write_path-write_segment-requires : goal.write_path-write_segment-requires
-write_path-write_segment-requires g t c =
-    let is = one_is is_segment (pieces (nodes_in c.args.tree.now)) c.args.segments.now 0 (record { number = 0 }) c.in-len1-up.len_at_least c.requires.are in
-    search rules
 
 pub write_path-write_segment-requires-in-loop-segment : goal.write_path-write_segment-requires-in-loop-segment
 write_path-write_segment-requires-in-loop-segment g t c =
@@ -50,14 +42,6 @@ write_path-returns g t c plain ok =
 
 -- ---- selectors in brackets
 
-pub write_selectors-loop-selector-init : goal.write_selectors-loop-selector-init
-write_selectors-loop-selector-init g t c = λ plain. record { wrote = record { parts = []; calls = refl; whole = refl }; plain = plain }
-
-pub write_selectors-write_selector-requires : goal.write_selectors-write_selector-requires
-write_selectors-write_selector-requires g t c =
-    let is = one_is is_selector (pieces (nodes_in c.args.tree.now)) c.args.selectors.now 0 (record { number = 0 }) c.in-len1-up.len_at_least c.requires.are in
-    search rules
-
 pub write_selectors-write_selector-requires-in-loop-selector : goal.write_selectors-write_selector-requires-in-loop-selector
 write_selectors-write_selector-requires-in-loop-selector g t c =
     let parts = c.args.selectors.now in
@@ -85,16 +69,6 @@ write_selectors-returns g t c plain ok =
     (has_written_append _ _ _ _ _ _ first (c.loop-selector.invariant first.plain))
 
 -- ---- parts with a separator between each two
-
-pub write_joined-loop-part-init : goal.write_joined-loop-part-init
-write_joined-loop-part-init g t c = λ plain. record { wrote = record { parts = []; calls = refl; whole = refl }; plain = plain }
-
-pub write_joined-write_part-requires-in-loop-part : goal.write_joined-write_part-requires-in-loop-part
-write_joined-write_part-requires-in-loop-part g t c =
-    let parts = c.args.parts.now in
-    let below = within_get (others parts) c.loop-part.part-index (record { number = 0 }) c.loop-part-test.true in
-    let bound = others-bound parts in
-    search rules
 
 pub write_joined-loop-part-preserved : goal.write_joined-loop-part-preserved
 write_joined-loop-part-preserved g t c = λ plain.
