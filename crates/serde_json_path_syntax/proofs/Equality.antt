@@ -91,5 +91,8 @@ arguments_same [] [] h g = refl
 arguments_same (an_argument a ∷ xs) (an_argument b ∷ ys) h g = ap (λ rest. same_piece (an_argument a) (an_argument b) && rest) (arguments_same xs ys h g)
 arguments_same _ _ h g = cc
 
+-- what the parts that are left are the same by
+pub ruleset of_parts = (uneven, all_left, unlike_next, none_left)
+
 -- what the trees of pieces are the same by
 pub ruleset of_kinds = (query_of_singular, query_same, or_same, comparable_same, call_same, segments_same, selectors_same, ors_same, ands_same, arguments_same)
