@@ -7,6 +7,7 @@ use Rattle.std.specs.Fmt.{decimal, HasWritten, IsPlainFormatter}
 use Rattle.std.specs.declared.fmt.Formatter.{Formatter}
 use Rattle.serde_json_path_syntax.specs.Text.{amount_text, fraction_digits, number_text, query_text, joined, piece_text, and_text, and_texts, argument_text, argument_texts, basic_text, basic_texts, call_text, comparable_text, or_text, segment_text, segments_text, selector_text, selector_texts}
 use Rattle.std.specs.Prelude.{codes}
+use Rattle.std.proofs.Output.{has_written_append, has_written_of_eq}
 use Rattle.std.proofs.Math.Seq.{take-suc}
 use Rattle.std.proofs.Math.Numerals.{add-one}
 use Rattle.std.proofs.lemmas.Grind.{flat_map-append}
@@ -64,6 +65,14 @@ module _ (separator : List ℕ) (ps : List Piece) where
       sym (map-append text_of (take i parts) (get_or parts i d ∷ [])) ∙ ap (map text_of) (sym (take-suc parts i d h) ∙ ap (λ n. take n parts) (sym (add-one i))) in
       ap (λ t. begun parts i ++ t) (sym (append-nil (separator ++ x))) ∙ sym (flat_map-append separated texts (x ∷ [])) ∙ ap (flat_map separated) more
 
+  pub printed_more : {W : Type 0} (took : W → List ℕ → W → Type 0) (f g h : Formatter W) (parts : List Part) (i : ℕ) (d : Part) → i < length parts
+      → HasWritten took f (begun parts i) g → HasWritten took g (separator ++ text_of (get_or parts i d)) h → HasWritten took f (begun parts (i + 1)) h
+  printed_more took f g h parts i d within wrote next = has_written_of_eq _ _ _ _ _ (begun_more parts i d within) (has_written_append _ _ _ _ _ _ wrote next)
+
+  pub printed_apart : {W : Type 0} (took : W → List ℕ → W → Type 0) (f g h k : Formatter W) (parts : List Part) (i : ℕ) (d : Part) → i < length parts
+      → HasWritten took f (begun parts i) g → HasWritten took g separator h → HasWritten took h (text_of (get_or parts i d)) k → HasWritten took f (begun parts (i + 1)) k
+  printed_apart took f g h k parts i d within wrote between next = printed_more took f g k parts i d within wrote (has_written_append _ _ _ _ _ _ between next)
+
   listed : (parts : List Part) → map text_of parts ≡ map piece_text (pieces_named ps parts)
   listed [] = refl
   listed (part ∷ parts) = ap (λ ts. text_of part ∷ ts) (listed parts)
@@ -74,6 +83,11 @@ module _ (separator : List ℕ) (ps : List Piece) where
   begun_whole (part ∷ parts) d i some all =
       ap (λ xs. text_of part ++ flat_map (λ t. separator ++ t) (map text_of xs)) (take_all i (others (part ∷ parts)) all ∙ others-cons part parts)
       ∙ ap (λ ts. text_of part ++ flat_map (λ t. separator ++ t) ts) (listed parts)
+
+  pub all_printed : {W : Type 0} (took : W → List ℕ → W → Type 0) (f g h : Formatter W) (start : List ℕ) (parts : List Part) (d : Part) (i : ℕ) → 1 ≤ length parts → length (others parts) ≤ i
+      → HasWritten took f (start ++ text_of (get_or parts 0 d)) g → HasWritten took g (begun (others parts) i) h → HasWritten took f (start ++ joined separator (map piece_text (pieces_named ps parts))) h
+  all_printed took f g h start parts d i some all first rest =
+      has_written_of_eq _ _ _ _ _ (append_assoc start _ _ ∙ ap (λ t. start ++ t) (begun_whole parts d i some all)) (has_written_append _ _ _ _ _ _ first rest)
 
 -- before anything is printed
 pub nothing_printed : {W : Type 0} (took : W → List ℕ → W → Type 0) (f : Formatter W) → IsPlainFormatter f → HasWritten took f [] f
@@ -134,4 +148,4 @@ texts_of_arguments _ h = cc
 pub ruleset of_kinds = (query_of_singular, text_of_query, text_of_or, text_of_comparable, text_of_call, text_of_segments, texts_of_selectors, text_of_ands, text_of_basics, texts_of_arguments)
 
 -- several parts, one after another
-pub ruleset of_parts = (nothing_printed, one_is, others-bound, others_are, within_get)
+pub ruleset of_parts = (nothing_printed, printed_more, printed_apart, all_printed, text_of_segments, one_is, others-bound, others_are, within_get)
