@@ -69,5 +69,6 @@ module _ (f g : Form) (a b : ℤ) (at : f ≡ Integer a) (by : g ≡ Integer b) 
       (λ t. T_from_true _ (eq-eqb (of_z w128 a) (of_z w128 b) (ap (of_z w128) (integers_equal a b t)))))
 
 -- an integer and a double
-pub mixed : {f g : Form} {n : ℤ} {x : Float} (o : Ordering) → f ≡ Integer n → g ≡ Double x → is_exact f ≡ true → IsOrder (integer (to_z w128 (of_z w128 n))) x o → IsTold (held_number f) (held_number g) o
+pub mixed : {f g : Form} {n : ℤ} {x : Float} (o : Ordering) → f ≡ Integer n → g ≡ Double x → is_exact f ≡ true
+    → IsOrder (integer (to_z w128 (of_z w128 n))) x o → IsTold (held_number f) (held_number g) o
 mixed {n = n} {x = x} o at by exact h = rw (at, by) (told (integer n) x o (subst (λ z. IsOrder (integer z) x o) (to_z-of_z (in_range n (sym (ap is_exact at) ∙ exact))) h))

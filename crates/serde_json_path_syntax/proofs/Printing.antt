@@ -65,12 +65,16 @@ module _ (separator : List ℕ) (ps : List Piece) where
       sym (map-append text_of (take i parts) (get_or parts i d ∷ [])) ∙ ap (map text_of) (sym (take-suc parts i d h) ∙ ap (λ n. take n parts) (sym (add-one i))) in
       ap (λ t. begun parts i ++ t) (sym (append-nil (separator ++ x))) ∙ sym (flat_map-append separated texts (x ∷ [])) ∙ ap (flat_map separated) more
 
+  -- one more is printed
   pub printed_more : {W : Type 0} (took : W → List ℕ → W → Type 0) (f g h : Formatter W) (parts : List Part) (i : ℕ) (d : Part) → i < length parts
-      → HasWritten took f (begun parts i) g → HasWritten took g (separator ++ text_of (get_or parts i d)) h → HasWritten took f (begun parts (i + 1)) h
+      → HasWritten took f (begun parts i) g → HasWritten took g (separator ++ text_of (get_or parts i d)) h
+      → HasWritten took f (begun parts (i + 1)) h
   printed_more took f g h parts i d within wrote next = has_written_of_eq _ _ _ _ _ (begun_more parts i d within) (has_written_append _ _ _ _ _ _ wrote next)
 
+  -- the same, where the separator is printed by itself
   pub printed_apart : {W : Type 0} (took : W → List ℕ → W → Type 0) (f g h k : Formatter W) (parts : List Part) (i : ℕ) (d : Part) → i < length parts
-      → HasWritten took f (begun parts i) g → HasWritten took g separator h → HasWritten took h (text_of (get_or parts i d)) k → HasWritten took f (begun parts (i + 1)) k
+      → HasWritten took f (begun parts i) g → HasWritten took g separator h → HasWritten took h (text_of (get_or parts i d)) k
+      → HasWritten took f (begun parts (i + 1)) k
   printed_apart took f g h k parts i d within wrote between next = printed_more took f g k parts i d within wrote (has_written_append _ _ _ _ _ _ between next)
 
   listed : (parts : List Part) → map text_of parts ≡ map piece_text (pieces_named ps parts)
@@ -84,8 +88,10 @@ module _ (separator : List ℕ) (ps : List Piece) where
       ap (λ xs. text_of part ++ flat_map (λ t. separator ++ t) (map text_of xs)) (take_all i (others (part ∷ parts)) all ∙ others-cons part parts)
       ∙ ap (λ ts. text_of part ++ flat_map (λ t. separator ++ t) ts) (listed parts)
 
-  pub all_printed : {W : Type 0} (took : W → List ℕ → W → Type 0) (f g h : Formatter W) (start : List ℕ) (parts : List Part) (d : Part) (i : ℕ) → 1 ≤ length parts → length (others parts) ≤ i
-      → HasWritten took f (start ++ text_of (get_or parts 0 d)) g → HasWritten took g (begun (others parts) i) h → HasWritten took f (start ++ joined separator (map piece_text (pieces_named ps parts))) h
+  -- all are printed, after a text before the first
+  pub all_printed : {W : Type 0} (took : W → List ℕ → W → Type 0) (f g h : Formatter W) (start : List ℕ) (parts : List Part) (d : Part) (i : ℕ)
+      → 1 ≤ length parts → length (others parts) ≤ i → HasWritten took f (start ++ text_of (get_or parts 0 d)) g → HasWritten took g (begun (others parts) i) h
+      → HasWritten took f (start ++ joined separator (map piece_text (pieces_named ps parts))) h
   all_printed took f g h start parts d i some all first rest =
       has_written_of_eq _ _ _ _ _ (append_assoc start _ _ ∙ ap (λ t. start ++ t) (begun_whole parts d i some all)) (has_written_append _ _ _ _ _ _ first rest)
 
