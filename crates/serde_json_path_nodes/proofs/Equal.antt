@@ -16,22 +16,19 @@ eq-value-same_step _ _ = refl
 
 pub elements-same_steps : (a b : List PathElement) → pointwise eq-value.it a b ≡ same_steps (map step_view a) (map step_view b)
 elements-same_steps [] [] = refl
-elements-same_steps [] (b ∷ bs) = refl
 elements-same_steps (a ∷ as_) (b ∷ bs) = rw (eq-value-same_step a b, elements-same_steps as_ bs)
 elements-same_steps _ _ = refl
 
 -- lists that are alike are alike at each index
 alike-slice_get : (a b : List PathElement) (n : ℕ) → pointwise eq-value.it a b ≡ true → option_eq eq-value.it (slice_get a n) (slice_get b n) ≡ true
 alike-slice_get [] [] n alike = refl
-alike-slice_get [] (y ∷ ys) n alike = absurd (cc)
-alike-slice_get (x ∷ xs) [] n alike = absurd (cc)
 alike-slice_get (x ∷ xs) (y ∷ ys) zero alike = (and_parts (eq-value.it x y) (pointwise eq-value.it xs ys) alike).0
 alike-slice_get (x ∷ xs) (y ∷ ys) (suc n) alike = alike-slice_get xs ys n ((and_parts (eq-value.it x y) (pointwise eq-value.it xs ys) alike).1)
+alike-slice_get _ _ n alike = absurd cc
 
 -- the same of references to elements
 option_eq-now : (r s : Option (Bor PathElement)) → option_eq (λ x y. eq-value.it x.now y.now) r s ≡ option_eq eq-value.it (option_copied r) (option_copied s)
 option_eq-now None None = refl
-option_eq-now None (Some y) = refl
 option_eq-now (Some x) (Some y) = refl
 option_eq-now _ _ = refl
 

@@ -45,9 +45,8 @@ no_tie_by_next _ m n differ = refl
 
 -- a test that implies another one adds nothing to it
 absorbed : (first next rest : Bool) → (next ≡ true → first ≡ true) → (first || (next || rest)) ≡ (first || rest)
-absorbed true next rest through = refl
 absorbed false true rest through = absurd (true≢false (sym (through refl)))
-absorbed false false rest through = refl
+absorbed _ _ rest through = refl
 
 -- ---- filters and sums
 

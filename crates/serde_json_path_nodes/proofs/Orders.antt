@@ -1,12 +1,12 @@
 -- The order of steps is total, and so is that of locations, which goes step by step.
-use Rattle.std.proofs.Common.{◌≡◌, ◌⊎◌, ℕ, suc, List, [], ◌∷◌, length, map, inl, inr, refl, sym, arith}
+use Rattle.std.proofs.Common.{◌≡◌, ◌⊎◌, ℕ, suc, List, [], ◌∷◌, length, map, refl, sym, arith}
 use Rattle.std.proofs.lemmas.Bool.Decides.{nat_tests}
 use Rattle.std.proofs.lemmas.Cmp.{nat_cmp_total, nat_list_cmp_total, lists_total}
 use Rattle.std.specs.Cmp.{IsTotalOrder, unsigned_ties}
 use Rattle.std.specs.Cmp.Lexicographic.{slice_cmp, lists_ties}
 use Rattle.std.specs.Ordering.{eq_by_cmp, ordering_reverse, ordering_then, nat_cmp}
 use Rattle.std.specs.declared.cmp.Ordering.{Ordering}
-use Rattle.std.specs.declared.cmp.Ordering.TheVariants.{Less, Equal, Greater}
+use Rattle.std.specs.declared.cmp.Ordering.TheVariants.{Less, Equal}
 use Rattle.serde_json_path_nodes.specs.Location.{Step, by_name, by_position}
 use Rattle.serde_json_path_nodes.specs.Same.{same_step, same_steps}
 use Rattle.serde_json_path_nodes.specs.Inside.StepOrder.{step_cmp, location_cmp}
@@ -47,9 +47,8 @@ nat_cmp-suc m n = grind (arith, nat_tests)
 
 -- an order that is no tie decides
 then_decided : (first second : Ordering) → (first ≡ Equal → ⊥) → ordering_then first second ≡ first
-then_decided Less second differ = refl
 then_decided Equal second differ = absurd (differ refl)
-then_decided Greater second differ = refl
+then_decided _ second differ = refl
 
 -- of two lists with their first elements, seen by `f`
 module _ {A B : Type 0} (R : A → A → Ordering) (f : B → A) {a b : B} {xs ys rest_x rest_y : List B}
@@ -70,9 +69,8 @@ module _ {A B : Type 0} (R : A → A → Ordering) (f : B → A) {a b : B} {xs y
 pub slice_cmp-ended : {A B : Type 0} (R : A → A → Ordering) (f : B → A) (xs ys : List B) → (length xs ≡ 0) ⊎ (length ys ≡ 0)
     → nat_cmp (length xs) (length ys) ≡ slice_cmp R (map f xs) (map f ys)
 slice_cmp-ended R f [] [] ended = refl
-slice_cmp-ended R f [] (y ∷ ys) ended = grind (arith, nat_tests)
-slice_cmp-ended R f (x ∷ xs) [] ended = grind (arith, nat_tests)
-slice_cmp-ended R f (x ∷ xs) (y ∷ ys) ended = absurd (elim ended [ inl none ↦ omega arith | inr none ↦ omega arith ])
+slice_cmp-ended R f (x ∷ xs) (y ∷ ys) ended = absurd (grind (arith, ended))
+slice_cmp-ended R f _ _ ended = grind (arith, nat_tests)
 
 -- two lists, step by step
 pub ruleset of_lists = (slice_cmp-tie, lengths-tie, slice_cmp-decided, slice_cmp-ended)

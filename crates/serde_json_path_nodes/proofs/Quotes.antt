@@ -1,10 +1,10 @@
 -- A text in quotes, written in stretches of characters that print themselves.
-use Rattle.std.proofs.Common.{◌≡◌, ℕ, ◌≤◌, Bool, true, false, List, [], ◌∷◌, ◌++◌, Option, Some, None, is_some, take, drop, unwrap_or, encode_utf8, encode_utf8_all, nat_lt, refl, sym, ap, subst, ◌∙◌, append_assoc, arith}
+use Rattle.std.proofs.Common.{◌≡◌, ℕ, ◌+◌, ◌<◌, ◌≤◌, Bool, true, false, List, [], ◌∷◌, ◌++◌, length, get_or, Option, Some, None, is_some, take, drop, unwrap_or, encode_utf8, encode_utf8_all, nat_lt, refl, sym, ap, subst, ◌∙◌, append_assoc, arith}
 use Rattle.std.specs.List.{flat_map}
 use Rattle.std.specs.Str.{IsCharBoundary, IsUtf8, NonePass, chars}
 use Rattle.std.proofs.lemmas.Bool.Decides.{nat_tests}
 use Rattle.std.proofs.lemmas.Grind.{flat_map-append}
-use Rattle.std.proofs.lemmas.List.{take-append-drop}
+use Rattle.std.proofs.lemmas.List.{take-append-drop, take_more}
 use Rattle.std.proofs.lemmas.Str.{chars-append, chars_past_char, encode_ascii, encodes-chars, IsUtf8-take}
 use Rattle.serde_json_path_nodes.specs.Text.{escape_of, in_quotes, is_escaped}
 
@@ -45,9 +45,12 @@ plain_text text utf8 plain =
     plain_chars (chars text) (subst (NonePass is_escaped) (sym spelled) plain) ∙ spelled
 
 -- one byte more
-pub none_more : (bs : List ℕ) (b : ℕ) → NonePass is_escaped bs → is_escaped b ≡ false → NonePass is_escaped (bs ++ b ∷ [])
+none_more : (bs : List ℕ) (b : ℕ) → NonePass is_escaped bs → is_escaped b ≡ false → NonePass is_escaped (bs ++ b ∷ [])
 none_more [] b h e = (e, tt)
 none_more (c ∷ bs) b h e = (h.0, none_more bs b h.1 e)
+
+pub none_further : (bs : List ℕ) (i : ℕ) → i < length bs → NonePass is_escaped (take i bs) → is_escaped (get_or bs i 0) ≡ false → NonePass is_escaped (take (i + 1) bs)
+none_further bs i h plain e = rw (take_more bs i 0 h) (none_more (take i bs) (get_or bs i 0) plain e)
 
 -- ---- one stretch more
 

@@ -63,6 +63,7 @@ fn write_char<W: Write>(f: &mut Formatter<W>, c: char) -> fmt::Result
 }
 
 /// How many bytes from the start on are of characters that print themselves.
+#[tactic(auto, using(crate::proofs::Quotes::none_further))]
 fn plain_len(text: &str) -> usize
     ensures boundary { IsCharBoundary text.now result }
     ensures plain { NonePass is_escaped (take result text.now) }

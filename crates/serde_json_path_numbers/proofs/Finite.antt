@@ -1,9 +1,9 @@
 -- Numbers of literals are in range, and finite.
-use Rattle.std.proofs.Common.{◌≡◌, ℕ, zero, suc, cond, ◌*◌, ◌^◌, ◌<◌, Bool, true, false, T, refl, sym, ap, ◌∙◌, arith, lit<, lt-ltb, ◌/◌, ◌%◌, to_z, of_z, to_z-of_z}
+use Rattle.std.proofs.Common.{◌≡◌, ℕ, zero, suc, cond, ◌*◌, ◌^◌, ◌<◌, Bool, true, false, T, refl, sym, ap, ◌∙◌, arith, rules, lit<, lt-ltb, ◌/◌, ◌%◌, to_z, of_z, to_z-of_z}
 use Rattle.std.specs.Prelude.{ℤ, pos, negsuc, neg_ℤ, int_div, int_lt, unsigned_abs, ◌==◌, if◌then◌else◌, Some, None}
 use Rattle.std.specs.Int.{w128}
 use Rattle.std.specs.Float.{float_is_finite}
-use Rattle.std.specs.Float.Ieee.{Float, nan, inf, fin, binary64, round, le, units, odd}
+use Rattle.std.specs.Float.Ieee.{Float, inf, fin, binary64, round, le, units, odd}
 use Rattle.std.proofs.lemmas.Int.{ints}
 use Rattle.serde_json_path_numbers.specs.Numbers.{integer, literal_double, IsInLiteralRange}
 use Rattle.serde_json_path_numbers.specs.Laws.{IsFinite, NumbersAreFinite}
@@ -19,14 +19,8 @@ use lib.Ieee.Fits.{round_is}
 -- between two finite numbers all are finite
 between : (x y z : Float) (a b : ℕ) → HasValue x false a 1 → HasValue z false b 1 → T (le x y) → T (le y z) → float_is_finite y ≡ true
 unfolding le float_is_finite
-between nan y z a b v w h k = absurd v
-between (inf s) y z a b v w h k = absurd v
-between (fin s m e) y nan a b v w h k = absurd w
-between (fin s m e) y (inf u) a b v w h k = absurd w
-between (fin s m e) nan (fin u j g) a b v w h k = absurd h
-between (fin s m e) (inf true) (fin u j g) a b v w h k = absurd h
-between (fin s m e) (inf false) (fin u j g) a b v w h k = absurd k
 between (fin s m e) (fin t n d) (fin u j g) a b v w h k = refl
+between _ _ _ a b v w h k = absurd (search rules)
 
 -- the sign of what rounds does not matter
 same_finite : (s : Bool) (num den : ℕ) → float_is_finite (round binary64 s num den) ≡ float_is_finite (round binary64 false num den)

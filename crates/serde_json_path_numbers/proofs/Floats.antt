@@ -1,7 +1,7 @@
 -- Comparisons of floats as facts, and the laws.
-use Rattle.std.proofs.Common.{◌≡◌, ℕ, suc, ltb, arith, ltb-true, add_comm, Ordering, Less, Equal, Greater, is_eq, is_lt, is_gt, Bool, true, false, not, T, ◌⊎◌, inl, inr, refl, sym, ap, ◌∙◌, true≢false}
+use Rattle.std.proofs.Common.{◌≡◌, arith, ltb-true, add_comm, Ordering, Less, Equal, Greater, is_eq, is_lt, is_gt, Bool, true, false, T, ◌⊎◌, inl, inr, refl, sym, ◌∙◌, true≢false}
 use Rattle.std.specs.Float.{NotNan, float_is_finite}
-use Rattle.std.specs.Float.Ieee.{Float, nan, inf, fin, is_nan, lt, eq, neg, below}
+use Rattle.std.specs.Float.Ieee.{Float, nan, inf, fin, is_nan, lt, eq, neg}
 use Rattle.std.specs.Prelude.{ℤ, pos, negsuc, int_lt, unsigned_abs}
 use Rattle.std.specs.Ordering.{ordering_reverse}
 use Rattle.serde_json_path_numbers.specs.Inside.{IsOrder}
@@ -63,31 +63,17 @@ told x y Greater h = let g = T_from_true (lt y x) h in record {
 
 -- ---- negated numbers have the other order
 
-turned : (s t : Bool) (a b : ℕ) → below (not s) a (not t) b ≡ below t b s a
-turned true true a b = refl
-turned true false a b = refl
-turned false true a b = ap (ltb 0) (add_comm a b)
-turned false false a b = refl
-
-level_turned : (s t : Bool) (a b : ℕ) → lib.Ieee.level (not s) a (not t) b ≡ lib.Ieee.level s a t b
-level_turned true true a b = refl
-level_turned true false a b = refl
-level_turned false true a b = refl
-level_turned false false a b = refl
-
-reversed : (s t : Bool) (m n : ℕ) (e d : ℤ) (o : Ordering) → IsOrder (fin (not s) m e) (fin (not t) n d) o → IsOrder (fin s m e) (fin t n d) (ordering_reverse o)
-unfolding lt eq
-reversed s t m n e d Less h = sym (turned s t _ _) ∙ h
-reversed s t m n e d Equal h = sym (level_turned s t _ _) ∙ h
-reversed s t m n e d Greater h = sym (turned t s _ _) ∙ h
-
 pub negative_order : (z : ℤ) (x : Float) (o : Ordering) → int_lt z (pos 0) ≡ true → float_is_finite x ≡ true
     → IsOrder (integer (pos (unsigned_abs z))) (neg x) o → IsOrder (integer z) x (ordering_reverse o)
-unfolding float_is_finite neg
+unfolding float_is_finite neg lt eq
 negative_order (pos n) x o l f h = absurd (omega (arith, ltb-true n 0 l))
-negative_order (negsuc n) nan o l f h = absurd (true≢false (sym f))
-negative_order (negsuc n) (inf s) o l f h = absurd (true≢false (sym f))
-negative_order (negsuc n) (fin s m e) o l f h = reversed true s (suc n) m (pos 0) e o h
+negative_order (negsuc n) (fin true m e) Less l f h = h
+negative_order (negsuc n) (fin true m e) Equal l f h = h
+negative_order (negsuc n) (fin true m e) Greater l f h = h
+negative_order (negsuc n) (fin false m e) Less l f h = h
+negative_order (negsuc n) (fin false m e) Equal l f h = h
+negative_order (negsuc n) (fin false m e) Greater l f h = rw add_comm h
+negative_order (negsuc n) _ o l f h = absurd (true≢false (sym f))
 
 pub finite_negated : (x : Float) → float_is_finite x ≡ true → float_is_finite (neg x) ≡ true
 unfolding float_is_finite neg

@@ -1,5 +1,6 @@
 -- Numbers by what holds them; integers keep their order.
-use Rattle.std.proofs.Common.{◌≡◌, suc, ◌+◌, ◌*◌, ◌^◌, true, T, eqb, ltb, arith, refl, sym, ap, ◌∙◌, subst, mul-one, ltb→lt, lt→ltb, eqb→eq, ltb-true, eq-eqb, lt-ltb, to_z-of_z, to_z, of_z, Ordering}
+use Rattle.std.proofs.Common.{◌≡◌, suc, ◌+◌, ◌*◌, ◌^◌, true, T, arith, refl, sym, ap, ◌∙◌, subst, mul-one, eqb→eq, ltb-true, eq-eqb, lt-ltb, to_z-of_z, to_z, of_z, Ordering}
+use Rattle.std.proofs.lemmas.Bool.Decides.{nat_tests}
 use Rattle.std.specs.Prelude.{ℤ, pos, negsuc, nat_eq, int_lt, FitsSigned}
 use Rattle.std.specs.Int.{w128}
 use Rattle.std.specs.Float.{float_is_finite}
@@ -12,7 +13,7 @@ use Rattle.serde_json_path_numbers.specs.declared.exact_number.Form.TheVariants.
 use Rattle.serde_json_path_numbers.proofs.Floats.{same, sure, equality, IsTold, told}
 use Rattle.serde_json_path_numbers.specs.Laws.{IntegersKeepTheirOrder}
 use lib.Signed.{lt_z_yes}
-use lib.Ieee.Fits.{and_l, and_r}
+use lib.Ieee.Fits.{and_l}
 
 pub in_range : (z : ℤ) → is_exact (Integer z) ≡ true → FitsSigned w128 z
 in_range (pos n) h = record { sfits = omega (arith, ltb-true n (2 ^ 64) h) }
@@ -23,15 +24,13 @@ unfolding lt
 integers_less (pos m) (pos n) = simp mul-one
 integers_less (pos m) (negsuc n) = refl
 integers_less (negsuc m) (pos n) = sym (lt-ltb 0 (suc m * 1 * 1 + n * 1 * 1) (omega arith))
-integers_less (negsuc m) (negsuc n) =
-    same (ltb n m) (ltb (suc n * 1 * 1) (suc m * 1 * 1)) (λ t. lt→ltb _ _ (omega (arith, ltb→lt n m t))) (λ t. lt→ltb n m (omega (arith, ltb→lt (suc n * 1 * 1) (suc m * 1 * 1) t)))
+integers_less (negsuc m) (negsuc n) = grind (arith, nat_tests)
 
 integers_equal : (a b : ℤ) → T (eq (integer a) (integer b)) → a ≡ b
 unfolding eq
 integers_equal (pos m) (pos n) h = ap pos (omega (arith, eqb→eq (m * 1 * 1) (n * 1 * 1) (and_l _ true h)))
-integers_equal (pos m) (negsuc n) h =
-    absurd (omega (arith, eqb→eq (m * 1 * 1) (suc n * 1 * 1) (and_l _ (eqb (m * 1 * 1) 0) h), eqb→eq (m * 1 * 1) 0 (and_r (eqb (m * 1 * 1) (suc n * 1 * 1)) _ h)))
-integers_equal (negsuc m) (pos n) h = absurd (omega (arith, eqb→eq (suc m * 1 * 1) 0 (and_r (eqb (suc m * 1 * 1) (n * 1 * 1)) _ h)))
+integers_equal (pos m) (negsuc n) h = grind (arith, nat_tests)
+integers_equal (negsuc m) (pos n) h = grind (arith, nat_tests)
 integers_equal (negsuc m) (negsuc n) h = ap negsuc (omega (arith, eqb→eq (suc m * 1 * 1) (suc n * 1 * 1) (and_l _ true h)))
 
 pub finite_integer : (z : ℤ) → float_is_finite (integer z) ≡ true
@@ -70,7 +69,6 @@ module _ (f g : Form) (a b : ℤ) (at : f ≡ Integer a) (by : g ≡ Integer b) 
       (λ t. T_from_true _ (eq-eqb (of_z w128 a) (of_z w128 b) (ap (of_z w128) (integers_equal a b t)))))
 
 -- an integer and a double
-pub mixed : (f g : Form) (n : ℤ) (x : Float) (o : Ordering) → f ≡ Integer n → g ≡ Double x → is_exact f ≡ true
+pub mixed : {f g : Form} {n : ℤ} {x : Float} (o : Ordering) → f ≡ Integer n → g ≡ Double x → is_exact f ≡ true
     → IsOrder (integer (to_z w128 (of_z w128 n))) x o → IsTold (held_number f) (held_number g) o
-mixed f g n x o at by exact h =
-    rw (at, by) (told (integer n) x o (subst (λ z. IsOrder (integer z) x o) (to_z-of_z (in_range n (sym (ap is_exact at) ∙ exact))) h))
+mixed {n = n} {x = x} o at by exact h = rw (at, by) (told (integer n) x o (subst (λ z. IsOrder (integer z) x o) (to_z-of_z (in_range n (sym (ap is_exact at) ∙ exact))) h))

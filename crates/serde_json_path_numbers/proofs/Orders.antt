@@ -1,5 +1,5 @@
 -- An integer and a double, by the double's whole part and fraction.
-use Rattle.std.proofs.Common.{◌≡◌, ℕ, suc, ◌-◌, ◌*◌, ◌/◌, ◌^◌, ◌<◌, ◌≤◌, true, false, T, refl, sym, ap, ◌∙◌, arith, ltb-true, lt-ltb, le-ltb, nat_cmp, div-lt_iff_lt-mul, le-div_iff_mul-le, div-mul-le_self, suc-mul, ne_eqb, eq-zero-or-pos, pos_of_ne-zero, inl, inr}
+use Rattle.std.proofs.Common.{◌≡◌, ℕ, suc, ◌-◌, ◌*◌, ◌/◌, ◌^◌, ◌<◌, ◌≤◌, true, false, T, refl, sym, ap, ◌∙◌, arith, ltb-true, lt-ltb, le-ltb, nat_cmp, Ordering, div-lt_iff_lt-mul, le-div_iff_mul-le, div-mul-le_self, suc-mul, ne_eqb, eq-zero-or-pos, pos_of_ne-zero, inl, inr}
 use Rattle.std.specs.Prelude.{pos}
 use Rattle.std.specs.Float.{trunc, float_is_finite, minus_one, two_to}
 use Rattle.std.specs.Float.Ieee.{Float, binary64, fits, lt, le, to_unsigned, of_bits, is_nan}
@@ -34,15 +34,13 @@ over_64_bits n x h k =
     sure _ (lt_of_lt_of_le (integer (pos n)) (two_to 64) x (T_from_true _ less) (T_from_true _ (sym (ap (λ y. le y x) two_to_64_is) ∙ k)))
 
 -- what has a whole part of 64 bits
-pub within : (x : Float) → float_is_finite x ≡ true → lt x (of_bits binary64 0) ≡ false → le (of_bits binary64 0x43f0_0000_0000_0000) x ≡ false
-    → T (lt minus_one x) × T (lt x (two_to 64))
+pub above_minus_one : (x : Float) → float_is_finite x ≡ true → lt x (of_bits binary64 0) ≡ false → T (lt minus_one x)
 unfolding is_nan lt
-within x f h k =
-    let some = number x f in
-    let from : T (le (integer (pos 0)) x) = le_of_not-lt x (integer (pos 0)) some tt (T_from_false _ (sym (ap (lt x) zero_is) ∙ h)) in (
-      lt_of_lt_of_le minus_one (integer (pos 0)) x tt from,
-      lt_of_not-le (two_to 64) x tt some (T_from_false _ (sym (ap (λ y. le y x) two_to_64_is) ∙ k)),
-    )
+above_minus_one x f h = lt_of_lt_of_le minus_one (integer (pos 0)) x tt (le_of_not-lt x (integer (pos 0)) (number x f) tt (T_from_false _ (sym (ap (lt x) zero_is) ∙ h)))
+
+pub below_64_bits : (x : Float) → float_is_finite x ≡ true → le (of_bits binary64 0x43f0_0000_0000_0000) x ≡ false → T (lt x (two_to 64))
+unfolding is_nan
+below_64_bits x f k = lt_of_not-le (two_to 64) x tt (number x f) (T_from_false _ (sym (ap (λ y. le y x) two_to_64_is) ∙ k))
 
 -- how integers compare with x, by its whole part and its fraction
 record IsSplit (x : Float) (w : ℕ) : Type 0 where
@@ -69,15 +67,15 @@ module _ (n : ℕ) (x : Float) (f : float_is_finite x ≡ true) (h : fits binary
   split : IsSplit x w
   split =
       let r = ratio x f (T_from_true _ h) (sym (ap (lt x) zero_is) ∙ k) in
-      rw is_whole (by_ratio x r.0 r.1 r.2 (within x f k b).1)
+      rw is_whole (by_ratio x r.0 r.1 r.2 (below_64_bits x f b))
 
   -- the order by whole parts that differ
-  pub by_whole : (n ≡ w → ⊥) → IsOrder (integer (pos n)) x (nat_cmp n w)
-  by_whole apart =
-      elim (eq-zero-or-pos (w - n)) [
+  pub by_whole : (o : Ordering) → o ≡ nat_cmp n w → (n ≡ w → ⊥) → IsOrder (integer (pos n)) x o
+  by_whole o e apart =
+      rw e (elim (eq-zero-or-pos (w - n)) [
         | inl z ↦ rw (le-ltb n w (omega arith), ne_eqb n w apart) (split.greater n (omega (arith, pos_of_ne-zero {n = n - w} (λ e. apart (omega arith)))))
         | inr p ↦ rw (lt-ltb n w (omega arith)) (split.less n (omega arith))
-      ]
+      ])
 
   -- and by the fraction, where they are equal
   module _ (e : n ≡ w) (t : Float) (is_trunc : t ≡ trunc binary64 x) where
@@ -90,3 +88,5 @@ module _ (n : ℕ) (x : Float) (f : float_is_finite x ≡ true) (h : fits binary
     pub without_fraction : lt t x ≡ false → AreEqualNumbers (integer (pos n)) x
     unfolding is_nan
     without_fraction l = level (integer (pos n)) x tt (number x f) (as_fraction ∙ l) (ap (λ k. lt x (integer (pos k))) e ∙ split.not_greater)
+
+pub ruleset of_natural = (under_zero, over_64_bits, above_minus_one, below_64_bits, by_whole, by_fraction, without_fraction)

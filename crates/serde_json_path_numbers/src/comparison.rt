@@ -13,6 +13,7 @@ const TWO_TO_64: f64 = 18446744073709551616.0;
 
 /// How an integer without a sign compares with a double: by the double's whole part, and where these are equal by
 /// whether the double has a fraction.
+#[tactic(auto, using(crate::proofs::Orders::of_natural))]
 fn compare_natural(n: u64, x: f64) -> Ordering
     requires { float_is_finite x ≡ true }
     ensures { IsOrder (integer (pos n)) x result }
@@ -35,6 +36,7 @@ fn compare_natural(n: u64, x: f64) -> Ordering
 }
 
 /// How an integer compares with a double.
+#[tactic(auto, using(crate::proofs::Floats::finite_negated))]
 pub(crate) fn compare(n: i128, x: f64) -> Ordering
     requires range { unsigned_abs n < 2 ^ 64 }
     requires finite { float_is_finite x ≡ true }

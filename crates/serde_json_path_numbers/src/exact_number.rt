@@ -68,6 +68,7 @@ impl ExactNumber {
 
     /// Whether the two are the same number.
     #[inline]
+    #[tactic(auto, using(crate::proofs::Forms::equal_integers))]
     pub fn is_equal(self, other: ExactNumber) -> bool
         ensures { result ≡ eq (exact_view self) (exact_view other) }
     {
@@ -81,6 +82,7 @@ impl ExactNumber {
 
     /// Whether this number is less than the other.
     #[inline]
+    #[tactic(auto, using(crate::proofs::Forms::less_integers))]
     pub fn is_less(self, other: ExactNumber) -> bool
         ensures { result ≡ lt (exact_view self) (exact_view other) }
     {

@@ -70,6 +70,7 @@ fn write_digits(text: &mut [u8], number: u128)
 
 /// The double nearest to so many billionths, with that sign; of two that are as near, the one with an even last digit.
 #[inline(never)]
+#[tactic(auto, using(crate::proofs::Digits::nearest_written))]
 pub(crate) fn nearest_double(negative: bool, size: u128) -> f64
     requires { size < 2 ^ 64 * 1000000000 }
     ensures { result ≡ nearest_to_decimal binary64 negative size (negsuc 8) }

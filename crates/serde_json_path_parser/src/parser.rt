@@ -41,6 +41,7 @@ use std::alloc::Global;
 /// let mut source = TextSource::new("$..book[-1:].title");
 /// let checked = parse(alloc, &mut source, &Builtin)?;
 /// ```
+#[tactic(auto, using(crate::proofs::Grammar::Paths::of_parses))]
 pub fn parse<S: PathSource, F: Functions>(
     alloc: Global,
     source: &mut S,

@@ -1,12 +1,11 @@
 -- Equality of parts, of any kind and one by one.
-use Rattle.std.proofs.Common.{◌≡◌, ◌≢◌, ◌≤◌, ◌⊎◌, suc, List, [], ◌∷◌, length, Bool, true, false, ◌&&◌, inl, inr, refl, sym, ap, ◌∙◌, arith}
+use Rattle.std.proofs.Common.{◌≡◌, ◌≢◌, ◌≤◌, ◌⊎◌, suc, List, [], ◌∷◌, length, Bool, true, false, ◌&&◌, refl, sym, ap, ◌∙◌, arith}
 use Rattle.std.specs.Cmp.Lexicographic.{pointwise}
 use Rattle.serde_json_path_syntax.specs.Flat.{piece_in, pieces_named, ands_in, arguments_in, call_in, comparable_in, or_in, ors_in, query_in, segments_in, selectors_in}
 use Rattle.serde_json_path_syntax.specs.PartBounds.{parts_bound}
 use Rattle.serde_json_path_syntax.specs.Piece.{Piece, a_query, a_segment, a_selector, an_or, an_and, a_basic, a_comparable, a_call, an_argument}
 use Rattle.serde_json_path_syntax.specs.SameTree.{same_piece, same_and, same_arguments, same_call, same_comparable, same_or, same_query, same_segments, same_selectors}
 use Rattle.serde_json_path_syntax.specs.declared.node.Part.{Part}
-use Rattle.std.proofs.lemmas.Bool.{and_parts}
 use Rattle.serde_json_path_syntax.proofs.Tree.NamedParts.{query_of_singular}
 use Rattle.serde_json_path_syntax.specs.Kinds.{each_is, is_and, is_argument, is_basic, is_call, is_comparable, is_or, is_query, is_segment, is_selector}
 
@@ -44,10 +43,8 @@ module _ (ps qs : List Piece) where
     -- none is left
     pub none_left : (xs ys : List Part) → (length xs ≡ 0) ⊎ (length ys ≡ 0) → AreLeft lefts rights xs ys → same_named lefts rights ≡ true
     none_left [] [] over known = sym known.same
-    none_left [] (q ∷ ys) over known = let lengths = known.lengths in absurd (omega arith)
-    none_left (p ∷ xs) [] over known = let lengths = known.lengths in absurd (omega arith)
-    none_left (p ∷ xs) (q ∷ ys) (inl h) known = absurd (omega (arith, h))
-    none_left (p ∷ xs) (q ∷ ys) (inr h) known = absurd (omega (arith, h))
+    none_left (p ∷ xs) (q ∷ ys) over known = absurd (grind (arith, over))
+    none_left _ _ over known = let lengths = known.lengths in absurd (omega arith)
 
 -- ---- one
 
@@ -69,56 +66,33 @@ call_same _ _ h g = absurd cc
 
 -- ---- many
 
--- E compares two lists of pieces of a kind one by one
-record IsListed (is : Piece → Bool) (E : List Piece → List Piece → Bool) : Type 0 where
-  ended : E [] [] ≡ true
-  shorter : (q : Piece) (ys : List Piece) → E [] (q ∷ ys) ≡ false
-  longer : (p : Piece) (xs : List Piece) → E (p ∷ xs) [] ≡ false
-  more : (p q : Piece) (xs ys : List Piece) → is p ≡ true → is q ≡ true → E (p ∷ xs) (q ∷ ys) ≡ (same_piece p q && E xs ys)
-
-listed : {is : Piece → Bool} {E : List Piece → List Piece → Bool} → IsListed is E → (xs ys : List Piece) → each_is is xs ≡ true → each_is is ys ≡ true → pointwise same_piece xs ys ≡ E xs ys
-listed laws [] [] h g = sym laws.ended
-listed laws [] (q ∷ ys) h g = sym (laws.shorter q ys)
-listed laws (p ∷ xs) [] h g = sym (laws.longer p xs)
-listed {is} laws (p ∷ xs) (q ∷ ys) h g =
-    let left = and_parts (is p) (each_is is xs) h in
-    let right = and_parts (is q) (each_is is ys) g in
-    ap (λ b. same_piece p q && b) (listed laws xs ys left.1 right.1) ∙ sym (laws.more p q xs ys left.0 right.0)
-
 pub segments_same : (xs ys : List Piece) → each_is is_segment xs ≡ true → each_is is_segment ys ≡ true → pointwise same_piece xs ys ≡ same_segments (segments_in xs) (segments_in ys)
-segments_same = listed (record { ended = refl; shorter = λ q ys. refl; longer = λ p xs. refl; more = more })
-  where
-    more : (p q : Piece) (xs ys : List Piece) → is_segment p ≡ true → is_segment q ≡ true → same_segments (segments_in (p ∷ xs)) (segments_in (q ∷ ys)) ≡ (same_piece p q && same_segments (segments_in xs) (segments_in ys))
-    more (a_segment k s) (a_segment l t) xs ys h g = refl
-    more _ _ xs ys h g = absurd cc
+segments_same [] [] h g = refl
+segments_same (a_segment k s ∷ xs) (a_segment l t ∷ ys) h g = ap (λ rest. same_piece (a_segment k s) (a_segment l t) && rest) (segments_same xs ys h g)
+segments_same _ _ h g = cc
 
 pub selectors_same : (xs ys : List Piece) → each_is is_selector xs ≡ true → each_is is_selector ys ≡ true → pointwise same_piece xs ys ≡ same_selectors (selectors_in xs) (selectors_in ys)
-selectors_same = listed (record { ended = refl; shorter = λ q ys. refl; longer = λ p xs. refl; more = more })
-  where
-    more : (p q : Piece) (xs ys : List Piece) → is_selector p ≡ true → is_selector q ≡ true → same_selectors (selectors_in (p ∷ xs)) (selectors_in (q ∷ ys)) ≡ (same_piece p q && same_selectors (selectors_in xs) (selectors_in ys))
-    more (a_selector s) (a_selector t) xs ys h g = refl
-    more _ _ xs ys h g = absurd cc
+selectors_same [] [] h g = refl
+selectors_same (a_selector s ∷ xs) (a_selector t ∷ ys) h g = ap (λ rest. same_piece (a_selector s) (a_selector t) && rest) (selectors_same xs ys h g)
+selectors_same _ _ h g = cc
 
 pub ors_same : (xs ys : List Piece) → each_is is_and xs ≡ true → each_is is_and ys ≡ true → pointwise same_piece xs ys ≡ same_or (ors_in xs) (ors_in ys)
-ors_same = listed (record { ended = refl; shorter = λ q ys. refl; longer = λ p xs. refl; more = more })
-  where
-    more : (p q : Piece) (xs ys : List Piece) → is_and p ≡ true → is_and q ≡ true → same_or (ors_in (p ∷ xs)) (ors_in (q ∷ ys)) ≡ (same_piece p q && same_or (ors_in xs) (ors_in ys))
-    more (an_and a) (an_and b) xs ys h g = refl
-    more _ _ xs ys h g = absurd cc
+ors_same [] [] h g = refl
+ors_same (an_and a ∷ xs) (an_and b ∷ ys) h g = ap (λ rest. same_piece (an_and a) (an_and b) && rest) (ors_same xs ys h g)
+ors_same _ _ h g = cc
 
 pub ands_same : (xs ys : List Piece) → each_is is_basic xs ≡ true → each_is is_basic ys ≡ true → pointwise same_piece xs ys ≡ same_and (ands_in xs) (ands_in ys)
-ands_same = listed (record { ended = refl; shorter = λ q ys. refl; longer = λ p xs. refl; more = more })
-  where
-    more : (p q : Piece) (xs ys : List Piece) → is_basic p ≡ true → is_basic q ≡ true → same_and (ands_in (p ∷ xs)) (ands_in (q ∷ ys)) ≡ (same_piece p q && same_and (ands_in xs) (ands_in ys))
-    more (a_basic a) (a_basic b) xs ys h g = refl
-    more _ _ xs ys h g = absurd cc
+ands_same [] [] h g = refl
+ands_same (a_basic a ∷ xs) (a_basic b ∷ ys) h g = ap (λ rest. same_piece (a_basic a) (a_basic b) && rest) (ands_same xs ys h g)
+ands_same _ _ h g = cc
 
 pub arguments_same : (xs ys : List Piece) → each_is is_argument xs ≡ true → each_is is_argument ys ≡ true → pointwise same_piece xs ys ≡ same_arguments (arguments_in xs) (arguments_in ys)
-arguments_same = listed (record { ended = refl; shorter = λ q ys. refl; longer = λ p xs. refl; more = more })
-  where
-    more : (p q : Piece) (xs ys : List Piece) → is_argument p ≡ true → is_argument q ≡ true → same_arguments (arguments_in (p ∷ xs)) (arguments_in (q ∷ ys)) ≡ (same_piece p q && same_arguments (arguments_in xs) (arguments_in ys))
-    more (an_argument a) (an_argument b) xs ys h g = refl
-    more _ _ xs ys h g = absurd cc
+arguments_same [] [] h g = refl
+arguments_same (an_argument a ∷ xs) (an_argument b ∷ ys) h g = ap (λ rest. same_piece (an_argument a) (an_argument b) && rest) (arguments_same xs ys h g)
+arguments_same _ _ h g = cc
+
+-- what the parts that are left are the same by
+pub ruleset of_parts = (uneven, all_left, unlike_next, none_left)
 
 -- what the trees of pieces are the same by
 pub ruleset of_kinds = (query_of_singular, query_same, or_same, comparable_same, call_same, segments_same, selectors_same, ors_same, ands_same, arguments_same)

@@ -3,15 +3,17 @@ use Rattle.std.proofs.Common.{◌≡◌, ◌≢◌, ◌∙◌, ℕ, zero, suc, �
 use lib.Signed.{lt_z}
 use Rattle.std.proofs.Math.IntN.{nat_abs}
 use Rattle.std.proofs.lemmas.Int.{ints}
-use Rattle.std.specs.Fmt.{decimal}
+use Rattle.std.specs.Fmt.{decimal, HasWritten, IsPlainFormatter}
+use Rattle.std.specs.declared.fmt.Formatter.{Formatter}
 use Rattle.serde_json_path_syntax.specs.Text.{amount_text, fraction_digits, number_text, query_text, joined, piece_text, and_text, and_texts, argument_text, argument_texts, basic_text, basic_texts, call_text, comparable_text, or_text, segment_text, segments_text, selector_text, selector_texts}
 use Rattle.std.specs.Prelude.{codes}
+use Rattle.std.proofs.Output.{has_written_append, has_written_of_eq}
 use Rattle.std.proofs.Math.Seq.{take-suc}
 use Rattle.std.proofs.Math.Numerals.{add-one}
 use Rattle.std.proofs.lemmas.Grind.{flat_map-append}
 use Rattle.std.proofs.lemmas.List.{map-append, take_all}
 use Rattle.std.specs.List.{flat_map}
-use Rattle.serde_json_path_syntax.proofs.Tree.NamedParts.{others, others-cons, query_of_singular}
+use Rattle.serde_json_path_syntax.proofs.Tree.NamedParts.{one_is, others, others-bound, others-cons, others_are, query_of_singular, within_get}
 use Rattle.serde_json_path_syntax.specs.Flat.{piece_in, pieces_named, ands_in, arguments_in, call_in, comparable_in, or_in, ors_in, query_in, segments_in, selectors_in}
 use Rattle.serde_json_path_syntax.specs.Piece.{Piece, a_query, a_segment, a_selector, an_or, an_and, a_basic, a_comparable, a_call, an_argument}
 use Rattle.serde_json_path_syntax.specs.declared.node.Part.{Part}
@@ -63,6 +65,18 @@ module _ (separator : List ℕ) (ps : List Piece) where
       sym (map-append text_of (take i parts) (get_or parts i d ∷ [])) ∙ ap (map text_of) (sym (take-suc parts i d h) ∙ ap (λ n. take n parts) (sym (add-one i))) in
       ap (λ t. begun parts i ++ t) (sym (append-nil (separator ++ x))) ∙ sym (flat_map-append separated texts (x ∷ [])) ∙ ap (flat_map separated) more
 
+  -- one more is printed
+  pub printed_more : {W : Type 0} (took : W → List ℕ → W → Type 0) (f g h : Formatter W) (parts : List Part) (i : ℕ) (d : Part) → i < length parts
+      → HasWritten took f (begun parts i) g → HasWritten took g (separator ++ text_of (get_or parts i d)) h
+      → HasWritten took f (begun parts (i + 1)) h
+  printed_more took f g h parts i d within wrote next = has_written_of_eq _ _ _ _ _ (begun_more parts i d within) (has_written_append _ _ _ _ _ _ wrote next)
+
+  -- the same, where the separator is printed by itself
+  pub printed_apart : {W : Type 0} (took : W → List ℕ → W → Type 0) (f g h k : Formatter W) (parts : List Part) (i : ℕ) (d : Part) → i < length parts
+      → HasWritten took f (begun parts i) g → HasWritten took g separator h → HasWritten took h (text_of (get_or parts i d)) k
+      → HasWritten took f (begun parts (i + 1)) k
+  printed_apart took f g h k parts i d within wrote between next = printed_more took f g k parts i d within wrote (has_written_append _ _ _ _ _ _ between next)
+
   listed : (parts : List Part) → map text_of parts ≡ map piece_text (pieces_named ps parts)
   listed [] = refl
   listed (part ∷ parts) = ap (λ ts. text_of part ∷ ts) (listed parts)
@@ -73,6 +87,17 @@ module _ (separator : List ℕ) (ps : List Piece) where
   begun_whole (part ∷ parts) d i some all =
       ap (λ xs. text_of part ++ flat_map (λ t. separator ++ t) (map text_of xs)) (take_all i (others (part ∷ parts)) all ∙ others-cons part parts)
       ∙ ap (λ ts. text_of part ++ flat_map (λ t. separator ++ t) ts) (listed parts)
+
+  -- all are printed, after a text before the first
+  pub all_printed : {W : Type 0} (took : W → List ℕ → W → Type 0) (f g h : Formatter W) (start : List ℕ) (parts : List Part) (d : Part) (i : ℕ)
+      → 1 ≤ length parts → length (others parts) ≤ i → HasWritten took f (start ++ text_of (get_or parts 0 d)) g → HasWritten took g (begun (others parts) i) h
+      → HasWritten took f (start ++ joined separator (map piece_text (pieces_named ps parts))) h
+  all_printed took f g h start parts d i some all first rest =
+      has_written_of_eq _ _ _ _ _ (append_assoc start _ _ ∙ ap (λ t. start ++ t) (begun_whole parts d i some all)) (has_written_append _ _ _ _ _ _ first rest)
+
+-- before anything is printed
+pub nothing_printed : {W : Type 0} (took : W → List ℕ → W → Type 0) (f : Formatter W) → IsPlainFormatter f → HasWritten took f [] f
+nothing_printed took f plain = record { wrote = record { parts = []; calls = refl; whole = refl }; plain = plain }
 
 -- ---- one
 
@@ -95,40 +120,38 @@ text_of_call _ h = absurd cc
 -- ---- many
 
 more_segments : (ps : List Piece) → each_is is_segment ps ≡ true → flat_map (λ t. [] ++ t) (map piece_text ps) ≡ segments_text (segments_in ps)
-more_segments [] h = refl
 more_segments (a_segment kind seg ∷ ps) h = ap (λ t. segment_text seg kind ++ t) (more_segments ps h)
-more_segments (_ ∷ ps) h = absurd cc
+more_segments _ h = cc
 
 pub text_of_segments : (ps : List Piece) → each_is is_segment ps ≡ true → joined [] (map piece_text ps) ≡ segments_text (segments_in ps)
 text_of_segments [] h = refl
 text_of_segments (p ∷ ps) h = more_segments (p ∷ ps) h
 
 pub texts_of_selectors : (ps : List Piece) → each_is is_selector ps ≡ true → map piece_text ps ≡ selector_texts (selectors_in ps)
-texts_of_selectors [] h = refl
 texts_of_selectors (a_selector sel ∷ ps) h = ap (λ ts. selector_text sel ∷ ts) (texts_of_selectors ps h)
-texts_of_selectors (_ ∷ ps) h = absurd cc
+texts_of_selectors _ h = cc
 
 texts_of_ands : (ps : List Piece) → each_is is_and ps ≡ true → map piece_text ps ≡ and_texts (ors_in ps)
-texts_of_ands [] h = refl
 texts_of_ands (an_and e ∷ ps) h = ap (λ ts. and_text e ∷ ts) (texts_of_ands ps h)
-texts_of_ands (_ ∷ ps) h = absurd cc
+texts_of_ands _ h = cc
 
 pub text_of_ands : (ps : List Piece) → each_is is_and ps ≡ true → joined (codes " || ") (map piece_text ps) ≡ or_text (ors_in ps)
 text_of_ands [] h = refl
 text_of_ands (p ∷ ps) h = ap (joined (codes " || ")) (texts_of_ands (p ∷ ps) h)
 
 texts_of_basics : (ps : List Piece) → each_is is_basic ps ≡ true → map piece_text ps ≡ basic_texts (ands_in ps)
-texts_of_basics [] h = refl
 texts_of_basics (a_basic b ∷ ps) h = ap (λ ts. basic_text b ∷ ts) (texts_of_basics ps h)
-texts_of_basics (_ ∷ ps) h = absurd cc
+texts_of_basics _ h = cc
 
 pub text_of_basics : (ps : List Piece) → each_is is_basic ps ≡ true → joined (codes " && ") (map piece_text ps) ≡ and_text (ands_in ps)
 text_of_basics [] h = refl
 text_of_basics (p ∷ ps) h = ap (joined (codes " && ")) (texts_of_basics (p ∷ ps) h)
 
 pub texts_of_arguments : (ps : List Piece) → each_is is_argument ps ≡ true → map piece_text ps ≡ argument_texts (arguments_in ps)
-texts_of_arguments [] h = refl
 texts_of_arguments (an_argument a ∷ ps) h = ap (λ ts. argument_text a ∷ ts) (texts_of_arguments ps h)
-texts_of_arguments (_ ∷ ps) h = absurd cc
+texts_of_arguments _ h = cc
 
 pub ruleset of_kinds = (query_of_singular, text_of_query, text_of_or, text_of_comparable, text_of_call, text_of_segments, texts_of_selectors, text_of_ands, text_of_basics, texts_of_arguments)
+
+-- several parts, one after another
+pub ruleset of_parts = (nothing_printed, printed_more, printed_apart, all_printed, text_of_segments, one_is, others-bound, others_are, within_get)

@@ -51,6 +51,7 @@ impl Arena {
     }
 
     /// A copy of the nodes. An error comes only where memory is refused.
+    #[tactic(auto, using(crate::proofs::Tree::Growing::of_copies))]
     pub(crate) fn try_clone(&self, alloc: Global) -> Result<Arena, AllocError>
         ensures pieces { IfOk result (λ copy.
             pieces copy.nodes.items ≡ pieces self.now.nodes.items) }

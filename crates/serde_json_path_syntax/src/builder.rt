@@ -51,6 +51,7 @@ impl SyntaxBuilder {
 
     /// Appends a node whose children already exist.
     #[inline(always)]
+    #[tactic(auto, using(crate::proofs::Tree::Growing::of_push))]
     fn push(&mut self, node: Node) -> Result<Part, AllocError>
         requires below { NamesBelow (length self.old.arena.nodes.items) node }
         requires fits { fits (pieces self.old.arena.nodes.items) node ≡ true }

@@ -8,6 +8,7 @@ use crate::node::{Argument, Comparable, Node, Segment, Selector};
 use std::alloc::{AllocError, Global};
 
 /// Copies of so many nodes, one by one, in a vector that takes its memory once.
+#[tactic(auto, using(std::proofs::lemmas::List::Elements::all_zip_more))]
 pub(crate) fn copies_of(nodes: &[Node], alloc: Global) -> Result<Vec<Node>, AllocError>
     ensures { IfOk result (λ copies. AreCopies nodes.now copies.items) }
 {

@@ -42,6 +42,7 @@ impl Eq for Checked {
 /// Whether parts are the same, one by one.
 #[cycle(comparing)]
 #[inline(always)]
+#[tactic(auto, using(crate::proofs::Equality::of_parts))]
 fn same_parts(mine: &Checked, lefts: &[Part], theirs: &Checked, rights: &[Part]) -> bool
     requires left_within { parts_bound lefts.now ≤ length (nodes_in mine.now) }
     requires right_within { parts_bound rights.now ≤ length (nodes_in theirs.now) }

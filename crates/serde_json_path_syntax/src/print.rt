@@ -33,6 +33,7 @@ impl fmt::Display for Checked {
 /// Writes the sign of a query, and its segments. The first segment takes the sign into its first write, since each
 /// write costs.
 #[cycle(printing)]
+#[tactic(auto, using(crate::proofs::Printing::of_parts))]
 fn write_path<W: Write>(
     f: &mut Formatter<W>,
     tree: &Checked,
@@ -94,6 +95,7 @@ fn write_segment<W: Write>(
 
 /// Writes an opening bracket and the selectors after it.
 #[cycle(printing)]
+#[tactic(auto, using(crate::proofs::Printing::of_parts))]
 #[inline(always)]
 fn write_selectors<W: Write>(
     f: &mut Formatter<W>,
@@ -193,6 +195,7 @@ fn write_part<W: Write>(f: &mut Formatter<W>, tree: &Checked, part: Part) -> fmt
 
 /// Writes parts, with a separator between each two.
 #[cycle(printing)]
+#[tactic(auto, using(crate::proofs::Printing::of_parts))]
 #[inline(always)]
 fn write_joined<W: Write>(
     f: &mut Formatter<W>,

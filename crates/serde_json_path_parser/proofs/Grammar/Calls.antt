@@ -56,11 +56,10 @@ pub amount_whole : (amount whole : ℤ) → amount ≡ (whole *ℤ pos 100000000
 amount_whole (pos m) (pos w) e =
     let same : m ≡ w * 1000000000 = omega (arith, ints, e) in
     eq-eqb (m % 1000000000) 0 (ap (λ (k : ℕ). k % 1000000000) same ∙ mul-mod_left w 1000000000)
-amount_whole (pos m) (negsuc w) e = absurd (omega (arith, ints, e))
-amount_whole (negsuc m) (pos w) e = absurd (omega (arith, ints, e))
 amount_whole (negsuc m) (negsuc w) e =
     let same : m + 1 ≡ (w + 1) * 1000000000 = omega (arith, ints, e) in
     eq-eqb ((m + 1) % 1000000000) 0 (ap (λ (k : ℕ). k % 1000000000) same ∙ mul-mod_left (w + 1) 1000000000)
+amount_whole _ _ e = absurd (omega (arith, ints, e))
 
 pub typed_fits : (signature : List ℕ → Option Signature) (a : Argument) (kind : Kind) → IsTypedArgument signature a kind → fits signature a kind ≡ true
 typed_fits signature (literal_argument (number amount)) of_value h = amount_whole amount h.0 h.1

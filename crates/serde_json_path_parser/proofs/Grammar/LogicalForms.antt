@@ -10,7 +10,7 @@ use Rattle.serde_json_path_parser.proofs.Words.{ReadArguments, byte_count, Opera
 use Rattle.serde_json_path_parser.proofs.Words.{Deeper, Comparable, IsTypedComparable, IsTypedAnd, ReadsAnd, IsTypedBasic, ReadsComparable}
 use Rattle.serde_json_path_parser.proofs.Words.{comparable_depth, basic_depth, LogicalAnd, ReadsBasic, Basic, and_depth, root, current, no_or, or}
 use Rattle.serde_json_path_parser.proofs.Words.{no_and, and, paren, relation, exist, test, literal, singular, called}
-use Rattle.serde_json_path_parser.proofs.Words.{Literal, text, number, truth, null, is_blank, is_digit, is_small_letter}
+use Rattle.serde_json_path_parser.proofs.Words.{Literal, text, number, truth, is_blank, is_digit, is_small_letter}
 use Rattle.serde_json_path_parser.proofs.Reading.Outcomes.{Inner, Outcome, Past, remade, after_sign}
 use Rattle.serde_json_path_parser.proofs.Reading.Many.{Spaced}
 use Rattle.serde_json_path_parser.specs.Operands.{a_query}
@@ -200,8 +200,7 @@ literal_begins (text bytes) t rest h =
     ap (λ (x : List ℕ). begins begins_operand (x ++ rest)) s.3 ∙ of_quote (λ quote. begins_operand quote ≡ true) refl refl s.0 s.2
 literal_begins (number amount) t rest h = number_first begins_operand true t amount rest (λ c e. grind (arith, e)) h
 literal_begins (truth true) t rest h = ap (λ (x : List ℕ). begins begins_operand (x ++ rest)) h
-literal_begins (truth false) t rest h = ap (λ (x : List ℕ). begins begins_operand (x ++ rest)) h
-literal_begins null t rest h = ap (λ (x : List ℕ). begins begins_operand (x ++ rest)) h
+literal_begins _ t rest h = ap (λ (x : List ℕ). begins begins_operand (x ++ rest)) h
 
 query_begins : (q : Query) (t rest : List ℕ) → Reads q t → begins begins_operand (t ++ rest) ≡ true
 query_begins (query root segs) t rest h = ap (λ (x : List ℕ). begins begins_operand (x ++ rest)) h.2

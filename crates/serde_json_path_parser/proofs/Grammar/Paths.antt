@@ -298,3 +298,6 @@ module _ (signature : List ℕ → Option Signature) (text : List ℕ) (u : IsUt
         undefined = λ e. subst (λ (n : ℕ). IsUndeclared signature (chars (drop n text))) (sym cut) (k.undefined e);
         position = (omega arith, subst (IsCharBoundary text) (sym cut) k.placed.1);
       }
+
+-- what a parse gives and reports
+pub ruleset of_parses = (too_long, parsed, refused, too_long_reported, parsed_reported, refused_reported, within)

@@ -5,7 +5,7 @@ use Rattle.serde_json_path_parser.proofs.Words.{past_word, literal_word_at, lite
 use Rattle.serde_json_path_parser.proofs.Words.{SyntaxBuilder, of_value, Signature, kind_view, WrongReturnType, begins_call, Deeper, named_call_at}
 use Rattle.serde_json_path_parser.proofs.Words.{named_at, negated_call_at, negated_at, IsOperandOf, a_call, is_result, ◌>>=◌, Basic, ◌==◌}
 use Rattle.serde_json_path_parser.proofs.Words.{filter, is_at, begins, byte_count, selector_at, or_at, call_at, level, ◌↔◌, IsTrue, calls_in_operand}
-use Rattle.serde_json_path_parser.proofs.Words.{calls_in_argument, alone, is_singular, is_whole, is_value_literal, text, number, truth, null}
+use Rattle.serde_json_path_parser.proofs.Words.{calls_in_argument, alone, is_singular, is_whole, is_value_literal, number}
 use Rattle.serde_json_path_parser.proofs.Words.{IsValueLiteral, Query, IsSingular}
 use Rattle.serde_json_path_parser.specs.declared.error.Context.TheVariants as context
 use denote.Enum.Bare.{sameb}
@@ -17,7 +17,6 @@ use Rattle.serde_json_path_parser.specs.declared.parser.operand.Operand.TheVaria
 use Rattle.serde_json_path_parser.specs.Filters.{filter_at}
 use Rattle.serde_json_path_parser.proofs.Reading.Runs.{begins_differs}
 use Rattle.std.proofs.lemmas.Bool.Decides.{same_from_decides}
-use Rattle.serde_json_path_parser.specs.Operands.{a_query}
 use Rattle.serde_json_path_parser.proofs.Grammar.Calls.{amount_whole, whole_amount}
 use Rattle.serde_json_path_parser.proofs.Grammar.LogicalForms.{singular_query}
 use Rattle.serde_json_path_syntax.proofs.Tree.NamedParts.{query_singular}
@@ -56,8 +55,7 @@ module _ (signature : List ℕ → Option Signature) (deeper : Deeper) where
 -- whether a result is a value
 pub value_kind : (kind : FunctionArgType) → is_result of_value (Some (kind_view kind)) ≡ sameb the_type kind kinds.Value
 value_kind kinds.Value = refl
-value_kind kinds.Nodelist = refl
-value_kind kinds.Logical = refl
+value_kind _ = refl
 
 -- ---- a name after `!`
 
@@ -94,8 +92,7 @@ module _ (signature : List ℕ → Option Signature) (cs : List ℕ) where
 
 pub alone_calls : (x : Operand) → calls_in_operand x ≡ calls_in_argument (alone x)
 alone_calls (a_literal l) = refl
-alone_calls (a_query q) = refl
-alone_calls (a_call c) = refl
+alone_calls _ = refl
 
 -- a test that says whether a query is a singular one
 pub singular_by : (b : Bool) (q : Query) → IsTrue b ↔ IsSingular q → is_singular q ≡ b
@@ -104,6 +101,4 @@ singular_by b q h = same_from_decides (is_singular q) b (singular_query q, query
 -- a test that says whether a literal is one for a parameter of values
 pub value_by : (b : Bool) (l : Literal) → IsTrue b ↔ IsValueLiteral l → b ≡ is_value_literal l
 value_by b (number amount) h = same_from_decides b (is_whole amount) h (whole_amount amount, λ w. amount_whole amount w.0 w.1)
-value_by b (text t) h = h.1 tt
-value_by b (truth v) h = h.1 tt
-value_by b null h = h.1 tt
+value_by b _ h = h.1 tt

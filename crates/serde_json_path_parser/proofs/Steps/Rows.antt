@@ -85,8 +85,7 @@ module _ (signature : List ℕ → Option Signature) (begun grown whole : Syntax
 pub none_for_none : (builder : SyntaxBuilder) (parts : List Part) (ss : List (SegmentKind × Segment)) → ArePartsOf builder parts (segment_list ss) → parts ≡ [] ↔ ss ≡ []
 none_for_none builder [] [] h = ((λ none. refl), (λ none. refl))
 none_for_none builder (part ∷ parts) (s ∷ ss) h = ((λ none. absurd cc), (λ none. absurd cc))
-none_for_none builder [] (s ∷ ss) h = absurd h
-none_for_none builder (part ∷ parts) [] h = absurd h
+none_for_none builder _ _ h = absurd h
 
 -- ---- what was made, where more is known of how the builder grew
 

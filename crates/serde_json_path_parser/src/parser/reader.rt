@@ -64,6 +64,7 @@ impl<'s, S: PathSource> Reader<'s, S> {
     }
 
     /// The byte that is next.
+    #[tactic(auto, using(crate::proofs::Texts::Decoding::ahead))]
     fn peek(&self) -> Option<u8>
         ensures { IsAhead result (left self.now) }
     {
@@ -170,6 +171,7 @@ impl<'s, S: PathSource> Reader<'s, S> {
     }
 
     /// The byte after the next one; the next one must be ASCII. It is looked at only once.
+    #[tactic(auto, using(crate::proofs::Texts::Decoding::ahead_second))]
     fn peek_second(&mut self) -> Option<u8>
         requires { is_ascii self.old.next ≡ true }
         ensures moves { Moves self.old self.new }

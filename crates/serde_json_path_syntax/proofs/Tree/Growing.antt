@@ -13,7 +13,7 @@ use Rattle.serde_json_path_syntax.specs.declared.node.Node.{Node}
 use Rattle.serde_json_path_syntax.specs.declared.node.Node.TheVariants as node
 use Rattle.serde_json_path_syntax.specs.declared.node.Segment.TheVariants.{LongHand}
 use Rattle.serde_json_path_syntax.specs.declared.node.Selector.TheVariants as one
-use Rattle.serde_json_path_syntax.specs.declared.node.Basic.TheVariants.{Paren, NotParen, Relation, Exist, NotExist, Test, NotTest}
+use Rattle.serde_json_path_syntax.specs.declared.node.Basic.TheVariants.{Relation}
 use Rattle.serde_json_path_syntax.specs.declared.node.Comparable.TheVariants as side
 use Rattle.serde_json_path_syntax.specs.declared.node.Argument.TheVariants as given_as
 use Rattle.serde_json_path_syntax.specs.declared.node.Part.{Part}
@@ -51,25 +51,12 @@ module _ (a b : List Piece) (bound : ℕ) (f : (i : ℕ) → i < bound → piece
   named (part ∷ parts) h = rw (f part.number (omega (arith, h)), named parts (omega (arith, h)))
 
   same : (n : Node) → NamesBelow bound n → seen a n ≡ seen b n
-  same (node.Query start parts) h = rw (named (parts_in parts) h)
   same (node.Segment kind (LongHand parts)) h = rw (named (parts_in parts) h)
   same (node.Selector (one.Filter part)) h = rw (f part.number (omega (arith, h)))
-  same (node.LogicalOr parts) h = rw (named (parts_in parts) h)
-  same (node.LogicalAnd parts) h = rw (named (parts_in parts) h)
-  same (node.Basic (Paren part)) h = rw (f part.number (omega (arith, h)))
-  same (node.Basic (NotParen part)) h = rw (f part.number (omega (arith, h)))
   same (node.Basic (Relation left operator right)) h = simp (f left.number (omega (arith, h)), f right.number (omega (arith, h)))
-  same (node.Basic (Exist part)) h = rw (f part.number (omega (arith, h)))
-  same (node.Basic (NotExist part)) h = rw (f part.number (omega (arith, h)))
-  same (node.Basic (Test part)) h = rw (f part.number (omega (arith, h)))
-  same (node.Basic (NotTest part)) h = rw (f part.number (omega (arith, h)))
   same (node.Comparable (side.Singular part)) h = rw (f part.number (omega (arith, h)))
-  same (node.Comparable (side.Called part)) h = rw (f part.number (omega (arith, h)))
-  same (node.Call k s parts) h = rw (named parts.items h)
   same (node.Argument (given_as.Query part)) h = rw (f part.number (omega (arith, h)))
-  same (node.Argument (given_as.Call part)) h = rw (f part.number (omega (arith, h)))
-  same (node.Argument (given_as.Logical part)) h = rw (f part.number (omega (arith, h)))
-  same _ h = refl
+  same _ h = grind (arith, f, named)
 
   same_piece : (n : Node) → NamesBelow bound n → piece_of a n ≡ piece_of b n
   same_piece n h = ap (λ s. s.0) (same n h)
@@ -189,9 +176,8 @@ fitting_pushed false old new n is grown fitting below fit = subst AreFitting (sy
 
 copies_from : (olds copies : List Node) → AreCopies olds copies → (earlier : List Piece) → pieces_from earlier copies ≡ pieces_from earlier olds
 copies_from [] [] h earlier = refl
-copies_from [] (copy ∷ copies) h earlier = absurd h
-copies_from (old ∷ olds) [] h earlier = absurd h
 copies_from (old ∷ olds) (copy ∷ copies) h earlier = rw (h.0.node.piece earlier, copies_from olds copies h.1 (earlier ++ piece_of earlier old ∷ []))
+copies_from _ _ h earlier = absurd h
 
 -- the same pieces
 pub copied_pieces : (olds copies : List Node) → AreCopies olds copies → pieces copies ≡ pieces olds
@@ -201,9 +187,8 @@ copied_pieces olds copies h = copies_from olds copies h []
 -- the same calls
 pub copied_calls : (olds copies : List Node) → AreCopies olds copies → calls_among copies ≡ calls_among olds
 copied_calls [] [] h = refl
-copied_calls [] (copy ∷ copies) h = absurd h
-copied_calls (old ∷ olds) [] h = absurd h
 copied_calls (old ∷ olds) (copy ∷ copies) h = rw (h.0.called, copied_calls olds copies h.1)
+copied_calls _ _ h = absurd h
 
 -- each names earlier ones, and such as its places want
 module _ (olds copies : List Node) (h : AreCopies olds copies) where
@@ -224,3 +209,8 @@ module _ (olds copies : List Node) (h : AreCopies olds copies) where
 pub same_query : (olds copies : List Node) → pieces copies ≡ pieces olds → (query : Option Part) → query_at copies query ≡ query_at olds query
 same_query olds copies e None = refl
 same_query olds copies e (Some part) = ap (λ ps. query_in (piece_in ps part.number)) e
+
+-- what a push that may be refused gives and keeps, and what copies keep
+pub ruleset of_push = (push_made, push_keeps, push_calls, push_silent)
+
+pub ruleset of_copies = (copied_pieces, copied_calls, copied_grown, copied_fitting, AllZip-long)

@@ -25,21 +25,15 @@ past_length i n e = search (rules, arith)
 -- ---- the bound of some parts' numbers
 
 -- each part's number is below the bound
-pub within_bound : (parts : List Part) (i : ℕ) (part : Part) → i < length parts → part ≡ get_or parts i part → part.number < parts_bound parts
-within_bound [] i part h e = omega (arith, h)
-within_bound (p ∷ parts) zero part h e =
-    let same : part.number ≡ p.number = ap (λ (x : Part). x.number) e in
-    omega arith
-within_bound (p ∷ parts) (suc i) part h e =
-    let later = within_bound parts i part (omega (arith, h)) e in
-    omega arith
-
 pub within_get : (parts : List Part) (i : ℕ) (d : Part) → i < length parts → (get_or parts i d).number < parts_bound parts
 within_get [] i d h = omega (arith, h)
 within_get (p ∷ parts) zero d h = omega arith
 within_get (p ∷ parts) (suc i) d h =
     let later = within_get parts i d (omega (arith, h)) in
     omega arith
+
+pub within_bound : (parts : List Part) (i : ℕ) (part : Part) → i < length parts → part ≡ get_or parts i part → part.number < parts_bound parts
+within_bound parts i part h e = subst (λ (p : Part). p.number < parts_bound parts) (sym e) (within_get parts i part h)
 
 -- ---- the parts after the first, and each of several parts
 
@@ -78,10 +72,7 @@ two_selectors ps (a ∷ b ∷ parts) two h = refused (selector_in (piece_in ps a
   where
     refused : (first second : Selector) (more : Selectors) → IsSingularSegment (long_hand (selector first (selector second more))) → ⊥
     refused (name k) second more h = h
-    refused wildcard second more h = h
-    refused (index i) second more h = h
-    refused (slice s) second more h = h
-    refused (filter e) second more h = h
+    refused _ second more h = h
 
 -- ---- parts that stand for pieces: their numbers are good, and what is made of them is made of those pieces
 
@@ -89,15 +80,12 @@ pub parts_below : (builder : SyntaxBuilder) (parts : List Part) (ps : List Piece
 parts_below builder [] ps h = omega arith
 parts_below builder (part ∷ parts) [] h = absurd h
 parts_below builder (part ∷ parts) (p ∷ ps) h =
-    let here = h.0.0 in
-    let later = parts_below builder parts ps h.1 in
-    omega arith
+    let later = parts_below builder parts ps h.1 in omega (arith, h.0.0)
 
 pub pieces_of_parts : (builder : SyntaxBuilder) (parts : List Part) (ps : List Piece) → ArePartsFor builder parts ps → pieces_named (pieces builder.arena.nodes.items) parts ≡ ps
 pieces_of_parts builder [] [] h = refl
-pieces_of_parts builder [] (p ∷ ps) h = absurd h
-pieces_of_parts builder (part ∷ parts) [] h = absurd h
 pieces_of_parts builder (part ∷ parts) (p ∷ ps) h = ap (λ piece. piece ∷ pieces_named (pieces builder.arena.nodes.items) parts) h.0.1 ∙ ap (λ more. p ∷ more) (pieces_of_parts builder parts ps h.1)
+pieces_of_parts builder _ _ h = absurd h
 
 -- ---- what is made of the pieces of trees, and their kinds
 
@@ -195,9 +183,8 @@ pub ruleset of_named_parts = (
 
 pub parts_for_kept : (old new : SyntaxBuilder) → KeepsTrees old new → (parts : List Part) (ps : List Piece) → ArePartsFor old parts ps → ArePartsFor new parts ps
 parts_for_kept old new keeps [] [] h = tt
-parts_for_kept old new keeps [] (p ∷ ps) h = absurd h
-parts_for_kept old new keeps (part ∷ parts) [] h = absurd h
 parts_for_kept old new keeps (part ∷ parts) (p ∷ ps) h = (keeps part p h.0, parts_for_kept old new keeps parts ps h.1)
+parts_for_kept old new keeps _ _ h = absurd h
 
 -- parts keep standing for their segments
 pub parts_kept : (old new : SyntaxBuilder) → KeepsTrees old new → (parts : List Part) (segs : tree.Segments) → ArePartsOf old parts segs → ArePartsOf new parts segs

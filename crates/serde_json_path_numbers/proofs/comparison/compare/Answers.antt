@@ -3,11 +3,8 @@ use Rattle.std.specs.Prelude.{◌≡◌, pos, int_lt, unsigned_abs}
 use Rattle.std.specs.Float.Ieee.{neg}
 use Rattle.serde_json_path_numbers.specs.Inside.{IsOrder}
 use Rattle.serde_json_path_numbers.specs.Numbers.{integer}
-use Rattle.serde_json_path_numbers.proofs.Floats.{finite_negated, negative_order}
+use Rattle.serde_json_path_numbers.proofs.Floats.{negative_order}
 use Rattle.serde_json_path_numbers.proofs.comparison.compare.Goals as goal
-
-pub compare_natural-requires : goal.compare_natural-requires
-compare_natural-requires c = finite_negated c.args.x c.requires.finite
 
 pub returns-then-n-lt0 : goal.returns-then-n-lt0
 returns-then-n-lt0 c =

@@ -1,35 +1,15 @@
 use Rattle.std.proofs.Common.{length, sym, ap, ◌∙◌, arith}
-use Rattle.serde_json_path_parser.proofs.Words.{checked_view}
-use Rattle.serde_json_path_parser.proofs.Grammar.Paths.{too_long, parsed, refused, too_long_reported, parsed_reported, refused_reported, within}
+use Rattle.serde_json_path_parser.proofs.Grammar.Paths.{parsed, too_long_reported, refused_reported}
 use Rattle.serde_json_path_parser.proofs.parser.parse.Goals as goal
-
-pub returns-then-len-eq18446744073709551615-clause-parse : goal.returns-then-len-eq18446744073709551615-clause-parse
-returns-then-len-eq18446744073709551615-clause-parse g c =
-    rw c.in_text.ensures (too_long _ _ c.len.ensures.utf8 (sym c.len.ensures.bytes ∙ c.if-len-eq18446744073709551615.true))
 
 pub returns-then-len-eq18446744073709551615-clause-reported : goal.returns-then-len-eq18446744073709551615-clause-reported
 returns-then-len-eq18446744073709551615-clause-reported g c =
     rw c.in_text.ensures (too_long_reported _ _ c.len.ensures.utf8 (sym c.len.ensures.bytes ∙ c.if-len-eq18446744073709551615.true))
 
-pub in_text-requires-in-Err-clause-within : goal.in_text-requires-in-Err-clause-within
-in_text-requires-in-Err-clause-within g c =
-    let total = c.len-total.ensures ∙ ap length (c.parse_path-read.ensures.moves.moves.same_text ∙ c.new-reader.ensures.same_text) in
-    within (g.F.Functions.set c.args.functions.now).signature _ c.len.ensures.utf8 c.in-Err.stop _ total (rw c.new-reader.ensures.left at c.in-Err.ensures.gives)
-
 pub returns-in-Ok-clause-parse : goal.returns-in-Ok-clause-parse
 returns-in-Ok-clause-parse g c =
     let read = c.in-Ok.ensures.gives in
     parsed _ _ c.len.ensures.utf8 (omega arith) read.0 c.in-Ok.checked read.1 read.3 (rw c.new-reader.ensures.left at read.2)
-
-pub returns-in-Ok-clause-reported : goal.returns-in-Ok-clause-reported
-returns-in-Ok-clause-reported g c =
-    let read = c.in-Ok.ensures.gives in
-    parsed_reported _ _ c.len.ensures.utf8 (checked_view c.in-Ok.checked) read.0 (rw c.new-reader.ensures.left at read.2)
-
-pub returns-in-Err-clause-parse : goal.returns-in-Err-clause-parse
-returns-in-Err-clause-parse g c =
-    let fails = rw c.new-reader.ensures.left at c.in-Err.ensures.gives in
-    rw c.in_text-in-Err.ensures (refused _ _ c.len.ensures.utf8 (omega arith) c.in-Err.stop _ fails (rw c.new-reader.ensures.left at c.in-Err.ensures.spares))
 
 pub returns-in-Err-clause-reported : goal.returns-in-Err-clause-reported
 returns-in-Err-clause-reported g c =

@@ -1,25 +1,16 @@
-use Rattle.std.proofs.Common.{◌≡◌, ◌∙◌, ◌++◌, [], true, refl, sym, ap, map, codes, option_map, append_assoc, rules}
+use Rattle.std.proofs.Common.{◌≡◌, ◌∙◌, ◌++◌, true, sym, ap, map, codes, option_map, append_assoc, rules}
 use Rattle.std.proofs.Output.{has_written_append, has_written_of_eq}
 use Rattle.serde_json_path_syntax.specs.Flat.{kind_view, parts_in, piece_at, pieces, pieces_named, segment_kind_view, selectors_in}
-use Rattle.serde_json_path_syntax.specs.Inside.Openings.{opening_text}
 use Rattle.serde_json_path_syntax.specs.Kinds.{each_is, is_argument, is_segment, is_selector}
 use Rattle.serde_json_path_syntax.specs.Parts.{nodes_in}
 use Rattle.serde_json_path_syntax.specs.Piece.{a_segment}
-use Rattle.serde_json_path_syntax.specs.Text.{bracket_dots_of, joined, piece_text, query_kind_text, sign_text}
+use Rattle.serde_json_path_syntax.specs.Text.{bracket_dots_of, joined, piece_text, sign_text}
 use Rattle.serde_json_path_syntax.specs.Tree.{long_hand}
 use Rattle.serde_json_path_syntax.proofs.Tree.NamedParts.{within_get, one_is, others, others-bound, others_are}
-use Rattle.serde_json_path_syntax.proofs.Printing.{begun_more, begun_whole, text_of_segments, texts_of_arguments, texts_of_selectors}
+use Rattle.serde_json_path_syntax.proofs.Printing.{begun_whole, texts_of_arguments, texts_of_selectors}
 use Rattle.serde_json_path_syntax.proofs.print.+printing.Goals as goal
 
 -- ---- segments, after the sign of a query
-
-pub write_path-loop-segment-init : goal.write_path-loop-segment-init
-write_path-loop-segment-init g t c = λ plain. record { wrote = record { parts = []; calls = refl; whole = refl }; plain = plain }
-
-pub write_path-write_segment-requires : goal.write_path-write_segment-requires
-write_path-write_segment-requires g t c =
-    let is = one_is is_segment (pieces (nodes_in c.args.tree.now)) c.args.segments.now 0 (record { number = 0 }) c.in-len1-up.len_at_least c.requires.are in
-    search rules
 
 pub write_path-write_segment-requires-in-loop-segment : goal.write_path-write_segment-requires-in-loop-segment
 write_path-write_segment-requires-in-loop-segment g t c =
@@ -31,32 +22,7 @@ write_path-write_segment-requires-in-loop-segment g t c =
     let is = one_is is_segment ps (others parts) c.loop-segment.segment-index (record { number = 0 }) there (others_are is_segment ps parts c.requires.are) in
     search rules
 
-pub write_path-loop-segment-preserved : goal.write_path-loop-segment-preserved
-write_path-loop-segment-preserved g t c = λ plain.
-    let wrote = c.loop-segment.invariant plain in
-    let text = c.write_segment-in-loop-segment.ensures wrote.plain (search rules) in
-    has_written_of_eq _ _ _ _ _
-    (begun_more [] (pieces (nodes_in c.args.tree.now)) (others c.args.segments.now) c.loop-segment.segment-index (record { number = 0 }) c.loop-segment-test.true)
-    (has_written_append _ _ _ _ _ _ wrote text)
-
-pub write_path-returns : goal.write_path-returns
-write_path-returns g t c plain ok =
-    let ps = pieces (nodes_in c.args.tree.now) in
-    let first = c.write_segment.ensures plain (search rules) in
-    let whole = begun_whole [] ps c.args.segments.now (record { number = 0 }) c.loop-segment.segment-index c.in-len1-up.len_at_least c.loop-segment-test.false in
-    has_written_of_eq _ _ _ _ _
-    (append_assoc (query_kind_text (kind_view c.args.kind)) _ _ ∙ ap (λ t. query_kind_text (kind_view c.args.kind) ++ t) (whole ∙ text_of_segments (pieces_named ps c.args.segments.now) c.requires.are))
-    (has_written_append _ _ _ _ _ _ first (c.loop-segment.invariant first.plain))
-
 -- ---- selectors in brackets
-
-pub write_selectors-loop-selector-init : goal.write_selectors-loop-selector-init
-write_selectors-loop-selector-init g t c = λ plain. record { wrote = record { parts = []; calls = refl; whole = refl }; plain = plain }
-
-pub write_selectors-write_selector-requires : goal.write_selectors-write_selector-requires
-write_selectors-write_selector-requires g t c =
-    let is = one_is is_selector (pieces (nodes_in c.args.tree.now)) c.args.selectors.now 0 (record { number = 0 }) c.in-len1-up.len_at_least c.requires.are in
-    search rules
 
 pub write_selectors-write_selector-requires-in-loop-selector : goal.write_selectors-write_selector-requires-in-loop-selector
 write_selectors-write_selector-requires-in-loop-selector g t c =
@@ -68,42 +34,7 @@ write_selectors-write_selector-requires-in-loop-selector g t c =
     let is = one_is is_selector ps (others parts) c.loop-selector.selector-index (record { number = 0 }) there (others_are is_selector ps parts c.requires.are) in
     search rules
 
-pub write_selectors-loop-selector-preserved : goal.write_selectors-loop-selector-preserved
-write_selectors-loop-selector-preserved g t c = λ plain.
-    let wrote = c.loop-selector.invariant plain in
-    let text = c.write_selector-in-loop-selector.ensures wrote.plain (search rules) in
-    has_written_of_eq _ _ _ _ _
-    (begun_more (codes ", ") (pieces (nodes_in c.args.tree.now)) (others c.args.selectors.now) c.loop-selector.selector-index (record { number = 0 }) c.loop-selector-test.true)
-    (has_written_append _ _ _ _ _ _ wrote text)
-
-pub write_selectors-returns : goal.write_selectors-returns
-write_selectors-returns g t c plain ok =
-    let ps = pieces (nodes_in c.args.tree.now) in
-    let first = c.write_selector.ensures plain (search rules) in
-    has_written_of_eq _ _ _ _ _
-    (append_assoc (opening_text c.args.opening) _ _ ∙ ap (λ t. opening_text c.args.opening ++ t) (begun_whole (codes ", ") ps c.args.selectors.now (record { number = 0 }) c.loop-selector.selector-index c.in-len1-up.len_at_least c.loop-selector-test.false))
-    (has_written_append _ _ _ _ _ _ first (c.loop-selector.invariant first.plain))
-
 -- ---- parts with a separator between each two
-
-pub write_joined-loop-part-init : goal.write_joined-loop-part-init
-write_joined-loop-part-init g t c = λ plain. record { wrote = record { parts = []; calls = refl; whole = refl }; plain = plain }
-
-pub write_joined-write_part-requires-in-loop-part : goal.write_joined-write_part-requires-in-loop-part
-write_joined-write_part-requires-in-loop-part g t c =
-    let parts = c.args.parts.now in
-    let below = within_get (others parts) c.loop-part.part-index (record { number = 0 }) c.loop-part-test.true in
-    let bound = others-bound parts in
-    search rules
-
-pub write_joined-loop-part-preserved : goal.write_joined-loop-part-preserved
-write_joined-loop-part-preserved g t c = λ plain.
-    let wrote = c.loop-part.invariant plain in
-    let between = c.write_str.ensures.writes wrote.plain (search rules) in
-    let text = c.write_part-in-loop-part.ensures between.plain (search rules) in
-    has_written_of_eq _ _ _ _ _
-    (begun_more c.args.separator.now (pieces (nodes_in c.args.tree.now)) (others c.args.parts.now) c.loop-part.part-index (record { number = 0 }) c.loop-part-test.true)
-    (has_written_append _ _ _ _ _ _ wrote (has_written_append _ _ _ _ _ _ between text))
 
 pub write_joined-returns : goal.write_joined-returns
 write_joined-returns g t c plain ok =

@@ -4,30 +4,24 @@ use Rattle.serde_json_path_nodes.proofs.Equal.{elements-same_steps, lengths_diff
 use Rattle.serde_json_path_nodes.proofs.normalized_path.NormalizedPathPartialEq.eq.Goals as goal
 use Rattle.serde_json_path_nodes.proofs.normalized_path.NormalizedPathPartialEq.eq.Goals.{then-len, else-len}
 
-then_computes : goal.returns-then-eq-clause-computes
-then_computes c =
-    rw (← c.self.view_is, ← c.other.view_is) (c.eq-then-eq.ensures ∙ elements-same_steps c.self.inside.steps.items c.other.inside.steps.items)
-
 pub returns-then-eq-clause-computes : goal.returns-then-eq-clause-computes
-returns-then-eq-clause-computes = then_computes
+returns-then-eq-clause-computes c =
+    rw (← c.self.view_is, ← c.other.view_is) (c.eq-then-eq.ensures ∙ elements-same_steps c.self.inside.steps.items c.other.inside.steps.items)
 
 pub returns-then-eq-clause-same : goal.returns-then-eq-clause-same
 returns-then-eq-clause-same c =
     let decides = same_steps_decides c.args.self.now c.args.other.now in
-    (λ holds. decides.0 (sym (then_computes c) ∙ holds), λ same. then_computes c ∙ decides.1 same)
+    (λ holds. decides.0 (sym (returns-then-eq-clause-computes c) ∙ holds), λ same. returns-then-eq-clause-computes c ∙ decides.1 same)
 
-else_computes : goal.returns-else-eq-clause-computes
-else_computes c = rw (← c.self.view_is, ← c.other.view_is) (c.if-eq.false ∙ elim c.if-len.branch [
+pub returns-else-eq-clause-computes : goal.returns-else-eq-clause-computes
+returns-else-eq-clause-computes c = rw (← c.self.view_is, ← c.other.view_is) (c.if-eq.false ∙ elim c.if-len.branch [
   | then-len w ↦ lasts_differ c.self.inside.steps.items c.other.inside.steps.items w.last.result w.last-then-len.result
       (search rules) (rw (← w.deref.ensures.value) w.last.ensures.value) (rw (← w.deref-then-len.ensures.value) w.last-then-len.ensures.value)
       (sym w.eq.ensures ∙ sym w.value-is ∙ c.if-eq.false)
   | else-len w ↦ lengths_differ c.self.inside.steps.items c.other.inside.steps.items (search rules)
 ])
 
-pub returns-else-eq-clause-computes : goal.returns-else-eq-clause-computes
-returns-else-eq-clause-computes = else_computes
-
 pub returns-else-eq-clause-same : goal.returns-else-eq-clause-same
 returns-else-eq-clause-same c =
     let decides = same_steps_decides c.args.self.now c.args.other.now in
-    (λ holds. decides.0 (sym (else_computes c) ∙ holds), λ same. else_computes c ∙ decides.1 same)
+    (λ holds. decides.0 (sym (returns-else-eq-clause-computes c) ∙ holds), λ same. returns-else-eq-clause-computes c ∙ decides.1 same)
