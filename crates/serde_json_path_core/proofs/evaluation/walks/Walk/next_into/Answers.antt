@@ -47,16 +47,8 @@ returns-in-None-clause-given g c =
       ap (rest_of (set_of w) (document_of w) (stages (segments_of (query_of w)))) none,
     )
 
-pub returns-in-Some-clause-given : goal.returns-in-Some-clause-given
-returns-in-Some-clause-given g c =
+pub returns-clause-given : goal.returns-clause-given
+returns-clause-given g c =
     let at = found-some _ _ c.in_ok-find_next.field-0 c.in-Some.found c.in-Some.is c.in_ok-find_next.ensures.found in
     rw (← c.segments-segments.ensures.tree)
     (c.find_next.ensures.kept.0 ∙ rw (at.1.0, sym c.pass_found.ensures, c.in_ok-node-in-Some.ensures.node, c.as_slice.ensures.value) refl)
-
-pub returns-in-Some-clause-nearer : goal.returns-in-Some-clause-nearer
-returns-in-Some-clause-nearer g c =
-    let all = stages_at (nodes_in c.args.self.now.scope.query.now) c.segments-segments.result.now in
-    let at = found-some _ _ c.in_ok-find_next.field-0 c.in-Some.found c.in-Some.is c.in_ok-find_next.ensures.found in
-    let fewer = subst (λ left. work all left < work all (frames_view c.find_next.new.frames.items)) (sym c.pass_found.ensures) at.1.1 in
-    let less = c.find_next.ensures.kept.1 in
-    rw (← c.segments-segments.ensures.tree) (omega arith)
