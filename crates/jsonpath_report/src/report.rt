@@ -131,7 +131,7 @@ fn push_line(
     }
 }
 
-/// Room for lines that is a mapping of its own, which grows without a copy.
+/// Room for lines, so large that the allocator maps it alone, and it grows without a copy.
 const ROOM: usize = 262_144;
 
 /// An empty text with room for lines, if there is memory for it.
@@ -186,6 +186,7 @@ fn selected<F: Functions>(
     ensures refused { OnlyMemoryOrPattern (before_builtin (F.set functions.now))
         (path_tree path.now) (view document.now) result }
 {
+    // A set that keeps patterns itself, as `run` hands in, answers first; then this one stays empty.
     let store = PatternStore::new();
     let functions = Both(functions, CachedPatterns::new(alloc, &store));
     let walk = path.walk_under(alloc, document, functions)?;

@@ -197,8 +197,8 @@ impl JsonPath {
     }
 
     /// A walk over the nodes that the path selects from a document, one at a time. The path must fit the set combined with
-    /// the built-in functions (see `fits`). Making the walk fails only if memory is refused. A loop over a walk is proved to end
-    /// by the measure `steps_of walk`.
+    /// the built-in functions (see `fits`), which keep no patterns here: `walk_under` takes a set that does. Making the walk
+    /// fails only if memory is refused. A loop over a walk is proved to end by the measure `steps_of walk`.
     ///
     /// ```text
     /// let mut walk = path.walk(alloc, &document, &functions)?;

@@ -1,7 +1,7 @@
 //! What syntax trees of JSONPath queries (RFC 9535) select from `serde_json` values.
 //!
 //! [`evaluate_located`] gives the nodes that a [`Checked`] query selects, with their locations, in order; [`evaluate`] gives
-//! them without locations; a [`Walk`] gives one node at a time. The lists are full runs of the walk.
+//! them without locations; a [`Walk`] gives one node at a time. A list with locations is a full run of the walk.
 //!
 //! ```text
 //! let mut walk = walk(alloc, &query, &document, Builtin)?;

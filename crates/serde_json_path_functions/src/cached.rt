@@ -17,7 +17,7 @@ use crate::types::FunctionValue;
 use std::alloc::Global;
 use std::cell::{OnceCell, RefCell};
 
-/// How many patterns have their matchers kept. Few paths have more; each takes memory, and a look-up compares them in turn.
+/// How many patterns are kept with a matcher. Few paths have more; each matcher takes memory, and a look-up goes through all.
 const MOST_MATCHERS: usize = 8;
 
 /// How many more patterns are kept, without their matchers.
@@ -25,8 +25,8 @@ const MOST_RECENT: usize = 8;
 
 /// Where a [`CachedPatterns`] puts the patterns whose matchers it keeps: matchers borrow, so the store outlives the set.
 ///
-/// It takes no memory of its own, and holds at most eight patterns until it is dropped. A store is for one set: a second set
-/// finds the places taken, and keeps its patterns without matchers.
+/// It takes no memory of its own, and holds at most eight patterns until it is dropped. Use a store for one set: a second one
+/// gets only the places that the first left free, and keeps its other patterns without matchers.
 pub struct PatternStore {
     places: [OnceCell<ReadPattern>; MOST_MATCHERS],
 }
@@ -46,7 +46,7 @@ impl PatternStore {
         }
     }
 
-    /// Puts a pattern into a free place, or gives it back where there is none.
+    /// Puts a pattern into the first free place and lends it from there, or gives it back if no place is free.
     fn put(&self, pattern: ReadPattern) -> Result<Option<&ReadPattern>, ReadPattern> {
         let mut pattern = pattern;
         for place in self.places.iter() {
@@ -102,8 +102,8 @@ impl<'p> KeptPatterns<'p> {
         ReadPattern::new(alloc, matching, pattern)
     }
 
-    /// Keeps a pattern as the one last asked. If there are too many, the one goes that was not asked for longest. For want of
-    /// memory the pattern is not kept.
+    /// Keeps a pattern as the last used. If there are too many, the least recently used one is dropped. If memory is refused,
+    /// the pattern is not kept.
     fn keep_recent(&mut self, pattern: ReadPattern) {
         if self.recent.len() >= MOST_RECENT {
             drop(self.recent.remove(0));
@@ -111,9 +111,10 @@ impl<'p> KeptPatterns<'p> {
         let _ = self.recent.push(pattern);
     }
 
-    /// Keeps a pattern with a matcher, or as the one last asked if the store is full. For want of memory the matcher is not kept.
+    /// Keeps a pattern with a matcher, or as the last used if the store is full. If memory for the matcher is refused, the
+    /// pattern stays in the store unused, and a later call reads it again.
     ///
-    /// Not inlined, because a function pays at each call for the size of its values, and matchers are large.
+    /// Not inlined: a matcher is large, and would widen the caller's stack frame.
     #[inline(never)]
     fn keep(&mut self, alloc: Global, pattern: ReadPattern) {
         match self.store.put(pattern) {
@@ -127,7 +128,7 @@ impl<'p> KeptPatterns<'p> {
         }
     }
 
-    /// Whether a text matches a pattern whose matcher is not kept. What it takes is kept for the next call.
+    /// Whether a text matches a pattern whose matcher is not kept. The pattern is kept for the next call, if there is memory.
     #[cold]
     #[inline(never)]
     fn found_otherwise(
@@ -149,12 +150,11 @@ impl<'p> KeptPatterns<'p> {
     }
 }
 
-/// The built-in functions, which keep the patterns that they read: `match` and `search` read a pattern that comes again only
-/// once.
+/// The built-in functions, where `match` and `search` do not read a pattern again while it is kept.
 ///
 /// Its answers are those of [`Builtin`]. It keeps the first eight patterns with their matchers, and eight more patterns, of
-/// which the least recently used goes first. A pattern that `regex` cannot read is kept as such. What cannot be
-/// kept for want of memory is used and dropped. All goes when the set and its store are dropped.
+/// which the least recently used goes first. A pattern that `regex` cannot read is kept as such. If memory
+/// to keep one is refused, a later call reads it again. All goes when the set and its store are dropped.
 ///
 /// ```text
 /// let store = PatternStore::new();
@@ -198,6 +198,7 @@ impl<'p> FindsPatterns for CachedPatterns<'p> {
                 Some(found) => Ok(found),
                 None => kept.found_otherwise(alloc, matching, pattern, text),
             },
+            // Nothing that runs under the borrow calls this set, so it never comes to this.
             Err(_) => Builtin.is_found(alloc, matching, pattern, text),
         }
     }

@@ -20,7 +20,8 @@ pub(crate) enum Matching {
     AnyPart,
 }
 
-/// The pattern that `regex` is given. Under its flag `R` a dot matches neither a line feed nor a carriage return.
+/// The text that `regex` reads: the pattern in a group, between `^` and `$` for `match`. Under its flag `R` a dot matches
+/// neither a line feed nor a carriage return.
 fn built_text(alloc: Global, matching: Matching, pattern: &str) -> Result<String, AllocError>
     ensures { IfOk result (λ text.
         string_bytes text ≡ spec.built_text (matching_view matching) pattern.now) }

@@ -59,7 +59,8 @@ impl NumberLiteral {
         self.billionths
     }
 
-    /// The exact number that it denotes: an integer, or with a fraction the double nearest to it (RFC 8259, section 6).
+    /// The number by which exact comparisons take it: its integer or, with a fraction, the double nearest to it (RFC 8259,
+    /// section 6).
     #[inline]
     pub fn exact(&self) -> ExactNumber
         ensures { exact_view result ≡ literal_number (number_amount self.now) }
@@ -101,8 +102,8 @@ impl Literal {
     ghost use Rattle.serde_json_path_syntax.specs.Literals.{literal_view};
     ghost use Rattle.serde_json_path_syntax.specs.Typing.{IsValueLiteral};
 
-    /// Whether the literal may be an argument of type Value: any literal but a number with a fraction (RFC 9535,
-    /// section 2.4.3).
+    /// Whether the literal may be an argument of type Value: any literal but a number with a fraction. The RFC takes those too
+    /// (RFC 9535, section 2.4.3); this project does not.
     pub fn is_value(&self) -> bool
         ensures { IsTrue result ↔ IsValueLiteral (literal_view self.now) }
     {

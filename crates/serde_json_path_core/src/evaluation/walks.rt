@@ -68,8 +68,9 @@ impl<'q, 'b, F: Functions> Walk<'q, 'b, F> {
         self.next_into(steps)
     }
 
-    /// The next node as [`Walk::next`] gives it, with its location in the memory of a vector, whose steps are lost. A loop that
-    /// hands in the steps of the node before takes memory only where a location is longer than all before it:
+    /// The next node, as [`Walk::next`] gives it. Its location overwrites the steps that are handed in and uses their memory; with
+    /// `None` or an error that memory is given up. A loop that hands in the steps of the node before takes memory only where a
+    /// location is longer than all before it:
     ///
     /// ```text
     /// let mut steps = Vec::new(alloc);

@@ -44,7 +44,7 @@ pub(crate) fn or_holds<'b, F: Functions>(
     Ok(false)
 }
 
-/// The same, where the comparison of which the expression consists, if it does, is at hand.
+/// The same, with what `only_comparison` gives of the expression at hand.
 #[cycle(evaluation)]
 #[inline(always)]
 pub(crate) fn filter_holds<'b, F: Functions>(

@@ -82,7 +82,7 @@ pub(crate) fn side_of_answer<'s>(answer: &'s FunctionValue<'_>) -> Side<'s>
     }
 }
 
-/// A number in billionths, if it is held as an integer; any other number equals none.
+/// The billionths of a number that is held as an integer; `None` for any other.
 #[inline(always)]
 pub(crate) fn amount(number: &Number) -> Option<i128>
     ensures { result ≡ amount_of (a_value (number_data (number_view number.now))) }
