@@ -1,4 +1,4 @@
-use Rattle.std.proofs.Common.{◌≡◌, ◌+◌, length, map, take, [], drop, option_map, refl, sym, subst, ap, ◌∙◌, arith, ◌∷◌, ◌++◌, ◌⊎◌, inl, inr, rules, append_assoc, Option, Some, List, slice_get, ◌<◌}
+use Rattle.std.proofs.Common.{◌≡◌, ◌+◌, length, map, take, [], drop, option_map, get_or, true, false, MatchOption, None, refl, sym, subst, ap, ◌∙◌, arith, ◌∷◌, ◌++◌, ◌⊎◌, inl, inr, rules, append_assoc, Option, Some, List, slice_get, ◌<◌}
 use Rattle.std.proofs.lemmas.Option.{slice_get_within}
 use Rattle.serde_json_path_core.proofs.Words.{get_or_default, map-append, common_steps, option_map_or, length-set, ∥∥₁_map, iter_rest, Data, view}
 use Rattle.serde_json_path_core.proofs.Words.{Located, node_value, Passes, child, descendant, cursor_left, segment_kind_view, segment_in, segments_at}
@@ -7,10 +7,13 @@ use Rattle.serde_json_path_core.proofs.Words.{Sound, IsTypedOr, IsTypedAnd, AreT
 use Rattle.serde_json_path_core.proofs.Words.{nodes_of, top_of, frame_view, frames_view, admitted, rest_of, work, IsStack, IsStackIn, IsInside}
 use Rattle.serde_json_path_core.proofs.Words.{selector_view, stage_at, stages_at, child_view, values_from, Bor, Value, IsIn, within_get, within_bound}
 use Rattle.serde_json_path_core.proofs.Words.{below_length, past_length, signatures_of, params_of}
+use Rattle.serde_json_path_core.proofs.Words.{Step, EndsIn, AllStandIn, FunctionSet, LogicalOr, filter, or_at}
+use Rattle.serde_json_path_core.specs.declared.child.Child.{Child}
 use Rattle.serde_json_path_functions.specs.Terms.{kind_view}
-use Rattle.serde_json_path_core.specs.Inside.Evaluates.{IsKept, SoundComparable}
+use Rattle.serde_json_path_core.specs.Inside.Evaluates.{IsKept}
 use Rattle.serde_json_path_core.specs.Inside.Scopes.{query_of, set_of}
 use Rattle.serde_json_path_core.specs.Inside.Computed as computed
+use Rattle.serde_json_path_core.specs.Inside.Rest as advances
 use Rattle.serde_json_path_core.proofs.Steps.Answered.{given-all, answered, by_pattern, if_refused}
 use Rattle.serde_json_path_core.proofs.Steps.Lookups.{found-none, found-some}
 use Rattle.serde_json_path_core.proofs.Walks.Frames.{at_selector, ends-trans, passes-over, passes-skipped, at-onward, at-downward, done}
@@ -19,7 +22,7 @@ use Rattle.serde_json_path_core.proofs.Walks.Chains.{left_stands, entered-inside
 use Rattle.serde_json_path_core.proofs.Sound.{argument-calls, next-calls, sound-relation, sound-segment, sound-selector, sound-and, sound-basic, typed-arguments, parameters-known}
 use Rattle.serde_json_path_core.proofs.Walks.Turns.{sees_replaced, Came, came-dropped, came-entered, came-kept, came-node, came-start, came-turned, drop-some, drop-none, missing}
 use Rattle.serde_json_path_core.proofs.Walks.SingleChildren.{first-of-values}
-use Rattle.serde_json_path_core.proofs.+evaluation.Goals.{filter::logic::basic_holds-In-Relation, evaluation::frame::Frame::next_task-In-Some, evaluation::frame::Frame::next_task-In_default, evaluation::frame::Frame::next_task-After-next_admitted, evaluation::stack::find_next-After-next_task}
+use Rattle.serde_json_path_core.proofs.+evaluation.Goals.{evaluation::frame::Frame::next_task-In-Some, evaluation::frame::Frame::next_task-In_default, evaluation::frame::Frame::next_task-After-next_admitted, evaluation::stack::find_next-After-next_task}
 use Rattle.serde_json_path_core.proofs.+evaluation.Goals as goal
 
 -- ---- frames
@@ -117,30 +120,72 @@ evaluation::frame::Frame::next_task-returns-in-Some-peek-clause-found g t c =
     at-downward (set_of scope) (top_of scope) stage (frame_view c.loop-selector_ref.self) (child_view c.in-Some-peek.child) here (sym c.segment_kind.ensures ∙ ap segment_kind_view c.in-Descendant.is)
     c.in-Some-peek.ensures
 
-pub evaluation::frame::next_passing-filter_holds-requires : goal.evaluation::frame::next_passing-filter_holds-requires
-evaluation::frame::next_passing-filter_holds-requires g t c =
-    let top = top_of c.args.scope.now in
-    let child = child_view c.in-Some.child in
-    let inside = ends-stand top (cursor_left c.args.cursor.now) (cursor_left c.loop-child.cursor) c.loop-child.invariant.1 c.requires.inside child (subst (IsIn child) (sym c.in-Some.ensures) (inl refl)) in
+-- the child that is left first stands in the document
+stands : (top : Data) (all left : List (Step × Data)) (first : Step × Data) → EndsIn all left → AllStandIn top all → left ≡ first ∷ drop 1 left → StandsIn top first.1
+stands top all left first ends inside is = ends-stand top all left ends inside first (subst (IsIn first) (sym is) (inl refl))
+
+-- the child that is left first is admitted, as the expression holds for it
+at_child : (F : FunctionSet) (top : Data) (e : LogicalOr) (left : List (Step × Data)) (first : Step × Data) (found : Option Child)
+    → left ≡ first ∷ drop 1 left → computed.is_true F top e first.1 ≡ true → MatchOption found (left ≡ []) (λ c. left ≡ child_view c ∷ drop 1 left)
+    → advances.IsAtAdmitted F top (filter e) left (option_map child_view found)
+at_child F top e left first None is holds none = let lengths = ap length (sym none ∙ is) in absurd (omega arith)
+at_child F top e left first (Some c) is holds some =
+    let same : first ≡ child_view c = ap (λ children. get_or children 0 first) (sym is ∙ some) in
+    (some, rw (some, ap (λ (x : Step × Data). computed.is_true F top e x.1) (sym same) ∙ holds) refl)
+
+-- another child is passed for which the expression does not hold
+skips_another : (F : FunctionSet) (top : Data) (e : LogicalOr) (old left new : List (Step × Data)) (first : Step × Data)
+    → advances.Skips F top (filter e) old left → left ≡ first ∷ drop 1 left → computed.is_true F top e first.1 ≡ false → new ≡ drop 1 left → advances.Skips F top (filter e) old new
+skips_another F top e old left new first skips is fails passed =
+    (skips.0 ∙ rw (is, fails, passed) refl, ends-trans _ _ _ skips.1 (first ∷ [], is ∙ ap (λ cs. first ∷ cs) (sym passed)))
+
+pub evaluation::frame::next_passing-compares-requires : goal.evaluation::frame::next_passing-compares-requires
+evaluation::frame::next_passing-compares-requires g t c =
+    let inside = stands (top_of c.args.scope.now) (cursor_left c.args.cursor.now) (cursor_left c.loop-child.cursor) (child_view c.in-Some-peek.child) c.loop-child.invariant.1 c.requires.inside c.in-Some-peek.ensures in
     search rules
 
 pub evaluation::frame::next_passing-returns-then-branch-clause-found : goal.evaluation::frame::next_passing-returns-then-branch-clause-found
 evaluation::frame::next_passing-returns-then-branch-clause-found g t c =
-    (c.in-Some.ensures, rw (c.in-Some.ensures, sym c.in_ok-filter_holds.ensures.means ∙ c.if-branch.true) refl)
+    let scope = c.args.scope.now in
+    let e = or_at (nodes_of scope) c.args.test in
+    let child = child_view c.in-Some-peek.child in
+    at_child (set_of scope) (top_of scope) e (cursor_left c.loop-child.cursor) child c.peek-then-branch.result c.in-Some-peek.ensures (search rules) c.peek-then-branch.ensures
 
 pub evaluation::frame::next_passing-loop-child-smaller : goal.evaluation::frame::next_passing-loop-child-smaller
 evaluation::frame::next_passing-loop-child-smaller g t c =
-    let all = ap length c.in-Some.ensures in
+    let all = ap length c.in-Some-peek.ensures in
     let fewer = ap length c.pass.ensures in
     omega arith
 
 pub evaluation::frame::next_passing-loop-child-preserved : goal.evaluation::frame::next_passing-loop-child-preserved
 evaluation::frame::next_passing-loop-child-preserved g t c =
+    let scope = c.args.scope.now in
+    let e = or_at (nodes_of scope) c.args.test in
+    skips_another (set_of scope) (top_of scope) e _ _ _ (child_view c.in-Some-peek.child) c.loop-child.invariant c.in-Some-peek.ensures (search rules) c.pass.ensures
+
+pub evaluation::frame::next_holding-returns-then-branch-clause-found : goal.evaluation::frame::next_holding-returns-then-branch-clause-found
+evaluation::frame::next_holding-returns-then-branch-clause-found g t c =
+    let scope = c.args.scope.now in
+    let e = or_at (nodes_of scope) c.args.test in
     let child = child_view c.in-Some.child in
-    let before = c.loop-child.invariant in (
-      before.0 ∙ rw (c.in-Some.ensures, sym c.in_ok-filter_holds.ensures.means ∙ c.if-branch.false, c.pass.ensures) refl,
-      ends-trans _ _ _ before.1 (child ∷ [], c.in-Some.ensures ∙ ap (λ cs. child ∷ cs) (sym c.pass.ensures)),
-    )
+    at_child (set_of scope) (top_of scope) e (cursor_left c.loop-child.cursor) child c.peek-then-branch.result c.in-Some.ensures (search rules) c.peek-then-branch.ensures
+
+pub evaluation::frame::next_holding-loop-child-smaller : goal.evaluation::frame::next_holding-loop-child-smaller
+evaluation::frame::next_holding-loop-child-smaller g t c =
+    let all = ap length c.in-Some.ensures in
+    let fewer = ap length c.pass.ensures in
+    omega arith
+
+pub evaluation::frame::next_holding-loop-child-preserved : goal.evaluation::frame::next_holding-loop-child-preserved
+evaluation::frame::next_holding-loop-child-preserved g t c =
+    let scope = c.args.scope.now in
+    let e = or_at (nodes_of scope) c.args.test in
+    skips_another (set_of scope) (top_of scope) e _ _ _ (child_view c.in-Some.child) c.loop-child.invariant c.in-Some.ensures (search rules) c.pass.ensures
+
+pub evaluation::frame::next_holding-any_holds-requires : goal.evaluation::frame::next_holding-any_holds-requires
+evaluation::frame::next_holding-any_holds-requires g t c =
+    let inside = stands (top_of c.args.scope.now) (cursor_left c.args.cursor.now) (cursor_left c.loop-child.cursor) (child_view c.in-Some.child) c.loop-child.invariant.1 c.requires.inside c.in-Some.ensures in
+    search rules
 
 -- ---- the stack
 
@@ -323,15 +368,13 @@ filter::query::first-returns-in-None-clause-means g t c =
 
 -- ---- logical expressions and calls
 
-pub filter::logic::or_holds-and_holds-requires : goal.filter::logic::or_holds-and_holds-requires
-filter::logic::or_holds-and_holds-requires g t c =
+pub filter::logic::any_holds-and_holds-requires : goal.filter::logic::any_holds-and_holds-requires
+filter::logic::any_holds-and_holds-requires g t c =
     let scope = c.args.scope.now in
-    let parts = c.or_parts-part-items.result.now in
-    let i = c.loop-part.part-index in
-    let below = within_get parts i (record { number = 0 }) c.loop-part-test.true in
-    let sound =
-    sound-and (set_of scope) (query_of scope) (pieces (nodes_of scope)) parts i (record { number = 0 }) c.loop-part-test.true
-    (subst (Sound scope IsTypedOr calls_in_or) c.or_parts-part-items.ensures.tree c.requires.sound) in
+    let parts = c.args.operands.now in
+    let i = c.loop-operand.operand-index in
+    let below = within_get parts i (record { number = 0 }) c.loop-operand-test.true in
+    let sound = sound-and (set_of scope) (query_of scope) (pieces (nodes_of scope)) parts i (record { number = 0 }) c.loop-operand-test.true c.requires.sound in
     search rules
 
 pub filter::logic::and_holds-basic_holds-requires : goal.filter::logic::and_holds-basic_holds-requires
@@ -345,17 +388,13 @@ filter::logic::and_holds-basic_holds-requires g t c =
     (subst (Sound scope IsTypedAnd calls_in_and) c.and_parts-part-items.ensures.tree c.requires.sound) in
     search rules
 
-sides : (g : _) (t : _) (c : filter::logic::basic_holds-In-Relation g t) → SoundComparable c.args.scope.now c.in-Relation.left × SoundComparable c.args.scope.now c.in-Relation.right
-sides g t c =
+pub filter::logic::basic_holds-relation_holds-requires : goal.filter::logic::basic_holds-relation_holds-requires
+filter::logic::basic_holds-relation_holds-requires g t c =
     let scope = c.args.scope.now in
+    let sides =
     sound-relation (set_of scope) (query_of scope) (comparable_at (nodes_of scope) c.in-Relation.left) (operator_view c.in-Relation.operator) (comparable_at (nodes_of scope) c.in-Relation.right) (basic_at (nodes_of scope) c.args.expression)
-    (search rules) c.requires.sound
-
-pub filter::logic::basic_holds-form_of-left-requires-clause-sound : goal.filter::logic::basic_holds-form_of-left-requires-clause-sound
-filter::logic::basic_holds-form_of-left-requires-clause-sound g t c = (sides g t (goal.at.filter::logic::basic_holds-form_of-left-requires-clause-sound g t c).In-Relation).0
-
-pub filter::logic::basic_holds-form_of-right-requires-clause-sound : goal.filter::logic::basic_holds-form_of-right-requires-clause-sound
-filter::logic::basic_holds-form_of-right-requires-clause-sound g t c = (sides g t (goal.at.filter::logic::basic_holds-form_of-right-requires-clause-sound g t c).In-Relation).1
+    (search rules) c.requires.sound in
+    search rules
 
 pub filter::call::answer-loop-argument-init : goal.filter::call::answer-loop-argument-init
 filter::call::answer-loop-argument-init g t c =

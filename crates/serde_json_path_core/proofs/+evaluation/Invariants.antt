@@ -1,28 +1,32 @@
 use Rattle.std.proofs.Common.{◌≡◌, ◌+◌, ◌-◌, ◌*◌, ◌≤◌, ◌++◌, drop, length, map, max}
-use Rattle.std.specs.Prelude.{filter as keep}
-use Rattle.serde_json_path_core.proofs.Words.{iter_rest, Data, view, Step, Located, node_value, kind_of_term, term_view, arguments_of}
-use Rattle.serde_json_path_core.proofs.Words.{calls_in_arguments, name_of, AreTypedArguments, params_of, or_at, and_at, ors_in, ands_in, arguments_in}
+use Rattle.serde_json_path_core.proofs.Words.{iter_rest, view, Located, node_value, kind_of_term, term_view, arguments_of}
+use Rattle.serde_json_path_core.proofs.Words.{calls_in_arguments, name_of, AreTypedArguments, params_of, and_at, ands_in, arguments_in}
 use Rattle.serde_json_path_core.proofs.Words.{call_at, pieces, pieces_named, segments_at, parts_bound, selector_bound, cursor_left, rest_of, work}
 use Rattle.serde_json_path_core.proofs.Words.{EndsIn, IsStackIn, Passes, values_from, stage_at, stages_at, Sound, nodes_of, top_of, frame_view}
 use Rattle.serde_json_path_core.proofs.Words.{frames_view}
 use Rattle.serde_json_path_functions.specs.Terms.{kind_view}
 use Rattle.serde_json_path_core.specs.Inside.Comparisons.{form_bound}
 use Rattle.serde_json_path_core.specs.Inside.Computed as computed
+use Rattle.serde_json_path_core.specs.Inside.Evaluates.{Skips, any_holds}
 use Rattle.serde_json_path_core.specs.Inside.Rest.{IsKept}
 use Rattle.serde_json_path_core.specs.Inside.Scopes.{set_of}
+use Rattle.serde_json_path_syntax.specs.declared.selector_ref.SelectorRef.TheVariants.{Filter}
 use Rattle.serde_json_path_core.proofs.+evaluation.Given as goal
 
 abbrev pub decreases-filter::logic::or_holds : goal.decreases-filter::logic::or_holds
 decreases-filter::logic::or_holds g l = 8 * l.expression.number + 5
 
-abbrev pub decreases-filter::logic::filter_holds : goal.decreases-filter::logic::filter_holds
-decreases-filter::logic::filter_holds g l = 8 * l.expression.number + 6
+abbrev pub decreases-filter::logic::any_holds : goal.decreases-filter::logic::any_holds
+decreases-filter::logic::any_holds g l = 8 * parts_bound l.operands.now + 4
 
 abbrev pub decreases-filter::logic::and_holds : goal.decreases-filter::logic::and_holds
 decreases-filter::logic::and_holds g l = 8 * l.expression.number + 5
 
 abbrev pub decreases-filter::logic::basic_holds : goal.decreases-filter::logic::basic_holds
 decreases-filter::logic::basic_holds g l = 8 * l.expression.number + 5
+
+abbrev pub decreases-filter::logic::relation_holds : goal.decreases-filter::logic::relation_holds
+decreases-filter::logic::relation_holds g l = 8 * max l.left.number l.right.number + 3
 
 abbrev pub decreases-filter::logic::compares : goal.decreases-filter::logic::compares
 decreases-filter::logic::compares g l = 8 * max (form_bound l.comparison.now.left) (form_bound l.comparison.now.right) + 2
@@ -72,13 +76,15 @@ decreases-evaluation::frame::Frame::next_task g l = 8 * l.segment.number + 6
 abbrev pub decreases-evaluation::frame::next_admitted : goal.decreases-evaluation::frame::next_admitted
 decreases-evaluation::frame::next_admitted g l = 8 * selector_bound l.selector_ref + 3
 
+abbrev pub decreases-evaluation::frame::next_holding : goal.decreases-evaluation::frame::next_holding
+decreases-evaluation::frame::next_holding g l = 8 * l.test.number + 6
+
 abbrev pub decreases-evaluation::frame::next_passing : goal.decreases-evaluation::frame::next_passing
 decreases-evaluation::frame::next_passing g l = 8 * l.test.number + 7
 
-abbrev pub invariant-filter::logic::or_holds-loop-part : goal.invariant-filter::logic::or_holds-loop-part
-invariant-filter::logic::or_holds-loop-part g l =
-    computed.is_true (set_of l.fn.scope) (top_of l.fn.scope) (or_at (nodes_of l.fn.scope) l.fn.expression) (view l.fn.current)
-    ≡ computed.is_true (set_of l.scope) (top_of l.scope) (ors_in (pieces_named (pieces (nodes_of l.scope)) (drop l.part-index l.part-items))) (view l.current)
+abbrev pub invariant-filter::logic::any_holds-loop-operand : goal.invariant-filter::logic::any_holds-loop-operand
+invariant-filter::logic::any_holds-loop-operand g l =
+    any_holds l.fn.scope l.fn.operands (view l.fn.current) ≡ any_holds l.scope (drop l.operand-index l.operands) (view l.current)
 
 abbrev pub invariant-filter::logic::and_holds-loop-part : goal.invariant-filter::logic::and_holds-loop-part
 invariant-filter::logic::and_holds-loop-part g l =
@@ -93,13 +99,16 @@ abbrev pub decreases-evaluation::frame::Frame::next_task-loop-selector_ref : goa
 decreases-evaluation::frame::Frame::next_task-loop-selector_ref g l = length (stage_at (nodes_of l.scope) l.segment).selectors - l.self.selector
 
 abbrev pub invariant-evaluation::frame::next_passing-loop-child : goal.invariant-evaluation::frame::next_passing-loop-child
-invariant-evaluation::frame::next_passing-loop-child g l =
-    (keep (λ (c : Step × Data). computed.is_true (set_of l.scope) (top_of l.scope) (or_at (nodes_of l.scope) l.test) c.1) (cursor_left l.fn.cursor)
-    ≡ keep (λ (c : Step × Data). computed.is_true (set_of l.scope) (top_of l.scope) (or_at (nodes_of l.scope) l.test) c.1) (cursor_left l.cursor))
-    × EndsIn (cursor_left l.fn.cursor) (cursor_left l.cursor)
+invariant-evaluation::frame::next_passing-loop-child g l = Skips l.scope (Filter l.fn.test) (cursor_left l.fn.cursor) (cursor_left l.cursor)
 
 abbrev pub decreases-evaluation::frame::next_passing-loop-child : goal.decreases-evaluation::frame::next_passing-loop-child
 decreases-evaluation::frame::next_passing-loop-child g l = length (cursor_left l.cursor)
+
+abbrev pub invariant-evaluation::frame::next_holding-loop-child : goal.invariant-evaluation::frame::next_holding-loop-child
+invariant-evaluation::frame::next_holding-loop-child g l = Skips l.scope (Filter l.fn.test) (cursor_left l.fn.cursor) (cursor_left l.cursor)
+
+abbrev pub decreases-evaluation::frame::next_holding-loop-child : goal.decreases-evaluation::frame::next_holding-loop-child
+decreases-evaluation::frame::next_holding-loop-child g l = length (cursor_left l.cursor)
 
 abbrev pub invariant-evaluation::stack::find_next-loop-last : goal.invariant-evaluation::stack::find_next-loop-last
 invariant-evaluation::stack::find_next-loop-last g l =

@@ -12,7 +12,7 @@ use Rattle.serde_json_path_syntax.specs.PartBounds.{parts_bound}
 use Rattle.serde_json_path_syntax.specs.Typing.{result_kind}
 use Rattle.serde_json_path_core.specs.Compared.{Compared, value_compared}
 use Rattle.serde_json_path_core.specs.Inside.Computed.{answer_compared, compare_sides}
-use Rattle.serde_json_path_core.specs.Inside.Evaluates.{SoundCall, SoundSegments, answer_at, or_holds, values_of_segments}
+use Rattle.serde_json_path_core.specs.Inside.Evaluates.{SoundCall, SoundSegments, answer_at, compared_at, or_holds, values_of_segments}
 use Rattle.serde_json_path_core.specs.Inside.Rest.{candidates}
 use Rattle.serde_json_path_core.specs.Inside.Scopes.{nodes_of, set_of}
 use Rattle.serde_json_path_core.specs.Inside.Sides.{side_view}
@@ -45,6 +45,10 @@ compared_with scope left op right v = compare_sides (set_of scope).numbers op le
 -- whether the comparison holds
 abbrev pub holds_by : {F : Type 0} {g : _} → Scope F g → Comparison → Data → Bool
 holds_by scope comparison v = compared_with scope (compared_by scope comparison.left v) (operator_view comparison.operator) comparison.right v
+
+-- whether a comparison of two comparables holds
+abbrev pub relation_holds : {F : Type 0} {g : _} → Scope F g → Part → Operator → Part → Data → Bool
+relation_holds scope left op right v = compare_sides (set_of scope).numbers op (compared_at scope left v) (compared_at scope right v)
 
 -- its segments are sound, and of a singular query
 abbrev pub SoundPlain : {F : Type 0} {g : _} → Scope F g → PlainForm → Type 0

@@ -8,7 +8,7 @@ use Rattle.serde_json_path_syntax.specs.Calls.{calls_of, calls_in_segments, call
 use Rattle.serde_json_path_syntax.specs.Typing.{IsTyped, AreTypedSegments, IsTypedSegment, IsTypedSelector, IsTypedOr, IsTypedAnd, IsTypedBasic, IsTypedComparable, IsTypedCall, IsTypedArgument}
 use Rattle.serde_json_path_syntax.specs.declared.node.Part.{Part}
 use Rattle.serde_json_path_syntax.specs.declared.selector_ref.SelectorRef.{SelectorRef}
-use Rattle.serde_json_path_syntax.specs.Flat.{or_at, and_at, basic_at, comparable_at, call_at, argument_at, part_query, segment_at, segments_at}
+use Rattle.serde_json_path_syntax.specs.Flat.{or_at, and_at, basic_at, comparable_at, call_at, argument_at, part_query, segment_at, segments_at, ors_in, pieces, pieces_named}
 use Rattle.serde_json_path_syntax.specs.Stages.{selector_view, stage_at, stages_at}
 use Rattle.serde_json_path_core.specs.Inside.Rest as advances
 use Rattle.serde_json_path_core.specs.Compared.{Compared}
@@ -38,6 +38,10 @@ SoundSelector scope selector = Sound scope IsTypedSelector calls_in_selector (se
 abbrev pub SoundOr : {F : Type 0} {g : _} → Scope F g → Part → Type 0
 SoundOr scope part = Sound scope IsTypedOr calls_in_or (or_at (nodes_of scope) part)
 
+-- the same of the operands of `||`
+abbrev pub SoundOperands : {F : Type 0} {g : _} → Scope F g → List Part → Type 0
+SoundOperands scope parts = Sound scope IsTypedOr calls_in_or (ors_in (pieces_named (pieces (nodes_of scope)) parts))
+
 abbrev pub SoundAnd : {F : Type 0} {g : _} → Scope F g → Part → Type 0
 SoundAnd scope part = Sound scope IsTypedAnd calls_in_and (and_at (nodes_of scope) part)
 
@@ -59,6 +63,10 @@ SoundArgument scope kind part = Sound scope (λ signature a. IsTypedArgument sig
 -- whether a logical expression holds
 abbrev pub or_holds : {F : Type 0} {g : _} → Scope F g → Part → Data → Bool
 or_holds scope part v = computed.is_true (set_of scope) (top_of scope) (or_at (nodes_of scope) part) v
+
+-- whether one of the operands of `||` does
+abbrev pub any_holds : {F : Type 0} {g : _} → Scope F g → List Part → Data → Bool
+any_holds scope parts v = computed.is_true (set_of scope) (top_of scope) (ors_in (pieces_named (pieces (nodes_of scope)) parts)) v
 
 abbrev pub and_holds : {F : Type 0} {g : _} → Scope F g → Part → Data → Bool
 and_holds scope part v = computed.all_true (set_of scope) (top_of scope) (and_at (nodes_of scope) part) v

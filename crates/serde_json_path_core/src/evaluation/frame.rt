@@ -20,7 +20,7 @@ use crate::child::{Child, item, member};
 use crate::evaluation::cursor::Cursor;
 use crate::evaluation::scope::Scope;
 use crate::filter::comparison::only_comparison;
-use crate::filter::logic::filter_holds;
+use crate::filter::logic::{any_holds, compares};
 use serde_json::Value;
 use serde_json_path_functions::{Functions, QueryError};
 use serde_json_path_nodes::PathElement;
@@ -212,8 +212,10 @@ fn next_admitted<'b, F: Functions>(
     }
 }
 
-/// Comes to the next child for which a logical expression holds, if one is left.
+/// Comes to the next child for which a logical expression holds, if one is left. If it is one comparison, what is the same for
+/// each child is looked up before them.
 #[cycle(evaluation)]
+#[inline(never)]
 fn next_passing<'b, F: Functions>(
     scope: &Scope<'_, 'b, F>,
     test: Part,
@@ -229,10 +231,40 @@ fn next_passing<'b, F: Functions>(
         (cursor_left cursor.new) (option_map child_view found)) }
     ensures refused { IfErr result (λ e. e ≡ Pattern → MayRefuse scope.now) }
 {
-    let comparison = only_comparison(scope, test);
+    let Some(comparison) = only_comparison(scope, test) else {
+        return next_holding(scope, test, cursor);
+    };
     while let Some(child) = cursor.peek() {
-        if filter_holds(scope, test, comparison.as_ref(), child.value)? {
-            return Ok(Some(child));
+        if compares(scope, &comparison, child.value)? {
+            return Ok(cursor.peek());
+        }
+        cursor.pass();
+    }
+    Ok(None)
+}
+
+/// The same for any logical expression.
+#[cycle(evaluation)]
+#[inline(always)]
+fn next_holding<'b, F: Functions>(
+    scope: &Scope<'_, 'b, F>,
+    test: Part,
+    cursor: &mut Cursor<'b>,
+) -> Result<Option<Child<'b>>, QueryError>
+    requires below { test.number < length (nodes_of scope.now) }
+    requires sound { SoundOr scope.now test }
+    requires inside { AllStandIn (top_of scope.now) (cursor_left cursor.old) }
+    ensures skips { Skips scope.now (SelectorRef.Filter test)
+        (cursor_left cursor.old) (cursor_left cursor.new) }
+    ensures found { IfOk result (λ found.
+        IsAtAdmitted scope.now (SelectorRef.Filter test)
+        (cursor_left cursor.new) (option_map child_view found)) }
+    ensures refused { IfErr result (λ e. e ≡ Pattern → MayRefuse scope.now) }
+{
+    let operands = scope.query.or_parts(test);
+    while let Some(child) = cursor.peek() {
+        if any_holds(scope, operands, child.value)? {
+            return Ok(cursor.peek());
         }
         cursor.pass();
     }

@@ -1,14 +1,15 @@
 //! Logical expressions of filters (RFC 9535, section 2.3.5).
 
-ghost use Rattle.std.specs.Prelude.{◌≡◌, ◌<◌, Some, IfOk, IfErr, IfSome, length};
+ghost use Rattle.std.specs.Prelude.{◌≡◌, ◌<◌, ◌≤◌, Some, IfOk, IfErr, length};
 ghost use Rattle.serde_json.specs.View.{view};
-ghost use Rattle.serde_json_path_core.specs.Inside.Comparisons.{IsComparisonOf, SoundForm, compared_by, compared_with, holds_by};
+ghost use Rattle.serde_json_path_core.specs.Inside.Comparisons.{SoundForm, compared_by, compared_with, holds_by, relation_holds};
 ghost use Rattle.serde_json_path_core.specs.Inside.Computed.{is_nonempty, answer_holds as holds_as_test};
-ghost use Rattle.serde_json_path_core.specs.Inside.Evaluates.{SoundAnd, SoundBasic, SoundCall, SoundOr, SoundQuery, and_holds, answer_at, basic_holds, or_holds, results_at};
+ghost use Rattle.serde_json_path_core.specs.Inside.Evaluates.{SoundAnd, SoundBasic, SoundCall, SoundComparable, SoundOperands, SoundOr, SoundQuery, and_holds, answer_at, any_holds, basic_holds, or_holds, results_at};
 ghost use Rattle.serde_json_path_core.specs.Inside.Sides.{side_view};
 ghost use Rattle.serde_json_path_core.specs.PatternCalls.{StandsIn};
 ghost use Rattle.serde_json_path_core.specs.Inside.Scopes.{MayRefuse, nodes_of, top_of};
 ghost use Rattle.serde_json_path_syntax.specs.Literals.{operator_view};
+ghost use Rattle.serde_json_path_syntax.specs.PartBounds.{parts_bound};
 ghost use Rattle.serde_json_path_functions.specs.declared.error.QueryError.TheVariants.{Pattern};
 
 use crate::evaluation::scope::Scope;
@@ -21,9 +22,8 @@ use serde_json::Value;
 use serde_json_path_functions::{Functions, QueryError};
 use serde_json_path_syntax::{Basic, ComparisonOperator, Node, Part};
 
-/// Whether a logical expression holds for `@` at the value: whether one of its operands of `||` does.
+/// Whether a logical expression holds for `@` at the value.
 #[cycle(evaluation)]
-#[inline]
 pub(crate) fn or_holds<'b, F: Functions>(
     scope: &Scope<'_, 'b, F>,
     expression: Part,
@@ -36,35 +36,30 @@ pub(crate) fn or_holds<'b, F: Functions>(
         holds ≡ or_holds scope.now expression (view current.now)) }
     ensures refused { IfErr result (λ e. e ≡ Pattern → MayRefuse scope.now) }
 {
-    for part in scope.query.or_parts(expression) {
-        if and_holds(scope, *part, current)? {
+    any_holds(scope, scope.query.or_parts(expression), current)
+}
+
+/// Whether one of the operands of `||` holds.
+#[cycle(evaluation)]
+#[inline(always)]
+pub(crate) fn any_holds<'b, F: Functions>(
+    scope: &Scope<'_, 'b, F>,
+    operands: &[Part],
+    current: &'b Value,
+) -> Result<bool, QueryError>
+    requires below { parts_bound operands.now ≤ length (nodes_of scope.now) }
+    requires sound { SoundOperands scope.now operands.now }
+    requires inside { StandsIn (top_of scope.now) (view current.now) }
+    ensures means { IfOk result (λ holds.
+        holds ≡ any_holds scope.now operands.now (view current.now)) }
+    ensures refused { IfErr result (λ e. e ≡ Pattern → MayRefuse scope.now) }
+{
+    for operand in operands {
+        if and_holds(scope, *operand, current)? {
             return Ok(true);
         }
     }
     Ok(false)
-}
-
-/// The same, with what `only_comparison` gives of the expression at hand.
-#[cycle(evaluation)]
-#[inline(always)]
-pub(crate) fn filter_holds<'b, F: Functions>(
-    scope: &Scope<'_, 'b, F>,
-    expression: Part,
-    comparison: Option<&Comparison<'_>>,
-    current: &'b Value,
-) -> Result<bool, QueryError>
-    requires below { expression.number < length (nodes_of scope.now) }
-    requires sound { SoundOr scope.now expression }
-    requires only { IfSome comparison (λ c. IsComparisonOf scope.now c.now expression) }
-    requires inside { StandsIn (top_of scope.now) (view current.now) }
-    ensures means { IfOk result (λ holds.
-        holds ≡ or_holds scope.now expression (view current.now)) }
-    ensures refused { IfErr result (λ e. e ≡ Pattern → MayRefuse scope.now) }
-{
-    match comparison {
-        Some(comparison) => compares(scope, comparison, current),
-        None => or_holds(scope, expression, current),
-    }
 }
 
 /// Whether all operands of `&&` hold.
@@ -111,17 +106,7 @@ fn basic_holds<'b, F: Functions>(
                 left,
                 operator,
                 right,
-            } => {
-                let left = form_of(scope, *left);
-                let right = form_of(scope, *right);
-                let operator = *operator;
-                let comparison = Comparison {
-                    left,
-                    operator,
-                    right,
-                };
-                compares(scope, &comparison, current)
-            }
+            } => relation_holds(scope, *left, *operator, *right, current),
             Basic::Paren(inner) => or_holds(scope, *inner, current),
             Basic::NotParen(inner) => Ok(!or_holds(scope, *inner, current)?),
             Basic::Exist(query) => exists(scope, *query, current),
@@ -170,10 +155,40 @@ fn call_holds<'b, F: Functions>(
     Ok(answer_holds(&answer))
 }
 
-/// Whether a comparison holds. Without a call it takes no memory.
+/// Whether a comparison of two comparables holds. The form of each is found where it is wanted.
 #[cycle(evaluation)]
 #[inline(always)]
-fn compares<'b, F: Functions>(
+fn relation_holds<'b, F: Functions>(
+    scope: &Scope<'_, 'b, F>,
+    left: Part,
+    operator: ComparisonOperator,
+    right: Part,
+    current: &'b Value,
+) -> Result<bool, QueryError>
+    requires left_below { left.number < length (nodes_of scope.now) }
+    requires right_below { right.number < length (nodes_of scope.now) }
+    requires left { SoundComparable scope.now left }
+    requires right { SoundComparable scope.now right }
+    requires inside { StandsIn (top_of scope.now) (view current.now) }
+    ensures means { IfOk result (λ holds.
+        holds ≡ relation_holds scope.now left (operator_view operator) right (view current.now)) }
+    ensures refused { IfErr result (λ e. e ≡ Pattern → MayRefuse scope.now) }
+{
+    match form_of(scope, left) {
+        SideForm::Plain(left) => {
+            let left = plain_side(scope, left, current);
+            compares_with(scope, left, operator, form_of(scope, right), current)
+        }
+        SideForm::Called(left) => {
+            answer_compares(scope, left, operator, form_of(scope, right), current)
+        }
+    }
+}
+
+/// Whether a comparison holds whose forms are found. Without a call it takes no memory.
+#[cycle(evaluation)]
+#[inline(always)]
+pub(crate) fn compares<'b, F: Functions>(
     scope: &Scope<'_, 'b, F>,
     comparison: &Comparison<'_>,
     current: &'b Value,
