@@ -6,3 +6,5 @@ pub mod Runs
 pub mod Outcomes
 -- items read one after another, and steps of reading
 pub mod Many
+-- items in a row, with a sign and blanks between them
+pub mod Rows

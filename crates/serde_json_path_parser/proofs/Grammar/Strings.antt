@@ -8,7 +8,7 @@ use Rattle.serde_json_path_parser.proofs.Words.{hexadecimal_at, hex4_at, is_high
 use Rattle.serde_json_path_parser.proofs.Words.{escape_at, is_control, piece_at, is_inside, string_at, is_ascii_plain, Stretched, encode_ascii}
 use Rattle.serde_json_path_parser.proofs.Words.{Failure, Fails}
 use Rattle.serde_json_path_parser.specs.declared.error.Context.TheVariants as context
-use Rattle.serde_json_path_parser.proofs.Texts.Stretches.{plain_below_128, plain_of}
+use Rattle.serde_json_path_parser.proofs.Texts.{plain_below_128, plain_of}
 use Rattle.serde_json_path_parser.proofs.Reading.Many as m
 use Rattle.serde_json_path_parser.proofs.Reading.Runs.{some_begun}
 use Rattle.serde_json_path_parser.proofs.Reading.Many.{after_one, Again, many_again}

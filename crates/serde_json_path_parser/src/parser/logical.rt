@@ -7,13 +7,11 @@ ghost use Rattle.serde_json_path_syntax.specs.Piece.{an_or, an_and, a_basic};
 ghost use Rattle.serde_json_path_syntax.specs.Tree as tree;
 ghost use Rattle.serde_json_path_parser.specs.Filters.{paren_at, negated_at, basic_at, and_from, and_at, or_from, or_at};
 ghost use Rattle.serde_json_path_parser.specs.Filters as filters;
-ghost use Rattle.serde_json_path_parser.specs.Inside.Giving.{Makes, MakesFrom, IsOperandOf, MovesTo};
-ghost use Rattle.serde_json_path_parser.specs.Inside.Levels.{at_level, signatures, deeper};
+ghost use Rattle.serde_json_path_parser.specs.Inside.Giving.{Makes, MakesFrom, IsOperandOf, MovesTo, at_level, signatures, deeper, left};
 ghost use Rattle.serde_json_path_parser.specs.Lexical.{is_at, begins};
 ghost use Rattle.serde_json_path_parser.specs.Operands as operands;
 ghost use Rattle.serde_json_path_parser.specs.Operands.{calls_in_operand};
 ghost use Rattle.serde_json_path_parser.specs.Parsed.{byte_count, past_blanks};
-ghost use Rattle.serde_json_path_parser.specs.Inside.Reading.{left};
 
 use crate::error::{Context, Failure, ParseErrorKind};
 use crate::parser::Parser;

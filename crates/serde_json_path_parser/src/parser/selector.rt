@@ -4,12 +4,10 @@ ghost use Rattle.std.specs.Prelude.{◌≡◌, ℕ, List, Option, false};
 ghost use Rattle.serde_json_path_syntax.specs.Piece.{a_selector};
 ghost use Rattle.serde_json_path_syntax.specs.Tree.{Selector};
 ghost use Rattle.serde_json_path_functions.specs.Functions.{Signature};
-ghost use Rattle.serde_json_path_parser.specs.Inside.Giving.{Makes, MakesSelectors, MovesTo};
-ghost use Rattle.serde_json_path_parser.specs.Inside.Levels.{filter_at, signatures};
+ghost use Rattle.serde_json_path_parser.specs.Inside.Giving.{Makes, MakesSelectors, MovesTo, filter_at, signatures, left};
 ghost use Rattle.serde_json_path_parser.specs.Parsed.{Parsed};
 ghost use Rattle.serde_json_path_parser.specs.Lexical.{is_at, begins, IsQuote};
 ghost use Rattle.serde_json_path_parser.specs.Parsing.{position_at, quoted_at, selector_at, selectors_at};
-ghost use Rattle.serde_json_path_parser.specs.Inside.Reading.{left};
 
 use crate::error::Failure;
 use crate::parser::Parser;

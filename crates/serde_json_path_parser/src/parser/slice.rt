@@ -3,9 +3,8 @@
 ghost use Rattle.std.specs.Prelude.{IfOk};
 ghost use Rattle.serde_json_path_syntax.specs.SliceView.{slice_view};
 ghost use Rattle.serde_json_path_syntax.specs.WellFormed.{IsOptionalInteger};
-ghost use Rattle.serde_json_path_parser.specs.Inside.Giving.{Gives, MovesTo};
+ghost use Rattle.serde_json_path_parser.specs.Inside.Giving.{Gives, MovesTo, left};
 ghost use Rattle.serde_json_path_parser.specs.Parsing.{bound_at, step_at, slice_at};
-ghost use Rattle.serde_json_path_parser.specs.Inside.Reading.{left};
 
 use crate::error::Failure;
 use crate::parser::primitive::int::parse_int;

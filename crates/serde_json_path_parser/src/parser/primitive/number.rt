@@ -2,9 +2,8 @@
 
 ghost use Rattle.std.specs.Prelude.{◌≡◌, ◌≤◌, ◌<◌, ℕ, List, length, IfOk};
 ghost use Rattle.serde_json_path_syntax.specs.Literals.{number_amount};
-ghost use Rattle.serde_json_path_parser.specs.Inside.Giving.{Gives, MovesTo};
+ghost use Rattle.serde_json_path_parser.specs.Inside.Giving.{Gives, MovesTo, left};
 ghost use Rattle.serde_json_path_parser.specs.Numbers.{whole_at, digits_after_point_at, fraction_at, amount_at, number_at, capped};
-ghost use Rattle.serde_json_path_parser.specs.Inside.Reading.{left};
 
 use crate::error::{Failure, ParseErrorKind};
 use crate::parser::primitive::decimal::parse_decimal;

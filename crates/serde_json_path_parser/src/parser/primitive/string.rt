@@ -2,13 +2,13 @@
 
 ghost use Rattle.std.specs.Prelude.{◌≡◌, ◌==◌, ◌<◌, ◌≤◌, ◌+◌, ◌^◌, ℕ, List, length, true, IfOk, string_bytes};
 ghost use Rattle.std.specs.Char.{IsScalar};
-ghost use Rattle.serde_json_path_parser.specs.Inside.Giving.{Gives, MovesTo};
+ghost use Rattle.serde_json_path_parser.specs.Inside.Giving.{Gives, MovesTo, left};
 ghost use Rattle.serde_json_path_parser.specs.Lexical.{is_at, begins, IsQuote};
-ghost use Rattle.serde_json_path_parser.specs.Inside.Reading.{left};
 ghost use Rattle.serde_json_path_parser.specs.Strings.{hexadecimal_at, hex4_at, is_high, low_at, unicode_at, escape_at, piece_at, is_inside, string_at};
 
 use crate::error::{Context, Failure, ParseErrorKind};
 use crate::parser::reader::Reader;
+use crate::parser::stretch::PlainChars;
 use crate::source::PathSource;
 use std::alloc::Global;
 
@@ -149,9 +149,10 @@ pub(crate) fn parse_string<S: PathSource>(
         (string_at quote (left reader.old)) }
 {
     let mut text = String::new(alloc);
+    let plain = PlainChars { quote };
     'pieces: while reader.sees_inside(quote) {
-        if reader.sees_plain(quote, text.len()) {
-            reader.take_plain(quote, &mut text)?;
+        if reader.sees_stretch(&plain, text.len()) {
+            reader.take_stretch(&plain, &mut text)?;
             continue;
         }
         let c = parse_piece(reader, quote)?;

@@ -1,19 +1,17 @@
 use Rattle.serde_json_path_parser.proofs.Reading.Many.{first_fails}
 use Rattle.std.proofs.Common.{drop, ◌∙◌, [], Some, Err, refl, sym, ap, option_map, arith, true≢false}
 use Rattle.serde_json_path_parser.proofs.Words.{past_blanks, string_bytes, nil_from_length, err_from_is_err_and, literal_view, number_amount}
-use Rattle.serde_json_path_parser.proofs.Words.{operator_view, a_comparable, logical_argument, call, number, signature_view, alone}
-use Rattle.serde_json_path_parser.proofs.Words.{basic_at, or_at, and_at, parameters_at, level, and_list, or_list, named_at, signatures, deeper}
-use Rattle.serde_json_path_parser.proofs.Words.{begins, opens, a_literal, a_call, calls_in_operand, left, common_steps, bracket_at, next_selector_at}
-use Rattle.serde_json_path_parser.proofs.Words.{selectors_at, selector_list, next_segment_at, segments_at, segment_list, argument_at, logical_from}
-use Rattle.serde_json_path_parser.proofs.Words.{arguments_at, operand_at, named_call_at, call_at, basic_from, relation_at, right_side_at, query_at}
-use Rattle.serde_json_path_parser.proofs.Words.{negated_at, and_from, or_from, next_basic_at, next_and_at}
-use Rattle.serde_json_path_parser.specs.Inside.Levels.{filter_at}
+use Rattle.serde_json_path_parser.proofs.Words.{operator_view, a_comparable, logical_argument, call, number, signature_view, alone, basic_at, or_at}
+use Rattle.serde_json_path_parser.proofs.Words.{and_at, parameters_at, level, and_list, or_list, named_at, signatures, deeper, begins, opens}
+use Rattle.serde_json_path_parser.proofs.Words.{a_literal, a_call, calls_in_operand, left, common_steps, bracket_at, next_selector_at, selectors_at}
+use Rattle.serde_json_path_parser.proofs.Words.{selector_list, next_segment_at, segments_at, segment_list, argument_at, logical_from, arguments_at}
+use Rattle.serde_json_path_parser.proofs.Words.{operand_at, named_call_at, call_at, basic_from, relation_at, right_side_at, query_at, negated_at}
+use Rattle.serde_json_path_parser.proofs.Words.{and_from, or_from, next_basic_at, next_and_at}
+use Rattle.serde_json_path_parser.specs.Inside.Giving.{filter_at}
 use Rattle.serde_json_path_parser.specs.Operands.{a_query}
-use Rattle.serde_json_path_parser.proofs.Steps.Arguments.{none_made, one_more, first_refused, first_open}
-use Rattle.serde_json_path_parser.proofs.Steps.Filters.{alone_calls, literal_word_reads, level_down, at_mark, value_kind, negated_named, no_call}
+use Rattle.serde_json_path_parser.proofs.Steps.{none_made, one_more, first_refused, first_open, alone_calls, literal_word_reads, level_down, at_mark, value_kind, negated_named, no_call, grows_none, grows_kept, grows_same, grows_then, grows_call, grown_so, begins_row, row_fails, row_shorter, row_goes_on, row_done, segments_stand, selectors_stand, ors_stand, ands_stand, segment_shorter, some_selectors, some_ors, some_ands}
 use Rattle.serde_json_path_syntax.specs.Flat.{segment_kind_view, kind_view as query_kind_view}
 use Rattle.serde_json_path_parser.proofs.Reading.Runs.{no_longer}
-use Rattle.serde_json_path_parser.proofs.Steps.Rows.{grows_none, grows_kept, grows_same, grows_then, grows_call, grown_so, begins_row, row_fails, row_shorter, row_goes_on, row_done, segments_stand, selectors_stand, ors_stand, ands_stand, segment_shorter, some_selectors, some_ors, some_ands}
 use Rattle.serde_json_path_parser.proofs.parser.Parser.+filters.Goals as goal
 use Rattle.serde_json_path_syntax.specs.Tree as tree
 use Rattle.serde_json_path_parser.proofs.Reading.Many as m

@@ -1,5 +1,5 @@
 use Rattle.std.proofs.Common.{rules, ◌<◌, ◌+◌, length, refl, ◌∙◌}
-use Rattle.serde_json_path_parser.proofs.Texts.Decoding as d
+use Rattle.serde_json_path_parser.proofs.Texts as d
 use Rattle.serde_json_path_parser.proofs.parser.decode.wide_character_at.Goals as goal
 
 pub overflow_add-index : goal.overflow_add-index

@@ -1,6 +1,6 @@
 use Rattle.std.proofs.Common.{◌<◌, length, refl, arith}
 use Rattle.serde_json_path_parser.proofs.Words.{slice_get_within}
-use Rattle.serde_json_path_parser.proofs.Texts.Stretches.{first_gathered, stretched}
+use Rattle.serde_json_path_parser.proofs.Texts.{first_gathered, stretched}
 use Rattle.serde_json_path_parser.proofs.parser.stretch.push_stretch.Goals as goal
 
 pub gather-end-requires-clause-first : goal.gather-end-requires-clause-first

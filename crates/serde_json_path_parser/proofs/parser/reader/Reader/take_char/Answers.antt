@@ -1,6 +1,6 @@
 use Rattle.std.proofs.Common.{◌≡◌, ◌+◌, length, refl, sym, ap, subst, ◌∙◌, arith}
 use Rattle.serde_json_path_parser.proofs.Words.{IsSome, slice_get_past, limit_of}
-use Rattle.serde_json_path_parser.proofs.Texts.Decoding.{is_there, is_some_at, utf8_of, step, step_one}
+use Rattle.serde_json_path_parser.proofs.Texts.{is_there, is_some_at, utf8_of, step, step_one}
 use Rattle.serde_json_path_parser.proofs.parser.reader.Reader.take_char.Goals as goal
 use Rattle.serde_json_path_parser.proofs.parser.reader.Reader.take_char.Goals.{in-None+in-None-second, in-Some, in-None+in-Some-second}
 
