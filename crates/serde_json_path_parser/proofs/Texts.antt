@@ -5,10 +5,10 @@ use Rattle.serde_json_path_parser.proofs.Words.{same_Some, none-some, length-dro
 use Rattle.serde_json_path_parser.proofs.Words.{IsUtf8-from_is_utf8, is_utf8-from_IsUtf8, chars-nil, chars_past_char, byte_from_char, char_from_byte}
 use Rattle.serde_json_path_parser.proofs.Words.{is_ascii, IsAhead, begins, nat_le, nat_lt, ◌^◌, max, IsAscii, and_parts, cases_Bool, length-take-le}
 use Rattle.serde_json_path_parser.proofs.Words.{take_more_set, encodes-append, encodes-IsAscii, AllPass, is_name_char, is_plain, front, past, Told}
-use Rattle.serde_json_path_parser.proofs.Words.{one_more, looked, LooksOn, is_ascii_name_char, is_ascii_plain, Gathered, Stretched}
+use Rattle.serde_json_path_parser.proofs.Words.{one_more, looked, LooksOn, is_ascii_name_char, is_ascii_plain, Gathered, Stretched, IsSome}
 use Rattle.std.proofs.iter.FirstChar.{wide, in_one, in_two, in_three, in_four}
 use Rattle.std.specs.Char.{IsScalar}
-use Rattle.serde_json_path_parser.proofs.Reading.Runs.{past_through}
+use Rattle.serde_json_path_parser.proofs.Reading.{past_through}
 
 -- ---- the character at a place of a text, by its first byte
 
@@ -107,11 +107,12 @@ ascii_begun (Some b) cs k a l e =
     let same : a.0 ≡ k = eqb-true a.0 k (sym (ap (begins (λ c. c == k)) a.1) ∙ e) in
     elim (cases_lt b 128) [ inl lt ↦ grind (arith, lt) | inr le ↦ absurd (omega (arith, a.3 le, same, l)) ]
 
-pub is_there : (text : List ℕ) (at : ℕ) → 0 < length (chars (drop at text)) → at < length text
-is_there text at l = elim (cases_lt at (length text)) [ inl k ↦ k | inr k ↦ absurd (let e : drop at text ≡ [] = drop_all at text k in omega (arith, ap (λ (r : List ℕ). length (chars r)) e, ap length chars-nil)) ]
-
-pub is_some_at : (xs : List ℕ) (i : ℕ) → i < length xs → (b : ℕ) × (slice_get xs i ≡ Some b)
-is_some_at xs i l = (get_or xs i 0, slice_get-get_or xs i 0 l)
+-- where a character is left there is a byte
+pub some_next : (text : List ℕ) (at : ℕ) (next : Option ℕ) → next ≡ slice_get text at → 0 < length (chars (drop at text)) → IsSome next
+some_next text at next is l = elim (cases_lt at (length text)) [
+  | inl k ↦ subst IsSome (sym (is ∙ slice_get-get_or text at 0 k)) refl
+  | inr k ↦ absurd (omega (arith, ap (λ (r : List ℕ). length (chars r)) (drop_all at text k), ap length chars-nil, l))
+]
 
 -- ---- an ASCII character of a name
 

@@ -74,8 +74,8 @@ pub use Rattle.serde_json_path_parser.specs.Grammar.{Reads, ReadsAnd, ReadsArgum
 pub use Rattle.serde_json_path_parser.specs.Grammar.{ReadsSelector, StandsAlone, dots_before_bracket, dots_before_name, operator_sign, query_sign}
 pub use Rattle.serde_json_path_parser.specs.Inside.Looking.{IsAhead, is_ascii, limit_of, LooksOn, Gathered, Stretched, is_ascii_name_char}
 pub use Rattle.serde_json_path_parser.specs.Inside.Looking.{is_ascii_plain}
-pub use Rattle.serde_json_path_parser.specs.Inside.Giving.{Moves, left, Fails, Gives, Grows, GrowsFrom, IsOperandOf, IsRefused, IsWithin}
-pub use Rattle.serde_json_path_parser.specs.Inside.Giving.{MakesArguments, error_of, segment_piece, at_level, deeper, signatures, literal_word}
+pub use Rattle.serde_json_path_parser.specs.Inside.Giving.{Moves, left, Fails, Gives, Grows, GrowsFrom, IsRefused, IsWithin, MakesArguments, error_of}
+pub use Rattle.serde_json_path_parser.specs.Inside.Giving.{segment_piece, at_level, deeper, signatures, literal_word}
 pub use Rattle.serde_json_path_parser.specs.Lexical.{AllPass, ArePieces, IsAmount, IsBlank, IsDecimal, IsFraction, IsFunctionName, IsHex4, IsInt}
 pub use Rattle.serde_json_path_parser.specs.Lexical.{IsName, IsNumber, IsPiece, IsQuote, IsString, Joined, are_at, begins, begins_both, escaped_by}
 pub use Rattle.serde_json_path_parser.specs.Lexical.{fraction_of, hex_escape, hexadecimal_of, is_at, is_blank, is_digit, is_function_char}

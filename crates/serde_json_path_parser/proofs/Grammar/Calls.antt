@@ -14,14 +14,12 @@ use Rattle.serde_json_path_parser.proofs.Words.{WrongArgumentType, UndefinedFunc
 use Rattle.serde_json_path_parser.proofs.Words.{ReadArguments, ended, arguments_at, parameters_at, call_at, NestedTooDeep, level}
 use Rattle.serde_json_path_parser.specs.declared.error.Context.TheVariants as context
 use Rattle.serde_json_path_parser.specs.Operands.{a_query}
-use Rattle.serde_json_path_parser.proofs.Reading.Runs.{past_all, split_again, blanks_of, are_blank, split_blanks, past_some, spread, begins_where, differs, no_blank, begins_differs}
+use Rattle.serde_json_path_parser.proofs.Reading.{past_all, split_again, blanks_of, are_blank, split_blanks, past_some, spread, begins_where, differs, no_blank, begins_differs, Read, Spaced, bind_ok, ok_is, after_one, many_end, Inner, onward, choose, remade, read_as, Outcome, weaker_spaced, refused, past_text, Past, onward_at, read_spaced, after_sign, past_spaced}
 use Rattle.serde_json_path_syntax.proofs.Tree.NamedParts.{query_singular}
 use Rattle.serde_json_path_parser.proofs.Grammar.LogicalForms.{IsGoodOr, IsGoodQuery, IsGoodCall, DeeperLaws, singular_query, ends_operand, ends_basic, ends_or, IsOperandText, IsOrText, begins_operand, begins_expression, operand_begins, as_expression, or_begins, no_blank_begins}
 use Rattle.serde_json_path_parser.proofs.Grammar.LogicalExpressions.{or_again, or_outcome, and_from_outcome, or_from_outcome}
 use Rattle.serde_json_path_parser.proofs.Grammar.Comparisons.{operand_again, operand_outcome, no_operator, basic_from_outcome}
-use Rattle.serde_json_path_parser.proofs.Reading.Rows.{Follows, at_sign}
-use Rattle.serde_json_path_parser.proofs.Reading.Many.{Read, Spaced, bind_ok, ok_is, after_one, many_end}
-use Rattle.serde_json_path_parser.proofs.Reading.Outcomes.{Inner, onward, choose, remade, read_as, Outcome, weaker_spaced, refused, past, Past, onward_at, read_spaced, after_sign, past_spaced}
+use Rattle.serde_json_path_parser.proofs.Rows.{Follows, at_sign}
 
 -- ---- types of arguments
 
@@ -302,7 +300,7 @@ module _ (signature : List ℕ → Option Signature) (n : ℕ) (deeper : Deeper)
   unfolding arguments_at
   arguments_outcome before start [] cs split =
       onward_at before split (argument_outcome signature n deeper laws cs) (λ a f s. choose (λ _. refused WrongNumberOfArguments context.LongHand (inl refl)) (λ _.
-      past (before ++ s.text) (split_again before s.text a.1 split s.split) (refused ExpectedClosingParenthesis context.LongHand (inl refl))))
+      past_text (before ++ s.text) (split_again before s.text a.1 split s.split) (refused ExpectedClosingParenthesis context.LongHand (inl refl))))
   arguments_outcome before start (kind ∷ kinds) cs split =
       onward_at before split (argument_outcome signature n deeper laws cs) (λ a f s.
       let t = s.is_so.0 in
@@ -320,8 +318,8 @@ module _ (signature : List ℕ → Option Signature) (n : ℕ) (deeper : Deeper)
       (arguments_outcome (here ++ (44 ∷ i)) start kinds (past_blanks (drop 1 a.1)) (split_again here (44 ∷ i) (past_blanks (drop 1 a.1)) whole (after_sign 44 a.1 comma))))
       (λ no_comma.
       ended_outcome start (here ++ 41 ∷ []) kinds (drop 1 a.1) (split_again here (41 ∷ []) (drop 1 a.1) whole (after_one 41 a.1 (closes a.1 ends no_comma))) (λ none. (41 ∷ [], ((none, omega arith), [], k, refl, s.is_so.3, refl), refl)))))
-      (λ _. past before split (refused WrongArgumentType context.LongHand (inl refl))))
-      (λ _. past here whole (refused ExpectedClosingParenthesis context.LongHand (inl refl))))
+      (λ _. past_text before split (refused WrongArgumentType context.LongHand (inl refl))))
+      (λ _. past_text here whole (refused ExpectedClosingParenthesis context.LongHand (inl refl))))
     where
       closes : (cs : List ℕ) → begins ends_argument cs ≡ true → is_at "," cs ≡ false → is_at ")" cs ≡ true
       closes [] e h = absurd cc

@@ -15,12 +15,10 @@ use Rattle.serde_json_path_parser.specs.Operands.{a_query}
 use Rattle.serde_json_path_syntax.proofs.Tree.NamedParts.{query_singular}
 use Rattle.serde_json_path_parser.proofs.Grammar.LogicalForms.{IsGoodQuery, IsGoodCall, DeeperLaws, ends_operand, IsCallText, IsOperandText, singular_query, ends_basic, IsBasicText, IsComparableText, begins_operand, operand_begins, as_expression, no_blank_begins}
 use Rattle.serde_json_path_parser.proofs.Grammar.Numbers.{number_outcome, goes_on, number_first, number_again}
-use Rattle.serde_json_path_parser.proofs.Reading.Runs.{whole, front_each, front_begins, some_begun, begins_front, begins_where, differs, begins_differs, front_all, past_run, no_blank, blanks_of, are_blank, split_blanks, begins_not, past_all}
+use Rattle.serde_json_path_parser.proofs.Reading.{whole, front_each, front_begins, some_begun, begins_front, begins_where, differs, begins_differs, front_all, past_run, no_blank, blanks_of, are_blank, split_blanks, begins_not, past_all, Spaced, after_one, Read, after_two, made_spaced, read_spaced, guarded, along, choose, inner, past_spaced, remade, Outcome, past_text, read_as, refused, onward, read_so, Inner}
 use Rattle.serde_json_path_parser.proofs.Grammar.Segments.{segments_outcome, same_segments, segments_again}
-use Rattle.serde_json_path_parser.proofs.Reading.Rows.{Follows}
-use Rattle.serde_json_path_parser.proofs.Reading.Many.{Spaced, after_one, Read, after_two}
+use Rattle.serde_json_path_parser.proofs.Rows.{Follows}
 use Rattle.serde_json_path_parser.proofs.Grammar.Strings.{string_outcome, string_again, of_quote}
-use Rattle.serde_json_path_parser.proofs.Reading.Outcomes.{made_spaced, read_spaced, guarded, along, choose, inner, past_spaced, remade, Outcome, past, read_as, refused, onward, read_so, Inner}
 
 -- ---- words
 
@@ -266,7 +264,7 @@ module _ (signature : List ℕ → Option Signature) (n : ℕ) (deeper : Deeper)
 
   test_outcome : (start : List ℕ) (o : Operand × List ℕ) → Read (Spaced IsOperand) start o → Outcome (Spaced IsBasic) (Inner signature) start (test_at signature deeper (byte_count start) o.0 o.1)
   unfolding test_at
-  test_outcome start (a_literal l, cs) s = past s.text s.split (refused ExpectedComparisonOperator context.LongHand (inl refl))
+  test_outcome start (a_literal l, cs) s = past_text s.text s.split (refused ExpectedComparisonOperator context.LongHand (inl refl))
   test_outcome start (a_query q, cs) s = read_as (exist q) s (λ t h. h)
   test_outcome start (a_call c, cs) s = choose (λ e. refused WrongReturnType context.LongHand (inl refl)) (λ e. read_as (test c) s (λ t h. (((h.0.0, may_test signature n c h.0 e), h.0.1), h.1)))
 

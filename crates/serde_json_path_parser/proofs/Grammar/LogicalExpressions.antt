@@ -1,21 +1,18 @@
 -- Logical expressions: what is read is a good one, or where the refusal stands; and each good one is read.
 use Rattle.std.proofs.Common.{◌≡◌, ℕ, ◌≤◌, inl, true, false, List, [], ◌∷◌, ◌++◌, drop, Option, Ok, refl, ap, ◌∙◌, append_assoc, arith}
 use Rattle.serde_json_path_parser.proofs.Words.{◌==◌, codes, and_parts, root, current, LogicalOr, LogicalAnd, Basic, paren, not_paren, relation}
-use Rattle.serde_json_path_parser.proofs.Words.{exist, not_exist, test, not_test, Call, Query, query, no_or, or, no_and, and, result_kind, IsTypedOr}
-use Rattle.serde_json_path_parser.proofs.Words.{IsTypedAnd, IsTestKind, or_depth, and_depth, Signature, WrongReturnType, ExpectedClosingParenthesis}
-use Rattle.serde_json_path_parser.proofs.Words.{ExpectedExpression, is_at, are_at, begins, IsBlank, is_small_letter, InParentheses, ReadsOr}
-use Rattle.serde_json_path_parser.proofs.Words.{ReadMoreOrs, ReadMoreAnds, Reads, ReadsCall, past_blanks, a_call, begins_call, and_list, or_list}
-use Rattle.serde_json_path_parser.proofs.Words.{Deeper, paren_at, negated_call_at, negated_at, basic_at, next_basic_at, and_from, and_at, next_and_at}
-use Rattle.serde_json_path_parser.proofs.Words.{or_from, or_at, past_word}
+use Rattle.serde_json_path_parser.proofs.Words.{exist, not_exist, test, not_test, query, no_or, or, no_and, and, result_kind, IsTypedOr, IsTypedAnd}
+use Rattle.serde_json_path_parser.proofs.Words.{or_depth, and_depth, Signature, WrongReturnType, ExpectedClosingParenthesis, ExpectedExpression}
+use Rattle.serde_json_path_parser.proofs.Words.{is_at, are_at, begins, IsBlank, is_small_letter, InParentheses, ReadsOr, ReadMoreOrs, ReadMoreAnds}
+use Rattle.serde_json_path_parser.proofs.Words.{past_blanks, a_call, begins_call, and_list, or_list, Deeper, paren_at, negated_call_at, negated_at}
+use Rattle.serde_json_path_parser.proofs.Words.{basic_at, next_basic_at, and_from, and_at, next_and_at, or_from, or_at, past_word}
 use Rattle.serde_json_path_parser.specs.declared.error.Context.TheVariants as context
-use Rattle.serde_json_path_parser.proofs.Reading.Many as m
+use Rattle.serde_json_path_parser.proofs.Reading as m
 use Rattle.serde_json_path_parser.specs.Operands.{a_query}
-use Rattle.serde_json_path_parser.proofs.Reading.Runs.{blanks_of, are_blank, past_all, spread, begins_differs}
-use Rattle.serde_json_path_parser.proofs.Grammar.LogicalForms.{IsGoodInside, IsGoodCall, DeeperLaws, ends_or, ends_and, ends_basic, ends_operand, IsGoodQuery, IsOrText, IsAndText, IsBasicText, begins_operand, begins_expression, operand_begins, basic_begins, and_begins, or_begins, no_blank_begins, comparable_begins}
+use Rattle.serde_json_path_parser.proofs.Reading.{blanks_of, are_blank, past_all, spread, begins_differs, Read, Spaced, after_one, Inner, guarded, onward, remade, refused, choose, Outcome, after_sign, past_spaced, read_spaced, read_as}
+use Rattle.serde_json_path_parser.proofs.Grammar.LogicalForms.{IsGoodInside, DeeperLaws, ends_or, ends_and, ends_basic, IsOrText, IsAndText, IsBasicText, begins_operand, begins_expression, operand_begins, basic_begins, and_begins, or_begins, no_blank_begins, comparable_begins}
 use Rattle.serde_json_path_parser.proofs.Grammar.Comparisons.{query_again, named_call_again, query_outcome, named_call_outcome, operand_outcome, exist_again, basic_ends_operand, relation_again, test_no_value, may_test, compared, test_again, basic_from_outcome}
-use Rattle.serde_json_path_parser.proofs.Reading.Rows.{Follows, AreRows, RowLaw, next_takes, row_outcome, row_again}
-use Rattle.serde_json_path_parser.proofs.Reading.Many.{Read, Spaced, after_one}
-use Rattle.serde_json_path_parser.proofs.Reading.Outcomes.{Inner, guarded, onward, remade, refused, choose, Outcome, after_sign, past_spaced, read_spaced, read_as}
+use Rattle.serde_json_path_parser.proofs.Rows.{Follows, AreRows, RowLaw, next_takes, row_outcome, row_again}
 
 module _ (signature : List ℕ → Option Signature) (n : ℕ) (deeper : Deeper) (laws : DeeperLaws signature n deeper) where
   abbrev IsBasic : List ℕ → Basic → Type 0
@@ -82,23 +79,6 @@ module _ (signature : List ℕ → Option Signature) (n : ℕ) (deeper : Deeper)
   negated_again t k a rest b blank same first e =
       ap (λ (l : List ℕ). basic_at signature deeper (l ++ rest)) same ∙ ap (negated_at signature deeper) (ap past_blanks (append_assoc k a rest) ∙ past_all k (a ++ rest) blank (no_blank_begins (a ++ rest) first)) ∙ e
 
-  not_paren_again : (t : List ℕ) (e : LogicalOr) (rest : List ℕ) → IsGoodInside signature n e → InParentheses (ReadsOr e) t → negated_at signature deeper (t ++ rest) ≡ Ok (not_paren e, past_blanks rest)
-  unfolding negated_at
-  not_paren_again t e rest good is = let p = paren_again t e rest good is in rw (p.0, p.1) refl
-
-  not_exist_again : (t : List ℕ) (q : Query) (rest : List ℕ) → IsGoodQuery signature n q → Reads q t → Follows ends_operand rest → negated_at signature deeper (t ++ rest) ≡ Ok (not_exist q, past_blanks rest)
-  unfolding negated_at
-  not_exist_again t (query root segs) rest good (a, reads, e) follows = rw (e, query_again signature n deeper laws root 36 a segs rest good reads follows) refl
-  not_exist_again t (query current segs) rest good (a, reads, e) follows = rw (e, query_again signature n deeper laws current 64 a segs rest good reads follows) refl
-
-  not_test_again : (t : List ℕ) (c : Call) (rest : List ℕ) → IsGoodCall signature n c → IsTestKind (result_kind signature c) → ReadsCall c t → negated_at signature deeper (t ++ rest) ≡ Ok (not_test c, past_blanks rest)
-  unfolding negated_at negated_call_at
-  not_test_again t c rest good kind is =
-      let named = named_call_again signature n deeper laws t c rest good is in
-      let letter = (and_parts (begins is_small_letter (t ++ rest)) (begins (λ d. d == 40) (past_word (t ++ rest))) named.0).0 in
-      let other : (k : ℕ) → is_small_letter k ≡ false → begins (λ c. c == k) (t ++ rest) ≡ false = λ k none. begins_differs is_small_letter k (t ++ rest) none letter in
-      rw (other 40 refl, other 64 refl, other 36 refl, named.0, named.1, test_no_value (result_kind signature c) kind) refl
-
   -- ---- basic expressions
 
   basic_outcome : (cs : List ℕ) → Outcome (Spaced IsBasic) (Inner signature) cs (basic_at signature deeper cs)
@@ -113,19 +93,28 @@ module _ (signature : List ℕ → Option Signature) (n : ℕ) (deeper : Deeper)
   of_operand cs first = rw (begins_differs begins_operand 40 cs refl first, begins_differs begins_operand 33 cs refl first) refl
 
   basic_again : (t : List ℕ) (b : Basic) (rest : List ℕ) → IsBasic t b → Follows ends_basic rest → basic_at signature deeper (t ++ rest) ≡ Ok (b, past_blanks rest)
-  unfolding basic_at
+  unfolding basic_at negated_at negated_call_at
   basic_again t (paren e) rest h follows = let p = paren_again t e rest h.0 h.1 in rw (p.0, p.1) refl
   basic_again t (not_paren e) rest (good, (k, a, blank, is, same)) follows =
-      negated_again t k a rest (not_paren e) blank same (basic_begins (paren e) a rest is) (not_paren_again a e rest good is)
+      let p = paren_again a e rest good is in
+      negated_again t k a rest (not_paren e) blank same (basic_begins (paren e) a rest is) (rw (p.0, p.1) refl)
   basic_again t (relation left op right) rest h follows =
       let first = ap (λ (l : List ℕ). begins begins_operand (l ++ rest)) h.1.6 ∙ ap (begins begins_operand) (append_assoc h.1.0 _ rest) ∙ comparable_begins left h.1.0 ((h.1.1 ++ h.1.2) ++ rest) h.1.3 in
       of_operand (t ++ rest) first ∙ relation_again signature n deeper laws t left op right rest h follows
   basic_again t (exist q) rest h follows = of_operand (t ++ rest) (operand_begins (a_query q) t rest h.1) ∙ exist_again signature n deeper laws t q rest h follows
-  basic_again t (not_exist q) rest (good, (k, a, blank, is, same)) follows =
-      negated_again t k a rest (not_exist q) blank same (basic_begins (exist q) a rest is) (not_exist_again a q rest good is (basic_ends_operand rest follows))
+  basic_again t (not_exist (query root segs)) rest (good, (k, a, blank, (b, reads, e), same)) follows =
+      negated_again t k a rest (not_exist (query root segs)) blank same (basic_begins (exist (query root segs)) a rest (b, reads, e))
+      (rw (e, query_again signature n deeper laws root 36 b segs rest good reads (basic_ends_operand rest follows)) refl)
+  basic_again t (not_exist (query current segs)) rest (good, (k, a, blank, (b, reads, e), same)) follows =
+      negated_again t k a rest (not_exist (query current segs)) blank same (basic_begins (exist (query current segs)) a rest (b, reads, e))
+      (rw (e, query_again signature n deeper laws current 64 b segs rest good reads (basic_ends_operand rest follows)) refl)
   basic_again t (test c) rest h follows = of_operand (t ++ rest) (operand_begins (a_call c) t rest h.1) ∙ test_again signature n deeper laws t c rest h follows
   basic_again t (not_test c) rest (good, (k, a, blank, is, same)) follows =
-      negated_again t k a rest (not_test c) blank same (basic_begins (test c) a rest is) (not_test_again a c rest (good.0.0, good.1) good.0.1 is)
+      let named = named_call_again signature n deeper laws a c rest (good.0.0, good.1) is in
+      let letter = (and_parts (begins is_small_letter (a ++ rest)) (begins (λ d. d == 40) (past_word (a ++ rest))) named.0).0 in
+      let other : (k : ℕ) → is_small_letter k ≡ false → begins (λ c. c == k) (a ++ rest) ≡ false = λ k none. begins_differs is_small_letter k (a ++ rest) none letter in
+      negated_again t k a rest (not_test c) blank same (basic_begins (test c) a rest is)
+      (rw (other 40 refl, other 64 refl, other 36 refl, named.0, named.1, test_no_value (result_kind signature c) good.0.1) refl)
 
   -- ---- what is joined by `&&`
 

@@ -11,12 +11,10 @@ use Rattle.serde_json_path_parser.proofs.Words.{ReadsAnd, IsTypedBasic, ReadsCom
 use Rattle.serde_json_path_parser.proofs.Words.{and_depth, root, current, no_or, or, no_and, and, paren, relation, exist, test, literal, singular}
 use Rattle.serde_json_path_parser.proofs.Words.{called, Literal, text, number, truth, is_blank, is_digit, is_small_letter, SegmentKind, ReadSegments}
 use Rattle.serde_json_path_parser.proofs.Words.{ReadsSegment}
-use Rattle.serde_json_path_parser.proofs.Reading.Outcomes.{Inner, Outcome, Past, remade, after_sign}
-use Rattle.serde_json_path_parser.proofs.Reading.Many.{Spaced}
-use Rattle.serde_json_path_parser.proofs.Reading.Rows.{Follows}
+use Rattle.serde_json_path_parser.proofs.Reading.{Inner, Outcome, Past, remade, after_sign, Spaced, some_begun, begins_front, begins_where, no_blank, past_all, blanks_of, are_blank}
+use Rattle.serde_json_path_parser.proofs.Rows.{Follows}
 use Rattle.serde_json_path_parser.specs.Operands.{a_query}
 use Rattle.serde_json_path_parser.proofs.Grammar.Numbers.{number_first}
-use Rattle.serde_json_path_parser.proofs.Reading.Runs.{some_begun, begins_front, begins_where, no_blank, past_all, blanks_of, are_blank}
 use Rattle.serde_json_path_parser.proofs.Grammar.Strings.{string_again, of_quote}
 use Rattle.serde_json_path_parser.specs.Filters.{filter_at}
 

@@ -14,13 +14,11 @@ use Rattle.serde_json_path_parser.proofs.Grammar.LogicalForms.{AreSegmentsText}
 use Rattle.serde_json_path_parser.proofs.Grammar.Calls.{level_laws}
 use Rattle.serde_json_path_parser.proofs.Grammar.Segments.{segments_outcome, segments_again, same_segments, no_segments_read}
 use Rattle.serde_json_path_parser.proofs.Printing.QuotedTexts.{scalars_of}
-use Rattle.serde_json_path_parser.proofs.Reading.Many.{ok_is, after_one}
-use Rattle.serde_json_path_parser.proofs.Reading.Outcomes.{is_plain, Inner, Stands, Gives, gives, refuses, choose, onward}
+use Rattle.serde_json_path_parser.proofs.Reading.{ok_is, after_one, is_plain, Inner, Stands, Gives, gives, refuses, choose, onward, past_all}
 use Rattle.serde_json_path_parser.specs.declared.error.Failure.TheVariants as failures
 use Rattle.serde_json_path_syntax.specs.declared.checked.Checked.{Checked}
 use Rattle.serde_json_path_parser.specs.Accepted.{IsAccepted}
 use Rattle.serde_json_path_parser.specs.Laws.{OneTreeAtMost}
-use Rattle.serde_json_path_parser.proofs.Reading.Runs.{past_all}
 
 -- ---- whole paths: what is read is well-typed and at most 128 deep, each of those is read, and where a refusal stands
 

@@ -9,15 +9,13 @@ use Rattle.serde_json_path_parser.proofs.Words.{bracket_at, Deeper, AreTypedSele
 use Rattle.serde_json_path_parser.proofs.Words.{Segments, no_segments, segment, Segment, dot_name, dot_wildcard, BadMemberName, is_name_first}
 use Rattle.serde_json_path_parser.proofs.Words.{is_name_char, IsName, Joined, opens, dots_before_name, front, many, after_dot, name_at, dotted_at}
 use Rattle.serde_json_path_parser.proofs.Words.{descendant_at, dot_at, segment_at, opens_next, next_segment_at, segments_at, segment_list}
-use Rattle.serde_json_path_parser.proofs.Reading.Runs.{begins_where, past_some, blanks_of, are_blank, split_blanks, past_all, spread, differs, no_blank, past_end, no_longer, begins_not, some_begun, begins_front, begins_differs, whole, front_each, front_begins, front_all, past_run}
+use Rattle.serde_json_path_parser.proofs.Reading.{begins_where, past_some, blanks_of, are_blank, split_blanks, past_all, spread, differs, no_blank, past_end, no_longer, begins_not, some_begun, begins_front, begins_differs, whole, front_each, front_begins, front_all, past_run, Spaced, after_one, Again, many_again, Plain, Inner, Outcome, read_so, choose, weaker, past_text, past_spaced, along, onward, after_spaced, remade, with_blanks, after_sign, made_spaced, inner, guarded, after, read_spaced, made, many_outcome}
 use Rattle.serde_json_path_parser.proofs.Grammar.LogicalForms.{DeeperLaws, IsSelectorText, IsSegmentText, ends_selectors, ends_selector, filter_outcome, filter_again, AreSegmentsText}
 use Rattle.serde_json_path_parser.proofs.Grammar.Numbers.{int_outcome, int_again, int_begins, int_not, int_no_blank}
-use Rattle.serde_json_path_parser.proofs.Reading.Many.{Spaced, after_one, Again, many_again}
-use Rattle.serde_json_path_parser.proofs.Reading.Outcomes.{Plain, Inner, Outcome, read_so, choose, weaker, past, past_spaced, along, onward, after_spaced, remade, with_blanks, after_sign, made_spaced, inner, guarded, after, read_spaced, made, many_outcome}
 use Rattle.serde_json_path_parser.proofs.Grammar.Strings.{string_outcome, string_again, of_quote}
 use Rattle.serde_json_path_parser.specs.declared.error.Context.TheVariants as context
-use Rattle.serde_json_path_parser.proofs.Reading.Many as m
-use Rattle.serde_json_path_parser.proofs.Reading.Rows.{Follows, AreRows, RowLaw, next_takes, row_outcome, row_again}
+use Rattle.serde_json_path_parser.proofs.Reading as m
+use Rattle.serde_json_path_parser.proofs.Rows.{Follows, AreRows, RowLaw, next_takes, row_outcome, row_again}
 use Rattle.serde_json_path_parser.specs.Filters.{filter_at}
 use Rattle.serde_json_path_parser.specs.declared.error.Context as declared
 
@@ -38,7 +36,7 @@ step_is t k (Some i) blank b =
 step_outcome : (cs : List ℕ) → Outcome (Spaced (λ t i. IsSliceStep i t)) Plain cs (step_at cs)
 unfolding step_at
 step_outcome cs =
-    choose (λ e. past (58 ∷ blanks_of (drop 1 cs)) (after_sign 58 cs e) (weaker (λ t i b. step_is t (blanks_of (drop 1 cs)) i (are_blank (drop 1 cs)) b) (bound_outcome (past_blanks (drop 1 cs))))) (λ _.
+    choose (λ e. past_text (58 ∷ blanks_of (drop 1 cs)) (after_sign 58 cs e) (weaker (λ t i b. step_is t (blanks_of (drop 1 cs)) i (are_blank (drop 1 cs)) b) (bound_outcome (past_blanks (drop 1 cs))))) (λ _.
     read_so (None, cs) (record { text = []; is_so = ([], [], inl refl, tt, refl); split = refl }))
 
 -- after the first bound and the colon
@@ -288,7 +286,7 @@ module _ (signature : List ℕ → Option Signature) (n : ℕ) (deeper : Deeper)
   bracket_outcome kind cs =
       let dots = dots_before_bracket kind in
       let j = blanks_of cs in
-      past (dots ++ (91 ∷ j)) (ap (λ (l : List ℕ). dots ++ (91 ∷ l)) (split_blanks cs) ∙ sym (append_assoc dots (91 ∷ j) (past_blanks cs))) (after (selectors_outcome cs) (λ ss _ r.
+      past_text (dots ++ (91 ∷ j)) (ap (λ (l : List ℕ). dots ++ (91 ∷ l)) (split_blanks cs) ∙ sym (append_assoc dots (91 ∷ j) (past_blanks cs))) (after (selectors_outcome cs) (λ ss _ r.
       let a = r.is_so.0 in
       let k = r.is_so.1 in
       guarded ExpectedClosingBracket context.LongHand (inl refl) (λ e. read_so (long_hand (selector_list ss.0), drop 1 ss.1) (record {
@@ -334,7 +332,7 @@ module _ (signature : List ℕ → Option Signature) (n : ℕ) (deeper : Deeper)
     dotted_outcome : (kind : SegmentKind) (at : declared.Context) (cs : List ℕ) → Outcome (IsSegment kind) Plain (dots_before_name kind ++ cs) (dotted_at at cs)
     unfolding dotted_at
     dotted_outcome kind at cs =
-        past (dots_before_name kind) refl
+        past_text (dots_before_name kind) refl
         (choose (λ e. read_so (dot_wildcard, drop 1 cs) (record { text = 42 ∷ []; is_so = ((tt, omega arith), refl); split = after_one 42 cs e })) (λ _. made (λ n. dot_name n) (λ t n is. ((tt, omega arith), (t, is, refl))) (name_outcome at cs)))
 
     descendant_outcome : (cs : List ℕ) → Outcome (IsSegment descendant) (Inner signature) (46 ∷ 46 ∷ cs) (descendant_at filters here cs)
@@ -366,7 +364,7 @@ module _ (signature : List ℕ → Option Signature) (n : ℕ) (deeper : Deeper)
 
     next_segment_outcome : (cs : List ℕ) → opens_next cs ≡ true → Outcome IsNextItem (Inner signature) cs (next_segment_at filters here cs)
     unfolding next_segment_at
-    next_segment_outcome cs o = past (blanks_of cs) (split_blanks cs) (weaker (λ t x is. (blanks_of cs, t, are_blank cs, is, refl)) (segment_outcome (past_blanks cs) o))
+    next_segment_outcome cs o = past_text (blanks_of cs) (split_blanks cs) (weaker (λ t x is. (blanks_of cs, t, are_blank cs, is, refl)) (segment_outcome (past_blanks cs) o))
 
     -- ---- how a segment's text begins
 

@@ -1,15 +1,13 @@
-use Rattle.std.proofs.Common.{◌∙◌, sym, subst, refl}
-use Rattle.serde_json_path_parser.proofs.Words.{IsSome, Some}
-use Rattle.serde_json_path_parser.proofs.Texts.{ahead, is_there, is_some_at, first_fits}
-use Rattle.serde_json_path_parser.proofs.Reading.Runs.{some_begun}
+use Rattle.std.proofs.Common.{◌∙◌, sym}
+use Rattle.serde_json_path_parser.proofs.Words.{Some}
+use Rattle.serde_json_path_parser.proofs.Texts.{ahead, some_next, first_fits}
+use Rattle.serde_json_path_parser.proofs.Reading.{some_begun}
 use Rattle.serde_json_path_parser.proofs.parser.reader.Reader.take_stretch.Goals as goal
 
 pub unwrap-first-requires : goal.unwrap-first-requires
 unwrap-first-requires g c =
     let r = c.args.self.now in
-    let text = (g.S.PathSource.told r.source.now).text in
-    let k = is_some_at text r.index (is_there text r.index (some_begun (g.C.Class.holds c.args.class.now) _ c.requires.begun)) in
-    subst IsSome (sym (r.next_is ∙ k.1)) refl
+    some_next (g.S.PathSource.told r.source.now).text r.index r.next r.next_is (some_begun (g.C.Class.holds c.args.class.now) _ c.requires.begun)
 
 pub push_stretch-index-requires-clause-fits : goal.push_stretch-index-requires-clause-fits
 push_stretch-index-requires-clause-fits g c =

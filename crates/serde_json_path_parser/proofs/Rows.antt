@@ -1,11 +1,9 @@
 -- Items in a row, with a sign and blanks between them: as they are read, each with the blanks after it, and as the grammar has them, with blanks round each sign.
-use Rattle.std.proofs.Common.{◌≡◌, ℕ, ◌<◌, Bool, true, false, List, [], ◌∷◌, ◌++◌, length, drop, Option, Ok, refl, sym, ap, ◌∙◌, append_assoc, arith}
+use Rattle.std.proofs.Common.{◌≡◌, ℕ, Bool, true, false, List, [], ◌∷◌, ◌++◌, length, drop, Option, Ok, refl, sym, ap, ◌∙◌, append_assoc, arith}
 use Rattle.serde_json_path_parser.proofs.Words.{◌==◌, ◌&&◌, ◌||◌, or_right, and_parts, eq-eqb, append-nil, length-append, drop-append_seam, Signature}
-use Rattle.serde_json_path_parser.proofs.Words.{ParseErrorKind, Parsed, ◌>>=◌, past_blanks, many, begins, is_blank, IsBlank, IsSign, Joined}
-use Rattle.serde_json_path_parser.proofs.Reading.Many as m
-use Rattle.serde_json_path_parser.proofs.Reading.Many.{Read, Spaced, after_one}
-use Rattle.serde_json_path_parser.proofs.Reading.Outcomes.{Inner, Outcome, past, made, weaker, many_outcome}
-use Rattle.serde_json_path_parser.proofs.Reading.Runs.{split_again, blanks_of, are_blank, split_blanks, past_all, spread, some_begun, begins_where, begins_differs}
+use Rattle.serde_json_path_parser.proofs.Words.{Parsed, ◌>>=◌, past_blanks, many, begins, is_blank, IsBlank, IsSign, Joined}
+use Rattle.serde_json_path_parser.proofs.Reading as m
+use Rattle.serde_json_path_parser.proofs.Reading.{Read, Spaced, after_one, Inner, Outcome, past_text, made, weaker, many_outcome, split_again, blanks_of, are_blank, split_blanks, past_all, spread, some_begun, begins_where, begins_differs}
 
 -- after the blanks stands a character that passes
 abbrev pub Follows : (ℕ → Bool) → List ℕ → Type 0
@@ -119,7 +117,7 @@ module _ {A : Type 0} {signature : List ℕ → Option Signature} {k : ℕ} {oth
   next_outcome cs begun =
       let rest = drop (length sign) cs in
       let j = blanks_of rest in
-      past (sign ++ j) (after_all k others cs begun ∙ ap (λ (l : List ℕ). sign ++ l) (split_blanks rest) ∙ sym (append_assoc sign j (past_blanks rest))) (weaker (λ t x s. record {
+      past_text (sign ++ j) (after_all k others cs begun ∙ ap (λ (l : List ℕ). sign ++ l) (split_blanks rest) ∙ sym (append_assoc sign j (past_blanks rest))) (weaker (λ t x s. record {
         before = j;
         text = s.0;
         after = s.1;
@@ -146,7 +144,7 @@ module _ {A : Type 0} {signature : List ℕ → Option Signature} {k : ℕ} {oth
       → (start : List ℕ) (x : A × List ℕ) → Read (Spaced is) start x → Outcome (Spaced is_row) (Inner signature) start (a_row make x)
   unfolding many
   row_outcome make good start x s =
-      past s.text s.split (made (λ xs. make (x.0 ∷ xs)) (λ u xs h.
+      past_text s.text s.split (made (λ xs. make (x.0 ∷ xs)) (λ u xs h.
       let a = s.is_so.0 in
       let row = row_of sign is xs s.is_so.1 u s.is_so.3 h in (
         a ++ row.text,
