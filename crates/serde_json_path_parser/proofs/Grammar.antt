@@ -4,9 +4,7 @@
 pub mod Numbers
 -- string literals
 pub mod Strings
--- selectors and brackets with them: what is read is in the grammar, what is in the grammar is read, where a refusal stands
-pub mod Brackets
--- segments
+-- selectors, brackets with them, and segments
 pub mod Segments
 -- trees whose filters are good: what may follow an operand or an expression, how each begins, and filters by what holds one level deeper
 pub mod LogicalForms

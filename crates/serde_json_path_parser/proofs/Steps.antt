@@ -1,8 +1,414 @@
--- Steps of the code.
+-- Steps of the code: rows of items that a loop reads, how the builder grows by them, arguments, and what stands in filters.
+use Rattle.std.proofs.Common.{◌≡◌, ◌≤◌, ℕ, List, [], ◌∷◌, ◌++◌, inl, inr, Some, Option, Result, Ok, Err, refl, sym, ap, subst, ◌∙◌, append_assoc, ◌<◌, Bool, true, false, length, arith, drop, None, zero, suc, ◌-◌}
+use Rattle.serde_json_path_parser.proofs.Words.{◌↔◌, append-nil, map-append, name_of, names_of, calls_in_segments, calls_from, calls_in_arguments}
+use Rattle.serde_json_path_parser.proofs.Words.{KeepsParts, KeepsTrees, calls_in, AreDeclared, MayFinish, deepest, names_in, IsTyped, depth, Part}
+use Rattle.serde_json_path_parser.proofs.Words.{query, root, Segments, Call, call, Arguments, SyntaxBuilder, Signature, Grows, Parsed, Failure}
+use Rattle.serde_json_path_parser.proofs.Words.{Reader, Ghosts, SegmentKind, Segment, ArePartsOf, segment_list, length-append, Piece, IsPart}
+use Rattle.serde_json_path_parser.proofs.Words.{ArePartsFor, parts_for_kept, Fails, GrowsFrom, ◌>>=◌, many, Selector, LogicalOr, LogicalAnd, Basic}
+use Rattle.serde_json_path_parser.proofs.Words.{Deeper, a_selector, an_and, a_basic, segment_piece, segment_pieces, selector_pieces, or_pieces}
+use Rattle.serde_json_path_parser.proofs.Words.{and_pieces, calls_in_selectors, calls_in_or, calls_in_and, selector_list, or_list, and_list}
+use Rattle.serde_json_path_parser.proofs.Words.{AreSelectorsOf, AreOrPartsOf, AreAndPartsOf, past_blanks, is_at, are_at, begins, opens, opens_next}
+use Rattle.serde_json_path_parser.proofs.Words.{level, segment_at, next_segment_at, selector_at, next_selector_at, and_at, next_and_at, basic_at}
+use Rattle.serde_json_path_parser.proofs.Words.{next_basic_at, no_arguments, argument, Argument, Kind, ExpectedClosingParenthesis, calls_in_argument}
+use Rattle.serde_json_path_parser.proofs.Words.{an_argument, Gives, MakesArguments, refusal, ends_argument, argument_at, arguments_at, nat_tests}
+use Rattle.serde_json_path_parser.proofs.Words.{Literal, ExpectedExpression, Operand, a_literal, word, past_word, literal_word_at, literal_word}
+use Rattle.serde_json_path_parser.proofs.Words.{of_value, kind_view, is_result, ◌==◌, filter, byte_count, or_at, call_at, IsTrue, calls_in_operand}
+use Rattle.serde_json_path_parser.proofs.Words.{alone, is_singular, is_whole, is_value_literal, number, IsValueLiteral, Query, IsSingular}
+use Rattle.serde_json_path_parser.specs.Inside.Giving.{MakesSo}
+use Rattle.serde_json_path_syntax.proofs.Names.Finishing.{may_finish}
+use Rattle.serde_json_path_syntax.proofs.Lists.{in_append}
+use Rattle.serde_json_path_syntax.specs.Piece.{calls_in_piece}
+use Rattle.serde_json_path_parser.specs.declared.error.Failure.TheVariants as failures
+use Rattle.serde_json_path_parser.proofs.Reading as m
+use Rattle.serde_json_path_parser.specs.declared.error.Context as declared
+use Rattle.serde_json_path_parser.specs.Filters.{filter_at}
+use Rattle.serde_json_path_parser.proofs.Grammar.Calls.{level_laws, amount_whole, whole_amount}
+use Rattle.serde_json_path_parser.proofs.Grammar.LogicalExpressions.{next_basic_takes, next_and_takes}
+use Rattle.serde_json_path_parser.proofs.Grammar.Segments as segments
+use Rattle.serde_json_path_parser.specs.declared.error.Context.TheVariants as context
+use Rattle.serde_json_path_parser.proofs.Reading.{first_fails, begins_differs}
+use denote.Enum.Bare.{sameb}
+use Rattle.serde_json_path_functions.specs.contracts.types.FunctionArgType.{the_type}
+use Rattle.serde_json_path_functions.specs.declared.types.FunctionArgType.{FunctionArgType}
+use Rattle.serde_json_path_functions.specs.declared.types.FunctionArgType.TheVariants as results
+use Rattle.serde_json_path_parser.specs.declared.parser.operand.Operand as operands
+use Rattle.serde_json_path_parser.specs.declared.parser.operand.Operand.TheVariants as the_operands
+use Rattle.std.proofs.lemmas.Bool.Decides.{same_from_decides}
+use Rattle.serde_json_path_parser.proofs.Grammar.LogicalForms.{singular_query}
+use Rattle.serde_json_path_syntax.proofs.Tree.NamedParts.{query_singular}
 
--- rows of items that a loop reads, how the builder grows by them, and the four rows of a path
-pub mod Rows
--- steps within filters: words, operands and arguments
-pub mod Filters
--- what the loop over the arguments of a call has made
-pub mod Arguments
+-- ---- how the builder grows, and by which calls; and which parts stand for no segment
+
+module _ {signature : List ℕ → Option Signature} where
+  -- it has not grown
+  pub grows_none : (builder : SyntaxBuilder) → Grows signature builder builder []
+  grows_none builder = record { trees = λ part piece h. h; names = sym (append-nil (names_in (calls_in builder))); declared = λ h. h }
+
+  -- it has grown by what makes no call
+  pub grows_kept : {old mid new : SyntaxBuilder} {calls : List Call} → Grows signature old mid calls → KeepsParts mid new → Grows signature old new calls
+  grows_kept grown keeps = record {
+    trees = λ part piece h. keeps.trees part piece (grown.trees part piece h);
+    names = ap names_in keeps.calls ∙ grown.names;
+    declared = λ h. subst (AreDeclared signature) (sym keeps.calls) (grown.declared h);
+  }
+
+  pub grows_leaf : {old new : SyntaxBuilder} → KeepsParts old new → Grows signature old new []
+  grows_leaf {old} keeps = grows_kept (grows_none old) keeps
+
+  pub grows_same : {old new : SyntaxBuilder} {calls others : List Call} → calls ≡ others → Grows signature old new calls
+      → Grows signature old new others
+  grows_same {old} {new} e grown = subst (Grows signature old new) e grown
+
+  pub grows_then : {old mid new : SyntaxBuilder} {calls more : List Call} → Grows signature old mid calls → Grows signature mid new more
+      → Grows signature old new (calls ++ more)
+  grows_then {old} {calls = calls} {more = more} grown further = record {
+    trees = λ part piece h. further.trees part piece (grown.trees part piece h);
+    names = further.names ∙ ap (λ ns. ns ++ names_of more) grown.names ∙ append_assoc (names_in (calls_in old)) (names_of calls) (names_of more)
+        ∙ ap (λ ns. names_in (calls_in old) ++ ns) (sym (map-append name_of calls more));
+    declared = λ h. further.declared (grown.declared h);
+  }
+
+  -- by a call, after its arguments
+  pub grows_call : {old mid new : SyntaxBuilder} (name : List ℕ) (s : Signature) (args : Arguments) → signature name ≡ Some s → Grows signature old mid (calls_in_arguments args)
+      → KeepsTrees mid new → calls_in new ≡ calls_in mid ++ (name, s) ∷ [] → Grows signature old new (calls_from (call name args))
+  grows_call {mid = mid} name s args is grown keeps last = grows_then grown (record {
+    trees = keeps;
+    names = ap names_in last ∙ map-append (λ (u : List ℕ × Signature). u.0) (calls_in mid) ((name, s) ∷ []);
+    declared = λ h. subst (AreDeclared signature) (sym last) (λ u i. elim ((in_append u (calls_in mid) ((name, s) ∷ [])).0 i) [
+      | inl k ↦ h u k
+      | inr k ↦ elim k [ inl e ↦ ap (λ (v : List ℕ × Signature). signature v.0) e ∙ is ∙ ap (λ (v : List ℕ × Signature). Some v.1) (sym e) | inr none ↦ absurd none ]
+    ]);
+  })
+
+-- ---- the whole query
+
+module _ (signature : List ℕ → Option Signature) (begun grown whole : SyntaxBuilder) (segs : Segments) (silent : calls_in begun ≡ [])
+    (grows : Grows signature begun grown (calls_in_segments segs)) (keeps : KeepsParts grown whole) where
+  -- each call of the builder has the signature that its name has
+  pub all_declared : AreDeclared signature (calls_in whole)
+  all_declared = (grows_kept grows keeps).declared (subst (AreDeclared signature) (sym silent) (λ u i. absurd i))
+
+  -- a query of these segments may be finished, where it is well-typed and not too deep
+  pub finishes : IsTyped signature (query root segs) → depth (query root segs) ≤ deepest → MayFinish (calls_in whole) (query root segs)
+  finishes typed shallow =
+      may_finish signature (calls_in whole) (query root segs) refl typed shallow
+      ((grows_kept grows keeps).names ∙ ap (λ us. names_in us ++ names_of (calls_in_segments segs)) silent) all_declared
+
+-- no part stands for no segment, and for nothing else
+pub none_for_none : (builder : SyntaxBuilder) (parts : List Part) (ss : List (SegmentKind × Segment)) → ArePartsOf builder parts (segment_list ss) → parts ≡ [] ↔ ss ≡ []
+none_for_none builder [] [] h = ((λ none. refl), (λ none. refl))
+none_for_none builder (part ∷ parts) (s ∷ ss) h = ((λ none. absurd cc), (λ none. absurd cc))
+none_for_none builder _ _ h = absurd h
+
+-- ---- what was made, where more is known of how the builder grew
+
+pub grown_so : {X A S : Type 0} {g : Ghosts S} (Is : X → A → Type 0) (Grown More : A → Type 0) (reader : Reader S g) (read : Parsed A) (result : Result X Failure)
+    → MakesSo Is Grown result reader read → ((a : A) → Grown a → More a) → MakesSo Is More result reader read
+grown_so Is Grown More reader read (Ok x) h more = (h.0, h.1, h.2, more h.0 h.3)
+grown_so Is Grown More reader read (Err e) h more = h
+
+-- ---- items in a row, which a loop reads one after another and whose parts it lists
+
+-- the list of all is that of each, one after another
+pub record Joins {A C : Type 0} (each : A → List C) (all : List A → List C) : Type 0 where
+  pub none : all [] ≡ []
+  pub some : (x : A) (xs : List A) → all (x ∷ xs) ≡ each x ++ all xs
+
+-- one more
+joined : {A C : Type 0} {each : A → List C} {all : List A → List C} → Joins each all → (xs : List A) (x : A) → all xs ++ each x ≡ all (xs ++ x ∷ [])
+joined {each = each} law [] x = ap (λ l. l ++ each x) law.none ∙ sym (law.some x [] ∙ ap (λ l. each x ++ l) law.none ∙ append-nil (each x))
+joined {each = each} {all = all} law (y ∷ xs) x =
+    ap (λ l. l ++ each x) (law.some y xs) ∙ append_assoc (each y) (all xs) (each x) ∙ ap (λ l. each y ++ l) (joined law xs x) ∙ sym (law.some y (xs ++ x ∷ []))
+
+-- one more part
+pushed_part : (builder : SyntaxBuilder) (parts : List Part) (pieces : List Piece) (part : Part) (piece : Piece) → ArePartsFor builder parts pieces → IsPart builder part piece
+    → ArePartsFor builder (parts ++ part ∷ []) (pieces ++ piece ∷ [])
+pushed_part builder [] [] part piece h p = (p, tt)
+pushed_part builder (q ∷ parts) (x ∷ pieces) part piece h p = (h.0, pushed_part builder parts pieces part piece h.1 p)
+pushed_part builder _ _ part piece h p = absurd h
+
+-- How items stand in a row: each is read after what is before it, all have these pieces and calls, and they make up a whole.
+pub record Row (A B : Type 0) : Type 0 where
+  pub more : List ℕ → Bool
+  pub before : List ℕ → List ℕ
+  pub item : List ℕ → Parsed A
+  pub piece : A → Piece
+  pub pieces : List A → List Piece
+  pub calls : List A → List Call
+  pub whole : List A → B
+  -- how many there are at least
+  pub least : ℕ
+
+module _ {A B : Type 0} (row : Row A B) where
+  abbrev pub next : List ℕ → Parsed A
+  next cs = row.item (row.before cs)
+
+  -- what is read in all, after these items
+  abbrev pub after : List A → Parsed (List A) → Parsed B
+  after items read = read >>= λ xs. Ok (row.whole (items ++ xs.0), xs.1)
+
+  pub record IsRow : Type 0 where
+    pub takes : m.Takes row.more next
+    pub pieces : Joins (λ x. row.piece x ∷ []) row.pieces
+    pub calls : Joins (λ x. calls_in_piece (row.piece x)) row.calls
+
+  -- What a loop has made of what is read in all, out of what made the first calls: the parts of some items, up to cs.
+  pub record SoFar (signature : List ℕ → Option Signature) (old builder : SyntaxBuilder) (first : List Call) (parts : List Part) (cs : List ℕ) (read : Parsed B) : Type 0 where
+    pub items : List A
+    pub are : ArePartsFor builder parts (row.pieces items)
+    pub some : row.least ≤ length parts
+    pub reads : after items (many row.more next cs) ≡ read
+    pub grown : GrowsFrom signature old builder first (row.calls items)
+
+module _ {A B : Type 0} {row : Row A B} (law : IsRow row) where
+  regrouped : (items : List A) (x : A) (read : Parsed (List A)) → after row items (m.with_front (x ∷ []) read) ≡ after row (items ++ x ∷ []) read
+  regrouped items x (Ok xs) = ap (λ (l : List A). Ok (row.whole l, xs.1)) (sym (append_assoc items (x ∷ []) xs.0))
+  regrouped items x (Err d) = refl
+
+  -- the first one, of a row that has one at least
+  pub begins_row : {signature : List ℕ → Option Signature} {old builder : SyntaxBuilder} {first : List Call} {empty parts : List Part} {part : Part} {cs : List ℕ} {read : Parsed B} (x : A)
+      → row.least ≤ 1 → empty ≡ [] → parts ≡ empty ++ part ∷ [] → IsPart builder part (row.piece x) → GrowsFrom signature old builder first (calls_in_piece (row.piece x))
+      → after row (x ∷ []) (many row.more (next row) cs) ≡ read → SoFar row signature old builder first parts cs read
+  begins_row {builder = builder} {part = part} x least none pushed is grown reads = record {
+    items = x ∷ [];
+    are = rw (pushed, none, ← joined law.pieces [] x, law.pieces.none) (is, tt);
+    some = rw (pushed, none) least;
+    reads = reads;
+    grown = λ before h. grows_same (rw (← joined law.calls [] x, law.calls.none) refl) (grown before h);
+  }
+
+  module _ {cs ds : List ℕ} (there : row.more cs ≡ true) (past : ds ≡ row.before cs) where
+    -- an item is refused
+    pub row_fails : {signature : List ℕ → Option Signature} {old builder : SyntaxBuilder} {first : List Call} {parts : List Part} {read : Parsed B} → SoFar row signature old builder first parts cs read
+        → (s : Failure) → Fails s (row.item ds) → Fails s read
+    row_fails so_far failures.Memory h = tt
+    row_fails so_far (failures.Refused d) h =
+        sym so_far.reads ∙ ap (after row so_far.items) (m.many_err row.more (next row) law.takes cs d there (ap row.item (sym past) ∙ h))
+
+    -- an item is made
+    module _ {signature : List ℕ → Option Signature} {builder new : SyntaxBuilder} {part : Part} {rest : List ℕ}
+        (one : (x : A) × IsPart new part (row.piece x) × (row.item ds ≡ Ok (x, rest)) × Grows signature builder new (calls_in_piece (row.piece x))) where
+      reads_next : next row cs ≡ Ok (one.0, rest)
+      reads_next = ap row.item (sym past) ∙ one.2
+
+      pub row_shorter : length rest < length cs
+      row_shorter = law.takes.shorter cs rest one.0 there reads_next
+
+      pub row_goes_on : {old : SyntaxBuilder} {first : List Call} {parts pushed : List Part} {read : Parsed B} → SoFar row signature old builder first parts cs read
+          → pushed ≡ parts ++ part ∷ [] → SoFar row signature old new first pushed rest read
+      row_goes_on {parts = parts} so_far e = record {
+        items = so_far.items ++ one.0 ∷ [];
+        are = rw (e, ← joined law.pieces so_far.items one.0) (pushed_part new parts (row.pieces so_far.items) part (row.piece one.0) (parts_for_kept builder new one.3.trees parts (row.pieces so_far.items) so_far.are) one.1);
+        some = rw (e, length-append parts (part ∷ [])) (let some = so_far.some in omega arith);
+        reads = sym (regrouped so_far.items one.0 (many row.more (next row) rest)) ∙ ap (after row so_far.items) (sym (m.many_more row.more (next row) law.takes cs rest one.0 there reads_next)) ∙ so_far.reads;
+        grown = λ before h. grows_same (joined law.calls so_far.items one.0) (grows_then (so_far.grown before h) one.3);
+      }
+
+  -- no further item begins
+  pub row_done : {signature : List ℕ → Option Signature} {old builder : SyntaxBuilder} {first : List Call} {parts : List Part} {cs rest : List ℕ} {read : Parsed B}
+      → (so_far : SoFar row signature old builder first parts cs read) → row.more cs ≡ false → rest ≡ cs → read ≡ Ok (row.whole so_far.items, rest)
+  row_done {cs = cs} so_far ends stays =
+      sym so_far.reads ∙ ap (after row so_far.items) (m.many_end row.more (next row) cs ends) ∙ ap (λ l. Ok (row.whole l, cs)) (append-nil so_far.items)
+      ∙ ap (λ l. Ok (row.whole so_far.items, l)) (sym stays)
+
+-- ---- the rows that are read at a level: segments, selectors, and what `||` and `&&` join
+
+module _ (signature : List ℕ → Option Signature) (deeper : Deeper) where
+  abbrev pub segment_row : declared.Context → Row (SegmentKind × Segment) (List (SegmentKind × Segment))
+  segment_row here = record {
+    more = opens_next;
+    before = past_blanks;
+    item = segment_at (filter_at signature deeper) here;
+    piece = segment_piece;
+    pieces = λ ss. segment_pieces (segment_list ss);
+    calls = λ ss. calls_in_segments (segment_list ss);
+    whole = λ ss. ss;
+    least = 0;
+  }
+
+  abbrev pub selector_row : Row Selector (List Selector)
+  selector_row = record {
+    more = is_at ",";
+    before = λ cs. past_blanks (drop 1 cs);
+    item = selector_at (filter_at signature deeper);
+    piece = a_selector;
+    pieces = λ ss. selector_pieces (selector_list ss);
+    calls = λ ss. calls_in_selectors (selector_list ss);
+    whole = λ ss. ss;
+    least = 1;
+  }
+
+  abbrev pub or_row : Row LogicalAnd LogicalOr
+  or_row = record {
+    more = are_at "||";
+    before = λ cs. past_blanks (drop 2 cs);
+    item = and_at signature deeper;
+    piece = an_and;
+    pieces = λ xs. or_pieces (or_list xs);
+    calls = λ xs. calls_in_or (or_list xs);
+    whole = or_list;
+    least = 1;
+  }
+
+  abbrev pub and_row : Row Basic LogicalAnd
+  and_row = record {
+    more = are_at "&&";
+    before = λ cs. past_blanks (drop 2 cs);
+    item = basic_at signature deeper;
+    piece = a_basic;
+    pieces = λ bs. and_pieces (and_list bs);
+    calls = λ bs. calls_in_and (and_list bs);
+    whole = and_list;
+    least = 1;
+  }
+
+module _ (signature : List ℕ → Option Signature) (n : ℕ) where
+  abbrev here : Deeper
+  here = level signature n
+
+  pub segments_stand : (at : declared.Context) → IsRow (segment_row signature here at)
+  unfolding next_segment_at
+  segments_stand at = record {
+    takes = segments.next_segment_takes signature n here (level_laws signature n) at;
+    pieces = record { none = refl; some = λ s ss. refl };
+    calls = record { none = refl; some = λ s ss. refl };
+  }
+
+  pub segment_shorter : (at : declared.Context) (cs rest : List ℕ) (x : SegmentKind × Segment) → begins opens cs ≡ true → segment_at (filter_at signature here) at cs ≡ Ok (x, rest) → length rest < length cs
+  segment_shorter at = segments.segment_shorter signature n here (level_laws signature n) at
+
+  pub selectors_stand : IsRow (selector_row signature here)
+  unfolding next_selector_at
+  selectors_stand = record {
+    takes = segments.next_selector_takes signature n here (level_laws signature n);
+    pieces = record { none = refl; some = λ s ss. refl };
+    calls = record { none = refl; some = λ s ss. refl };
+  }
+
+  pub ors_stand : IsRow (or_row signature here)
+  unfolding next_and_at
+  ors_stand = record {
+    takes = next_and_takes signature n here (level_laws signature n);
+    pieces = record { none = refl; some = λ x xs. refl };
+    calls = record { none = refl; some = λ x xs. refl };
+  }
+
+  pub ands_stand : IsRow (and_row signature here)
+  unfolding next_basic_at
+  ands_stand = record {
+    takes = next_basic_takes signature n here (level_laws signature n);
+    pieces = record { none = refl; some = λ b bs. refl };
+    calls = record { none = refl; some = λ b bs. refl };
+  }
+
+-- where there is one part at least
+pub some_selectors : (builder : SyntaxBuilder) (parts : List Part) (ss : List Selector) → 1 ≤ length parts → ArePartsFor builder parts (selector_pieces (selector_list ss))
+    → AreSelectorsOf builder parts (selector_list ss)
+some_selectors builder [] ss some h = absurd (omega (arith, some))
+some_selectors builder (part ∷ parts) ss some h = h
+
+pub some_ors : (builder : SyntaxBuilder) (parts : List Part) (e : LogicalOr) → 1 ≤ length parts → ArePartsFor builder parts (or_pieces e) → AreOrPartsOf builder parts e
+some_ors builder [] e some h = absurd (omega (arith, some))
+some_ors builder (part ∷ parts) e some h = h
+
+pub some_ands : (builder : SyntaxBuilder) (parts : List Part) (e : LogicalAnd) → 1 ≤ length parts → ArePartsFor builder parts (and_pieces e) → AreAndPartsOf builder parts e
+some_ands builder [] e some h = absurd (omega (arith, some))
+some_ands builder (part ∷ parts) e some h = h
+
+-- ---- parts of arguments
+
+-- no argument is put after others
+pub none_made : {S : Type 0} {g : Ghosts S} (signature : List ℕ → Option Signature) (builder : SyntaxBuilder) (parts : List Part) (result : Result Unit Failure) (reader : Reader S g) (read : Parsed Arguments)
+    → Gives (λ u. no_arguments) result reader read → MakesArguments signature builder builder parts parts result reader read
+none_made signature builder parts (Ok u) reader read h = (no_arguments, ([], sym (append-nil parts), tt), h, grows_none builder)
+none_made signature builder parts (Err s) reader read h = h
+
+-- One is put after others, and those that are read after it.
+one_made : {S : Type 0} {g : Ghosts S} {signature : List ℕ → Option Signature} {old builder : SyntaxBuilder} {mid : List Part} {part : Part}
+    (a : Argument) (new : SyntaxBuilder) (before after : List Part) (reader : Reader S g) (result : Result Unit Failure) (read whole : Parsed Arguments) → mid ≡ before ++ part ∷ [] → IsPart builder part (an_argument a) → Grows signature old builder (calls_in_argument a)
+    → whole ≡ (read >>= λ more. Ok (argument a more.0, more.1))
+    → MakesArguments signature builder new mid after result reader read → MakesArguments signature old new before after result reader whole
+one_made {part = part} a new before after reader (Ok u) read whole pushed is grown e h = (
+  argument a h.0,
+  (part ∷ h.1.0, h.1.1 ∙ ap (λ (ps : List Part). ps ++ h.1.0) pushed ∙ append_assoc before (part ∷ []) h.1.0, (h.3.trees part (an_argument a) is, h.1.2)),
+  e ∙ ap (λ (y : Parsed Arguments). y >>= λ more. Ok (argument a more.0, more.1)) h.2,
+  grows_then grown h.3,
+)
+one_made a new before after reader (Err s) read whole pushed is grown e h = rw e (first_fails s read _ h)
+
+-- What a loop has made so far: with what is made of the arguments that are left, the parts make up the whole.
+pub record LeadsTo {S : Type 0} (g : Ghosts S) (signature : List ℕ → Option Signature) (old builder : SyntaxBuilder) (before parts : List Part) (others whole : Parsed Arguments) : Type 0 where
+  pub made : (new : SyntaxBuilder) (after : List Part) (reader : Reader S g) (result : Result Unit Failure)
+      → MakesArguments signature builder new parts after result reader others → MakesArguments signature old new before after result reader whole
+
+-- one more is put after them
+pub one_more : {S : Type 0} {g : Ghosts S} {signature : List ℕ → Option Signature} {old builder new : SyntaxBuilder} {before parts pushed : List Part} {part : Part} {read others whole : Parsed Arguments}
+    (a : Argument) → LeadsTo g signature old builder before parts read whole → pushed ≡ parts ++ part ∷ [] → IsPart new part (an_argument a) → Grows signature builder new (calls_in_argument a)
+    → read ≡ (others >>= λ more. Ok (argument a more.0, more.1)) → LeadsTo g signature old new before pushed others whole
+one_more {parts = parts} {read = read} {others = others} a so_far put is grown e =
+    record { made = λ new after reader result made. so_far.made new after reader result (one_made a new parts after reader result others read put is grown e made) }
+
+-- ---- where the first of them is refused, or does not end
+
+module _ (signature : List ℕ → Option Signature) (deeper : Deeper) (start : ℕ) where
+  pub first_refused : (kinds : List Kind) (cs : List ℕ) (s : Failure) → Fails s (argument_at signature deeper cs) → Fails s (arguments_at signature deeper start kinds cs)
+  unfolding arguments_at
+  first_refused [] cs s h = first_fails s _ _ h
+  first_refused (kind ∷ kinds) cs s h = first_fails s _ _ h
+
+  pub first_open : (kinds : List Kind) (cs : List ℕ) (a : Argument × List ℕ) → argument_at signature deeper cs ≡ Ok a → begins ends_argument a.1 ≡ false
+      → arguments_at signature deeper start kinds cs ≡ Err (refusal ExpectedClosingParenthesis context.LongHand a.1)
+  unfolding arguments_at
+  first_open [] cs a read no_end = rw (read, no_end) refl
+  first_open (kind ∷ kinds) cs a read no_end = rw (read, no_end) refl
+
+-- ---- which literal a word is
+
+-- what reading gives where the word is that literal's, or none's
+abbrev pub read_literal : Option Literal → List ℕ → Parsed Operand
+read_literal (Some l) cs = Ok (a_literal l, past_blanks (past_word cs))
+read_literal None cs = Err (refusal ExpectedExpression context.LongHand cs)
+
+-- the tests for each literal's word, one after another, give what the word's literal does
+pub literal_word_reads : (cs : List ℕ) → literal_word_at cs ≡ read_literal (literal_word (word cs)) cs
+unfolding literal_word_at
+literal_word_reads cs = grind (arith, nat_tests)
+
+-- ---- the steps of the code within a filter
+
+-- how what stands in a filter, a parenthesis or a call is read one level deeper
+pub level_down : (signature : List ℕ → Option Signature) (n m : ℕ) → 0 < n → m ≡ n - 1 → level signature n ≡ record {
+  expression = λ start cs. or_at signature (level signature m) cs;
+  call_of = λ start f cs. call_at signature (level signature m) start f (signature f) cs;
+}
+unfolding level
+level_down signature zero m l e = absurd (omega (arith, l))
+level_down signature (suc n) m l e = let same : m ≡ n = omega (arith, e) in rw same refl
+
+module _ (signature : List ℕ → Option Signature) (deeper : Deeper) where
+  -- a selector that begins with `?` is a filter
+  pub at_mark : (cs : List ℕ) → is_at "?" cs ≡ true → selector_at (filter_at signature deeper) cs ≡ (deeper.expression (byte_count cs) (past_blanks (drop 1 cs)) >>= λ e. Ok (filter e.0, e.1))
+  unfolding selector_at filter_at
+  at_mark cs mark =
+      let other : (k : ℕ) → (k == 63) ≡ false → begins (λ c. c == k) cs ≡ false = λ k differs. begins_differs (λ c. c == 63) k cs differs mark in
+      rw (other 39 refl, other 34 refl, other 42 refl, other 58 refl, mark) refl
+
+-- whether a result is a value
+pub value_kind : (kind : FunctionArgType) → is_result of_value (Some (kind_view kind)) ≡ sameb the_type kind results.Value
+value_kind results.Value = refl
+value_kind _ = refl
+
+-- ---- the steps of the code at operands, and at what an argument's type is
+
+pub alone_calls : (x : Operand) → calls_in_operand x ≡ calls_in_argument (alone x)
+alone_calls (a_literal l) = refl
+alone_calls _ = refl
+
+-- a test that says whether a query is a singular one
+pub singular_by : (b : Bool) (q : Query) → IsTrue b ↔ IsSingular q → is_singular q ≡ b
+singular_by b q h = same_from_decides (is_singular q) b (singular_query q, query_singular q) h
+
+-- a test that says whether a literal is one for a parameter of values
+pub value_by : (b : Bool) (l : Literal) → IsTrue b ↔ IsValueLiteral l → b ≡ is_value_literal l
+value_by b (number amount) h = same_from_decides b (is_whole amount) h (whole_amount amount, λ w. amount_whole amount w.0 w.1)
+value_by b _ h = h.1 tt

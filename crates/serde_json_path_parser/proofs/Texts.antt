@@ -1,6 +1,226 @@
--- Texts and their bytes.
+-- Bytes and the characters that they encode: the character at a place, by its first byte, and ASCII characters that are taken many at a time.
+use Rattle.std.proofs.Common.{◌≡◌, ℕ, ◌+◌, ◌*◌, ◌%◌, ◌<◌, ◌≤◌, inl, inr, true, List, [], ◌∷◌, length, get_or, drop, Some, refl, sym, ap, subst, ◌∙◌, arith, true≢false, Option, None, zero, suc, ◌-◌, Bool, ◌++◌, take, set, if◌then◌else◌, append_assoc}
+use Rattle.serde_json_path_parser.proofs.Words.{slice_get, IsUtf8, encode_utf8_all, StartsWithChar, get_or-drop, slice_get_within, slice_get-get_or}
+use Rattle.serde_json_path_parser.proofs.Words.{same_Some, none-some, length-drop, cases_lt, ◌==◌, is_utf8, chars, eqb-true, drop-drop, drop_all}
+use Rattle.serde_json_path_parser.proofs.Words.{IsUtf8-from_is_utf8, is_utf8-from_IsUtf8, chars-nil, chars_past_char, byte_from_char, char_from_byte}
+use Rattle.serde_json_path_parser.proofs.Words.{is_ascii, IsAhead, begins, nat_le, nat_lt, ◌^◌, max, IsAscii, and_parts, cases_Bool, length-take-le}
+use Rattle.serde_json_path_parser.proofs.Words.{take_more_set, encodes-append, encodes-IsAscii, AllPass, is_name_char, is_plain, front, past, Told}
+use Rattle.serde_json_path_parser.proofs.Words.{one_more, looked, LooksOn, is_ascii_name_char, is_ascii_plain, Gathered, Stretched, IsSome}
+use Rattle.std.proofs.iter.FirstChar.{wide, in_one, in_two, in_three, in_four}
+use Rattle.std.specs.Char.{IsScalar}
+use Rattle.serde_json_path_parser.proofs.Reading.{past_through}
 
--- bytes and the characters that they encode: the character at a place, by its first byte
-pub mod Decoding
--- the ASCII characters that are taken many at a time
-pub mod Stretches
+-- ---- the character at a place of a text, by its first byte
+
+abbrev pub Read : List ℕ → ℕ → ℕ → Type 0
+Read bs c w = IsScalar c × StartsWithChar bs c w
+
+module _ (text : List ℕ) (at lead : ℕ) (utf8 : IsUtf8 (drop at text)) (is : slice_get text at ≡ Some lead) where
+  pub within : at < length text
+  within = slice_get_within text at lead is
+
+  some : 0 < length (drop at text)
+  some = omega (arith, within, length-drop at text)
+
+  pub at_byte : (k : ℕ) → get_or (drop at text) k 0 ≡ get_or text (at + k) 0
+  at_byte k = rw get_or-drop refl
+
+  pub lead_is : get_or (drop at text) 0 0 ≡ lead
+  lead_is = let e : at + 0 ≡ at = omega arith in rw (at_byte 0, e) (same_Some _ _ (sym (slice_get-get_or text at 0 within) ∙ is))
+
+  pub second : 128 ≤ lead → at + 1 < length text
+  second t = let k = (wide (drop at text) utf8 some).0 (rw lead_is t) in omega (arith, k, within, length-drop at text)
+
+  pub third : 224 ≤ lead → at + 2 < length text
+  third t = let k = (wide (drop at text) utf8 some).1 (rw lead_is t) in omega (arith, k, within, length-drop at text)
+
+  pub fourth : 240 ≤ lead → at + 3 < length text
+  fourth t = let k = (wide (drop at text) utf8 some).2 (rw lead_is t) in omega (arith, k, within, length-drop at text)
+
+  pub one : lead < 128 → Read (drop at text) lead 1
+  one t = subst (λ (c : ℕ). Read (drop at text) c 1) lead_is (in_one (drop at text) utf8 some (rw lead_is t))
+
+  pub two : (y : ℕ) → y ≡ get_or text (at + 1) 0 % 64 → 128 ≤ lead → lead < 224 → Read (drop at text) (lead % 32 * 64 + y) 2
+  two y f t v = subst (λ (c : ℕ). Read (drop at text) c 2) (rw (lead_is, at_byte 1, f) refl) (in_two (drop at text) utf8 some (rw lead_is t) (rw lead_is v))
+
+  pub three : (y z : ℕ) → y ≡ get_or text (at + 1) 0 % 64 → z ≡ get_or text (at + 2) 0 % 64 → 224 ≤ lead → lead < 240 → Read (drop at text) (lead % 16 * 4096 + y * 64 + z) 3
+  three y z f g t v = subst (λ (c : ℕ). Read (drop at text) c 3) (rw (lead_is, at_byte 1, at_byte 2, f, g) refl) (in_three (drop at text) utf8 some (rw lead_is t) (rw lead_is v))
+
+  pub four : (y z x : ℕ) → y ≡ get_or text (at + 1) 0 % 64 → z ≡ get_or text (at + 2) 0 % 64 → x ≡ get_or text (at + 3) 0 % 64 → 240 ≤ lead → Read (drop at text) (lead % 8 * 262144 + y * 4096 + z * 64 + x) 4
+  four y z x f g i t = subst (λ (c : ℕ). Read (drop at text) c 4) (rw (lead_is, at_byte 1, at_byte 2, at_byte 3, f, g, i) refl) (in_four (drop at text) utf8 some (rw lead_is t))
+
+-- ---- what a reader's fields say of the characters that are left
+
+none_past : (xs : List ℕ) (i : ℕ) → slice_get xs i ≡ None → drop i xs ≡ []
+none_past xs i e = drop_all i xs (elim (cases_lt i (length xs)) [ inl k ↦ absurd (none-some _ (sym e ∙ slice_get-get_or xs i 0 k)) | inr k ↦ k ])
+
+pub utf8_of : (bs : List ℕ) → is_utf8 bs ≡ true → IsUtf8 bs
+utf8_of bs e = IsUtf8-from_is_utf8 bs e
+
+ahead_some : (bs : List ℕ) (b : ℕ) → IsUtf8 bs → 0 < length bs → get_or bs 0 0 ≡ b → IsAhead (Some b) (chars bs)
+ahead_some bs b ([], (s, split)) l e = absurd (omega (arith, ap length split))
+ahead_some bs b (c ∷ more, (s, split)) l e =
+    let cs : chars bs ≡ c ∷ chars (encode_utf8_all more) = chars_past_char bs (encode_utf8_all more) c (c ∷ more, (s, split)) (sym split) in (
+      c,
+      cs ∙ ap (λ (r : List ℕ). c ∷ r) (sym (ap (drop 1) cs)),
+      (λ t. char_from_byte bs (encode_utf8_all more) c (sym split) (omega (arith, e)) l ∙ e),
+      (λ t. elim (cases_lt c 128) [ inl k ↦ absurd (omega (arith, byte_from_char bs (encode_utf8_all more) c (sym split) k, e)) | inr k ↦ k ]),
+    )
+
+pub ahead : (text : List ℕ) (at : ℕ) (o : Option ℕ) → is_utf8 (drop at text) ≡ true → o ≡ slice_get text at → IsAhead o (chars (drop at text))
+ahead text at None u e = ap chars (none_past text at (sym e)) ∙ chars-nil
+ahead text at (Some b) u e =
+    let w : at < length text = within text at b (utf8_of _ u) (sym e) in
+    ahead_some (drop at text) b (utf8_of _ u) (omega (arith, length-drop at text)) (lead_is text at b (utf8_of _ u) (sym e))
+
+-- a step over the character at a place
+pub record Step (text : List ℕ) (at c w : ℕ) : Type 0 where
+  pub left : chars (drop at text) ≡ c ∷ chars (drop (at + w) text)
+  pub within : at + w ≤ length text
+  pub utf8 : is_utf8 (drop (at + w) text) ≡ true
+
+pub step : (text : List ℕ) (at c w : ℕ) → at ≤ length text → is_utf8 (drop at text) ≡ true → StartsWithChar (drop at text) c w → Step text at c w
+step text at c w l u s =
+    let past : drop w (drop at text) ≡ drop (at + w) text = drop-drop w at text in
+    record {
+      left = chars_past_char (drop at text) (drop w (drop at text)) c (utf8_of _ u) s.0 ∙ ap (λ (r : List ℕ). c ∷ chars r) past;
+      within = omega (arith, s.3, length-drop at text);
+      utf8 = is_utf8-from_IsUtf8 (drop (at + w) text) (subst IsUtf8 past s.4);
+    }
+
+-- a step over an ASCII character
+pub step_one : (text : List ℕ) (at lead : ℕ) → at ≤ length text → is_utf8 (drop at text) ≡ true → slice_get text at ≡ Some lead → lead < 128 → Step text at lead 1
+step_one text at lead l u e ascii = step text at lead 1 l u (one text at lead (utf8_of _ u) e ascii).1
+
+-- what the byte after an ASCII one tells of the characters after the first
+pub ahead_second : (text : List ℕ) (at : ℕ) (next second : Option ℕ) → at ≤ length text → is_utf8 (drop at text) ≡ true → next ≡ slice_get text at → is_ascii next ≡ true → second ≡ slice_get text (at + 1)
+    → IsAhead second (drop 1 (chars (drop at text)))
+ahead_second text at None second l u e a f = absurd cc
+ahead_second text at (Some lead) second l u e a f =
+    let s = step_one text at lead l u (sym e) (grind (arith, a)) in
+    subst (IsAhead second) (sym (ap (drop 1) s.left)) (ahead text (at + 1) second s.utf8 f)
+
+-- the byte that is next is ASCII where such a character is
+pub ascii_begun : (next : Option ℕ) (cs : List ℕ) (k : ℕ) → IsAhead next cs → k < 128 → begins (λ c. c == k) cs ≡ true → is_ascii next ≡ true
+ascii_begun None cs k a l e = absurd (true≢false (sym e ∙ ap (begins (λ c. c == k)) a))
+ascii_begun (Some b) cs k a l e =
+    let same : a.0 ≡ k = eqb-true a.0 k (sym (ap (begins (λ c. c == k)) a.1) ∙ e) in
+    elim (cases_lt b 128) [ inl lt ↦ grind (arith, lt) | inr le ↦ absurd (omega (arith, a.3 le, same, l)) ]
+
+-- where a character is left there is a byte
+pub some_next : (text : List ℕ) (at : ℕ) (next : Option ℕ) → next ≡ slice_get text at → 0 < length (chars (drop at text)) → IsSome next
+some_next text at next is l = elim (cases_lt at (length text)) [
+  | inl k ↦ subst IsSome (sym (is ∙ slice_get-get_or text at 0 k)) refl
+  | inr k ↦ absurd (omega (arith, ap (λ (r : List ℕ). length (chars r)) (drop_all at text k), ap length chars-nil, l))
+]
+
+-- ---- an ASCII character of a name
+
+pub below_128 : (c : ℕ) → is_ascii_name_char c ≡ true → c < 128
+below_128 c e = let h = (and_parts (nat_le c 127) (is_name_char c) e).0 in grind arith
+
+in_name : (c : ℕ) → is_ascii_name_char c ≡ true → is_name_char c ≡ true
+in_name c e = (and_parts (nat_le c 127) (is_name_char c) e).1
+
+-- ---- lists of them
+
+pub all_ascii : (p : ℕ → Bool) → ((c : ℕ) → p c ≡ true → c < 128) → (cs : List ℕ) → AllPass p cs → IsAscii cs
+all_ascii p ascii [] h i = omega arith
+all_ascii p ascii (c ∷ cs) h zero = ascii c h.0
+all_ascii p ascii (c ∷ cs) h (suc i) = all_ascii p ascii cs h.1 i
+
+all_in_name : (cs : List ℕ) → AllPass is_ascii_name_char cs → AllPass is_name_char cs
+all_in_name [] h = tt
+all_in_name (c ∷ cs) h = (in_name c h.0, all_in_name cs h.1)
+
+all_more : (p : ℕ → Bool) (cs : List ℕ) (c : ℕ) → AllPass p cs → p c ≡ true → AllPass p (cs ++ c ∷ [])
+all_more p [] c h e = (e, tt)
+all_more p (d ∷ cs) c h e = (h.0, all_more p cs c h.1 e)
+
+front_past : (p : ℕ → Bool) (cs rest : List ℕ) → AllPass p cs → front p (cs ++ rest) ≡ cs ++ front p rest
+front_past p [] rest h = refl
+front_past p (c ∷ cs) rest h = rw h.0 (ap (λ (l : List ℕ). c ∷ l) (front_past p cs rest h.1))
+
+-- where the first character is of a class, so is its first byte
+pub first_fits : (p : ℕ → Bool) → ((c : ℕ) → p c ≡ true → c < 128) → (b : ℕ) (cs : List ℕ) → IsAhead (Some b) cs → begins p cs ≡ true → p b ≡ true
+first_fits p ascii b cs a e =
+    let first : p a.0 ≡ true = sym (ap (begins p) a.1) ∙ e in
+    elim (cases_lt b 128) [ inl k ↦ ap p (sym (a.2 k)) ∙ first | inr k ↦ absurd (omega (arith, a.3 k, ascii a.0 first)) ]
+
+-- ---- looks
+
+at_most : (n : ℕ) → one_more n ≤ n + 1
+at_most n = elim (cases_Bool (nat_lt n (2 ^ 128 - 1))) [ inl e ↦ rw e (omega arith) | inr e ↦ rw e (omega arith) ]
+
+-- one look more, at the next byte
+pub looked_on : (old mid now : Told) (count number at : ℕ) → LooksOn old mid count number → now ≡ looked mid at → number ≤ at + 1 → LooksOn old now (count + 1) (at + 1)
+looked_on old mid now count number at h e le =
+    let more : one_more mid.looks ≤ mid.looks + 1 = at_most mid.looks in
+    record {
+      same_text = ap (λ (t : Told). t.text) e ∙ h.same_text;
+      looks = let k = h.looks in let is : now.looks ≡ one_more mid.looks = ap (λ (t : Told). t.looks) e in omega (arith, k, is, more);
+      farthest = let k = h.farthest in let is : now.farthest ≡ max mid.farthest (at + 1) = ap (λ (t : Told). t.farthest) e in omega (arith, k, is, le);
+    }
+
+-- ---- a part of a name
+
+-- the first character alone
+pub first_gathered : (p : ℕ → Bool) (text : List ℕ) (index first : ℕ) (part : List ℕ) → first < 128 → index ≤ length text → is_utf8 (drop index text) ≡ true → slice_get text index ≡ Some first
+    → p first ≡ true → take 1 part ≡ first ∷ [] → Gathered p text index (index + 1) part
+first_gathered p text index first part low l u is fits e =
+    let s = step_one text index first l u is low in
+    let one : (index + 1) - index ≡ 1 = omega arith in
+    record { within = s.within; utf8 = s.utf8; taken = rw (one, e) s.left; each = rw (one, e) (fits, tt) }
+
+-- one character more
+pub more_gathered : (p : ℕ → Bool) (text : List ℕ) (index at c : ℕ) (part : List ℕ) → c < 128 → index ≤ at → at - index < length part → slice_get text at ≡ Some c
+    → p c ≡ true → Gathered p text index at part → Gathered p text index (at + 1) (set part (at - index) c)
+more_gathered p text index at c part low le l is fits h =
+    let s = step_one text at c h.within h.utf8 is low in
+    let count : (at + 1) - index ≡ (at - index) + 1 = omega (arith, le) in
+    let e : take ((at - index) + 1) (set part (at - index) c) ≡ take (at - index) part ++ c ∷ [] = take_more_set part (at - index) c l in
+    record {
+      within = s.within;
+      utf8 = s.utf8;
+      taken = rw count (h.taken ∙ ap (λ (r : List ℕ). take (at - index) part ++ r) s.left ∙ sym (append_assoc (take (at - index) part) (c ∷ []) _) ∙ ap (λ (r : List ℕ). r ++ chars (drop (at + 1) text)) (sym e));
+      each = rw (count, e) (all_more p (take (at - index) part) c h.each fits);
+    }
+
+-- a text with a part after it, and then the rest of the name
+pub front_part : (cs part rest text : List ℕ) → AllPass is_ascii_name_char part → cs ≡ part ++ rest
+    → (text ++ part) ++ encode_utf8_all (front is_name_char rest) ≡ text ++ encode_utf8_all (front is_name_char cs)
+front_part cs part rest text h e =
+    let inside : encode_utf8_all (front is_name_char cs) ≡ part ++ encode_utf8_all (front is_name_char rest) =
+    ap (λ (l : List ℕ). encode_utf8_all (front is_name_char l)) e
+    ∙ ap encode_utf8_all (front_past is_name_char part rest (all_in_name part h))
+    ∙ encodes-append part (front is_name_char rest)
+    ∙ ap (λ (l : List ℕ). l ++ encode_utf8_all (front is_name_char rest)) (encodes-IsAscii part (all_ascii is_ascii_name_char below_128 part h)) in
+    append_assoc text part _ ∙ ap (λ (l : List ℕ). text ++ l) (sym inside)
+
+-- the same of a stretch
+pub name_stretched : (cs rest old new : List ℕ) (ok : Bool) → ok ≡ true → Stretched is_ascii_name_char cs rest old new ok
+    → new ++ encode_utf8_all (front is_name_char rest) ≡ old ++ encode_utf8_all (front is_name_char cs)
+name_stretched cs rest old new ok done s = ap (λ (l : List ℕ). l ++ encode_utf8_all (front is_name_char rest)) (s.text done) ∙ front_part cs s.part rest old s.each s.taken
+
+-- what is after a name stays as a part of it is taken
+pub past_stretched : (cs rest old new : List ℕ) (ok : Bool) → Stretched is_ascii_name_char cs rest old new ok → past is_name_char rest ≡ past is_name_char cs
+past_stretched cs rest old new ok s = sym (ap (past is_name_char) s.taken ∙ past_through is_name_char s.part rest (all_in_name s.part s.each))
+
+-- what is gathered is a stretch
+pub stretched : (p : ℕ → Bool) (text : List ℕ) (index end : ℕ) (part old new : List ℕ) (ok : Bool) → index < end → end - index ≤ length part → Gathered p text index end part
+    → new ≡ (if ok then old ++ take (end - index) part else old) → Stretched p (chars (drop index text)) (chars (drop end text)) old new ok
+stretched p text index end part old new ok some long h is = record {
+  part = take (end - index) part;
+  some = omega (arith, length-take-le (end - index) part long);
+  each = h.each;
+  taken = h.taken;
+  text = λ e. is ∙ ap (λ b. if b then old ++ take (end - index) part else old) e;
+}
+
+-- ---- characters of a string that stand for themselves
+
+pub plain_below_128 : (quote c : ℕ) → is_ascii_plain quote c ≡ true → c < 128
+plain_below_128 quote c e = let h = (and_parts (nat_le c 127) (is_plain quote c) e).0 in grind arith
+
+pub plain_of : (quote c : ℕ) → is_ascii_plain quote c ≡ true → is_plain quote c ≡ true
+plain_of quote c e = (and_parts (nat_le c 127) (is_plain quote c) e).1

@@ -1,27 +1,25 @@
 -- Arguments and calls, by what holds one level deeper; and the laws of these pieces at every level.
 use Rattle.std.proofs.Common.{cond, ◌≡◌, ℕ, ◌≤◌, inl, inr, Bool, true, false, List, [], ◌∷◌, ◌++◌, Option, Some, Ok, Err, refl, sym, ap, subst, ◌∙◌, append_assoc, arith, ◌+◌, zero, suc, drop, None}
-use Rattle.serde_json_path_parser.proofs.Words.{Call, ◌==◌, ◌||◌, ℤ, pos, negsuc, ◌*ℤ◌, ◌-ℤ◌, ◌/◌, ◌%◌, ◌*◌, eqb-true, eq-eqb, or_parts, ints, cases_Bool}
-use Rattle.serde_json_path_parser.proofs.Words.{div-add-mod', LogicalOr, LogicalAnd, Basic, exist, test, Argument, literal_argument, query_argument}
-use Rattle.serde_json_path_parser.proofs.Words.{call_argument, logical_argument, number, Operator, no_or, or, no_and, and, result_kind, TakesResult}
-use Rattle.serde_json_path_parser.proofs.Words.{IsTypedArgument, argument_depth, Kind, of_value, of_nodes, of_logical, Signature, WrongReturnType}
-use Rattle.serde_json_path_parser.proofs.Words.{is_at, are_at, begins, begins_both, IsBlank, StandsAlone, ReadsArgument, ◌>>=◌, refusal, past_blanks}
-use Rattle.serde_json_path_parser.proofs.Words.{byte_count, Operand, a_literal, a_call, is_result, is_test, takes_result, is_whole, fits, alone}
-use Rattle.serde_json_path_parser.proofs.Words.{ends_argument, Deeper, operand_at, test_at, relation_at, basic_from, basic_at, next_basic_at}
-use Rattle.serde_json_path_parser.proofs.Words.{and_from, and_at, next_and_at, or_from, or_at, logical_from, argument_at, mul-mod_left, is_blank}
-use Rattle.serde_json_path_parser.proofs.Words.{ReadsCall, append-nil, Reads, Parsed, codes, call, Arguments, no_arguments, argument}
-use Rattle.serde_json_path_parser.proofs.Words.{AreTypedArguments, IsTypedCall, arguments_depth, call_depth}
-use Rattle.serde_json_path_parser.proofs.Words.{ExpectedClosingParenthesis, WrongArgumentType, UndefinedFunction, WrongNumberOfArguments}
-use Rattle.serde_json_path_parser.proofs.Words.{IsFunctionName, ReadMoreArguments, ReadArguments, ended, arguments_at, parameters_at, call_at}
-use Rattle.serde_json_path_parser.proofs.Words.{NestedTooDeep, level}
+use Rattle.serde_json_path_parser.proofs.Words.{Call, ◌==◌, ◌||◌, ℤ, pos, negsuc, ◌*ℤ◌, ◌-ℤ◌, ◌/◌, ◌%◌, ◌*◌, eqb-true, eq-eqb, or_parts, ints}
+use Rattle.serde_json_path_parser.proofs.Words.{cases_Bool, div-add-mod', LogicalOr, LogicalAnd, Basic, exist, test, Argument, literal_argument}
+use Rattle.serde_json_path_parser.proofs.Words.{query_argument, call_argument, logical_argument, number, Operator, no_or, or, no_and, and}
+use Rattle.serde_json_path_parser.proofs.Words.{result_kind, TakesResult, IsTypedArgument, argument_depth, Kind, of_value, of_nodes, of_logical}
+use Rattle.serde_json_path_parser.proofs.Words.{Signature, WrongReturnType, is_at, are_at, begins, begins_both, IsBlank, StandsAlone, ReadsArgument}
+use Rattle.serde_json_path_parser.proofs.Words.{◌>>=◌, refusal, past_blanks, byte_count, Operand, a_literal, a_call, is_result, is_test, takes_result}
+use Rattle.serde_json_path_parser.proofs.Words.{is_whole, fits, alone, ends_argument, Deeper, operand_at, test_at, relation_at, basic_from, basic_at}
+use Rattle.serde_json_path_parser.proofs.Words.{next_basic_at, and_from, and_at, next_and_at, or_from, or_at, logical_from, argument_at, mul-mod_left}
+use Rattle.serde_json_path_parser.proofs.Words.{is_blank, ReadsCall, append-nil, Reads, Parsed, codes, call, Arguments, no_arguments, argument}
+use Rattle.serde_json_path_parser.proofs.Words.{AreTypedArguments, IsTypedCall, arguments_depth, call_depth, ExpectedClosingParenthesis}
+use Rattle.serde_json_path_parser.proofs.Words.{WrongArgumentType, UndefinedFunction, WrongNumberOfArguments, IsFunctionName, ReadMoreArguments}
+use Rattle.serde_json_path_parser.proofs.Words.{ReadArguments, ended, arguments_at, parameters_at, call_at, NestedTooDeep, level}
 use Rattle.serde_json_path_parser.specs.declared.error.Context.TheVariants as context
 use Rattle.serde_json_path_parser.specs.Operands.{a_query}
-use Rattle.serde_json_path_parser.proofs.Reading.Runs.{past_all, split_again, blanks_of, are_blank, split_blanks, past_some, spread, begins_where, differs, no_blank, begins_differs}
+use Rattle.serde_json_path_parser.proofs.Reading.{past_all, split_again, blanks_of, are_blank, split_blanks, past_some, spread, begins_where, differs, no_blank, begins_differs, Read, Spaced, bind_ok, ok_is, after_one, many_end, Inner, onward, choose, remade, read_as, Outcome, weaker_spaced, refused, past_text, Past, onward_at, read_spaced, after_sign, past_spaced}
 use Rattle.serde_json_path_syntax.proofs.Tree.NamedParts.{query_singular}
-use Rattle.serde_json_path_parser.proofs.Grammar.LogicalForms.{IsGoodOr, IsGoodQuery, IsGoodCall, DeeperLaws, singular_query, Follows, ends_operand, ends_basic, ends_or, IsOperandText, IsOrText, begins_operand, begins_expression, operand_begins, as_expression, or_begins, no_blank_begins}
+use Rattle.serde_json_path_parser.proofs.Grammar.LogicalForms.{IsGoodOr, IsGoodQuery, IsGoodCall, DeeperLaws, singular_query, ends_operand, ends_basic, ends_or, IsOperandText, IsOrText, begins_operand, begins_expression, operand_begins, as_expression, or_begins, no_blank_begins}
 use Rattle.serde_json_path_parser.proofs.Grammar.LogicalExpressions.{or_again, or_outcome, and_from_outcome, or_from_outcome}
 use Rattle.serde_json_path_parser.proofs.Grammar.Comparisons.{operand_again, operand_outcome, no_operator, basic_from_outcome}
-use Rattle.serde_json_path_parser.proofs.Reading.Many.{Read, Spaced, bind_ok, ok_is, after_one, many_end}
-use Rattle.serde_json_path_parser.proofs.Reading.Outcomes.{Inner, onward, choose, remade, read_as, Outcome, weaker_spaced, refused, past, Past, onward_at, read_spaced, after_sign, past_spaced, at_sign}
+use Rattle.serde_json_path_parser.proofs.Rows.{Follows, at_sign}
 
 -- ---- types of arguments
 
@@ -302,7 +300,7 @@ module _ (signature : List ℕ → Option Signature) (n : ℕ) (deeper : Deeper)
   unfolding arguments_at
   arguments_outcome before start [] cs split =
       onward_at before split (argument_outcome signature n deeper laws cs) (λ a f s. choose (λ _. refused WrongNumberOfArguments context.LongHand (inl refl)) (λ _.
-      past (before ++ s.text) (split_again before s.text a.1 split s.split) (refused ExpectedClosingParenthesis context.LongHand (inl refl))))
+      past_text (before ++ s.text) (split_again before s.text a.1 split s.split) (refused ExpectedClosingParenthesis context.LongHand (inl refl))))
   arguments_outcome before start (kind ∷ kinds) cs split =
       onward_at before split (argument_outcome signature n deeper laws cs) (λ a f s.
       let t = s.is_so.0 in
@@ -320,8 +318,8 @@ module _ (signature : List ℕ → Option Signature) (n : ℕ) (deeper : Deeper)
       (arguments_outcome (here ++ (44 ∷ i)) start kinds (past_blanks (drop 1 a.1)) (split_again here (44 ∷ i) (past_blanks (drop 1 a.1)) whole (after_sign 44 a.1 comma))))
       (λ no_comma.
       ended_outcome start (here ++ 41 ∷ []) kinds (drop 1 a.1) (split_again here (41 ∷ []) (drop 1 a.1) whole (after_one 41 a.1 (closes a.1 ends no_comma))) (λ none. (41 ∷ [], ((none, omega arith), [], k, refl, s.is_so.3, refl), refl)))))
-      (λ _. past before split (refused WrongArgumentType context.LongHand (inl refl))))
-      (λ _. past here whole (refused ExpectedClosingParenthesis context.LongHand (inl refl))))
+      (λ _. past_text before split (refused WrongArgumentType context.LongHand (inl refl))))
+      (λ _. past_text here whole (refused ExpectedClosingParenthesis context.LongHand (inl refl))))
     where
       closes : (cs : List ℕ) → begins ends_argument cs ≡ true → is_at "," cs ≡ false → is_at ")" cs ≡ true
       closes [] e h = absurd cc

@@ -12,15 +12,13 @@ use Rattle.serde_json_path_parser.proofs.Words.{NonSingularQuery, WrongReturnTyp
 use Rattle.serde_json_path_parser.proofs.Words.{operator_at, comparable_at, test_at, right_side_at, relation_at, basic_from}
 use Rattle.serde_json_path_parser.specs.declared.error.Context.TheVariants as context
 use Rattle.serde_json_path_parser.specs.Operands.{a_query}
-use Rattle.serde_json_path_parser.specs.Filters.{filter_at}
 use Rattle.serde_json_path_syntax.proofs.Tree.NamedParts.{query_singular}
-use Rattle.serde_json_path_parser.proofs.Grammar.LogicalForms.{filter_laws, IsGoodInside, IsGoodQuery, IsGoodCall, good_segments, DeeperLaws, Follows, ends_operand, segments_good, IsCallText, IsOperandText, singular_query, ends_basic, IsBasicText, IsComparableText, begins_operand, operand_begins, as_expression, no_blank_begins}
+use Rattle.serde_json_path_parser.proofs.Grammar.LogicalForms.{IsGoodQuery, IsGoodCall, DeeperLaws, ends_operand, IsCallText, IsOperandText, singular_query, ends_basic, IsBasicText, IsComparableText, begins_operand, operand_begins, as_expression, no_blank_begins}
 use Rattle.serde_json_path_parser.proofs.Grammar.Numbers.{number_outcome, goes_on, number_first, number_again}
-use Rattle.serde_json_path_parser.proofs.Reading.Runs.{whole, front_each, front_begins, some_begun, begins_front, begins_where, differs, begins_differs, front_all, past_run, no_blank, blanks_of, are_blank, split_blanks, begins_not, past_all}
+use Rattle.serde_json_path_parser.proofs.Reading.{whole, front_each, front_begins, some_begun, begins_front, begins_where, differs, begins_differs, front_all, past_run, no_blank, blanks_of, are_blank, split_blanks, begins_not, past_all, Spaced, after_one, Read, after_two, made_spaced, read_spaced, guarded, along, choose, inner, past_spaced, remade, Outcome, past_text, read_as, refused, onward, read_so, Inner}
 use Rattle.serde_json_path_parser.proofs.Grammar.Segments.{segments_outcome, same_segments, segments_again}
-use Rattle.serde_json_path_parser.proofs.Reading.Many.{Spaced, after_one, Read, after_two}
+use Rattle.serde_json_path_parser.proofs.Rows.{Follows}
 use Rattle.serde_json_path_parser.proofs.Grammar.Strings.{string_outcome, string_again, of_quote}
-use Rattle.serde_json_path_parser.proofs.Reading.Outcomes.{made_spaced, read_spaced, guarded, along, choose, inner, past_spaced, remade, Outcome, past, read_as, refused, onward, read_so, Inner}
 
 -- ---- words
 
@@ -54,7 +52,7 @@ module _ (signature : List ℕ → Option Signature) (n : ℕ) (deeper : Deeper)
   unfolding query_at
   query_outcome kind sign cs is e =
       past_spaced (sign ∷ []) (after_one sign cs e)
-      (made_spaced (λ ss. query kind (segment_list ss)) (λ t ss h. (good_segments signature n (segment_list ss) h.0, (t, h.1, ap (λ (l : List ℕ). l ++ t) (sym is)))) (segments_outcome (filter_at signature deeper) (IsGoodInside signature n) (filter_laws signature n deeper laws) context.LongHand (drop 1 cs)))
+      (made_spaced (λ ss. query kind (segment_list ss)) (λ t ss h. (h.0, (t, h.1, ap (λ (l : List ℕ). l ++ t) (sym is)))) (segments_outcome signature n deeper laws context.LongHand (drop 1 cs)))
 
   pub named_call_outcome : (cs : List ℕ) → begins_call cs ≡ true → Outcome (Spaced (IsCallText signature n)) (Inner signature) cs (named_call_at signature deeper cs)
   unfolding named_call_at
@@ -110,8 +108,7 @@ module _ (signature : List ℕ → Option Signature) (n : ℕ) (deeper : Deeper)
       → query_at signature deeper kind (sign ∷ (a ++ rest)) ≡ Ok (query kind segs, past_blanks rest)
   unfolding query_at
   query_again kind sign a segs rest good reads follows =
-      let read = segments_again (filter_at signature deeper) (IsGoodInside signature n) (filter_laws signature n deeper laws) context.LongHand a segs rest
-      (segments_good signature n segs good.0 good.1, reads) (none_after is_name_char rest blank_no_name ends_no_name follows) (no_segment rest follows) in
+      let read = segments_again signature n deeper laws context.LongHand a segs rest (good, reads) (none_after is_name_char rest blank_no_name ends_no_name follows) (no_segment rest follows) in
       rw (read, same_segments segs) refl
 
   pub named_call_again : (t : List ℕ) (c : Call) (rest : List ℕ) → IsGoodCall signature n c → ReadsCall c t → (begins_call (t ++ rest) ≡ true) × (named_call_at signature deeper (t ++ rest) ≡ Ok (c, past_blanks rest))
@@ -267,7 +264,7 @@ module _ (signature : List ℕ → Option Signature) (n : ℕ) (deeper : Deeper)
 
   test_outcome : (start : List ℕ) (o : Operand × List ℕ) → Read (Spaced IsOperand) start o → Outcome (Spaced IsBasic) (Inner signature) start (test_at signature deeper (byte_count start) o.0 o.1)
   unfolding test_at
-  test_outcome start (a_literal l, cs) s = past s.text s.split (refused ExpectedComparisonOperator context.LongHand (inl refl))
+  test_outcome start (a_literal l, cs) s = past_text s.text s.split (refused ExpectedComparisonOperator context.LongHand (inl refl))
   test_outcome start (a_query q, cs) s = read_as (exist q) s (λ t h. h)
   test_outcome start (a_call c, cs) s = choose (λ e. refused WrongReturnType context.LongHand (inl refl)) (λ e. read_as (test c) s (λ t h. (((h.0.0, may_test signature n c h.0 e), h.0.1), h.1)))
 

@@ -1,95 +1,18 @@
 -- Logical expressions: what is read is a good one, or where the refusal stands; and each good one is read.
-use Rattle.std.proofs.Common.{◌≡◌, ℕ, ◌≤◌, inl, true, false, List, [], ◌∷◌, ◌++◌, length, drop, Option, Ok, refl, ap, ◌∙◌, append_assoc, arith, Bool}
-use Rattle.serde_json_path_parser.proofs.Words.{◌||◌, or_right, ◌==◌, codes, and_parts, eq-eqb, root, current, LogicalOr, LogicalAnd, Basic, paren}
-use Rattle.serde_json_path_parser.proofs.Words.{not_paren, relation, exist, not_exist, test, not_test, Call, Query, query, no_or, or, no_and, and}
-use Rattle.serde_json_path_parser.proofs.Words.{result_kind, IsTypedOr, IsTypedAnd, IsTestKind, or_depth, and_depth, Signature, WrongReturnType}
-use Rattle.serde_json_path_parser.proofs.Words.{ExpectedClosingParenthesis, ExpectedExpression, is_at, are_at, begins, begins_both, IsBlank, is_blank}
-use Rattle.serde_json_path_parser.proofs.Words.{is_small_letter, InParentheses, ReadsOr, ReadMoreOrs, ReadMoreAnds, Reads, ReadsCall, Parsed, ◌>>=◌}
-use Rattle.serde_json_path_parser.proofs.Words.{past_blanks, many, a_call, begins_call, and_list, or_list, Deeper, paren_at, negated_call_at}
-use Rattle.serde_json_path_parser.proofs.Words.{negated_at, basic_at, next_basic_at, and_from, and_at, next_and_at, or_from, or_at, past_word}
+use Rattle.std.proofs.Common.{◌≡◌, ℕ, ◌≤◌, inl, true, false, List, [], ◌∷◌, ◌++◌, drop, Option, Ok, refl, ap, ◌∙◌, append_assoc, arith}
+use Rattle.serde_json_path_parser.proofs.Words.{◌==◌, codes, and_parts, root, current, LogicalOr, LogicalAnd, Basic, paren, not_paren, relation}
+use Rattle.serde_json_path_parser.proofs.Words.{exist, not_exist, test, not_test, query, no_or, or, no_and, and, result_kind, IsTypedOr, IsTypedAnd}
+use Rattle.serde_json_path_parser.proofs.Words.{or_depth, and_depth, Signature, WrongReturnType, ExpectedClosingParenthesis, ExpectedExpression}
+use Rattle.serde_json_path_parser.proofs.Words.{is_at, are_at, begins, IsBlank, is_small_letter, InParentheses, ReadsOr, ReadMoreOrs, ReadMoreAnds}
+use Rattle.serde_json_path_parser.proofs.Words.{past_blanks, a_call, begins_call, and_list, or_list, Deeper, paren_at, negated_call_at, negated_at}
+use Rattle.serde_json_path_parser.proofs.Words.{basic_at, next_basic_at, and_from, and_at, next_and_at, or_from, or_at, past_word}
 use Rattle.serde_json_path_parser.specs.declared.error.Context.TheVariants as context
-use Rattle.serde_json_path_parser.proofs.Reading.Outcomes as r
-use Rattle.serde_json_path_parser.proofs.Reading.Many as m
+use Rattle.serde_json_path_parser.proofs.Reading as m
 use Rattle.serde_json_path_parser.specs.Operands.{a_query}
-use Rattle.serde_json_path_parser.proofs.Reading.Runs.{split_again, blanks_of, are_blank, past_all, spread, some_begun, begins_where, begins_differs}
-use Rattle.serde_json_path_parser.proofs.Grammar.LogicalForms.{IsGoodInside, IsGoodCall, DeeperLaws, Follows, ends_or, ends_and, ends_basic, ends_operand, IsGoodQuery, IsOrText, IsAndText, IsBasicText, begins_operand, begins_expression, operand_begins, basic_begins, and_begins, or_begins, no_blank_begins, comparable_begins}
+use Rattle.serde_json_path_parser.proofs.Reading.{blanks_of, are_blank, past_all, spread, begins_differs, Read, Spaced, after_one, Inner, guarded, onward, remade, refused, choose, Outcome, after_sign, past_spaced, read_spaced, read_as}
+use Rattle.serde_json_path_parser.proofs.Grammar.LogicalForms.{IsGoodInside, DeeperLaws, ends_or, ends_and, ends_basic, IsOrText, IsAndText, IsBasicText, begins_operand, begins_expression, operand_begins, basic_begins, and_begins, or_begins, no_blank_begins, comparable_begins}
 use Rattle.serde_json_path_parser.proofs.Grammar.Comparisons.{query_again, named_call_again, query_outcome, named_call_outcome, operand_outcome, exist_again, basic_ends_operand, relation_again, test_no_value, may_test, compared, test_again, basic_from_outcome}
-use Rattle.serde_json_path_parser.proofs.Reading.Many.{Read, Spaced, after_one, after_two}
-use Rattle.serde_json_path_parser.proofs.Reading.Outcomes.{Inner, guarded, onward, remade, refused, choose, past, Outcome, made, many_outcome, after_sign, past_spaced, read_spaced, read_as}
-
--- ---- items in a row
-
--- What is read of items that stand after a sign of two equal characters: each is good, or the refusal stands in its text;
--- and each good one is read before what ends the row or the sign, with the blanks after it.
-record RowLaw {A : Type 0} (signature : List ℕ → Option Signature) (sign : ℕ) (is : List ℕ → A → Type 0) (item : List ℕ → Parsed A) (ends : ℕ → Bool) : Type 0 where
-  outcome : (cs : List ℕ) → Outcome (Spaced is) (Inner signature) cs (item cs)
-  again : (t : List ℕ) (x : A) (rest : List ℕ) → is t x → Follows (λ c. c == sign || ends c) rest → item (t ++ rest) ≡ Ok (x, past_blanks rest)
-  starts : (t : List ℕ) (x : A) (rest : List ℕ) → is t x → begins begins_expression (t ++ rest) ≡ true
-  sign_no_blank : is_blank sign ≡ false
-  sign_no_end : ends sign ≡ false
-
-module _ {A : Type 0} {signature : List ℕ → Option Signature} {sign : ℕ} {is : List ℕ → A → Type 0} {item : List ℕ → Parsed A} {ends : ℕ → Bool} (law : RowLaw signature sign is item ends) where
-  abbrev ends_item : ℕ → Bool
-  ends_item c = c == sign || ends c
-
-  same_sign : (sign == sign) ≡ true
-  same_sign = eq-eqb sign sign refl
-
-  abbrev next : List ℕ → Parsed A
-  next cs = item (past_blanks (drop 2 cs))
-
-  abbrev AreRows : List ℕ → List A → Type 0
-  AreRows t xs = r.AreRows (sign ∷ sign ∷ []) is t xs
-
-  next_outcome : (cs : List ℕ) → begins_both sign sign cs ≡ true → Outcome (r.IsNext (sign ∷ sign ∷ []) is) (Inner signature) cs (next cs)
-  next_outcome cs begun = r.next_outcome (sign ∷ sign ∷ []) is cs (drop 2 cs) (after_two sign sign cs begun) (law.outcome (past_blanks (drop 2 cs)))
-
-  next_takes : m.Takes (begins_both sign sign) next
-  next_takes = record {
-    shorter = λ cs rest x more e. r.next_shorter (sign ∷ sign ∷ []) is cs rest x (omega arith) ((next_outcome cs more).reads (x, rest) e);
-    some = λ cs more. some_begun (λ c. c == sign) cs (and_parts (begins (λ c. c == sign) cs) (begins (λ c. c == sign) (drop 1 cs)) more).0;
-  }
-
-  -- after a first item
-  abbrev a_row : {B : Type 0} → (List A → B) → A × List ℕ → Parsed B
-  a_row make x = many (begins_both sign sign) next x.1 >>= λ xs. Ok (make (x.0 ∷ xs.0), xs.1)
-
-  row_outcome : {B : Type 0} {is_row : List ℕ → B → Type 0} (make : List A → B) → ((x : A) (xs : List A) (t c : List ℕ) → is t x → AreRows c xs → is_row (t ++ c) (make (x ∷ xs)))
-      → (start : List ℕ) (x : A × List ℕ) → Read (Spaced is) start x → Outcome (Spaced is_row) (Inner signature) start (a_row make x)
-  unfolding many
-  row_outcome make good start x s =
-      past s.text s.split (made (λ xs. make (x.0 ∷ xs)) (λ u xs h.
-      let a = s.is_so.0 in
-      let row = r.row_of (sign ∷ sign ∷ []) is xs s.is_so.1 u s.is_so.3 h in (
-        a ++ row.text,
-        row.blanks,
-        good x.0 xs a row.text s.is_so.2 row.are,
-        row.blank,
-        split_again a row.text row.blanks (ap (λ (l : List ℕ). l ++ u) s.is_so.4 ∙ append_assoc a s.is_so.1 u) row.split,
-      )) (many_outcome (r.IsNext (sign ∷ sign ∷ []) is) (Inner signature) (begins_both sign sign) next next_outcome (length x.1) x.1))
-
-  rows_follow : (xs : List A) (t rest : List ℕ) → AreRows t xs → Follows ends rest → Follows ends_item (t ++ rest)
-  rows_follow [] t rest h follows = ap (λ (l : List ℕ). begins ends_item (past_blanks (l ++ rest))) h ∙ begins_where ends ends_item true (past_blanks rest) (λ c e. or_right (c == sign) (ends c) e) follows
-  rows_follow (x ∷ xs) t rest (s, a, b, (j, k, before, after, is_sign), h, more, e) follows = ap (begins ends_item) (r.at_sign (sign ∷ sign ∷ []) t s j k a b rest (λ cs. law.sign_no_blank) before is_sign e) ∙ rw same_sign refl
-
-  rows_again : (xs : List A) (t rest : List ℕ) → AreRows t xs → Follows ends rest → many (begins_both sign sign) next (past_blanks (t ++ rest)) ≡ Ok (xs, past_blanks rest)
-  rows_again [] t rest h follows =
-      let none : begins (λ c. c == sign) (past_blanks rest) ≡ false = begins_differs ends sign (past_blanks rest) law.sign_no_end follows in
-      ap (λ (l : List ℕ). many (begins_both sign sign) next (past_blanks (l ++ rest))) h ∙ m.many_end (begins_both sign sign) next (past_blanks rest) (rw none refl)
-  rows_again (x ∷ xs) t rest (s, a, b, (j, k, before, after, is_sign), h, more, e) follows =
-      let here = sign ∷ sign ∷ (k ++ (a ++ (b ++ rest))) in
-      let begun : begins_both sign sign here ≡ true = rw same_sign refl in
-      let one : next here ≡ Ok (x, past_blanks (b ++ rest)) =
-      ap item (past_all k (a ++ (b ++ rest)) after (no_blank_begins (a ++ (b ++ rest)) (law.starts a x (b ++ rest) h))) ∙ law.again a x (b ++ rest) h (rows_follow xs b rest more follows) in
-      ap (many (begins_both sign sign) next) (r.at_sign (sign ∷ sign ∷ []) t s j k a b rest (λ cs. law.sign_no_blank) before is_sign e)
-      ∙ m.many_more (begins_both sign sign) next next_takes here (past_blanks (b ++ rest)) x begun one
-      ∙ ap (m.with_front (x ∷ [])) (rows_again xs b rest more follows)
-
-  row_again : {B : Type 0} (make : List A → B) (x : A) (xs : List A) (t a c rest : List ℕ) → is a x → AreRows c xs → t ≡ a ++ c → Follows ends rest
-      → (item (t ++ rest) >>= a_row make) ≡ Ok (make (x ∷ xs), past_blanks rest)
-  row_again make x xs t a c rest h rows same follows =
-      let whole : t ++ rest ≡ a ++ (c ++ rest) = ap (λ (l : List ℕ). l ++ rest) same ∙ append_assoc a c rest in
-      rw (whole, law.again a x (c ++ rest) h (rows_follow xs c rest rows follows), rows_again xs c rest rows follows) refl
+use Rattle.serde_json_path_parser.proofs.Rows.{Follows, AreRows, RowLaw, next_takes, row_outcome, row_again}
 
 module _ (signature : List ℕ → Option Signature) (n : ℕ) (deeper : Deeper) (laws : DeeperLaws signature n deeper) where
   abbrev IsBasic : List ℕ → Basic → Type 0
@@ -156,23 +79,6 @@ module _ (signature : List ℕ → Option Signature) (n : ℕ) (deeper : Deeper)
   negated_again t k a rest b blank same first e =
       ap (λ (l : List ℕ). basic_at signature deeper (l ++ rest)) same ∙ ap (negated_at signature deeper) (ap past_blanks (append_assoc k a rest) ∙ past_all k (a ++ rest) blank (no_blank_begins (a ++ rest) first)) ∙ e
 
-  not_paren_again : (t : List ℕ) (e : LogicalOr) (rest : List ℕ) → IsGoodInside signature n e → InParentheses (ReadsOr e) t → negated_at signature deeper (t ++ rest) ≡ Ok (not_paren e, past_blanks rest)
-  unfolding negated_at
-  not_paren_again t e rest good is = let p = paren_again t e rest good is in rw (p.0, p.1) refl
-
-  not_exist_again : (t : List ℕ) (q : Query) (rest : List ℕ) → IsGoodQuery signature n q → Reads q t → Follows ends_operand rest → negated_at signature deeper (t ++ rest) ≡ Ok (not_exist q, past_blanks rest)
-  unfolding negated_at
-  not_exist_again t (query root segs) rest good (a, reads, e) follows = rw (e, query_again signature n deeper laws root 36 a segs rest good reads follows) refl
-  not_exist_again t (query current segs) rest good (a, reads, e) follows = rw (e, query_again signature n deeper laws current 64 a segs rest good reads follows) refl
-
-  not_test_again : (t : List ℕ) (c : Call) (rest : List ℕ) → IsGoodCall signature n c → IsTestKind (result_kind signature c) → ReadsCall c t → negated_at signature deeper (t ++ rest) ≡ Ok (not_test c, past_blanks rest)
-  unfolding negated_at negated_call_at
-  not_test_again t c rest good kind is =
-      let named = named_call_again signature n deeper laws t c rest good is in
-      let letter = (and_parts (begins is_small_letter (t ++ rest)) (begins (λ d. d == 40) (past_word (t ++ rest))) named.0).0 in
-      let other : (k : ℕ) → is_small_letter k ≡ false → begins (λ c. c == k) (t ++ rest) ≡ false = λ k none. begins_differs is_small_letter k (t ++ rest) none letter in
-      rw (other 40 refl, other 64 refl, other 36 refl, named.0, named.1, test_no_value (result_kind signature c) kind) refl
-
   -- ---- basic expressions
 
   basic_outcome : (cs : List ℕ) → Outcome (Spaced IsBasic) (Inner signature) cs (basic_at signature deeper cs)
@@ -187,27 +93,36 @@ module _ (signature : List ℕ → Option Signature) (n : ℕ) (deeper : Deeper)
   of_operand cs first = rw (begins_differs begins_operand 40 cs refl first, begins_differs begins_operand 33 cs refl first) refl
 
   basic_again : (t : List ℕ) (b : Basic) (rest : List ℕ) → IsBasic t b → Follows ends_basic rest → basic_at signature deeper (t ++ rest) ≡ Ok (b, past_blanks rest)
-  unfolding basic_at
+  unfolding basic_at negated_at negated_call_at
   basic_again t (paren e) rest h follows = let p = paren_again t e rest h.0 h.1 in rw (p.0, p.1) refl
   basic_again t (not_paren e) rest (good, (k, a, blank, is, same)) follows =
-      negated_again t k a rest (not_paren e) blank same (basic_begins (paren e) a rest is) (not_paren_again a e rest good is)
+      let p = paren_again a e rest good is in
+      negated_again t k a rest (not_paren e) blank same (basic_begins (paren e) a rest is) (rw (p.0, p.1) refl)
   basic_again t (relation left op right) rest h follows =
       let first = ap (λ (l : List ℕ). begins begins_operand (l ++ rest)) h.1.6 ∙ ap (begins begins_operand) (append_assoc h.1.0 _ rest) ∙ comparable_begins left h.1.0 ((h.1.1 ++ h.1.2) ++ rest) h.1.3 in
       of_operand (t ++ rest) first ∙ relation_again signature n deeper laws t left op right rest h follows
   basic_again t (exist q) rest h follows = of_operand (t ++ rest) (operand_begins (a_query q) t rest h.1) ∙ exist_again signature n deeper laws t q rest h follows
-  basic_again t (not_exist q) rest (good, (k, a, blank, is, same)) follows =
-      negated_again t k a rest (not_exist q) blank same (basic_begins (exist q) a rest is) (not_exist_again a q rest good is (basic_ends_operand rest follows))
+  basic_again t (not_exist (query root segs)) rest (good, (k, a, blank, (b, reads, e), same)) follows =
+      negated_again t k a rest (not_exist (query root segs)) blank same (basic_begins (exist (query root segs)) a rest (b, reads, e))
+      (rw (e, query_again signature n deeper laws root 36 b segs rest good reads (basic_ends_operand rest follows)) refl)
+  basic_again t (not_exist (query current segs)) rest (good, (k, a, blank, (b, reads, e), same)) follows =
+      negated_again t k a rest (not_exist (query current segs)) blank same (basic_begins (exist (query current segs)) a rest (b, reads, e))
+      (rw (e, query_again signature n deeper laws current 64 b segs rest good reads (basic_ends_operand rest follows)) refl)
   basic_again t (test c) rest h follows = of_operand (t ++ rest) (operand_begins (a_call c) t rest h.1) ∙ test_again signature n deeper laws t c rest h follows
   basic_again t (not_test c) rest (good, (k, a, blank, is, same)) follows =
-      negated_again t k a rest (not_test c) blank same (basic_begins (test c) a rest is) (not_test_again a c rest (good.0.0, good.1) good.0.1 is)
+      let named = named_call_again signature n deeper laws a c rest (good.0.0, good.1) is in
+      let letter = (and_parts (begins is_small_letter (a ++ rest)) (begins (λ d. d == 40) (past_word (a ++ rest))) named.0).0 in
+      let other : (k : ℕ) → is_small_letter k ≡ false → begins (λ c. c == k) (a ++ rest) ≡ false = λ k none. begins_differs is_small_letter k (a ++ rest) none letter in
+      negated_again t k a rest (not_test c) blank same (basic_begins (test c) a rest is)
+      (rw (other 40 refl, other 64 refl, other 36 refl, named.0, named.1, test_no_value (result_kind signature c) good.0.1) refl)
 
   -- ---- what is joined by `&&`
 
-  basic_row : RowLaw signature 38 IsBasic (basic_at signature deeper) ends_and
+  basic_row : RowLaw signature 38 (38 ∷ []) IsBasic (basic_at signature deeper) ends_and
   basic_row = record {
     outcome = basic_outcome;
     again = basic_again;
-    starts = λ t b rest h. basic_begins b t rest h.1;
+    starts = λ t b rest h. no_blank_begins (t ++ rest) (basic_begins b t rest h.1);
     sign_no_blank = refl;
     sign_no_end = refl;
   }
@@ -216,7 +131,7 @@ module _ (signature : List ℕ → Option Signature) (n : ℕ) (deeper : Deeper)
   unfolding next_basic_at
   next_basic_takes = next_takes basic_row
 
-  more_ands : (bs : List Basic) (t : List ℕ) → r.AreRows (codes "&&") IsBasic t bs → (IsTypedAnd signature (and_list bs) × (and_depth (and_list bs) ≤ n)) × ReadMoreAnds (and_list bs) t
+  more_ands : (bs : List Basic) (t : List ℕ) → AreRows (codes "&&") IsBasic t bs → (IsTypedAnd signature (and_list bs) × (and_depth (and_list bs) ≤ n)) × ReadMoreAnds (and_list bs) t
   more_ands [] t h = ((tt, omega arith), h)
   more_ands (b ∷ bs) t (s, a, c, sign, is, rest, e) =
       let more = more_ands bs c rest in
@@ -231,7 +146,7 @@ module _ (signature : List ℕ → Option Signature) (n : ℕ) (deeper : Deeper)
   unfolding and_at
   and_outcome cs = onward (basic_outcome cs) (λ b e s. and_from_outcome cs b s)
 
-  and_rows : (e : LogicalAnd) (t : List ℕ) → IsTypedAnd signature e → and_depth e ≤ n → ReadMoreAnds e t → (bs : List Basic) × (and_list bs ≡ e) × r.AreRows (codes "&&") IsBasic t bs
+  and_rows : (e : LogicalAnd) (t : List ℕ) → IsTypedAnd signature e → and_depth e ≤ n → ReadMoreAnds e t → (bs : List Basic) × (and_list bs ≡ e) × AreRows (codes "&&") IsBasic t bs
   and_rows no_and t typed depth h = ([], refl, h)
   and_rows (and b more) t typed depth (s, a, c, sign, is, others, e) =
       let rest = and_rows more c typed.1 (omega (arith, depth)) others in
@@ -246,11 +161,11 @@ module _ (signature : List ℕ → Option Signature) (n : ℕ) (deeper : Deeper)
 
   -- ---- what is joined by `||`
 
-  and_row : RowLaw signature 124 IsAnd (and_at signature deeper) ends_or
+  and_row : RowLaw signature 124 (124 ∷ []) IsAnd (and_at signature deeper) ends_or
   and_row = record {
     outcome = and_outcome;
     again = and_again;
-    starts = λ t e rest h. and_begins e t rest h.1;
+    starts = λ t e rest h. no_blank_begins (t ++ rest) (and_begins e t rest h.1);
     sign_no_blank = refl;
     sign_no_end = refl;
   }
@@ -259,7 +174,7 @@ module _ (signature : List ℕ → Option Signature) (n : ℕ) (deeper : Deeper)
   unfolding next_and_at
   next_and_takes = next_takes and_row
 
-  more_ors : (xs : List LogicalAnd) (t : List ℕ) → r.AreRows (codes "||") IsAnd t xs → (IsTypedOr signature (or_list xs) × (or_depth (or_list xs) ≤ n)) × ReadMoreOrs (or_list xs) t
+  more_ors : (xs : List LogicalAnd) (t : List ℕ) → AreRows (codes "||") IsAnd t xs → (IsTypedOr signature (or_list xs) × (or_depth (or_list xs) ≤ n)) × ReadMoreOrs (or_list xs) t
   more_ors [] t h = ((tt, omega arith), h)
   more_ors (x ∷ xs) t (s, a, c, sign, is, rest, e) =
       let more = more_ors xs c rest in
@@ -273,7 +188,7 @@ module _ (signature : List ℕ → Option Signature) (n : ℕ) (deeper : Deeper)
   unfolding or_at
   or_outcome cs = onward (and_outcome cs) (λ a e s. or_from_outcome cs a s)
 
-  or_rows : (e : LogicalOr) (t : List ℕ) → IsTypedOr signature e → or_depth e ≤ n → ReadMoreOrs e t → (xs : List LogicalAnd) × (or_list xs ≡ e) × r.AreRows (codes "||") IsAnd t xs
+  or_rows : (e : LogicalOr) (t : List ℕ) → IsTypedOr signature e → or_depth e ≤ n → ReadMoreOrs e t → (xs : List LogicalAnd) × (or_list xs ≡ e) × AreRows (codes "||") IsAnd t xs
   or_rows no_or t typed depth h = ([], refl, h)
   or_rows (or x more) t typed depth (s, a, c, sign, is, others, e) =
       let rest = or_rows more c typed.1 (omega (arith, depth)) others in

@@ -1,61 +1,32 @@
--- Trees whose filters are good: what may follow an operand or an expression, how each begins, and filters by what holds one level deeper.
-use Rattle.std.proofs.Common.{◌≡◌, ℕ, true, List, ◌++◌, Option, Ok, ◌+◌, ◌≤◌, Bool, [], ◌∷◌, refl, arith, false, ap, ◌∙◌, append_assoc, drop}
-use Rattle.serde_json_path_parser.proofs.Words.{◌==◌, ◌||◌, Segments, no_segments, segment, Segment, dot_name, dot_wildcard, long_hand, Selectors}
-use Rattle.serde_json_path_parser.proofs.Words.{no_selectors, selector, Selector, filter, LogicalOr, Signature, is_at, begins, ReadsSelector, Parsed}
-use Rattle.serde_json_path_parser.proofs.Words.{past_blanks, Query, query, child, descendant, name, index, Call, call, Arguments, IsSingularSegment}
-use Rattle.serde_json_path_parser.proofs.Words.{AreSingular, IsSingular, and_parts, IsTyped, AreTypedSegments, IsTypedSegment, AreTypedSelectors}
-use Rattle.serde_json_path_parser.proofs.Words.{IsTypedSelector, IsTypedOr, IsTypedCall, depth, segments_depth, segment_depth, selectors_depth}
-use Rattle.serde_json_path_parser.proofs.Words.{selector_depth, or_depth, call_depth, IsBlank, IsFunctionName, IsLiteral, Reads, ReadsOr, ReadsCall}
-use Rattle.serde_json_path_parser.proofs.Words.{ReadArguments, byte_count, Operand, a_literal, a_call, is_singular_segment, are_singular, is_singular}
-use Rattle.serde_json_path_parser.proofs.Words.{Deeper, Comparable, IsTypedComparable, IsTypedAnd, ReadsAnd, IsTypedBasic, ReadsComparable}
-use Rattle.serde_json_path_parser.proofs.Words.{comparable_depth, basic_depth, LogicalAnd, ReadsBasic, Basic, and_depth, root, current, no_or, or}
-use Rattle.serde_json_path_parser.proofs.Words.{no_and, and, paren, relation, exist, test, literal, singular, called}
-use Rattle.serde_json_path_parser.proofs.Words.{Literal, text, number, truth, is_blank, is_digit, is_small_letter}
-use Rattle.serde_json_path_parser.proofs.Reading.Outcomes.{Inner, Outcome, Past, remade, after_sign}
-use Rattle.serde_json_path_parser.proofs.Reading.Many.{Spaced}
+-- What is good at a level, and its texts: what may follow an operand or an expression, how each begins, and filters by what holds one level deeper.
+use Rattle.std.proofs.Common.{◌≡◌, ℕ, true, List, [], ◌++◌, Option, Ok, ◌+◌, ◌≤◌, Bool, ◌∷◌, refl, arith, false, ap, ◌∙◌, append_assoc, drop}
+use Rattle.serde_json_path_parser.proofs.Words.{◌==◌, ◌||◌, Segments, no_segments, segment, Segment, dot_name, long_hand, no_selectors, selector}
+use Rattle.serde_json_path_parser.proofs.Words.{Selector, filter, LogicalOr, Signature, is_at, begins, ReadsSelector, past_blanks, Query, query}
+use Rattle.serde_json_path_parser.proofs.Words.{child, descendant, name, index, Call, call, Arguments, IsSingularSegment, AreSingular, IsSingular}
+use Rattle.serde_json_path_parser.proofs.Words.{and_parts, IsTyped, AreTypedSegments, IsTypedSegment, IsTypedSelector, IsTypedOr, IsTypedCall, depth}
+use Rattle.serde_json_path_parser.proofs.Words.{segments_depth, segment_depth, selector_depth, or_depth, call_depth, IsBlank, IsFunctionName}
+use Rattle.serde_json_path_parser.proofs.Words.{IsLiteral, Reads, ReadsOr, ReadsCall, ReadArguments, byte_count, Operand, a_literal, a_call}
+use Rattle.serde_json_path_parser.proofs.Words.{is_singular_segment, are_singular, is_singular, Deeper, Comparable, IsTypedComparable, IsTypedAnd}
+use Rattle.serde_json_path_parser.proofs.Words.{ReadsAnd, IsTypedBasic, ReadsComparable, comparable_depth, basic_depth, LogicalAnd, ReadsBasic, Basic}
+use Rattle.serde_json_path_parser.proofs.Words.{and_depth, root, current, no_or, or, no_and, and, paren, relation, exist, test, literal, singular}
+use Rattle.serde_json_path_parser.proofs.Words.{called, Literal, text, number, truth, is_blank, is_digit, is_small_letter, SegmentKind, ReadSegments}
+use Rattle.serde_json_path_parser.proofs.Words.{ReadsSegment}
+use Rattle.serde_json_path_parser.proofs.Reading.{Inner, Outcome, Past, remade, after_sign, Spaced, some_begun, begins_front, begins_where, no_blank, past_all, blanks_of, are_blank}
+use Rattle.serde_json_path_parser.proofs.Rows.{Follows}
 use Rattle.serde_json_path_parser.specs.Operands.{a_query}
 use Rattle.serde_json_path_parser.proofs.Grammar.Numbers.{number_first}
-use Rattle.serde_json_path_parser.proofs.Reading.Runs.{some_begun, begins_front, begins_where, no_blank, past_all, blanks_of, are_blank}
 use Rattle.serde_json_path_parser.proofs.Grammar.Strings.{string_again, of_quote}
 use Rattle.serde_json_path_parser.specs.Filters.{filter_at}
 
--- ---- trees each of whose filters is good, in one sense or another; and what makes filters be read
-
--- after the blanks stands `,` or `]`
-abbrev pub Closes : List ℕ → Type 0
-Closes rest = begins (λ c. c == 44 || c == 93) (past_blanks rest) ≡ true
-
-module _ (Good : LogicalOr → Type 0) where
-  abbrev pub IsGoodSelector : Selector → Type 0
-  IsGoodSelector (filter e) = Good e
-  IsGoodSelector _ = Unit {0}
-
-  abbrev pub AreGoodSelectors : Selectors → Type 0
-  AreGoodSelectors no_selectors = Unit {0}
-  AreGoodSelectors (selector sel more) = IsGoodSelector sel × AreGoodSelectors more
-
-  abbrev pub IsGoodSegment : Segment → Type 0
-  IsGoodSegment (dot_name bytes) = Unit {0}
-  IsGoodSegment dot_wildcard = Unit {0}
-  IsGoodSegment (long_hand sels) = AreGoodSelectors sels
-
-  abbrev pub AreGoodSegments : Segments → Type 0
-  AreGoodSegments no_segments = Unit {0}
-  AreGoodSegments (segment kind seg more) = IsGoodSegment seg × AreGoodSegments more
-
-  -- the text of a good selector
-  abbrev pub IsGoodText : List ℕ → Selector → Type 0
-  IsGoodText t sel = IsGoodSelector sel × ReadsSelector sel t
-
--- Filters that are read are good, each refusal of one stands in its text, and each good one is read.
-pub record FilterLaws (signature : List ℕ → Option Signature) (Good : LogicalOr → Type 0) (filter_at : List ℕ → Parsed Selector) : Type 0 where
-  pub outcome : (cs : List ℕ) → is_at "?" cs ≡ true → Outcome (Spaced (IsGoodText Good)) (Inner signature) cs (filter_at cs)
-  pub again : (t : List ℕ) (e : LogicalOr) (rest : List ℕ) → IsGoodText Good t (filter e) → Closes rest → filter_at (t ++ rest) ≡ Ok (filter e, past_blanks rest)
-
 -- ---- what may follow, after blanks
 
-abbrev pub Follows : (ℕ → Bool) → List ℕ → Type 0
-Follows p rest = begins p (past_blanks rest) ≡ true
+-- the selectors of a bracket: `]`
+abbrev pub ends_selectors : ℕ → Bool
+ends_selectors c = c == 93
+
+-- a selector: `,` too
+abbrev pub ends_selector : ℕ → Bool
+ends_selector c = c == 44 || ends_selectors c
 
 -- an expression: `)`, `,` or `]`
 abbrev pub ends_or : ℕ → Bool
@@ -94,39 +65,6 @@ module _ (signature : List ℕ → Option Signature) (n : ℕ) where
   IsGoodOperand (a_query q) = IsGoodQuery q
   IsGoodOperand (a_call c) = IsGoodCall c
 
-  -- segments whose filters are good
-  good_selector : (sel : Selector) → IsGoodSelector IsGoodInside sel → IsTypedSelector signature sel × (selector_depth sel ≤ n)
-  good_selector (filter e) h = h
-  good_selector _ h = (tt, omega arith)
-
-  good_selectors : (sels : Selectors) → AreGoodSelectors IsGoodInside sels → AreTypedSelectors signature sels × (selectors_depth sels ≤ n)
-  good_selectors no_selectors h = (tt, omega arith)
-  good_selectors (selector sel more) h = let a = good_selector sel h.0 in let b = good_selectors more h.1 in ((a.0, b.0), omega (arith, a.1, b.1))
-
-  good_segment : (seg : Segment) → IsGoodSegment IsGoodInside seg → IsTypedSegment signature seg × (segment_depth seg ≤ n)
-  good_segment (long_hand sels) h = good_selectors sels h
-  good_segment _ h = (tt, omega arith)
-
-  pub good_segments : (segs : Segments) → AreGoodSegments IsGoodInside segs → AreTypedSegments signature segs × (segments_depth segs ≤ n)
-  good_segments no_segments h = (tt, omega arith)
-  good_segments (segment kind seg more) h = let a = good_segment seg h.0 in let b = good_segments more h.1 in ((a.0, b.0), omega (arith, a.1, b.1))
-
-  selector_good : (sel : Selector) → IsTypedSelector signature sel → selector_depth sel ≤ n → IsGoodSelector IsGoodInside sel
-  selector_good (filter e) h d = (h, d)
-  selector_good _ h d = tt
-
-  selectors_good : (sels : Selectors) → AreTypedSelectors signature sels → selectors_depth sels ≤ n → AreGoodSelectors IsGoodInside sels
-  selectors_good no_selectors h d = tt
-  selectors_good (selector sel more) h d = (selector_good sel h.0 (omega (arith, d)), selectors_good more h.1 (omega (arith, d)))
-
-  segment_good : (seg : Segment) → IsTypedSegment signature seg → segment_depth seg ≤ n → IsGoodSegment IsGoodInside seg
-  segment_good (long_hand sels) h d = selectors_good sels h d
-  segment_good _ h d = tt
-
-  pub segments_good : (segs : Segments) → AreTypedSegments signature segs → segments_depth segs ≤ n → AreGoodSegments IsGoodInside segs
-  segments_good no_segments h d = tt
-  segments_good (segment kind seg more) h d = (segment_good seg h.0 (omega (arith, d)), segments_good more h.1 (omega (arith, d)))
-
 -- ---- texts of operands
 
 abbrev pub ReadsOperand : Operand → List ℕ → Type 0
@@ -151,6 +89,15 @@ module _ (signature : List ℕ → Option Signature) (n : ℕ) where
 
   abbrev pub IsOrText : List ℕ → LogicalOr → Type 0
   IsOrText t e = IsGoodOr signature n e × ReadsOr e t
+
+  abbrev pub IsSelectorText : List ℕ → Selector → Type 0
+  IsSelectorText t sel = (IsTypedSelector signature sel × (selector_depth sel ≤ n)) × ReadsSelector sel t
+
+  abbrev pub IsSegmentText : SegmentKind → List ℕ → Segment → Type 0
+  IsSegmentText kind t seg = (IsTypedSegment signature seg × (segment_depth seg ≤ n)) × ReadsSegment seg kind t
+
+  abbrev pub AreSegmentsText : List ℕ → Segments → Type 0
+  AreSegmentsText t segs = (AreTypedSegments signature segs × (segments_depth segs ≤ n)) × ReadSegments segs t
 
   abbrev pub IsInsideText : List ℕ → LogicalOr → Type 0
   IsInsideText t e = IsGoodInside signature n e × ReadsOr e t
@@ -249,18 +196,15 @@ no_blank_begins cs e = begins_where begins_expression is_blank false cs (λ c e.
 -- ---- what is read as a filter is a good one, each is read, and a refusal stands in its text, by what holds one level deeper
 
 module _ (signature : List ℕ → Option Signature) (n : ℕ) (deeper : Deeper) (laws : DeeperLaws signature n deeper) where
-  filter_outcome : (cs : List ℕ) → is_at "?" cs ≡ true → Outcome (Spaced (IsGoodText (IsGoodInside signature n))) (Inner signature) cs (filter_at signature deeper cs)
+  pub filter_outcome : (cs : List ℕ) → is_at "?" cs ≡ true → Outcome (Spaced (IsSelectorText signature n)) (Inner signature) cs (filter_at signature deeper cs)
   unfolding filter_at
   filter_outcome cs mark =
       let j = blanks_of (drop 1 cs) in
       remade (λ e. filter e) (λ t e h. (h.1.0, (j, h.0, are_blank (drop 1 cs), h.1.1, h.2))) (laws.inside_outcome (63 ∷ j) cs (past_blanks (drop 1 cs)) (after_sign 63 cs mark))
 
-  again : (t : List ℕ) (e : LogicalOr) (rest : List ℕ) → IsGoodText (IsGoodInside signature n) t (filter e) → Closes rest → filter_at signature deeper (t ++ rest) ≡ Ok (filter e, past_blanks rest)
+  pub filter_again : (t : List ℕ) (e : LogicalOr) (rest : List ℕ) → IsSelectorText signature n t (filter e) → Follows ends_selector rest → filter_at signature deeper (t ++ rest) ≡ Ok (filter e, past_blanks rest)
   unfolding filter_at
-  again t e rest (good, (k, a, blank, is, same)) closes =
+  filter_again t e rest (good, (k, a, blank, is, same)) closes =
       let inside : past_blanks (drop 1 (t ++ rest)) ≡ a ++ rest =
       ap (λ (l : List ℕ). past_blanks (drop 1 (l ++ rest))) same ∙ ap past_blanks (append_assoc k a rest) ∙ past_all k (a ++ rest) blank (no_blank_begins (a ++ rest) (or_begins e a rest is)) in
-      rw (inside, laws.inside_again (t ++ rest) a e rest good is (begins_where (λ c. c == 44 || c == 93) ends_or true (past_blanks rest) (λ c e. grind (arith, e)) closes)) refl
-
-  pub filter_laws : FilterLaws signature (IsGoodInside signature n) (filter_at signature deeper)
-  filter_laws = record { outcome = filter_outcome; again = again }
+      rw (inside, laws.inside_again (t ++ rest) a e rest good is (begins_where ends_selector ends_or true (past_blanks rest) (λ c e. grind (arith, e)) closes)) refl

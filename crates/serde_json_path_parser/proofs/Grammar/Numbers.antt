@@ -8,9 +8,7 @@ use Rattle.serde_json_path_parser.proofs.Words.{IsAmount, IsNumber, refusal_at, 
 use Rattle.serde_json_path_parser.proofs.Words.{greatest_amount, number_at, mul-le-mul_right, mul-lt-mul_of_pos_right, le-mul_of_pos_right}
 use Rattle.serde_json_path_parser.proofs.Words.{one-le-pow, pow-succ', length-append, pow-add, encode_ascii, encode_utf8_all}
 use Rattle.serde_json_path_parser.specs.declared.error.Context.TheVariants as context
-use Rattle.serde_json_path_parser.proofs.Reading.Runs.{begins_where, differs, begins_differs, no_blank, whole, front_each, front_begins, front_begins_not, front_all, past_run, value_least, some_begun, begins_front}
-use Rattle.serde_json_path_parser.proofs.Reading.Many.{Read, after_one}
-use Rattle.serde_json_path_parser.proofs.Reading.Outcomes.{Plain, OutcomeIn, Outcome, read_so, choose, guarded, past_in, made, refused, onward, after_in}
+use Rattle.serde_json_path_parser.proofs.Reading.{begins_where, differs, begins_differs, no_blank, whole, front_each, front_begins, front_begins_not, front_all, past_run, value_least, some_begun, begins_front, Read, after_one, Plain, OutcomeIn, Outcome, read_so, choose, guarded, past_in, made, refused, onward, after_in}
 use Rattle.serde_json_path_syntax.specs.WellFormed.{IsLiteralAmount}
 
 -- ---- first digits
@@ -79,28 +77,21 @@ pub first_digit : (t rest : List ℕ) → begins is_digit t ≡ true → is_at "
 first_digit [] rest d z = absurd cc
 first_digit (c ∷ t) rest d z = grind (arith, d, z)
 
-positive_again : (t : List ℕ) (n : ℕ) (rest : List ℕ) → IsDecimal t n → n ≤ largest → begins is_digit rest ≡ false → int_at (t ++ rest) ≡ Ok (pos n, rest)
-unfolding int_at
-positive_again t n rest d most e = elim d.plain [
-  | inl z ↦
-      let none : n ≡ 0 = d.value_of ∙ ap (value_from 0) z in
-      ap (λ (l : List ℕ). int_at (l ++ rest)) z ∙ ap (λ (k : ℕ). Ok (pos k, rest)) (sym none)
-  | inr z ↦
-      let first = first_digit t rest d.first z in
-      rw (begins_differs is_first_digit 45 (t ++ rest) refl first, begins_differs is_first_digit 48 (t ++ rest) refl first, first, digits_again (t ++ rest) t n rest d most e) refl
-]
-
-negative_again : (t : List ℕ) (n : ℕ) (rest : List ℕ) → IsDecimal t (suc n) → suc n ≤ largest → begins is_digit rest ≡ false → int_at (45 ∷ (t ++ rest)) ≡ Ok (negsuc n, rest)
-unfolding int_at
-negative_again t n rest d most e = elim d.plain [
-  | inl z ↦ absurd (let none : suc n ≡ 0 = d.value_of ∙ ap (value_from 0) z in omega (arith, none))
-  | inr z ↦ rw (first_digit t rest d.first z, digits_again (45 ∷ (t ++ rest)) t (suc n) rest d most e) refl
-]
-
 pub int_again : (t : List ℕ) (i : ℤ) (rest : List ℕ) → IsInt t i → begins is_digit rest ≡ false → int_at (t ++ rest) ≡ Ok (i, rest)
-int_again t (pos n) rest h e = positive_again t n rest h.0 (let most = h.1.1 in omega (arith, ints, most)) e
-int_again t (negsuc n) rest h e =
-    ap (λ (l : List ℕ). int_at (l ++ rest)) h.0.2 ∙ negative_again h.0.0 n rest h.0.1 (let least = h.1.0 in omega (arith, ints, least)) e
+unfolding int_at
+int_again t (pos n) rest h e = elim h.0.plain [
+  | inl z ↦ ap (λ (l : List ℕ). int_at (l ++ rest)) z ∙ ap (λ (k : ℕ). Ok (pos k, rest)) (sym (h.0.value_of ∙ ap (value_from 0) z))
+  | inr z ↦
+      let first = first_digit t rest h.0.first z in
+      let read = digits_again (t ++ rest) t n rest h.0 (let most = h.1.1 in omega (arith, ints, most)) e in
+      rw (begins_differs is_first_digit 45 (t ++ rest) refl first, begins_differs is_first_digit 48 (t ++ rest) refl first, first, read) refl
+]
+int_again t (negsuc n) rest ((digits, d, same), in_range) e = elim d.plain [
+  | inl z ↦ absurd (let none : suc n ≡ 0 = d.value_of ∙ ap (value_from 0) z in omega (arith, none))
+  | inr z ↦
+      let read = digits_again (45 ∷ (digits ++ rest)) digits (suc n) rest d (let least = in_range.0 in omega (arith, ints, least)) e in
+      rw (same, first_digit digits rest d.first z, read) refl
+]
 
 -- ---- how an integer begins
 
@@ -221,30 +212,17 @@ amount_first p b t n rest h is =
     let first = begins_front is_digit true is.0 (is.1 ++ rest) (some_begun is_digit is.0 is.4.first) is.4.first in
     ap (begins p) regrouped ∙ begins_where is_digit p b (is.0 ++ (is.1 ++ rest)) h first
 
-negative_number_again : (t : List ℕ) (n : ℕ) (rest : List ℕ) → IsAmount t n → n ≤ 2 ^ 63 * 1000000000 → begins goes_on rest ≡ false → number_at (45 ∷ (t ++ rest)) ≡ Ok (pos 0 -ℤ pos n, rest)
-unfolding number_at
-negative_number_again t n rest is most e =
-    let in_range : nat_le n (2 ^ 63 * 1000000000) ≡ true = grind (arith, most) in
-    rw (amount_again (45 ∷ (t ++ rest)) t n rest is e, in_range) refl
-
-positive_number_again : (t : List ℕ) (n : ℕ) (rest : List ℕ) → IsAmount t n → n ≤ greatest_amount → begins goes_on rest ≡ false → number_at (t ++ rest) ≡ Ok (pos n, rest)
-unfolding number_at
-positive_number_again t n rest is most e =
-    let in_range : nat_le n greatest_amount ≡ true = grind (arith, most) in
-    let no_sign = amount_first (λ c. c == 45) false t n rest (λ c d. differs is_digit 45 c refl d) is in
-    rw (no_sign, amount_again (t ++ rest) t n rest is e, in_range) refl
-
 pub number_again : (t : List ℕ) (amount : ℤ) (rest : List ℕ) → IsNumber t amount → begins goes_on rest ≡ false → number_at (t ++ rest) ≡ Ok (amount, rest)
-number_again t amount rest is e =
-    let n = is.0.0 in
-    elim is.0.1 [
-      | inl above ↦
-          let most : n ≤ greatest_amount = let within = is.1.1 in let same = above.1 in omega (arith, ints, within, same) in
-          positive_number_again t n rest above.0 most e ∙ ap (λ (i : ℤ). Ok (i, rest)) (sym above.1)
-      | inr below ↦
-          let most : n ≤ 2 ^ 63 * 1000000000 = let within = is.1.0 in let same = below.3 in omega (arith, ints, within, same) in
-          ap (λ (l : List ℕ). number_at (l ++ rest)) below.2 ∙ negative_number_again below.0 n rest below.1 most e ∙ ap (λ (i : ℤ). Ok (i, rest)) (sym below.3)
-    ]
+unfolding number_at
+number_again t amount rest ((n, inl (is, same)), in_range) e =
+    let most : n ≤ greatest_amount = let within = in_range.1 in omega (arith, ints, within, same) in
+    let judged : nat_le n greatest_amount ≡ true = grind (arith, most) in
+    let no_sign = amount_first (λ c. c == 45) false t n rest (λ c d. differs is_digit 45 c refl d) is in
+    rw (no_sign, amount_again (t ++ rest) t n rest is e, judged) (ap (λ (i : ℤ). Ok (i, rest)) (sym same))
+number_again t amount rest ((n, inr (digits, is, whole, same)), in_range) e =
+    let most : n ≤ 2 ^ 63 * 1000000000 = let within = in_range.0 in omega (arith, ints, within, same) in
+    let judged : nat_le n (2 ^ 63 * 1000000000) ≡ true = grind (arith, most) in
+    rw (whole, amount_again (45 ∷ (digits ++ rest)) digits n rest is e, judged) (ap (λ (i : ℤ). Ok (i, rest)) (sym same))
 
 -- ---- how a number begins
 

@@ -1,48 +1,35 @@
 -- Whole paths, and the promises of a parse.
 use Rattle.std.proofs.Common.{◌≡◌, ◌≢◌, ℕ, ◌≤◌, ◌↔◌, true, false, true≢false, List, [], ◌∷◌, ◌++◌, length, drop, Option, Ok, refl, sym, ap, subst, ◌∙◌, arith, ◌+◌, ◌-◌, inl, inr, ◌<◌, take, Some, Err}
-use Rattle.serde_json_path_parser.proofs.Words.{◌==◌, encode_utf8, encode_utf8_all, all_scalars, chars, IsUtf8, IsCharBoundary, append-nil}
-use Rattle.serde_json_path_parser.proofs.Words.{length-append, nil_from_length, eqb-true, SegmentKind, Segments, Segment, AreTypedSegments}
-use Rattle.serde_json_path_parser.proofs.Words.{segments_depth, deepest, Signature, ParseErrorKind, ExpectedRoot, UndefinedFunction, TextAfterPath}
-use Rattle.serde_json_path_parser.proofs.Words.{NoMemory, IsUndeclared, is_at, begins, ReadSegments, Parsed, refusal, opens_next, segments_at}
-use Rattle.serde_json_path_parser.proofs.Words.{segment_list, opens_after_root, level, path_at, encodes-chars, encodes-append, scalars-chars}
-use Rattle.serde_json_path_parser.proofs.Words.{IsCharBoundary-at_seam, ◌&&◌, take-append_seam, drop-append_seam, IsCharBoundary-start, chars-encodes}
-use Rattle.serde_json_path_parser.proofs.Words.{Query, query, root, current, greatest_usize, Refusal, Failure, tree_of, signatures_of, opens}
-use Rattle.serde_json_path_parser.proofs.Words.{AreCalled, Reports, reported, Fails, IsRefused, IsWithin, error_of, is_dollar, NeedsNoMemory}
-use Rattle.serde_json_path_parser.proofs.Words.{ParsedQuery, Answers, checked_view}
+use Rattle.serde_json_path_parser.proofs.Words.{◌==◌, encode_utf8_all, all_scalars, chars, IsUtf8, IsCharBoundary, append-nil, length-append}
+use Rattle.serde_json_path_parser.proofs.Words.{nil_from_length, eqb-true, SegmentKind, Segments, Segment, deepest, Signature, ParseErrorKind}
+use Rattle.serde_json_path_parser.proofs.Words.{ExpectedRoot, UndefinedFunction, TextAfterPath, NoMemory, IsUndeclared, is_at, begins, Parsed}
+use Rattle.serde_json_path_parser.proofs.Words.{refusal, opens_next, segments_at, segment_list, opens_after_root, level, path_at, encodes-chars}
+use Rattle.serde_json_path_parser.proofs.Words.{encodes-append, scalars-chars, IsCharBoundary-at_seam, ◌&&◌, take-append_seam, drop-append_seam}
+use Rattle.serde_json_path_parser.proofs.Words.{IsCharBoundary-start, chars-encodes, Query, query, root, current, greatest_usize, Refusal, Failure}
+use Rattle.serde_json_path_parser.proofs.Words.{tree_of, signatures_of, opens, AreCalled, Reports, reported, Fails, IsRefused, IsWithin, error_of}
+use Rattle.serde_json_path_parser.proofs.Words.{is_dollar, NeedsNoMemory, ParsedQuery, Answers, checked_view, eq-eqb, length-le-encodes}
 use Rattle.serde_json_path_parser.specs.declared.error.Context.TheVariants as context
 use Rattle.serde_json_path_parser.specs.Filters.{filter_at}
-use Rattle.serde_json_path_parser.proofs.Texts.Decoding.{some_bytes}
-use Rattle.serde_json_path_parser.proofs.Grammar.LogicalForms.{FilterLaws, filter_laws, IsGoodInside, good_segments, segments_good}
+use Rattle.serde_json_path_parser.proofs.Grammar.LogicalForms.{AreSegmentsText}
 use Rattle.serde_json_path_parser.proofs.Grammar.Calls.{level_laws}
 use Rattle.serde_json_path_parser.proofs.Grammar.Segments.{segments_outcome, segments_again, same_segments, no_segments_read}
 use Rattle.serde_json_path_parser.proofs.Printing.QuotedTexts.{scalars_of}
-use Rattle.serde_json_path_parser.proofs.Reading.Many.{ok_is, after_one}
-use Rattle.serde_json_path_parser.proofs.Reading.Outcomes.{is_plain, Inner, Stands, Gives, gives, refuses, choose, onward}
+use Rattle.serde_json_path_parser.proofs.Reading.{ok_is, after_one, is_plain, Inner, Stands, Gives, gives, refuses, choose, onward, past_all}
 use Rattle.serde_json_path_parser.specs.declared.error.Failure.TheVariants as failures
 use Rattle.serde_json_path_syntax.specs.declared.checked.Checked.{Checked}
 use Rattle.serde_json_path_parser.specs.Accepted.{IsAccepted}
 use Rattle.serde_json_path_parser.specs.Laws.{OneTreeAtMost}
-use Rattle.serde_json_path_parser.proofs.Reading.Runs.{past_all}
 
 -- ---- whole paths: what is read is well-typed and at most 128 deep, each of those is read, and where a refusal stands
 
 -- where no byte is left, no character is
 pub all_read : (rest : List ℕ) (bytes : ℕ) → bytes ≡ length (encode_utf8_all rest) → bytes ≡ 0 → (length rest == 0) ≡ true
-all_read [] bytes is none = refl
-all_read (c ∷ rest) bytes is none = absurd (omega (arith, is, none, length-append (encode_utf8 c) (encode_utf8_all rest), some_bytes c))
+all_read rest bytes is none = eq-eqb (length rest) 0 (omega (arith, is, none, length-le-encodes rest))
 
 module _ (signature : List ℕ → Option Signature) where
   -- the segments of a path
   abbrev pub path_segments_at : List ℕ → Parsed (List (SegmentKind × Segment))
   path_segments_at cs = segments_at (filter_at signature (level signature deepest)) context.Path cs
-
-  -- how the filters of a path are read
-  pub path_filters : FilterLaws signature (IsGoodInside signature deepest) (filter_at signature (level signature deepest))
-  path_filters = filter_laws signature deepest (level signature deepest) (level_laws signature deepest)
-
-  -- segments in a row, well-typed and at most 128 deep
-  abbrev pub ArePathSegments : List ℕ → Segments → Type 0
-  ArePathSegments t segs = (AreTypedSegments signature segs × (segments_depth segs ≤ deepest)) × ReadSegments segs t
 
   -- where no segment begins after `$`, none is read
   pub none_read : (cs ds rest : List ℕ) (c : ℕ) (ss : List (SegmentKind × Segment)) → begins (λ d. d == 36) cs ≡ true → cs ≡ c ∷ ds → path_segments_at ds ≡ Ok (ss, rest) → opens_after_root cs ≡ false → ss ≡ []
@@ -53,11 +40,10 @@ module _ (signature : List ℕ → Option Signature) where
 
   -- ---- each path is read
 
-  pub path_again : (t a : List ℕ) (segs : Segments) → ArePathSegments a segs → t ≡ 36 ∷ a → path_at signature t ≡ Ok segs
+  pub path_again : (t a : List ℕ) (segs : Segments) → AreSegmentsText signature deepest a segs → t ≡ 36 ∷ a → path_at signature t ≡ Ok segs
   unfolding path_at
   path_again t a segs h e =
-      let good = segments_good signature deepest segs h.0.0 h.0.1 in
-      let again = segments_again (filter_at signature (level signature deepest)) (IsGoodInside signature deepest) path_filters context.Path a segs [] (good, h.1) refl refl in
+      let again = segments_again signature deepest (level signature deepest) (level_laws signature deepest) context.Path a segs [] h refl refl in
       let all = ap path_segments_at (sym (append-nil a)) ∙ again in
       ap (path_at signature) e ∙ rw all (ap (λ (ss : Segments). Ok ss) (same_segments segs))
 
@@ -77,7 +63,7 @@ module _ (signature : List ℕ → Option Signature) where
   pub record PathTells (cs : List ℕ) (kind : ParseErrorKind) (rest : List ℕ) : Type 0 where
     pub no_memory : kind ≢ NoMemory
     pub root_missing : (kind ≡ ExpectedRoot) ↔ (is_at "$" cs ≡ false)
-    pub after : kind ≡ TextAfterPath → (path : List ℕ) × (segs : Segments) × ArePathSegments signature path segs × (cs ≡ 36 ∷ (path ++ rest))
+    pub after : kind ≡ TextAfterPath → (path : List ℕ) × (segs : Segments) × AreSegmentsText signature deepest path segs × (cs ≡ 36 ∷ (path ++ rest))
     pub undefined : kind ≡ UndefinedFunction → IsUndeclared signature rest
 
   in_segment : (cs : List ℕ) (kind : ParseErrorKind) (rest : List ℕ) → is_at "$" cs ≡ true → Inner signature kind rest → PathTells cs kind rest
@@ -88,11 +74,11 @@ module _ (signature : List ℕ → Option Signature) where
     undefined = undeclared_there signature kind rest h;
   }
 
-  pub path_outcome : (cs : List ℕ) → Gives (λ segs. (a : List ℕ) × ArePathSegments signature a segs × (cs ≡ 36 ∷ a)) (Stands (PathTells cs) cs) (path_at signature cs)
+  pub path_outcome : (cs : List ℕ) → Gives (λ segs. (a : List ℕ) × AreSegmentsText signature deepest a segs × (cs ≡ 36 ∷ a)) (Stands (PathTells cs) cs) (path_at signature cs)
   unfolding path_at
   path_outcome cs = choose (λ sign.
       let begun = after_one 36 cs sign in
-      let segments = segments_outcome (filter_at signature (level signature deepest)) (IsGoodInside signature deepest) (path_filters signature) context.Path (drop 1 cs) in
+      let segments = segments_outcome signature deepest (level signature deepest) (level_laws signature deepest) context.Path (drop 1 cs) in
       onward (record {
         reads = segments.reads;
         stands = λ r e.
@@ -100,8 +86,7 @@ module _ (signature : List ℕ → Option Signature) where
             record { before = 36 ∷ s.before; rest = s.rest; split = begun ∙ ap (λ (l : List ℕ). 36 ∷ l) s.split; left = s.left; tells = in_segment cs r.kind s.rest sign s.tells };
       }) (λ ss _ r.
       let split : cs ≡ 36 ∷ (r.text ++ ss.1) = begun ∙ ap (λ (l : List ℕ). 36 ∷ l) r.split in
-      let are : ArePathSegments signature r.text (segment_list ss.0) = (good_segments signature deepest (segment_list ss.0) r.is_so.0, r.is_so.1) in
-      choose (λ e. gives (segment_list ss.0) (r.text, are, split ∙ ap (λ (l : List ℕ). 36 ∷ (r.text ++ l)) (nil_from_length ss.1 (eqb-true (length ss.1) 0 e)) ∙ ap (λ (l : List ℕ). 36 ∷ l) (append-nil r.text))) (λ e.
+      choose (λ e. gives (segment_list ss.0) (r.text, r.is_so, split ∙ ap (λ (l : List ℕ). 36 ∷ (r.text ++ l)) (nil_from_length ss.1 (eqb-true (length ss.1) 0 e)) ∙ ap (λ (l : List ℕ). 36 ∷ l) (append-nil r.text))) (λ e.
       refuses (refusal TextAfterPath context.Path ss.1) (record {
         before = 36 ∷ r.text;
         rest = ss.1;
@@ -110,7 +95,7 @@ module _ (signature : List ℕ → Option Signature) where
         tells = record {
           no_memory = λ e. cc;
           root_missing = ((λ e. absurd cc), (λ e. absurd (true≢false (sym sign ∙ e))));
-          after = λ e. (r.text, segment_list ss.0, are, split);
+          after = λ e. (r.text, segment_list ss.0, r.is_so, split);
           undefined = λ e. absurd cc;
         };
       })))) (λ none.
@@ -137,7 +122,7 @@ boundary text before rest left u split is =
 -- ---- what the whole reading says of a text: the promises of a parse
 
 -- what is read is accepted
-accepted : (signature : List ℕ → Option Signature) (cs a : List ℕ) (segs : Segments) → cs ≡ 36 ∷ a → ArePathSegments signature a segs → IsAccepted signature cs (query root segs)
+accepted : (signature : List ℕ → Option Signature) (cs a : List ℕ) (segs : Segments) → cs ≡ 36 ∷ a → AreSegmentsText signature deepest a segs → IsAccepted signature cs (query root segs)
 accepted signature cs a segs e h = record { reads = (a, h.1, e); from_root = refl; typed = h.0.0; shallow = h.0.1 }
 
 -- an accepted tree is what is read
@@ -212,16 +197,20 @@ module _ (signature : List ℕ → Option Signature) (text : List ℕ) (u : IsUt
 
   -- ---- the three ends of a parse
 
-  pub too_long : length text ≡ greatest_usize → Answers signature text (Err (error_of failures.Memory 0))
-  too_long long = record {
+  -- want of memory, where something has to be stored
+  unstored : (length text < greatest_usize → NeedsNoMemory (chars text) → ⊥) → Answers signature text (Err (error_of failures.Memory 0))
+  unstored stores = record {
     accepted = tt;
     kept = tt;
     only = tt;
     refused = λ other. absurd (other refl);
     memory = λ e. refl;
-    spares_memory = λ less none. absurd (omega (arith, long));
+    spares_memory = λ less none. absurd (stores less none);
     too_long = λ e. refl;
   }
+
+  pub too_long : length text ≡ greatest_usize → Answers signature text (Err (error_of failures.Memory 0))
+  too_long long = unstored (λ less none. omega (arith, long))
 
   pub parsed : (short : length text < greatest_usize) (segs : Segments) (checked : Checked) → tree_of checked ≡ query root segs → AreCalled (signatures_of checked) (query root segs) → path_at signature (chars text) ≡ Ok segs → Answers signature text (Ok (checked_view checked))
   parsed short segs checked tree kept e =
@@ -238,15 +227,7 @@ module _ (signature : List ℕ → Option Signature) (text : List ℕ) (u : IsUt
 
   pub refused : (short : length text < greatest_usize) (s : Failure) (total : ℕ) → Fails s (path_at signature (chars text)) → (opens_after_root (chars text) ≡ false → IsRefused s)
       → Answers signature text (Err (error_of s total))
-  refused short failures.Memory total h spares = record {
-    accepted = tt;
-    kept = tt;
-    only = tt;
-    refused = λ other. absurd (other refl);
-    memory = λ e. refl;
-    spares_memory = λ less none. absurd (spares (needs_none (chars text) none));
-    too_long = λ e. refl;
-  }
+  refused short failures.Memory total h spares = unstored (λ less none. spares (needs_none (chars text) none))
   refused short (failures.Refused r) total h spares = record {
     accepted = tt;
     kept = tt;
@@ -259,14 +240,17 @@ module _ (signature : List ℕ → Option Signature) (text : List ℕ) (u : IsUt
 
   -- ---- what is reported at each
 
-  pub too_long_reported : length text ≡ greatest_usize → Reports signature text (Err (error_of failures.Memory 0))
-  too_long_reported long = record {
+  unstored_reported : (length text < greatest_usize → NeedsNoMemory (chars text) → ⊥) → Reports signature text (Err (error_of failures.Memory 0))
+  unstored_reported stores = record {
     told = λ other. absurd (other refl);
-    missing_root = ((λ e. absurd cc), (λ h. let less = h.0 in absurd (omega (arith, long))));
+    missing_root = ((λ e. absurd cc), (λ g. absurd (stores g.0 (inl g.1))));
     text_after = λ e. absurd cc;
     undefined = λ e. absurd cc;
     position = (omega arith, IsCharBoundary-start text u);
   }
+
+  pub too_long_reported : length text ≡ greatest_usize → Reports signature text (Err (error_of failures.Memory 0))
+  too_long_reported long = unstored_reported (λ less none. omega (arith, long))
 
   pub parsed_reported : (read : ParsedQuery) (segs : Segments) → path_at signature (chars text) ≡ Ok segs → Reports signature text (Ok read)
   parsed_reported read segs e =
@@ -281,13 +265,7 @@ module _ (signature : List ℕ → Option Signature) (text : List ℕ) (u : IsUt
 
   pub refused_reported : (short : length text < greatest_usize) (s : Failure) (total : ℕ) → total ≡ length text → Fails s (path_at signature (chars text)) → (opens_after_root (chars text) ≡ false → IsRefused s)
       → Reports signature text (Err (error_of s total))
-  refused_reported short failures.Memory total t h spares = record {
-    told = λ other. absurd (other refl);
-    missing_root = ((λ e. absurd cc), (λ g. absurd (spares (needs_none (chars text) (inl g.1)))));
-    text_after = λ e. absurd cc;
-    undefined = λ e. absurd cc;
-    position = (omega arith, IsCharBoundary-start text u);
-  }
+  refused_reported short failures.Memory total t h spares = unstored_reported (λ less none. spares (needs_none (chars text) none))
   refused_reported short (failures.Refused r) total t h spares =
       let k = told r h in
       let cut : (total - r.left + 1) - 1 ≡ length text - r.left = omega (arith, t) in

@@ -1,17 +1,156 @@
--- Segments: what is read is a good one, each of those is read, and where a refusal stands.
-use Rattle.std.proofs.Common.{◌≡◌, ℕ, ◌<◌, true, false, List, [], ◌∷◌, ◌++◌, length, drop, Ok, refl, sym, ap, ◌∙◌, append_assoc, arith, Option}
-use Rattle.serde_json_path_parser.proofs.Words.{◌==◌, length-append, SegmentKind, child, descendant, Segments, no_segments, segment, Segment}
-use Rattle.serde_json_path_parser.proofs.Words.{dot_name, dot_wildcard, long_hand, Selector, LogicalOr, BadMemberName, is_at, begins, is_blank}
-use Rattle.serde_json_path_parser.proofs.Words.{IsBlank, is_name_first, is_name_char, IsName, Joined, opens, ReadSegments, dots_before_name, Parsed}
-use Rattle.serde_json_path_parser.proofs.Words.{front, past_blanks, many, after_dot, name_at, dotted_at, descendant_at, dot_at, segment_at}
-use Rattle.serde_json_path_parser.proofs.Words.{opens_next, next_segment_at, segments_at, segment_list, Signature}
+-- Selectors, brackets with them, and segments: what is read is in the grammar, what is in the grammar is read, where a refusal stands.
+use Rattle.std.proofs.Common.{◌≡◌, ◌≤◌, ℕ, inl, inr, true, false, true≢false, List, [], ◌∷◌, ◌++◌, drop, Option, Some, None, Ok, refl, sym, ap, subst, ◌∙◌, append_assoc, arith, ◌<◌, length}
+use Rattle.serde_json_path_parser.proofs.Words.{ℤ, ◌==◌, append-nil, Slice, Selector, slice, index, IsBound, IsSliceStep, IsSlice, false_from_ne_true}
+use Rattle.serde_json_path_parser.proofs.Words.{begins, is_blank, is_digit, IsBlank, IsInt, Parsed, past_blanks, begins_int, bound_at, step_at}
+use Rattle.serde_json_path_parser.proofs.Words.{slice_at, position_at, selector_at, None, name, wildcard, filter, IsQuote, quoted_at, string_at}
+use Rattle.serde_json_path_parser.proofs.Words.{Signature, codes, SegmentKind, long_hand, Selectors, no_selectors, selector, ExpectedClosingBracket}
+use Rattle.serde_json_path_parser.proofs.Words.{ReadSelectors, ReadMoreSelectors, dots_before_bracket, next_selector_at, selectors_at, selector_list}
+use Rattle.serde_json_path_parser.proofs.Words.{bracket_at, Deeper, AreTypedSelectors, selectors_depth, is_at, length-append, child, descendant}
+use Rattle.serde_json_path_parser.proofs.Words.{Segments, no_segments, segment, Segment, dot_name, dot_wildcard, BadMemberName, is_name_first}
+use Rattle.serde_json_path_parser.proofs.Words.{is_name_char, IsName, Joined, opens, dots_before_name, front, many, after_dot, name_at, dotted_at}
+use Rattle.serde_json_path_parser.proofs.Words.{descendant_at, dot_at, segment_at, opens_next, next_segment_at, segments_at, segment_list}
+use Rattle.serde_json_path_parser.proofs.Reading.{begins_where, past_some, blanks_of, are_blank, split_blanks, past_all, spread, differs, no_blank, past_end, no_longer, begins_not, some_begun, begins_front, begins_differs, whole, front_each, front_begins, front_all, past_run, Spaced, after_one, Again, many_again, Plain, Inner, Outcome, read_so, choose, weaker, past_text, past_spaced, along, onward, after_spaced, remade, with_blanks, after_sign, made_spaced, inner, guarded, after, read_spaced, made, many_outcome}
+use Rattle.serde_json_path_parser.proofs.Grammar.LogicalForms.{DeeperLaws, IsSelectorText, IsSegmentText, ends_selectors, ends_selector, filter_outcome, filter_again, AreSegmentsText}
+use Rattle.serde_json_path_parser.proofs.Grammar.Numbers.{int_outcome, int_again, int_begins, int_not, int_no_blank}
+use Rattle.serde_json_path_parser.proofs.Grammar.Strings.{string_outcome, string_again, of_quote}
+use Rattle.serde_json_path_parser.specs.declared.error.Context.TheVariants as context
+use Rattle.serde_json_path_parser.proofs.Reading as m
+use Rattle.serde_json_path_parser.proofs.Rows.{Follows, AreRows, RowLaw, next_takes, row_outcome, row_again}
+use Rattle.serde_json_path_parser.specs.Filters.{filter_at}
 use Rattle.serde_json_path_parser.specs.declared.error.Context as declared
-use Rattle.serde_json_path_parser.proofs.Reading.Runs.{past_all, blanks_of, are_blank, split_blanks, no_longer, begins_not, some_begun, begins_front, begins_where, begins_differs, no_blank, whole, front_each, front_begins, front_all, past_run}
-use Rattle.serde_json_path_parser.proofs.Grammar.Brackets.{IsSegmentText, bracket_outcome, bracket_again}
-use Rattle.serde_json_path_parser.proofs.Grammar.LogicalForms.{AreGoodSegments, FilterLaws}
-use Rattle.serde_json_path_parser.proofs.Reading.Many as m
-use Rattle.serde_json_path_parser.proofs.Reading.Many.{after_one, Again, many_again}
-use Rattle.serde_json_path_parser.proofs.Reading.Outcomes.{Plain, Inner, Outcome, read_so, choose, guarded, weaker, past, along, made, inner, many_outcome}
+
+-- ---- slices: what a reading gives
+
+pub bound_outcome : (cs : List ℕ) → Outcome (λ t i. IsBound i t) Plain cs (bound_at cs)
+unfolding bound_at
+bound_outcome cs =
+    choose (λ _. onward (int_outcome cs) (λ i _ r. let s = with_blanks IsInt cs i r in read_so (Some i.0, past_blanks i.1) (record { text = s.text; is_so = s.is_so; split = s.split }))) (λ _.
+    read_so (None, cs) (record { text = []; is_so = refl; split = refl }))
+
+-- a bound after a second colon
+step_is : (t k : List ℕ) (i : Option ℤ) → IsBlank k → IsBound i t → Spaced (λ t i. IsSliceStep i t) (58 ∷ (k ++ t)) i
+step_is t k None blank e = (58 ∷ [], k, inr refl, blank, ap (λ (l : List ℕ). 58 ∷ (k ++ l)) e ∙ ap (λ (l : List ℕ). 58 ∷ l) (append-nil k))
+step_is t k (Some i) blank b =
+    (58 ∷ (k ++ b.0), b.1, (k, b.0, blank, b.2, refl), b.3, ap (λ (l : List ℕ). 58 ∷ (k ++ l)) b.4 ∙ sym (append_assoc (58 ∷ k) b.0 b.1))
+
+step_outcome : (cs : List ℕ) → Outcome (Spaced (λ t i. IsSliceStep i t)) Plain cs (step_at cs)
+unfolding step_at
+step_outcome cs =
+    choose (λ e. past_text (58 ∷ blanks_of (drop 1 cs)) (after_sign 58 cs e) (weaker (λ t i b. step_is t (blanks_of (drop 1 cs)) i (are_blank (drop 1 cs)) b) (bound_outcome (past_blanks (drop 1 cs))))) (λ _.
+    read_so (None, cs) (record { text = []; is_so = ([], [], inl refl, tt, refl); split = refl }))
+
+-- after the first bound and the colon
+pub slice_outcome : (start : Option ℤ) (a cs : List ℕ) → IsBound start a → Outcome (Spaced (λ t s. IsSlice s t)) Plain (a ++ (58 ∷ cs)) (slice_at start cs)
+unfolding slice_at
+slice_outcome start a cs first =
+    let k = blanks_of cs in
+    past_spaced (a ++ (58 ∷ k)) (ap (λ (l : List ℕ). a ++ (58 ∷ l)) (split_blanks cs) ∙ sym (append_assoc a (58 ∷ k) (past_blanks cs))) (after_spaced (bound_outcome (past_blanks cs)) (λ end _ b.
+    remade (λ step. record { start = start; end = end.0; step = step }) (λ c step h. (a, k, b.text, c, first, are_blank cs, b.is_so, h, append_assoc a (58 ∷ k) (b.text ++ c))) (step_outcome end.1)))
+
+pub position_outcome : (signature : List ℕ → Option Signature) (n : ℕ) (cs : List ℕ) → Outcome (Spaced (IsSelectorText signature n)) Plain cs (position_at cs)
+unfolding position_at
+position_outcome signature n cs = onward (int_outcome cs) (λ i _ r.
+    let rest = past_blanks i.1 in
+    let s = with_blanks IsInt cs i r in
+    choose (λ e. along (s.split ∙ ap (λ (l : List ℕ). s.text ++ l) (after_one 58 rest e)) (remade (λ s. slice s) (λ t s is. ((tt, omega arith), is)) (slice_outcome (Some i.0) s.text (drop 1 rest) s.is_so))) (λ _.
+    read_so _ (record { text = s.text; is_so = (s.is_so.0, s.is_so.1, ((tt, omega arith), s.is_so.2), s.is_so.3, s.is_so.4); split = s.split })))
+
+-- ---- each is read again
+
+-- after the blanks stands no integer
+abbrev Ends : List ℕ → Type 0
+Ends rest = begins begins_int (past_blanks rest) ≡ false
+
+closed_ends : (rest : List ℕ) → Follows ends_selector rest → Ends rest
+closed_ends rest h = begins_where ends_selector begins_int false (past_blanks rest) (λ c e. grind (arith, e)) h
+
+no_colon : (rest : List ℕ) → Follows ends_selector rest → begins (λ c. c == 58) (past_blanks rest) ≡ false
+no_colon rest h = begins_where ends_selector (λ c. c == 58) false (past_blanks rest) (λ c e. grind (arith, e)) h
+
+-- no digit stands at once after an integer
+ends_digits : (rest : List ℕ) → Ends rest → begins is_digit rest ≡ false
+ends_digits [] h = refl
+ends_digits (c ∷ cs) h = false_from_ne_true (is_digit c) (λ d.
+    let begun : begins begins_int (past_blanks (c ∷ cs)) ≡ true = rw (no_blank is_digit c refl refl refl refl d, differs is_digit 45 c refl d, d) refl in
+    true≢false (sym begun ∙ h))
+
+bound_again : (e : Option ℤ) (t rest : List ℕ) → IsBound e t → Ends rest → bound_at (past_blanks (t ++ rest)) ≡ Ok (e, past_blanks rest)
+unfolding bound_at
+bound_again None t rest b ends = ap (λ (l : List ℕ). bound_at (past_blanks (l ++ rest))) b ∙ rw ends refl
+bound_again (Some i) t rest (a, k, is, blank, e) ends =
+    let here : past_blanks (t ++ rest) ≡ a ++ (k ++ rest) = rw (e, append_assoc a k rest) (past_end is_blank (a ++ (k ++ rest)) (int_no_blank a i (k ++ rest) is)) in
+    let further : begins is_digit (k ++ rest) ≡ false = ends_digits (k ++ rest) (rw (past_some k rest blank) ends) in
+    rw (here, int_begins a i (k ++ rest) is, int_again a i (k ++ rest) is further, past_some k rest blank) refl
+
+step_again : (e : Option ℤ) (t rest : List ℕ) → IsSliceStep e t → Follows ends_selector rest → step_at (past_blanks (t ++ rest)) ≡ Ok (e, past_blanks rest)
+unfolding step_at
+step_again None t rest (inl e) closes = rw (e, no_colon rest closes) refl
+step_again None t rest (inr e) closes = rw e (bound_again None [] rest refl (closed_ends rest closes))
+step_again (Some i) t rest (k, a, blank, is, e) closes =
+    rw (e, append_assoc k a rest, past_some k (a ++ rest) blank) (bound_again (Some i) a rest (a, [], is, tt, sym (append-nil a)) (closed_ends rest closes))
+
+step_ends : (e : Option ℤ) (t rest : List ℕ) → IsSliceStep e t → Follows ends_selector rest → Ends (t ++ rest)
+step_ends None t rest (inl e) closes = subst (λ (l : List ℕ). Ends (l ++ rest)) (sym e) (closed_ends rest closes)
+step_ends None t rest (inr e) closes = subst (λ (l : List ℕ). Ends (l ++ rest)) (sym e) refl
+step_ends (Some i) t rest (k, a, blank, is, e) closes = subst (λ (l : List ℕ). Ends (l ++ rest)) (sym e) refl
+
+-- after the first colon
+parts_again : (start end step : Option ℤ) (k b c rest : List ℕ) → IsBlank k → IsBound end b → IsSliceStep step c → Follows ends_selector rest
+    → slice_at start (k ++ (b ++ (c ++ rest))) ≡ Ok (record { start = start; end = end; step = step }, past_blanks rest)
+unfolding slice_at
+parts_again start end step k b c rest blank second third closes =
+    rw (past_some k (b ++ (c ++ rest)) blank, bound_again end b (c ++ rest) second (step_ends step c rest third closes), step_again step c rest third closes) refl
+
+begun_again : (t k : List ℕ) (i : ℤ) (rest : List ℕ) (s : Slice) (after : List ℕ) → IsInt t i → IsBlank k → slice_at (Some i) rest ≡ Ok (s, after) → position_at (t ++ (k ++ (58 ∷ rest))) ≡ Ok (slice s, after)
+unfolding position_at
+begun_again t k i rest s after is blank read =
+    let colon : past_blanks (k ++ (58 ∷ rest)) ≡ 58 ∷ rest = past_some k (58 ∷ rest) blank in
+    let further = ends_digits (k ++ (58 ∷ rest)) (ap (begins begins_int) colon) in
+    rw (int_again t i (k ++ (58 ∷ rest)) is further, colon, read) refl
+
+-- no blank begins a slice
+pub slice_no_blank : (t : List ℕ) (s : Slice) (rest : List ℕ) → IsSlice s t → begins is_blank (t ++ rest) ≡ false
+slice_no_blank t s rest (a, k, b, c, first, blank, second, third, e) = by_start s.start first
+  where
+    by_start : (start : Option ℤ) → IsBound start a → begins is_blank (t ++ rest) ≡ false
+    by_start None none = rw (e, none) refl
+    by_start (Some i) (n, j, is, gap, text) =
+        let tail = 58 ∷ (k ++ (b ++ c)) in
+        rw (e, text, append_assoc n j tail, append_assoc n (j ++ tail) rest) (int_no_blank n i ((j ++ tail) ++ rest) is)
+
+-- the same as selectors
+module _ (filter_at : List ℕ → Parsed Selector) where
+  at_position : (t : List ℕ) (i : ℤ) (rest : List ℕ) → IsInt t i → selector_at filter_at (t ++ rest) ≡ position_at (t ++ rest)
+  unfolding selector_at
+  at_position t i rest is = rw (int_not 39 t i rest refl is, int_not 34 t i rest refl is, int_not 42 t i rest refl is, int_not 58 t i rest refl is, int_not 63 t i rest refl is) refl
+
+  pub index_again : (t : List ℕ) (i : ℤ) (rest : List ℕ) → IsInt t i → Follows ends_selector rest → selector_at filter_at (t ++ rest) ≡ Ok (index i, past_blanks rest)
+  unfolding position_at
+  index_again t i rest is closes = at_position t i rest is ∙ rw (int_again t i rest is (ends_digits rest (closed_ends rest closes)), no_colon rest closes) refl
+
+  colon_again : (rest : List ℕ) (s : Slice) (after : List ℕ) → slice_at None rest ≡ Ok (s, after) → selector_at filter_at (58 ∷ rest) ≡ Ok (slice s, after)
+  unfolding selector_at
+  colon_again rest s after read = rw read refl
+
+  pub slice_again : (t : List ℕ) (s : Slice) (rest : List ℕ) → IsSlice s t → Follows ends_selector rest → selector_at filter_at (t ++ rest) ≡ Ok (slice s, past_blanks rest)
+  slice_again t s rest (a, k, b, c, first, blank, second, third, e) closes = by_start s.start refl first
+    where
+      parts : (start : Option ℤ) → s.start ≡ start → slice_at start (k ++ (b ++ (c ++ rest))) ≡ Ok (s, past_blanks rest)
+      parts start same = subst (λ start. slice_at start (k ++ (b ++ (c ++ rest))) ≡ Ok (s, past_blanks rest)) same (parts_again s.start s.end s.step k b c rest blank second third closes)
+
+      regroup : (a : List ℕ) → (a ++ (58 ∷ (k ++ (b ++ c)))) ++ rest ≡ a ++ (58 ∷ (k ++ (b ++ (c ++ rest))))
+      regroup a = simp append_assoc refl
+
+      here : t ++ rest ≡ a ++ (58 ∷ (k ++ (b ++ (c ++ rest))))
+      here = ap (λ (l : List ℕ). l ++ rest) e ∙ regroup a
+
+      by_start : (start : Option ℤ) → s.start ≡ start → IsBound start a → selector_at filter_at (t ++ rest) ≡ Ok (slice s, past_blanks rest)
+      by_start None same none =
+          ap (selector_at filter_at) (here ∙ ap (λ (l : List ℕ). l ++ (58 ∷ (k ++ (b ++ (c ++ rest))))) none) ∙ colon_again (k ++ (b ++ (c ++ rest))) s (past_blanks rest) (parts None same)
+      by_start (Some i) same (n, j, is, gap, text) =
+          let tail = 58 ∷ (k ++ (b ++ (c ++ rest))) in
+          let begun : t ++ rest ≡ n ++ (j ++ tail) = here ∙ ap (λ (l : List ℕ). l ++ tail) text ∙ append_assoc n j tail in
+          ap (selector_at filter_at) begun ∙ at_position n i (j ++ tail) is ∙ begun_again n j i (k ++ (b ++ (c ++ rest))) s (past_blanks rest) is gap (parts (Some i) same)
 
 -- ---- member names
 
@@ -54,128 +193,252 @@ same_segments (segment kind seg more) = ap (segment kind seg) (same_segments mor
 pub no_segments_read : (filter_at : List ℕ → Parsed Selector) (here : declared.Context) (cs : List ℕ) → opens_next cs ≡ false → segments_at filter_at here cs ≡ Ok ([], cs)
 no_segments_read filter_at here cs e = m.many_end opens_next (next_segment_at filter_at here) cs e
 
--- filters are read so, in segments that stand here
-module _ {signature : List ℕ → Option Signature} (filter_at : List ℕ → Parsed Selector) (Good : LogicalOr → Type 0) (laws : FilterLaws signature Good filter_at) (here : declared.Context) where
-  -- a good segment of that kind
-  abbrev IsSegment : SegmentKind → List ℕ → Segment → Type 0
-  IsSegment kind t seg = IsSegmentText filter_at Good laws kind t seg
+-- ---- selectors and brackets: what a reading gives
 
-  -- ---- after the dots
+module _ (signature : List ℕ → Option Signature) (n : ℕ) (deeper : Deeper) (laws : DeeperLaws signature n deeper) where
+  abbrev filters : List ℕ → Parsed Selector
+  filters cs = filter_at signature deeper cs
 
-  dotted_outcome : (kind : SegmentKind) (at : declared.Context) (cs : List ℕ) → Outcome (IsSegment kind) Plain (dots_before_name kind ++ cs) (dotted_at at cs)
-  unfolding dotted_at
-  dotted_outcome kind at cs =
-      past (dots_before_name kind) refl
-      (choose (λ e. read_so (dot_wildcard, drop 1 cs) (record { text = 42 ∷ []; is_so = (tt, refl); split = after_one 42 cs e })) (λ _. made (λ n. dot_name n) (λ t n is. (tt, (t, is, refl))) (name_outcome at cs)))
+  abbrev IsText : List ℕ → Selector → Type 0
+  IsText t sel = IsSelectorText signature n t sel
 
-  descendant_outcome : (cs : List ℕ) → Outcome (IsSegment descendant) (Inner signature) (46 ∷ 46 ∷ cs) (descendant_at filter_at here cs)
-  unfolding descendant_at
-  descendant_outcome cs =
-      choose (λ e. along (ap (λ (l : List ℕ). 46 ∷ 46 ∷ l) (after_one 91 cs e)) (bracket_outcome filter_at Good laws descendant (drop 1 cs))) (λ _. inner (dotted_outcome descendant here cs))
+  quoted_outcome : (quote : ℕ) (cs : List ℕ) → IsQuote quote → begins (λ c. c == quote) cs ≡ true → Outcome (Spaced IsText) (Inner signature) cs (quoted_at quote (drop 1 cs))
+  unfolding quoted_at
+  quoted_outcome quote cs is e =
+      inner (along (after_one quote cs e) (made_spaced (λ bytes. name bytes) (λ t bytes h. ((tt, omega arith), h)) (string_outcome quote is (drop 1 cs))))
 
-  -- ---- segments
+  pub selector_outcome : (cs : List ℕ) → Outcome (Spaced IsText) (Inner signature) cs (selector_at filters cs)
+  unfolding selector_at
+  selector_outcome cs =
+      choose (quoted_outcome 39 cs (inl refl)) (λ _.
+      choose (quoted_outcome 34 cs (inr refl)) (λ _.
+      choose (λ e. read_spaced (wildcard, drop 1 cs) (record { text = 42 ∷ []; is_so = ((tt, omega arith), refl); split = after_one 42 cs e })) (λ _.
+      choose (λ e. inner (along (after_one 58 cs e) (remade (λ s. slice s) (λ t s is. ((tt, omega arith), is)) (slice_outcome None [] (drop 1 cs) refl)))) (λ _.
+      choose (filter_outcome signature n deeper laws cs) (λ _. inner (position_outcome signature n cs))))))
 
-  -- a segment of its kind
-  abbrev pub IsItem : List ℕ → (SegmentKind × Segment) → Type 0
-  IsItem t x = IsSegment x.0 t x.1
+  -- ---- each selector is read
 
-  dot_outcome : (cs : List ℕ) → Outcome IsItem (Inner signature) (46 ∷ cs) (dot_at filter_at here cs)
-  unfolding dot_at
-  dot_outcome cs =
-      choose (λ e. along (ap (λ (l : List ℕ). 46 ∷ l) (after_one 46 cs e)) (made (λ s. (descendant, s)) (λ t s is. is) (descendant_outcome (drop 1 cs)))) (λ _.
-      made (λ s. (child, s)) (λ t s is. is) (inner (dotted_outcome child (after_dot here) cs)))
+  quoted_again : (quote : ℕ) (cs bytes rest : List ℕ) → IsQuote quote → string_at quote cs ≡ Ok (bytes, rest) → selector_at filters (quote ∷ cs) ≡ Ok (name bytes, past_blanks rest)
+  unfolding selector_at quoted_at
+  quoted_again quote cs bytes rest is e = of_quote (λ q. string_at q cs ≡ Ok (bytes, rest) → selector_at filters (q ∷ cs) ≡ Ok (name bytes, past_blanks rest)) (λ e. rw e refl) (λ e. rw e refl) quote is e
 
-  segment_outcome : (cs : List ℕ) → begins opens cs ≡ true → Outcome IsItem (Inner signature) cs (segment_at filter_at here cs)
-  unfolding segment_at
-  segment_outcome cs o =
-      choose (λ e. along (after_one 46 cs e) (dot_outcome (drop 1 cs))) (λ e.
-      along (after_one 91 cs (one_of cs o e)) (made (λ s. (child, s)) (λ t s is. is) (bracket_outcome filter_at Good laws child (drop 1 cs))))
+  pub selector_again : (t : List ℕ) (sel : Selector) (rest : List ℕ) → IsText t sel → Follows ends_selector rest → selector_at filters (t ++ rest) ≡ Ok (sel, past_blanks rest)
+  unfolding selector_at
+  selector_again t (name bytes) rest h e =
+      let s = string_again t bytes rest h.1 in
+      rw s.3 (quoted_again s.0 (s.1 ++ rest) bytes rest s.2 s.4)
+  selector_again t wildcard rest h e = ap (λ (l : List ℕ). selector_at filters (l ++ rest)) h.1
+  selector_again t (index i) rest h e = index_again filters t i rest h.1 e
+  selector_again t (slice s) rest h e = slice_again filters t s rest h.1 e
+  selector_again t (filter f) rest (good, (k, a, blank, is, same)) e =
+      ap (λ (l : List ℕ). selector_at filters (l ++ rest)) same ∙ ap (λ (l : List ℕ). filters (l ++ rest)) (sym same) ∙ filter_again signature n deeper laws t f rest (good, (k, a, blank, is, same)) e
 
-  -- blanks and a segment
-  abbrev pub IsNextItem : List ℕ → (SegmentKind × Segment) → Type 0
-  IsNextItem t x = (k a : List ℕ) × IsBlank k × IsItem a x × (t ≡ k ++ a)
+  begins_no_blank : (t : List ℕ) (sel : Selector) (rest : List ℕ) → IsText t sel → begins is_blank (t ++ rest) ≡ false
+  begins_no_blank t (name bytes) rest h =
+      let s = string_again t bytes rest h.1 in
+      ap (λ (l : List ℕ). begins is_blank (l ++ rest)) s.3 ∙ of_quote (λ quote. is_blank quote ≡ false) refl refl s.0 s.2
+  begins_no_blank t wildcard rest h = ap (λ (l : List ℕ). begins is_blank (l ++ rest)) h.1
+  begins_no_blank t (index i) rest h = int_no_blank t i rest h.1
+  begins_no_blank t (slice s) rest h = slice_no_blank t s rest h.1
+  begins_no_blank t (filter f) rest h = ap (λ (l : List ℕ). begins is_blank (l ++ rest)) h.1.4
 
-  next_outcome : (cs : List ℕ) → opens_next cs ≡ true → Outcome IsNextItem (Inner signature) cs (next_segment_at filter_at here cs)
-  unfolding next_segment_at
-  next_outcome cs o = past (blanks_of cs) (split_blanks cs) (weaker (λ t x is. (blanks_of cs, t, are_blank cs, is, refl)) (segment_outcome (past_blanks cs) o))
+  -- ---- the selectors of a bracket
 
-  -- ---- how a segment's text begins
-
-  item_begins : (t : List ℕ) (x : SegmentKind × Segment) (rest : List ℕ) → IsItem t x → begins opens (t ++ rest) ≡ true
-  item_begins t (child, dot_name n) rest h = ap (λ (l : List ℕ). begins opens (l ++ rest)) h.1.2
-  item_begins t (descendant, dot_name n) rest h = ap (λ (l : List ℕ). begins opens (l ++ rest)) h.1.2
-  item_begins t (child, dot_wildcard) rest h = ap (λ (l : List ℕ). begins opens (l ++ rest)) h.1
-  item_begins t (descendant, dot_wildcard) rest h = ap (λ (l : List ℕ). begins opens (l ++ rest)) h.1
-  item_begins t (child, long_hand sels) rest h = ap (λ (l : List ℕ). begins opens (l ++ rest)) h.1.6
-  item_begins t (descendant, long_hand sels) rest h = ap (λ (l : List ℕ). begins opens (l ++ rest)) h.1.6
-
-  past_next : (t : List ℕ) (x : SegmentKind × Segment) (rest : List ℕ) → (h : IsNextItem t x) → past_blanks (t ++ rest) ≡ h.1 ++ rest
-  past_next t x rest (k, a, blank, is, e) =
-      ap (λ (l : List ℕ). past_blanks (l ++ rest)) e ∙ ap past_blanks (append_assoc k a rest)
-      ∙ past_all k (a ++ rest) blank (begins_where opens is_blank false (a ++ rest) (λ c o. no_blank opens c refl refl refl refl o) (item_begins a x rest is))
-
-  next_begins : (t : List ℕ) (x : SegmentKind × Segment) (rest : List ℕ) → IsNextItem t x → opens_next (t ++ rest) ≡ true
-  next_begins t x rest h = ap (begins opens) (past_next t x rest h) ∙ item_begins h.1 x rest h.3
-
-  -- a member name ends before it
-  next_stops : (t : List ℕ) (x : SegmentKind × Segment) (rest : List ℕ) → IsNextItem t x → begins is_name_char (t ++ rest) ≡ false
-  next_stops t x rest (k, a, blank, is, e) =
-      ap (λ (l : List ℕ). begins is_name_char (l ++ rest)) e ∙ ap (begins is_name_char) (append_assoc k a rest)
-      ∙ begins_not is_name_char k (a ++ rest) (λ c w. let small : c < 33 = grind (arith, w) in grind (arith, small)) blank (begins_where opens is_name_char false (a ++ rest) (λ c o. grind (arith, o)) (item_begins a x rest is))
-
-  -- ---- each segment is read
-
-  segment_again : (t : List ℕ) (x : SegmentKind × Segment) (rest : List ℕ) → IsItem t x → begins is_name_char rest ≡ false → segment_at filter_at here (t ++ rest) ≡ Ok (x, rest)
-  unfolding segment_at dot_at descendant_at dotted_at
-  segment_again t (child, dot_name n) rest h e = rw (h.1.2, name_begins_not 46 h.1.0 n rest refl h.1.1, dotted_again (after_dot here) h.1.0 n rest h.1.1 e) refl
-  segment_again t (descendant, dot_name n) rest h e = rw (h.1.2, name_begins_not 91 h.1.0 n rest refl h.1.1, dotted_again here h.1.0 n rest h.1.1 e) refl
-  segment_again t (child, dot_wildcard) rest h e = rw h.1 refl
-  segment_again t (descendant, dot_wildcard) rest h e = rw h.1 refl
-  segment_again t (child, long_hand sels) rest h e = rw (h.1.6, bracket_again filter_at Good laws sels h.1.0 h.1.1 h.1.2 rest h.1.3 h.1.4 h.1.5 h.0) refl
-  segment_again t (descendant, long_hand sels) rest h e = rw (h.1.6, bracket_again filter_at Good laws sels h.1.0 h.1.1 h.1.2 rest h.1.3 h.1.4 h.1.5 h.0) refl
-
-  next_again : (t : List ℕ) (x : SegmentKind × Segment) (rest : List ℕ) → IsNextItem t x → begins is_name_char rest ≡ false → next_segment_at filter_at here (t ++ rest) ≡ Ok (x, rest)
-  unfolding next_segment_at
-  next_again t x rest h e = ap (segment_at filter_at here) (past_next t x rest h) ∙ segment_again h.1 x rest h.3 e
-
-  -- ---- all segments
-
-  pub segment_shorter : (cs rest : List ℕ) (x : SegmentKind × Segment) → begins opens cs ≡ true → segment_at filter_at here cs ≡ Ok (x, rest) → length rest < length cs
-  segment_shorter cs rest x o e =
-      let r = (segment_outcome cs o).reads (x, rest) e in
-      omega (arith, ap length r.split, length-append r.text rest, some_begun opens (r.text ++ []) (item_begins r.text x [] r.is_so), length-append r.text [])
-
-  pub next_takes : m.Takes opens_next (next_segment_at filter_at here)
-  unfolding next_segment_at
-  next_takes = record {
-    shorter = λ cs rest x o e. omega (arith, segment_shorter (past_blanks cs) rest x o e, no_longer cs);
-    some = λ cs o. omega (arith, some_begun opens (past_blanks cs) o, no_longer cs);
+  selector_row : RowLaw signature 44 [] IsText (selector_at filters) ends_selectors
+  selector_row = record {
+    outcome = selector_outcome;
+    again = selector_again;
+    starts = begins_no_blank;
+    sign_no_blank = refl;
+    sign_no_end = refl;
   }
 
-  segments_law : Again IsNextItem opens_next (next_segment_at filter_at here) (λ rest. begins is_name_char rest ≡ false)
-  segments_law = record { takes = next_takes; again = next_again; starts = next_begins; failures = next_stops }
+  pub next_selector_takes : m.Takes (is_at ",") (next_selector_at filters)
+  unfolding next_selector_at
+  next_selector_takes = next_takes selector_row
 
-  -- good segments in a row
-  abbrev pub AreSegmentsText : List ℕ → Segments → Type 0
-  AreSegmentsText t segs = AreGoodSegments Good segs × ReadSegments segs t
+  abbrev AreTyped : Selectors → Type 0
+  AreTyped sels = AreTypedSelectors signature sels × (selectors_depth sels ≤ n)
 
-  listed : (t : List ℕ) (ss : List (SegmentKind × Segment)) → Joined IsNextItem t ss → AreSegmentsText t (segment_list ss)
-  listed t [] h = (tt, h)
-  listed t (x ∷ ss) h =
-      let rest = listed h.1 ss h.3 in
-      let first = h.2 in (
-        (first.3.0, rest.0),
-        (first.0, first.1, h.1, first.2, first.3.1, rest.1, h.4 ∙ ap (λ (l : List ℕ). l ++ h.1) first.4 ∙ append_assoc first.0 first.1 h.1),
-      )
+  more_selectors : (sels : List Selector) (t : List ℕ) → AreRows (codes ",") IsText t sels → AreTyped (selector_list sels) × ReadMoreSelectors (selector_list sels) t
+  more_selectors [] t h = ((tt, omega arith), h)
+  more_selectors (sel ∷ sels) t (s, a, c, sign, is, rest, e) =
+      let more = more_selectors sels c rest in
+      (((is.0.0, more.0.0), omega (arith, is.0.1, more.0.1)), (s, a, c, sign, is.1, more.1, e))
 
-  pub segments_outcome : (cs : List ℕ) → Outcome (λ t (ss : List (SegmentKind × Segment)). AreSegmentsText t (segment_list ss)) (Inner signature) cs (segments_at filter_at here cs)
-  unfolding many
-  segments_outcome cs = weaker listed (many_outcome IsNextItem (Inner signature) opens_next (next_segment_at filter_at here) next_outcome (length cs) cs)
+  selectors_outcome : (cs : List ℕ) → Outcome (Spaced (λ t sels. AreTyped (selector_list sels) × ReadSelectors (selector_list sels) t)) (Inner signature) (past_blanks cs) (selectors_at filters cs)
+  unfolding selectors_at next_selector_at
+  selectors_outcome cs = onward (selector_outcome (past_blanks cs)) (λ s _ first.
+      row_outcome selector_row (λ sels. sels) (λ sel sels t c is rows.
+      let more = more_selectors sels c rows in
+      (((is.0.0, more.0.0), omega (arith, is.0.1, more.0.1)), (t, c, is.1, more.1, refl))) (past_blanks cs) s first)
 
-  are_joined : (t : List ℕ) (segs : Segments) → AreSegmentsText t segs → Joined IsNextItem t (segments_in segs)
-  are_joined t no_segments h = h.1
-  are_joined t (segment kind seg more) ((o, os), (k, a, b, blank, is, rest, e)) =
-      (k ++ a, b, (k, a, blank, (o, is), refl), are_joined b more (os, rest), e ∙ sym (append_assoc k a b))
+  selector_rows : (sels : Selectors) (t : List ℕ) → AreTyped sels → ReadMoreSelectors sels t → (xs : List Selector) × (selector_list xs ≡ sels) × AreRows (codes ",") IsText t xs
+  selector_rows no_selectors t good h = ([], refl, h)
+  selector_rows (selector sel more) t good (s, a, c, sign, is, others, e) =
+      let rest = selector_rows more c (good.0.1, omega (arith, good.1)) others in
+      (sel ∷ rest.0, ap (selector sel) rest.1, (s, a, c, sign, ((good.0.0, omega (arith, good.1)), is), rest.2, e))
 
-  pub segments_again : (t : List ℕ) (segs : Segments) (rest : List ℕ) → AreSegmentsText t segs → begins is_name_char rest ≡ false → opens_next rest ≡ false → segments_at filter_at here (t ++ rest) ≡ Ok (segments_in segs, rest)
-  segments_again t segs rest h s e = many_again IsNextItem opens_next (next_segment_at filter_at here) (λ rest. begins is_name_char rest ≡ false) segments_law t (segments_in segs) rest (are_joined t segs h) s e
+  -- ---- the bracket
+
+  pub bracket_outcome : (kind : SegmentKind) (cs : List ℕ) → Outcome (IsSegmentText signature n kind) (Inner signature) (dots_before_bracket kind ++ (91 ∷ cs)) (bracket_at filters cs)
+  unfolding bracket_at
+  bracket_outcome kind cs =
+      let dots = dots_before_bracket kind in
+      let j = blanks_of cs in
+      past_text (dots ++ (91 ∷ j)) (ap (λ (l : List ℕ). dots ++ (91 ∷ l)) (split_blanks cs) ∙ sym (append_assoc dots (91 ∷ j) (past_blanks cs))) (after (selectors_outcome cs) (λ ss _ r.
+      let a = r.is_so.0 in
+      let k = r.is_so.1 in
+      guarded ExpectedClosingBracket context.LongHand (inl refl) (λ e. read_so (long_hand (selector_list ss.0), drop 1 ss.1) (record {
+        text = 93 ∷ [];
+        is_so = (
+          r.is_so.2.0,
+          (
+            j,
+            a,
+            k,
+            are_blank cs,
+            r.is_so.2.1,
+            r.is_so.3,
+            ap (λ (l : List ℕ). (dots ++ (91 ∷ j)) ++ (l ++ 93 ∷ [])) r.is_so.4 ∙ append_assoc dots (91 ∷ j) ((a ++ k) ++ 93 ∷ []) ∙ ap (λ (l : List ℕ). dots ++ (91 ∷ (j ++ l))) (append_assoc a k (93 ∷ [])),
+          ),
+        );
+        split = after_one 93 ss.1 e;
+      }))))
+
+  -- after `[`
+  pub bracket_again : (sels : Selectors) (j t k rest : List ℕ) → IsBlank j → ReadSelectors sels t → IsBlank k → AreTyped sels → bracket_at filters ((j ++ (t ++ (k ++ 93 ∷ []))) ++ rest) ≡ Ok (long_hand sels, rest)
+  unfolding bracket_at selectors_at next_selector_at
+  bracket_again no_selectors j t k rest before is after good = absurd is
+  bracket_again (selector sel more) j t k rest before (a, c, is, others, e) after good =
+      let closing = k ++ (93 ∷ rest) in
+      let closed : past_blanks closing ≡ 93 ∷ rest = past_all k (93 ∷ rest) after refl in
+      let first : IsText a sel = ((good.0.0, omega (arith, good.1)), is) in
+      let rows = selector_rows more c (good.0.1, omega (arith, good.1)) others in
+      let begun : past_blanks (j ++ (t ++ closing)) ≡ t ++ closing =
+      rw (e, append_assoc a c closing) (past_all j (a ++ (c ++ closing)) before (begins_no_blank a sel (c ++ closing) first)) in
+      let read = row_again selector_row (λ sels. sels) sel rows.0 t a c closing first rows.2 e (ap (begins ends_selectors) closed) in
+      ap (bracket_at filters) (spread j t k (codes "]") rest) ∙ rw (begun, read, closed, rows.1) refl
+
+  -- ---- segments that stand here
+
+  module _ (here : declared.Context) where
+    -- a good segment of that kind
+    abbrev IsSegment : SegmentKind → List ℕ → Segment → Type 0
+    IsSegment kind t seg = IsSegmentText signature n kind t seg
+
+    -- ---- after the dots
+
+    dotted_outcome : (kind : SegmentKind) (at : declared.Context) (cs : List ℕ) → Outcome (IsSegment kind) Plain (dots_before_name kind ++ cs) (dotted_at at cs)
+    unfolding dotted_at
+    dotted_outcome kind at cs =
+        past_text (dots_before_name kind) refl
+        (choose (λ e. read_so (dot_wildcard, drop 1 cs) (record { text = 42 ∷ []; is_so = ((tt, omega arith), refl); split = after_one 42 cs e })) (λ _. made (λ n. dot_name n) (λ t n is. ((tt, omega arith), (t, is, refl))) (name_outcome at cs)))
+
+    descendant_outcome : (cs : List ℕ) → Outcome (IsSegment descendant) (Inner signature) (46 ∷ 46 ∷ cs) (descendant_at filters here cs)
+    unfolding descendant_at
+    descendant_outcome cs =
+        choose (λ e. along (ap (λ (l : List ℕ). 46 ∷ 46 ∷ l) (after_one 91 cs e)) (bracket_outcome descendant (drop 1 cs))) (λ _. inner (dotted_outcome descendant here cs))
+
+    -- ---- segments
+
+    -- a segment of its kind
+    abbrev pub IsItem : List ℕ → (SegmentKind × Segment) → Type 0
+    IsItem t x = IsSegment x.0 t x.1
+
+    dot_outcome : (cs : List ℕ) → Outcome IsItem (Inner signature) (46 ∷ cs) (dot_at filters here cs)
+    unfolding dot_at
+    dot_outcome cs =
+        choose (λ e. along (ap (λ (l : List ℕ). 46 ∷ l) (after_one 46 cs e)) (made (λ s. (descendant, s)) (λ t s is. is) (descendant_outcome (drop 1 cs)))) (λ _.
+        made (λ s. (child, s)) (λ t s is. is) (inner (dotted_outcome child (after_dot here) cs)))
+
+    segment_outcome : (cs : List ℕ) → begins opens cs ≡ true → Outcome IsItem (Inner signature) cs (segment_at filters here cs)
+    unfolding segment_at
+    segment_outcome cs o =
+        choose (λ e. along (after_one 46 cs e) (dot_outcome (drop 1 cs))) (λ e.
+        along (after_one 91 cs (one_of cs o e)) (made (λ s. (child, s)) (λ t s is. is) (bracket_outcome child (drop 1 cs))))
+
+    -- blanks and a segment
+    abbrev pub IsNextItem : List ℕ → (SegmentKind × Segment) → Type 0
+    IsNextItem t x = (k a : List ℕ) × IsBlank k × IsItem a x × (t ≡ k ++ a)
+
+    next_segment_outcome : (cs : List ℕ) → opens_next cs ≡ true → Outcome IsNextItem (Inner signature) cs (next_segment_at filters here cs)
+    unfolding next_segment_at
+    next_segment_outcome cs o = past_text (blanks_of cs) (split_blanks cs) (weaker (λ t x is. (blanks_of cs, t, are_blank cs, is, refl)) (segment_outcome (past_blanks cs) o))
+
+    -- ---- how a segment's text begins
+
+    item_begins : (t : List ℕ) (x : SegmentKind × Segment) (rest : List ℕ) → IsItem t x → begins opens (t ++ rest) ≡ true
+    item_begins t (child, dot_name n) rest h = ap (λ (l : List ℕ). begins opens (l ++ rest)) h.1.2
+    item_begins t (descendant, dot_name n) rest h = ap (λ (l : List ℕ). begins opens (l ++ rest)) h.1.2
+    item_begins t (child, dot_wildcard) rest h = ap (λ (l : List ℕ). begins opens (l ++ rest)) h.1
+    item_begins t (descendant, dot_wildcard) rest h = ap (λ (l : List ℕ). begins opens (l ++ rest)) h.1
+    item_begins t (child, long_hand sels) rest h = ap (λ (l : List ℕ). begins opens (l ++ rest)) h.1.6
+    item_begins t (descendant, long_hand sels) rest h = ap (λ (l : List ℕ). begins opens (l ++ rest)) h.1.6
+
+    past_next : (t : List ℕ) (x : SegmentKind × Segment) (rest : List ℕ) → (h : IsNextItem t x) → past_blanks (t ++ rest) ≡ h.1 ++ rest
+    past_next t x rest (k, a, blank, is, e) =
+        ap (λ (l : List ℕ). past_blanks (l ++ rest)) e ∙ ap past_blanks (append_assoc k a rest)
+        ∙ past_all k (a ++ rest) blank (begins_where opens is_blank false (a ++ rest) (λ c o. no_blank opens c refl refl refl refl o) (item_begins a x rest is))
+
+    next_segment_begins : (t : List ℕ) (x : SegmentKind × Segment) (rest : List ℕ) → IsNextItem t x → opens_next (t ++ rest) ≡ true
+    next_segment_begins t x rest h = ap (begins opens) (past_next t x rest h) ∙ item_begins h.1 x rest h.3
+
+    -- a member name ends before it
+    next_stops : (t : List ℕ) (x : SegmentKind × Segment) (rest : List ℕ) → IsNextItem t x → begins is_name_char (t ++ rest) ≡ false
+    next_stops t x rest (k, a, blank, is, e) =
+        ap (λ (l : List ℕ). begins is_name_char (l ++ rest)) e ∙ ap (begins is_name_char) (append_assoc k a rest)
+        ∙ begins_not is_name_char k (a ++ rest) (λ c w. let small : c < 33 = grind (arith, w) in grind (arith, small)) blank (begins_where opens is_name_char false (a ++ rest) (λ c o. grind (arith, o)) (item_begins a x rest is))
+
+    -- ---- each segment is read
+
+    segment_again : (t : List ℕ) (x : SegmentKind × Segment) (rest : List ℕ) → IsItem t x → begins is_name_char rest ≡ false → segment_at filters here (t ++ rest) ≡ Ok (x, rest)
+    unfolding segment_at dot_at descendant_at dotted_at
+    segment_again t (child, dot_name n) rest h e = rw (h.1.2, name_begins_not 46 h.1.0 n rest refl h.1.1, dotted_again (after_dot here) h.1.0 n rest h.1.1 e) refl
+    segment_again t (descendant, dot_name n) rest h e = rw (h.1.2, name_begins_not 91 h.1.0 n rest refl h.1.1, dotted_again here h.1.0 n rest h.1.1 e) refl
+    segment_again t (child, dot_wildcard) rest h e = rw h.1 refl
+    segment_again t (descendant, dot_wildcard) rest h e = rw h.1 refl
+    segment_again t (child, long_hand sels) rest h e = rw (h.1.6, bracket_again sels h.1.0 h.1.1 h.1.2 rest h.1.3 h.1.4 h.1.5 h.0) refl
+    segment_again t (descendant, long_hand sels) rest h e = rw (h.1.6, bracket_again sels h.1.0 h.1.1 h.1.2 rest h.1.3 h.1.4 h.1.5 h.0) refl
+
+    next_again : (t : List ℕ) (x : SegmentKind × Segment) (rest : List ℕ) → IsNextItem t x → begins is_name_char rest ≡ false → next_segment_at filters here (t ++ rest) ≡ Ok (x, rest)
+    unfolding next_segment_at
+    next_again t x rest h e = ap (segment_at filters here) (past_next t x rest h) ∙ segment_again h.1 x rest h.3 e
+
+    -- ---- all segments
+
+    pub segment_shorter : (cs rest : List ℕ) (x : SegmentKind × Segment) → begins opens cs ≡ true → segment_at filters here cs ≡ Ok (x, rest) → length rest < length cs
+    segment_shorter cs rest x o e =
+        let r = (segment_outcome cs o).reads (x, rest) e in
+        omega (arith, ap length r.split, length-append r.text rest, some_begun opens (r.text ++ []) (item_begins r.text x [] r.is_so), length-append r.text [])
+
+    pub next_segment_takes : m.Takes opens_next (next_segment_at filters here)
+    unfolding next_segment_at
+    next_segment_takes = record {
+      shorter = λ cs rest x o e. omega (arith, segment_shorter (past_blanks cs) rest x o e, no_longer cs);
+      some = λ cs o. omega (arith, some_begun opens (past_blanks cs) o, no_longer cs);
+    }
+
+    segments_law : Again IsNextItem opens_next (next_segment_at filters here) (λ rest. begins is_name_char rest ≡ false)
+    segments_law = record { takes = next_segment_takes; again = next_again; starts = next_segment_begins; failures = next_stops }
+
+    listed : (t : List ℕ) (ss : List (SegmentKind × Segment)) → Joined IsNextItem t ss → AreSegmentsText signature n t (segment_list ss)
+    listed t [] h = ((tt, omega arith), h)
+    listed t (x ∷ ss) h =
+        let rest = listed h.1 ss h.3 in
+        let first = h.2 in (
+          ((first.3.0.0, rest.0.0), omega (arith, first.3.0.1, rest.0.1)),
+          (first.0, first.1, h.1, first.2, first.3.1, rest.1, h.4 ∙ ap (λ (l : List ℕ). l ++ h.1) first.4 ∙ append_assoc first.0 first.1 h.1),
+        )
+
+    pub segments_outcome : (cs : List ℕ) → Outcome (λ t (ss : List (SegmentKind × Segment)). AreSegmentsText signature n t (segment_list ss)) (Inner signature) cs (segments_at filters here cs)
+    unfolding many
+    segments_outcome cs = weaker listed (many_outcome IsNextItem (Inner signature) opens_next (next_segment_at filters here) next_segment_outcome (length cs) cs)
+
+    are_joined : (t : List ℕ) (segs : Segments) → AreSegmentsText signature n t segs → Joined IsNextItem t (segments_in segs)
+    are_joined t no_segments h = h.1
+    are_joined t (segment kind seg more) (good, (k, a, b, blank, is, rest, e)) =
+        (k ++ a, b, (k, a, blank, ((good.0.0, omega (arith, good.1)), is), refl), are_joined b more ((good.0.1, omega (arith, good.1)), rest), e ∙ sym (append_assoc k a b))
+
+    pub segments_again : (t : List ℕ) (segs : Segments) (rest : List ℕ) → AreSegmentsText signature n t segs → begins is_name_char rest ≡ false → opens_next rest ≡ false → segments_at filters here (t ++ rest) ≡ Ok (segments_in segs, rest)
+    segments_again t segs rest h s e = many_again IsNextItem opens_next (next_segment_at filters here) (λ rest. begins is_name_char rest ≡ false) segments_law t (segments_in segs) rest (are_joined t segs h) s e

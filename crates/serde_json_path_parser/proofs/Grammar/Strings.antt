@@ -8,11 +8,9 @@ use Rattle.serde_json_path_parser.proofs.Words.{hexadecimal_at, hex4_at, is_high
 use Rattle.serde_json_path_parser.proofs.Words.{escape_at, is_control, piece_at, is_inside, string_at, is_ascii_plain, Stretched, encode_ascii}
 use Rattle.serde_json_path_parser.proofs.Words.{Failure, Fails}
 use Rattle.serde_json_path_parser.specs.declared.error.Context.TheVariants as context
-use Rattle.serde_json_path_parser.proofs.Texts.Stretches.{plain_below_128, plain_of}
-use Rattle.serde_json_path_parser.proofs.Reading.Many as m
-use Rattle.serde_json_path_parser.proofs.Reading.Runs.{some_begun}
-use Rattle.serde_json_path_parser.proofs.Reading.Many.{after_one, Again, many_again}
-use Rattle.serde_json_path_parser.proofs.Reading.Outcomes.{Plain, OutcomeIn, Outcome, read_so, refused, choose, guarded, past, past_in, onward, after, after_in, made, many_outcome}
+use Rattle.serde_json_path_parser.proofs.Texts.{plain_below_128, plain_of}
+use Rattle.serde_json_path_parser.proofs.Reading as m
+use Rattle.serde_json_path_parser.proofs.Reading.{some_begun, after_one, Again, many_again, Plain, OutcomeIn, Outcome, read_so, refused, choose, guarded, past_text, past_in, onward, after, after_in, made, many_outcome}
 use Rattle.serde_json_path_parser.specs.declared.error.Failure.TheVariants as failures
 
 -- ---- what a reading gives: hexadecimal digits
@@ -125,7 +123,7 @@ piece_outcome quote is (c ∷ cs) i =
 pub string_outcome : (quote : ℕ) → IsQuote quote → (cs : List ℕ) → Outcome IsString Plain (quote ∷ cs) (string_at quote cs)
 unfolding string_at many
 string_outcome quote is cs =
-    past (quote ∷ []) refl (after (many_outcome (IsPiece quote) Plain (begins (is_inside quote)) (piece_at quote) (piece_outcome quote is) (length cs) cs) (λ s _ r.
+    past_text (quote ∷ []) refl (after (many_outcome (IsPiece quote) Plain (begins (is_inside quote)) (piece_at quote) (piece_outcome quote is) (length cs) cs) (λ s _ r.
     guarded ExpectedEndingQuote context.LongHand refl (λ e.
     read_so _ (record { text = quote ∷ []; is_so = (quote, r.text, s.0, is, r.is_so, refl, refl); split = after_one quote s.1 e }))))
 

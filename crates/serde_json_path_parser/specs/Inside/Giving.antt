@@ -1,6 +1,17 @@
--- What a function of the parser returned is what reading gives.
-use Rattle.std.specs.Prelude.{◌≡◌, ℕ, true, length, ◌≤◌, ◌+◌, ◌-◌, List, ◌++◌, Option, Some, Result, Ok, Err}
-use Rattle.serde_json_path_syntax.specs.Tree.{Query, LogicalOr, query, root, SegmentKind, Segments, Segment, Selector, Call, Arguments, Argument, logical_argument}
+-- The words of contracts of private functions: a reader of a text, what is read at a level, and that what a function of the
+-- parser returned is what reading gives.
+use Rattle.std.specs.Prelude.{ℕ, true, false, List, codes, bytes_eq, Option, Some, None, if◌then◌else◌, ◌≡◌, ◌+◌, ◌≤◌, max, drop, length, ◌-◌, ◌++◌, Result, Ok, Err}
+use Rattle.serde_json_path_syntax.specs.Tree.{Literal, truth, null, Selector, Query, LogicalOr, query, root, SegmentKind, Segments, Segment, Call, Arguments, Argument, logical_argument}
+use Rattle.std.specs.Str.{chars}
+use Rattle.serde_json_path_parser.specs.Source.{Told}
+use Rattle.serde_json_path_parser.specs.Inside.Looking.{up_to_second}
+use Rattle.serde_json_path_parser.specs.declared.source.PathSource.{Ghosts}
+use Rattle.serde_json_path_parser.specs.declared.parser.reader.Reader.{Reader}
+use Rattle.serde_json_path_functions.specs.Functions.{Signature, FunctionSet, Fits}
+use Rattle.serde_json_path_parser.specs.declared.parser.Parser.{Parser}
+use Rattle.serde_json_path_parser.specs.Parsed.{Parsed, past_blanks, byte_count}
+use Rattle.serde_json_path_parser.specs.Filters as filters
+use Rattle.serde_json_path_parser.specs.Filters.{Deeper, alone}
 use Rattle.serde_json_path_syntax.specs.Calls.{names_of, calls_in_segments, calls_in_selectors, calls_from, calls_in_arguments, calls_in_argument}
 use Rattle.serde_json_path_syntax.specs.Flat.{parts_in}
 use Rattle.serde_json_path_syntax.specs.Literals.{literal_view}
@@ -9,7 +20,6 @@ use Rattle.serde_json_path_syntax.specs.Piece.{Piece, a_segment, calls_in_piece}
 use Rattle.serde_json_path_syntax.specs.Parts.{IsPart, ArePartsOf, AreSelectorsOf, AreArgumentsOf, KeepsTrees, calls_in, signatures_of, tree_of}
 use Rattle.serde_json_path_syntax.specs.Typing.{result_kind}
 use Rattle.serde_json_path_syntax.specs.Used.{AreCalled, AreDeclared, names_in}
-use Rattle.serde_json_path_functions.specs.Functions.{Signature, FunctionSet, Fits}
 use Rattle.serde_json_path_functions.specs.Terms.{kind_view}
 use Rattle.serde_json_path_functions.specs.declared.types.FunctionArgType.{FunctionArgType}
 use Rattle.serde_json_path_syntax.specs.declared.node.Part.{Part}
@@ -21,17 +31,66 @@ use Rattle.serde_json_path_parser.specs.declared.error.Failure.{Failure}
 use Rattle.serde_json_path_parser.specs.declared.error.Failure.TheVariants as failures
 use Rattle.serde_json_path_parser.specs.Errors.{is_told_at_next, no_memory}
 use Rattle.serde_json_path_parser.specs.declared.error.ParseError.{ParseError}
-use Rattle.serde_json_path_parser.specs.declared.source.PathSource.{Ghosts}
-use Rattle.serde_json_path_parser.specs.declared.parser.reader.Reader.{Reader}
-use Rattle.serde_json_path_parser.specs.Inside.Reading.{left, seen, told, Moves}
-use Rattle.serde_json_path_parser.specs.Parsed.{Parsed, past_blanks, byte_count}
 use Rattle.serde_json_path_parser.specs.Parsing.{selector_list, segment_list}
-use Rattle.serde_json_path_parser.specs.Filters.{alone}
 use Rattle.serde_json_path_parser.specs.Operands.{Operand, a_literal, a_query, a_call, calls_in_operand}
 use Rattle.serde_json_path_parser.specs.declared.parser.operand.Operand as operands
 use Rattle.serde_json_path_parser.specs.declared.parser.operand.Operand.TheVariants as the_operands
 use Rattle.serde_json_path_parser.specs.declared.parser.call.Argument as arguments
 use Rattle.serde_json_path_parser.specs.declared.parser.call.Argument.TheVariants as the_arguments
+
+-- ---- words
+
+-- the literal of this word
+abbrev pub literal_word : List ℕ → Option Literal
+literal_word text =
+    if bytes_eq text (codes "true") then Some (truth true)
+    else if bytes_eq text (codes "false") then Some (truth false)
+    else if bytes_eq text (codes "null") then Some null
+    else None
+
+-- ---- a reader of a text
+
+module _ {S : Type 0} {g : Ghosts S} where
+  -- what the reader's source tells
+  abbrev pub told : Reader S g → Told
+  told r = g.told r.source.now
+
+  -- the characters that are left
+  abbrev pub left : Reader S g → List ℕ
+  left r = chars (drop r.index (told r).text)
+
+  -- how many bytes were seen: up to the next one, or up to the second one where it was looked at
+  abbrev pub seen : Reader S g → ℕ
+  seen r = up_to_second r.index r.next r.second
+
+  -- The text stays, what was read stays read, there were no more looks than bytes that were seen, and none beyond them.
+  pub record Moves (old new : Reader S g) : Type 0 where
+    pub same_source : new.source.ghost_name ≡ old.source.ghost_name
+    pub same_text : (told new).text ≡ (told old).text
+    pub looks : (told new).looks + seen old ≤ (told old).looks + seen new
+    pub farthest : (told new).farthest ≤ max (told old).farthest (seen new)
+    pub on : seen old ≤ seen new
+
+-- ---- what is read at a level
+
+module _ {F : Type 0} (set : F → FunctionSet) where
+  -- the signatures of the functions that are called
+  abbrev pub signatures : Parser F → List ℕ → Option Signature
+  signatures l = (set l.functions.now).signature
+
+  -- how the text one filter, parenthesis or call deeper is read
+  abbrev pub deeper : Parser F → Deeper
+  deeper l = filters.level (signatures l) l.depth
+
+  -- a piece as it is read at a level
+  abbrev pub at_level : {A : Type 0} → Parser F → ((List ℕ → Option Signature) → Deeper → A) → A
+  at_level l read = read (signatures l) (deeper l)
+
+  -- how a filter is read
+  abbrev pub filter_at : Parser F → List ℕ → Parsed Selector
+  filter_at l = at_level l filters.filter_at
+
+-- ---- what a function of the parser gives
 
 -- it stops with what reading refuses, unless memory was refused
 abbrev pub Fails : {Y : Type 0} → Failure → Result Y Refusal → Type 0

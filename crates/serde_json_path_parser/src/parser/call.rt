@@ -7,11 +7,9 @@ ghost use Rattle.serde_json_path_functions.specs.Functions.{Signature};
 ghost use Rattle.serde_json_path_functions.specs.Terms.{kind_view};
 ghost use Rattle.serde_json_path_parser.specs.Filters.{argument_at, logical_from, ended};
 ghost use Rattle.serde_json_path_parser.specs.Filters as filters;
-ghost use Rattle.serde_json_path_parser.specs.Inside.Giving.{MakesArgument, MakesArguments, MakesCall, IsArgumentOf, Gives, MovesTo};
-ghost use Rattle.serde_json_path_parser.specs.Inside.Levels.{at_level, signatures, deeper};
+ghost use Rattle.serde_json_path_parser.specs.Inside.Giving.{MakesArgument, MakesArguments, MakesCall, IsArgumentOf, Gives, MovesTo, at_level, signatures, deeper, left};
 ghost use Rattle.serde_json_path_parser.specs.Lexical.{begins};
 ghost use Rattle.serde_json_path_parser.specs.Operands as operands;
-ghost use Rattle.serde_json_path_parser.specs.Inside.Reading.{left};
 ghost use Rattle.serde_json_path_syntax.specs.Tree as tree;
 ghost use Rattle.serde_json_path_syntax.specs.Tree.{no_arguments};
 

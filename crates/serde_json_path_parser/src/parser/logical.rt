@@ -7,18 +7,17 @@ ghost use Rattle.serde_json_path_syntax.specs.Piece.{an_or, an_and, a_basic};
 ghost use Rattle.serde_json_path_syntax.specs.Tree as tree;
 ghost use Rattle.serde_json_path_parser.specs.Filters.{paren_at, negated_at, basic_at, and_from, and_at, or_from, or_at};
 ghost use Rattle.serde_json_path_parser.specs.Filters as filters;
-ghost use Rattle.serde_json_path_parser.specs.Inside.Giving.{Makes, MakesFrom, IsOperandOf, MovesTo};
-ghost use Rattle.serde_json_path_parser.specs.Inside.Levels.{at_level, signatures, deeper};
+ghost use Rattle.serde_json_path_parser.specs.Inside.Giving.{Makes, MakesFrom, IsOperandOf, MovesTo, at_level, signatures, deeper, left};
 ghost use Rattle.serde_json_path_parser.specs.Lexical.{is_at, begins};
 ghost use Rattle.serde_json_path_parser.specs.Operands as operands;
 ghost use Rattle.serde_json_path_parser.specs.Operands.{calls_in_operand};
 ghost use Rattle.serde_json_path_parser.specs.Parsed.{byte_count, past_blanks};
-ghost use Rattle.serde_json_path_parser.specs.Inside.Reading.{left};
 
 use crate::error::{Context, Failure, ParseErrorKind};
 use crate::parser::Parser;
 use crate::parser::operand::Operand;
 use crate::parser::primitive::operator::parse_operator;
+use crate::parser::primitive::word::read_word;
 use crate::parser::reader::Reader;
 use crate::source::PathSource;
 use serde_json_path_functions::{FunctionArgType, Functions};
@@ -224,7 +223,7 @@ impl<F: Functions> Parser<'_, F> {
     // Inlined into `parse_basic`, it would widen the stack frame of each parenthesis.
     #[inline(never)]
     #[cycle(filters)]
-    #[tactic(auto, unfolding(crate::specs::Filters::negated_at))]
+    #[tactic(auto, unfolding(crate::specs::Filters::negated_at, crate::specs::Filters::negated_call_at, crate::specs::Filters::named_call_at))]
     fn parse_negated<S: PathSource>(
         &self,
         builder: &mut SyntaxBuilder,
@@ -251,9 +250,11 @@ impl<F: Functions> Parser<'_, F> {
             return Err(reader.refuse(ParseErrorKind::ExpectedExpression, Context::LongHand));
         }
         let place = reader.bytes_left();
-        let Operand::Call(call, result) = self.parse_named(builder, reader)? else {
+        let word = read_word(self.alloc, reader)?;
+        if !reader.sees(b'(') {
             return Err(Failure::in_long_hand(ParseErrorKind::ExpectedExpression, place));
-        };
+        }
+        let (call, result) = self.parse_call(builder, reader, place, word)?;
         if result == FunctionArgType::Value {
             return Err(Failure::in_long_hand(ParseErrorKind::WrongReturnType, place));
         }

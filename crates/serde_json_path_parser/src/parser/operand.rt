@@ -7,12 +7,10 @@ ghost use Rattle.serde_json_path_syntax.specs.declared.builder.SyntaxBuilder.{Sy
 ghost use Rattle.serde_json_path_syntax.specs.Piece.{a_query, a_comparable, a_basic};
 ghost use Rattle.serde_json_path_functions.specs.Functions.{Signature};
 ghost use Rattle.serde_json_path_parser.specs.Filters.{query_at, operand_at, comparable_at, named_at, test_at, text_at};
-ghost use Rattle.serde_json_path_parser.specs.Inside.Giving.{Makes, MakesOf, MakesOperand, IsOperandOf, IsNear, MovesTo};
-ghost use Rattle.serde_json_path_parser.specs.Inside.Levels.{at_level, signatures};
+ghost use Rattle.serde_json_path_parser.specs.Inside.Giving.{Makes, MakesOf, MakesOperand, IsOperandOf, IsNear, MovesTo, at_level, signatures, left};
 ghost use Rattle.serde_json_path_parser.specs.Lexical.{begins, is_small_letter, IsQuote};
 ghost use Rattle.serde_json_path_parser.specs.Operands as operands;
 ghost use Rattle.serde_json_path_parser.specs.Operands.{calls_in_operand};
-ghost use Rattle.serde_json_path_parser.specs.Inside.Reading.{left};
 
 use crate::error::{Context, Failure, ParseErrorKind};
 use crate::parser::Parser;

@@ -2,9 +2,8 @@
 
 ghost use Rattle.std.specs.Prelude.{◌≡◌, false, IfErr};
 ghost use Rattle.serde_json_path_parser.specs.Filters.{path_at};
-ghost use Rattle.serde_json_path_parser.specs.Inside.Giving.{GivesQuery, MovesTo, IsRefused};
+ghost use Rattle.serde_json_path_parser.specs.Inside.Giving.{GivesQuery, MovesTo, IsRefused, left};
 ghost use Rattle.serde_json_path_parser.specs.Parsing.{opens_after_root};
-ghost use Rattle.serde_json_path_parser.specs.Inside.Reading.{left};
 
 use crate::error::{Context, Failure, ParseErrorKind, Refusal};
 use crate::parser::reader::Reader;

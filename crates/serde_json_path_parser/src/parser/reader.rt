@@ -3,7 +3,7 @@
 ghost use Rattle.std.specs.Prelude.{◌≡◌, ◌==◌, ◌<◌, ◌≤◌, ◌+◌, ◌-◌, ◌^◌, ◌∷◌, ℕ, length, slice_get, drop, true, max, None, Some, IfOk, IsTrue, is_ok, string_bytes, ◌++◌};
 ghost use Rattle.std.specs.Str.{is_utf8, chars};
 ghost use Rattle.std.specs.Char.{IsScalar};
-ghost use Rattle.serde_json_path_parser.specs.Inside.Looking.{is_ascii_plain, Stretched, is_ascii, limit_of, IsAhead, IsSecond};
+ghost use Rattle.serde_json_path_parser.specs.Inside.Looking.{Stretched, is_ascii, limit_of, IsAhead, IsSecond};
 ghost use Rattle.serde_json_path_parser.specs.Lexical.{begins, begins_both, is_blank, is_digit, is_name_first, is_name_char, is_small_letter, is_function_char};
 ghost use Rattle.serde_json_path_parser.specs.Source.{greatest_usize};
 ghost use Rattle.serde_json_path_parser.specs.Parsed.{front, past};
@@ -12,7 +12,7 @@ ghost use Rattle.serde_json_path_parser.specs.Strings.{is_hexadecimal, is_letter
 
 use crate::error::{Context, Failure, ParseErrorKind, Refusal};
 use crate::parser::decode::{byte_at, byte_below, wide_character_at};
-use crate::parser::stretch::{Class, NameChars, PlainChars, push_stretch};
+use crate::parser::stretch::{Class, NameChars, push_stretch};
 use crate::source::PathSource;
 use std::alloc::AllocError;
 
@@ -39,9 +39,8 @@ impl<'s, S: PathSource> Reader<'s, S> {
     ghost use Rattle.serde_json_path_parser.specs.Parsed.{byte_count, refusal, past_blanks};
     ghost use Rattle.serde_json_path_parser.specs.Parsing.{is_first_digit, begins_int};
     ghost use Rattle.serde_json_path_parser.specs.Lexical.{opens, ◌∈◌};
-    ghost use Rattle.serde_json_path_parser.specs.Inside.Reading.{told, left, seen, Moves};
+    ghost use Rattle.serde_json_path_parser.specs.Inside.Giving.{told, left, seen, Moves, StopsNear};
     ghost use Rattle.serde_json_path_parser.specs.Filters.{ends_argument};
-    ghost use Rattle.serde_json_path_parser.specs.Inside.Giving.{StopsNear};
 
     /// A reader at the start of a text.
     pub(crate) fn new(source: &'s mut S) -> Reader<'s, S>
@@ -64,7 +63,7 @@ impl<'s, S: PathSource> Reader<'s, S> {
     }
 
     /// The byte that is next.
-    #[tactic(auto, using(crate::proofs::Texts::Decoding::ahead))]
+    #[tactic(auto, using(crate::proofs::Texts::ahead))]
     fn peek(&self) -> Option<u8>
         ensures { IsAhead result (left self.now) }
     {
@@ -171,7 +170,7 @@ impl<'s, S: PathSource> Reader<'s, S> {
     }
 
     /// The byte after the next one; the next one must be ASCII. It is looked at only once.
-    #[tactic(auto, using(crate::proofs::Texts::Decoding::ahead_second))]
+    #[tactic(auto, using(crate::proofs::Texts::ahead_second))]
     fn peek_second(&mut self) -> Option<u8>
         requires { is_ascii self.old.next ≡ true }
         ensures moves { Moves self.old self.new }
@@ -284,65 +283,45 @@ impl<'s, S: PathSource> Reader<'s, S> {
         ensures rest { IfOk result (λ u. left self.new ≡ past is_name_char (left self.old)) }
     {
         'chars: while self.sees_name_char() {
-            let first = self.next.unwrap();
-            // Many at a time only after a longer text, since a short name would gain nothing.
-            if first >= 0x80 || text.len() < 32 || self.second.is_some() {
-                text.push(self.take_char())?;
+            if self.sees_stretch(&NameChars, text.len()) {
+                self.take_stretch(&NameChars, text)?;
                 continue;
             }
-            self.take_name_stretch(first, text)?;
+            text.push(self.take_char())?;
         }
         Ok(())
     }
 
-    /// Takes one or more ASCII characters of a member name, the first of which is this one, and appends them to a text.
-    fn take_name_stretch(&mut self, first: u8, text: &mut String) -> Result<(), AllocError>
-        requires ascii { first < 128 }
-        requires first_is { self.old.next ≡ Some first }
-        requires begun { begins is_name_char (left self.old) ≡ true }
-        requires second { self.old.second ≡ None }
-        ensures moves { Moves self.old self.new }
-        ensures less { length (left self.new) < length (left self.old) }
-        ensures text { IfOk result (λ u.
-            string_bytes text.new ++ encode_utf8_all (front is_name_char (left self.new))
-            ≡ string_bytes text.old ++ encode_utf8_all (front is_name_char (left self.old))) }
-        ensures rest { past is_name_char (left self.new) ≡ past is_name_char (left self.old) }
-    {
-        let (index, next, pushed) = push_stretch(self.source, self.index, first, &NameChars, text);
-        self.index = index;
-        self.next = next;
-        pushed
-    }
-
-    /// Whether ASCII characters are next that are worth taking many at a time, since they stand for themselves in a
-    /// string of these quotes and so many bytes of it were taken.
-    pub(crate) fn sees_plain(&self, quote: u8, taken: usize) -> bool
-        requires { quote < 128 }
-        ensures begun { IsTrue result → begins (is_ascii_plain quote) (left self.now) ≡ true }
+    /// Whether characters of a class are next that are worth taking many at a time, after so many bytes.
+    pub(crate) fn sees_stretch<C: Class>(&self, class: &C, taken: usize) -> bool
+        requires { (c : ℕ) → C.holds class.now c ≡ true → c < 128 }
+        ensures begun { IsTrue result → begins (C.holds class.now) (left self.now) ≡ true }
         ensures second { IsTrue result → self.now.second ≡ None }
     {
         // Many at a time only after a longer text, since a short one would gain nothing.
         if taken < 32 || self.second.is_some() {
             return false;
         }
-        self.peek()
-            .is_some_and(|next| PlainChars { quote }.holds(next))
+        self.peek().is_some_and(|next| class.holds(next))
     }
 
-    /// Takes one or more ASCII characters that stand for themselves in a string of these quotes, and appends them to a
-    /// text.
-    pub(crate) fn take_plain(&mut self, quote: u8, text: &mut String) -> Result<(), AllocError>
-        requires begun { begins (is_ascii_plain quote) (left self.old) ≡ true }
+    /// Takes one or more characters of a class, the first of which is next, and appends them to a text.
+    pub(crate) fn take_stretch<C: Class>(
+        &mut self,
+        class: &C,
+        text: &mut String,
+    ) -> Result<(), AllocError>
+        requires ascii { (c : ℕ) → C.holds class.now c ≡ true → c < 128 }
+        requires begun { begins (C.holds class.now) (left self.old) ≡ true }
         requires second { self.old.second ≡ None }
         ensures moves { Moves self.old self.new }
         ensures second { self.new.second ≡ None }
         ensures less { length (left self.new) < length (left self.old) }
-        ensures taken { Stretched (is_ascii_plain quote) (left self.old) (left self.new)
+        ensures taken { Stretched (C.holds class.now) (left self.old) (left self.new)
             (string_bytes text.old) (string_bytes text.new) (is_ok result) }
     {
         let first = self.next.unwrap();
-        let class = PlainChars { quote };
-        let (index, next, pushed) = push_stretch(self.source, self.index, first, &class, text);
+        let (index, next, pushed) = push_stretch(self.source, self.index, first, class, text);
         self.index = index;
         self.next = next;
         pushed

@@ -3,11 +3,9 @@
 ghost use Rattle.std.specs.Prelude.{◌≡◌, true, ℕ, List, Option, IfErr, false};
 ghost use Rattle.serde_json_path_syntax.specs.Flat.{segment_kind_view};
 ghost use Rattle.serde_json_path_functions.specs.Functions.{Signature};
-ghost use Rattle.serde_json_path_parser.specs.Inside.Giving.{Makes, MakesSegments, segment_piece, MovesTo, IsRefused};
-ghost use Rattle.serde_json_path_parser.specs.Inside.Levels.{filter_at, signatures};
+ghost use Rattle.serde_json_path_parser.specs.Inside.Giving.{Makes, MakesSegments, segment_piece, MovesTo, IsRefused, filter_at, signatures, left};
 ghost use Rattle.serde_json_path_parser.specs.Lexical.{begins, opens};
 ghost use Rattle.serde_json_path_parser.specs.Parsing.{bracket_at, after_dot, dotted_at, of_kind, segment_at, segments_at, opens_next};
-ghost use Rattle.serde_json_path_parser.specs.Inside.Reading.{left};
 
 use crate::error::{Context, Failure, ParseErrorKind};
 use crate::parser::Parser;

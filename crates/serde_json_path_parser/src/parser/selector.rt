@@ -1,15 +1,11 @@
 //! Selectors.
 
-ghost use Rattle.std.specs.Prelude.{◌≡◌, ℕ, List, Option, false};
+ghost use Rattle.std.specs.Prelude.{◌≡◌, ℕ, List, Option};
 ghost use Rattle.serde_json_path_syntax.specs.Piece.{a_selector};
-ghost use Rattle.serde_json_path_syntax.specs.Tree.{Selector};
 ghost use Rattle.serde_json_path_functions.specs.Functions.{Signature};
-ghost use Rattle.serde_json_path_parser.specs.Inside.Giving.{Makes, MakesSelectors, MovesTo};
-ghost use Rattle.serde_json_path_parser.specs.Inside.Levels.{filter_at, signatures};
-ghost use Rattle.serde_json_path_parser.specs.Parsed.{Parsed};
-ghost use Rattle.serde_json_path_parser.specs.Lexical.{is_at, begins, IsQuote};
+ghost use Rattle.serde_json_path_parser.specs.Inside.Giving.{Makes, MakesSelectors, MovesTo, filter_at, signatures, left};
+ghost use Rattle.serde_json_path_parser.specs.Lexical.{begins, IsQuote};
 ghost use Rattle.serde_json_path_parser.specs.Parsing.{position_at, quoted_at, selector_at, selectors_at};
-ghost use Rattle.serde_json_path_parser.specs.Inside.Reading.{left};
 
 use crate::error::Failure;
 use crate::parser::Parser;
@@ -63,43 +59,10 @@ fn parse_quoted<S: PathSource>(
     Ok(builder.name(text)?)
 }
 
-/// Parses a selector other than a filter, and the blanks after it (RFC 9535, section 2.3).
-#[tactic(auto, unfolding(crate::specs::Parsing::selector_at))]
-fn parse_plain_selector<S: PathSource>(
-    alloc: Global,
-    builder: &mut SyntaxBuilder,
-    reader: &mut Reader<'_, S>,
-) -> Result<Part, Failure>
-    requires { is_at "?" (left reader.old) ≡ false }
-    ensures moves { MovesTo result reader.old reader.new }
-    ensures gives { (signature : List ℕ → Option Signature) (filter_at : List ℕ → Parsed Selector)
-        → Makes signature a_selector builder.old builder.new result reader.new
-        (selector_at filter_at (left reader.old)) }
-{
-    if reader.sees(b'\'') {
-        reader.take_char();
-        return parse_quoted(alloc, builder, reader, b'\'');
-    }
-    if reader.sees(b'"') {
-        reader.take_char();
-        return parse_quoted(alloc, builder, reader, b'"');
-    }
-    if reader.sees(b'*') {
-        reader.take_char();
-        reader.skip_blanks();
-        return Ok(builder.wildcard()?);
-    }
-    if reader.sees(b':') {
-        reader.take_char();
-        let slice = parse_rest_of_slice(reader, None)?;
-        return Ok(builder.slice(slice)?);
-    }
-    parse_index_or_slice(builder, reader)
-}
-
 impl<F: Functions> Parser<'_, F> {
     /// Parses a selector and the blanks after it (RFC 9535, section 2.3).
     #[cycle(filters)]
+    #[tactic(auto, unfolding(crate::specs::Parsing::selector_at))]
     fn parse_selector<S: PathSource>(
         &self,
         builder: &mut SyntaxBuilder,
@@ -114,7 +77,25 @@ impl<F: Functions> Parser<'_, F> {
             let test = self.parse_inside(builder, reader)?;
             return Ok(builder.filter(test)?);
         }
-        parse_plain_selector(self.alloc, builder, reader)
+        if reader.sees(b'\'') {
+            reader.take_char();
+            return parse_quoted(self.alloc, builder, reader, b'\'');
+        }
+        if reader.sees(b'"') {
+            reader.take_char();
+            return parse_quoted(self.alloc, builder, reader, b'"');
+        }
+        if reader.sees(b'*') {
+            reader.take_char();
+            reader.skip_blanks();
+            return Ok(builder.wildcard()?);
+        }
+        if reader.sees(b':') {
+            reader.take_char();
+            let slice = parse_rest_of_slice(reader, None)?;
+            return Ok(builder.slice(slice)?);
+        }
+        parse_index_or_slice(builder, reader)
     }
 
     /// Parses the selectors after a bracket, with commas between them and blanks round them (RFC 9535, section

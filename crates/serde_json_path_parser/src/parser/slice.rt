@@ -3,9 +3,8 @@
 ghost use Rattle.std.specs.Prelude.{IfOk};
 ghost use Rattle.serde_json_path_syntax.specs.SliceView.{slice_view};
 ghost use Rattle.serde_json_path_syntax.specs.WellFormed.{IsOptionalInteger};
-ghost use Rattle.serde_json_path_parser.specs.Inside.Giving.{Gives, MovesTo};
-ghost use Rattle.serde_json_path_parser.specs.Parsing.{bound_at, step_at, slice_at};
-ghost use Rattle.serde_json_path_parser.specs.Inside.Reading.{left};
+ghost use Rattle.serde_json_path_parser.specs.Inside.Giving.{Gives, MovesTo, left};
+ghost use Rattle.serde_json_path_parser.specs.Parsing.{bound_at, slice_at};
 
 use crate::error::Failure;
 use crate::parser::primitive::int::parse_int;
@@ -28,23 +27,8 @@ fn parse_bound<S: PathSource>(reader: &mut Reader<'_, S>) -> Result<Option<i64>,
     Ok(Some(i))
 }
 
-/// Parses a second colon and a step, or nothing.
-#[tactic(auto, unfolding(crate::specs::Parsing::step_at))]
-fn parse_step<S: PathSource>(reader: &mut Reader<'_, S>) -> Result<Option<i64>, Failure>
-    ensures moves { MovesTo result reader.old reader.new }
-    ensures gives { Gives (λ i. i) result reader.new (step_at (left reader.old)) }
-    ensures range { IfOk result (λ i. IsOptionalInteger i) }
-{
-    if !reader.sees(b':') {
-        return Ok(None);
-    }
-    reader.take_char();
-    reader.skip_blanks();
-    parse_bound(reader)
-}
-
 /// Parses a slice (RFC 9535, section 2.3.4.1) after its start and its first colon, and the blanks after it.
-#[tactic(auto, unfolding(crate::specs::Parsing::slice_at))]
+#[tactic(auto, unfolding(crate::specs::Parsing::slice_at, crate::specs::Parsing::step_at))]
 pub(crate) fn parse_rest_of_slice<S: PathSource>(
     reader: &mut Reader<'_, S>,
     start: Option<i64>,
@@ -58,6 +42,12 @@ pub(crate) fn parse_rest_of_slice<S: PathSource>(
 {
     reader.skip_blanks();
     let end = parse_bound(reader)?;
-    let step = parse_step(reader)?;
+    if !reader.sees(b':') {
+        let step = None;
+        return Ok(Slice { start, end, step });
+    }
+    reader.take_char();
+    reader.skip_blanks();
+    let step = parse_bound(reader)?;
     Ok(Slice { start, end, step })
 }

@@ -3,7 +3,7 @@
 ghost use Rattle.std.specs.Prelude.{◌≡◌, ◌-◌, ◌^◌, min};
 ghost use Rattle.serde_json_path_parser.specs.Lexical.{is_digit, value_from};
 ghost use Rattle.serde_json_path_parser.specs.Parsed.{front, past};
-ghost use Rattle.serde_json_path_parser.specs.Inside.Reading.{left, Moves};
+ghost use Rattle.serde_json_path_parser.specs.Inside.Giving.{left, Moves};
 
 use crate::parser::reader::Reader;
 use crate::source::PathSource;

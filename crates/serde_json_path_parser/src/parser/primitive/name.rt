@@ -1,9 +1,8 @@
 //! Member names.
 
 ghost use Rattle.std.specs.Prelude.{◌≡◌, string_bytes};
-ghost use Rattle.serde_json_path_parser.specs.Inside.Giving.{Gives, MovesTo};
+ghost use Rattle.serde_json_path_parser.specs.Inside.Giving.{Gives, MovesTo, left};
 ghost use Rattle.serde_json_path_parser.specs.Parsing.{name_at};
-ghost use Rattle.serde_json_path_parser.specs.Inside.Reading.{left};
 
 use crate::error::{Context, Failure, ParseErrorKind};
 use crate::parser::reader::Reader;

@@ -2,9 +2,8 @@
 
 ghost use Rattle.std.specs.Prelude.{◌≡◌, ◌≤◌, ◌<◌, ℕ, List, length, IfOk};
 ghost use Rattle.serde_json_path_syntax.specs.Literals.{number_amount};
-ghost use Rattle.serde_json_path_parser.specs.Inside.Giving.{Gives, MovesTo};
-ghost use Rattle.serde_json_path_parser.specs.Numbers.{whole_at, digits_after_point_at, fraction_at, amount_at, number_at, capped};
-ghost use Rattle.serde_json_path_parser.specs.Inside.Reading.{left};
+ghost use Rattle.serde_json_path_parser.specs.Inside.Giving.{Gives, MovesTo, left};
+ghost use Rattle.serde_json_path_parser.specs.Numbers.{whole_at, fraction_at, amount_at, number_at, capped};
 
 use crate::error::{Failure, ParseErrorKind};
 use crate::parser::primitive::decimal::parse_decimal;
@@ -37,16 +36,19 @@ fn parse_whole<S: PathSource>(reader: &mut Reader<'_, S>, place: usize) -> Resul
     Ok(parse_decimal(reader))
 }
 
-/// Parses the digits after a point, which are read whole: their billionths.
-#[tactic(auto, unfolding(crate::specs::Numbers::digits_after_point_at))]
-fn parse_fraction_digits<S: PathSource>(
-    reader: &mut Reader<'_, S>,
-    place: usize,
-) -> Result<u128, Failure>
+/// Parses a fraction, whose digits are read whole: its billionths, or 0 where there is none.
+#[tactic(auto, unfolding(crate::specs::Numbers::fraction_at, crate::specs::Numbers::digits_after_point_at))]
+fn parse_fraction<S: PathSource>(reader: &mut Reader<'_, S>, place: usize) -> Result<u128, Failure>
     ensures moves { MovesTo result reader.old reader.new }
-    ensures gives { Gives (λ n. n) result reader.new
-        (digits_after_point_at place (left reader.old)) }
+    ensures gives { Gives (λ n. n) result reader.new (fraction_at place (left reader.old)) }
 {
+    if !reader.sees(b'.') {
+        if reader.sees_exponent() {
+            return Err(Failure::in_long_hand(ParseErrorKind::ExponentOrEmptyFraction, place));
+        }
+        return Ok(0);
+    }
+    reader.take_char();
     if !reader.sees_digit() {
         return Err(Failure::in_long_hand(ParseErrorKind::ExponentOrEmptyFraction, place));
     }
@@ -60,22 +62,6 @@ fn parse_fraction_digits<S: PathSource>(
         return Err(Failure::in_long_hand(ParseErrorKind::FractionTooLong, place));
     }
     Ok(value * 10_u128.pow((FRACTION_DIGITS - count) as u32))
-}
-
-/// Parses a fraction: its billionths, or 0 where there is none.
-#[tactic(auto, unfolding(crate::specs::Numbers::fraction_at))]
-fn parse_fraction<S: PathSource>(reader: &mut Reader<'_, S>, place: usize) -> Result<u128, Failure>
-    ensures moves { MovesTo result reader.old reader.new }
-    ensures gives { Gives (λ n. n) result reader.new (fraction_at place (left reader.old)) }
-{
-    if reader.sees(b'.') {
-        reader.take_char();
-        return parse_fraction_digits(reader, place);
-    }
-    if reader.sees_exponent() {
-        return Err(Failure::in_long_hand(ParseErrorKind::ExponentOrEmptyFraction, place));
-    }
-    Ok(0)
 }
 
 /// Parses a number without its sign: its billionths, or `u128::MAX` where there are more.

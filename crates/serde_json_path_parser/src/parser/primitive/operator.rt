@@ -3,7 +3,7 @@
 ghost use Rattle.std.specs.Prelude.{◌≡◌, IsNone, option_map};
 ghost use Rattle.serde_json_path_syntax.specs.Literals.{operator_view};
 ghost use Rattle.serde_json_path_parser.specs.Filters.{operator_at};
-ghost use Rattle.serde_json_path_parser.specs.Inside.Reading.{left, Moves};
+ghost use Rattle.serde_json_path_parser.specs.Inside.Giving.{left, Moves};
 
 use crate::parser::reader::Reader;
 use crate::source::PathSource;

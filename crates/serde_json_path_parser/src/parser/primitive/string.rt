@@ -2,13 +2,13 @@
 
 ghost use Rattle.std.specs.Prelude.{◌≡◌, ◌==◌, ◌<◌, ◌≤◌, ◌+◌, ◌^◌, ℕ, List, length, true, IfOk, string_bytes};
 ghost use Rattle.std.specs.Char.{IsScalar};
-ghost use Rattle.serde_json_path_parser.specs.Inside.Giving.{Gives, MovesTo};
-ghost use Rattle.serde_json_path_parser.specs.Lexical.{is_at, begins, IsQuote};
-ghost use Rattle.serde_json_path_parser.specs.Inside.Reading.{left};
-ghost use Rattle.serde_json_path_parser.specs.Strings.{hexadecimal_at, hex4_at, is_high, low_at, unicode_at, escape_at, piece_at, is_inside, string_at};
+ghost use Rattle.serde_json_path_parser.specs.Inside.Giving.{Gives, MovesTo, left};
+ghost use Rattle.serde_json_path_parser.specs.Lexical.{begins, IsQuote};
+ghost use Rattle.serde_json_path_parser.specs.Strings.{hexadecimal_at, hex4_at, unicode_at, piece_at, is_inside, string_at};
 
 use crate::error::{Context, Failure, ParseErrorKind};
 use crate::parser::reader::Reader;
+use crate::parser::stretch::PlainChars;
 use crate::source::PathSource;
 use std::alloc::Global;
 
@@ -49,17 +49,19 @@ fn parse_hex4<S: PathSource>(reader: &mut Reader<'_, S>, place: usize) -> Result
     Ok(4096 * a + 256 * b + 16 * c + d)
 }
 
-/// Parses the low surrogate after the high one, and returns the pair's character.
-#[tactic(auto, unfolding(crate::specs::Strings::low_at))]
-fn parse_low_surrogate<S: PathSource>(
-    reader: &mut Reader<'_, S>,
-    place: usize,
-    high: u32,
-) -> Result<char, Failure>
-    requires { is_high high ≡ true }
+/// Parses the digits of an escape after its `u`, and the low surrogate after a high one: its character.
+#[tactic(auto, unfolding(crate::specs::Strings::unicode_at, crate::specs::Strings::low_at))]
+fn parse_unicode<S: PathSource>(reader: &mut Reader<'_, S>, place: usize) -> Result<char, Failure>
     ensures moves { MovesTo result reader.old reader.new }
-    ensures gives { Gives (λ c. c) result reader.new (low_at place high (left reader.old)) }
+    ensures gives { Gives (λ c. c) result reader.new (unicode_at place (left reader.old)) }
 {
+    let code = parse_hex4(reader, place)?;
+    if code >= 0xdc00 && code <= 0xdfff {
+        return Err(Failure::in_long_hand(ParseErrorKind::BadEscape, place));
+    }
+    if code < 0xd800 || code > 0xdbff {
+        return Ok(char::from_u32(code).unwrap());
+    }
     if !reader.sees(b'\\') {
         return Err(Failure::in_long_hand(ParseErrorKind::BadEscape, place));
     }
@@ -72,33 +74,23 @@ fn parse_low_surrogate<S: PathSource>(
     if low < 0xdc00 || low > 0xdfff {
         return Err(Failure::in_long_hand(ParseErrorKind::BadEscape, place));
     }
-    Ok(char::from_u32(0x10000 + 0x400 * (high - 0xd800) + (low - 0xdc00)).unwrap())
+    Ok(char::from_u32(0x10000 + 0x400 * (code - 0xd800) + (low - 0xdc00)).unwrap())
 }
 
-/// Parses the digits of an escape after its `u`: its character.
-#[tactic(auto, unfolding(crate::specs::Strings::unicode_at))]
-fn parse_unicode<S: PathSource>(reader: &mut Reader<'_, S>, place: usize) -> Result<char, Failure>
-    ensures moves { MovesTo result reader.old reader.new }
-    ensures gives { Gives (λ c. c) result reader.new (unicode_at place (left reader.old)) }
-{
-    let code = parse_hex4(reader, place)?;
-    if code >= 0xd800 && code <= 0xdbff {
-        return parse_low_surrogate(reader, place, code);
-    }
-    if code >= 0xdc00 && code <= 0xdfff {
-        return Err(Failure::in_long_hand(ParseErrorKind::BadEscape, place));
-    }
-    Ok(char::from_u32(code).unwrap())
-}
-
-/// Parses an escape, from its backslash on.
-#[tactic(auto, unfolding(crate::specs::Strings::escape_at))]
-fn parse_escape<S: PathSource>(reader: &mut Reader<'_, S>, quote: u8) -> Result<char, Failure>
+/// Parses one character of a string, or an escape that stands for one.
+#[tactic(auto, unfolding(crate::specs::Strings::piece_at, crate::specs::Strings::escape_at))]
+fn parse_piece<S: PathSource>(reader: &mut Reader<'_, S>, quote: u8) -> Result<char, Failure>
     requires quote { quote < 128 }
-    requires slash { is_at "\\" (left reader.old) ≡ true }
+    requires inside { begins (is_inside quote) (left reader.old) ≡ true }
     ensures moves { MovesTo result reader.old reader.new }
-    ensures gives { Gives (λ c. c) result reader.new (escape_at quote (left reader.old)) }
+    ensures gives { Gives (λ c. c) result reader.new (piece_at quote (left reader.old)) }
 {
+    if !reader.sees(b'\\') {
+        if reader.sees_control() {
+            return Err(reader.refuse(ParseErrorKind::ControlCharacter, Context::LongHand));
+        }
+        return Ok(reader.take_char());
+    }
     let place = reader.bytes_left();
     reader.take_char();
     if reader.sees(b'u') {
@@ -119,23 +111,6 @@ fn parse_escape<S: PathSource>(reader: &mut Reader<'_, S>, quote: u8) -> Result<
     })
 }
 
-/// Parses one character of a string, or an escape that stands for one.
-#[tactic(auto, unfolding(crate::specs::Strings::piece_at))]
-fn parse_piece<S: PathSource>(reader: &mut Reader<'_, S>, quote: u8) -> Result<char, Failure>
-    requires quote { quote < 128 }
-    requires inside { begins (is_inside quote) (left reader.old) ≡ true }
-    ensures moves { MovesTo result reader.old reader.new }
-    ensures gives { Gives (λ c. c) result reader.new (piece_at quote (left reader.old)) }
-{
-    if reader.sees(b'\\') {
-        return parse_escape(reader, quote);
-    }
-    if reader.sees_control() {
-        return Err(reader.refuse(ParseErrorKind::ControlCharacter, Context::LongHand));
-    }
-    Ok(reader.take_char())
-}
-
 /// Parses a string (RFC 9535, section 2.3.1.1) after its opening quote, up to and including the closing one.
 #[tactic(auto, unfolding(crate::specs::Strings::string_at))]
 pub(crate) fn parse_string<S: PathSource>(
@@ -149,9 +124,10 @@ pub(crate) fn parse_string<S: PathSource>(
         (string_at quote (left reader.old)) }
 {
     let mut text = String::new(alloc);
+    let plain = PlainChars { quote };
     'pieces: while reader.sees_inside(quote) {
-        if reader.sees_plain(quote, text.len()) {
-            reader.take_plain(quote, &mut text)?;
+        if reader.sees_stretch(&plain, text.len()) {
+            reader.take_stretch(&plain, &mut text)?;
             continue;
         }
         let c = parse_piece(reader, quote)?;

@@ -3,8 +3,7 @@
 ghost use Rattle.std.specs.Prelude.{◌≡◌, IfOk, option_map, string_bytes};
 ghost use Rattle.serde_json_path_syntax.specs.Literals.{literal_view};
 ghost use Rattle.serde_json_path_parser.specs.Filters.{word, past_word};
-ghost use Rattle.serde_json_path_parser.specs.Inside.Reading.{left, Moves};
-ghost use Rattle.serde_json_path_parser.specs.Inside.Words.{literal_word};
+ghost use Rattle.serde_json_path_parser.specs.Inside.Giving.{left, Moves, literal_word};
 
 use crate::parser::reader::Reader;
 use crate::source::PathSource;

@@ -2,9 +2,8 @@ use Rattle.std.proofs.Common.{◌≡◌, ◌+◌, ◌*◌, ℕ, List, [], false,
 use Rattle.serde_json_path_parser.proofs.Words.{calls_in_and, calls_in_basic, parts_in, LogicalAnd, Basic, IsPart, an_and, a_basic, begins, opens}
 use Rattle.serde_json_path_parser.proofs.Words.{signatures, at_level, and_from, or_from, past_blanks, byte_count, opens_next, selectors_at}
 use Rattle.serde_json_path_parser.proofs.Words.{segments_at, left, Moves, kind_view, parameters_at, arguments_at}
-use Rattle.serde_json_path_parser.specs.Inside.Levels.{filter_at}
-use Rattle.serde_json_path_parser.proofs.Steps.Arguments.{LeadsTo}
-use Rattle.serde_json_path_parser.proofs.Steps.Rows.{SoFar, segment_row, selector_row, or_row, and_row}
+use Rattle.serde_json_path_parser.specs.Inside.Giving.{filter_at}
+use Rattle.serde_json_path_parser.proofs.Steps.{LeadsTo, SoFar, segment_row, selector_row, or_row, and_row}
 use Rattle.serde_json_path_parser.proofs.parser.Parser.+filters.Given as goal
 
 -- ---- one level is above all that stands in it; at a level, what stands in another piece is below it

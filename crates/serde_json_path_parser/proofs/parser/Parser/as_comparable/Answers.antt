@@ -1,7 +1,7 @@
 use Rattle.std.proofs.Common.{refl, ap}
 use Rattle.serde_json_path_syntax.specs.Tree as tree
 use Rattle.serde_json_path_parser.proofs.Words.{comparable_at, calls_in_operand}
-use Rattle.serde_json_path_parser.proofs.Steps.Filters.{singular_by}
+use Rattle.serde_json_path_parser.proofs.Steps.{singular_by}
 use Rattle.serde_json_path_parser.proofs.parser.Parser.as_comparable.Goals as goal
 
 pub returns-then-not-is_singular-clause-gives : goal.returns-then-not-is_singular-clause-gives

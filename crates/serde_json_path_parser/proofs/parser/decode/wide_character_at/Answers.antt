@@ -1,9 +1,6 @@
 use Rattle.std.proofs.Common.{rules, ◌<◌, ◌+◌, length, refl, ◌∙◌}
-use Rattle.serde_json_path_parser.proofs.Texts.Decoding as d
+use Rattle.serde_json_path_parser.proofs.Texts as d
 use Rattle.serde_json_path_parser.proofs.parser.decode.wide_character_at.Goals as goal
-
-pub overflow_add-index : goal.overflow_add-index
-overflow_add-index g c = let h : c.args.index + 1 < length (g.S.PathSource.told c.args.source.now).text = d.second (g.S.PathSource.told c.args.source.now).text c.args.index c.args.lead c.requires.utf8 c.requires.lead c.requires.wide in search (rules, h)
 
 pub low_bits-second-requires : goal.low_bits-second-requires
 low_bits-second-requires g c = d.second (g.S.PathSource.told c.args.source.now).text c.args.index c.args.lead c.requires.utf8 c.requires.lead c.requires.wide

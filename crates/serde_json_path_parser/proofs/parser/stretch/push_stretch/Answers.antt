@@ -1,6 +1,6 @@
 use Rattle.std.proofs.Common.{◌<◌, length, refl, arith}
 use Rattle.serde_json_path_parser.proofs.Words.{slice_get_within}
-use Rattle.serde_json_path_parser.proofs.Texts.Stretches.{first_gathered, stretched}
+use Rattle.serde_json_path_parser.proofs.Texts.{first_gathered}
 use Rattle.serde_json_path_parser.proofs.parser.stretch.push_stretch.Goals as goal
 
 pub gather-end-requires-clause-first : goal.gather-end-requires-clause-first
@@ -22,10 +22,3 @@ gather-end-requires-clause-within g c =
     let l = c.len.ensures.bytes in
     let m = c.min.ensures in
     omega (arith, within, l, m)
-
-pub returns-clause-taken : goal.returns-clause-taken
-returns-clause-taken g c =
-    let some = c.gather-end.ensures.some in
-    let most = c.gather-end.ensures.most in
-    let least = c.min.ensures in
-    stretched (g.C.Class.holds c.args.class.now) _ c.args.index c.gather-end.result.0 _ _ _ _ some (omega (arith, some, most, least, c.gather-end.ensures.long)) c.gather-end.ensures.gathered c.push_ascii-pushed.ensures

@@ -38,8 +38,8 @@ returns-clause-gives g c =
     let v : drop 1 (left c.pieces.reader) ≡ left c.take_char.new.self = ap (drop 1) c.take_char.ensures.value in
     d ∙ rw (b, v) refl
 
-pub pieces-preserved-then-sees_plain : goal.pieces-preserved-then-sees_plain
-pieces-preserved-then-sees_plain g c = record {
+pub pieces-preserved-then-sees_stretch : goal.pieces-preserved-then-sees_stretch
+pieces-preserved-then-sees_stretch g c = record {
   moves = grind (arith, common_steps);
-  so_far = t.goes_on_far c.args.quote c.requires (string_bytes c.pieces.text) (left c.pieces.reader) _ _ _ (is_ok c.take_plain.result) (search rules) c.take_plain.ensures.taken c.pieces.invariant.so_far;
+  so_far = t.goes_on_far c.args.quote c.requires (string_bytes c.pieces.text) (left c.pieces.reader) _ _ _ (is_ok c.take_stretch.result) (search rules) c.take_stretch.ensures.taken c.pieces.invariant.so_far;
 }

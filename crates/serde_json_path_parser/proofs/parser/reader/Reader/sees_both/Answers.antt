@@ -1,5 +1,5 @@
 use Rattle.std.proofs.Common.{sym, ◌∙◌}
-use Rattle.serde_json_path_parser.proofs.Texts.Decoding.{ahead, ascii_begun}
+use Rattle.serde_json_path_parser.proofs.Texts.{ahead, ascii_begun}
 use Rattle.serde_json_path_parser.proofs.parser.reader.Reader.sees_both.Goals as goal
 
 pub peek_second-requires : goal.peek_second-requires

@@ -1,14 +1,13 @@
-use Rattle.std.proofs.Common.{◌≡◌, ◌+◌, length, refl, sym, ap, subst, ◌∙◌, arith}
-use Rattle.serde_json_path_parser.proofs.Words.{IsSome, slice_get_past, limit_of}
-use Rattle.serde_json_path_parser.proofs.Texts.Decoding.{is_there, is_some_at, utf8_of, step, step_one}
+use Rattle.std.proofs.Common.{◌≡◌, ◌+◌, length, refl, sym, ap, ◌∙◌, arith}
+use Rattle.serde_json_path_parser.proofs.Words.{slice_get_past, limit_of}
+use Rattle.serde_json_path_parser.proofs.Texts.{some_next, utf8_of, step, step_one}
 use Rattle.serde_json_path_parser.proofs.parser.reader.Reader.take_char.Goals as goal
 use Rattle.serde_json_path_parser.proofs.parser.reader.Reader.take_char.Goals.{in-None+in-None-second, in-Some, in-None+in-Some-second}
 
 pub unwrap-lead-requires : goal.unwrap-lead-requires
 unwrap-lead-requires g c =
     let r = c.args.self.now in
-    let k = is_some_at (g.S.PathSource.told r.source.now).text r.index (is_there (g.S.PathSource.told r.source.now).text r.index c.requires) in
-    subst IsSome (sym (r.next_is ∙ k.1)) refl
+    some_next (g.S.PathSource.told r.source.now).text r.index r.next r.next_is c.requires
 
 pub invariant_of-self-clause-utf8 : goal.invariant_of-self-clause-utf8
 invariant_of-self-clause-utf8 g c =

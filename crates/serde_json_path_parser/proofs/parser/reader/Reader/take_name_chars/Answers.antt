@@ -1,12 +1,11 @@
-use Rattle.std.proofs.Common.{sym, subst, ◌∙◌, refl}
-use Rattle.serde_json_path_parser.proofs.Words.{IsSome, is_name_char}
-use Rattle.serde_json_path_parser.proofs.Texts.Decoding.{is_there, is_some_at}
-use Rattle.serde_json_path_parser.proofs.Reading.Runs.{some_begun}
+use Rattle.std.proofs.Common.{◌∙◌, arith, is_ok, rules}
+use Rattle.serde_json_path_parser.proofs.Words.{common_steps}
+use Rattle.serde_json_path_parser.proofs.Texts.{name_stretched, past_stretched}
 use Rattle.serde_json_path_parser.proofs.parser.reader.Reader.take_name_chars.Goals as goal
 
-pub unwrap-first-requires : goal.unwrap-first-requires
-unwrap-first-requires g c =
-    let r = c.chars.self in
-    let text = (g.S.PathSource.told r.source.now).text in
-    let k = is_some_at text r.index (is_there text r.index (some_begun is_name_char _ (sym c.sees_name_char.ensures ∙ c.chars-test.true))) in
-    subst IsSome (sym (r.next_is ∙ k.1)) refl
+pub chars-preserved-then-sees_stretch : goal.chars-preserved-then-sees_stretch
+chars-preserved-then-sees_stretch g c = record {
+  moves = grind (arith, common_steps);
+  text = name_stretched _ _ _ _ (is_ok c.take_stretch.result) (search rules) c.take_stretch.ensures.taken ∙ c.chars.invariant.text;
+  rest = past_stretched _ _ _ _ _ c.take_stretch.ensures.taken ∙ c.chars.invariant.rest;
+}
