@@ -13,7 +13,7 @@ use Rattle.std.proofs.lemmas.Cmp.{alike_right, nat_cmp_total, nat_eq_equiv, on_t
 use Rattle.std.proofs.lemmas.List.{get_or_default}
 use Rattle.std.proofs.lemmas.List.Elements.{All-filter, All-same, All-tail, filter_agree}
 use Rattle.std.proofs.lemmas.List.Kept.{IsNonDecreasingBy-filter}
-use Rattle.std.proofs.lemmas.List.Sorted.{All-permutation, list_any-IsPermutation, sum_by-IsPermutation}
+use Rattle.std.proofs.lemmas.List.Sorted.{All-permutation, IsNonDecreasingBy-drop, list_any-IsPermutation, sum_by-IsPermutation}
 use Rattle.std.proofs.lemmas.List.Sums.{sum_by-cons, sum_by-le}
 use Rattle.std.proofs.lemmas.Map.Keys.{sorted_from_all_adjacent, apart_from_distinct, IsDistinct-from_apart, IsDistinct-IsPermutation}
 
@@ -92,9 +92,6 @@ module _ {X : Type 0} (number : X → ℕ) where
         | inr above ↦ above
       ]
 
-  tail_rises : (x : X) (xs : List X) → IsNonDecreasingBy number (x ∷ xs) → IsNonDecreasingBy number xs
-  tail_rises x xs rise i j d le within = rise (suc i) (suc j) d (omega arith) (omega arith)
-
   -- lists with the same sums are the same, where the number tells the element
   pub sorted_same : (P : X → Type 0) (tells : (x y : X) → P x → P y → number x ≡ number y → x ≡ y) (xs ys : List X)
       → IsNonDecreasingBy number xs → IsNonDecreasingBy number ys → All P xs → All P ys
@@ -106,7 +103,7 @@ module _ {X : Type 0} (number : X → ℕ) where
       let level : number x ≡ number y = omega (arith, head_le x y xs ys rise_again sums, head_le y x ys xs rise (λ f. sym (sums f))) in
       let head : x ≡ y = tells x y (all 0 x (omega arith)) (all_again 0 y (omega arith)) level in
       let tails : (f : X → ℕ) → sum_by f xs ≡ sum_by f ys = λ f. omega (arith, sums f, sum_by-cons f x xs, sum_by-cons f y ys, ap f head) in
-      let tail = sorted_same P tells xs ys (tail_rises x xs rise) (tail_rises y ys rise_again) (All-tail P x xs all) (All-tail P y ys all_again) tails in
+      let tail = sorted_same P tells xs ys (IsNonDecreasingBy-drop number 1 (x ∷ xs) rise) (IsNonDecreasingBy-drop number 1 (y ∷ ys) rise_again) (All-tail P x xs all) (All-tail P y ys all_again) tails in
       cc
 
 -- ---- an order and a number
