@@ -176,7 +176,7 @@ fitting_pushed false old new n is grown fitting below fit = subst AreFitting (sy
 
 copies_from : (olds copies : List Node) → AreCopies olds copies → (earlier : List Piece) → pieces_from earlier copies ≡ pieces_from earlier olds
 copies_from [] [] h earlier = refl
-copies_from (old ∷ olds) (copy ∷ copies) h earlier = rw (h.0.node.piece earlier, copies_from olds copies h.1 (earlier ++ piece_of earlier old ∷ []))
+copies_from (old ∷ olds) (copy ∷ copies) h earlier = rw (h.0.piece earlier, copies_from olds copies h.1 (earlier ++ piece_of earlier old ∷ []))
 copies_from _ _ h earlier = absurd h
 
 -- the same pieces
@@ -198,12 +198,12 @@ module _ (olds copies : List Node) (h : AreCopies olds copies) where
       (within, AllZip-get_or IsCopy olds copies i d d h within)
 
   pub copied_grown : IsGrown olds → IsGrown copies
-  copied_grown grown i d below = let (within, copy) = copy_at i d below in rw copy.node.parts (grown i d within)
+  copied_grown grown i d below = let (within, copy) = copy_at i d below in rw copy.parts (grown i d within)
 
   pub copied_fitting : AreFitting olds → AreFitting copies
   copied_fitting fitting i d below =
       let (within, copy) = copy_at i d below in
-      rw (copied_pieces olds copies h, copy.node.fits (pieces olds)) (fitting i d within)
+      rw (copied_pieces olds copies h, copy.fits (pieces olds)) (fitting i d within)
 
 -- the same query
 pub same_query : (olds copies : List Node) → pieces copies ≡ pieces olds → (query : Option Part) → query_at copies query ≡ query_at olds query
