@@ -110,10 +110,6 @@ declared_known signature used declared f s i e =
     let known = named_known used f i in
     known.1 ∙ sym (declared (f, known.0) (found_in used f known.0 known.1)) ∙ e
 
--- so the same name never has two signatures
-pub declared_agree : (signature : List ℕ → Option Signature) (used : List Named) → AreDeclared signature used → AreDeclared (signature_in used) used
-declared_agree signature used declared u i = declared_known signature used declared u.0 u.1 (map_in (λ (v : Named). v.0) u used i) (declared u i)
-
 -- ---- what fits
 
 pub fits_each : (F : FunctionSet) (used : List Named) → Fits F used → AreDeclared F.signature used

@@ -17,7 +17,7 @@ use Rattle.serde_json_path_functions.specs.Functions.{Signature}
 use Rattle.serde_json_path_syntax.specs.Stages.{selectors_list}
 use Rattle.serde_json_path_syntax.specs.Typing.{AreTypedSegments, IsTypedSegment}
 use Rattle.serde_json_path_syntax.proofs.Lists.{always, never}
-use Rattle.serde_json_path_syntax.specs.Parts.{ArePartsFor, ArePartsOf, AreSelectorsOf, AreOrPartsOf, AreAndPartsOf, KeepsTrees, segment_pieces, selector_pieces, or_pieces, and_pieces, argument_pieces}
+use Rattle.serde_json_path_syntax.specs.Parts.{ArePartsFor, AreSelectorsOf, AreOrPartsOf, AreAndPartsOf, KeepsTrees, segment_pieces, selector_pieces, or_pieces, and_pieces, argument_pieces}
 
 -- ---- what a comparison of numbers tells
 
@@ -66,8 +66,6 @@ module _ (is : Piece → Bool) (ps : List Piece) where
   one_is [] i d below h = absurd (omega (arith, below))
   one_is (part ∷ parts) zero d below h = (and_parts (is (piece_in ps part.number)) (each_is is (pieces_named ps parts)) h).0
   one_is (part ∷ parts) (suc i) d below h = one_is parts i d (omega (arith, below)) (and_parts (is (piece_in ps part.number)) (each_is is (pieces_named ps parts)) h).1
-
--- ---- a bracket with two selectors or more is not singular
 
 -- a bracket with two selectors or more is no singular segment
 pub two_selectors : (ps : List Piece) (parts : List Part) → 2 ≤ length parts → IsSingularSegment (long_hand (selectors_in (pieces_named ps parts))) → ⊥
@@ -191,10 +189,6 @@ pub parts_for_kept : (old new : SyntaxBuilder) → KeepsTrees old new → (parts
 parts_for_kept old new keeps [] [] h = tt
 parts_for_kept old new keeps (part ∷ parts) (p ∷ ps) h = (keeps part p h.0, parts_for_kept old new keeps parts ps h.1)
 parts_for_kept old new keeps _ _ h = absurd h
-
--- parts keep standing for their segments
-pub parts_kept : (old new : SyntaxBuilder) → KeepsTrees old new → (parts : List Part) (segs : tree.Segments) → ArePartsOf old parts segs → ArePartsOf new parts segs
-parts_kept old new keeps parts segs h = parts_for_kept old new keeps parts (segment_pieces segs) h
 
 -- the selectors of so many parts, one by one
 pub selectors_get : (ps : List Piece) (parts : List Part) (i : ℕ) → slice_get (selectors_list (selectors_in (pieces_named ps parts))) i ≡ option_map (λ (part : Part). selector_in (piece_in ps part.number)) (slice_get parts i)
