@@ -142,9 +142,5 @@ parameters-known F used (call f args) kinds fits typed known =
 declared : (F : FunctionSet) (used : List (List ℕ × Signature)) → Fits F used → (f : List ℕ) (s : Signature) → signature_in used f ≡ Some s → F.signature f ≡ Some s
 declared F used fits f s e = fits_each F used fits (f, s) (found_in used f s e)
 
--- a query that is well-typed under the signatures that it was built with is so under a set that declares them
-pub typed_under : (F : FunctionSet) (used : List (List ℕ × Signature)) (q : Query) → Fits F used → IsTyped (signature_in used) q → IsTyped F.signature q
-typed_under F used q fits typed = typed_by_names (signature_in used) F.signature q (λ f called. declared F used fits f) typed
-
 pub whole-sound : (F : FunctionSet) (used : List (List ℕ × Signature)) (q : Query) → ∥ Fits F used ∥₁ → ∥ IsTyped (signature_in used) q ∥₁ → IsSound F q IsTyped calls_of q
-whole-sound F used q fits typed = (typed_recovered F.signature q (∥∥₁_map₂ fits typed (λ f t. typed_under F used q f t)), all-calls q)
+whole-sound F used q fits typed = (typed_recovered F.signature q (∥∥₁_map₂ fits typed (λ fit well. typed_by_names (signature_in used) F.signature q (λ f called. declared F used fit f) well)), all-calls q)

@@ -125,8 +125,11 @@ EqualValues _ _ = ⊥
 
 -- so two sides are equal exactly where their values are
 by_values : (x y : Compared) → ◌≡◌ {A = Type 0} (AreEqual all_numbers x y) (EqualValues (as_value x) (as_value y))
+by_values nothing nothing = refl
+by_values (value a) (value b) = refl
 by_values (value (number a)) (billionths b) = refl
 by_values (billionths a) (value (number b)) = refl
+by_values (billionths a) (billionths b) = refl
 by_values _ _ = refl
 
 values_symmetric : (a b : Option Data) → EqualValues a b → EqualValues b a
