@@ -10,7 +10,7 @@ use Rattle.serde_json_path_core.proofs.Words.{calls_in_basic, calls_in_comparabl
 use Rattle.serde_json_path_core.proofs.Words.{parts_bound, EndsIn, Piece, argument_in, arguments_in, piece_in, pieces_named, segment_in, segments_in}
 use Rattle.serde_json_path_core.proofs.Words.{and_in, ors_in, basic_in, ands_in, selectors_list, selectors_of, params_of, ∥∥₁_elim, AreCallsOf}
 use Rattle.serde_json_path_core.proofs.Words.{IsSound, Part, ∥∥₁_map₂, bytes_eq-Decides}
-use Rattle.serde_json_path_syntax.proofs.Names.Once.{in_from, of_both}
+use Rattle.serde_json_path_syntax.proofs.Names.Once.{fits_each, found_in, in_from, of_both}
 use mathlib.Core.List.{is_set}
 use mathlib.Core.Sum.{⊎_set}
 use Rattle.serde_json_path_syntax.specs.Used.{signature_in}
@@ -140,16 +140,7 @@ parameters-known F used (call f args) kinds fits typed known =
 
 -- the signatures that the set declares
 declared : (F : FunctionSet) (used : List (List ℕ × Signature)) → Fits F used → (f : List ℕ) (s : Signature) → signature_in used f ≡ Some s → F.signature f ≡ Some s
-declared F [] fits f s e = absurd (none-some s e)
-declared F (first ∷ more) fits f s e = by (bytes_eq first.0 f) refl (declared F more fits.1 f s) e
-  where
-    by : (b : Bool) → bytes_eq first.0 f ≡ b → (signature_in more f ≡ Some s → F.signature f ≡ Some s) → (if b then Some first.1 else signature_in more f) ≡ Some s → F.signature f ≡ Some s
-    by true same later e = ap F.signature (sym ((bytes_eq-Decides first.0 f).0 same)) ∙ fits.0 ∙ e
-    by false other later e = later e
-
--- a query that is well-typed under the signatures that it was built with is so under a set that declares them
-pub typed_under : (F : FunctionSet) (used : List (List ℕ × Signature)) (q : Query) → Fits F used → IsTyped (signature_in used) q → IsTyped F.signature q
-typed_under F used q fits typed = typed_by_names (signature_in used) F.signature q (λ f called. declared F used fits f) typed
+declared F used fits f s e = fits_each F used fits (f, s) (found_in used f s e)
 
 pub whole-sound : (F : FunctionSet) (used : List (List ℕ × Signature)) (q : Query) → ∥ Fits F used ∥₁ → ∥ IsTyped (signature_in used) q ∥₁ → IsSound F q IsTyped calls_of q
-whole-sound F used q fits typed = (typed_recovered F.signature q (∥∥₁_map₂ fits typed (λ f t. typed_under F used q f t)), all-calls q)
+whole-sound F used q fits typed = (typed_recovered F.signature q (∥∥₁_map₂ fits typed (λ fit well. typed_by_names (signature_in used) F.signature q (λ f called. declared F used fit f) well)), all-calls q)

@@ -40,8 +40,7 @@ pub use Rattle.serde_json_path_functions.specs.Functions.{of_nodes, of_value}
 pub use Rattle.serde_json_path_functions.specs.Terms.{term_view}
 pub use Rattle.serde_json_path_syntax.proofs.Lists.{flat_map-flat_map, flat_map-same, in_append, in_flat_map, in_keep, in_map, in_option, in_order-append}
 pub use Rattle.serde_json_path_syntax.proofs.Lists.{in_order-flat_map, in_order-keep, in_order-map, in_order-option, map-flat_map, map_in, weaker}
-pub use Rattle.serde_json_path_syntax.proofs.Tree.NamedParts.{within_bound, within_get, below_length, past_length}
-pub use Rattle.serde_json_path_syntax.proofs.Typing.TypedParts.{typed_segment}
+pub use Rattle.serde_json_path_syntax.proofs.Tree.NamedParts.{within_bound, within_get, below_length, past_length, typed_segment}
 pub use Rattle.serde_json_path_syntax.specs.Calls.{arguments_of, calls_from, calls_in_and, calls_in_argument, calls_in_arguments, calls_in_basic}
 pub use Rattle.serde_json_path_syntax.specs.Calls.{calls_in_comparable, calls_in_or, calls_in_segment, calls_in_segments, calls_in_selector, calls_in_selectors}
 pub use Rattle.serde_json_path_syntax.specs.Calls.{calls_of, name_of}

@@ -13,11 +13,7 @@ pub record Triple : Type 0 where
   pub number : ℕ
   pub step : Step
 
--- a derivation: a triple for each segment
-abbrev pub Derivation : Type 0
-Derivation = List Triple
-
--- all its descents and steps, joined
+-- all descents and steps of a derivation, which has a triple for each segment, joined
 abbrev pub location_of : List Triple → List Step
 location_of [] = []
 location_of (x ∷ xs) = (x.descent ++ x.step ∷ []) ++ location_of xs

@@ -10,6 +10,7 @@ ghost use Rattle.serde_json_path_core.specs.Meaning.{IsResult};
 ghost use Rattle.serde_json_path_core.specs.Laws.{DescendantsInDocumentOrder, EachDocumentHasAHeight, EqualityIsAnEquivalence, EveryQueryHasAResult, LastSegmentSelectsAtEach, LessOrEqualIsEither, NotEqualNegatesEqual, OrderIsTotal, SingularQuerySelectsAtMostOne};
 
 /// Of two derivations of one query, at most one comes before the other (RFC 9535, sections 2.5.1.2 and 2.5.2.2).
+#[tactic(auto, using(crate::proofs::Meaning::Order::before_once))]
 pub fn law_before_is_asymmetric()
     ensures { (q : Query) (xs ys : List Triple) → Before (segments_of q) xs ys
         → Before (segments_of q) ys xs → ⊥ }
@@ -28,6 +29,7 @@ pub fn law_result_exists()
 {}
 
 /// A query has one result at most, whatever the function set and the document.
+#[tactic(auto, using(crate::proofs::Meaning::Order::result_once))]
 pub fn law_result_is_unique()
     ensures { (F : FunctionSet) (top : Data) (q : Query) (node : Data) (some other : List Located)
         → IsResult F top q node some → IsResult F top q node other → some ≡ other }

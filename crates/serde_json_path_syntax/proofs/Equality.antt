@@ -1,6 +1,7 @@
 -- Equality of parts, of any kind and one by one.
-use Rattle.std.proofs.Common.{◌≡◌, ◌≢◌, ◌≤◌, ◌⊎◌, suc, List, [], ◌∷◌, length, Bool, true, false, ◌&&◌, refl, sym, ap, ◌∙◌, arith}
-use Rattle.std.specs.Cmp.Lexicographic.{pointwise}
+use Rattle.std.proofs.Common.{◌≡◌, ◌≢◌, ◌≤◌, ◌⊎◌, List, [], ◌∷◌, length, Bool, true, false, ◌&&◌, refl, sym, ap, ◌∙◌, arith}
+use Rattle.std.specs.Cmp.Lexicographic.{pointwise, unequal}
+use Rattle.std.proofs.lemmas.List.{length-map}
 use Rattle.serde_json_path_syntax.specs.Flat.{piece_in, pieces_named, ands_in, arguments_in, call_in, comparable_in, or_in, ors_in, query_in, segments_in, selectors_in}
 use Rattle.serde_json_path_syntax.specs.PartBounds.{parts_bound}
 use Rattle.serde_json_path_syntax.specs.Piece.{Piece, a_query, a_segment, a_selector, an_or, an_and, a_basic, a_comparable, a_call, an_argument}
@@ -16,14 +17,8 @@ module _ (ps qs : List Piece) where
   same_named xs ys = pointwise same_piece (pieces_named ps xs) (pieces_named qs ys)
 
   pub uneven : (xs ys : List Part) → length xs ≢ length ys → same_named xs ys ≡ false
-  uneven [] [] h = absurd (h refl)
-  uneven [] (q ∷ ys) h = refl
-  uneven (p ∷ xs) [] h = refl
-  uneven (p ∷ xs) (q ∷ ys) h = failed (same_piece (piece_in ps p.number) (piece_in qs q.number)) (uneven xs ys (λ same. h (ap suc same)))
-    where
-      failed : (b : Bool) {rest : Bool} → rest ≡ false → (b && rest) ≡ false
-      failed true h = h
-      failed false h = refl
+  uneven xs ys h =
+      unequal same_piece (pieces_named ps xs) (pieces_named qs ys) (λ same. h (sym (length-map xs _) ∙ same ∙ length-map ys _))
 
   -- xs and ys are left of lefts and rights, where those before are alike
   pub record AreLeft (lefts rights xs ys : List Part) : Type 0 where

@@ -1,6 +1,7 @@
 -- Members of lists, and lists in order.
-use Rattle.std.proofs.Common.{true, false, refl, sym, true≢false, ◌≡◌, List, [], ◌∷◌, ◌++◌, map, flat_map, filter as keep, ◌⊎◌, ◌↔◌, inl, inr, Bool, cond, Option, Some, None, option_to_list, ap, subst, ◌∙◌}
+use Rattle.std.proofs.Common.{true, false, refl, sym, true≢false, ◌≡◌, List, [], ◌∷◌, ◌++◌, map, flat_map, filter as keep, ◌⊎◌, ◌↔◌, inl, inr, Bool, Option, Some, None, option_to_list, ap, subst, ◌∙◌}
 use Rattle.std.specs.Bool.{Decides}
+use Rattle.std.proofs.lemmas.Bool.{cases_Bool}
 use Rattle.std.proofs.lemmas.Grind.{flat_map-append}
 use Rattle.std.proofs.lemmas.List.{map-append}
 use Rattle.std.proofs.lemmas.Option.{none-some, same_Some}
@@ -29,15 +30,11 @@ in_append x (z ∷ xs) ys =
 -- what is in a mapped list is the image of a member
 pub in_map : {A B : Type 0} (f : A → B) (y : B) (xs : List A) → IsIn y (map f xs) ↔ ((x : A) × IsIn x xs × (y ≡ f x))
 in_map f y [] = (λ h. absurd h, λ h. h.1)
-in_map {A = A} f y (x ∷ xs) =
+in_map f y (x ∷ xs) =
     let later = in_map f y xs in (
       elim [ inl e ↦ (x, inl refl, e) | inr h ↦ let g = later.0 h in (g.0, inr g.1, g.2) ],
-      λ h. back later h.0 h.1 h.2,
+      λ h. elim h.1 [ inl e ↦ inl (h.2 ∙ ap f e) | inr g ↦ inr (later.1 (h.0, g, h.2)) ],
     )
-  where
-    back : (IsIn y (map f xs) ↔ ((x : A) × IsIn x xs × (y ≡ f x))) → (z : A) → IsIn z (x ∷ xs) → y ≡ f z → IsIn y (f x ∷ map f xs)
-    back later z (inl e) g = inl (g ∙ ap f e)
-    back later z (inr h) g = inr (later.1 (z, h, g))
 
 -- the image of a member is in the mapped list
 pub map_in : {A B : Type 0} (f : A → B) (x : A) (xs : List A) → IsIn x xs → IsIn (f x) (map f xs)
@@ -46,37 +43,26 @@ map_in f x xs h = (in_map f (f x) xs).1 (x, h, refl)
 -- what is in lists joined for the members of a list is in the list of one of them
 pub in_flat_map : {A B : Type 0} (f : A → List B) (y : B) (xs : List A) → IsIn y (flat_map f xs) ↔ ((x : A) × IsIn x xs × IsIn y (f x))
 in_flat_map f y [] = (λ h. absurd h, λ h. h.1)
-in_flat_map {A = A} f y (x ∷ xs) =
+in_flat_map f y (x ∷ xs) =
     let later = in_flat_map f y xs in
     let here = in_append y (f x) (flat_map f xs) in (
       λ h. elim (here.0 h) [ inl g ↦ (x, inl refl, g) | inr g ↦ let k = later.0 g in (k.0, inr k.1, k.2) ],
-      λ h. here.1 (back later h.0 h.1 h.2),
+      λ h. here.1 (elim h.1 [ inl e ↦ inl (subst (λ z. IsIn y (f z)) e h.2) | inr g ↦ inr (later.1 (h.0, g, h.2)) ]),
     )
-  where
-    back : (IsIn y (flat_map f xs) ↔ ((x : A) × IsIn x xs × IsIn y (f x))) → (z : A) → IsIn z (x ∷ xs) → IsIn y (f z) → IsIn y (f x) ⊎ IsIn y (flat_map f xs)
-    back later z (inl e) g = inl (subst (λ w. IsIn y (f w)) e g)
-    back later z (inr h) g = inr (later.1 (z, h, g))
 
 -- what is in a sifted list is in the list, and passes
 pub in_keep : {A : Type 0} (p : A → Bool) (x : A) (xs : List A) → IsIn x (keep p xs) ↔ (IsIn x xs × (p x ≡ true))
 in_keep p x [] = (λ h. absurd h, λ h. h.0)
-in_keep p x (z ∷ xs) = by (p z) refl (in_keep p x xs)
-  where
-    kept : p z ≡ true → (IsIn x (keep p xs) ↔ (IsIn x xs × (p x ≡ true))) → IsIn x (z ∷ keep p xs) → IsIn x (z ∷ xs) × (p x ≡ true)
-    kept e later (inl g) = (inl g, ap p g ∙ e)
-    kept e later (inr g) = let k = later.0 g in (inr k.0, k.1)
-
-    left_out : p z ≡ false → (IsIn x (keep p xs) ↔ (IsIn x xs × (p x ≡ true))) → IsIn x (z ∷ xs) → p x ≡ true → IsIn x (keep p xs)
-    left_out e later (inl g) k = absurd (true≢false (sym k ∙ ap p g ∙ e))
-    left_out e later (inr g) k = later.1 (g, k)
-
-    stays : (IsIn x (keep p xs) ↔ (IsIn x xs × (p x ≡ true))) → IsIn x (z ∷ xs) → p x ≡ true → IsIn x (z ∷ keep p xs)
-    stays later (inl g) k = inl g
-    stays later (inr g) k = inr (later.1 (g, k))
-
-    by : (b : Bool) → p z ≡ b → (IsIn x (keep p xs) ↔ (IsIn x xs × (p x ≡ true))) → IsIn x (cond b (z ∷ keep p xs) (keep p xs)) ↔ (IsIn x (z ∷ xs) × (p x ≡ true))
-    by true e later = (kept e later, λ h. stays later h.0 h.1)
-    by false e later = (λ h. let k = later.0 h in (inr k.0, k.1), λ h. left_out e later h.0 h.1)
+in_keep p x (z ∷ xs) = let later = in_keep p x xs in elim (cases_Bool (p z)) [
+  | inl e ↦ rw e (
+      elim [ inl g ↦ (inl g, ap p g ∙ e) | inr g ↦ let k = later.0 g in (inr k.0, k.1) ],
+      λ h. elim h.0 [ inl g ↦ inl g | inr g ↦ inr (later.1 (g, h.1)) ],
+    )
+  | inr e ↦ rw e (
+      λ g. let k = later.0 g in (inr k.0, k.1),
+      λ h. elim h.0 [ inl g ↦ absurd (true≢false (sym h.1 ∙ ap p g ∙ e)) | inr g ↦ later.1 (g, h.1) ],
+    )
+]
 
 -- what is in an option's list is its value
 pub in_option : {A : Type 0} (x : A) (o : Option A) → IsIn x (option_to_list o) ↔ (o ≡ Some x)
@@ -113,11 +99,10 @@ in_order-flat_map Q R f (x ∷ xs) o each apart =
 -- a sifted list
 pub in_order-keep : {A : Type 0} (R : A → A → Type 0) (p : A → Bool) (xs : List A) → IsInOrder R xs → IsInOrder R (keep p xs)
 in_order-keep R p [] o = tt
-in_order-keep R p (x ∷ xs) o = by (p x) (in_order-keep R p xs o.1)
-  where
-    by : (b : Bool) → IsInOrder R (keep p xs) → IsInOrder R (cond b (x ∷ keep p xs) (keep p xs))
-    by true later = (λ y h. o.0 y ((in_keep p y xs).0 h).0, later)
-    by false later = later
+in_order-keep R p (x ∷ xs) o = let later = in_order-keep R p xs o.1 in elim (cases_Bool (p x)) [
+  | inl e ↦ rw e (λ y h. o.0 y ((in_keep p y xs).0 h).0, later)
+  | inr e ↦ rw e later
+]
 
 -- an option's list
 pub in_order-option : {A : Type 0} (R : A → A → Type 0) (o : Option A) → IsInOrder R (option_to_list o)

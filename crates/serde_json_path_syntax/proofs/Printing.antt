@@ -1,17 +1,13 @@
 -- What is printed of a part of any kind.
-use Rattle.std.proofs.Common.{◌≡◌, ◌≢◌, ◌∙◌, ℕ, zero, suc, ◌+◌, ◌-◌, ◌*◌, ◌/◌, ◌%◌, ◌<◌, ℤ, pos, negsuc, List, [], ◌++◌, codes, true, false, refl, sym, ap, append_assoc, arith, ◌≤◌, ◌∷◌, length, map, take, get_or, append-nil}
+use Rattle.std.proofs.Common.{◌≡◌, ◌≢◌, ◌∙◌, ℕ, zero, suc, ◌+◌, ◌-◌, ◌*◌, ◌/◌, ◌%◌, ◌<◌, ℤ, pos, negsuc, List, [], ◌++◌, codes, true, false, refl, sym, ap, append_assoc, arith, ◌≤◌, ◌∷◌, length, map, take, get_or}
 use lib.Signed.{lt_z}
 use Rattle.std.proofs.Math.IntN.{nat_abs}
 use Rattle.std.proofs.lemmas.Int.{ints}
 use Rattle.std.specs.Fmt.{decimal, HasWritten, IsPlainFormatter}
 use Rattle.std.specs.declared.fmt.Formatter.{Formatter}
 use Rattle.serde_json_path_syntax.specs.Text.{amount_text, fraction_digits, number_text, query_text, joined, piece_text, and_text, and_texts, argument_text, argument_texts, basic_text, basic_texts, call_text, comparable_text, or_text, segment_text, segments_text, selector_text, selector_texts}
-use Rattle.std.specs.Prelude.{codes}
 use Rattle.std.proofs.Output.{has_written_append, has_written_of_eq}
-use Rattle.std.proofs.Math.Seq.{take-suc}
-use Rattle.std.proofs.Math.Numerals.{add-one}
-use Rattle.std.proofs.lemmas.Grind.{flat_map-append}
-use Rattle.std.proofs.lemmas.List.{map-append, take_all}
+use Rattle.std.proofs.lemmas.List.{flat_map_more, map_more, take_all}
 use Rattle.std.specs.List.{flat_map}
 use Rattle.serde_json_path_syntax.proofs.Tree.NamedParts.{one_is, others, others-bound, others-cons, others_are, query_of_singular, within_get}
 use Rattle.serde_json_path_syntax.specs.Flat.{piece_in, pieces_named, ands_in, arguments_in, call_in, comparable_in, or_in, ors_in, query_in, segments_in, selectors_in}
@@ -58,12 +54,8 @@ module _ (separator : List ℕ) (ps : List Piece) where
 
   pub begun_more : (parts : List Part) (i : ℕ) (d : Part) → i < length parts → begun parts i ++ (separator ++ text_of (get_or parts i d)) ≡ begun parts (i + 1)
   begun_more parts i d h =
-      let separated = λ (t : List ℕ). separator ++ t in
-      let texts = map text_of (take i parts) in
-      let x = text_of (get_or parts i d) in
-      let more : texts ++ x ∷ [] ≡ map text_of (take (i + 1) parts) =
-      sym (map-append text_of (take i parts) (get_or parts i d ∷ [])) ∙ ap (map text_of) (sym (take-suc parts i d h) ∙ ap (λ n. take n parts) (sym (add-one i))) in
-      ap (λ t. begun parts i ++ t) (sym (append-nil (separator ++ x))) ∙ sym (flat_map-append separated texts (x ∷ [])) ∙ ap (flat_map separated) more
+      flat_map_more (λ t. separator ++ t) [] (map text_of (take i parts)) (text_of (get_or parts i d))
+      ∙ ap (flat_map (λ t. separator ++ t)) (sym (map_more text_of parts i d h))
 
   -- one more is printed
   pub printed_more : {W : Type 0} (took : W → List ℕ → W → Type 0) (f g h : Formatter W) (parts : List Part) (i : ℕ) (d : Part) → i < length parts

@@ -4,5 +4,3 @@
 pub mod Typings
 -- well-typedness rests on the signatures of the called names alone
 pub mod TypedByNames
--- one of several parts that are well-typed is well-typed
-pub mod TypedParts

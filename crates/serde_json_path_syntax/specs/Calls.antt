@@ -77,7 +77,3 @@ names_of calls = map name_of calls
 -- the fact holds of each of some calls
 abbrev pub OfEach : (Call → Type 0) → List Call → Type 0
 OfEach Fact calls = (c : Call) → IsIn c calls → Fact c
-
--- the fact holds of each call that a query makes
-abbrev pub EachCall : (Call → Type 0) → Query → Type 0
-EachCall Fact q = OfEach Fact (calls_of q)

@@ -31,7 +31,7 @@ pub struct Part {
 }
 
 /// The selectors of a segment, in the form in which they are written.
-#[derive(Drop)]
+#[derive(Clone, Drop)]
 pub enum Segment {
     /// `.name`
     DotName(String),
@@ -42,7 +42,7 @@ pub enum Segment {
 }
 
 /// A selector in brackets.
-#[derive(Drop)]
+#[derive(Clone, Drop)]
 pub enum Selector {
     /// The member of that name.
     Name(String),
@@ -80,7 +80,7 @@ pub enum Basic {
 }
 
 /// A side of a comparison.
-#[derive(Drop)]
+#[derive(Clone, Drop)]
 pub enum Comparable {
     /// A literal.
     Literal(LiteralValue),
@@ -91,7 +91,7 @@ pub enum Comparable {
 }
 
 /// An argument of a call.
-#[derive(Drop)]
+#[derive(Clone, Drop)]
 pub enum Argument {
     /// A literal.
     Literal(LiteralValue),
@@ -104,7 +104,7 @@ pub enum Argument {
 }
 
 /// A node of a syntax tree. It refers only to nodes that were made before it.
-#[derive(Drop)]
+#[derive(Clone, Drop)]
 pub enum Node {
     /// A query and its segments.
     Query {

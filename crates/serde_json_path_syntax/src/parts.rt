@@ -1,6 +1,6 @@
 //! Parts in order.
 
-ghost use Rattle.std.specs.Prelude.{◌≡◌, ◌++◌, ◌∷◌, [], ◌↔◌, if◌then◌else◌, is_ok, IfOk, IsTrue};
+ghost use Rattle.std.specs.Prelude.{◌≡◌, ◌++◌, ◌∷◌, [], ◌↔◌, if◌then◌else◌, is_ok, IsTrue};
 ghost use Rattle.serde_json_path_syntax.specs.Flat.{parts_in};
 
 use crate::node::Part;
@@ -8,14 +8,14 @@ use std::alloc::{AllocError, Global};
 use std::slice;
 
 /// The parts of a query, a bracket or an expression, in order. A single part that is pushed takes no memory.
-#[derive(Debug, Drop)]
+#[derive(Clone, Debug, Drop)]
 pub struct Parts {
     alloc: Global,
     kept: Kept,
 }
 
 /// How parts are kept.
-#[derive(Debug, Drop)]
+#[derive(Clone, Debug, Drop)]
 enum Kept {
     /// No part.
     None,
@@ -74,19 +74,6 @@ impl Parts {
             Kept::One(part) => slice::from_ref(part),
             Kept::Listed(parts) => parts.as_slice(),
         }
-    }
-
-    /// A copy of the parts. An error comes only where memory is refused.
-    #[tactic(auto, unfolding(crate::specs::Flat::parts_in))]
-    pub(crate) fn try_clone(&self, alloc: Global) -> Result<Parts, AllocError>
-        ensures items { IfOk result (λ copy. parts_in copy ≡ parts_in self.now) }
-    {
-        let kept = match &self.kept {
-            Kept::None => Kept::None,
-            Kept::One(part) => Kept::One(*part),
-            Kept::Listed(parts) => Kept::Listed(Vec::from_slice(alloc, parts.as_slice())?),
-        };
-        Ok(Parts { alloc, kept })
     }
 }
 

@@ -19,9 +19,6 @@ by_step v s t c e = elim (child_at v s) as (λ o. ◌≡◌ {A = Option (Step ×
 there_by : (v : Data) (s : Step) (c : Data) → child_at v s ≡ Some c → child_by v s ≡ Some (s, c)
 there_by v s c e = ap (option_map (λ d. (s, d))) e
 
-below_zero : (k : ℕ) → negsuc k <ℤ pos 0
-below_zero k = omega (arith, ints)
-
 counted : (n k : ℕ) → nat_lt k n ≡ true → pos (n - (k + 1)) ≡ (negsuc k +ℤ pos n)
 counted n k e = let less : k < n = grind (arith, e) in omega (arith, ints)
 
@@ -36,7 +33,7 @@ item_sound items (pos p) s c e =
     ((items, refl, p, b.0, inl refl), ap (child_at (array items)) b.0 ∙ b.1)
 item_sound items (negsuc k) s c e = elim (cases_Bool (nat_lt k (items_len items))) [
   | inl f ↦ let b = by_step (array items) (by_position (items_len items - (k + 1))) s c (rw f at e) in
-      ((items, refl, items_len items - (k + 1), b.0, inr (below_zero k, counted (items_len items) k f)), ap (child_at (array items)) b.0 ∙ b.1)
+      ((items, refl, items_len items - (k + 1), b.0, inr (omega (arith, ints), counted (items_len items) k f)), ap (child_at (array items)) b.0 ∙ b.1)
   | inr f ↦ absurd (none-some (s, c) (rw f at e))
 ]
 
@@ -90,9 +87,6 @@ found_later q k d ms e = either (slice_cmp nat_cmp q k) _ _ (is_eq-slice_cmp q k
 apart : (q k : List ℕ) → bytes_eq q k ≡ false → q ≡ k → ⊥
 apart q k e s = true≢false (sym ((bytes_eq-Decides q k).1 s) ∙ e)
 
-unlike : (q k : List ℕ) → slice_cmp nat_cmp k q ≡ Less → bytes_eq q k ≡ false
-unlike q k h = sym (is_eq-slice_cmp q k) ∙ ap is_eq (nat_list_cmp_total.antisymm q k ∙ ap ordering_reverse h)
-
 -- a name finds the same among the members in order
 get_member-in_order : (q : List ℕ) (ms : Members) → get_member q (in_order ms) ≡ get_member q ms
 get_member-in_order q no_members = refl
@@ -123,7 +117,9 @@ in_members : (ms : Members) (c : Step × Data) → AreRising ms → IsIn c (memb
 in_members no_members c r h = absurd h
 in_members (member k d ms) c r (inl e) = (k, ap (λ (x : Step × Data). x.0) e, found_here k d ms ∙ ap (λ (x : Step × Data). Some x.1) (sym e))
 in_members (member k d ms) c r (inr h) =
-    let g = in_members ms c r.1 h in (g.0, g.1, found_later g.0 k d ms (unlike g.0 k (below_found k g.0 ms c.1 r.0 g.2)) ∙ g.2)
+    let (q, is, there) = in_members ms c r.1 h in
+    let before = nat_list_cmp_total.antisymm q k ∙ ap ordering_reverse (below_found k q ms c.1 r.0 there) in
+    (q, is, found_later q k d ms (sym (is_eq-slice_cmp q k) ∙ ap is_eq before) ∙ there)
 
 members_in : (ms : Members) (k : List ℕ) (c : Data) → get_member k ms ≡ Some c → IsIn {A = Step × Data} (by_name k, c) (members_all ms)
 members_in no_members k c e = absurd (none-some c e)

@@ -27,13 +27,11 @@ Decides-is_lt Greater = (λ e. absurd (true≢false (sym e)), λ h. cc)
 
 amounts_same : (a b : Option ℤ) → Decides (same_amount a b) (AreEqualAmounts a b)
 amounts_same (Some a) (Some b) = Decides-int_eq a b
-amounts_same (Some a) None = never
-amounts_same None b = never
+amounts_same _ _ = never
 
 amounts_rising : (a b : Option ℤ) → Decides (rising_amount a b) (AreRisingAmounts a b)
 amounts_rising (Some a) (Some b) = Decides-int_lt a b
-amounts_rising (Some a) None = never
-amounts_rising None b = never
+amounts_rising _ _ = never
 
 -- a test that is its own fact
 Decides-true : (b : Bool) → Decides b (IsTrue b)
@@ -41,13 +39,11 @@ Decides-true b = (λ e. e, λ h. h)
 
 exact_same : (a b : Option Float) → Decides (same_exact a b) (AreEqualExact a b)
 exact_same (Some a) (Some b) = Decides-true (eq a b)
-exact_same (Some a) None = never
-exact_same None b = never
+exact_same _ _ = never
 
 exact_rising : (a b : Option Float) → Decides (rising_exact a b) (AreRisingExact a b)
 exact_rising (Some a) (Some b) = Decides-true (lt a b)
-exact_rising (Some a) None = never
-exact_rising None b = never
+exact_rising _ _ = never
 
 numbers_same : (numbers : Numbers) (a b : Num) → Decides (same_number numbers a b) (EqualNumbers numbers a b)
 numbers_same whole_numbers a b = amounts_same (as_integer a) (as_integer b)

@@ -213,9 +213,6 @@ module _ (F : FunctionSet) (top : Data) (reach : SegmentKind) (seg : Segment) wh
     at_each : IsInOrder (Before (Longer segs)) long → (ps : List (List Triple)) (ns longer : List Located) → ((p : List Triple) → IsIn p ps → Derives F top segs start p)
         → AllZip (BelongsTo start) ps ns → AllZip (BelongsTo start) (flat_map grown ps) longer → AreResultsAt F top (query current Last) ns longer
     at_each long_order [] [] [] derive zip all = refl
-    at_each long_order [] [] (m ∷ ms) derive zip all = absurd all
-    at_each long_order [] (n ∷ ns) longer derive zip all = absurd zip
-    at_each long_order (p ∷ ps) [] longer derive zip all = absurd zip
     at_each long_order (p ∷ ps) (n ∷ ns) longer derive zip all =
         let (here, later, is, one, others) = zip-split (BelongsTo start) (grown p) (flat_map grown ps) longer all in
         let (first, firsts, below) = under p n zip.0 (more_after long p) here one in (
@@ -225,6 +222,7 @@ module _ (F : FunctionSet) (top : Data) (reach : SegmentKind) (seg : Segment) wh
           at_each long_order ps ns later (λ q i. derive q (inr i)) zip.1 others,
           is ∙ ap (λ ms. ms ++ later) below,
         )
+    at_each long_order _ _ _ derive zip all = absurd (assumption (zip, all))
 
   -- the longer query's result is what the last segment selects at each node of the shorter one's, in order
   pub appended : (kind : QueryKind) (segs : Segments) (node : Data) (shorter longer : List Located) → IsResult F top (query kind segs) node shorter

@@ -95,11 +95,9 @@ same_pair start xs n m h g =
 
 same_pairs : (start : Data) (ds : List (List Triple)) (ns ms : List Located) → AllZip (BelongsTo start) ds ns → AllZip (BelongsTo start) ds ms → ns ≡ ms
 same_pairs start [] [] [] h g = refl
-same_pairs start [] [] (m ∷ ms) h g = absurd g
-same_pairs start (d ∷ ds) (n ∷ ns) [] h g = absurd g
 same_pairs start (d ∷ ds) (n ∷ ns) (m ∷ ms) h g =
     ap (λ x. x ∷ ns) (same_pair start d n m h.0 g.0) ∙ ap (λ xs. m ∷ xs) (same_pairs start ds ns ms h.1 g.1)
-same_pairs start _ _ _ h g = absurd h
+same_pairs start _ _ _ h g = absurd (assumption (h, g))
 
 -- a query has one result at most
 pub result_once : (F : FunctionSet) (top : Data) (q : Query) (v : Data) (ns ms : List Located) → IsResult F top q v ns → IsResult F top q v ms → ns ≡ ms

@@ -110,39 +110,32 @@ module _ (s : Slice) (len k : ℕ) where
       (natural low a.0, e, omega (arith, ints))
 
   rising_positions : (p : ℕ) → step_of s ≡ pos (suc k)
-      → SelectsPosition s len p ↔ ((j : ℕ) × (j < (rising s len (suc k)).count) × (p ≡ nat_abs low + j * suc k))
+      → SelectsPosition s len p ↔ ((j : ℕ) × (j < (rising s len (suc k)).count) × (p ≡ frame true (nat_abs low) (suc k) j))
   rising_positions p e = (forth, λ h. back h.0 h.1 h.2)
     where
       steps : (n : ℕ) → pos n *ℤ step_of s ≡ pos (n * suc k)
       steps n = ap (λ z. pos n *ℤ z) e ∙ pos-*ℤ-pos n (suc k)
 
-      forth : SelectsPosition s len p → (j : ℕ) × (j < (rising s len (suc k)).count) × (p ≡ nat_abs low + j * suc k)
+      -- over numbers alone
+      found : (z b : ℤ) (i l m : ℕ) → pos i ≡ z → pos l ≡ b → pos p <ℤ b → pos p ≡ (z +ℤ pos m) → (m < l - i) × (p ≡ i + m)
+      found z b i l m f g h is = (omega (arith, ints), omega (arith, ints))
+
+      given : (z b : ℤ) (i l m : ℕ) → pos i ≡ z → pos l ≡ b → m < l - i → p ≡ i + m → (z ≤ℤ pos p) × (pos p <ℤ b) × (pos p ≡ (z +ℤ pos m))
+      given z b i l m f g h is = (omega (arith, ints), omega (arith, ints), omega (arith, ints))
+
+      forth : SelectsPosition s len p → (j : ℕ) × (j < (rising s len (suc k)).count) × (p ≡ frame true (nat_abs low) (suc k) j)
       forth (inl (up, from, before, (n, is))) =
           let b = rising_bounds in
-          let i = nat_abs low in
-          let l = nat_abs high in
-          let there : pos p ≡ pos i +ℤ pos (n * suc k) = is ∙ ap (λ z. z +ℤ (pos n *ℤ step_of s)) (sym b.0) ∙ ap (λ z. pos i +ℤ z) (steps n) in
-          let below : pos p <ℤ pos l = subst (λ z. pos p <ℤ z) (sym b.1) before in
-          let same : p ≡ i + n * suc k = omega (arith, ints) in
-          let less : n * suc k < l - i = omega (arith, ints) in
-          (n, (counted_within n (l - i) k).1 less, same)
+          let there = found low high (nat_abs low) (nat_abs high) (n * suc k) b.0 b.1 before (is ∙ ap (λ z. low +ℤ z) (steps n)) in
+          (n, (counted_within n (nat_abs high - nat_abs low) k).1 there.0, there.1 ∙ sym (place_up (nat_abs low) (suc k) n))
       forth (inr h) = let d : pos (suc k) <ℤ pos 0 = subst (λ z. z <ℤ pos 0) e h.0 in absurd (omega (arith, ints))
 
-      back : (j : ℕ) → j < (rising s len (suc k)).count → p ≡ nat_abs low + j * suc k → SelectsPosition s len p
+      back : (j : ℕ) → j < (rising s len (suc k)).count → p ≡ frame true (nat_abs low) (suc k) j → SelectsPosition s len p
       back j h same =
           let b = rising_bounds in
-          let i = nat_abs low in
-          let l = nat_abs high in
-          let less : j * suc k < l - i = (counted_within j (l - i) k).0 h in
-          let from : pos i ≤ℤ pos p = omega (arith, ints) in
-          let before : pos p <ℤ pos l = omega (arith, ints) in
-          let there : pos p ≡ pos i +ℤ pos (j * suc k) = omega (arith, ints) in
-          inl (
-            subst (λ z. pos 0 <ℤ z) (sym e) (omega (arith, ints)),
-            subst (λ z. z ≤ℤ pos p) b.0 from,
-            subst (λ z. pos p <ℤ z) b.1 before,
-            (j, there ∙ ap (λ z. z +ℤ pos (j * suc k)) b.0 ∙ ap (λ z. low +ℤ z) (sym (steps j))),
-          )
+          let less = (counted_within j (nat_abs high - nat_abs low) k).0 h in
+          let there = given low high (nat_abs low) (nat_abs high) (j * suc k) b.0 b.1 less (same ∙ place_up (nat_abs low) (suc k) j) in
+          inl (subst (λ z. pos 0 <ℤ z) (sym e) (omega (arith, ints)), there.0, there.1, (j, there.2 ∙ ap (λ z. low +ℤ z) (sym (steps j))))
 
   -- the last position
   abbrev last : ℤ
@@ -172,34 +165,34 @@ module _ (s : Slice) (len k : ℕ) where
       within z h = omega (arith, ints)
 
   falling_positions : (p : ℕ) → step_of s ≡ negsuc k
-      → SelectsPosition s len p ↔ ((j : ℕ) × (j < (falling s len (suc k)).count) × (p ≡ (nat_abs (top +ℤ pos 1) - 1) - j * suc k))
+      → SelectsPosition s len p ↔ ((j : ℕ) × (j < (falling s len (suc k)).count) × (p ≡ frame false (nat_abs (top +ℤ pos 1) - 1) (suc k) j))
   falling_positions p e = (forth, λ h. back h.0 h.1 h.2)
     where
       steps : (n : ℕ) → pos n *ℤ step_of s ≡ neg_ℤ (pos (n * suc k))
       steps n = ap (λ z. pos n *ℤ z) e ∙ pos-*ℤ-negsuc n k
 
       -- over numbers alone
-      downwards : (z b : ℤ) (u l m : ℕ) → pos u ≡ (z +ℤ pos 1) → pos l ≡ (b +ℤ pos 1) → b <ℤ pos p → pos p ≡ (z +ℤ neg_ℤ (pos m)) → (m < u - l) × (p ≡ (u - 1) - m)
-      downwards z b u l m f g h is = (omega (arith, ints), omega (arith, ints))
+      found : (z b : ℤ) (u l m : ℕ) → pos u ≡ (z +ℤ pos 1) → pos l ≡ (b +ℤ pos 1) → b <ℤ pos p → pos p ≡ (z +ℤ neg_ℤ (pos m)) → (m < u - l) × (p ≡ (u - 1) - m)
+      found z b u l m f g h is = (omega (arith, ints), omega (arith, ints))
 
-      upwards : (z b : ℤ) (u l m : ℕ) → pos u ≡ (z +ℤ pos 1) → pos l ≡ (b +ℤ pos 1) → m < u - l → p ≡ (u - 1) - m → (b <ℤ pos p) × (pos p ≤ℤ z) × (pos p ≡ (z +ℤ neg_ℤ (pos m)))
-      upwards z b u l m f g h is = (omega (arith, ints), omega (arith, ints), omega (arith, ints))
+      given : (z b : ℤ) (u l m : ℕ) → pos u ≡ (z +ℤ pos 1) → pos l ≡ (b +ℤ pos 1) → m < u - l → p ≡ (u - 1) - m → (b <ℤ pos p) × (pos p ≤ℤ z) × (pos p ≡ (z +ℤ neg_ℤ (pos m)))
+      given z b u l m f g h is = (omega (arith, ints), omega (arith, ints), omega (arith, ints))
 
-      forth : SelectsPosition s len p → (j : ℕ) × (j < (falling s len (suc k)).count) × (p ≡ (nat_abs (top +ℤ pos 1) - 1) - j * suc k)
+      forth : SelectsPosition s len p → (j : ℕ) × (j < (falling s len (suc k)).count) × (p ≡ frame false (nat_abs (top +ℤ pos 1) - 1) (suc k) j)
       forth (inl h) = let d : pos 0 <ℤ negsuc k = subst (λ z. pos 0 <ℤ z) e h.0 in absurd (omega (arith, ints))
       forth (inr (down, after, upto, (n, is))) =
           let b = falling_bounds in
           let u = nat_abs (top +ℤ pos 1) in
           let l = nat_abs (bottom +ℤ pos 1) in
-          let there = downwards top bottom u l (n * suc k) b.0 b.1 after (is ∙ ap (λ z. top +ℤ z) (steps n)) in
-          (n, (counted_within n (u - l) k).1 there.0, there.1)
+          let there = found top bottom u l (n * suc k) b.0 b.1 after (is ∙ ap (λ z. top +ℤ z) (steps n)) in
+          (n, (counted_within n (u - l) k).1 there.0, there.1 ∙ sym (place_down (u - 1) (suc k) n))
 
-      back : (j : ℕ) → j < (falling s len (suc k)).count → p ≡ (nat_abs (top +ℤ pos 1) - 1) - j * suc k → SelectsPosition s len p
+      back : (j : ℕ) → j < (falling s len (suc k)).count → p ≡ frame false (nat_abs (top +ℤ pos 1) - 1) (suc k) j → SelectsPosition s len p
       back j h same =
           let b = falling_bounds in
           let u = nat_abs (top +ℤ pos 1) in
           let l = nat_abs (bottom +ℤ pos 1) in
-          let there = upwards top bottom u l (j * suc k) b.0 b.1 ((counted_within j (u - l) k).0 h) same in
+          let there = given top bottom u l (j * suc k) b.0 b.1 ((counted_within j (u - l) k).0 h) (same ∙ place_down (u - 1) (suc k) j) in
           inr (subst (λ z. z <ℤ pos 0) (sym e) (omega (arith, ints)), there.0, there.1, (j, there.2 ∙ ap (λ z. top +ℤ z) (sym (steps j))))
 
 -- what positions with that step select, where they lie and in which order
@@ -215,10 +208,10 @@ is_course : (z : ℤ) (s : Slice) (len : ℕ) → step_of s ≡ z → ArePositio
 is_course (pos zero) s len e = record {
   selects = λ p. (
     elim [
-      | inl h ↦ (let up : pos 0 <ℤ pos 0 = subst (λ z. pos 0 <ℤ z) e h.0 in absurd (omega (arith, ints)))
-      | inr h ↦ (let down : pos 0 <ℤ pos 0 = subst (λ z. z <ℤ pos 0) e h.0 in absurd (omega (arith, ints)))
+      | inl h ↦ absurd (let up = subst (λ z. pos 0 <ℤ z) e h.0 in omega (arith, ints))
+      | inr h ↦ absurd (let down = subst (λ z. z <ℤ pos 0) e h.0 in omega (arith, ints))
     ],
-    λ h. let k = h.1 in absurd (omega arith),
+    λ h. absurd (let k = h.1 in omega arith),
   );
   there = λ j h. absurd (omega arith);
   before = λ i j h g. absurd (omega arith);
@@ -228,8 +221,7 @@ is_course (pos (suc k)) s len e =
     let w = nat_abs (high s len k) - i in
     let most = (rising_bounds s len k).2 in
     record {
-      selects = λ p. let r = rising_positions s len k p e in
-          (λ h. let j = r.0 h in (j.0, j.1, j.2 ∙ sym (place_up i (suc k) j.0)), λ h. r.1 (h.0, h.1, h.2 ∙ place_up i (suc k) h.0));
+      selects = λ p. rising_positions s len k p e;
       there = λ j h. let less = (counted_within j w k).0 h in omega (arith, place_up i (suc k) j);
       before = λ a b h g. inl (subst (λ z. pos 0 <ℤ z) (sym e) (omega (arith, ints)), omega (arith, place_up i (suc k) a, place_up i (suc k) b, strides_less a b k h));
     }
@@ -238,8 +230,7 @@ is_course (negsuc k) s len e =
     let w = u - nat_abs (bottom s len k +ℤ pos 1) in
     let most = (falling_bounds s len k).2 in
     record {
-      selects = λ p. let r = falling_positions s len k p e in
-          (λ h. let j = r.0 h in (j.0, j.1, j.2 ∙ sym (place_down (u - 1) (suc k) j.0)), λ h. r.1 (h.0, h.1, h.2 ∙ place_down (u - 1) (suc k) h.0));
+      selects = λ p. falling_positions s len k p e;
       there = λ j h. let less = (counted_within j w k).0 h in omega (arith, place_down (u - 1) (suc k) j);
       before = λ a b h g. let less = (counted_within b w k).0 g in
           inr (subst (λ z. z <ℤ pos 0) (sym e) (omega (arith, ints)), omega (arith, place_down (u - 1) (suc k) a, place_down (u - 1) (suc k) b, strides_less a b k h));

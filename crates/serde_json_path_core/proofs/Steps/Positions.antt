@@ -65,9 +65,3 @@ pub strided-down : (items : List Value) (count : ℕ) (upwards : Bool) (first st
     → strided count upwards (next_position upwards first stride) stride (items_view items) ≡ strided count upwards next stride (items_view items)
 strided-down items count true first stride next down is = absurd (true≢false down)
 strided-down items count false first stride next down is = ap (λ p. strided count false p stride (items_view items)) (sym is)
-
--- ---- items
-
--- the items after one
-pub items-passed : (items : List Value) (n : ℕ) → n < length items → items_from (n + 1) (items_view (drop (n + 1) items)) ≡ drop 1 (items_from n (items_view (drop n items)))
-items-passed items n within = sym (ap (λ vs. drop 1 (items_from n (items_view vs))) (drop_more items n Null within))

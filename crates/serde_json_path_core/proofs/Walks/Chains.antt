@@ -7,8 +7,6 @@ use Rattle.serde_json_path_core.proofs.Walks.Heights.{height, height-child_at}
 use Rattle.serde_json_path_core.proofs.Walks.Frames.{opened-of}
 use Rattle.serde_json_path_core.proofs.Meaning.Derived.{at-append}
 
--- ---- stacks of frames, each at a child of the one below: what a step keeps, and how many frames there are at most
-
 pub begun-of : (all : List Stage) (v : Data) → AreChildrenOf v (begun all v)
 unfolding AreChildrenOf
 begun-of [] v = λ c h. absurd h
@@ -16,13 +14,10 @@ begun-of (stage ∷ more) v = opened-of stage.kind stage.selectors v
 
 -- ---- chains
 
-pub chain-front : (First : Frame → Type 0) (ps : List Frame) (p : Frame) → IsChain First (ps ++ p ∷ []) → IsChain First ps
-chain-front First [] p h = tt
-chain-front First (q ∷ qs) p h = (h.0, h.1, chain-front (IsAtChild q.value) qs p h.2)
-
-pub chain-last : (First : Frame → Type 0) (ps : List Frame) (p : Frame) → IsChain First (ps ++ p ∷ []) → IsOfValue p
-chain-last First [] p h = h.1
-chain-last First (q ∷ qs) p h = chain-last (IsAtChild q.value) qs p h.2
+-- without its last frame it is a chain, and what is left at that one are children of its value
+pub chain-split : (First : Frame → Type 0) (ps : List Frame) (p : Frame) → IsChain First (ps ++ p ∷ []) → IsChain First ps × IsOfValue p
+chain-split First [] p h = (tt, h.1)
+chain-split First (q ∷ qs) p h = let above = chain-split (IsAtChild q.value) qs p h.2 in ((h.0, h.1, above.0), above.1)
 
 -- the last frame is replaced by one at the same value
 chain-held : (First : Frame → Type 0) (ps : List Frame) (p m : Frame) → (First p → First m) → IsSameFrame p m → IsChain First (ps ++ p ∷ []) → IsChain First (ps ++ m ∷ [])

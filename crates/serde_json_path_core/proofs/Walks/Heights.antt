@@ -1,6 +1,6 @@
 -- A document's height, computed.
 use Rattle.std.proofs.Common.{◌≡◌, ℕ, ◌<◌, ◌≤◌, List, [], ◌∷◌, length, flat_map, Some, option_and_then, inl, inr, refl, sym, subst, ap, ◌∙◌, arith}
-use Rattle.serde_json_path_core.proofs.Words.{cases_lt, not_there, Data, Step, child_at, at, Located, IsIn, children, descents, itself}
+use Rattle.serde_json_path_core.proofs.Words.{cases_lt, Data, Step, child_at, at, Located, IsIn, children, descents, itself}
 use Rattle.serde_json_path_core.specs.Height.{IsHeight}
 use Rattle.serde_json_path_core.proofs.Meaning.Descents.{below_child, descents_are, in_descents, longest, no_longer}
 
@@ -39,7 +39,3 @@ same_height v m n (most, (location, w, there, long)) (most_too, (other, u, there
     let above = most_too location w there in
     let below = most other u there_too in
     omega arith
-
--- a number that a fact bounds is within the bound where the fact is known to hold, whatever its proof
-pub at_most : {A : Type 0} (m n : ℕ) → ∥ A ∥₁ → (A → m ≤ n) → m ≤ n
-at_most m n a so = elim (cases_lt n m) [ inl below ↦ absurd (not_there a (λ x. omega (arith, so x))) | inr above ↦ above ]

@@ -1,6 +1,6 @@
 -- A query goes down by segments that select one child at most: the values that it selects stay.
-use Rattle.serde_json_path_core.proofs.Words.{IfSome, Bor, option_map_or, none-some, same_Some, append-nil, drop_more, length-drop, take-append-drop}
-use Rattle.serde_json_path_core.proofs.Words.{take_all, flat_map-map, Data, view, Value, Step, Located, FunctionSet, Query, query, kind_of}
+use Rattle.serde_json_path_core.proofs.Words.{IfSome, option_map_or, none-some, same_Some, append-nil, drop_more, length-drop, take-append-drop}
+use Rattle.serde_json_path_core.proofs.Words.{take_all, flat_map-map, map-map, Data, view, Value, Step, Located, FunctionSet, Query, query, kind_of}
 use Rattle.serde_json_path_core.proofs.Words.{segments_of, Segments, no_segments, segment, SegmentKind, child, descendant, Segment, Selector}
 use Rattle.serde_json_path_core.proofs.Words.{stage_at, stage_of, Stage, piece_at, segment_in, segment_kind_in, segments_at, Node, Part}
 use Rattle.serde_json_path_core.proofs.Words.{flat_map-same, map-flat_map, chosen, descents, itself, placed, reached, results, results_from, start_of}
@@ -9,9 +9,8 @@ use Rattle.serde_json_path_core.proofs.Words.{single_view, values_from}
 use Rattle.std.proofs.Common.{◌≡◌, ℕ, ◌+◌, ◌<◌, List, [], ◌∷◌, ◌++◌, ◌-◌, ◌≤◌, map, option_map, take, drop, flat_map, length, get_or, arith, subst, inl, Option, Some, None, option_to_list, slice_get, slice_index_or, true, refl, sym, ap, ◌∙◌}
 use Rattle.serde_json_path_syntax.specs.Kinds.{are_singular}
 use Rattle.serde_json_path_syntax.specs.Tree.{dot_name, index, long_hand, name, no_selectors, selector}
-use Rattle.serde_json_path_nodes.specs.Views.{node_value}
-use Rattle.serde_json_path_core.specs.Inside.SingleChildren.{is_single, values_reached}
-use Rattle.serde_json_path_core.specs.declared.evaluation.single_children.Reached.{Reached}
+use Rattle.std.proofs.lemmas.List.Concat.{flat_map_single}
+use Rattle.serde_json_path_core.specs.Inside.SingleChildren.{is_single}
 use Rattle.serde_json_path_core.proofs.Walks.Frames.{candidates-of}
 use Rattle.serde_json_path_core.specs.declared.evaluation.single_children.SingleSelector.{SingleSelector}
 use Rattle.serde_json_path_core.specs.declared.evaluation.single_children.SingleSelector.TheVariants as single
@@ -21,8 +20,7 @@ abbrev value_of : Located → Data
 value_of n = n.value
 
 values-beneath : (above : List Step) (ns : List Located) → map value_of (map (beneath above) ns) ≡ map value_of ns
-values-beneath above [] = refl
-values-beneath above (n ∷ ns) = ap (λ more. n.value ∷ more) (values-beneath above ns)
+values-beneath above ns = map-map value_of (beneath above) ns
 
 -- the values of a node, and of those below it that a segment goes down to, depend on its value alone
 values-reached : (kind : SegmentKind) (n : Located) → map value_of (reached kind (itself n.value)) ≡ map value_of (reached kind n)
@@ -60,11 +58,6 @@ pub single_stage : (stage : Stage) (sel : Selector) (single : Option SingleSelec
     → IfSome single (λ s. sel ≡ single_view s) → IfSome single (λ s. stage ≡ record { kind = child; selectors = single_view s ∷ [] })
 single_stage stage sel None is e = tt
 single_stage stage sel (Some s) is e = λ i. record { kind = ap (λ (x : Stage). x.kind) is i; selectors = (ap (λ (x : Stage). x.selectors) is ∙ ap (λ x. x ∷ []) e) i }
-
--- the values of children, each alone
-each-alone : (cs : List (Step × Data)) → flat_map (λ (c : Step × Data). c.1 ∷ []) cs ≡ map (λ (c : Step × Data). c.1) cs
-each-alone [] = refl
-each-alone (c ∷ cs) = ap (λ more. c.1 ∷ more) (each-alone cs)
 
 module _ (F : FunctionSet) (top : Data) where
   -- the values that come of the children that a segment selects
@@ -132,23 +125,13 @@ pub first-of-values : (ns : List Located) → first_value ns ≡ slice_get (map 
 first-of-values [] = refl
 first-of-values (n ∷ ns) = refl
 
--- what a singular query selects is what is reached
-pub first-reached : (F : FunctionSet) (top : Data) (nodes : List Node) (reached : Reached) → IfSome reached.value (λ v. reached.segments.now ≡ [])
-    → option_map node_value reached.value ≡ slice_get (values_reached F top nodes reached) 0
-first-reached F top nodes reached h = by reached.value h
-  where
-    by : (found : Option (Bor Value)) → IfSome found (λ v. reached.segments.now ≡ [])
-        → option_map node_value found ≡ slice_get (option_map_or (λ (v : Bor Value). values_from F top (segments_at nodes reached.segments.now) (view v.now)) found []) 0
-    by None h = refl
-    by (Some v) h = sym (ap (λ parts. slice_get (values_from F top (segments_at nodes parts) (view v.now)) 0) h)
-
 -- ---- segments that are one child segment of one selector
 
 pub select-only : (nodes : List Node) (parts : List Part) (d : Part) (sel : Selector) → 1 ≤ length parts → length parts < 2
     → stage_at nodes (slice_index_or parts 0 d) ≡ record { kind = child; selectors = sel ∷ [] }
     → ((F : FunctionSet) (top : Data) (cs : List (Step × Data)) → admitted F top sel cs ≡ cs) → SelectOnly nodes parts sel
 select-only nodes (part ∷ []) d sel some one is all =
-    λ F top v. values-only F top (segment_kind_in (piece_at nodes part.number)) (segment_in (piece_at nodes part.number)) no_segments v sel is (all F top) ∙ each-alone (candidates sel v)
+    λ F top v. values-only F top (segment_kind_in (piece_at nodes part.number)) (segment_in (piece_at nodes part.number)) no_segments v sel is (all F top) ∙ flat_map_single (λ (c : Step × Data). c.1) (candidates sel v)
 select-only nodes _ d sel some one is all = absurd (omega arith)
 
 -- the same of a name or an index, if the selector is one

@@ -19,14 +19,11 @@ located above v = record { location = above; value = v }
 -- ---- a node and all below it, level by level
 
 module _ {A : Type 0} (make : Located → List A) where
-  beneath-beneath : (above : List Step) (s : Step) (n : Located) → make (beneath above (beneath (s ∷ []) n)) ≡ make (beneath (above ++ s ∷ []) n)
-  beneath-beneath above s n = ap (λ location. make (record { location = location; value = n.value })) (sym (append_assoc above (s ∷ []) n.location))
-
   -- what is made of a child and all below it
   below-placed : (n : Located) (c : Step × Data) → flat_map (λ m. make (beneath n.location m)) (below_child c) ≡ flat_map make (reached descendant (placed n.location c))
   below-placed n c =
       flat_map-map (λ m. make (beneath n.location m)) (beneath (c.0 ∷ [])) (descents c.1)
-      ∙ flat_map-same (λ m. make (beneath n.location (beneath (c.0 ∷ []) m))) (λ m. make (beneath (n.location ++ c.0 ∷ []) m)) (beneath-beneath n.location c.0) (descents c.1)
+      ∙ flat_map-same (λ m. make (beneath n.location (beneath (c.0 ∷ []) m))) (λ m. make (beneath (n.location ++ c.0 ∷ []) m)) (λ m. ap (λ location. make (located location m.value)) (sym (append_assoc n.location (c.0 ∷ []) m.location))) (descents c.1)
       ∙ sym (flat_map-map make (beneath (n.location ++ c.0 ∷ [])) (descents c.1))
 
   -- a node, and then its children with all below them
@@ -41,9 +38,6 @@ module _ {A : Type 0} (make : Located → List A) where
       ∙ flat_map-same (λ c. flat_map (λ m. make (beneath n.location m)) (below_child c)) (λ c. flat_map make (reached descendant (placed n.location c))) (below-placed n) (children n.value))
 
 -- ---- stacks
-
-next_stage : (all : List Stage) (number : ℕ) (stage : Stage) (more : List Stage) → stage ∷ more ≡ drop number all → drop (number + 1) all ≡ more
-next_stage all number stage more e = sym (drop-drop 1 number all) ∙ ap (drop 1) (sym e)
 
 pub stack_path-last : (above : List Step) (ps : List Frame) (p : Frame) → stack_path above (ps ++ p ∷ []) ≡ here (stack_path above ps) p
 stack_path-last above [] p = refl
@@ -74,7 +68,7 @@ module _ (admit : Selector → List (Step × Data) → List (Step × Data)) {A :
         flat_map-append (of_task n.location) (map (λ c. (number + 1, c)) xs) (map (λ c. (number, c)) ys),
         flat_map-map (of_task n.location) (λ c. (number + 1, c)) xs,
         flat_map-map (of_task n.location) (λ c. (number, c)) ys,
-        next_stage all number stage more e,
+        sym (drop-drop 1 number all) ∙ ap (drop 1) (sym e),
         sym e,
       )
       (append_assoc before (flat_map (λ c. made more (placed n.location c)) xs) (flat_map (λ c. made (stage ∷ more) (placed n.location c)) ys))

@@ -10,7 +10,7 @@ use Rattle.std.proofs.lemmas.List.{set-append_left, take_more, take_more_set, ta
 use Rattle.serde_json_path_core.specs.declared.evaluation.frame.Frame as declared
 use Rattle.std.proofs.lemmas.Option.{get_or_from_slice_get, slice_get_cases, slice_get_within}
 use Rattle.serde_json_path_core.specs.Inside.Rest.{IsKept}
-use Rattle.serde_json_path_core.proofs.Walks.Chains.{begun-of, chain-front, chain-last, stack-held, stack-moved}
+use Rattle.serde_json_path_core.proofs.Walks.Chains.{begun-of, chain-split, stack-held, stack-moved}
 use Rattle.serde_json_path_core.proofs.Walks.Stacks.{gives, leaf-done, located, moves, passes, rest-dropped, stack_path-last, work-fewer, work-held, work-moved}
 use Rattle.serde_json_path_core.specs.declared.evaluation.frame.Task.{Task}
 use Rattle.serde_json_path_core.proofs.Steps.Lookups.{found-none, found-some}
@@ -107,7 +107,7 @@ module _ (F : FunctionSet) (top : Data) (all : List Stage) where
 
   -- the last frame has no task left, and is dropped
   pub turn-dropped : (ps : List Frame) (p : Frame) (stage : Stage) (more : List Stage) → drop p.segment all ≡ stage ∷ more → IsDone F top stage p → IsTurn (ps ++ p ∷ []) ps
-  turn-dropped ps p stage more d done = (rest-dropped F top all ps p stage more d done, work-fewer all ps p, λ start h. chain-front (IsAtStart start) ps p h)
+  turn-dropped ps p stage more d done = (rest-dropped F top all ps p stage more d done, work-fewer all ps p, λ start h. (chain-split (IsAtStart start) ps p h).0)
 
   -- the last frame passes a task, for which there is a frame
   moved : (ps : List Frame) (p m : Frame) (stage : Stage) (more : List Stage) (number : ℕ) (c : Step × Data) → drop p.segment all ≡ stage ∷ more → ComesTo F top stage p (number, c) m
@@ -115,7 +115,7 @@ module _ (F : FunctionSet) (top : Data) (all : List Stage) where
   moved ps p m stage more number c d comes = (
     moves (admitted F top) [] (λ n. n ∷ []) all ps p m stage more [] number c d comes.1 comes.0.0 comes.0.2,
     work-moved all ps p m stage more comes.2.0 number c d comes.2.1 comes.0.0 comes.0.2,
-    λ start h. stack-moved start ps p m (entered (Some c.0) number (drop number all) c.1) c.0 h comes.0 refl (comes.3 (chain-last (IsAtStart start) ps p h)) (begun-of (drop number all) c.1),
+    λ start h. stack-moved start ps p m (entered (Some c.0) number (drop number all) c.1) c.0 h comes.0 refl (comes.3 (chain-split (IsAtStart start) ps p h).1) (begun-of (drop number all) c.1),
   )
 
   -- the last frame passes a task, where a segment is to be applied
@@ -143,7 +143,7 @@ module _ (F : FunctionSet) (top : Data) (all : List Stage) where
       rw (passes-last ps p) (
         turn.0 ∙ gives (admitted F top) [] (λ n. n ∷ []) all (ps ++ m ∷ []) q ends ∙ ap (λ location. located location c.1 ∷ rest_of F top all (ps ++ m ∷ [])) place,
         (let less = turn.1 in let fewer = work-fewer all (ps ++ m ∷ []) q in omega arith),
-        λ start h. chain-front (IsAtStart start) (ps ++ m ∷ []) q (turn.2 start h),
+        λ start h. (chain-split (IsAtStart start) (ps ++ m ∷ []) q (turn.2 start h)).0,
       )
 
   -- the last frame is at a node itself
@@ -153,7 +153,7 @@ module _ (F : FunctionSet) (top : Data) (all : List Stage) where
         gives (admitted F top) [] (λ n. n ∷ []) all ps p ends
             ∙ ap (λ location. located location p.value ∷ rest_of F top all ps) (sym (append-nil (stack_path [] (ps ++ p ∷ [])))),
         work-fewer all ps p,
-        λ start h. chain-front (IsAtStart start) ps p h,
+        λ start h. (chain-split (IsAtStart start) ps p h).0,
       )
 
 -- ---- what comes of the last of a walk's frames once its next task was looked for
@@ -179,12 +179,10 @@ module _ {F : FunctionSet} {top : Data} {nodes : List Node} {segments : List Par
   abbrev all : List Stage
   all = stages_at nodes segments
 
-  seen_old : seen ≡ old
-  seen_old = came.seen_is ∙ get_or_default items n seen old (let long = came.long in omega arith) ∙ sym came.old_is
-
   old_stage : drop old.segment all ≡ stage_at nodes segment ∷ drop (old.segment + 1) all
   old_stage =
-      subst (λ (f : declared.Frame). drop f.segment all ≡ stage_at nodes segment ∷ drop (f.segment + 1) all) seen_old
+      let same = came.seen_is ∙ get_or_default items n seen old (let long = came.long in omega arith) ∙ sym came.old_is in
+      subst (λ (f : declared.Frame). drop f.segment all ≡ stage_at nodes segment ∷ drop (f.segment + 1) all) same
       (stages-from nodes segments seen.segment segment came.within came.at)
 
   new_stage : drop new.segment all ≡ stage_at nodes segment ∷ drop (old.segment + 1) all

@@ -4,9 +4,8 @@ ghost use Rattle.std.specs.Prelude.{◌≡◌, [], ◌∷◌, MatchOption, drop,
 ghost use Rattle.serde_json.specs.Data.{object};
 ghost use Rattle.serde_json.specs.View.{view, members_view};
 ghost use Rattle.serde_json_path_core.specs.Inside.Computed.{children, members_all, sliced};
-ghost use Rattle.serde_json_path_core.specs.Inside.Views.{cursor_left, members_from, members_left};
+ghost use Rattle.serde_json_path_core.specs.Inside.Views.{child_view, cursor_left, members_from, members_left};
 ghost use Rattle.serde_json_path_syntax.specs.SliceView.{slice_view};
-ghost use Rattle.serde_json_path_core.specs.Inside.Views.{child_view};
 
 use crate::child::Child;
 use crate::evaluation::slice_positions::SlicePositions;
@@ -112,12 +111,10 @@ impl<'b> Cursor<'b> {
     {
         match self {
             Cursor::Items { items, next } => {
-                if *next >= items.len() {
-                    return None;
-                }
+                let value = items.get(*next)?;
                 Some(Child {
                     step: PathElement::Index(*next),
-                    value: &items[*next],
+                    value,
                 })
             }
             Cursor::Members(members) => members.next,

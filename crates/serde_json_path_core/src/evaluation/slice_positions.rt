@@ -3,9 +3,8 @@
 ghost use Rattle.std.specs.Prelude.{◌≡◌, ◌<◌, ◌+ℤ◌, ◌-ℤ◌, pos, [], ◌∷◌, Some, MatchOption, drop};
 ghost use Rattle.serde_json_path_core.specs.Slices.{bound_of, step_of};
 ghost use Rattle.serde_json_path_core.specs.Inside.Computed.{count_within, positions_by, falling, rising};
-ghost use Rattle.serde_json_path_core.specs.Inside.Views.{positions_left, positions_view};
+ghost use Rattle.serde_json_path_core.specs.Inside.Views.{child_view, positions_left, positions_view};
 ghost use Rattle.serde_json_path_syntax.specs.SliceView.{slice_view};
-ghost use Rattle.serde_json_path_core.specs.Inside.Views.{child_view};
 
 use crate::child::Child;
 use serde_json::Value;

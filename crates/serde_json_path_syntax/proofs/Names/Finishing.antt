@@ -1,13 +1,14 @@
 -- When the calls of a builder let a query be finished.
-use Rattle.std.proofs.Common.{◌≡◌, ◌≤◌, ℕ, List, Option, sym, subst, ◌∙◌}
+use Rattle.std.proofs.Common.{◌≡◌, ◌≤◌, ℕ, List, Option, sym, subst}
 use Rattle.serde_json_path_functions.specs.Functions.{Signature}
 use Rattle.serde_json_path_syntax.specs.Tree.{Query, root, kind_of}
 use Rattle.serde_json_path_syntax.specs.Typing.{IsTyped}
 use Rattle.serde_json_path_syntax.specs.Depth.{depth}
 use Rattle.serde_json_path_syntax.specs.Calls.{calls_of, names_of}
 use Rattle.serde_json_path_syntax.specs.Lists.{IsIn}
-use Rattle.serde_json_path_syntax.specs.Used.{AreDeclared, MayFinish, deepest, each_once, names_in, signature_in}
-use Rattle.serde_json_path_syntax.proofs.Names.Once.{declared_agree, declared_known, signature-once}
+use Rattle.serde_json_path_syntax.specs.Used.{AreDeclared, MayFinish, deepest, names_in, signature_in}
+use Rattle.serde_json_path_syntax.proofs.Lists.{map_in}
+use Rattle.serde_json_path_syntax.proofs.Names.Once.{declared_known}
 use Rattle.serde_json_path_syntax.proofs.Typing.TypedByNames.{typed_by_names}
 
 -- a query that is well-typed under some signatures, whose calls are the builder's, each declared by them
@@ -18,9 +19,5 @@ may_finish signature calls q rooted typed shallow names declared = record {
   typed = typed_by_names signature (signature_in calls) q (λ f i s e. declared_known signature calls declared f s (subst (IsIn f) (sym names) i) e) typed;
   shallow = shallow;
   called = λ f. (λ i. subst (IsIn f) names i, λ i. subst (IsIn f) (sym names) i);
-  agreed = declared_agree signature calls declared;
+  agreed = λ u i. declared_known signature calls declared u.0 u.1 (map_in (λ (v : List ℕ × Signature). v.0) u calls i) (declared u i);
 }
-
--- it is well-typed too under the signatures of each name once
-pub typed_once : (calls : List (List ℕ × Signature)) (q : Query) → IsTyped (signature_in calls) q → IsTyped (signature_in (each_once calls)) q
-typed_once calls q typed = typed_by_names (signature_in calls) (signature_in (each_once calls)) q (λ f i s e. signature-once calls f ∙ e) typed

@@ -1,9 +1,10 @@
 -- Names that a query calls, each once.
-use Rattle.std.proofs.Common.{List, [], ◌∷◌, ◌++◌, inl, inr, refl, arith, ◌≡◌, ◌≢◌, ◌↔◌, ℕ, filter, not, Bool, true, false, Option, Some, bytes_eq, if◌then◌else◌, sym, ap, subst, ◌∙◌, true≢false}
+use Rattle.std.proofs.Common.{List, [], ◌∷◌, ◌++◌, inl, inr, refl, arith, ◌≡◌, ◌≢◌, ◌↔◌, ℕ, filter, not, Bool, true, false, Option, Some, bytes_eq, sym, ap, subst, ◌∙◌, true≢false}
 use Rattle.serde_json_path_syntax.specs.Tree.{Call, call, Query}
 use Rattle.serde_json_path_syntax.specs.Calls.{OfEach, calls_from, calls_in_arguments}
 use Rattle.serde_json_path_syntax.specs.Lists.{IsIn, IsInOrder}
 use Rattle.serde_json_path_syntax.proofs.Lists.{in_append, in_keep, in_map, in_order-keep, map_in}
+use Rattle.std.proofs.lemmas.Bool.{cases_Bool}
 use Rattle.std.proofs.lemmas.Bool.Decides.{nat_tests}
 use Rattle.std.proofs.lemmas.Option.{none-some, same_Some}
 use Rattle.std.proofs.lemmas.Slice.Eq.{bytes_eq-Decides}
@@ -44,16 +45,13 @@ once_in (v ∷ used) u (inr i) = inr (once_in used u ((in_keep (is_other v.0) u 
 named_once : (used : List Named) (f : List ℕ) → IsIn f (names_in used) → IsIn f (names_in (each_once used))
 named_once [] f i = i
 named_once (v ∷ used) f (inl e) = inl e
-named_once (v ∷ used) f (inr i) = found ((in_map (λ (u : Named). u.0) f (each_once used)).0 (named_once used f i))
-  where
-    found : (u : Named) × IsIn u (each_once used) × (f ≡ u.0) → IsIn f (names_in (each_once (v ∷ used)))
-    found h = by (bytes_eq h.0.0 v.0) refl
-      where
-        by : (b : Bool) → bytes_eq h.0.0 v.0 ≡ b → IsIn f (names_in (each_once (v ∷ used)))
-        by true same = inl (h.2 ∙ (bytes_eq-Decides h.0.0 v.0).0 same)
-        by false other =
-            inr (subst (λ g. IsIn g (names_in (filter (is_other v.0) (each_once used)))) (sym h.2)
-            (map_in (λ (u : Named). u.0) h.0 (filter (is_other v.0) (each_once used)) ((in_keep (is_other v.0) h.0 (each_once used)).1 (h.1, ap not other))))
+named_once (v ∷ used) f (inr i) =
+    let h = (in_map (λ (u : Named). u.0) f (each_once used)).0 (named_once used f i) in
+    elim (cases_Bool (bytes_eq h.0.0 v.0)) [
+      | inl same ↦ inl (h.2 ∙ (bytes_eq-Decides h.0.0 v.0).0 same)
+      | inr other ↦ inr ((in_map (λ (u : Named). u.0) f (filter (is_other v.0) (each_once used))).1
+          (h.0, (in_keep (is_other v.0) h.0 (each_once used)).1 (h.1, ap not other), h.2))
+    ]
 
 -- another name keeps its signature where those of one name are left out
 signature-without : (used : List Named) (g f : List ℕ) → bytes_eq g f ≡ false → signature_in (filter (is_other g) used) f ≡ signature_in used f
@@ -89,22 +87,21 @@ called_once used q names = (
 -- the name and signature that are found are in the list
 pub found_in : (used : List Named) (f : List ℕ) (s : Signature) → signature_in used f ≡ Some s → IsIn (f, s) used
 found_in [] f s e = absurd (none-some s e)
-found_in (u ∷ used) f s e = by (bytes_eq u.0 f) refl e (found_in used f s)
-  where
-    by : (b : Bool) → bytes_eq u.0 f ≡ b → (if b then Some u.1 else signature_in used f) ≡ Some s → (signature_in used f ≡ Some s → IsIn (f, s) used) → IsIn (f, s) (u ∷ used)
-    by true same e later = inl (subst (λ g. (g, s) ≡ u) ((bytes_eq-Decides u.0 f).0 same) (subst (λ t. (u.0, t) ≡ u) (same_Some u.1 s e) refl))
-    by false other e later = inr (later e)
+found_in (u ∷ used) f s e = elim (cases_Bool (bytes_eq u.0 f)) [
+  | inl same ↦ inl (λ i. (sym ((bytes_eq-Decides u.0 f).0 same) i, sym (same_Some u.1 s (rw same at e)) i))
+  | inr other ↦ inr (found_in used f s (rw other at e))
+]
 
 -- a name of the list has a signature there
 pub named_known : (used : List Named) (f : List ℕ) → IsIn f (names_in used) → (s : Signature) × (signature_in used f ≡ Some s)
 named_known [] f i = absurd i
-named_known (u ∷ used) f i = by (bytes_eq u.0 f) refl i (named_known used f)
-  where
-    by : (b : Bool) → bytes_eq u.0 f ≡ b → IsIn f (names_in (u ∷ used)) → (IsIn f (names_in used) → (s : Signature) × (signature_in used f ≡ Some s))
-        → (s : Signature) × ((if b then Some u.1 else signature_in used f) ≡ Some s)
-    by true same i later = (u.1, refl)
-    by false other (inl e) later = absurd (true≢false (sym ((bytes_eq-Decides u.0 f).1 (sym e)) ∙ other))
-    by false other (inr i) later = later i
+named_known (u ∷ used) f i = elim (cases_Bool (bytes_eq u.0 f)) [
+  | inl same ↦ (u.1, rw same refl)
+  | inr other ↦ rw other (elim i [
+      | inl e ↦ absurd (true≢false (sym ((bytes_eq-Decides u.0 f).1 (sym e)) ∙ other))
+      | inr later ↦ named_known used f later
+    ])
+]
 
 -- where each name of the list is declared, the list has for a name what is declared
 pub declared_known : (signature : List ℕ → Option Signature) (used : List Named) → AreDeclared signature used → (f : List ℕ) (s : Signature) → IsIn f (names_in used) → signature f ≡ Some s
@@ -112,10 +109,6 @@ pub declared_known : (signature : List ℕ → Option Signature) (used : List Na
 declared_known signature used declared f s i e =
     let known = named_known used f i in
     known.1 ∙ sym (declared (f, known.0) (found_in used f known.0 known.1)) ∙ e
-
--- so the same name never has two signatures
-pub declared_agree : (signature : List ℕ → Option Signature) (used : List Named) → AreDeclared signature used → AreDeclared (signature_in used) used
-declared_agree signature used declared u i = declared_known signature used declared u.0 u.1 (map_in (λ (v : Named). v.0) u used i) (declared u i)
 
 -- ---- what fits
 

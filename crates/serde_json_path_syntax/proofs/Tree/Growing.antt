@@ -80,14 +80,11 @@ piece_from earlier (n ∷ nodes) (suc i) d grown h =
     let rest = piece_from more nodes i d (λ k below. subst (λ j. NamesBelow j (get_or nodes k d)) (omega arith) (grown (suc k) (omega arith))) (omega arith) in
     subst (λ j. piece_in (pieces_from more nodes) j ≡ piece_of (pieces_from more nodes) (get_or nodes i d)) (omega arith) rest
 
-piece_at-is : (nodes : List Node) (i : ℕ) (d : Node) → IsGrown nodes → i < length nodes → piece_at nodes i ≡ piece_of (pieces nodes) (get_or nodes i d)
+-- the piece of a number, as its node makes it
+pub piece_at-is : (nodes : List Node) (i : ℕ) (d : Node) → IsGrown nodes → i < length nodes → piece_at nodes i ≡ piece_of (pieces nodes) (get_or nodes i d)
 unfolding pieces
 piece_at-is nodes i d grown h =
     ap (piece_in (pieces_from [] nodes)) (omega arith) ∙ piece_from [] nodes i d (λ k below. subst (λ j. NamesBelow j (get_or nodes k d)) (omega arith) (grown k d below)) h
-
--- the piece of a number, as its node makes it
-pub piece_at-node : (nodes : List Node) (i : ℕ) (d n : Node) → IsGrown nodes → i < length nodes → d ≡ get_or nodes i d → d ≡ n → piece_at nodes i ≡ piece_of (pieces nodes) n
-piece_at-node nodes i d n grown h e f = piece_at-is nodes i d grown h ∙ ap (piece_of (pieces nodes)) (sym e ∙ f)
 
 -- ---- a push
 
@@ -131,10 +128,7 @@ module _ (old new : List Node) (n : Node) where
   push_silent (Ok part) is same silent = push_calls (Ok part) is ∙ ap (λ us. calls_among old ++ us) silent ∙ append-nil (calls_among old)
   push_silent (Err e) is same silent = ap calls_among same
 
--- ---- the calls of the nodes from one on
-
-calls_from_node : (nodes : List Node) (i : ℕ) (d : Node) → i < length nodes → calls_among (drop i nodes) ≡ called_by (get_or nodes i d) ++ calls_among (drop (i + 1) nodes)
-calls_from_node nodes i d h = ap calls_among (drop_more nodes i d h)
+-- ---- the calls of the nodes
 
 -- what a node calls is among them
 pub called_among : (nodes : List Node) (i : ℕ) (d : Node) → i < length nodes → d ≡ get_or nodes i d → (u : List ℕ × Signature) → IsIn u (called_by d) → IsIn u (calls_among nodes)
@@ -146,7 +140,7 @@ called_among (n ∷ nodes) (suc i) d h e u here = (in_append u (called_by n) (ca
 pub fits_from : (F : FunctionSet) (nodes : List Node) (i : ℕ) (d : Node) → i < length nodes
     → Fits F (calls_among (drop i nodes)) ↔ (Fits F (called_by (get_or nodes i d)) × Fits F (calls_among (drop (i + 1) nodes)))
 fits_from F nodes i d h =
-    subst (λ us. Fits F us ↔ (Fits F (called_by (get_or nodes i d)) × Fits F (calls_among (drop (i + 1) nodes)))) (sym (calls_from_node nodes i d h))
+    subst (λ us. Fits F us ↔ (Fits F (called_by (get_or nodes i d)) × Fits F (calls_among (drop (i + 1) nodes)))) (sym (ap calls_among (drop_more nodes i d h)))
     (fits_append F (called_by (get_or nodes i d)) (calls_among (drop (i + 1) nodes)))
 
 -- ---- nodes that name pieces of the right kinds still do after a push
@@ -176,7 +170,7 @@ fitting_pushed false old new n is grown fitting below fit = subst AreFitting (sy
 
 copies_from : (olds copies : List Node) → AreCopies olds copies → (earlier : List Piece) → pieces_from earlier copies ≡ pieces_from earlier olds
 copies_from [] [] h earlier = refl
-copies_from (old ∷ olds) (copy ∷ copies) h earlier = rw (h.0.node.piece earlier, copies_from olds copies h.1 (earlier ++ piece_of earlier old ∷ []))
+copies_from (old ∷ olds) (copy ∷ copies) h earlier = rw (h.0.piece earlier, copies_from olds copies h.1 (earlier ++ piece_of earlier old ∷ []))
 copies_from _ _ h earlier = absurd h
 
 -- the same pieces
@@ -198,12 +192,12 @@ module _ (olds copies : List Node) (h : AreCopies olds copies) where
       (within, AllZip-get_or IsCopy olds copies i d d h within)
 
   pub copied_grown : IsGrown olds → IsGrown copies
-  copied_grown grown i d below = let (within, copy) = copy_at i d below in rw copy.node.parts (grown i d within)
+  copied_grown grown i d below = let (within, copy) = copy_at i d below in rw copy.parts (grown i d within)
 
   pub copied_fitting : AreFitting olds → AreFitting copies
   copied_fitting fitting i d below =
       let (within, copy) = copy_at i d below in
-      rw (copied_pieces olds copies h, copy.node.fits (pieces olds)) (fitting i d within)
+      rw (copied_pieces olds copies h, copy.fits (pieces olds)) (fitting i d within)
 
 -- the same query
 pub same_query : (olds copies : List Node) → pieces copies ≡ pieces olds → (query : Option Part) → query_at copies query ≡ query_at olds query

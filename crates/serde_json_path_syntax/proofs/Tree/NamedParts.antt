@@ -1,18 +1,23 @@
 -- Parts that nodes name: their bounds, their kinds, and what stands for them.
-use Rattle.std.proofs.Common.{◌≡◌, ℕ, ◌<◌, ◌≤◌, true, false, nat_lt, arith, rules, zero, suc, List, [], ◌∷◌, length, get_or, ap, ◌-◌, take, drop, Bool, sym, subst, slice_get, option_map, refl, ◌∙◌}
+use Rattle.std.proofs.Common.{◌≡◌, ℕ, ◌<◌, ◌≤◌, true, false, nat_lt, arith, rules, zero, suc, List, [], ◌∷◌, length, get_or, ap, ◌-◌, take, drop, Bool, sym, subst, slice_get, Option, option_map, refl, ◌∙◌}
 use Rattle.serde_json_path_syntax.specs.PartBounds.{parts_bound}
 use Rattle.serde_json_path_syntax.specs.declared.node.Part.{Part}
 use Rattle.std.proofs.lemmas.Bool.{and_parts}
+use Rattle.std.proofs.lemmas.Bool.Decides.{Decides-and}
+use Rattle.std.specs.Bool.{Decides}
 use Rattle.std.proofs.lemmas.List.{take_all}
-use Rattle.serde_json_path_syntax.specs.Flat.{piece_in, pieces_named, selector_in, selectors_in, pieces, segments_in, ors_in, ands_in, arguments_in}
+use Rattle.serde_json_path_syntax.specs.Flat.{piece_in, pieces_named, segment_in, selector_in, selectors_in, pieces, segments_in, ors_in, ands_in, arguments_in}
 use Rattle.serde_json_path_syntax.specs.Kinds.{are_singular, each_is, is_and, is_argument, is_basic, is_query, is_segment, is_selector, is_singular, is_singular_query, is_singular_segment}
 use Rattle.serde_json_path_syntax.specs.Piece.{Piece, a_query}
 use Rattle.serde_json_path_syntax.specs.Tree.{long_hand, Selectors, selector, Selector, name, wildcard, index, slice, filter, IsSingularSegment}
 use Rattle.serde_json_path_syntax.specs.Tree as tree
 use Rattle.serde_json_path_syntax.specs.declared.builder.SyntaxBuilder.{SyntaxBuilder}
 use Rattle.std.proofs.lemmas.Option.{slice_get_read, slice_get_past}
+use Rattle.serde_json_path_functions.specs.Functions.{Signature}
 use Rattle.serde_json_path_syntax.specs.Stages.{selectors_list}
-use Rattle.serde_json_path_syntax.specs.Parts.{ArePartsFor, ArePartsOf, AreSelectorsOf, AreOrPartsOf, AreAndPartsOf, KeepsTrees, segment_pieces, selector_pieces, or_pieces, and_pieces, argument_pieces}
+use Rattle.serde_json_path_syntax.specs.Typing.{AreTypedSegments, IsTypedSegment}
+use Rattle.serde_json_path_syntax.proofs.Lists.{always, never}
+use Rattle.serde_json_path_syntax.specs.Parts.{ArePartsFor, AreSelectorsOf, AreOrPartsOf, AreAndPartsOf, KeepsTrees, segment_pieces, selector_pieces, or_pieces, and_pieces, argument_pieces}
 
 -- ---- what a comparison of numbers tells
 
@@ -61,8 +66,6 @@ module _ (is : Piece → Bool) (ps : List Piece) where
   one_is [] i d below h = absurd (omega (arith, below))
   one_is (part ∷ parts) zero d below h = (and_parts (is (piece_in ps part.number)) (each_is is (pieces_named ps parts)) h).0
   one_is (part ∷ parts) (suc i) d below h = one_is parts i d (omega (arith, below)) (and_parts (is (piece_in ps part.number)) (each_is is (pieces_named ps parts)) h).1
-
--- ---- a bracket with two selectors or more is not singular
 
 -- a bracket with two selectors or more is no singular segment
 pub two_selectors : (ps : List Piece) (parts : List Part) → 2 ≤ length parts → IsSingularSegment (long_hand (selectors_in (pieces_named ps parts))) → ⊥
@@ -144,19 +147,20 @@ and_parts_for builder (part ∷ parts) e h = h
 
 -- ---- singular queries
 
-segment_singular : (seg : tree.Segment) → IsSingularSegment seg → is_singular_segment seg ≡ true
-segment_singular (tree.dot_name k) h = refl
-segment_singular (long_hand (selector (name k) tree.no_selectors)) h = refl
-segment_singular (long_hand (selector (index i) tree.no_selectors)) h = refl
-segment_singular _ h = absurd h
+Decides-is_singular_segment : (seg : tree.Segment) → Decides (is_singular_segment seg) (IsSingularSegment seg)
+Decides-is_singular_segment (tree.dot_name k) = always
+Decides-is_singular_segment (long_hand (selector (name k) tree.no_selectors)) = always
+Decides-is_singular_segment (long_hand (selector (index i) tree.no_selectors)) = always
+Decides-is_singular_segment _ = never
 
-segments_singular : (segs : tree.Segments) → tree.AreSingular segs → are_singular segs ≡ true
-segments_singular tree.no_segments h = refl
-segments_singular (tree.segment tree.child seg more) h = rw (segment_singular seg h.0, segments_singular more h.1) refl
-segments_singular (tree.segment tree.descendant seg more) h = absurd h
+pub Decides-are_singular : (segs : tree.Segments) → Decides (are_singular segs) (tree.AreSingular segs)
+Decides-are_singular tree.no_segments = always
+Decides-are_singular (tree.segment tree.child seg more) =
+    Decides-and (is_singular_segment seg) (are_singular more) (Decides-is_singular_segment seg) (Decides-are_singular more)
+Decides-are_singular (tree.segment tree.descendant seg more) = never
 
 pub query_singular : (q : tree.Query) → tree.IsSingular q → is_singular q ≡ true
-query_singular (tree.query kind segs) h = segments_singular segs h
+query_singular (tree.query kind segs) = (Decides-are_singular segs).1
 
 pub query_of_singular : (p : Piece) → is_singular_query p ≡ true → is_query p ≡ true
 query_of_singular (a_query q) h = refl
@@ -186,10 +190,6 @@ parts_for_kept old new keeps [] [] h = tt
 parts_for_kept old new keeps (part ∷ parts) (p ∷ ps) h = (keeps part p h.0, parts_for_kept old new keeps parts ps h.1)
 parts_for_kept old new keeps _ _ h = absurd h
 
--- parts keep standing for their segments
-pub parts_kept : (old new : SyntaxBuilder) → KeepsTrees old new → (parts : List Part) (segs : tree.Segments) → ArePartsOf old parts segs → ArePartsOf new parts segs
-parts_kept old new keeps parts segs h = parts_for_kept old new keeps parts (segment_pieces segs) h
-
 -- the selectors of so many parts, one by one
 pub selectors_get : (ps : List Piece) (parts : List Part) (i : ℕ) → slice_get (selectors_list (selectors_in (pieces_named ps parts))) i ≡ option_map (λ (part : Part). selector_in (piece_in ps part.number)) (slice_get parts i)
 selectors_get ps [] i = refl
@@ -206,3 +206,10 @@ pub one_named : (ps : List Piece) (parts : List Part) (only : Selector) → sele
 one_named ps [] only e = absurd cc
 one_named ps (part ∷ []) only e = refl
 one_named ps (part ∷ other ∷ parts) only e = absurd cc
+
+-- one of several segments that are well-typed is well-typed
+pub typed_segment : (signature : List ℕ → Option Signature) (ps : List Piece) (parts : List Part) (i : ℕ) (part : Part) → i < length parts → part ≡ get_or parts i part
+    → AreTypedSegments signature (segments_in (pieces_named ps parts)) → IsTypedSegment signature (segment_in (piece_in ps part.number))
+typed_segment signature ps [] i part h e typed = absurd (omega (arith, h))
+typed_segment signature ps (p ∷ parts) zero part h e typed = subst (λ (x : Part). IsTypedSegment signature (segment_in (piece_in ps x.number))) (sym e) typed.0
+typed_segment signature ps (p ∷ parts) (suc i) part h e typed = typed_segment signature ps parts i part (omega (arith, h)) e typed.1

@@ -8,7 +8,9 @@ use Rattle.std.proofs.Math.Nat.{mul-mod_left}
 use Rattle.std.proofs.lemmas.Bool.Decides.{Decides-eqb, Decides-like}
 use Rattle.std.proofs.lemmas.Int.{ints, quot-rem, unsigned_abs-mul}
 use Rattle.std.proofs.lemmas.Option.{none-some, same_Some}
-use Rattle.serde_json_path_syntax.specs.Tree.{Query, query, child, descendant, Segments, no_segments, segment, Segment, dot_name, long_hand, Selectors, no_selectors, selector, Selector, name, index, filter, LogicalOr, no_or, or, LogicalAnd, no_and, and, Basic, paren, not_paren, relation, exist, not_exist, test, not_test, Comparable, literal, singular, called, Call, call, Arguments, no_arguments, argument, Argument, literal_argument, query_argument, call_argument, logical_argument, Literal, number, segments_of, IsSingularSegment, AreSingular}
+use Rattle.serde_json_path_syntax.specs.Tree.{Query, query, Segments, no_segments, segment, Segment, long_hand, Selectors, no_selectors, selector, Selector, filter, LogicalOr, no_or, or, LogicalAnd, no_and, and, Basic, paren, not_paren, relation, exist, not_exist, test, not_test, Comparable, literal, singular, called, Call, call, Arguments, no_arguments, argument, Argument, literal_argument, query_argument, call_argument, logical_argument, Literal, number, segments_of}
+use Rattle.serde_json_path_syntax.specs.Kinds.{are_singular}
+use Rattle.serde_json_path_syntax.proofs.Tree.NamedParts.{Decides-are_singular}
 use Rattle.serde_json_path_functions.specs.Functions.{Kind, of_value, of_nodes, of_logical, Signature}
 use Rattle.serde_json_path_syntax.specs.Typing.{IsValueLiteral, IsTestKind, result_kind, TakesResult, IsTyped, AreTypedSegments, IsTypedSegment, AreTypedSelectors, IsTypedSelector, IsTypedOr, IsTypedAnd, IsTypedBasic, IsTypedComparable, IsTypedCall, AreTypedArguments, IsTypedArgument}
 
@@ -24,19 +26,6 @@ test_kind : (o : Option Kind) → Dec (IsTestKind o)
 test_kind (Some of_nodes) = yes (inl refl)
 test_kind (Some of_logical) = yes (inr refl)
 test_kind _ = no (elim [ inl e ↦ cc | inr e ↦ cc ])
-
--- ---- singular queries
-
-singular_segment : (seg : Segment) → Dec (IsSingularSegment seg)
-singular_segment (dot_name k) = yes tt
-singular_segment (long_hand (selector (name k) no_selectors)) = yes tt
-singular_segment (long_hand (selector (index i) no_selectors)) = yes tt
-singular_segment _ = no (λ h. h)
-
-singular_segments : (segs : Segments) → Dec (AreSingular segs)
-singular_segments no_segments = yes tt
-singular_segments (segment child seg more) = both (singular_segment seg) (singular_segments more)
-singular_segments (segment descendant seg more) = no (λ h. h)
 
 -- ---- literals that stand for values
 
@@ -142,7 +131,7 @@ module _ (signature : List ℕ → Option Signature) where
 
     typed_argument : (a : Argument) (wanted : Kind) → Dec (IsTypedArgument signature a wanted)
     typed_argument (literal_argument l) of_value = value_literal l
-    typed_argument (query_argument q) of_value = both (typed q) (singular_segments (segments_of q))
+    typed_argument (query_argument q) of_value = both (typed q) (by_test (are_singular (segments_of q)) (Decides-are_singular (segments_of q)))
     typed_argument (query_argument q) _ = typed q
     typed_argument (call_argument c) wanted = both (typed_call c) (takes_result wanted (result_kind signature c))
     typed_argument (logical_argument e) of_logical = typed_or e

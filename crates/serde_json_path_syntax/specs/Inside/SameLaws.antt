@@ -139,16 +139,13 @@ mutual
 same_query-refl : (q : Query) → same_query q q ≡ true
 same_query-refl q = (Decides-same_query q q).1 refl
 
-same_query-symm : (a b : Query) → same_query a b ≡ same_query b a
-same_query-symm a b =
-    same_from_decides (same_query a b) (same_query b a) (Decides-same_query a b)
-    (Decides-like (same_query b a) (λ e. sym e) (λ e. sym e) (Decides-same_query b a))
-
-same_query-congr : (a b c : Query) → same_query a b ≡ true → same_query a c ≡ same_query b c
-same_query-congr a b c h = ap (λ q. same_query q c) ((Decides-same_query a b).0 h)
-
 pub same_query-equiv : IsEquivalence same_query
-same_query-equiv = record { refl = same_query-refl; symm = same_query-symm; congr = same_query-congr }
+same_query-equiv = record {
+  refl = same_query-refl;
+  symm = λ a b. same_from_decides (same_query a b) (same_query b a) (Decides-same_query a b)
+      (Decides-like (same_query b a) (λ e. sym e) (λ e. sym e) (Decides-same_query b a));
+  congr = λ a b c h. ap (λ q. same_query q c) ((Decides-same_query a b).0 h);
+}
 
 -- the same of finished queries
 pub same_trees-equiv : IsEquivalence (λ (mine theirs : Checked). same_query (tree_of mine) (tree_of theirs))

@@ -93,30 +93,23 @@ mutual
 
 mutual
   data_transitive : (a b c : Data) → EqualData all_numbers a b → EqualData all_numbers b c → EqualData all_numbers a c
-  data_transitive null null c h g = g
+  data_transitive null null null h g = tt
   data_transitive (boolean a) (boolean b) (boolean c) h g = h ∙ g
-  data_transitive (boolean a) (boolean b) _ h g = absurd g
   data_transitive (number a) (number b) (number c) h g = equality.transitive (document_number a) (document_number b) (document_number c) h g
-  data_transitive (number a) (number b) _ h g = absurd g
   data_transitive (string a) (string b) (string c) h g = h ∙ g
-  data_transitive (string a) (string b) _ h g = absurd g
   data_transitive (array xs) (array ys) (array zs) h g = items_transitive xs ys zs h g
-  data_transitive (array xs) (array ys) _ h g = absurd g
   data_transitive (object xs) (object ys) (object zs) h g = members_transitive xs ys zs h g
-  data_transitive (object xs) (object ys) _ h g = absurd g
-  data_transitive _ _ c h g = absurd h
+  data_transitive _ _ _ h g = absurd (assumption (h, g))
 
   items_transitive : (xs ys zs : Items) → EqualItems all_numbers xs ys → EqualItems all_numbers ys zs → EqualItems all_numbers xs zs
-  items_transitive no_items no_items zs h g = g
+  items_transitive no_items no_items no_items h g = tt
   items_transitive (item a xs) (item b ys) (item c zs) h g = (data_transitive a b c h.0 g.0, items_transitive xs ys zs h.1 g.1)
-  items_transitive (item a xs) (item b ys) no_items h g = absurd g
-  items_transitive _ _ zs h g = absurd h
+  items_transitive _ _ _ h g = absurd (assumption (h, g))
 
   members_transitive : (xs ys zs : Members) → EqualMembers all_numbers xs ys → EqualMembers all_numbers ys zs → EqualMembers all_numbers xs zs
-  members_transitive no_members no_members zs h g = g
+  members_transitive no_members no_members no_members h g = tt
   members_transitive (member k a xs) (member l b ys) (member m c zs) h g = (h.0 ∙ g.0, data_transitive a b c h.1 g.1, members_transitive xs ys zs h.2 g.2)
-  members_transitive (member k a xs) (member l b ys) no_members h g = absurd g
-  members_transitive _ _ zs h g = absurd h
+  members_transitive _ _ _ h g = absurd (assumption (h, g))
 
 -- ---- sides: a number literal is as the value of its exact number
 
@@ -130,21 +123,14 @@ EqualValues None None = Unit {0}
 EqualValues (Some a) (Some b) = EqualData all_numbers a b
 EqualValues _ _ = ⊥
 
-to_values : (x y : Compared) → AreEqual all_numbers x y → EqualValues (as_value x) (as_value y)
-to_values (value (number a)) (billionths b) h = h
-to_values (billionths a) (value (number b)) h = h
-to_values (billionths a) (billionths b) h = h
-to_values nothing nothing h = h
-to_values (value a) (value b) h = h
-to_values _ _ h = absurd h
-
-of_values : (x y : Compared) → EqualValues (as_value x) (as_value y) → AreEqual all_numbers x y
-of_values (value (number a)) (billionths b) h = h
-of_values (billionths a) (value (number b)) h = h
-of_values (billionths a) (billionths b) h = h
-of_values nothing nothing h = h
-of_values (value a) (value b) h = h
-of_values _ _ h = absurd h
+-- so two sides are equal exactly where their values are
+by_values : (x y : Compared) → ◌≡◌ {A = Type 0} (AreEqual all_numbers x y) (EqualValues (as_value x) (as_value y))
+by_values nothing nothing = refl
+by_values (value a) (value b) = refl
+by_values (value (number a)) (billionths b) = refl
+by_values (billionths a) (value (number b)) = refl
+by_values (billionths a) (billionths b) = refl
+by_values _ _ = refl
 
 values_symmetric : (a b : Option Data) → EqualValues a b → EqualValues b a
 values_symmetric None None h = tt
@@ -152,16 +138,15 @@ values_symmetric (Some a) (Some b) h = data_symmetric a b h
 values_symmetric _ _ h = absurd h
 
 values_transitive : (a b c : Option Data) → EqualValues a b → EqualValues b c → EqualValues a c
-values_transitive None None c h g = g
+values_transitive None None None h g = tt
 values_transitive (Some a) (Some b) (Some c) h g = data_transitive a b c h g
-values_transitive (Some a) (Some b) None h g = absurd g
-values_transitive _ _ c h g = absurd h
+values_transitive _ _ _ h g = absurd (assumption (h, g))
 
 pub returns : goal.returns
 returns c = record {
   documents = λ document. itself (view document) (document, refl);
   literals = λ amount range. equality.reflexive (literal_number amount) (all_finite.literals amount range);
   nothings = tt;
-  symmetric = λ a b h. of_values b a (values_symmetric (as_value a) (as_value b) (to_values a b h));
-  transitive = λ a b c h g. of_values a c (values_transitive (as_value a) (as_value b) (as_value c) (to_values a b h) (to_values b c g));
+  symmetric = λ a b. rw (by_values a b, by_values b a) (values_symmetric (as_value a) (as_value b));
+  transitive = λ a b c. rw (by_values a b, by_values b c, by_values a c) (values_transitive (as_value a) (as_value b) (as_value c));
 }

@@ -1,15 +1,11 @@
-use Rattle.std.proofs.Common.{◌⊎◌, inl, inr}
+use Rattle.std.proofs.Common.{inl, inr}
 use Rattle.serde_json_path_core.proofs.Words.{query, Before}
 use Rattle.serde_json_path_core.proofs.Meaning.Derived.{computed_result}
 use Rattle.serde_json_path_core.proofs.Meaning.Order.{before_once, in_order_total}
 use Rattle.serde_json_path_core.proofs.laws.law_order_is_total.Goals as goal
 
--- of three cases the first is ruled out
-otherwise : {P Q R : Type 0} → (P → ⊥) → P ⊎ (Q ⊎ R) → Q ⊎ R
-otherwise not_p (inl p) = absurd (not_p p)
-otherwise not_p (inr rest) = rest
-
 pub returns : goal.returns
 returns c = λ F top kind segs node xs ys typed h g different.
     let result = computed_result F top (query kind segs) node typed in
-    (otherwise different (in_order_total (Before segs) result.0 xs ys result.1 ((result.2 xs).1 h) ((result.2 ys).1 g)), before_once segs xs ys)
+    let cases = in_order_total (Before segs) result.0 xs ys result.1 ((result.2 xs).1 h) ((result.2 ys).1 g) in
+    (elim cases [ inl same ↦ absurd (different same) | inr either ↦ either ], before_once segs xs ys)
