@@ -1,12 +1,27 @@
 //! Digits.
 
-ghost use Rattle.std.specs.Prelude.{◌≡◌, ◌-◌, ◌^◌, min};
+ghost use Rattle.std.specs.Prelude.{◌≡◌, ◌+◌, ◌-◌, ◌*◌, ◌^◌, ◌<◌, min};
 ghost use Rattle.serde_json_path_parser.specs.Lexical.{is_digit, value_from};
 ghost use Rattle.serde_json_path_parser.specs.Parsed.{front, past};
 ghost use Rattle.serde_json_path_parser.specs.Inside.Giving.{left, Moves};
 
 use crate::parser::reader::Reader;
 use crate::source::PathSource;
+
+/// Numbers below this one take another digit in 64 bits.
+const SHORT: u128 = 1 << 60;
+
+/// The number that a digit after a number makes of it, saturating at `u128::MAX`.
+#[inline(always)]
+fn with_digit(n: u128, digit: u32) -> u128
+    requires { digit < 10 }
+    ensures { result ≡ min (n * 10 + digit) (2 ^ 128 - 1) }
+{
+    if n < SHORT {
+        return (n as u64 * 10 + digit as u64) as u128;
+    }
+    n.saturating_mul(10).saturating_add(digit as u128)
+}
 
 /// Reads a run of digits, saturating at `u128::MAX`.
 pub(crate) fn parse_decimal<S: PathSource>(reader: &mut Reader<'_, S>) -> u128
@@ -16,8 +31,7 @@ pub(crate) fn parse_decimal<S: PathSource>(reader: &mut Reader<'_, S>) -> u128
 {
     let mut n: u128 = 0;
     while reader.sees_digit() {
-        let digit = reader.take_char() as u128 - 48;
-        n = n.saturating_mul(10).saturating_add(digit);
+        n = with_digit(n, reader.take_char() as u32 - 48);
     }
     n
 }

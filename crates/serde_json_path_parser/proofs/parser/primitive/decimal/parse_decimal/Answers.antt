@@ -10,7 +10,7 @@ loop-reader-preserved g c =
     let seen : begins is_digit (left c.loop-reader.reader) ≡ true = sym c.sees_digit.ensures ∙ c.loop-reader-test.true in
     record {
       moves = grind (arith, common_steps);
-      value = digit_taken (left c.loop-reader.reader) (left t.new.self) t.result c.loop-reader.n c.saturating_add-n.result (2 ^ 128 - 1) _ e seen (omega (arith, c.saturating_mul.ensures, c.saturating_add-n.ensures)) c.loop-reader.invariant.value;
-      bound = omega (arith, c.saturating_add-n.ensures);
+      value = digit_taken (left c.loop-reader.reader) (left t.new.self) t.result c.loop-reader.n c.with_digit-n.result (2 ^ 128 - 1) _ e seen c.with_digit-n.ensures c.loop-reader.invariant.value;
+      bound = omega (arith, c.with_digit-n.ensures);
       rest = sym (past_more is_digit (left c.loop-reader.reader) (left t.new.self) t.result e seen) ∙ c.loop-reader.invariant.rest;
     }
