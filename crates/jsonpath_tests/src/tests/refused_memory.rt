@@ -130,93 +130,72 @@ fn parse_with(rt: HostRuntime) -> Result<(), Fail> {
     hold_answers(&rt, rt.alloc(), TEXTS, parsed)
 }
 
-/// The text of a copy, or nothing where memory is refused.
-fn copied(alloc: Global, text: &str) -> Result<Option<String>, Fail> {
-    match JsonPath::parse_with(alloc, text, &Samples)?.try_clone(alloc) {
-        Ok(copy) => of_path(alloc, &copy),
-        Err(_) => Ok(None),
-    }
-}
-
 #[test]
 fn try_clone(rt: HostRuntime) -> Result<(), Fail> {
-    hold_answers(&rt, rt.alloc(), TEXTS, copied)
-}
-
-/// The text that a path prints, or nothing where memory is refused.
-fn printed(alloc: Global, text: &str) -> Result<Option<String>, Fail> {
-    let path = JsonPath::parse_with(alloc, text, &Samples)?;
-    Ok(path.to_text(alloc).ok())
+    hold_answers(&rt, rt.alloc(), TEXTS, |alloc, text| {
+        match JsonPath::parse_with(alloc, text, &Samples)?.try_clone(alloc) {
+            Ok(copy) => of_path(alloc, &copy),
+            Err(_) => Ok(None),
+        }
+    })
 }
 
 #[test]
 fn to_text(rt: HostRuntime) -> Result<(), Fail> {
-    hold_answers(&rt, rt.alloc(), TEXTS, printed)
-}
-
-/// The string that a path is in JSON, or nothing where memory is refused.
-fn json_form(alloc: Global, text: &str) -> Result<Option<String>, Fail> {
-    match JsonPath::parse_with(alloc, text, &Samples)?.to_json(alloc) {
-        Ok(Value::String(text)) => Ok(Some(text)),
-        _ => Ok(None),
-    }
+    hold_answers(&rt, rt.alloc(), TEXTS, |alloc, text| {
+        let path = JsonPath::parse_with(alloc, text, &Samples)?;
+        Ok(path.to_text(alloc).ok())
+    })
 }
 
 #[test]
 fn to_json(rt: HostRuntime) -> Result<(), Fail> {
-    hold_answers(&rt, rt.alloc(), TEXTS, json_form)
+    hold_answers(&rt, rt.alloc(), TEXTS, |alloc, text| {
+        match JsonPath::parse_with(alloc, text, &Samples)?.to_json(alloc) {
+            Ok(Value::String(text)) => Ok(Some(text)),
+            _ => Ok(None),
+        }
+    })
 }
 
 /// A path of the samples, and the value of what it selects from [`SQUARE`].
 const VALUES: &[&str] = &["$[?first(@.*) == 4] -> [4,5,6]"];
 
-/// The values that a path selects, or nothing where memory is refused.
-fn selected(alloc: Global, path: &str) -> Result<Option<String>, Fail> {
-    let path = JsonPath::parse_with(alloc, path, &Samples)?;
-    let document = Value::from_str(alloc, SQUARE)?;
-    of_nodes(alloc, path.query_with(alloc, &document, &Samples))
-}
-
 #[test]
 fn query_with(rt: HostRuntime) -> Result<(), Fail> {
-    hold_answers(&rt, rt.alloc(), VALUES, selected)
+    hold_answers(&rt, rt.alloc(), VALUES, |alloc, path| {
+        let path = JsonPath::parse_with(alloc, path, &Samples)?;
+        let document = Value::from_str(alloc, SQUARE)?;
+        of_nodes(alloc, path.query_with(alloc, &document, &Samples))
+    })
 }
 
 /// A path of the samples, and the location of what it selects from [`SQUARE`].
 const LOCATIONS: &[&str] = &["$[?first(@.*) == 4] -> $[1]"];
 
-/// The locations that a path selects, or nothing where memory is refused.
-fn located(alloc: Global, path: &str) -> Result<Option<String>, Fail> {
-    let path = JsonPath::parse_with(alloc, path, &Samples)?;
-    let document = Value::from_str(alloc, SQUARE)?;
-    of_located(alloc, path.query_located_with(alloc, &document, &Samples))
-}
-
 #[test]
 fn query_located_with(rt: HostRuntime) -> Result<(), Fail> {
-    hold_answers(&rt, rt.alloc(), LOCATIONS, located)
-}
-
-/// The locations that a walk gives, or nothing where memory is refused.
-fn walked(alloc: Global, path: &str) -> Result<Option<String>, Fail> {
-    let path = JsonPath::parse_with(alloc, path, &Samples)?;
-    let document = Value::from_str(alloc, SQUARE)?;
-    of_walk(alloc, path.walk(alloc, &document, &Samples))
+    hold_answers(&rt, rt.alloc(), LOCATIONS, |alloc, path| {
+        let path = JsonPath::parse_with(alloc, path, &Samples)?;
+        let document = Value::from_str(alloc, SQUARE)?;
+        of_located(alloc, path.query_located_with(alloc, &document, &Samples))
+    })
 }
 
 #[test]
 fn walk(rt: HostRuntime) -> Result<(), Fail> {
-    hold_answers(&rt, rt.alloc(), LOCATIONS, walked)
-}
-
-/// The locations that a walk gives, of which a call that is refused is made again.
-fn of_next(alloc: Global, path: &str) -> Result<String, Fail> {
-    let path = JsonPath::parse_with(alloc, path, &Samples)?;
-    let document = Value::from_str(alloc, SQUARE)?;
-    of_calls(alloc, &mut path.walk(alloc, &document, &Samples)?)
+    hold_answers(&rt, rt.alloc(), LOCATIONS, |alloc, path| {
+        let path = JsonPath::parse_with(alloc, path, &Samples)?;
+        let document = Value::from_str(alloc, SQUARE)?;
+        of_walk(alloc, path.walk(alloc, &document, &Samples))
+    })
 }
 
 #[test]
 fn next(rt: HostRuntime) -> Result<(), Fail> {
-    hold_rows(&rt, rt.alloc(), LOCATIONS, of_next)
+    hold_rows(&rt, rt.alloc(), LOCATIONS, |alloc, path| {
+        let path = JsonPath::parse_with(alloc, path, &Samples)?;
+        let document = Value::from_str(alloc, SQUARE)?;
+        of_calls(alloc, &mut path.walk(alloc, &document, &Samples)?)
+    })
 }
