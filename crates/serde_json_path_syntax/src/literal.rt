@@ -1,11 +1,11 @@
 //! Literals of filters (RFC 9535, section 2.3.5.1).
 
-ghost use Rattle.std.specs.Prelude.{◌≡◌};
+ghost use Rattle.std.specs.Prelude.{◌≡◌, option_map};
 ghost use Rattle.serde_json_path_numbers.specs.Numbers as numbers;
 ghost use Rattle.serde_json_path_syntax.specs.WellFormed.{IsLiteralAmount};
 
 use serde_json::Value;
-use serde_json_path_numbers::{ExactNumber, literal_double};
+use serde_json_path_numbers::{ExactNumber, is_whole, literal_double};
 use std::alloc::AllocError;
 
 /// One, in billionths.
@@ -23,9 +23,11 @@ const GREATEST: i128 = ((1 << 64) - 1) * ONE;
 #[derive(Clone, Copy, Debug)]
 pub struct NumberLiteral {
     pub(crate) billionths: i128,
-    double: Option<f64>,
+    // 0 for a whole number, which takes none: an `Option` would be moved with each literal.
+    double: f64,
     ghost range: { IsLiteralAmount billionths },
-    ghost nearest: { double ≡ numbers.literal_double billionths },
+    ghost nearest: { option_map (λ d. double) (numbers.literal_double billionths)
+        ≡ numbers.literal_double billionths },
 }
 
 impl NumberLiteral {
@@ -45,7 +47,7 @@ impl NumberLiteral {
         if LEAST <= billionths && billionths <= GREATEST {
             Some(NumberLiteral {
                 billionths,
-                double: literal_double(billionths),
+                double: literal_double(billionths).unwrap_or(0.0),
             })
         } else {
             None
@@ -65,7 +67,12 @@ impl NumberLiteral {
     pub fn exact(&self) -> ExactNumber
         ensures { exact_view result ≡ literal_number (number_amount self.now) }
     {
-        ExactNumber::of_literal(self.billionths, self.double)
+        let double = if is_whole(self.billionths) {
+            None
+        } else {
+            Some(self.double)
+        };
+        ExactNumber::of_literal(self.billionths, double)
     }
 
     /// The whole part, rounded toward zero, as a document's number.
