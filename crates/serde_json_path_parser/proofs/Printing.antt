@@ -1,8 +1,232 @@
--- Printed texts read back.
-
--- a text between single quotes, as it is printed, reads as a string of it
+-- Printed texts read back: what reads as a tree, or as a part of one, has the tree printed in a text that reads as it.
+-- a text between quotes
 pub mod QuotedTexts
--- numbers, slices and literals, as they are printed, read as themselves
+-- numbers, slices and literals
 pub mod Literals
--- trees, part by part
-pub mod PrintedParts
+use Rattle.std.proofs.Common.{◌≡◌, ◌<◌, ℕ, true, List, [], ◌∷◌, ◌++◌, codes, refl, sym, ap, subst, ◌∙◌, append_assoc, arith}
+use Rattle.serde_json_path_parser.proofs.Words.{AllByRecursion, flat_map, IsUtf8, chars, all_scalars, nat_tests, chars-encodes, scalars-chars, Query}
+use Rattle.serde_json_path_parser.proofs.Words.{query, QueryKind, root, current, Segments, no_segments, segment, SegmentKind, child, descendant}
+use Rattle.serde_json_path_parser.proofs.Words.{Segment, dot_name, dot_wildcard, long_hand, Selectors, no_selectors, selector, Selector, name}
+use Rattle.serde_json_path_parser.proofs.Words.{wildcard, index, slice, filter, LogicalOr, no_or, or, LogicalAnd, no_and, and, Basic, paren}
+use Rattle.serde_json_path_parser.proofs.Words.{not_paren, relation, exist, not_exist, test, not_test, Comparable, literal, singular, called, Call}
+use Rattle.serde_json_path_parser.proofs.Words.{call, Arguments, no_arguments, argument, Argument, literal_argument, query_argument, call_argument}
+use Rattle.serde_json_path_parser.proofs.Words.{logical_argument, Operator, equal, not_equal, less, less_or_equal, greater, greater_or_equal}
+use Rattle.serde_json_path_parser.proofs.Words.{operator_text, query_kind_text, dots_of, bracket_dots_of, joined, query_text, segments_text}
+use Rattle.serde_json_path_parser.proofs.Words.{segment_text, selector_texts, selector_text, or_text, and_texts, and_text, basic_texts, basic_text}
+use Rattle.serde_json_path_parser.proofs.Words.{comparable_text, call_text, argument_texts, argument_text, IsFunctionName, is_function_char, Reads}
+use Rattle.serde_json_path_parser.proofs.Words.{ReadSegments, ReadsSegment, ReadSelectors, ReadMoreSelectors, ReadsSelector, ReadsOr, ReadMoreOrs}
+use Rattle.serde_json_path_parser.proofs.Words.{ReadsAnd, ReadMoreAnds, ReadsBasic, ReadsComparable, ReadsCall, ReadArguments, ReadMoreArguments}
+use Rattle.serde_json_path_parser.proofs.Words.{ReadsArgument, InParentheses, Negated, IsSign, IsName, query_sign, operator_sign, dots_before_bracket}
+use Rattle.serde_json_path_parser.proofs.Words.{dots_before_name}
+use QuotedTexts.{Spells, Spelt, spell_nothing, scalars_parts, scalars_of, spell_both, spell_ascii, spell_sign, spelt_nothing, spelt_as, spelt_after, spelt_between, spelt_both, string_spelt}
+use Literals.{int_spelt, slice_spelt, literal_spelt}
+
+-- ---- signs: those that are printed spell those of the grammar
+
+kind_spells : (kind : QueryKind) → Spells (query_kind_text kind) (query_sign kind)
+kind_spells root = spell_sign 36 (omega arith)
+kind_spells current = spell_sign 64 (omega arith)
+
+dots_spell : (kind : SegmentKind) → Spells (dots_of kind) (dots_before_name kind)
+dots_spell child = spell_sign 46 (omega arith)
+dots_spell descendant = spell_ascii (codes "..") (omega arith, (omega arith, tt))
+
+bracket_dots_spell : (kind : SegmentKind) → Spells (bracket_dots_of kind) (dots_before_bracket kind)
+bracket_dots_spell child = spell_nothing
+bracket_dots_spell descendant = spell_ascii (codes "..") (omega arith, (omega arith, tt))
+
+operator_spells : (op : Operator) → Spells (operator_text op) (operator_sign op)
+operator_spells equal = spell_ascii (codes "==") (omega arith, (omega arith, tt))
+operator_spells not_equal = spell_ascii (codes "!=") (omega arith, (omega arith, tt))
+operator_spells less = spell_sign 60 (omega arith)
+operator_spells less_or_equal = spell_ascii (codes "<=") (omega arith, (omega arith, tt))
+operator_spells greater = spell_sign 62 (omega arith)
+operator_spells greater_or_equal = spell_ascii (codes ">=") (omega arith, (omega arith, tt))
+
+-- ---- names
+
+-- the characters of a function's name are ASCII
+function_name_ascii : (t : List ℕ) → AllByRecursion (λ c. is_function_char c ≡ true) t → AllByRecursion (λ c. c < 128) t
+function_name_ascii [] each = tt
+function_name_ascii (c ∷ t) each = (let first = each.0 in grind (arith, nat_tests, first), function_name_ascii t each.1)
+
+function_name_spells : (t bytes : List ℕ) → IsFunctionName t bytes → Spells bytes t
+function_name_spells t bytes is = rw is.bytes_of (spell_ascii t (function_name_ascii t is.each))
+
+-- ---- parts joined
+
+-- the parts of a text after a sign
+scalars_after : (t s a b : List ℕ) → all_scalars t ≡ true → t ≡ s ++ (a ++ b) → (all_scalars a ≡ true) × (all_scalars b ≡ true)
+scalars_after t s a b e split = scalars_parts a b (scalars_of t s (a ++ b) e split).1
+
+-- the part between two others
+scalars_inside : (t s j a rest : List ℕ) → all_scalars t ≡ true → t ≡ s ++ (j ++ (a ++ rest)) → all_scalars a ≡ true
+scalars_inside t s j a rest e split = (scalars_parts a rest (scalars_after t s j (a ++ rest) e split).1).0
+
+-- commas and operators are printed with blanks
+comma_spelt : Spelt (IsSign (codes ",")) (codes ", ")
+comma_spelt = record { characters = codes ", "; spells = spell_ascii (codes ", ") (omega arith, (omega arith, tt)); is_so = ([], codes " ", tt, (refl, tt), refl) }
+
+blank_spells : Spells (codes " ") (codes " ")
+blank_spells = spell_sign 32 (omega arith)
+
+between_blanks : (sign : List ℕ) → IsSign sign (codes " " ++ (sign ++ codes " "))
+between_blanks sign = (codes " ", codes " ", (refl, tt), (refl, tt), refl)
+
+operator_spelt : (sign : List ℕ) → Spells sign sign → Spelt (IsSign sign) (codes " " ++ (sign ++ codes " "))
+operator_spelt sign h = record {
+  characters = codes " " ++ (sign ++ codes " ");
+  spells = spell_both blank_spells (spell_both h blank_spells);
+  is_so = between_blanks sign;
+}
+
+or_spelt : Spelt (IsSign (codes "||")) (codes " || ")
+or_spelt = operator_spelt (codes "||") (spell_ascii (codes "||") (omega arith, (omega arith, tt)))
+
+and_spelt : Spelt (IsSign (codes "&&")) (codes " && ")
+and_spelt = operator_spelt (codes "&&") (spell_ascii (codes "&&") (omega arith, (omega arith, tt)))
+
+module _ {Is More : List ℕ → Type 0} {first more : List ℕ} where
+  -- a first part and more
+  both : Spelt Is first → Spelt More more → Spelt (λ t. (a b : List ℕ) × Is a × More b × (t ≡ a ++ b)) (first ++ more)
+  both x y = spelt_both x y (λ a b is others. (a, b, is, others, refl))
+
+  -- one more part after a sign
+  one_more : (sign : List ℕ) {bytes : List ℕ} → Spelt (IsSign sign) bytes → Spelt Is first → Spelt More more
+      → Spelt (λ t. (s a b : List ℕ) × IsSign sign s × Is a × More b × (t ≡ s ++ (a ++ b))) ((bytes ++ first) ++ more)
+  one_more sign s x y = record {
+    characters = (s.characters ++ x.characters) ++ y.characters;
+    spells = spell_both (spell_both s.spells x.spells) y.spells;
+    is_so = (s.characters, x.characters, y.characters, s.is_so, x.is_so, y.is_so, append_assoc s.characters x.characters y.characters);
+  }
+
+in_parentheses : {Is : List ℕ → Type 0} {bytes : List ℕ} → Spelt Is bytes → Spelt (InParentheses Is) ((codes "(" ++ bytes) ++ codes ")")
+in_parentheses x = spelt_between (spell_sign 40 (omega arith)) x (spell_sign 41 (omega arith)) (λ a is. ([], a, [], tt, is, tt, refl))
+
+negated : {Is : List ℕ → Type 0} {bytes : List ℕ} → Spelt Is bytes → Spelt (Negated Is) (codes "!" ++ bytes)
+negated x = spelt_after (spell_sign 33 (omega arith)) x (λ a is. ([], a, tt, is, refl))
+
+-- ---- trees, part by part
+
+mutual
+  query_spelt : (q : Query) (t : List ℕ) → all_scalars t ≡ true → Reads q t → Spelt (Reads q) (query_text q)
+  query_spelt (query kind segs) t e (a, segments, split) =
+      spelt_after (kind_spells kind) (segments_spelt segs a (scalars_of t (query_sign kind) a e split).1 segments) (λ a is. (a, is, refl))
+
+  segments_spelt : (segs : Segments) (t : List ℕ) → all_scalars t ≡ true → ReadSegments segs t → Spelt (ReadSegments segs) (segments_text segs)
+  segments_spelt no_segments t e h = spelt_nothing refl
+  segments_spelt (segment kind seg more) t e (k, a, b, blank, first, rest, split) =
+      let h = scalars_after t k a b e split in
+      spelt_both (segment_spelt seg kind a h.0 first) (segments_spelt more b h.1 rest) (λ a b is others. ([], a, b, tt, is, others, refl))
+
+  segment_spelt : (seg : Segment) (kind : SegmentKind) (t : List ℕ) → all_scalars t ≡ true → ReadsSegment seg kind t → Spelt (ReadsSegment seg kind) (segment_text seg kind)
+  segment_spelt (dot_name bytes) kind t e (a, is, split) =
+      let name : Spells bytes a = record { scalars = (scalars_of t (dots_before_name kind) a e split).1; encoded = sym is.bytes_of } in
+      spelt_after {Is = λ t. IsName t bytes} (dots_spell kind) (record { characters = a; spells = name; is_so = is }) (λ a is. (a, is, refl))
+  segment_spelt dot_wildcard kind t e h =
+      record { characters = dots_before_name kind ++ codes "*"; spells = spell_both (dots_spell kind) (spell_sign 42 (omega arith)); is_so = refl }
+  segment_spelt (long_hand sels) kind t e (j, a, k, blank, inside, blank', split) =
+      let x = selectors_spelt sels a (scalars_inside t (dots_before_bracket kind) (codes "[" ++ j) a (k ++ codes "]") e split) inside in
+      spelt_between (spell_both (bracket_dots_spell kind) (spell_sign 91 (omega arith))) x (spell_sign 93 (omega arith)) (λ a is. ([], a, [], tt, is, tt, simp append_assoc refl))
+
+  selectors_spelt : (sels : Selectors) (t : List ℕ) → all_scalars t ≡ true → ReadSelectors sels t → Spelt (ReadSelectors sels) (joined (codes ", ") (selector_texts sels))
+  selectors_spelt no_selectors t e h = elim h [ ]
+  selectors_spelt (selector sel more) t e (a, b, first, rest, split) =
+      let h = scalars_of t a b e split in
+      both (selector_spelt sel a h.0 first) (more_selectors_spelt more b h.1 rest)
+
+  more_selectors_spelt : (sels : Selectors) (t : List ℕ) → all_scalars t ≡ true → ReadMoreSelectors sels t
+      → Spelt (ReadMoreSelectors sels) (flat_map (λ t. codes ", " ++ t) (selector_texts sels))
+  more_selectors_spelt no_selectors t e h = spelt_nothing refl
+  more_selectors_spelt (selector sel more) t e (s, a, b, sign, first, rest, split) =
+      let h = scalars_after t s a b e split in
+      one_more (codes ",") comma_spelt (selector_spelt sel a h.0 first) (more_selectors_spelt more b h.1 rest)
+
+  selector_spelt : (sel : Selector) (t : List ℕ) → all_scalars t ≡ true → ReadsSelector sel t → Spelt (ReadsSelector sel) (selector_text sel)
+  selector_spelt (name bytes) t e h = string_spelt t bytes e h
+  selector_spelt wildcard t e h = record { characters = codes "*"; spells = spell_sign 42 (omega arith); is_so = refl }
+  selector_spelt (index i) t e h = int_spelt t i h
+  selector_spelt (slice s) t e h = slice_spelt s t h
+  selector_spelt (filter c) t e (k, a, blank, inside, split) =
+      spelt_after (spell_sign 63 (omega arith)) (ors_spelt c a (scalars_after t (codes "?") k a e split).1 inside) (λ a is. ([], a, tt, is, refl))
+
+  ors_spelt : (c : LogicalOr) (t : List ℕ) → all_scalars t ≡ true → ReadsOr c t → Spelt (ReadsOr c) (or_text c)
+  ors_spelt no_or t e h = elim h [ ]
+  ors_spelt (or part more) t e (a, b, first, rest, split) =
+      let h = scalars_of t a b e split in
+      both (ands_spelt part a h.0 first) (more_ors_spelt more b h.1 rest)
+
+  more_ors_spelt : (c : LogicalOr) (t : List ℕ) → all_scalars t ≡ true → ReadMoreOrs c t → Spelt (ReadMoreOrs c) (flat_map (λ t. codes " || " ++ t) (and_texts c))
+  more_ors_spelt no_or t e h = spelt_nothing refl
+  more_ors_spelt (or part more) t e (s, a, b, sign, first, rest, split) =
+      let h = scalars_after t s a b e split in
+      one_more (codes "||") or_spelt (ands_spelt part a h.0 first) (more_ors_spelt more b h.1 rest)
+
+  ands_spelt : (c : LogicalAnd) (t : List ℕ) → all_scalars t ≡ true → ReadsAnd c t → Spelt (ReadsAnd c) (and_text c)
+  ands_spelt no_and t e h = elim h [ ]
+  ands_spelt (and part more) t e (a, b, first, rest, split) =
+      let h = scalars_of t a b e split in
+      both (basic_spelt part a h.0 first) (more_ands_spelt more b h.1 rest)
+
+  more_ands_spelt : (c : LogicalAnd) (t : List ℕ) → all_scalars t ≡ true → ReadMoreAnds c t → Spelt (ReadMoreAnds c) (flat_map (λ t. codes " && " ++ t) (basic_texts c))
+  more_ands_spelt no_and t e h = spelt_nothing refl
+  more_ands_spelt (and part more) t e (s, a, b, sign, first, rest, split) =
+      let h = scalars_after t s a b e split in
+      one_more (codes "&&") and_spelt (basic_spelt part a h.0 first) (more_ands_spelt more b h.1 rest)
+
+  basic_spelt : (part : Basic) (t : List ℕ) → all_scalars t ≡ true → ReadsBasic part t → Spelt (ReadsBasic part) (basic_text part)
+  basic_spelt (paren c) t e (j, a, k, blank, inside, blank', split) =
+      in_parentheses (ors_spelt c a (scalars_inside t (codes "(") j a (k ++ codes ")") e split) inside)
+  basic_spelt (not_paren c) t e (i, p, blank, (j, a, k, blank', inside, blank'', within), split) =
+      let x = ors_spelt c a (scalars_inside p (codes "(") j a (k ++ codes ")") (scalars_after t (codes "!") i p e split).1 within) inside in
+      negated (in_parentheses x)
+  basic_spelt (relation left op right) t e (a, s, b, l, sign, r, split) =
+      let x = comparable_spelt left a (scalars_of t a (s ++ b) e split).0 l in
+      let y = comparable_spelt right b (scalars_after t a s b e split).1 r in
+      let o = operator_spells op in
+      record {
+        characters = (((x.characters ++ codes " ") ++ operator_sign op) ++ codes " ") ++ y.characters;
+        spells = spell_both (spell_both (spell_both (spell_both x.spells blank_spells) o) blank_spells) y.spells;
+        is_so = (x.characters, codes " " ++ (operator_sign op ++ codes " "), y.characters, x.is_so, between_blanks (operator_sign op), y.is_so, simp append_assoc refl);
+      }
+  basic_spelt (exist q) t e h = query_spelt q t e h
+  basic_spelt (not_exist q) t e (k, a, blank, inside, split) = negated (query_spelt q a (scalars_after t (codes "!") k a e split).1 inside)
+  basic_spelt (test c) t e h = call_spelt c t e h
+  basic_spelt (not_test c) t e (k, a, blank, inside, split) = negated (call_spelt c a (scalars_after t (codes "!") k a e split).1 inside)
+
+  comparable_spelt : (c : Comparable) (t : List ℕ) → all_scalars t ≡ true → ReadsComparable c t → Spelt (ReadsComparable c) (comparable_text c)
+  comparable_spelt (literal l) t e h = literal_spelt l t e h
+  comparable_spelt (singular q) t e h = spelt_as (λ a is. (h.0, is)) (query_spelt q t e h.1)
+  comparable_spelt (called c) t e h = call_spelt c t e h
+
+  call_spelt : (c : Call) (t : List ℕ) → all_scalars t ≡ true → ReadsCall c t → Spelt (ReadsCall c) (call_text c)
+  call_spelt (call f args) t e (n, j, a, k, is, blank, inside, blank', split) =
+      let x = arguments_spelt args a (scalars_inside t n (codes "(" ++ j) a (k ++ codes ")") e split) inside in
+      spelt_between (spell_both (function_name_spells n f is) (spell_sign 40 (omega arith))) x (spell_sign 41 (omega arith)) (λ a inside. (n, [], a, [], is, tt, inside, tt, simp append_assoc refl))
+
+  arguments_spelt : (args : Arguments) (t : List ℕ) → all_scalars t ≡ true → ReadArguments args t → Spelt (ReadArguments args) (joined (codes ", ") (argument_texts args))
+  arguments_spelt no_arguments t e h = spelt_nothing refl
+  arguments_spelt (argument arg more) t e (a, b, first, rest, split) =
+      let h = scalars_of t a b e split in
+      both (argument_spelt arg a h.0 first) (more_arguments_spelt more b h.1 rest)
+
+  more_arguments_spelt : (args : Arguments) (t : List ℕ) → all_scalars t ≡ true → ReadMoreArguments args t
+      → Spelt (ReadMoreArguments args) (flat_map (λ t. codes ", " ++ t) (argument_texts args))
+  more_arguments_spelt no_arguments t e h = spelt_nothing refl
+  more_arguments_spelt (argument arg more) t e (s, a, b, sign, first, rest, split) =
+      let h = scalars_after t s a b e split in
+      one_more (codes ",") comma_spelt (argument_spelt arg a h.0 first) (more_arguments_spelt more b h.1 rest)
+
+  argument_spelt : (arg : Argument) (t : List ℕ) → all_scalars t ≡ true → ReadsArgument arg t → Spelt (ReadsArgument arg) (argument_text arg)
+  argument_spelt (literal_argument l) t e h = literal_spelt l t e h
+  argument_spelt (query_argument q) t e h = query_spelt q t e h
+  argument_spelt (call_argument c) t e h = call_spelt c t e h
+  argument_spelt (logical_argument c) t e h = spelt_as (λ a is. (h.0, is)) (ors_spelt c t e h.1)
+
+-- ---- whole queries
+
+pub printed_reads_back : (text : List ℕ) (q : Query) → IsUtf8 text → Reads q (chars text) → Reads q (chars (query_text q))
+printed_reads_back text q utf8 reads =
+    let x = query_spelt q (chars text) (scalars-chars text utf8) reads in
+    let same : x.characters ≡ chars (query_text q) = sym (chars-encodes x.characters x.spells.scalars) ∙ ap chars x.spells.encoded in
+    subst (Reads q) same x.is_so

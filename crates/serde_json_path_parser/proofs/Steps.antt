@@ -31,8 +31,6 @@ use denote.Enum.Bare.{sameb}
 use Rattle.serde_json_path_functions.specs.contracts.types.FunctionArgType.{the_type}
 use Rattle.serde_json_path_functions.specs.declared.types.FunctionArgType.{FunctionArgType}
 use Rattle.serde_json_path_functions.specs.declared.types.FunctionArgType.TheVariants as results
-use Rattle.serde_json_path_parser.specs.declared.parser.operand.Operand as operands
-use Rattle.serde_json_path_parser.specs.declared.parser.operand.Operand.TheVariants as the_operands
 use Rattle.std.proofs.lemmas.Bool.Decides.{same_from_decides}
 use Rattle.serde_json_path_parser.proofs.Grammar.LogicalForms.{singular_query}
 use Rattle.serde_json_path_syntax.proofs.Tree.NamedParts.{query_singular}

@@ -141,6 +141,14 @@ front_past : (p : ℕ → Bool) (cs rest : List ℕ) → AllPass p cs → front 
 front_past p [] rest h = refl
 front_past p (c ∷ cs) rest h = rw h.0 (ap (λ (l : List ℕ). c ∷ l) (front_past p cs rest h.1))
 
+-- a name that begins with an ASCII byte begins with an ASCII character
+pub name_begun : (first : ℕ) (cs : List ℕ) → IsAhead (Some first) cs → first < 128 → begins is_name_char cs ≡ true → begins is_ascii_name_char cs ≡ true
+name_begun first cs a low e =
+    let same : a.0 ≡ first = a.2 low in
+    let small : nat_le a.0 127 ≡ true = grind (arith, same, low) in
+    let in_it : is_name_char a.0 ≡ true = sym (ap (begins is_name_char) a.1) ∙ e in
+    ap (begins is_ascii_name_char) a.1 ∙ rw (small, in_it) refl
+
 -- where the first character is of a class, so is its first byte
 pub first_fits : (p : ℕ → Bool) → ((c : ℕ) → p c ≡ true → c < 128) → (b : ℕ) (cs : List ℕ) → IsAhead (Some b) cs → begins p cs ≡ true → p b ≡ true
 first_fits p ascii b cs a e =

@@ -11,6 +11,8 @@ unfoldable pub use Rattle.serde_json_path_parser.specs.Parsing.{bound_at, bracke
 unfoldable pub use Rattle.serde_json_path_parser.specs.Parsing.{next_segment_at, next_selector_at, position_at, quoted_at, segment_at, selector_at}
 unfoldable pub use Rattle.serde_json_path_parser.specs.Parsing.{selectors_at, slice_at, step_at}
 unfoldable pub use Rattle.serde_json_path_parser.specs.Strings.{escape_at, hex4_at, hexadecimal_at, low_at, piece_at, string_at, unicode_at}
+pub use Rattle.std.proofs.Common.{Err, Ok, Result, [], ap, arith, drop, is_ok, length, min, option_map, refl, rules, sym, true, true≢false, ◌++◌, ◌+◌}
+pub use Rattle.std.proofs.Common.{◌-◌, ◌<◌, ◌∙◌, ◌≡◌, ◌≤◌}
 pub use Rattle.std.proofs.Math.Nat.{le-mul_of_pos_right, mul-le-mul_right, mul-lt-mul_of_pos_right, mul-mod_left, mul-sub, mul_assoc, mul_comm}
 pub use Rattle.std.proofs.Math.Nat.{one-le-pow, pow-succ'}
 pub use Rattle.std.proofs.Math.Seq.{drop-append_seam, take-append_seam}

@@ -5,6 +5,7 @@ use Rattle.serde_json_path_parser.proofs.Words.{flat_map, digit_char, chars, IsU
 use Rattle.serde_json_path_parser.proofs.Words.{hexadecimal_escape, escape_of, in_quotes, quoted, hexadecimal_of, IsHex4, pair_of, escaped_by}
 use Rattle.serde_json_path_parser.proofs.Words.{is_plain, IsPiece, plain, quote_escape, letter_escape, hex_escape, pair_escape, ArePieces, IsQuote}
 use Rattle.serde_json_path_parser.proofs.Words.{IsString}
+use Rattle.std.proofs.str.Laws.{scalars-append}
 use Rattle.serde_json_path_parser.proofs.Grammar.Strings.{of_quote}
 
 -- ---- bytes encode characters, part by part
@@ -23,10 +24,6 @@ pub record Spelt (Is : List ℕ → Type 0) (bytes : List ℕ) : Type 0 where
 pub spell_nothing : Spells [] []
 spell_nothing = record { scalars = refl; encoded = refl }
 
-scalars_joined : (s t : List ℕ) → all_scalars s ≡ true → all_scalars t ≡ true → all_scalars (s ++ t) ≡ true
-scalars_joined [] t e f = f
-scalars_joined (c ∷ s) t e f = let h = and_parts _ (all_scalars s) e in rw (h.0, scalars_joined s t h.1 f) refl
-
 -- the parts of a text that is all scalar values are so too
 pub scalars_parts : (s t : List ℕ) → all_scalars (s ++ t) ≡ true → (all_scalars s ≡ true) × (all_scalars t ≡ true)
 scalars_parts [] t e = (refl, e)
@@ -40,7 +37,7 @@ scalars_of t a b e split = scalars_parts a b (ap all_scalars (sym split) ∙ e)
 
 pub spell_both : {a b s t : List ℕ} → Spells a s → Spells b t → Spells (a ++ b) (s ++ t)
 spell_both {s = s} {t = t} h g = record {
-  scalars = scalars_joined s t h.scalars g.scalars;
+  scalars = scalars-append s t h.scalars g.scalars;
   encoded = encodes-append s t ∙ rw (h.encoded, g.encoded) refl;
 }
 

@@ -13,7 +13,7 @@ ghost use Rattle.serde_json_path_parser.specs.Operands as operands;
 ghost use Rattle.serde_json_path_syntax.specs.Tree as tree;
 ghost use Rattle.serde_json_path_syntax.specs.Tree.{no_arguments};
 
-use crate::error::{Context, Failure, ParseErrorKind};
+use crate::error::{Context, Failure, ParseErrorKind as Kind};
 use crate::parser::Parser;
 use crate::parser::operand::Operand;
 use crate::parser::reader::Reader;
@@ -89,7 +89,7 @@ fn parse_end<S: PathSource>(
         (ended place (map kind_view types.now) (drop 1 (left reader.old))) }
 {
     if !types.is_empty() {
-        return Err(Failure::in_long_hand(ParseErrorKind::WrongNumberOfArguments, place));
+        return Err(Failure::in_long_hand(Kind::WrongNumberOfArguments, place));
     }
     reader.take_char();
     reader.skip_blanks();
@@ -99,7 +99,9 @@ fn parse_end<S: PathSource>(
 impl<F: Functions> Parser<'_, F> {
     /// Parses a call of the function of that name, from its `(` on, and the blanks after it: the call, and the type
     /// of its result. `place` bytes are left where the call begins.
+    #[inline(always)]
     #[cycle(filters)]
+    #[tactic(auto, unfolding(crate::specs::Filters::level))]
     pub(crate) fn parse_call<S: PathSource>(
         &self,
         builder: &mut SyntaxBuilder,
@@ -114,10 +116,10 @@ impl<F: Functions> Parser<'_, F> {
             ((deeper F.set self.now).call_of place (string_bytes name) (drop 1 (left reader.old))) }
     {
         if self.depth == 0 {
-            return Err(Failure::in_long_hand(ParseErrorKind::NestedTooDeep, place));
+            return Err(Failure::in_long_hand(Kind::NestedTooDeep, place));
         }
         let Some(signature) = self.functions.signature(name.as_str()) else {
-            return Err(Failure::in_long_hand(ParseErrorKind::UndefinedFunction, place));
+            return Err(Failure::in_long_hand(Kind::UndefinedFunction, place));
         };
         reader.take_char();
         reader.skip_blanks();
@@ -154,19 +156,13 @@ impl<F: Functions> Parser<'_, F> {
             let argument_place = reader.bytes_left();
             let argument = self.parse_argument(builder, reader)?;
             if !reader.sees_end_of_argument() {
-                return Err(reader.refuse(
-                    ParseErrorKind::ExpectedClosingParenthesis,
-                    Context::LongHand,
-                ));
+                return Err(reader.refuse(Kind::ExpectedClosingParenthesis, Context::LongHand));
             }
             let Some((first, others)) = types.split_first() else {
-                return Err(Failure::in_long_hand(ParseErrorKind::WrongNumberOfArguments, place));
+                return Err(Failure::in_long_hand(Kind::WrongNumberOfArguments, place));
             };
             if !argument.fits(builder, *first) {
-                return Err(Failure::in_long_hand(
-                    ParseErrorKind::WrongArgumentType,
-                    argument_place,
-                ));
+                return Err(Failure::in_long_hand(Kind::WrongArgumentType, argument_place));
             }
             let part = argument.part(builder)?;
             parts.push(part)?;

@@ -13,7 +13,7 @@ ghost use Rattle.serde_json_path_parser.specs.Operands as operands;
 ghost use Rattle.serde_json_path_parser.specs.Operands.{calls_in_operand};
 ghost use Rattle.serde_json_path_parser.specs.Parsed.{byte_count, past_blanks};
 
-use crate::error::{Context, Failure, ParseErrorKind};
+use crate::error::{Context, Failure, ParseErrorKind as Kind};
 use crate::parser::Parser;
 use crate::parser::operand::Operand;
 use crate::parser::primitive::operator::parse_operator;
@@ -26,6 +26,7 @@ use serde_json_path_syntax::{Part, Parts, QueryKind, SyntaxBuilder};
 impl<F: Functions> Parser<'_, F> {
     /// Parses the expression of a filter or a parenthesis, from its `?` or `(` on.
     #[cycle(filters)]
+    #[tactic(auto, unfolding(crate::specs::Filters::level))]
     pub(crate) fn parse_inside<S: PathSource>(
         &self,
         builder: &mut SyntaxBuilder,
@@ -39,7 +40,7 @@ impl<F: Functions> Parser<'_, F> {
             (past_blanks (drop 1 (left reader.old)))) }
     {
         if self.depth == 0 {
-            return Err(reader.refuse(ParseErrorKind::NestedTooDeep, Context::LongHand));
+            return Err(reader.refuse(Kind::NestedTooDeep, Context::LongHand));
         }
         reader.take_char();
         reader.skip_blanks();
@@ -209,10 +210,7 @@ impl<F: Functions> Parser<'_, F> {
     {
         let inner = self.parse_inside(builder, reader)?;
         if !reader.sees(b')') {
-            return Err(reader.refuse(
-                ParseErrorKind::ExpectedClosingParenthesis,
-                Context::LongHand,
-            ));
+            return Err(reader.refuse(Kind::ExpectedClosingParenthesis, Context::LongHand));
         }
         reader.take_char();
         reader.skip_blanks();
@@ -247,16 +245,16 @@ impl<F: Functions> Parser<'_, F> {
             return Ok(builder.not_exist(query)?);
         }
         if !reader.sees_small_letter() {
-            return Err(reader.refuse(ParseErrorKind::ExpectedExpression, Context::LongHand));
+            return Err(reader.refuse(Kind::ExpectedExpression, Context::LongHand));
         }
         let place = reader.bytes_left();
         let word = read_word(self.alloc, reader)?;
         if !reader.sees(b'(') {
-            return Err(Failure::in_long_hand(ParseErrorKind::ExpectedExpression, place));
+            return Err(Failure::in_long_hand(Kind::ExpectedExpression, place));
         }
         let (call, result) = self.parse_call(builder, reader, place, word)?;
         if result == FunctionArgType::Value {
-            return Err(Failure::in_long_hand(ParseErrorKind::WrongReturnType, place));
+            return Err(Failure::in_long_hand(Kind::WrongReturnType, place));
         }
         Ok(builder.not_test(call)?)
     }

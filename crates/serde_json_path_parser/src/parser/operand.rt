@@ -12,7 +12,7 @@ ghost use Rattle.serde_json_path_parser.specs.Lexical.{begins, is_small_letter, 
 ghost use Rattle.serde_json_path_parser.specs.Operands as operands;
 ghost use Rattle.serde_json_path_parser.specs.Operands.{calls_in_operand};
 
-use crate::error::{Context, Failure, ParseErrorKind};
+use crate::error::{Context, Failure, ParseErrorKind as Kind};
 use crate::parser::Parser;
 use crate::parser::primitive::number::parse_number;
 use crate::parser::primitive::string::parse_string;
@@ -100,7 +100,7 @@ impl<F: Functions> Parser<'_, F> {
                 reader.skip_blanks();
                 Ok(Operand::Literal(literal))
             }
-            None => Err(Failure::in_long_hand(ParseErrorKind::ExpectedExpression, place)),
+            None => Err(Failure::in_long_hand(Kind::ExpectedExpression, place)),
         }
     }
 
@@ -161,13 +161,13 @@ impl<F: Functions> Parser<'_, F> {
             Operand::Literal(literal) => { Ok(builder.literal(literal)?) }
             Operand::Query(query) => {
                 if !builder.is_singular(query) {
-                    return Err(Failure::in_long_hand(ParseErrorKind::NonSingularQuery, place));
+                    return Err(Failure::in_long_hand(Kind::NonSingularQuery, place));
                 }
                 Ok(builder.singular(query)?)
             }
             Operand::Call(call, result) => {
                 if result != FunctionArgType::Value {
-                    return Err(Failure::in_long_hand(ParseErrorKind::WrongReturnType, place));
+                    return Err(Failure::in_long_hand(Kind::WrongReturnType, place));
                 }
                 Ok(builder.called(call)?)
             }
@@ -194,13 +194,13 @@ impl<F: Functions> Parser<'_, F> {
     {
         match operand {
             Operand::Literal(_literal) => Err(reader.refuse(
-                ParseErrorKind::ExpectedComparisonOperator,
+                Kind::ExpectedComparisonOperator,
                 Context::LongHand,
             )),
             Operand::Query(query) => { Ok(builder.exist(query)?) }
             Operand::Call(call, result) => {
                 if result == FunctionArgType::Value {
-                    return Err(Failure::in_long_hand(ParseErrorKind::WrongReturnType, place));
+                    return Err(Failure::in_long_hand(Kind::WrongReturnType, place));
                 }
                 Ok(builder.test(call)?)
             }

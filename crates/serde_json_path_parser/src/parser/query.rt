@@ -5,7 +5,7 @@ ghost use Rattle.serde_json_path_parser.specs.Filters.{path_at};
 ghost use Rattle.serde_json_path_parser.specs.Inside.Giving.{GivesQuery, MovesTo, IsRefused, left};
 ghost use Rattle.serde_json_path_parser.specs.Parsing.{opens_after_root};
 
-use crate::error::{Context, Failure, ParseErrorKind, Refusal};
+use crate::error::{Context, Failure, ParseErrorKind as Kind, Refusal};
 use crate::parser::reader::Reader;
 use crate::parser::{DEEPEST, Parser};
 use crate::source::PathSource;
@@ -30,7 +30,7 @@ pub(crate) fn parse_path<S: PathSource, F: Functions>(
         opens_after_root (left reader.old) ≡ false → IsRefused stop) }
 {
     if !reader.sees(b'$') {
-        return Err(reader.refuse(ParseErrorKind::ExpectedRoot, Context::Path));
+        return Err(reader.refuse(Kind::ExpectedRoot, Context::Path));
     }
     reader.take_char();
     let mut builder = SyntaxBuilder::new(alloc);
@@ -42,7 +42,7 @@ pub(crate) fn parse_path<S: PathSource, F: Functions>(
     let (parts, rest) = parser.parse_segments(&mut builder, reader, Context::Path)?;
     if rest != 0 {
         return Err(Failure::Refused(Refusal {
-            kind: ParseErrorKind::TextAfterPath,
+            kind: Kind::TextAfterPath,
             context: Context::Path,
             left: rest,
         }));

@@ -283,16 +283,19 @@ impl<'s, S: PathSource> Reader<'s, S> {
         ensures rest { IfOk result (λ u. left self.new ≡ past is_name_char (left self.old)) }
     {
         'chars: while self.sees_name_char() {
-            if self.sees_stretch(&NameChars, text.len()) {
-                self.take_stretch(&NameChars, text)?;
+            let first = self.next.unwrap();
+            // Many at a time only after a longer text, since a short name would gain nothing.
+            if first >= 0x80 || text.len() < 32 || self.second.is_some() {
+                text.push(self.take_char())?;
                 continue;
             }
-            text.push(self.take_char())?;
+            self.take_stretch(&NameChars, text)?;
         }
         Ok(())
     }
 
     /// Whether characters of a class are next that are worth taking many at a time, after so many bytes.
+    #[inline(always)]
     pub(crate) fn sees_stretch<C: Class>(&self, class: &C, taken: usize) -> bool
         requires { (c : ℕ) → C.holds class.now c ≡ true → c < 128 }
         ensures begun { IsTrue result → begins (C.holds class.now) (left self.now) ≡ true }
@@ -306,6 +309,7 @@ impl<'s, S: PathSource> Reader<'s, S> {
     }
 
     /// Takes one or more characters of a class, the first of which is next, and appends them to a text.
+    #[inline(always)]
     pub(crate) fn take_stretch<C: Class>(
         &mut self,
         class: &C,

@@ -7,7 +7,7 @@ ghost use Rattle.serde_json_path_parser.specs.Inside.Giving.{Makes, MakesSegment
 ghost use Rattle.serde_json_path_parser.specs.Lexical.{begins, opens};
 ghost use Rattle.serde_json_path_parser.specs.Parsing.{bracket_at, after_dot, dotted_at, of_kind, segment_at, segments_at, opens_next};
 
-use crate::error::{Context, Failure, ParseErrorKind};
+use crate::error::{Context, Failure, ParseErrorKind as Kind};
 use crate::parser::Parser;
 use crate::parser::primitive::name::parse_name;
 use crate::parser::reader::Reader;
@@ -68,7 +68,7 @@ impl<F: Functions> Parser<'_, F> {
     {
         let selectors = self.parse_selectors(builder, reader)?;
         if !reader.sees(b']') {
-            return Err(reader.refuse(ParseErrorKind::ExpectedClosingBracket, Context::LongHand));
+            return Err(reader.refuse(Kind::ExpectedClosingBracket, Context::LongHand));
         }
         reader.take_char();
         Ok(builder.long_hand(kind, selectors)?)

@@ -5,7 +5,7 @@ ghost use Rattle.serde_json_path_syntax.specs.Tree.{largest, IsInteger};
 ghost use Rattle.serde_json_path_parser.specs.Inside.Giving.{Gives, MovesTo, left};
 ghost use Rattle.serde_json_path_parser.specs.Parsing.{digits_at, int_at};
 
-use crate::error::{Context, Failure, ParseErrorKind};
+use crate::error::{Context, Failure, ParseErrorKind as Kind};
 use crate::parser::primitive::decimal::parse_decimal;
 use crate::parser::reader::Reader;
 use crate::source::PathSource;
@@ -23,7 +23,7 @@ fn parse_digits<S: PathSource>(reader: &mut Reader<'_, S>, place: usize) -> Resu
 {
     let n = parse_decimal(reader);
     if n > LARGEST {
-        return Err(Failure::in_long_hand(ParseErrorKind::IntegerOutOfRange, place));
+        return Err(Failure::in_long_hand(Kind::IntegerOutOfRange, place));
     }
     Ok(n as u64)
 }
@@ -39,7 +39,7 @@ pub(crate) fn parse_int<S: PathSource>(reader: &mut Reader<'_, S>) -> Result<i64
     if reader.sees(b'-') {
         reader.take_char();
         if !reader.sees_first_digit() {
-            return Err(reader.refuse_before(ParseErrorKind::ExpectedSelector, Context::LongHand));
+            return Err(reader.refuse_before(Kind::ExpectedSelector, Context::LongHand));
         }
         let amount = parse_digits(reader, place)?;
         return Ok(-(amount as i64));
@@ -49,7 +49,7 @@ pub(crate) fn parse_int<S: PathSource>(reader: &mut Reader<'_, S>) -> Result<i64
         return Ok(0);
     }
     if !reader.sees_first_digit() {
-        return Err(reader.refuse(ParseErrorKind::ExpectedSelector, Context::LongHand));
+        return Err(reader.refuse(Kind::ExpectedSelector, Context::LongHand));
     }
     let amount = parse_digits(reader, place)?;
     Ok(amount as i64)

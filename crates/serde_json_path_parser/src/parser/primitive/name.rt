@@ -4,7 +4,7 @@ ghost use Rattle.std.specs.Prelude.{◌≡◌, string_bytes};
 ghost use Rattle.serde_json_path_parser.specs.Inside.Giving.{Gives, MovesTo, left};
 ghost use Rattle.serde_json_path_parser.specs.Parsing.{name_at};
 
-use crate::error::{Context, Failure, ParseErrorKind};
+use crate::error::{Context, Failure, ParseErrorKind as Kind};
 use crate::parser::reader::Reader;
 use crate::source::PathSource;
 use std::alloc::Global;
@@ -21,7 +21,7 @@ pub(crate) fn parse_name<S: PathSource>(
         (name_at context (left reader.old)) }
 {
     if !reader.sees_name_first() {
-        return Err(reader.refuse(ParseErrorKind::BadMemberName, context));
+        return Err(reader.refuse(Kind::BadMemberName, context));
     }
     let mut text = String::new(alloc);
     reader.take_name_chars(&mut text)?;

@@ -5,7 +5,7 @@ ghost use Rattle.serde_json_path_syntax.specs.Literals.{number_amount};
 ghost use Rattle.serde_json_path_parser.specs.Inside.Giving.{Gives, MovesTo, left};
 ghost use Rattle.serde_json_path_parser.specs.Numbers.{whole_at, fraction_at, amount_at, number_at, capped};
 
-use crate::error::{Failure, ParseErrorKind};
+use crate::error::{Failure, ParseErrorKind as Kind};
 use crate::parser::primitive::decimal::parse_decimal;
 use crate::parser::reader::Reader;
 use crate::source::PathSource;
@@ -31,7 +31,7 @@ fn parse_whole<S: PathSource>(reader: &mut Reader<'_, S>, place: usize) -> Resul
         return Ok(0);
     }
     if !reader.sees_first_digit() {
-        return Err(Failure::in_long_hand(ParseErrorKind::ExpectedExpression, place));
+        return Err(Failure::in_long_hand(Kind::ExpectedExpression, place));
     }
     Ok(parse_decimal(reader))
 }
@@ -44,22 +44,22 @@ fn parse_fraction<S: PathSource>(reader: &mut Reader<'_, S>, place: usize) -> Re
 {
     if !reader.sees(b'.') {
         if reader.sees_exponent() {
-            return Err(Failure::in_long_hand(ParseErrorKind::ExponentOrEmptyFraction, place));
+            return Err(Failure::in_long_hand(Kind::ExponentOrEmptyFraction, place));
         }
         return Ok(0);
     }
     reader.take_char();
     if !reader.sees_digit() {
-        return Err(Failure::in_long_hand(ParseErrorKind::ExponentOrEmptyFraction, place));
+        return Err(Failure::in_long_hand(Kind::ExponentOrEmptyFraction, place));
     }
     let before = reader.bytes_left();
     let value = parse_decimal(reader);
     let count = before - reader.bytes_left();
     if reader.sees_exponent() {
-        return Err(Failure::in_long_hand(ParseErrorKind::ExponentOrEmptyFraction, place));
+        return Err(Failure::in_long_hand(Kind::ExponentOrEmptyFraction, place));
     }
     if count > FRACTION_DIGITS {
-        return Err(Failure::in_long_hand(ParseErrorKind::FractionTooLong, place));
+        return Err(Failure::in_long_hand(Kind::FractionTooLong, place));
     }
     Ok(value * 10_u128.pow((FRACTION_DIGITS - count) as u32))
 }
@@ -93,6 +93,6 @@ pub(crate) fn parse_number<S: PathSource>(
     let signed = if is_negative { -amount } else { amount };
     match NumberLiteral::from_billionths(signed) {
         Some(literal) => Ok(literal),
-        None => Err(Failure::in_long_hand(ParseErrorKind::NumberOutOfRange, place)),
+        None => Err(Failure::in_long_hand(Kind::NumberOutOfRange, place)),
     }
 }

@@ -6,7 +6,7 @@ ghost use Rattle.serde_json_path_parser.specs.Inside.Giving.{Gives, MovesTo, lef
 ghost use Rattle.serde_json_path_parser.specs.Lexical.{begins, IsQuote};
 ghost use Rattle.serde_json_path_parser.specs.Strings.{hexadecimal_at, hex4_at, unicode_at, piece_at, is_inside, string_at};
 
-use crate::error::{Context, Failure, ParseErrorKind};
+use crate::error::{Context, Failure, ParseErrorKind as Kind};
 use crate::parser::reader::Reader;
 use crate::parser::stretch::PlainChars;
 use crate::source::PathSource;
@@ -23,7 +23,7 @@ fn parse_hexadecimal<S: PathSource>(
     ensures gives { Gives (λ n. n) result reader.new (hexadecimal_at place (left reader.old)) }
 {
     if !reader.sees_hexadecimal() {
-        return Err(Failure::in_long_hand(ParseErrorKind::BadEscape, place));
+        return Err(Failure::in_long_hand(Kind::BadEscape, place));
     }
     let digit = reader.take_char() as u32;
     if digit <= 57 {
@@ -57,22 +57,22 @@ fn parse_unicode<S: PathSource>(reader: &mut Reader<'_, S>, place: usize) -> Res
 {
     let code = parse_hex4(reader, place)?;
     if code >= 0xdc00 && code <= 0xdfff {
-        return Err(Failure::in_long_hand(ParseErrorKind::BadEscape, place));
+        return Err(Failure::in_long_hand(Kind::BadEscape, place));
     }
     if code < 0xd800 || code > 0xdbff {
         return Ok(char::from_u32(code).unwrap());
     }
     if !reader.sees(b'\\') {
-        return Err(Failure::in_long_hand(ParseErrorKind::BadEscape, place));
+        return Err(Failure::in_long_hand(Kind::BadEscape, place));
     }
     reader.take_char();
     if !reader.sees(b'u') {
-        return Err(Failure::in_long_hand(ParseErrorKind::BadEscape, place));
+        return Err(Failure::in_long_hand(Kind::BadEscape, place));
     }
     reader.take_char();
     let low = parse_hex4(reader, place)?;
     if low < 0xdc00 || low > 0xdfff {
-        return Err(Failure::in_long_hand(ParseErrorKind::BadEscape, place));
+        return Err(Failure::in_long_hand(Kind::BadEscape, place));
     }
     Ok(char::from_u32(0x10000 + 0x400 * (code - 0xd800) + (low - 0xdc00)).unwrap())
 }
@@ -87,7 +87,7 @@ fn parse_piece<S: PathSource>(reader: &mut Reader<'_, S>, quote: u8) -> Result<c
 {
     if !reader.sees(b'\\') {
         if reader.sees_control() {
-            return Err(reader.refuse(ParseErrorKind::ControlCharacter, Context::LongHand));
+            return Err(reader.refuse(Kind::ControlCharacter, Context::LongHand));
         }
         return Ok(reader.take_char());
     }
@@ -98,7 +98,7 @@ fn parse_piece<S: PathSource>(reader: &mut Reader<'_, S>, quote: u8) -> Result<c
         return parse_unicode(reader, place);
     }
     if !reader.sees_letter_escape(quote) {
-        return Err(Failure::in_long_hand(ParseErrorKind::BadEscape, place));
+        return Err(Failure::in_long_hand(Kind::BadEscape, place));
     }
     let letter = reader.take_char();
     Ok(match letter {
@@ -134,7 +134,7 @@ pub(crate) fn parse_string<S: PathSource>(
         text.push(c)?;
     }
     if !reader.sees(quote) {
-        return Err(reader.refuse(ParseErrorKind::ExpectedEndingQuote, Context::LongHand));
+        return Err(reader.refuse(Kind::ExpectedEndingQuote, Context::LongHand));
     }
     reader.take_char();
     Ok(text)

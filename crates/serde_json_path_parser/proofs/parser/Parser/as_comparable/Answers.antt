@@ -1,6 +1,5 @@
-use Rattle.std.proofs.Common.{refl, ap}
+use Rattle.serde_json_path_parser.proofs.Words.{refl, ap, comparable_at, calls_in_operand}
 use Rattle.serde_json_path_syntax.specs.Tree as tree
-use Rattle.serde_json_path_parser.proofs.Words.{comparable_at, calls_in_operand}
 use Rattle.serde_json_path_parser.proofs.Steps.{singular_by}
 use Rattle.serde_json_path_parser.proofs.parser.Parser.as_comparable.Goals as goal
 

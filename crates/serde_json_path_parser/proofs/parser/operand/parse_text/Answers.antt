@@ -1,5 +1,4 @@
-use Rattle.std.proofs.Common.{refl}
-use Rattle.serde_json_path_parser.proofs.Words.{string_bytes, a_literal, text_at}
+use Rattle.serde_json_path_parser.proofs.Words.{refl, string_bytes, a_literal, text_at}
 use Rattle.serde_json_path_syntax.specs.Tree as tree
 use Rattle.serde_json_path_parser.proofs.Steps.{grows_none}
 use Rattle.serde_json_path_parser.proofs.parser.operand.parse_text.Goals as goal

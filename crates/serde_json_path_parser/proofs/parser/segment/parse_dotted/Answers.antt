@@ -1,5 +1,4 @@
-use Rattle.std.proofs.Common.{arith}
-use Rattle.serde_json_path_parser.proofs.Words.{common_steps, string_bytes, segment_kind_view, dotted_at}
+use Rattle.serde_json_path_parser.proofs.Words.{arith, common_steps, string_bytes, segment_kind_view, dotted_at}
 use Rattle.serde_json_path_syntax.specs.Tree as tree
 use Rattle.serde_json_path_parser.proofs.Steps.{grows_leaf}
 use Rattle.serde_json_path_parser.proofs.parser.segment.parse_dotted.Goals as goal

@@ -1,5 +1,4 @@
-use Rattle.std.proofs.Common.{◌≡◌, ◌<◌, ◌≤◌, ◌+◌, ◌-◌, length}
-use Rattle.serde_json_path_parser.proofs.Words.{Gathered, LooksOn}
+use Rattle.serde_json_path_parser.proofs.Words.{◌≡◌, ◌<◌, ◌≤◌, ◌+◌, ◌-◌, length, Gathered, LooksOn}
 use Rattle.serde_json_path_parser.proofs.parser.stretch.gather.Given as goal
 
 abbrev pub invariant-loop-at : goal.invariant-loop-at

@@ -1,6 +1,5 @@
-use Rattle.std.proofs.Common.{Result, Ok, Err, refl}
+use Rattle.serde_json_path_parser.proofs.Words.{Result, Ok, Err, refl, IsUtf8-from_ascii}
 use Rattle.std.specs.Result.{MatchResult, IsOk}
-use Rattle.serde_json_path_parser.proofs.Words.{IsUtf8-from_ascii}
 use Rattle.serde_json_path_parser.proofs.parser.stretch.push_ascii.Goals as goal
 
 ok_unless : {T E : Type 0} (P : T → Type 0) (Q : E → Type 0) (r : Result T E) → MatchResult r P Q → ((e : E) → Q e → ⊥) → IsOk r

@@ -1,5 +1,4 @@
-use Rattle.std.proofs.Common.{◌<◌, length, refl, arith}
-use Rattle.serde_json_path_parser.proofs.Words.{slice_get_within}
+use Rattle.serde_json_path_parser.proofs.Words.{◌<◌, length, refl, arith, slice_get_within}
 use Rattle.serde_json_path_parser.proofs.Texts.{first_gathered}
 use Rattle.serde_json_path_parser.proofs.parser.stretch.push_stretch.Goals as goal
 

@@ -1,5 +1,4 @@
-use Rattle.std.proofs.Common.{◌≡◌, sym, ◌∙◌, true, ◌-◌, ◌^◌, arith}
-use Rattle.serde_json_path_parser.proofs.Words.{common_steps, left, begins, is_digit}
+use Rattle.serde_json_path_parser.proofs.Words.{◌≡◌, sym, ◌∙◌, true, ◌-◌, ◌^◌, arith, common_steps, left, begins, is_digit}
 use Rattle.serde_json_path_parser.proofs.Reading.{digit_taken, past_more}
 use Rattle.serde_json_path_parser.proofs.parser.primitive.decimal.parse_decimal.Goals as goal
 

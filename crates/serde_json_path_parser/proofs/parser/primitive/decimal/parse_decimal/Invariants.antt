@@ -1,5 +1,4 @@
-use Rattle.std.proofs.Common.{◌≡◌, ◌≤◌, ◌^◌, ◌-◌, min, length}
-use Rattle.serde_json_path_parser.proofs.Words.{is_digit, value_from, front, past, left, Moves}
+use Rattle.serde_json_path_parser.proofs.Words.{◌≡◌, ◌≤◌, ◌^◌, ◌-◌, min, length, is_digit, value_from, front, past, left, Moves}
 use Rattle.serde_json_path_parser.proofs.parser.primitive.decimal.parse_decimal.Given as goal
 
 abbrev pub invariant-loop-reader : goal.invariant-loop-reader

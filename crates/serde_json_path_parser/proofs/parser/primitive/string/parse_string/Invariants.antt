@@ -1,5 +1,4 @@
-use Rattle.std.proofs.Common.{◌≡◌, length}
-use Rattle.serde_json_path_parser.proofs.Words.{string_bytes, begins, many, left, Moves, piece_at, is_inside, string_at}
+use Rattle.serde_json_path_parser.proofs.Words.{◌≡◌, length, string_bytes, begins, many, left, Moves, piece_at, is_inside, string_at}
 use Rattle.serde_json_path_parser.proofs.Grammar.Strings.{with_text}
 use Rattle.serde_json_path_parser.proofs.parser.primitive.string.parse_string.Given as goal
 

@@ -1,5 +1,4 @@
-use Rattle.std.proofs.Common.{◌≡◌, ◌++◌, length}
-use Rattle.serde_json_path_parser.proofs.Words.{string_bytes, word, past_word, left, Moves}
+use Rattle.serde_json_path_parser.proofs.Words.{◌≡◌, ◌++◌, length, string_bytes, word, past_word, left, Moves}
 use Rattle.serde_json_path_parser.proofs.parser.primitive.word.read_word.Given as goal
 
 abbrev pub invariant-loop-text : goal.invariant-loop-text

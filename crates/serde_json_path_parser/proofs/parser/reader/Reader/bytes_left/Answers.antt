@@ -1,5 +1,4 @@
-use Rattle.std.proofs.Common.{refl}
-use Rattle.serde_json_path_parser.proofs.Words.{length-drop, encodes-chars}
+use Rattle.serde_json_path_parser.proofs.Words.{refl, length-drop, encodes-chars}
 use Rattle.serde_json_path_parser.proofs.Texts.{utf8_of}
 use Rattle.serde_json_path_parser.proofs.parser.reader.Reader.bytes_left.Goals as goal
 

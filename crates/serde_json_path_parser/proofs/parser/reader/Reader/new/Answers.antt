@@ -1,5 +1,4 @@
-use Rattle.std.proofs.Common.{refl, ◌∙◌}
-use Rattle.serde_json_path_parser.proofs.Words.{is_utf8-from_IsUtf8}
+use Rattle.serde_json_path_parser.proofs.Words.{refl, ◌∙◌, is_utf8-from_IsUtf8}
 use Rattle.serde_json_path_parser.proofs.parser.reader.Reader.new.Goals as goal
 
 pub invariant_of-result-clause-utf8 : goal.invariant_of-result-clause-utf8

@@ -1,5 +1,4 @@
-use Rattle.std.proofs.Common.{◌≡◌, length}
-use Rattle.serde_json_path_parser.proofs.Words.{past_blanks, left, Moves}
+use Rattle.serde_json_path_parser.proofs.Words.{◌≡◌, length, past_blanks, left, Moves}
 use Rattle.serde_json_path_parser.proofs.parser.reader.Reader.skip_blanks.Given as goal
 
 abbrev pub invariant-loop-self : goal.invariant-loop-self

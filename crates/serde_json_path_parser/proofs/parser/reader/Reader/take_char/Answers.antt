@@ -1,5 +1,4 @@
-use Rattle.std.proofs.Common.{◌≡◌, ◌+◌, length, refl, sym, ap, ◌∙◌, arith}
-use Rattle.serde_json_path_parser.proofs.Words.{slice_get_past, limit_of}
+use Rattle.serde_json_path_parser.proofs.Words.{◌≡◌, ◌+◌, length, refl, sym, ap, ◌∙◌, arith, slice_get_past, limit_of}
 use Rattle.serde_json_path_parser.proofs.Texts.{some_next, utf8_of, step, step_one}
 use Rattle.serde_json_path_parser.proofs.parser.reader.Reader.take_char.Goals as goal
 use Rattle.serde_json_path_parser.proofs.parser.reader.Reader.take_char.Goals.{in-None+in-None-second, in-Some, in-None+in-Some-second}

@@ -1,5 +1,4 @@
-use Rattle.std.proofs.Common.{◌≡◌, ◌++◌, length}
-use Rattle.serde_json_path_parser.proofs.Words.{string_bytes, encode_utf8_all, is_name_char, front, past, left, Moves}
+use Rattle.serde_json_path_parser.proofs.Words.{◌≡◌, ◌++◌, length, string_bytes, encode_utf8_all, is_name_char, front, past, left, Moves}
 use Rattle.serde_json_path_parser.proofs.parser.reader.Reader.take_name_chars.Given as goal
 
 abbrev pub invariant-chars : goal.invariant-chars

@@ -1,5 +1,4 @@
-use Rattle.std.proofs.Common.{◌∙◌, sym}
-use Rattle.serde_json_path_parser.proofs.Words.{Some}
+use Rattle.serde_json_path_parser.proofs.Words.{◌∙◌, sym, Some}
 use Rattle.serde_json_path_parser.proofs.Texts.{ahead, some_next, first_fits}
 use Rattle.serde_json_path_parser.proofs.Reading.{some_begun}
 use Rattle.serde_json_path_parser.proofs.parser.reader.Reader.take_stretch.Goals as goal
