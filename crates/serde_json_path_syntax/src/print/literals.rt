@@ -17,11 +17,15 @@ use std::fmt::{Formatter, Write};
 impl fmt::Display for NumberLiteral {
     ghost output = { λ literal. Some (number_text (number_amount literal)) };
 
+    #[tactic(auto, using(crate::proofs::Printing::negative, crate::proofs::Printing::natural))]
     fn fmt<W: Write>(&self, f: &mut Formatter<W>) -> fmt::Result {
+        let size = self.billionths.unsigned_abs();
         if self.billionths < 0 {
             f.write_str("-")?;
+            write_amount(f, size)
+        } else {
+            write_amount(f, size)
         }
-        write_amount(f, self.billionths.unsigned_abs())
     }
 }
 
