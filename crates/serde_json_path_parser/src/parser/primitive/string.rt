@@ -4,7 +4,7 @@ ghost use Rattle.std.specs.Prelude.{◌≡◌, ◌==◌, ◌<◌, ◌≤◌, ◌
 ghost use Rattle.std.specs.Char.{IsScalar};
 ghost use Rattle.serde_json_path_parser.specs.Inside.Giving.{Gives, MovesTo, left};
 ghost use Rattle.serde_json_path_parser.specs.Lexical.{begins, IsQuote};
-ghost use Rattle.serde_json_path_parser.specs.Strings.{hexadecimal_at, hex4_at, unicode_at, piece_at, is_inside, string_at};
+ghost use Rattle.serde_json_path_parser.specs.Strings.{hexadecimal_at, hex4_at, is_high, low_at, unicode_at, piece_at, is_inside, string_at};
 
 use crate::error::{Context, Failure, ParseErrorKind as Kind};
 use crate::parser::reader::Reader;
@@ -49,19 +49,17 @@ fn parse_hex4<S: PathSource>(reader: &mut Reader<'_, S>, place: usize) -> Result
     Ok(4096 * a + 256 * b + 16 * c + d)
 }
 
-/// Parses the digits of an escape after its `u`, and the low surrogate after a high one: its character.
-#[tactic(auto, unfolding(crate::specs::Strings::unicode_at, crate::specs::Strings::low_at))]
-fn parse_unicode<S: PathSource>(reader: &mut Reader<'_, S>, place: usize) -> Result<char, Failure>
+/// Parses the low surrogate after the high one, and returns the pair's character.
+#[tactic(auto, unfolding(crate::specs::Strings::low_at))]
+fn parse_low_surrogate<S: PathSource>(
+    reader: &mut Reader<'_, S>,
+    place: usize,
+    high: u32,
+) -> Result<char, Failure>
+    requires { is_high high ≡ true }
     ensures moves { MovesTo result reader.old reader.new }
-    ensures gives { Gives (λ c. c) result reader.new (unicode_at place (left reader.old)) }
+    ensures gives { Gives (λ c. c) result reader.new (low_at place high (left reader.old)) }
 {
-    let code = parse_hex4(reader, place)?;
-    if code >= 0xdc00 && code <= 0xdfff {
-        return Err(Failure::in_long_hand(Kind::BadEscape, place));
-    }
-    if code < 0xd800 || code > 0xdbff {
-        return Ok(char::from_u32(code).unwrap());
-    }
     if !reader.sees(b'\\') {
         return Err(Failure::in_long_hand(Kind::BadEscape, place));
     }
@@ -74,7 +72,23 @@ fn parse_unicode<S: PathSource>(reader: &mut Reader<'_, S>, place: usize) -> Res
     if low < 0xdc00 || low > 0xdfff {
         return Err(Failure::in_long_hand(Kind::BadEscape, place));
     }
-    Ok(char::from_u32(0x10000 + 0x400 * (code - 0xd800) + (low - 0xdc00)).unwrap())
+    Ok(char::from_u32(0x10000 + 0x400 * (high - 0xd800) + (low - 0xdc00)).unwrap())
+}
+
+/// Parses the digits of an escape after its `u`: its character.
+#[tactic(auto, unfolding(crate::specs::Strings::unicode_at))]
+fn parse_unicode<S: PathSource>(reader: &mut Reader<'_, S>, place: usize) -> Result<char, Failure>
+    ensures moves { MovesTo result reader.old reader.new }
+    ensures gives { Gives (λ c. c) result reader.new (unicode_at place (left reader.old)) }
+{
+    let code = parse_hex4(reader, place)?;
+    if code >= 0xd800 && code <= 0xdbff {
+        return parse_low_surrogate(reader, place, code);
+    }
+    if code >= 0xdc00 && code <= 0xdfff {
+        return Err(Failure::in_long_hand(Kind::BadEscape, place));
+    }
+    Ok(char::from_u32(code).unwrap())
 }
 
 /// Parses one character of a string, or an escape that stands for one.
