@@ -4,5 +4,5 @@
 pub mod Answered
 -- what the code looks up: names of a map in order, operands, and known cases
 pub mod Lookups
--- the positions of a slice by the bounds that the code computes, and how they go on by one
+-- the positions of a slice, and how they go on by one
 pub mod Positions

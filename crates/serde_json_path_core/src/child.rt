@@ -29,6 +29,7 @@ pub(crate) fn member<'b>(value: &'b Value, name: &str) -> Option<Child<'b>>
 }
 
 #[inline]
+#[tactic(auto, using(crate::proofs::Steps::Lookups::member_found, crate::proofs::Steps::Lookups::member_missing))]
 fn member_of<'b>(members: &'b Map<String, Value>, name: &str) -> Option<Child<'b>>
     ensures { option_map child_view result
         ≡ child_by (object (members_view members.now.entries)) (by_name name.now) }
@@ -54,6 +55,7 @@ pub(crate) fn item<'b>(value: &'b Value, index: i64) -> Option<Child<'b>>
 }
 
 #[inline]
+#[tactic(auto, using(crate::proofs::Steps::Lookups::item_none, crate::proofs::Steps::Lookups::item_found))]
 fn item_of<'b>(items: &'b Vec<Value>, index: i64) -> Option<Child<'b>>
     ensures { option_map child_view result ≡ item_at (array (items_view items.now.items)) index }
 {

@@ -104,19 +104,15 @@ module _ (F : FunctionSet) (top : Data) where
       in_order-append (IsBeforeFrom number (selector sel more)) (map (triple_at down number) (selected F top sel v)) (picks_by more (number + 1) down v)
       (in_order-map (IsBeforeFrom number (selector sel more)) (triple_at down number) (selected F top sel v)
       (weaker _ _ (selected F top sel v) (λ a b h. (refl, inr (0, omega arith, omega arith, h))) (selected_ordered sel v)))
-      (weaker _ _ (picks_by more (number + 1) down v) (λ t u h. (h.0, later t u h.1)) (picks_by_ordered more (number + 1) down v))
+      (weaker _ _ (picks_by more (number + 1) down v)
+      (λ t u h. (h.0, elim h.1 [ inl less ↦ inl less | inr (m, e, f, before) ↦ inr (suc m, omega arith, omega arith, before) ]))
+      (picks_by_ordered more (number + 1) down v))
       (λ t u h g.
       let c = (in_map (triple_at down number) t (selected F top sel v)).0 h in
       let d = picks_by_place more (number + 1) down v u g in
       let e : t.0.number ≡ number = ap (λ (w : Triple × Data). w.0.number) c.2 in
       let less = d.1 in
       (ap (λ (w : Triple × Data). w.0.descent) c.2 ∙ sym d.0, inl (omega arith)))
-    where
-      later : (t u : Triple × Data)
-          → (t.0.number < u.0.number) ⊎ ((m : ℕ) × (t.0.number ≡ (number + 1) + m) × (u.0.number ≡ (number + 1) + m) × SelectedBeforeBy more m t.0.step u.0.step)
-          → (t.0.number < u.0.number) ⊎ ((m : ℕ) × (t.0.number ≡ number + m) × (u.0.number ≡ number + m) × SelectedBeforeBy (selector sel more) m t.0.step u.0.step)
-      later t u (inl h) = inl h
-      later t u (inr (m, e, f, h)) = inr (suc m, omega arith, omega arith, h)
 
   -- a segment's triples are at the node where it is applied
   pub picks_place : (seg : Segment) (down : List Step) (v : Data) (t : Triple × Data) → IsIn t (picks seg down v) → t.0.descent ≡ down
@@ -133,13 +129,13 @@ module _ (F : FunctionSet) (top : Data) where
       in_order-map (λ (t u : Triple × Data). TripleBefore dot_wildcard t.0 u.0) (triple_at down 0) (children v)
       (weaker _ _ (children v) (λ a b h. inr (refl, inr (refl, h))) (children_ordered v))
   picks_ordered (long_hand sels) down v =
-      weaker (IsBeforeFrom 0 sels) _ (picks_by sels 0 down v) (λ t u h. inr (h.0, here t u h.1)) (picks_by_ordered sels 0 down v)
-    where
-      here : (t u : Triple × Data)
-          → (t.0.number < u.0.number) ⊎ ((m : ℕ) × (t.0.number ≡ 0 + m) × (u.0.number ≡ 0 + m) × SelectedBeforeBy sels m t.0.step u.0.step)
-          → (t.0.number < u.0.number) ⊎ ((t.0.number ≡ u.0.number) × SelectedBeforeBy sels t.0.number t.0.step u.0.step)
-      here t u (inl h) = inl h
-      here t u (inr (m, e, f, h)) = let same : m ≡ t.0.number = omega arith in inr (e ∙ sym f, subst (λ n. SelectedBeforeBy sels n t.0.step u.0.step) same h)
+      weaker (IsBeforeFrom 0 sels) _ (picks_by sels 0 down v)
+      (λ t u h. inr (h.0, elim h.1 [
+        | inl less ↦ inl less
+        | inr (m, e, f, before) ↦ let same : m ≡ t.0.number = omega arith in
+            inr (e ∙ sym f, subst (λ n. SelectedBeforeBy sels n t.0.step u.0.step) same before)
+      ]))
+      (picks_by_ordered sels 0 down v)
 
   through_ordered : (kind : SegmentKind) (seg : Segment) (v : Data) → IsInOrder (λ (t u : Triple × Data). TripleBefore seg t.0 u.0) (through kind seg v)
   through_ordered kind seg v =

@@ -1,36 +1,8 @@
--- The positions of a slice by the bounds that the code computes, and how they go on by one.
+-- The positions of a slice, and how they go on by one.
 use Rattle.std.proofs.Common.{◌≡◌, ℕ, zero, suc, ◌+◌, ◌-◌, min, ◌<◌, ◌≤◌, ℤ, pos, nat_abs, List, [], ◌∷◌, drop, length, get_or, Bool, true, false, Option, Some, None, ◌⊎◌, inl, inr, refl, sym, ap, ◌∙◌, arith, true≢false}
 use Rattle.serde_json_path_core.proofs.Words.{◌+ℤ◌, ◌-ℤ◌, cases_lt, drop_more, ints, clamps, view, items_view, Value, Null, get_item_within, get_item_past}
 use Rattle.serde_json_path_core.proofs.Words.{by_position, Slice, bound_of, SlicePositions, items_from, count_within, strided, falling, next_position}
 use Rattle.serde_json_path_core.proofs.Meaning.SlicePositions.{next_strided}
-
--- ---- the positions of a slice
-
--- where falling positions begin: so many items are up to there
-abbrev pub top_of : Option ℤ → ℕ → ℤ
-top_of start len = bound_of (pos len) start (pos len -ℤ pos 1) (pos 0 -ℤ pos 1) (pos len -ℤ pos 1) +ℤ pos 1
-
--- where falling positions end
-abbrev pub bottom_of : Option ℤ → ℕ → ℤ
-bottom_of end len = bound_of (pos len) end ((pos 0 -ℤ pos len) -ℤ pos 1) (pos 0 -ℤ pos 1) (pos len -ℤ pos 1) +ℤ pos 1
-
--- with no start given all items stand up to there
-pub top_of-none : (len : ℕ) → pos len ≡ top_of None len
-top_of-none len = grind (arith, ints, clamps)
-
--- with no end given none do
-pub bottom_of-none : (len : ℕ) → pos 0 ≡ bottom_of None len
-bottom_of-none len = grind (arith, ints, clamps)
-
--- falling positions by the numbers of items up to its start and up to its end
-pub falling-counted : (s : Slice) (len stride start end first count : ℕ) → pos start ≡ top_of s.start len → pos end ≡ bottom_of s.end len → first ≡ start - 1 → count ≡ count_within (start - end) stride
-    → ◌≡◌ {A = SlicePositions} (record { upwards = false; first = first; stride = stride; count = count }) (falling s len stride)
-falling-counted s len stride start end first count from upto f g =
-    let a : start ≡ nat_abs (top_of s.start len) = ap nat_abs from in
-    let b : end ≡ nat_abs (bottom_of s.end len) = ap nat_abs upto in
-    rw (f, g, a, b) refl
-
--- ---- one position more
 
 pub first_is : {A : Type 0} {xs ys : List A} {x : A} → xs ≡ x ∷ ys → xs ≡ x ∷ drop 1 xs
 first_is {A} {xs} {ys} {x} e = e ∙ ap (λ zs. x ∷ drop 1 zs) (sym e)
@@ -65,3 +37,6 @@ pub strided-down : (items : List Value) (count : ℕ) (upwards : Bool) (first st
     → strided count upwards (next_position upwards first stride) stride (items_view items) ≡ strided count upwards next stride (items_view items)
 strided-down items count true first stride next down is = absurd (true≢false down)
 strided-down items count false first stride next down is = ap (λ p. strided count false p stride (items_view items)) (sym is)
+
+-- one position, and those after it
+pub ruleset of_positions = (first_is, strided-none, strided-first)

@@ -72,14 +72,8 @@ impl SlicePositions {
         requires { 0 < stride }
         ensures { positions_view result ≡ falling (slice_view slice.now) len stride }
     {
-        let start = match slice.start {
-            None => len,
-            Some(bound) => items_up_to(bound, len),
-        };
-        let end = match slice.end {
-            None => 0,
-            Some(bound) => items_up_to(bound, len),
-        };
+        let start = items_up_to_start(slice.start, len);
+        let end = items_up_to_end(slice.end, len);
         SlicePositions {
             upwards: false,
             next: start.saturating_sub(1),
@@ -89,6 +83,7 @@ impl SlicePositions {
     }
 
     /// The item at the next position, if one is left.
+    #[tactic(auto, using(crate::proofs::Steps::Positions::of_positions))]
     pub(crate) fn peek<'b>(&self, items: &'b [Value]) -> Option<Child<'b>>
         ensures { MatchOption result (positions_left self.now items.now ≡ [])
             (λ c. positions_left self.now items.now
@@ -105,6 +100,7 @@ impl SlicePositions {
     }
 
     /// Passes the item at the next position, if one is left.
+    #[tactic(auto, using(crate::proofs::Steps::Positions::of_positions))]
     pub(crate) fn pass(&mut self, items: &[Value])
         ensures { positions_left self.new items.now ≡ drop 1 (positions_left self.old items.now) }
     {
@@ -131,6 +127,30 @@ fn items_before(bound: i64, len: usize) -> usize
         distance.min(len)
     } else {
         len.saturating_sub(distance)
+    }
+}
+
+/// Items up to and including the start of falling positions.
+#[tactic(auto, using(std::proofs::lemmas::Int::ints, std::proofs::lemmas::Int::clamps))]
+fn items_up_to_start(start: Option<i64>, len: usize) -> usize
+    ensures { let last = pos len -ℤ pos 1 in
+        pos result ≡ (bound_of (pos len) start last (pos 0 -ℤ pos 1) last +ℤ pos 1) }
+{
+    match start {
+        None => len,
+        Some(bound) => items_up_to(bound, len),
+    }
+}
+
+/// Items up to and including the end of falling positions.
+#[tactic(auto, using(std::proofs::lemmas::Int::ints, std::proofs::lemmas::Int::clamps))]
+fn items_up_to_end(end: Option<i64>, len: usize) -> usize
+    ensures { let last = pos len -ℤ pos 1 in pos result
+        ≡ (bound_of (pos len) end ((pos 0 -ℤ pos len) -ℤ pos 1) (pos 0 -ℤ pos 1) last +ℤ pos 1) }
+{
+    match end {
+        None => 0,
+        Some(bound) => items_up_to(bound, len),
     }
 }
 

@@ -56,6 +56,7 @@ pub(crate) fn located_at<'b>(
 }
 
 /// Passes the next task of the last frame.
+#[tactic(auto, using(crate::proofs::Walks::Turns::sees_passed))]
 fn pass_last<'b>(frames: &mut Vec<Frame<'b>>)
     requires { 0 < length frames.old.items }
     ensures { frames_view frames.new.items ≡ last_passed (frames_view frames.old.items) }

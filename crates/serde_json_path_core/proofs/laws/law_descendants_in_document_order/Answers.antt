@@ -56,17 +56,10 @@ module _ (F : FunctionSet) (top : Data) where
         (flat_map-flat_map at_node below_child (children v)
         ∙ flat_map-same (λ c. flat_map at_node (below_child c)) (λ (c : Step × Data). map (beneath (c.0 ∷ [])) (results F top (query current (segment descendant seg more)) c.1)) in_subtree (children v))
 
-    -- the result is the child segment's, then those of the children's subtrees
-    descendants_in_document_order : (v : Data) (cs : List (Step × Data)) (list here below : List Located)
-        → IsTyped F.signature (query current (segment descendant seg more)) → IsResult F top (query current (segment descendant seg more)) v list
-        → IsResult F top (query current (segment child seg more)) v here → AreChildren v cs → AreSubtreeResults F top (query current (segment descendant seg more)) cs below
-        → list ≡ here ++ below
-    descendants_in_document_order v cs list here below typed is_list is_here are_children are_below =
-        let whole = query current (segment descendant seg more) in
-        computed_only F top whole v list typed is_list ∙ node_then_subtrees v
-        ∙ ap (λ ns. ns ++ subtrees whole (children v)) (sym (computed_only F top (query current (segment child seg more)) v here typed is_here))
-        ∙ ap (λ ns. here ++ ns) (sym (subtree_results whole cs below typed are_below ∙ ap (subtrees whole) (children_are v cs are_children)))
-
 pub returns : goal.returns
 returns c = λ F top seg more v cs list here below typed is_list is_here are_children are_below.
-    descendants_in_document_order F top seg more v cs list here below typed is_list is_here are_children are_below
+    let whole = query current (segment descendant seg more) in
+    let all = subtrees F top whole in
+    computed_only F top whole v list typed is_list ∙ node_then_subtrees F top seg more v
+    ∙ ap (λ ns. ns ++ all (children v)) (sym (computed_only F top (query current (segment child seg more)) v here typed is_here))
+    ∙ ap (λ ns. here ++ ns) (sym (subtree_results F top whole cs below typed are_below ∙ ap all (children_are v cs are_children)))

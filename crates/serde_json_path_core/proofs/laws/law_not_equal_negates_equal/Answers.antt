@@ -10,9 +10,8 @@ compared_once : (F : FunctionSet) (top : Data) (a : Comparable) (v : Data) (x y 
 compared_once F top a v x y typed h g = same_Some x y (sym ((compared_right F top a typed v x).0 h) ∙ (compared_right F top a typed v y).0 g)
 
 -- each side stands for something, so that one of the two comparisons holds
-not_equal_negates : (F : FunctionSet) (top : Data) (a b : Comparable) (v : Data) → KeepsTypes F → IsTypedComparable F.signature a → IsTypedComparable F.signature b
-    → HoldsBasic F top (relation a not_equal b) v ↔ (HoldsBasic F top (relation a equal b) v → ⊥)
-not_equal_negates F top a b v keeps typed_a typed_b = (
+pub returns : goal.returns
+returns c = λ F top a b v keeps typed_a typed_b. (
   λ h g. h.4 (subst (λ x. AreEqual F.numbers x h.1) (compared_once F top a v g.0 h.0 typed_a g.2 h.2)
       (subst (AreEqual F.numbers g.0) (compared_once F top b v g.1 h.1 typed_b g.3 h.3) g.4)),
   λ never.
@@ -22,6 +21,3 @@ not_equal_negates F top a b v keeps typed_a typed_b = (
       let right = (compared_right F top b typed_b v y.0).1 y.1 in
       (x.0, y.0, left, right, λ same. never (x.0, y.0, left, right, same)),
 )
-
-pub returns : goal.returns
-returns c = λ F top a b v keeps typed_a typed_b. not_equal_negates F top a b v keeps typed_a typed_b

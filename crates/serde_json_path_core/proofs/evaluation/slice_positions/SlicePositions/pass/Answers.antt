@@ -1,14 +1,8 @@
-use Rattle.std.proofs.Common.{◌≡◌, ◌-◌, ◌^◌, ◌<◌, length, drop, inl, inr, ap, ◌∙◌, sym, arith, rules}
+use Rattle.std.proofs.Common.{◌≡◌, ◌-◌, ◌^◌, ◌<◌, length, drop, ap, ◌∙◌, sym, arith, rules}
 use Rattle.serde_json_path_core.proofs.Words.{items_view, Null, strided, next_position}
-use Rattle.serde_json_path_core.proofs.Steps.Positions.{strided-none, strided-first, strided-up, strided-down}
+use Rattle.serde_json_path_core.proofs.Steps.Positions.{strided-first, strided-up, strided-down}
 use Rattle.serde_json_path_core.proofs.evaluation.slice_positions.SlicePositions.pass.Goals as goal
 use Rattle.serde_json_path_core.proofs.evaluation.slice_positions.SlicePositions.pass.Goals.{then-self, else-self}
-
-pub returns-then-self-eq0 : goal.returns-then-self-eq0
-returns-then-self-eq0 c =
-    let self = c.args.self.now in
-    let none = strided-none c.args.items.now self.left self.upwards self.next self.stride (elim c.then-self-eq0.either [ inl e ↦ inl e | inr h ↦ inr h.1 ]) in
-    none ∙ ap (drop 1) (sym none)
 
 pub returns : goal.returns
 returns c =
