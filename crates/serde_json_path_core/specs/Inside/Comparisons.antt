@@ -7,7 +7,7 @@ use Rattle.serde_json_path_syntax.specs.declared.node.Part.{Part}
 use Rattle.serde_json_path_syntax.specs.Flat.{call_at, segments_at}
 use Rattle.serde_json_path_syntax.specs.Kinds.{are_singular}
 use Rattle.serde_json_path_syntax.specs.Literals.{operator_view}
-use Rattle.serde_json_path_syntax.specs.Tree.{Operator}
+use Rattle.serde_json_path_syntax.specs.Tree.{Operator, Selector}
 use Rattle.serde_json_path_syntax.specs.PartBounds.{parts_bound}
 use Rattle.serde_json_path_syntax.specs.Typing.{result_kind}
 use Rattle.serde_json_path_core.specs.Compared.{Compared, value_compared}
@@ -28,10 +28,14 @@ use Rattle.serde_json_path_core.specs.declared.filter.comparison.SideForm.TheVar
 abbrev pub first_compared : List Data → Compared
 first_compared vs = value_compared (slice_get vs 0)
 
+-- the child of a value that a selector selects, or Nothing
+abbrev pub child_compared : Selector → Data → Compared
+child_compared sel v = first_compared (map (λ (c : Step × Data). c.1) (candidates sel v))
+
 -- what a side of that form stands for, with `@` at the value
 abbrev pub plain_compared : {F : Type 0} {g : _} → Scope F g → PlainForm → Data → Compared
 plain_compared scope (Fixed side) v = side_view side
-plain_compared scope (Child single) v = first_compared (map (λ (c : Step × Data). c.1) (candidates (single_view single) v))
+plain_compared scope (Child single) v = child_compared (single_view single) v
 plain_compared scope (Descent segments) v = first_compared (values_of_segments scope segments.now v)
 
 abbrev pub compared_by : {F : Type 0} {g : _} → Scope F g → SideForm → Data → Option Compared

@@ -2,7 +2,7 @@
 
 ghost use Rattle.std.specs.Prelude.{◌≡◌, Some, option_map, true};
 ghost use Rattle.serde_json.specs.Data.{number as number_data};
-ghost use Rattle.serde_json.specs.View.{number_view};
+ghost use Rattle.serde_json.specs.View.{number_view, view};
 ghost use Rattle.serde_json_path_functions.specs.Functions.{kind_of_term, of_value};
 ghost use Rattle.serde_json_path_functions.specs.Terms.{term_view};
 ghost use Rattle.serde_json_path_nodes.specs.Views.{node_value};
@@ -12,9 +12,9 @@ ghost use Rattle.serde_json_path_numbers.specs.Views.{exact_view};
 ghost use Rattle.serde_json_path_syntax.specs.Flat.{held_view};
 ghost use Rattle.serde_json_path_syntax.specs.Kinds.{literal_fits};
 ghost use Rattle.serde_json_path_core.specs.Inside.Sides.{side_view};
-ghost use Rattle.serde_json_path_core.specs.Inside.Views.{child_view};
+ghost use Rattle.serde_json_path_core.specs.Inside.Computed.{item_at};
 
-use crate::child::Child;
+use crate::child::item;
 use serde_json::{Number, Value};
 use serde_json_path_functions::{FunctionValue, ValueType};
 use serde_json_path_numbers::ExactNumber;
@@ -45,13 +45,12 @@ pub(crate) fn side_of_value(found: Option<&Value>) -> Side<'_>
     }
 }
 
-/// A child's value, or Nothing without a child.
+/// The item of an array at an index, or Nothing.
 #[inline(always)]
-pub(crate) fn side_of_child<'b>(child: Option<Child<'b>>) -> Side<'b>
-    ensures { side_view result
-        ≡ value_compared (option_map (λ c. c.1) (option_map child_view child.entry)) }
+pub(crate) fn side_of_item(value: &Value, index: i64) -> Side<'_>
+    ensures { side_view result ≡ value_compared (option_map (λ c. c.1) (item_at (view value.now) index)) }
 {
-    match child {
+    match item(value, index) {
         Some(child) => Side::Value(child.value),
         None => Side::Nothing,
     }
