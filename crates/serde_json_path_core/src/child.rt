@@ -18,7 +18,8 @@ pub(crate) struct Child<'b> {
 }
 
 /// The member of that name, if the value is an object that has it.
-#[inline]
+// Inlined, so that a search for a value alone makes no `Child`.
+#[inline(always)]
 pub(crate) fn member<'b>(value: &'b Value, name: &str) -> Option<Child<'b>>
     ensures { option_map child_view result ≡ child_by (view value.now) (by_name name.now) }
 {
