@@ -309,7 +309,8 @@ impl<'s, S: PathSource> Reader<'s, S> {
     }
 
     /// Takes one or more characters of a class, the first of which is next, and appends them to a text.
-    #[inline(always)]
+    // Out of line, so that a loop that takes one character at a time keeps its registers.
+    #[inline(never)]
     pub(crate) fn take_stretch<C: Class>(
         &mut self,
         class: &C,
