@@ -1,5 +1,5 @@
 -- Steps of the code: rows of items that a loop reads, how the builder grows by them, arguments, and what stands in filters.
-use Rattle.std.proofs.Common.{◌≡◌, ◌≤◌, ℕ, List, [], ◌∷◌, ◌++◌, inl, inr, Some, Option, Result, Ok, Err, refl, sym, ap, subst, ◌∙◌, append_assoc, ◌<◌, Bool, true, false, length, arith, drop, None, zero, suc, ◌-◌}
+use Rattle.std.proofs.Common.{cond, ◌≡◌, ◌≤◌, ℕ, List, [], ◌∷◌, ◌++◌, inl, inr, Some, Option, Result, Ok, Err, refl, sym, ap, subst, ◌∙◌, append_assoc, ◌<◌, Bool, true, false, length, arith, drop, None, zero, suc, ◌-◌}
 use Rattle.serde_json_path_parser.proofs.Words.{◌↔◌, append-nil, map-append, name_of, names_of, calls_in_segments, calls_from, calls_in_arguments}
 use Rattle.serde_json_path_parser.proofs.Words.{KeepsParts, KeepsTrees, calls_in, AreDeclared, MayFinish, deepest, names_in, IsTyped, depth, Part}
 use Rattle.serde_json_path_parser.proofs.Words.{query, root, Segments, Call, call, Arguments, SyntaxBuilder, Signature, Grows, Parsed, Failure}
@@ -14,7 +14,9 @@ use Rattle.serde_json_path_parser.proofs.Words.{an_argument, Gives, MakesArgumen
 use Rattle.serde_json_path_parser.proofs.Words.{Literal, ExpectedExpression, Operand, a_literal, word, past_word, literal_word_at, literal_word}
 use Rattle.serde_json_path_parser.proofs.Words.{of_value, kind_view, is_result, ◌==◌, filter, byte_count, or_at, call_at, IsTrue, calls_in_operand}
 use Rattle.serde_json_path_parser.proofs.Words.{alone, is_singular, is_whole, is_value_literal, number, IsValueLiteral, Query, IsSingular}
-use Rattle.serde_json_path_parser.specs.Inside.Giving.{MakesSo}
+use Rattle.serde_json_path_parser.proofs.Words.{cases_Bool, not_test, result_kind, WrongReturnType, begins_call, named_call_at, named_at}
+use Rattle.serde_json_path_parser.proofs.Words.{negated_call_at, negated_at, a_call}
+use Rattle.serde_json_path_parser.specs.Inside.Giving.{MakesSo, IsOperandOf}
 use Rattle.serde_json_path_syntax.proofs.Names.Finishing.{may_finish}
 use Rattle.serde_json_path_syntax.proofs.Lists.{in_append}
 use Rattle.serde_json_path_syntax.specs.Piece.{calls_in_piece}
@@ -27,6 +29,8 @@ use Rattle.serde_json_path_parser.proofs.Grammar.LogicalExpressions.{next_basic_
 use Rattle.serde_json_path_parser.proofs.Grammar.Segments as segments
 use Rattle.serde_json_path_parser.specs.declared.error.Context.TheVariants as context
 use Rattle.serde_json_path_parser.proofs.Reading.{first_fails, begins_differs}
+use Rattle.serde_json_path_parser.specs.declared.parser.operand.Operand as operands
+use Rattle.serde_json_path_parser.specs.declared.parser.operand.Operand.TheVariants as the_operands
 use denote.Enum.Bare.{sameb}
 use Rattle.serde_json_path_functions.specs.contracts.types.FunctionArgType.{the_type}
 use Rattle.serde_json_path_functions.specs.declared.types.FunctionArgType.{FunctionArgType}
@@ -395,6 +399,37 @@ module _ (signature : List ℕ → Option Signature) (deeper : Deeper) where
 pub value_kind : (kind : FunctionArgType) → is_result of_value (Some (kind_view kind)) ≡ sameb the_type kind results.Value
 value_kind results.Value = refl
 value_kind _ = refl
+
+-- ---- a name after `!`
+
+module _ (signature : List ℕ → Option Signature) (cs : List ℕ) where
+  -- what is made of the operand that the name begins
+  abbrev negated : Operand → List ℕ → Parsed Basic
+  negated (a_call c) rest = cond (is_result of_value (result_kind signature c)) (Err (refusal WrongReturnType context.LongHand cs)) (Ok (not_test c, rest))
+  negated o rest = Err (refusal ExpectedExpression context.LongHand cs)
+
+  -- what is no call may not stand there
+  pub no_call : (builder : SyntaxBuilder) (o : operands.Operand) (x : Operand) (rest : List ℕ) → ((part : Part) (kind : FunctionArgType) → o ≡ the_operands.Call part kind → ⊥)
+      → IsOperandOf signature builder o x → negated x rest ≡ Err (refusal ExpectedExpression context.LongHand cs)
+  no_call builder (the_operands.Literal l) x rest other h = rw h refl
+  no_call builder (the_operands.Query part) x rest other h = rw h.1 refl
+  no_call builder (the_operands.Call part kind) x rest other h = absurd (other part kind refl)
+
+  module _ (deeper : Deeper) where
+    pub negated_named : is_at "(" cs ≡ false → is_at "@" cs ≡ false → is_at "$" cs ≡ false → negated_at signature deeper cs ≡ (named_at signature deeper cs >>= λ o. negated o.0 o.1)
+    unfolding named_at negated_at negated_call_at
+    negated_named no_parenthesis no_current no_root = rw (no_parenthesis, no_current, no_root) (elim (cases_Bool (begins_call cs)) [
+      | inl e ↦ rw e (by_call (named_call_at signature deeper cs))
+      | inr e ↦ rw (e, literal_word_reads cs) (by_word (literal_word (word cs)))
+    ])
+      where
+        by_call : (read : Parsed Call) → (read >>= λ c. negated (a_call c.0) c.1) ≡ ((read >>= λ c. Ok (a_call c.0, c.1)) >>= λ (o : Operand × List ℕ). negated o.0 o.1)
+        by_call (Ok c) = refl
+        by_call (Err d) = refl
+
+        by_word : (l : Option Literal) → Err (refusal ExpectedExpression context.LongHand cs) ≡ (read_literal l cs >>= λ o. negated o.0 o.1)
+        by_word (Some l) = refl
+        by_word None = refl
 
 -- ---- the steps of the code at operands, and at what an argument's type is
 

@@ -99,7 +99,6 @@ fn parse_end<S: PathSource>(
 impl<F: Functions> Parser<'_, F> {
     /// Parses a call of the function of that name, from its `(` on, and the blanks after it: the call, and the type
     /// of its result. `place` bytes are left where the call begins.
-    #[inline(always)]
     #[cycle(filters)]
     #[tactic(auto, unfolding(crate::specs::Filters::level))]
     pub(crate) fn parse_call<S: PathSource>(

@@ -17,7 +17,6 @@ use crate::error::{Context, Failure, ParseErrorKind as Kind};
 use crate::parser::Parser;
 use crate::parser::operand::Operand;
 use crate::parser::primitive::operator::parse_operator;
-use crate::parser::primitive::word::read_word;
 use crate::parser::reader::Reader;
 use crate::source::PathSource;
 use serde_json_path_functions::{FunctionArgType, Functions};
@@ -221,7 +220,7 @@ impl<F: Functions> Parser<'_, F> {
     // Inlined into `parse_basic`, it would widen the stack frame of each parenthesis.
     #[inline(never)]
     #[cycle(filters)]
-    #[tactic(auto, unfolding(crate::specs::Filters::negated_at, crate::specs::Filters::negated_call_at, crate::specs::Filters::named_call_at))]
+    #[tactic(auto, unfolding(crate::specs::Filters::negated_at))]
     fn parse_negated<S: PathSource>(
         &self,
         builder: &mut SyntaxBuilder,
@@ -248,11 +247,9 @@ impl<F: Functions> Parser<'_, F> {
             return Err(reader.refuse(Kind::ExpectedExpression, Context::LongHand));
         }
         let place = reader.bytes_left();
-        let word = read_word(self.alloc, reader)?;
-        if !reader.sees(b'(') {
+        let Operand::Call(call, result) = self.parse_named(builder, reader)? else {
             return Err(Failure::in_long_hand(Kind::ExpectedExpression, place));
-        }
-        let (call, result) = self.parse_call(builder, reader, place, word)?;
+        };
         if result == FunctionArgType::Value {
             return Err(Failure::in_long_hand(Kind::WrongReturnType, place));
         }

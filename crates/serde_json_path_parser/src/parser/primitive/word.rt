@@ -11,7 +11,6 @@ use serde_json_path_syntax::Literal;
 use std::alloc::{AllocError, Global};
 
 /// Reads the word that is next (RFC 9535, sections 2.3.5.1 and 2.4).
-#[inline(always)]
 pub(crate) fn read_word<S: PathSource>(
     alloc: Global,
     reader: &mut Reader<'_, S>,

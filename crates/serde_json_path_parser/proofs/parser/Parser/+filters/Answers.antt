@@ -5,10 +5,10 @@ use Rattle.serde_json_path_parser.proofs.Words.{logical_argument, call, number, 
 use Rattle.serde_json_path_parser.proofs.Words.{and_list, or_list, named_at, signatures, deeper, begins, opens, a_literal, a_call, left, common_steps}
 use Rattle.serde_json_path_parser.proofs.Words.{bracket_at, next_selector_at, selectors_at, selector_list, next_segment_at, segments_at, segment_list}
 use Rattle.serde_json_path_parser.proofs.Words.{argument_at, logical_from, arguments_at, operand_at, named_call_at, call_at, basic_from, relation_at}
-use Rattle.serde_json_path_parser.proofs.Words.{right_side_at, query_at, negated_at, negated_call_at, and_from, or_from, next_basic_at, next_and_at}
+use Rattle.serde_json_path_parser.proofs.Words.{right_side_at, query_at, negated_at, and_from, or_from, next_basic_at, next_and_at, calls_in_operand}
 use Rattle.serde_json_path_parser.specs.Inside.Giving.{filter_at}
 use Rattle.serde_json_path_parser.specs.Operands.{a_query}
-use Rattle.serde_json_path_parser.proofs.Steps.{none_made, one_more, first_refused, first_open, alone_calls, literal_word_reads, level_down, at_mark, value_kind, grows_none, grows_kept, grows_same, grows_then, grows_call, grown_so, begins_row, row_fails, row_shorter, row_goes_on, row_done, segments_stand, selectors_stand, ors_stand, ands_stand, segment_shorter, some_selectors, some_ors, some_ands}
+use Rattle.serde_json_path_parser.proofs.Steps.{none_made, one_more, first_refused, first_open, alone_calls, literal_word_reads, level_down, at_mark, value_kind, negated_named, no_call, grows_none, grows_kept, grows_same, grows_then, grows_call, grown_so, begins_row, row_fails, row_shorter, row_goes_on, row_done, segments_stand, selectors_stand, ors_stand, ands_stand, segment_shorter, some_selectors, some_ors, some_ands}
 use Rattle.serde_json_path_syntax.specs.Flat.{segment_kind_view, kind_view as query_kind_view}
 use Rattle.serde_json_path_parser.proofs.parser.Parser.+filters.Goals as goal
 use Rattle.serde_json_path_syntax.specs.Tree as tree
@@ -227,15 +227,33 @@ parse_negated-returns-then-sees-3-clause-gives g t c =
     let q = c.in_ok-query-2.ensures.gives in
     (tree.not_exist q.0, c.in_ok-not_exist-2.ensures.made q.0 q.1, grind (arith, common_steps), grows_kept q.3 c.not_exist-then-sees-3.ensures.keeps)
 
+pub parse_negated-returns-in_err-call-clause-gives : goal.parse_negated-returns-in_err-call-clause-gives
+parse_negated-returns-in_err-call-clause-gives g t c =
+    let p = err_from_is_err_and c.from_residual-in_err-call.result c.from_residual-in_err-call.ensures.1 in
+    rw (p.1, p.2, negated_named _ _ _ (sym c.sees.ensures ∙ c.if-sees.false) (sym c.sees-2.ensures ∙ c.if-sees-2.false) (sym c.sees-3.ensures ∙ c.if-sees-3.false)) (first_fails c.in_err-call.field-0.0 _ _ c.in_err-call.ensures.gives)
+
+pub parse_negated-returns-in_default : goal.parse_negated-returns-in_default
+parse_negated-returns-in_default g t c =
+    let o = c.in_ok-call.ensures.gives in
+    record {
+      moves = record { moves = c.parse_named.ensures.moves.moves; near = rw c.in_long_hand.ensures (λ e. absurd cc) };
+      gives = rw (c.in_long_hand.ensures, c.bytes_left-place.ensures.value, negated_named _ _ _ (sym c.sees.ensures ∙ c.if-sees.false) (sym c.sees-2.ensures ∙ c.if-sees-2.false) (sym c.sees-3.ensures ∙ c.if-sees-3.false), o.2) (no_call _ _ c.parse_named.new.builder _ o.0 _ c.in_default.not-Call o.1);
+    }
+
+pub parse_negated-returns-then-eq-clause-gives : goal.parse_negated-returns-then-eq-clause-gives
+parse_negated-returns-then-eq-clause-gives g t c =
+    let o = c.in_ok-call.ensures.gives in
+    let f = rw c.in-Call.is at o.1 in
+    rw (c.in_long_hand-then-eq.ensures, c.bytes_left-place.ensures.value, negated_named _ _ _ (sym c.sees.ensures ∙ c.if-sees.false) (sym c.sees-2.ensures ∙ c.if-sees-2.false) (sym c.sees-3.ensures ∙ c.if-sees-3.false), o.2, f.1, f.3, value_kind c.in-Call.result ∙ sym c.eq.ensures ∙ c.if-eq.true) refl
+
 pub parse_negated-returns-clause-gives : goal.parse_negated-returns-clause-gives
-unfolding negated_at negated_call_at named_call_at
 parse_negated-returns-clause-gives g t c =
-    let k = rw c.bytes_left-place.ensures.value at c.in_ok-call.ensures.gives in
-    let no_value = value_kind c.in_ok-call.result ∙ sym c.eq.ensures ∙ c.if-eq.false in (
-      tree.not_test k.0,
-      c.in_ok-not_test.ensures.made k.0 k.1.0,
-      grind (arith, common_steps, k.2, k.1.1, no_value),
-      grows_kept k.3 c.not_test.ensures.keeps,
+    let o = c.in_ok-call.ensures.gives in
+    let f = rw c.in-Call.is at o.1 in (
+      tree.not_test f.0,
+      c.in_ok-not_test.ensures.made f.0 f.2,
+      rw (negated_named _ _ _ (sym c.sees.ensures ∙ c.if-sees.false) (sym c.sees-2.ensures ∙ c.if-sees-2.false) (sym c.sees-3.ensures ∙ c.if-sees-3.false), o.2) (simp (f.1, f.3, value_kind c.in-Call.result ∙ sym c.eq.ensures ∙ c.if-eq.false) refl),
+      grows_kept (grows_same (ap calls_in_operand f.1) o.3) c.not_test.ensures.keeps,
     )
 
 pub parse_operand-returns-then-sees-3-clause-gives : goal.parse_operand-returns-then-sees-3-clause-gives
