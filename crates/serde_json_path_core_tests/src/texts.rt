@@ -131,8 +131,11 @@ pub fn of_walk<F: Functions + Drop>(
 }
 
 /// The locations that a walk gives, of which a call that is refused is made again.
-pub fn of_calls<F: Functions>(alloc: Global, walk: &mut Walk<'_, '_, F>) -> Result<String, Fail> {
-    match given(alloc, walk)? {
+pub fn of_calls<F: Functions + Drop>(
+    alloc: Global,
+    mut walk: Walk<'_, '_, F>,
+) -> Result<String, Fail> {
+    match given(alloc, &mut walk)? {
         (text, true) => Ok(format!(in alloc; "{text}, after no memory")?),
         (text, false) => Ok(text),
     }

@@ -196,6 +196,6 @@ fn next(rt: HostRuntime) -> Result<(), Fail> {
     hold_rows(&rt, rt.alloc(), LOCATIONS, |alloc, path| {
         let path = JsonPath::parse_with(alloc, path, &Samples)?;
         let document = Value::from_str(alloc, SQUARE)?;
-        of_calls(alloc, &mut path.walk(alloc, &document, &Samples)?)
+        of_calls(alloc, path.walk(alloc, &document, &Samples)?)
     })
 }

@@ -282,7 +282,7 @@ fn of_next<F: Functions>(alloc: Global, functions: &F, row: &str) -> Result<Stri
     let (path, document) = fields(row)?;
     let path = JsonPath::parse_with(alloc, path, functions)?;
     let document = Value::from_str(alloc, document)?;
-    of_calls(alloc, &mut path.walk(alloc, &document, functions)?)
+    of_calls(alloc, path.walk(alloc, &document, functions)?)
 }
 
 #[test]

@@ -2,17 +2,17 @@
 
 use crate::tests::sets::Own;
 use serde_json::Value;
-use serde_json_path::functions::{Both, Builtin, CachedPatterns, Functions, PatternStore};
-use serde_json_path::{JsonPath, PathElement, QueryError, Walk};
+use serde_json_path::functions::{Builtin, CachedPatterns, Functions, PatternStore};
+use serde_json_path::{JsonPath, LocatedNode, PathElement, QueryError, Walk};
 use serde_json_path_core_tests::rows::{Table, fields, hold_rows};
 use std::alloc::Global;
 use std::process::Abort;
 use std::test::Fail;
 
 /// What a walk answers to so many calls: locations, `none` for none, and how many of the calls are refused memory.
-fn walked<F: Functions>(
+fn walked<F: Functions + Drop>(
     alloc: Global,
-    walk: &mut Walk<'_, '_, F>,
+    mut walk: Walk<'_, '_, F>,
     calls: u32,
 ) -> Result<String, Fail> {
     let mut text = String::new(alloc);
@@ -38,8 +38,7 @@ pub(crate) fn of_walk<F: Functions>(
 ) -> Result<String, Fail> {
     let document = Value::from_str(alloc, document)?;
     let path = JsonPath::parse_with(alloc, path, functions)?;
-    let mut walk = path.walk(alloc, &document, functions)?;
-    walked(alloc, &mut walk, calls)
+    walked(alloc, path.walk(alloc, &document, functions)?, calls)
 }
 
 /// A path, a document, and what five calls of the walk answer.
@@ -57,9 +56,9 @@ fn walks_give_one_node_after_the_other(rt: HostRuntime) -> Result<(), Fail> {
 }
 
 /// What a walk answers to so many calls that hand in the steps of the node before, as [`walked`] gives it.
-fn walked_into<F: Functions>(
+fn walked_into<F: Functions + Drop>(
     alloc: Global,
-    walk: &mut Walk<'_, '_, F>,
+    mut walk: Walk<'_, '_, F>,
     calls: u32,
 ) -> Result<String, Fail> {
     let mut text = String::new(alloc);
@@ -86,8 +85,7 @@ fn walks_give_the_same_into_steps(rt: HostRuntime) -> Result<(), Fail> {
         let (path, document) = fields(given)?;
         let document = Value::from_str(alloc, document)?;
         let path = JsonPath::parse_with(alloc, path, &Builtin)?;
-        let mut walk = path.walk(alloc, &document, &Builtin)?;
-        walked_into(alloc, &mut walk, 5)
+        walked_into(alloc, path.walk(alloc, &document, &Builtin)?, 5)
     })
 }
 
@@ -105,8 +103,7 @@ fn walks_go_under_a_set_alone(rt: HostRuntime) -> Result<(), Fail> {
         let path = JsonPath::parse(alloc, path)?;
         let store = PatternStore::new();
         let functions = CachedPatterns::new(alloc, &store);
-        let mut walk = path.walk_under(alloc, &document, functions)?;
-        walked(alloc, &mut walk, 3)
+        walked(alloc, path.walk_under(alloc, &document, functions)?, 3)
     })
 }
 
@@ -147,28 +144,24 @@ fn zeros(alloc: Global, number: usize) -> Result<Value, Fail> {
     Ok(Value::Array(items))
 }
 
-/// Whether the walk gives the item of that number next.
-fn gives_item<F: Functions>(
-    walk: &mut Walk<'_, '_, Both<&F, Builtin>>,
-    number: usize,
-) -> Result<bool, QueryError> {
-    match walk.next()? {
-        Some(node) => Ok(node.location().get(0) == Some(PathElement::Index(number))),
-        None => Ok(false),
-    }
+/// Whether a node is the item of that number.
+fn is_item(node: &LocatedNode<'_>, number: usize) -> bool {
+    node.location().get(0) == Some(PathElement::Index(number))
 }
 
 /// The walk gives so many items, and keeps one or two places before each. After the last it keeps none.
 fn keeps_few_places<F: Functions>(
     rt: &impl Abort,
-    walk: &mut Walk<'_, '_, Both<&F, Builtin>>,
+    walk: &mut Walk<'_, '_, F>,
     number_of_items: usize,
 ) -> Result<(), Fail> {
     for number in 0..number_of_items {
-        assert!(rt; walk.places() == 1 || walk.places() == 2);
-        assert!(rt; gives_item(walk, number)?);
+        assert!(rt; matches!(walk.places(), 1 | 2));
+        let node = walk.next()?;
+        assert!(rt; node.is_some_and(|node| is_item(&node, number)));
     }
-    assert!(rt; walk.next()?.is_none() && walk.places() == 0);
+    assert!(rt; walk.next()?.is_none());
+    assert!(rt; walk.places() == 0);
     Ok(())
 }
 
