@@ -55,13 +55,13 @@ pub in_keep : {A : Type 0} (p : A → Bool) (x : A) (xs : List A) → IsIn x (ke
 in_keep p x [] = (λ h. absurd h, λ h. h.0)
 in_keep p x (z ∷ xs) = let later = in_keep p x xs in elim (cases_Bool (p z)) [
   | inl e ↦ rw e (
-      elim [ inl g ↦ (inl g, ap p g ∙ e) | inr g ↦ let k = later.0 g in (inr k.0, k.1) ],
-      λ h. elim h.0 [ inl g ↦ inl g | inr g ↦ inr (later.1 (g, h.1)) ],
-    )
+    elim [ inl g ↦ (inl g, ap p g ∙ e) | inr g ↦ let k = later.0 g in (inr k.0, k.1) ],
+    λ h. elim h.0 [ inl g ↦ inl g | inr g ↦ inr (later.1 (g, h.1)) ],
+  )
   | inr e ↦ rw e (
-      λ g. let k = later.0 g in (inr k.0, k.1),
-      λ h. elim h.0 [ inl g ↦ absurd (true≢false (sym h.1 ∙ ap p g ∙ e)) | inr g ↦ later.1 (g, h.1) ],
-    )
+    λ g. let k = later.0 g in (inr k.0, k.1),
+    λ h. elim h.0 [ inl g ↦ absurd (true≢false (sym h.1 ∙ ap p g ∙ e)) | inr g ↦ later.1 (g, h.1) ],
+  )
 ]
 
 -- what is in an option's list is its value

@@ -130,11 +130,14 @@ module _ (F : FunctionSet) (top : Data) where
       (weaker _ _ (children v) (λ a b h. inr (refl, inr (refl, h))) (children_ordered v))
   picks_ordered (long_hand sels) down v =
       weaker (IsBeforeFrom 0 sels) _ (picks_by sels 0 down v)
-      (λ t u h. inr (h.0, elim h.1 [
-        | inl less ↦ inl less
-        | inr (m, e, f, before) ↦ let same : m ≡ t.0.number = omega arith in
-            inr (e ∙ sym f, subst (λ n. SelectedBeforeBy sels n t.0.step u.0.step) same before)
-      ]))
+      (λ t u h. inr (
+        h.0,
+        elim h.1 [
+          | inl less ↦ inl less
+          | inr (m, e, f, before) ↦ let same : m ≡ t.0.number = omega arith in
+              inr (e ∙ sym f, subst (λ n. SelectedBeforeBy sels n t.0.step u.0.step) same before)
+        ],
+      ))
       (picks_by_ordered sels 0 down v)
 
   through_ordered : (kind : SegmentKind) (seg : Segment) (v : Data) → IsInOrder (λ (t u : Triple × Data). TripleBefore seg t.0 u.0) (through kind seg v)

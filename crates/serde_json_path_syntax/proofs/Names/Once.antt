@@ -98,9 +98,9 @@ named_known [] f i = absurd i
 named_known (u ∷ used) f i = elim (cases_Bool (bytes_eq u.0 f)) [
   | inl same ↦ (u.1, rw same refl)
   | inr other ↦ rw other (elim i [
-      | inl e ↦ absurd (true≢false (sym ((bytes_eq-Decides u.0 f).1 (sym e)) ∙ other))
-      | inr later ↦ named_known used f later
-    ])
+    | inl e ↦ absurd (true≢false (sym ((bytes_eq-Decides u.0 f).1 (sym e)) ∙ other))
+    | inr later ↦ named_known used f later
+  ])
 ]
 
 -- where each name of the list is declared, the list has for a name what is declared
