@@ -4,7 +4,7 @@ use Rattle.serde_json_path_core.proofs.Words.{slice_cmp, ordering_reverse, match
 use Rattle.serde_json_path_core.proofs.Words.{same_Some, bytes_eq-Decides, Data, array, object, Items, no_items, item, Members, no_members, member, put}
 use Rattle.serde_json_path_core.proofs.Words.{get_item, get_member, get_member-put, get_member-put_other, Step, by_name, by_position, child_at, StepBefore}
 use Rattle.serde_json_path_core.proofs.Words.{IsIn, IsInOrder, SelectsIndex, IsPositionOf, child_by, item_at, children, items_from, members_all, in_order}
-use Rattle.serde_json_path_core.proofs.Words.{cases_Bool, in_option, ◌<ℤ◌, ◌+ℤ◌, nat_lt, ints, items_len}
+use Rattle.serde_json_path_core.proofs.Words.{cases_Bool, in_option, ◌+ℤ◌, nat_lt, ints, items_len}
 
 -- ---- the child at a step, and the item of an index
 

@@ -1,5 +1,5 @@
 -- The computed comparisons answer as the definitions say.
-use Rattle.std.proofs.Common.{◌≡◌, ℤ, ◌&&◌, Option, Some, None, Ordering, Less, Equal, Greater, nat_cmp, refl, sym, arith, true≢false, chars, bytes_eq}
+use Rattle.std.proofs.Common.{◌≡◌, ℤ, ◌&&◌, Option, Some, Ordering, Less, Equal, Greater, nat_cmp, refl, sym, arith, true≢false, chars, bytes_eq}
 use Rattle.serde_json_path_core.proofs.Words.{◌<ℤ◌, int_lt, Decides, slice_cmp, is_lt, Decides-int_eq, Decides-and, Decides-or, Decides-not, ints}
 use Rattle.serde_json_path_core.proofs.Words.{bytes_eq-Decides, Data, null, boolean, number, string, array, object, Items, no_items, item, Members}
 use Rattle.serde_json_path_core.proofs.Words.{no_members, member, as_integer, Operator, equal, not_equal, less, less_or_equal, greater}

@@ -1,7 +1,6 @@
 -- The positions of a slice, and how they go on by one.
-use Rattle.std.proofs.Common.{◌≡◌, ℕ, zero, suc, ◌+◌, ◌-◌, min, ◌<◌, ◌≤◌, ℤ, pos, nat_abs, List, [], ◌∷◌, drop, length, get_or, Bool, true, false, Option, Some, None, ◌⊎◌, inl, inr, refl, sym, ap, ◌∙◌, arith, true≢false}
-use Rattle.serde_json_path_core.proofs.Words.{◌+ℤ◌, ◌-ℤ◌, cases_lt, drop_more, ints, clamps, view, items_view, Value, Null, get_item_within, get_item_past}
-use Rattle.serde_json_path_core.proofs.Words.{by_position, Slice, bound_of, SlicePositions, items_from, count_within, strided, falling, next_position}
+use Rattle.std.proofs.Common.{◌≡◌, ℕ, zero, suc, ◌+◌, ◌-◌, min, ◌<◌, ◌≤◌, List, [], ◌∷◌, drop, length, get_or, Bool, true, false, Some, None, ◌⊎◌, inl, inr, refl, sym, ap, ◌∙◌, arith, true≢false}
+use Rattle.serde_json_path_core.proofs.Words.{cases_lt, view, items_view, Value, get_item_within, get_item_past, by_position, strided, next_position}
 use Rattle.serde_json_path_core.proofs.Meaning.SlicePositions.{next_strided}
 
 pub first_is : {A : Type 0} {xs ys : List A} {x : A} → xs ≡ x ∷ ys → xs ≡ x ∷ drop 1 xs

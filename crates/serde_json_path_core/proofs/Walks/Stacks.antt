@@ -6,8 +6,7 @@ use Rattle.serde_json_path_core.proofs.Words.{entered, frame_tasks, is_leaf, her
 use Rattle.serde_json_path_core.proofs.Words.{unfiltered, rest_of, work, flat_map-same, flat_map-flat_map, FunctionSet, Data, Query, query, kind_of}
 use Rattle.serde_json_path_core.proofs.Words.{segments_of, Segments, no_segments, segment, Segment, dot_name, dot_wildcard, long_hand, Selectors}
 use Rattle.serde_json_path_core.proofs.Words.{no_selectors, selector, filter, start_of, results, results_from, chosen, chosen_by, selected}
-use Rattle.serde_json_path_core.proofs.Words.{selectors_of, selectors_list, stages}
-use Rattle.serde_json.specs.Data.{Data, array, object}
+use Rattle.serde_json_path_core.proofs.Words.{selectors_of, selectors_list, stages, array, object}
 use Rattle.serde_json_path_core.proofs.Meaning.Descents.{below_child, descents_are}
 use Rattle.serde_json_path_core.proofs.Walks.Frames.{next_opened}
 

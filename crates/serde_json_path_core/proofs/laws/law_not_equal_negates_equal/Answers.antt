@@ -1,6 +1,5 @@
-use Rattle.std.proofs.Common.{◌≡◌, ◌↔◌, sym, subst, ◌∙◌}
-use Rattle.serde_json_path_core.proofs.Words.{same_Some, Data, relation, equal, not_equal, Comparable, FunctionSet, KeepsTypes, Compared, AreEqual, HoldsBasic}
-use Rattle.serde_json_path_core.proofs.Words.{IsComparedAs, IsTypedComparable}
+use Rattle.std.proofs.Common.{◌≡◌, sym, subst, ◌∙◌}
+use Rattle.serde_json_path_core.proofs.Words.{same_Some, Data, Comparable, FunctionSet, Compared, AreEqual, IsComparedAs, IsTypedComparable}
 use Rattle.serde_json_path_core.proofs.Meaning.AnswerKinds.{compared_there}
 use Rattle.serde_json_path_core.proofs.Meaning.Derived.{compared_right}
 use Rattle.serde_json_path_core.proofs.laws.law_not_equal_negates_equal.Goals as goal
