@@ -29,7 +29,7 @@ pub(crate) fn member<'b>(value: &'b Value, name: &str) -> Option<Child<'b>>
     }
 }
 
-#[inline]
+#[inline(always)]
 #[tactic(auto, using(crate::proofs::Steps::Lookups::member_found, crate::proofs::Steps::Lookups::member_missing))]
 fn member_of<'b>(members: &'b Map<String, Value>, name: &str) -> Option<Child<'b>>
     ensures { option_map child_view result

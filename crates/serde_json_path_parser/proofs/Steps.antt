@@ -1,5 +1,5 @@
 -- Steps of the code: rows of items that a loop reads, how the builder grows by them, arguments, and what stands in filters.
-use Rattle.std.proofs.Common.{cond, ◌≡◌, ◌≤◌, ℕ, List, [], ◌∷◌, ◌++◌, inl, inr, Some, Option, Result, Ok, Err, refl, sym, ap, subst, ◌∙◌, append_assoc, ◌<◌, Bool, true, false, length, arith, drop, None, zero, suc, ◌-◌}
+use Rattle.std.proofs.Common.{cond, true≢false, ◌||◌, ◌≡◌, ◌≤◌, ℕ, List, [], ◌∷◌, ◌++◌, inl, inr, Some, Option, Result, Ok, Err, refl, sym, ap, subst, ◌∙◌, append_assoc, ◌<◌, Bool, true, false, length, arith, drop, None, zero, suc, ◌-◌}
 use Rattle.serde_json_path_parser.proofs.Words.{◌↔◌, append-nil, map-append, name_of, names_of, calls_in_segments, calls_from, calls_in_arguments}
 use Rattle.serde_json_path_parser.proofs.Words.{KeepsParts, KeepsTrees, calls_in, AreDeclared, MayFinish, deepest, names_in, IsTyped, depth, Part}
 use Rattle.serde_json_path_parser.proofs.Words.{query, root, Segments, Call, call, Arguments, SyntaxBuilder, Signature, Grows, Parsed, Failure}
@@ -15,7 +15,8 @@ use Rattle.serde_json_path_parser.proofs.Words.{Literal, ExpectedExpression, Ope
 use Rattle.serde_json_path_parser.proofs.Words.{of_value, kind_view, is_result, ◌==◌, filter, byte_count, or_at, call_at, IsTrue, calls_in_operand}
 use Rattle.serde_json_path_parser.proofs.Words.{alone, is_singular, is_whole, is_value_literal, number, IsValueLiteral, Query, IsSingular}
 use Rattle.serde_json_path_parser.proofs.Words.{cases_Bool, not_test, result_kind, WrongReturnType, begins_call, named_call_at, named_at}
-use Rattle.serde_json_path_parser.proofs.Words.{negated_call_at, negated_at, a_call}
+use Rattle.serde_json_path_parser.proofs.Words.{negated_call_at, negated_at, a_call, operator_at}
+use Rattle.serde_json_path_parser.specs.Inside.Looking.{begins_operator}
 use Rattle.serde_json_path_parser.specs.Inside.Giving.{MakesSo, IsOperandOf}
 use Rattle.serde_json_path_syntax.proofs.Names.Finishing.{may_finish}
 use Rattle.serde_json_path_syntax.proofs.Lists.{in_append}
@@ -445,3 +446,18 @@ singular_by b q h = same_from_decides (is_singular q) b (singular_query q, query
 pub value_by : (b : Bool) (l : Literal) → IsTrue b ↔ IsValueLiteral l → b ≡ is_value_literal l
 value_by b (number amount) h = same_from_decides b (is_whole amount) h (whole_amount amount, λ w. amount_whole amount w.0 w.1)
 value_by b _ h = h.1 tt
+
+-- ---- operators
+
+neither : (a b : Bool) → (a || b) ≡ false → (a ≡ false) × (b ≡ false)
+neither true b e = absurd (true≢false e)
+neither false b e = (refl, e)
+
+-- no operator is there where none may begin
+pub no_operator : (cs : List ℕ) → begins begins_operator cs ≡ false → operator_at cs ≡ None
+no_operator [] e = refl
+no_operator (c ∷ cs) e =
+    let equal = neither (c == 61) _ e in
+    let not_equal = neither (c == 33) _ equal.1 in
+    let less = neither (c == 60) _ not_equal.1 in
+    rw (equal.0, not_equal.0, less.0, less.1) refl

@@ -3,7 +3,7 @@ use Rattle.std.specs.Prelude.{◌≡◌, ℕ, ◌<◌, ◌≤◌, nat_le, Bool, 
 use Rattle.std.specs.Option.{ForSome}
 use Rattle.serde_json_path_parser.specs.Source.{Told}
 use Rattle.std.specs.Str.{is_utf8, chars}
-use Rattle.serde_json_path_parser.specs.Lexical.{AllPass, is_name_char, is_plain}
+use Rattle.serde_json_path_parser.specs.Lexical.{◌∈◌, AllPass, is_name_char, is_plain}
 
 -- ---- what the bytes ahead tell of the characters
 
@@ -16,6 +16,10 @@ IsAhead (Some b) cs = (c : ℕ) × (cs ≡ c ∷ drop 1 cs) × (b < 128 → c �
 abbrev pub is_ascii : Option ℕ → Bool
 is_ascii None = false
 is_ascii (Some b) = nat_le b 127
+
+-- a comparison operator may begin with the character
+abbrev pub begins_operator : ℕ → Bool
+begins_operator c = c ∈ "=!<>"
 
 -- Where the byte after the next one was looked at, it is the one that stands there, and the next one is ASCII.
 abbrev pub IsSecond : Option (Option ℕ) → Option ℕ → Option ℕ → Type 0

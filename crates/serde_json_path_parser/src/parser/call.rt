@@ -77,6 +77,7 @@ impl Argument {
 
 /// Parses the end of a call, at its `)`, and the blanks after it. `types` are those of the parameters that have
 /// no argument yet. `place` bytes are left where the call begins.
+#[inline(always)]
 #[tactic(auto, unfolding(crate::specs::Filters::ended))]
 fn parse_end<S: PathSource>(
     reader: &mut Reader<'_, S>,

@@ -3,7 +3,7 @@
 ghost use Rattle.std.specs.Prelude.{◌≡◌, ◌==◌, ◌<◌, ◌≤◌, ◌+◌, ◌-◌, ◌^◌, ◌∷◌, ℕ, length, slice_get, drop, true, max, None, Some, IfOk, IsTrue, is_ok, string_bytes, ◌++◌};
 ghost use Rattle.std.specs.Str.{is_utf8, chars};
 ghost use Rattle.std.specs.Char.{IsScalar};
-ghost use Rattle.serde_json_path_parser.specs.Inside.Looking.{Stretched, is_ascii, limit_of, IsAhead, IsSecond};
+ghost use Rattle.serde_json_path_parser.specs.Inside.Looking.{Stretched, begins_operator, is_ascii, limit_of, IsAhead, IsSecond};
 ghost use Rattle.serde_json_path_parser.specs.Lexical.{begins, begins_both, is_blank, is_digit, is_name_first, is_name_char, is_small_letter, is_function_char};
 ghost use Rattle.serde_json_path_parser.specs.Source.{greatest_usize};
 ghost use Rattle.serde_json_path_parser.specs.Parsed.{front, past};
@@ -245,6 +245,14 @@ impl<'s, S: PathSource> Reader<'s, S> {
         ensures { result ≡ begins is_first_digit (left self.now) }
     {
         self.peek().is_some_and(|next| next >= b'1' && next <= b'9')
+    }
+
+    /// Whether a comparison operator may begin here.
+    pub(crate) fn sees_operator(&self) -> bool
+        ensures { result ≡ begins begins_operator (left self.now) }
+    {
+        self.peek()
+            .is_some_and(|next| matches!(next, b'=' | b'!' | b'<' | b'>'))
     }
 
     /// Whether an exponent begins here.

@@ -10,6 +10,7 @@ use crate::source::PathSource;
 use serde_json_path_syntax::ComparisonOperator;
 
 /// Parses a comparison operator, the longest that is there, or nothing (RFC 9535, section 2.3.5.1).
+#[tactic(auto, using(crate::proofs::Steps::no_operator))]
 pub(crate) fn parse_operator<S: PathSource>(
     reader: &mut Reader<'_, S>,
 ) -> Option<ComparisonOperator>
@@ -18,6 +19,10 @@ pub(crate) fn parse_operator<S: PathSource>(
     ensures value { operator_at (left reader.old)
         ≡ option_map (λ op. (operator_view op, left reader.new)) result }
 {
+    // After a test there is none, which one look tells.
+    if !reader.sees_operator() {
+        return None;
+    }
     if reader.sees_both(b'=', b'=') {
         reader.take_two();
         return Some(ComparisonOperator::EqualTo);
