@@ -1,14 +1,6 @@
 -- The parts of a sound query are sound.
 use Rattle.std.proofs.Common.{◌≡◌, ℕ, zero, suc, ◌<◌, ◌≤◌, List, [], ◌∷◌, ◌++◌, length, get_or, slice_get, Some, refl, sym, subst, arith, ap, ◌∙◌}
-use Rattle.serde_json_path_core.proofs.Words.{none-some, same_Some, Query, query, Segments, segments_of, Segment, dot_name, dot_wildcard, long_hand}
-use Rattle.serde_json_path_core.proofs.Words.{Selectors, no_selectors, selector, Selector, name, wildcard, Operator, LogicalOr, no_or, or, no_and, and}
-use Rattle.serde_json_path_core.proofs.Words.{Basic, relation, Comparable, Call, call, FunctionSet, Signature, Kind, Fits, IsTyped, AreTypedSegments}
-use Rattle.serde_json_path_core.proofs.Words.{IsTypedSegment, AreTypedSelectors, IsTypedSelector, IsTypedOr, IsTypedAnd, IsTypedBasic}
-use Rattle.serde_json_path_core.proofs.Words.{IsTypedComparable, IsTypedCall, AreTypedArguments, arguments_of, calls_of, calls_in_segments}
-use Rattle.serde_json_path_core.proofs.Words.{calls_in_segment, calls_in_selectors, calls_in_selector, calls_in_or, calls_in_and, calls_in_basic}
-use Rattle.serde_json_path_core.proofs.Words.{calls_in_comparable, calls_from, calls_in_arguments, calls_in_argument, name_of, IsIn, parts_bound}
-use Rattle.serde_json_path_core.proofs.Words.{EndsIn, Piece, argument_in, arguments_in, piece_in, pieces_named, segment_in, segments_in, and_in, ors_in}
-use Rattle.serde_json_path_core.proofs.Words.{basic_in, ands_in, selectors_list, selectors_of, params_of, ∥∥₁_elim, AreCallsOf, IsSound, Part, ∥∥₁_map₂}
+use Rattle.serde_json_path_core.proofs.Words.{none-some, same_Some, Query, query, Segments, segments_of, Segment, dot_name, dot_wildcard, long_hand, Selectors, no_selectors, selector, Selector, name, wildcard, Operator, LogicalOr, no_or, or, no_and, and, Basic, relation, Comparable, Call, call, FunctionSet, Signature, Kind, Fits, IsTyped, AreTypedSegments, IsTypedSegment, AreTypedSelectors, IsTypedSelector, IsTypedOr, IsTypedAnd, IsTypedBasic, IsTypedComparable, IsTypedCall, AreTypedArguments, arguments_of, calls_of, calls_in_segments, calls_in_segment, calls_in_selectors, calls_in_selector, calls_in_or, calls_in_and, calls_in_basic, calls_in_comparable, calls_from, calls_in_arguments, calls_in_argument, name_of, IsIn, parts_bound, EndsIn, Piece, argument_in, arguments_in, piece_in, pieces_named, segment_in, segments_in, and_in, ors_in, basic_in, ands_in, selectors_list, selectors_of, params_of, ∥∥₁_elim, AreCallsOf, IsSound, Part, ∥∥₁_map₂}
 use Rattle.serde_json_path_syntax.proofs.Names.Once.{fits_each, found_in, in_from, of_both}
 use mathlib.Core.List.{is_set}
 use mathlib.Core.Sum.{⊎_set}

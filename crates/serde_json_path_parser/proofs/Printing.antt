@@ -4,20 +4,7 @@ pub mod QuotedTexts
 -- numbers, slices and literals
 pub mod Literals
 use Rattle.std.proofs.Common.{◌≡◌, ◌<◌, ℕ, true, List, [], ◌∷◌, ◌++◌, codes, refl, sym, ap, subst, ◌∙◌, append_assoc, arith}
-use Rattle.serde_json_path_parser.proofs.Words.{AllByRecursion, flat_map, IsUtf8, chars, all_scalars, nat_tests, chars-encodes, scalars-chars, Query}
-use Rattle.serde_json_path_parser.proofs.Words.{query, QueryKind, root, current, Segments, no_segments, segment, SegmentKind, child, descendant}
-use Rattle.serde_json_path_parser.proofs.Words.{Segment, dot_name, dot_wildcard, long_hand, Selectors, no_selectors, selector, Selector, name}
-use Rattle.serde_json_path_parser.proofs.Words.{wildcard, index, slice, filter, LogicalOr, no_or, or, LogicalAnd, no_and, and, Basic, paren}
-use Rattle.serde_json_path_parser.proofs.Words.{not_paren, relation, exist, not_exist, test, not_test, Comparable, literal, singular, called, Call}
-use Rattle.serde_json_path_parser.proofs.Words.{call, Arguments, no_arguments, argument, Argument, literal_argument, query_argument, call_argument}
-use Rattle.serde_json_path_parser.proofs.Words.{logical_argument, Operator, equal, not_equal, less, less_or_equal, greater, greater_or_equal}
-use Rattle.serde_json_path_parser.proofs.Words.{operator_text, query_kind_text, dots_of, bracket_dots_of, joined, query_text, segments_text}
-use Rattle.serde_json_path_parser.proofs.Words.{segment_text, selector_texts, selector_text, or_text, and_texts, and_text, basic_texts, basic_text}
-use Rattle.serde_json_path_parser.proofs.Words.{comparable_text, call_text, argument_texts, argument_text, IsFunctionName, is_function_char, Reads}
-use Rattle.serde_json_path_parser.proofs.Words.{ReadSegments, ReadsSegment, ReadSelectors, ReadMoreSelectors, ReadsSelector, ReadsOr, ReadMoreOrs}
-use Rattle.serde_json_path_parser.proofs.Words.{ReadsAnd, ReadMoreAnds, ReadsBasic, ReadsComparable, ReadsCall, ReadArguments, ReadMoreArguments}
-use Rattle.serde_json_path_parser.proofs.Words.{ReadsArgument, InParentheses, Negated, IsSign, IsName, query_sign, operator_sign, dots_before_bracket}
-use Rattle.serde_json_path_parser.proofs.Words.{dots_before_name}
+use Rattle.serde_json_path_parser.proofs.Words.{AllByRecursion, flat_map, IsUtf8, chars, all_scalars, nat_tests, chars-encodes, scalars-chars, Query, query, QueryKind, root, current, Segments, no_segments, segment, SegmentKind, child, descendant, Segment, dot_name, dot_wildcard, long_hand, Selectors, no_selectors, selector, Selector, name, wildcard, index, slice, filter, LogicalOr, no_or, or, LogicalAnd, no_and, and, Basic, paren, not_paren, relation, exist, not_exist, test, not_test, Comparable, literal, singular, called, Call, call, Arguments, no_arguments, argument, Argument, literal_argument, query_argument, call_argument, logical_argument, Operator, equal, not_equal, less, less_or_equal, greater, greater_or_equal, operator_text, query_kind_text, dots_of, bracket_dots_of, joined, query_text, segments_text, segment_text, selector_texts, selector_text, or_text, and_texts, and_text, basic_texts, basic_text, comparable_text, call_text, argument_texts, argument_text, IsFunctionName, is_function_char, Reads, ReadSegments, ReadsSegment, ReadSelectors, ReadMoreSelectors, ReadsSelector, ReadsOr, ReadMoreOrs, ReadsAnd, ReadMoreAnds, ReadsBasic, ReadsComparable, ReadsCall, ReadArguments, ReadMoreArguments, ReadsArgument, InParentheses, Negated, IsSign, IsName, query_sign, operator_sign, dots_before_bracket, dots_before_name}
 use QuotedTexts.{Spells, Spelt, spell_nothing, scalars_parts, scalars_of, spell_both, spell_ascii, spell_sign, spelt_nothing, spelt_as, spelt_after, spelt_between, spelt_both, string_spelt}
 use Literals.{int_spelt, slice_spelt, literal_spelt}
 

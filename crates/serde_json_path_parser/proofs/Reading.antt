@@ -1,10 +1,6 @@
 -- Reading lists of characters, whatever is read: runs at the start, items one after another, and what a reader gives.
 use Rattle.std.proofs.Common.{◌≡◌, ℕ, ◌+◌, ◌-◌, ◌*◌, ◌<◌, ◌≤◌, min, Bool, true, false, true≢false, List, [], ◌∷◌, ◌++◌, length, refl, sym, ap, ◌∙◌, append_assoc, inl, inr, arith, zero, suc, Ok, Err, drop, Result, subst, ◌⊎◌, Option, cond}
-use Rattle.serde_json_path_parser.proofs.Words.{cases_lt, eqb-true, encode_utf8_all, encode_utf8, ◌==◌, AllByRecursion, begins, is_blank, is_digit}
-use Rattle.serde_json_path_parser.proofs.Words.{value_from, front, past, length-append, IsBlank, past_blanks, Refusal, Parsed, ◌>>=◌, many_at, many}
-use Rattle.serde_json_path_parser.proofs.Words.{and_parts, begins_both, Joined, Failure, Fails, Signature, ParseErrorKind, ExpectedRoot}
-use Rattle.serde_json_path_parser.proofs.Words.{UndefinedFunction, TextAfterPath, NoMemory, IsUndeclared, byte_count, refusal, cases_Bool}
-use Rattle.serde_json_path_parser.proofs.Words.{false_from_ne_true}
+use Rattle.serde_json_path_parser.proofs.Words.{cases_lt, eqb-true, encode_utf8_all, encode_utf8, ◌==◌, AllByRecursion, begins, is_blank, is_digit, value_from, front, past, length-append, IsBlank, past_blanks, Refusal, Parsed, ◌>>=◌, many_at, many, and_parts, begins_both, Joined, Failure, Fails, Signature, ParseErrorKind, ExpectedRoot, UndefinedFunction, TextAfterPath, NoMemory, IsUndeclared, byte_count, refusal, cases_Bool, false_from_ne_true}
 use Rattle.serde_json_path_parser.specs.declared.error.Failure.TheVariants as failures
 use Rattle.serde_json_path_parser.specs.declared.error.Context as declared
 

@@ -1,7 +1,6 @@
 -- Items in a row, with a sign and blanks between them: as they are read, each with the blanks after it, and as the grammar has them, with blanks round each sign.
 use Rattle.std.proofs.Common.{◌≡◌, ℕ, Bool, true, false, List, [], ◌∷◌, ◌++◌, length, drop, Option, Ok, refl, sym, ap, ◌∙◌, append_assoc, arith}
-use Rattle.serde_json_path_parser.proofs.Words.{◌==◌, ◌&&◌, ◌||◌, or_right, and_parts, eq-eqb, append-nil, length-append, drop-append_seam, Signature}
-use Rattle.serde_json_path_parser.proofs.Words.{Parsed, ◌>>=◌, past_blanks, many, begins, is_blank, IsBlank, IsSign, Joined}
+use Rattle.serde_json_path_parser.proofs.Words.{◌==◌, ◌&&◌, ◌||◌, or_right, and_parts, eq-eqb, append-nil, length-append, drop-append_seam, Signature, Parsed, ◌>>=◌, past_blanks, many, begins, is_blank, IsBlank, IsSign, Joined}
 use Rattle.serde_json_path_parser.proofs.Reading as m
 use Rattle.serde_json_path_parser.proofs.Reading.{Read, Spaced, after_one, Inner, Outcome, past_text, made, weaker, many_outcome, split_again, blanks_of, are_blank, split_blanks, past_all, spread, some_begun, begins_where, begins_differs}
 

@@ -1,21 +1,6 @@
 -- Steps of the code: rows of items that a loop reads, how the builder grows by them, arguments, and what stands in filters.
 use Rattle.std.proofs.Common.{cond, true≢false, ◌||◌, ◌≡◌, ◌≤◌, ℕ, List, [], ◌∷◌, ◌++◌, inl, inr, Some, Option, Result, Ok, Err, refl, sym, ap, subst, ◌∙◌, append_assoc, ◌<◌, Bool, true, false, length, arith, drop, None, zero, suc, ◌-◌}
-use Rattle.serde_json_path_parser.proofs.Words.{◌↔◌, append-nil, map-append, name_of, names_of, calls_in_segments, calls_from, calls_in_arguments}
-use Rattle.serde_json_path_parser.proofs.Words.{KeepsParts, KeepsTrees, calls_in, AreDeclared, MayFinish, deepest, names_in, IsTyped, depth, Part}
-use Rattle.serde_json_path_parser.proofs.Words.{query, root, Segments, Call, call, Arguments, SyntaxBuilder, Signature, Grows, Parsed, Failure}
-use Rattle.serde_json_path_parser.proofs.Words.{Reader, Ghosts, SegmentKind, Segment, ArePartsOf, segment_list, length-append, Piece, IsPart}
-use Rattle.serde_json_path_parser.proofs.Words.{ArePartsFor, parts_for_kept, Fails, GrowsFrom, ◌>>=◌, many, Selector, LogicalOr, LogicalAnd, Basic}
-use Rattle.serde_json_path_parser.proofs.Words.{Deeper, a_selector, an_and, a_basic, segment_piece, segment_pieces, selector_pieces, or_pieces}
-use Rattle.serde_json_path_parser.proofs.Words.{and_pieces, calls_in_selectors, calls_in_or, calls_in_and, selector_list, or_list, and_list}
-use Rattle.serde_json_path_parser.proofs.Words.{AreSelectorsOf, AreOrPartsOf, AreAndPartsOf, past_blanks, is_at, are_at, begins, opens, opens_next}
-use Rattle.serde_json_path_parser.proofs.Words.{level, segment_at, next_segment_at, selector_at, next_selector_at, and_at, next_and_at, basic_at}
-use Rattle.serde_json_path_parser.proofs.Words.{next_basic_at, no_arguments, argument, Argument, Kind, ExpectedClosingParenthesis, calls_in_argument}
-use Rattle.serde_json_path_parser.proofs.Words.{an_argument, Gives, MakesArguments, refusal, ends_argument, argument_at, arguments_at, nat_tests}
-use Rattle.serde_json_path_parser.proofs.Words.{Literal, ExpectedExpression, Operand, a_literal, word, past_word, literal_word_at, literal_word}
-use Rattle.serde_json_path_parser.proofs.Words.{of_value, kind_view, is_result, ◌==◌, filter, byte_count, or_at, call_at, IsTrue, calls_in_operand}
-use Rattle.serde_json_path_parser.proofs.Words.{alone, is_singular, is_whole, is_value_literal, number, IsValueLiteral, Query, IsSingular}
-use Rattle.serde_json_path_parser.proofs.Words.{cases_Bool, not_test, result_kind, WrongReturnType, begins_call, named_call_at, named_at}
-use Rattle.serde_json_path_parser.proofs.Words.{negated_call_at, negated_at, a_call, operator_at}
+use Rattle.serde_json_path_parser.proofs.Words.{◌↔◌, append-nil, map-append, name_of, names_of, calls_in_segments, calls_from, calls_in_arguments, KeepsParts, KeepsTrees, calls_in, AreDeclared, MayFinish, deepest, names_in, IsTyped, depth, Part, query, root, Segments, Call, call, Arguments, SyntaxBuilder, Signature, Grows, Parsed, Failure, Reader, Ghosts, SegmentKind, Segment, ArePartsOf, segment_list, length-append, Piece, IsPart, ArePartsFor, parts_for_kept, Fails, GrowsFrom, ◌>>=◌, many, Selector, LogicalOr, LogicalAnd, Basic, Deeper, a_selector, an_and, a_basic, segment_piece, segment_pieces, selector_pieces, or_pieces, and_pieces, calls_in_selectors, calls_in_or, calls_in_and, selector_list, or_list, and_list, AreSelectorsOf, AreOrPartsOf, AreAndPartsOf, past_blanks, is_at, are_at, begins, opens, opens_next, level, segment_at, next_segment_at, selector_at, next_selector_at, and_at, next_and_at, basic_at, next_basic_at, no_arguments, argument, Argument, Kind, ExpectedClosingParenthesis, calls_in_argument, an_argument, Gives, MakesArguments, refusal, ends_argument, argument_at, arguments_at, nat_tests, Literal, ExpectedExpression, Operand, a_literal, word, past_word, literal_word_at, literal_word, of_value, kind_view, is_result, ◌==◌, filter, byte_count, or_at, call_at, IsTrue, calls_in_operand, alone, is_singular, is_whole, is_value_literal, number, IsValueLiteral, Query, IsSingular, cases_Bool, not_test, result_kind, WrongReturnType, begins_call, named_call_at, named_at, negated_call_at, negated_at, a_call, operator_at}
 use Rattle.serde_json_path_parser.specs.Inside.Looking.{begins_operator}
 use Rattle.serde_json_path_parser.specs.Inside.Giving.{MakesSo, IsOperandOf}
 use Rattle.serde_json_path_syntax.proofs.Names.Finishing.{may_finish}

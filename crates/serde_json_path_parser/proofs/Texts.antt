@@ -1,11 +1,6 @@
 -- Bytes and the characters that they encode: the character at a place, by its first byte, and ASCII characters that are taken many at a time.
 use Rattle.std.proofs.Common.{◌≡◌, ℕ, ◌+◌, ◌*◌, ◌%◌, ◌<◌, ◌≤◌, inl, inr, true, List, [], ◌∷◌, length, get_or, drop, Some, refl, sym, ap, subst, ◌∙◌, arith, true≢false, Option, None, zero, suc, ◌-◌, Bool, ◌++◌, take, set, if◌then◌else◌, append_assoc}
-use Rattle.serde_json_path_parser.proofs.Words.{slice_get, IsUtf8, encode_utf8_all, StartsWithChar, get_or-drop, slice_get_within, slice_get-get_or}
-use Rattle.serde_json_path_parser.proofs.Words.{same_Some, none-some, length-drop, cases_lt, ◌==◌, is_utf8, chars, eqb-true, drop-drop, drop_all}
-use Rattle.serde_json_path_parser.proofs.Words.{IsUtf8-from_is_utf8, is_utf8-from_IsUtf8, chars-nil, chars_past_char, byte_from_char, char_from_byte}
-use Rattle.serde_json_path_parser.proofs.Words.{is_ascii, IsAhead, begins, nat_le, nat_lt, ◌^◌, max, IsAscii, and_parts, cases_Bool, length-take-le}
-use Rattle.serde_json_path_parser.proofs.Words.{take_more_set, encodes-append, encodes-IsAscii, AllPass, is_name_char, is_plain, front, past, Told}
-use Rattle.serde_json_path_parser.proofs.Words.{one_more, looked, LooksOn, is_ascii_name_char, is_ascii_plain, Gathered, Stretched, IsSome}
+use Rattle.serde_json_path_parser.proofs.Words.{slice_get, IsUtf8, encode_utf8_all, StartsWithChar, get_or-drop, slice_get_within, slice_get-get_or, same_Some, none-some, length-drop, cases_lt, ◌==◌, is_utf8, chars, eqb-true, drop-drop, drop_all, IsUtf8-from_is_utf8, is_utf8-from_IsUtf8, chars-nil, chars_past_char, byte_from_char, char_from_byte, is_ascii, IsAhead, begins, nat_le, nat_lt, ◌^◌, max, IsAscii, and_parts, cases_Bool, length-take-le, take_more_set, encodes-append, encodes-IsAscii, AllPass, is_name_char, is_plain, front, past, Told, one_more, looked, LooksOn, is_ascii_name_char, is_ascii_plain, Gathered, Stretched, IsSome}
 use Rattle.std.proofs.iter.FirstChar.{wide, in_one, in_two, in_three, in_four}
 use Rattle.std.specs.Char.{IsScalar}
 use Rattle.serde_json_path_parser.proofs.Reading.{past_through}

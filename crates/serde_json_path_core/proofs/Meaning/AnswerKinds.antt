@@ -1,10 +1,6 @@
 -- Under a function set that keeps types, the computed arguments and answers of well-typed calls have their declared types.
 use Rattle.std.proofs.Common.{◌≡◌, List, [], ◌∷◌, map, Option, Some, option_map, refl, sym, ap, ◌∙◌}
-use Rattle.serde_json_path_core.proofs.Words.{same_Some, Data, Comparable, literal, singular, called, Call, call, Arguments, no_arguments, argument, Argument}
-use Rattle.serde_json_path_core.proofs.Words.{literal_argument, query_argument, call_argument, logical_argument, Kind, of_value, of_nodes, of_logical}
-use Rattle.serde_json_path_core.proofs.Words.{Signature, Term, nodes, logical, FunctionSet, kind_of_term, KeepsTypes, Compared, literal_compared}
-use Rattle.serde_json_path_core.proofs.Words.{value_compared, first_value, params_of, result_kind, IsTypedComparable, IsTypedCall, AreTypedArguments}
-use Rattle.serde_json_path_core.proofs.Words.{IsTypedArgument, results, compared, answer, arguments, argument_as, answer_compared}
+use Rattle.serde_json_path_core.proofs.Words.{same_Some, Data, Comparable, literal, singular, called, Call, call, Arguments, no_arguments, argument, Argument, literal_argument, query_argument, call_argument, logical_argument, Kind, of_value, of_nodes, of_logical, Signature, Term, nodes, logical, FunctionSet, kind_of_term, KeepsTypes, Compared, literal_compared, value_compared, first_value, params_of, result_kind, IsTypedComparable, IsTypedCall, AreTypedArguments, IsTypedArgument, results, compared, answer, arguments, argument_as, answer_compared}
 use Rattle.serde_json_path_functions.specs.Functions.{value}
 
 module _ (F : FunctionSet) (top : Data) (keeps : KeepsTypes F) where

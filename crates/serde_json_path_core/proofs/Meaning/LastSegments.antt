@@ -1,9 +1,6 @@
 -- One more segment: its derivations are those of the shorter query, each with one more triple, in that order.
 use Rattle.std.proofs.Common.{◌≡◌, List, [], ◌∷◌, ◌++◌, map, flat_map, ◌↔◌, inl, inr, Bool, ◌&&◌, Option, Some, None, option_and_then, option_to_list, if◌then◌else◌, nat_eq, refl, sym, ap, subst, ◌∙◌, append_assoc}
-use Rattle.serde_json_path_core.proofs.Words.{cases_Bool, same_Some, none-some, Decides-and, Decides-eqb, Decides, AllZip, Data, at, child_at, Located, IsIn}
-use Rattle.serde_json_path_core.proofs.Words.{IsInOrder, QueryKind, query, current, Segments, no_segments, segment, SegmentKind, Segment, in_flat_map, in_map}
-use Rattle.serde_json_path_core.proofs.Words.{map_in, in_option, in_order-flat_map, in_order-map, in_order-option, weaker, FunctionSet, Triple, location_of}
-use Rattle.serde_json_path_core.proofs.Words.{start_of, BelongsTo, Before, beneath, AreResultsAt, with_segment, Derives, IsResult}
+use Rattle.serde_json_path_core.proofs.Words.{cases_Bool, same_Some, none-some, Decides-and, Decides-eqb, Decides, AllZip, Data, at, child_at, Located, IsIn, IsInOrder, QueryKind, query, current, Segments, no_segments, segment, SegmentKind, Segment, in_flat_map, in_map, map_in, in_option, in_order-flat_map, in_order-map, in_order-option, weaker, FunctionSet, Triple, location_of, start_of, BelongsTo, Before, beneath, AreResultsAt, with_segment, Derives, IsResult}
 use Rattle.serde_json_path_nodes.specs.Same.{same_step, same_steps, same_step-true, same_step-equiv, same_steps_decides}
 use Rattle.serde_json_path_core.proofs.Meaning.Derived.{at-append, at_below}
 use Rattle.serde_json_path_core.proofs.Meaning.Order.{before_once, in_order_once, triple_once}

@@ -1,17 +1,6 @@
 -- Arguments and calls, by what holds one level deeper; and the laws of these pieces at every level.
 use Rattle.std.proofs.Common.{cond, ◌≡◌, ℕ, ◌≤◌, inl, inr, Bool, true, false, List, [], ◌∷◌, ◌++◌, Option, Some, Ok, Err, refl, sym, ap, subst, ◌∙◌, append_assoc, arith, ◌+◌, zero, suc, drop, None}
-use Rattle.serde_json_path_parser.proofs.Words.{Call, ◌==◌, ◌||◌, ℤ, pos, negsuc, ◌*ℤ◌, ◌-ℤ◌, ◌/◌, ◌%◌, ◌*◌, eqb-true, eq-eqb, or_parts, ints}
-use Rattle.serde_json_path_parser.proofs.Words.{cases_Bool, div-add-mod', LogicalOr, LogicalAnd, Basic, exist, test, Argument, literal_argument}
-use Rattle.serde_json_path_parser.proofs.Words.{query_argument, call_argument, logical_argument, number, Operator, no_or, or, no_and, and}
-use Rattle.serde_json_path_parser.proofs.Words.{result_kind, TakesResult, IsTypedArgument, argument_depth, Kind, of_value, of_nodes, of_logical}
-use Rattle.serde_json_path_parser.proofs.Words.{Signature, WrongReturnType, is_at, are_at, begins, begins_both, IsBlank, StandsAlone, ReadsArgument}
-use Rattle.serde_json_path_parser.proofs.Words.{◌>>=◌, refusal, past_blanks, byte_count, Operand, a_literal, a_call, is_result, is_test, takes_result}
-use Rattle.serde_json_path_parser.proofs.Words.{is_whole, fits, alone, ends_argument, Deeper, operand_at, test_at, relation_at, basic_from, basic_at}
-use Rattle.serde_json_path_parser.proofs.Words.{next_basic_at, and_from, and_at, next_and_at, or_from, or_at, logical_from, argument_at, mul-mod_left}
-use Rattle.serde_json_path_parser.proofs.Words.{is_blank, ReadsCall, append-nil, Reads, Parsed, codes, call, Arguments, no_arguments, argument}
-use Rattle.serde_json_path_parser.proofs.Words.{AreTypedArguments, IsTypedCall, arguments_depth, call_depth, ExpectedClosingParenthesis}
-use Rattle.serde_json_path_parser.proofs.Words.{WrongArgumentType, UndefinedFunction, WrongNumberOfArguments, IsFunctionName, ReadMoreArguments}
-use Rattle.serde_json_path_parser.proofs.Words.{ReadArguments, ended, arguments_at, parameters_at, call_at, NestedTooDeep, level}
+use Rattle.serde_json_path_parser.proofs.Words.{Call, ◌==◌, ◌||◌, ℤ, pos, negsuc, ◌*ℤ◌, ◌-ℤ◌, ◌/◌, ◌%◌, ◌*◌, eqb-true, eq-eqb, or_parts, ints, cases_Bool, div-add-mod', LogicalOr, LogicalAnd, Basic, exist, test, Argument, literal_argument, query_argument, call_argument, logical_argument, number, Operator, no_or, or, no_and, and, result_kind, TakesResult, IsTypedArgument, argument_depth, Kind, of_value, of_nodes, of_logical, Signature, WrongReturnType, is_at, are_at, begins, begins_both, IsBlank, StandsAlone, ReadsArgument, ◌>>=◌, refusal, past_blanks, byte_count, Operand, a_literal, a_call, is_result, is_test, takes_result, is_whole, fits, alone, ends_argument, Deeper, operand_at, test_at, relation_at, basic_from, basic_at, next_basic_at, and_from, and_at, next_and_at, or_from, or_at, logical_from, argument_at, mul-mod_left, is_blank, ReadsCall, append-nil, Reads, Parsed, codes, call, Arguments, no_arguments, argument, AreTypedArguments, IsTypedCall, arguments_depth, call_depth, ExpectedClosingParenthesis, WrongArgumentType, UndefinedFunction, WrongNumberOfArguments, IsFunctionName, ReadMoreArguments, ReadArguments, ended, arguments_at, parameters_at, call_at, NestedTooDeep, level}
 use Rattle.serde_json_path_parser.specs.declared.error.Context.TheVariants as context
 use Rattle.serde_json_path_parser.specs.Operands.{a_query}
 use Rattle.serde_json_path_parser.proofs.Reading.{past_all, split_again, blanks_of, are_blank, split_blanks, past_some, spread, begins_where, differs, no_blank, begins_differs, Read, Spaced, bind_ok, ok_is, after_one, many_end, Inner, onward, choose, remade, read_as, Outcome, weaker_spaced, refused, past_text, Past, onward_at, read_spaced, after_sign, past_spaced}

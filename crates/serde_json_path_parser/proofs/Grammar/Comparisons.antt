@@ -1,15 +1,6 @@
 -- Operands, comparisons and tests, by what holds one level deeper.
 use Rattle.std.proofs.Common.{ℕ, ◌<◌, ◌≡◌, inl, inr, true, false, List, [], ◌∷◌, ◌++◌, drop, Option, Ok, refl, sym, ap, ◌∙◌, append_assoc, Bool, arith, cond, Some, None, subst}
-use Rattle.serde_json_path_parser.proofs.Words.{◌==◌, codes, bytes_eq, ℤ, and_parts, ReadSegments, is_digit, is_exponent, nat_le, ◌&&◌}
-use Rattle.serde_json_path_parser.proofs.Words.{bytes_eq-Decides, QueryKind, root, current, query, Call, Literal, text, number, truth, null, Segments}
-use Rattle.serde_json_path_parser.proofs.Words.{call, Signature, ExpectedExpression, is_at, begins, is_small_letter, is_function_char, IsFunctionName}
-use Rattle.serde_json_path_parser.proofs.Words.{IsQuote, AllPass, is_blank, is_name_char, IsNumber, opens, IsLiteral, Reads, ReadsCall, query_sign}
-use Rattle.serde_json_path_parser.proofs.Words.{Parsed, past_blanks, byte_count, string_at, segment_list, begins_int, opens_next, Operand, a_literal}
-use Rattle.serde_json_path_parser.proofs.Words.{a_call, Deeper, word, past_word, begins_call, literal_word_at, query_at, named_call_at, text_at}
-use Rattle.serde_json_path_parser.proofs.Words.{operand_at, ◌>>=◌, Basic, relation, exist, test, Comparable, literal, singular, called, Operator}
-use Rattle.serde_json_path_parser.proofs.Words.{equal, less, greater, Query, result_kind, IsTestKind, Kind, of_value, of_nodes, of_logical}
-use Rattle.serde_json_path_parser.proofs.Words.{NonSingularQuery, WrongReturnType, ExpectedComparisonOperator, IsBlank, operator_sign, is_result}
-use Rattle.serde_json_path_parser.proofs.Words.{operator_at, comparable_at, test_at, right_side_at, relation_at, basic_from}
+use Rattle.serde_json_path_parser.proofs.Words.{◌==◌, codes, bytes_eq, ℤ, and_parts, ReadSegments, is_digit, is_exponent, nat_le, ◌&&◌, bytes_eq-Decides, QueryKind, root, current, query, Call, Literal, text, number, truth, null, Segments, call, Signature, ExpectedExpression, is_at, begins, is_small_letter, is_function_char, IsFunctionName, IsQuote, AllPass, is_blank, is_name_char, IsNumber, opens, IsLiteral, Reads, ReadsCall, query_sign, Parsed, past_blanks, byte_count, string_at, segment_list, begins_int, opens_next, Operand, a_literal, a_call, Deeper, word, past_word, begins_call, literal_word_at, query_at, named_call_at, text_at, operand_at, ◌>>=◌, Basic, relation, exist, test, Comparable, literal, singular, called, Operator, equal, less, greater, Query, result_kind, IsTestKind, Kind, of_value, of_nodes, of_logical, NonSingularQuery, WrongReturnType, ExpectedComparisonOperator, IsBlank, operator_sign, is_result, operator_at, comparable_at, test_at, right_side_at, relation_at, basic_from}
 use Rattle.serde_json_path_parser.specs.declared.error.Context.TheVariants as context
 use Rattle.serde_json_path_parser.specs.Operands.{a_query}
 use Rattle.serde_json_path_syntax.proofs.Tree.NamedParts.{query_singular}

@@ -1,11 +1,6 @@
 -- Logical expressions: what is read is a good one, or where the refusal stands; and each good one is read.
 use Rattle.std.proofs.Common.{◌≡◌, ℕ, ◌≤◌, inl, true, false, List, [], ◌∷◌, ◌++◌, drop, Option, Ok, refl, ap, ◌∙◌, append_assoc, arith}
-use Rattle.serde_json_path_parser.proofs.Words.{◌==◌, codes, and_parts, root, current, LogicalOr, LogicalAnd, Basic, paren, not_paren, relation}
-use Rattle.serde_json_path_parser.proofs.Words.{exist, not_exist, test, not_test, query, no_or, or, no_and, and, result_kind, IsTypedOr, IsTypedAnd}
-use Rattle.serde_json_path_parser.proofs.Words.{or_depth, and_depth, Signature, WrongReturnType, ExpectedClosingParenthesis, ExpectedExpression}
-use Rattle.serde_json_path_parser.proofs.Words.{is_at, are_at, begins, IsBlank, is_small_letter, InParentheses, ReadsOr, ReadMoreOrs, ReadMoreAnds}
-use Rattle.serde_json_path_parser.proofs.Words.{past_blanks, a_call, begins_call, and_list, or_list, Deeper, paren_at, negated_call_at, negated_at}
-use Rattle.serde_json_path_parser.proofs.Words.{basic_at, next_basic_at, and_from, and_at, next_and_at, or_from, or_at, past_word}
+use Rattle.serde_json_path_parser.proofs.Words.{◌==◌, codes, and_parts, root, current, LogicalOr, LogicalAnd, Basic, paren, not_paren, relation, exist, not_exist, test, not_test, query, no_or, or, no_and, and, result_kind, IsTypedOr, IsTypedAnd, or_depth, and_depth, Signature, WrongReturnType, ExpectedClosingParenthesis, ExpectedExpression, is_at, are_at, begins, IsBlank, is_small_letter, InParentheses, ReadsOr, ReadMoreOrs, ReadMoreAnds, past_blanks, a_call, begins_call, and_list, or_list, Deeper, paren_at, negated_call_at, negated_at, basic_at, next_basic_at, and_from, and_at, next_and_at, or_from, or_at, past_word}
 use Rattle.serde_json_path_parser.specs.declared.error.Context.TheVariants as context
 use Rattle.serde_json_path_parser.proofs.Reading as m
 use Rattle.serde_json_path_parser.specs.Operands.{a_query}

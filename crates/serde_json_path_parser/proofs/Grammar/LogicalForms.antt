@@ -1,16 +1,6 @@
 -- What is good at a level, and its texts: what may follow an operand or an expression, how each begins, and filters by what holds one level deeper.
 use Rattle.std.proofs.Common.{◌≡◌, ℕ, true, List, [], ◌++◌, Option, Ok, ◌+◌, ◌≤◌, Bool, ◌∷◌, refl, arith, false, ap, ◌∙◌, append_assoc, drop}
-use Rattle.serde_json_path_parser.proofs.Words.{◌==◌, ◌||◌, Segments, no_segments, segment, Segment, dot_name, long_hand, no_selectors, selector}
-use Rattle.serde_json_path_parser.proofs.Words.{Selector, filter, LogicalOr, Signature, is_at, begins, ReadsSelector, past_blanks, Query, query}
-use Rattle.serde_json_path_parser.proofs.Words.{child, descendant, name, index, Call, call, Arguments, IsSingularSegment, AreSingular, IsSingular}
-use Rattle.serde_json_path_parser.proofs.Words.{and_parts, IsTyped, AreTypedSegments, IsTypedSegment, IsTypedSelector, IsTypedOr, IsTypedCall, depth}
-use Rattle.serde_json_path_parser.proofs.Words.{segments_depth, segment_depth, selector_depth, or_depth, call_depth, IsBlank, IsFunctionName}
-use Rattle.serde_json_path_parser.proofs.Words.{IsLiteral, Reads, ReadsOr, ReadsCall, ReadArguments, byte_count, Operand, a_literal, a_call}
-use Rattle.serde_json_path_parser.proofs.Words.{is_singular_segment, are_singular, is_singular, Deeper, Comparable, IsTypedComparable, IsTypedAnd}
-use Rattle.serde_json_path_parser.proofs.Words.{ReadsAnd, IsTypedBasic, ReadsComparable, comparable_depth, basic_depth, LogicalAnd, ReadsBasic, Basic}
-use Rattle.serde_json_path_parser.proofs.Words.{and_depth, root, current, no_or, or, no_and, and, paren, relation, exist, test, literal, singular}
-use Rattle.serde_json_path_parser.proofs.Words.{called, Literal, text, number, truth, is_blank, is_digit, is_small_letter, SegmentKind, ReadSegments}
-use Rattle.serde_json_path_parser.proofs.Words.{ReadsSegment}
+use Rattle.serde_json_path_parser.proofs.Words.{◌==◌, ◌||◌, Segments, no_segments, segment, Segment, dot_name, long_hand, no_selectors, selector, Selector, filter, LogicalOr, Signature, is_at, begins, ReadsSelector, past_blanks, Query, query, child, descendant, name, index, Call, call, Arguments, IsSingularSegment, AreSingular, IsSingular, and_parts, IsTyped, AreTypedSegments, IsTypedSegment, IsTypedSelector, IsTypedOr, IsTypedCall, depth, segments_depth, segment_depth, selector_depth, or_depth, call_depth, IsBlank, IsFunctionName, IsLiteral, Reads, ReadsOr, ReadsCall, ReadArguments, byte_count, Operand, a_literal, a_call, is_singular_segment, are_singular, is_singular, Deeper, Comparable, IsTypedComparable, IsTypedAnd, ReadsAnd, IsTypedBasic, ReadsComparable, comparable_depth, basic_depth, LogicalAnd, ReadsBasic, Basic, and_depth, root, current, no_or, or, no_and, and, paren, relation, exist, test, literal, singular, called, Literal, text, number, truth, is_blank, is_digit, is_small_letter, SegmentKind, ReadSegments, ReadsSegment}
 use Rattle.serde_json_path_parser.proofs.Reading.{Inner, Outcome, Past, remade, after_sign, Spaced, some_begun, begins_front, begins_where, no_blank, past_all, blanks_of, are_blank}
 use Rattle.serde_json_path_parser.proofs.Rows.{Follows}
 use Rattle.serde_json_path_parser.specs.Operands.{a_query}

@@ -1,12 +1,6 @@
 -- Integers and number literals: what is read is one, each is read, and where a refusal of one stands.
 use Rattle.std.proofs.Common.{◌≡◌, ℕ, zero, suc, ◌+◌, ◌-◌, ◌*◌, ◌≤◌, inl, inr, Bool, true, false, List, [], ◌∷◌, ◌++◌, drop, Ok, refl, sym, ap, ◌∙◌, arith, ◌^◌, length, Err, append_assoc, ◌<◌, min}
-use Rattle.serde_json_path_parser.proofs.Words.{nat_le, ◌==◌, ℤ, pos, negsuc, ints, largest, ExpectedSelector, IntegerOutOfRange, is_at, cases_Bool}
-use Rattle.serde_json_path_parser.proofs.Words.{begins, is_blank, is_digit, value_from, IsDecimal, IsInt, front, past, byte_count, is_first_digit}
-use Rattle.serde_json_path_parser.proofs.Words.{digits_at, negative, int_at, begins_int, ◌||◌, ◌-ℤ◌, encode_utf8, ExpectedExpression}
-use Rattle.serde_json_path_parser.proofs.Words.{ExponentOrEmptyFraction, FractionTooLong, NumberOutOfRange, AllPass, fraction_of, IsFraction}
-use Rattle.serde_json_path_parser.proofs.Words.{IsAmount, IsNumber, refusal_at, is_exponent, whole_at, digits_after_point_at, fraction_at, amount_at}
-use Rattle.serde_json_path_parser.proofs.Words.{greatest_amount, number_at, mul-le-mul_right, mul-lt-mul_of_pos_right, le-mul_of_pos_right}
-use Rattle.serde_json_path_parser.proofs.Words.{one-le-pow, pow-succ', length-append, pow-add, encode_ascii, encode_utf8_all}
+use Rattle.serde_json_path_parser.proofs.Words.{nat_le, ◌==◌, ℤ, pos, negsuc, ints, largest, ExpectedSelector, IntegerOutOfRange, is_at, cases_Bool, begins, is_blank, is_digit, value_from, IsDecimal, IsInt, front, past, byte_count, is_first_digit, digits_at, negative, int_at, begins_int, ◌||◌, ◌-ℤ◌, encode_utf8, ExpectedExpression, ExponentOrEmptyFraction, FractionTooLong, NumberOutOfRange, AllPass, fraction_of, IsFraction, IsAmount, IsNumber, refusal_at, is_exponent, whole_at, digits_after_point_at, fraction_at, amount_at, greatest_amount, number_at, mul-le-mul_right, mul-lt-mul_of_pos_right, le-mul_of_pos_right, one-le-pow, pow-succ', length-append, pow-add, encode_ascii, encode_utf8_all}
 use Rattle.serde_json_path_parser.specs.declared.error.Context.TheVariants as context
 use Rattle.serde_json_path_parser.proofs.Reading.{begins_where, differs, begins_differs, no_blank, whole, front_each, front_begins, front_begins_not, front_all, past_run, value_least, some_begun, begins_front, Read, after_one, Plain, OutcomeIn, Outcome, read_so, choose, guarded, past_in, made, refused, onward, after_in}
 use Rattle.serde_json_path_syntax.specs.WellFormed.{IsLiteralAmount}

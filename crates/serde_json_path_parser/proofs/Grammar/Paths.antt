@@ -1,13 +1,6 @@
 -- Whole paths, and the promises of a parse.
 use Rattle.std.proofs.Common.{◌≡◌, ◌≢◌, ℕ, ◌≤◌, ◌↔◌, true, false, true≢false, List, [], ◌∷◌, ◌++◌, length, drop, Option, Ok, refl, sym, ap, subst, ◌∙◌, arith, ◌+◌, ◌-◌, inl, inr, ◌<◌, take, Some, Err}
-use Rattle.serde_json_path_parser.proofs.Words.{◌==◌, encode_utf8_all, all_scalars, chars, IsUtf8, IsCharBoundary, append-nil, length-append}
-use Rattle.serde_json_path_parser.proofs.Words.{nil_from_length, eqb-true, SegmentKind, Segments, Segment, deepest, Signature, ParseErrorKind}
-use Rattle.serde_json_path_parser.proofs.Words.{ExpectedRoot, UndefinedFunction, TextAfterPath, NoMemory, IsUndeclared, is_at, begins, Parsed}
-use Rattle.serde_json_path_parser.proofs.Words.{refusal, opens_next, segments_at, segment_list, opens_after_root, level, path_at, encodes-chars}
-use Rattle.serde_json_path_parser.proofs.Words.{encodes-append, scalars-chars, IsCharBoundary-at_seam, ◌&&◌, take-append_seam, drop-append_seam}
-use Rattle.serde_json_path_parser.proofs.Words.{IsCharBoundary-start, chars-encodes, Query, query, root, current, greatest_usize, Refusal, Failure}
-use Rattle.serde_json_path_parser.proofs.Words.{tree_of, signatures_of, opens, AreCalled, Reports, reported, Fails, IsRefused, IsWithin, error_of}
-use Rattle.serde_json_path_parser.proofs.Words.{is_dollar, NeedsNoMemory, ParsedQuery, Answers, checked_view, eq-eqb, length-le-encodes}
+use Rattle.serde_json_path_parser.proofs.Words.{◌==◌, encode_utf8_all, all_scalars, chars, IsUtf8, IsCharBoundary, append-nil, length-append, nil_from_length, eqb-true, SegmentKind, Segments, Segment, deepest, Signature, ParseErrorKind, ExpectedRoot, UndefinedFunction, TextAfterPath, NoMemory, IsUndeclared, is_at, begins, Parsed, refusal, opens_next, segments_at, segment_list, opens_after_root, level, path_at, encodes-chars, encodes-append, scalars-chars, IsCharBoundary-at_seam, ◌&&◌, take-append_seam, drop-append_seam, IsCharBoundary-start, chars-encodes, Query, query, root, current, greatest_usize, Refusal, Failure, tree_of, signatures_of, opens, AreCalled, Reports, reported, Fails, IsRefused, IsWithin, error_of, is_dollar, NeedsNoMemory, ParsedQuery, Answers, checked_view, eq-eqb, length-le-encodes}
 use Rattle.serde_json_path_parser.specs.declared.error.Context.TheVariants as context
 use Rattle.serde_json_path_parser.specs.Filters.{filter_at}
 use Rattle.serde_json_path_parser.proofs.Grammar.LogicalForms.{AreSegmentsText}

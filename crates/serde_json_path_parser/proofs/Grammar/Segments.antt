@@ -1,14 +1,6 @@
 -- Selectors, brackets with them, and segments: what is read is in the grammar, what is in the grammar is read, where a refusal stands.
 use Rattle.std.proofs.Common.{◌≡◌, ◌≤◌, ℕ, inl, inr, true, false, true≢false, List, [], ◌∷◌, ◌++◌, drop, Option, Some, None, Ok, refl, sym, ap, subst, ◌∙◌, append_assoc, arith, ◌<◌, length}
-use Rattle.serde_json_path_parser.proofs.Words.{ℤ, ◌==◌, append-nil, Slice, Selector, slice, index, IsBound, IsSliceStep, IsSlice, false_from_ne_true}
-use Rattle.serde_json_path_parser.proofs.Words.{begins, is_blank, is_digit, IsBlank, IsInt, Parsed, past_blanks, begins_int, bound_at, step_at}
-use Rattle.serde_json_path_parser.proofs.Words.{slice_at, position_at, selector_at, None, name, wildcard, filter, IsQuote, quoted_at, string_at}
-use Rattle.serde_json_path_parser.proofs.Words.{Signature, codes, SegmentKind, long_hand, Selectors, no_selectors, selector, ExpectedClosingBracket}
-use Rattle.serde_json_path_parser.proofs.Words.{ReadSelectors, ReadMoreSelectors, dots_before_bracket, next_selector_at, selectors_at, selector_list}
-use Rattle.serde_json_path_parser.proofs.Words.{bracket_at, Deeper, AreTypedSelectors, selectors_depth, is_at, length-append, child, descendant}
-use Rattle.serde_json_path_parser.proofs.Words.{Segments, no_segments, segment, Segment, dot_name, dot_wildcard, BadMemberName, is_name_first}
-use Rattle.serde_json_path_parser.proofs.Words.{is_name_char, IsName, Joined, opens, dots_before_name, front, many, after_dot, name_at, dotted_at}
-use Rattle.serde_json_path_parser.proofs.Words.{descendant_at, dot_at, segment_at, opens_next, next_segment_at, segments_at, segment_list}
+use Rattle.serde_json_path_parser.proofs.Words.{ℤ, ◌==◌, append-nil, Slice, Selector, slice, index, IsBound, IsSliceStep, IsSlice, false_from_ne_true, begins, is_blank, is_digit, IsBlank, IsInt, Parsed, past_blanks, begins_int, bound_at, step_at, slice_at, position_at, selector_at, None, name, wildcard, filter, IsQuote, quoted_at, string_at, Signature, codes, SegmentKind, long_hand, Selectors, no_selectors, selector, ExpectedClosingBracket, ReadSelectors, ReadMoreSelectors, dots_before_bracket, next_selector_at, selectors_at, selector_list, bracket_at, Deeper, AreTypedSelectors, selectors_depth, is_at, length-append, child, descendant, Segments, no_segments, segment, Segment, dot_name, dot_wildcard, BadMemberName, is_name_first, is_name_char, IsName, Joined, opens, dots_before_name, front, many, after_dot, name_at, dotted_at, descendant_at, dot_at, segment_at, opens_next, next_segment_at, segments_at, segment_list}
 use Rattle.serde_json_path_parser.proofs.Reading.{begins_where, past_some, blanks_of, are_blank, split_blanks, past_all, spread, differs, no_blank, past_end, no_longer, begins_not, some_begun, begins_front, begins_differs, whole, front_each, front_begins, front_all, past_run, Spaced, after_one, Again, many_again, Plain, Inner, Outcome, read_so, choose, weaker, past_text, past_spaced, along, onward, after_spaced, remade, with_blanks, after_sign, made_spaced, inner, guarded, after, read_spaced, made, many_outcome}
 use Rattle.serde_json_path_parser.proofs.Grammar.LogicalForms.{DeeperLaws, IsSelectorText, IsSegmentText, ends_selectors, ends_selector, filter_outcome, filter_again, AreSegmentsText}
 use Rattle.serde_json_path_parser.proofs.Grammar.Numbers.{int_outcome, int_again, int_begins, int_not, int_no_blank}

@@ -1,12 +1,6 @@
 -- String literals: what is read is one, each is read, and where a refusal of one stands.
 use Rattle.std.proofs.Common.{◌≡◌, ℕ, ◌≤◌, ◌+◌, ◌*◌, ◌<◌, ◌⊎◌, inl, inr, Bool, true, false, cond, ◌&&◌, List, [], ◌∷◌, ◌++◌, length, drop, Some, Ok, Err, refl, sym, ap, subst, ◌∙◌, append_assoc, arith}
-use Rattle.serde_json_path_parser.proofs.Words.{cases_lt, nat_le, ◌==◌, not, encode_utf8, encode_utf8_all, eq-eqb, and_parts, eqb_tells}
-use Rattle.serde_json_path_parser.proofs.Words.{length-append, append-nil, ExpectedEndingQuote, BadEscape, ControlCharacter, ◌∈◌, AllPass, is_at}
-use Rattle.serde_json_path_parser.proofs.Words.{begins, hexadecimal_of, IsHex4, IsPiece, plain, quote_escape, letter_escape, hex_escape, pair_escape}
-use Rattle.serde_json_path_parser.proofs.Words.{IsQuote, IsString, Parsed, ◌>>=◌, refusal, many, byte_count, is_hexadecimal, hexadecimal_value, head}
-use Rattle.serde_json_path_parser.proofs.Words.{hexadecimal_at, hex4_at, is_high, is_low, low_at, unicode_at, is_letter_escape, letter_value}
-use Rattle.serde_json_path_parser.proofs.Words.{escape_at, is_control, piece_at, is_inside, string_at, is_ascii_plain, Stretched, encode_ascii}
-use Rattle.serde_json_path_parser.proofs.Words.{Failure, Fails}
+use Rattle.serde_json_path_parser.proofs.Words.{cases_lt, nat_le, ◌==◌, not, encode_utf8, encode_utf8_all, eq-eqb, and_parts, eqb_tells, length-append, append-nil, ExpectedEndingQuote, BadEscape, ControlCharacter, ◌∈◌, AllPass, is_at, begins, hexadecimal_of, IsHex4, IsPiece, plain, quote_escape, letter_escape, hex_escape, pair_escape, IsQuote, IsString, Parsed, ◌>>=◌, refusal, many, byte_count, is_hexadecimal, hexadecimal_value, head, hexadecimal_at, hex4_at, is_high, is_low, low_at, unicode_at, is_letter_escape, letter_value, escape_at, is_control, piece_at, is_inside, string_at, is_ascii_plain, Stretched, encode_ascii, Failure, Fails}
 use Rattle.serde_json_path_parser.specs.declared.error.Context.TheVariants as context
 use Rattle.serde_json_path_parser.proofs.Texts.{plain_below_128, plain_of}
 use Rattle.serde_json_path_parser.proofs.Reading as m

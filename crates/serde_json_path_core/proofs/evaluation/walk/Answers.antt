@@ -1,6 +1,5 @@
 use Rattle.std.proofs.Common.{sym, subst, ap, ◌∙◌}
-use Rattle.serde_json_path_core.proofs.Words.{view, start_of, segments_at, nodes_in, signatures_of, tree_of, frames_view, rest_of, stages, stages_at}
-use Rattle.serde_json_path_core.proofs.Words.{IsResult}
+use Rattle.serde_json_path_core.proofs.Words.{view, start_of, segments_at, nodes_in, signatures_of, tree_of, frames_view, rest_of, stages, stages_at, IsResult}
 use Rattle.serde_json_path_core.proofs.Walks.Chains.{stack-started}
 use Rattle.serde_json_path_core.proofs.Meaning.Derived.{computed_result}
 use Rattle.serde_json_path_core.proofs.Sound.{sound-segments, whole-sound}

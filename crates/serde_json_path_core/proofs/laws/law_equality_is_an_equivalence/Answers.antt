@@ -14,8 +14,7 @@ use Rattle.serde_json_path_numbers.specs.Laws.{IsFinite}
 use Rattle.serde_json_path_numbers.specs.Numbers.{document_number, literal_number}
 use Rattle.serde_json_path_functions.specs.Functions.{all_numbers}
 use Rattle.serde_json_path_core.specs.Compared.{value}
-use Rattle.serde_json_path_core.proofs.Words.{Data, null, boolean, number, string, array, object, Items, no_items, item, Members, no_members, member}
-use Rattle.serde_json_path_core.proofs.Words.{Value, view, items_view, members_view, Compared, nothing, billionths, AreEqual, EqualData, EqualItems, EqualMembers}
+use Rattle.serde_json_path_core.proofs.Words.{Data, null, boolean, number, string, array, object, Items, no_items, item, Members, no_members, member, Value, view, items_view, members_view, Compared, nothing, billionths, AreEqual, EqualData, EqualItems, EqualMembers}
 use Rattle.serde_json_path_core.proofs.laws.law_equality_is_an_equivalence.Goals as goal
 
 -- ---- what a document holds equals itself

@@ -1,11 +1,5 @@
 use Rattle.serde_json_path_parser.proofs.Reading.{first_fails, no_longer}
-use Rattle.serde_json_path_parser.proofs.Words.{drop, ◌∙◌, [], Some, Err, refl, sym, ap, option_map, arith, true≢false, past_blanks, string_bytes}
-use Rattle.serde_json_path_parser.proofs.Words.{nil_from_length, err_from_is_err_and, literal_view, number_amount, operator_view, a_comparable}
-use Rattle.serde_json_path_parser.proofs.Words.{logical_argument, call, number, signature_view, alone, basic_at, or_at, and_at, parameters_at}
-use Rattle.serde_json_path_parser.proofs.Words.{and_list, or_list, named_at, signatures, deeper, begins, opens, a_literal, a_call, left, common_steps}
-use Rattle.serde_json_path_parser.proofs.Words.{bracket_at, next_selector_at, selectors_at, selector_list, next_segment_at, segments_at, segment_list}
-use Rattle.serde_json_path_parser.proofs.Words.{argument_at, logical_from, arguments_at, operand_at, named_call_at, call_at, basic_from, relation_at}
-use Rattle.serde_json_path_parser.proofs.Words.{right_side_at, query_at, negated_at, and_from, or_from, next_basic_at, next_and_at, calls_in_operand}
+use Rattle.serde_json_path_parser.proofs.Words.{drop, ◌∙◌, [], Some, Err, refl, sym, ap, option_map, arith, true≢false, past_blanks, string_bytes, nil_from_length, err_from_is_err_and, literal_view, number_amount, operator_view, a_comparable, logical_argument, call, number, signature_view, alone, basic_at, or_at, and_at, parameters_at, and_list, or_list, named_at, signatures, deeper, begins, opens, a_literal, a_call, left, common_steps, bracket_at, next_selector_at, selectors_at, selector_list, next_segment_at, segments_at, segment_list, argument_at, logical_from, arguments_at, operand_at, named_call_at, call_at, basic_from, relation_at, right_side_at, query_at, negated_at, and_from, or_from, next_basic_at, next_and_at, calls_in_operand}
 use Rattle.serde_json_path_parser.specs.Inside.Giving.{filter_at}
 use Rattle.serde_json_path_parser.specs.Operands.{a_query}
 use Rattle.serde_json_path_parser.proofs.Steps.{none_made, one_more, first_refused, first_open, alone_calls, literal_word_reads, level_down, at_mark, value_kind, negated_named, no_call, grows_none, grows_kept, grows_same, grows_then, grows_call, grown_so, begins_row, row_fails, row_shorter, row_goes_on, row_done, segments_stand, selectors_stand, ors_stand, ands_stand, segment_shorter, some_selectors, some_ors, some_ands}
