@@ -57,7 +57,7 @@ pub use Rattle.serde_json_path_core.specs.Inside.Computed.{SlicePositions, all_t
 pub use Rattle.serde_json_path_core.specs.Inside.Views.{cursor_left, frame_view, frames_view, task_view, child_view}
 pub use Rattle.serde_json_path_core.specs.Inside.Evaluates.{Sound}
 pub use Rattle.serde_json_path_core.specs.Inside.Scopes.{nodes_of, top_of, IsSound}
-pub use Rattle.serde_json_path_core.specs.Inside.SingleChildren.{SelectOnly, single_view, values_from}
+pub use Rattle.serde_json_path_core.specs.Inside.SingleChildren.{SelectOnly, candidate_values, single_view, values_from}
 pub use Rattle.serde_json_path_core.specs.Laws.{AreChildren, AreResultsAt, AreSubtreeResults, with_segment}
 pub use Rattle.serde_json_path_core.specs.Meaning.{Admits, AdmitsBy, AdmitsIn, Answers, AnswersYes, AreArguments, Derives, Exists, Holds, HoldsAll, HoldsBasic, IsArgument, IsComparedAs, IsPositionOf, IsResult, IsTruthOf, MayDescend, SelectsIndex, first_value, params_of}
 pub use Rattle.serde_json_path_core.specs.PatternCalls.{CallsByPattern, StandsIn}

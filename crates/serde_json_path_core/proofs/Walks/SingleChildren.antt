@@ -1,5 +1,5 @@
 -- A query goes down by segments that select one child at most: the values that it selects stay.
-use Rattle.serde_json_path_core.proofs.Words.{IfSome, option_map_or, append-nil, drop_more, length-drop, take-append-drop, take_all, flat_map-map, map-map, Data, Step, Located, FunctionSet, Query, query, kind_of, segments_of, Segments, no_segments, segment, SegmentKind, child, descendant, Segment, Selector, stage_at, stage_of, Stage, piece_at, segment_in, segment_kind_in, segments_at, Node, Part, flat_map-same, map-flat_map, chosen, descents, itself, placed, reached, results, results_from, start_of, beneath, first_value, admitted, candidates, AreChildrenOf, EndsIn, IsIn, child_at, SelectOnly, single_view, values_from, dot_name, index, long_hand, name, no_selectors, selector}
+use Rattle.serde_json_path_core.proofs.Words.{IfSome, option_map_or, append-nil, drop_more, length-drop, take-append-drop, take_all, flat_map-map, map-map, Data, Step, Located, FunctionSet, Query, query, kind_of, segments_of, Segments, no_segments, segment, SegmentKind, child, descendant, Segment, Selector, stage_at, stage_of, Stage, piece_at, segment_in, segment_kind_in, segments_at, Node, Part, flat_map-same, map-flat_map, chosen, descents, itself, placed, reached, results, results_from, start_of, beneath, first_value, admitted, candidates, AreChildrenOf, EndsIn, IsIn, child_at, SelectOnly, candidate_values, single_view, values_from, dot_name, index, long_hand, name, no_selectors, selector}
 use Rattle.std.proofs.Common.{◌≡◌, ℕ, ◌+◌, ◌<◌, List, [], ◌∷◌, ◌++◌, ◌-◌, ◌≤◌, map, take, drop, flat_map, length, get_or, arith, subst, inl, Option, Some, None, option_to_list, slice_get, slice_index_or, true, refl, sym, ap, ◌∙◌}
 use Rattle.serde_json_path_syntax.specs.Kinds.{are_singular}
 use Rattle.std.proofs.lemmas.List.Concat.{flat_map_single}
@@ -26,10 +26,16 @@ ends-at xs i =
     let long : length (drop i xs) ≤ length xs - i = let e = length-drop i xs in omega arith in
     (take i xs, sym (take-append-drop i xs) ∙ ap (λ ys. take i xs ++ ys) (sym (take_all (length xs - i) (drop i xs) long)))
 
--- the child that a selector selects is a child
-pub child-selected : (s : SingleSelector) (v : Data) (c : Step × Data) → c ∷ [] ≡ candidates (single_view s) v → child_at v c.0 ≡ Some c.1
+value_in : (cs : List (Step × Data)) (d : Data) → d ∷ [] ≡ map (λ (c : Step × Data). c.1) cs → (c : Step × Data) × IsIn c cs × (d ≡ c.1)
+value_in [] d e = absurd cc
+value_in (c ∷ cs) d e = (c, inl refl, ap (λ ds. get_or ds 0 d) e)
+
+-- the value that a selector selects is a child's
+pub child-selected : (s : SingleSelector) (v d : Data) → d ∷ [] ≡ candidate_values (single_view s) v → (step : Step) × (child_at v step ≡ Some d)
 unfolding AreChildrenOf
-child-selected s v c e = candidates-of (single_view s) v c (subst (IsIn c) e (inl refl))
+child-selected s v d e =
+    let c = value_in (candidates (single_view s) v) d e in
+    (c.0.0, candidates-of (single_view s) v c.0 c.1 ∙ ap Some (sym c.2))
 
 -- a segment of a singular query is one of a name or an index
 pub singular_stage : (kind : SegmentKind) (seg : Segment) (more : Segments) → are_singular (segment kind seg more) ≡ true
@@ -81,10 +87,9 @@ module _ (F : FunctionSet) (top : Data) where
   plain (single.Index i) cs = refl
 
   -- the values that come of a child, if there is one
-  child_only : (more : Segments) (found : Option (Step × Data))
-      → flat_map (λ (c : Step × Data). values_from F top more c.1) (option_to_list found) ≡ option_map_or (λ c. values_from F top more c.1) found []
+  child_only : (more : Segments) (found : Option Data) → flat_map (values_from F top more) (option_to_list found) ≡ option_map_or (values_from F top more) found []
   child_only more None = refl
-  child_only more (Some c) = append-nil (values_from F top more c.1)
+  child_only more (Some d) = append-nil (values_from F top more d)
 
   -- the values that come of a child segment of one selector, which admits all
   values-only : (kind : SegmentKind) (seg : Segment) (more : Segments) (v : Data) (sel : Selector) → stage_of kind seg ≡ record { kind = child; selectors = sel ∷ [] }
@@ -100,14 +105,16 @@ module _ (F : FunctionSet) (top : Data) where
       ∙ append-nil (admitted F top sel (candidates sel v)) ∙ all (candidates sel v))
 
   -- one part more of so many
-  pub goes_down : (nodes : List Node) (parts : List Part) (i : ℕ) (part : Part) (v : Data) (s : SingleSelector) (found : Option (Step × Data)) → i < length parts → part ≡ get_or parts i part
-      → stage_at nodes part ≡ record { kind = child; selectors = single_view s ∷ [] } → option_to_list found ≡ candidates (single_view s) v
-      → values_from F top (segments_at nodes (drop i parts)) v ≡ option_map_or (λ c. values_from F top (segments_at nodes (drop (i + 1) parts)) c.1) found []
+  pub goes_down : (nodes : List Node) (parts : List Part) (i : ℕ) (part : Part) (v : Data) (s : SingleSelector) (found : Option Data) → i < length parts → part ≡ get_or parts i part
+      → stage_at nodes part ≡ record { kind = child; selectors = single_view s ∷ [] } → option_to_list found ≡ candidate_values (single_view s) v
+      → values_from F top (segments_at nodes (drop i parts)) v ≡ option_map_or (values_from F top (segments_at nodes (drop (i + 1) parts))) found []
   goes_down nodes parts i part v s found within is stage selects =
+      let more = segments_at nodes (drop (i + 1) parts) in
       ap (λ ps. values_from F top (segments_at nodes ps) v) (drop_more parts i part within ∙ ap (λ p. p ∷ drop (i + 1) parts) (sym is))
-      ∙ values-only (segment_kind_in (piece_at nodes part.number)) (segment_in (piece_at nodes part.number)) (segments_at nodes (drop (i + 1) parts)) v (single_view s) stage (plain s)
-      ∙ ap (flat_map (λ (c : Step × Data). values_from F top (segments_at nodes (drop (i + 1) parts)) c.1)) (sym selects)
-      ∙ child_only (segments_at nodes (drop (i + 1) parts)) found
+      ∙ values-only (segment_kind_in (piece_at nodes part.number)) (segment_in (piece_at nodes part.number)) more v (single_view s) stage (plain s)
+      ∙ sym (flat_map-map (values_from F top more) (λ (c : Step × Data). c.1) (candidates (single_view s) v))
+      ∙ ap (flat_map (values_from F top more)) (sym selects)
+      ∙ child_only more found
 
   -- a query's values are those that its segments select from its start
   pub values-query : (q : Query) (v start : Data) (segs : Segments) → segs ≡ segments_of q → start ≡ start_of (kind_of q) top v → map value_of (results F top q v) ≡ values_from F top segs start

@@ -1,22 +1,20 @@
 -- Comparisons, by how their sides are found.
-use Rattle.std.specs.Prelude.{◌≡◌, ℕ, suc, ◌<◌, ◌≤◌, Bool, List, length, map, Option, Some, slice_get, true}
+use Rattle.std.specs.Prelude.{◌≡◌, ℕ, suc, ◌<◌, ◌≤◌, Bool, List, length, Option, Some, slice_get, true}
 use Rattle.serde_json.specs.Data.{Data}
-use Rattle.serde_json_path_nodes.specs.Location.{Step}
 use Rattle.serde_json_path_functions.specs.Functions.{of_value}
 use Rattle.serde_json_path_syntax.specs.declared.node.Part.{Part}
 use Rattle.serde_json_path_syntax.specs.Flat.{call_at, segments_at}
 use Rattle.serde_json_path_syntax.specs.Kinds.{are_singular}
 use Rattle.serde_json_path_syntax.specs.Literals.{operator_view}
-use Rattle.serde_json_path_syntax.specs.Tree.{Operator, Selector}
+use Rattle.serde_json_path_syntax.specs.Tree.{Operator}
 use Rattle.serde_json_path_syntax.specs.PartBounds.{parts_bound}
 use Rattle.serde_json_path_syntax.specs.Typing.{result_kind}
 use Rattle.serde_json_path_core.specs.Compared.{Compared, value_compared}
 use Rattle.serde_json_path_core.specs.Inside.Computed.{answer_compared, compare_sides}
 use Rattle.serde_json_path_core.specs.Inside.Evaluates.{SoundCall, SoundSegments, answer_at, compared_at, or_holds, values_of_segments}
-use Rattle.serde_json_path_core.specs.Inside.Rest.{candidates}
 use Rattle.serde_json_path_core.specs.Inside.Scopes.{nodes_of, set_of}
 use Rattle.serde_json_path_core.specs.Inside.Sides.{side_view}
-use Rattle.serde_json_path_core.specs.Inside.SingleChildren.{single_view}
+use Rattle.serde_json_path_core.specs.Inside.SingleChildren.{candidate_values, single_view}
 use Rattle.serde_json_path_core.specs.declared.evaluation.scope.Scope.{Scope}
 use Rattle.serde_json_path_core.specs.declared.filter.comparison.Comparison.{Comparison}
 use Rattle.serde_json_path_core.specs.declared.filter.comparison.PlainForm.{PlainForm}
@@ -28,14 +26,10 @@ use Rattle.serde_json_path_core.specs.declared.filter.comparison.SideForm.TheVar
 abbrev pub first_compared : List Data → Compared
 first_compared vs = value_compared (slice_get vs 0)
 
--- the child of a value that a selector selects, or Nothing
-abbrev pub child_compared : Selector → Data → Compared
-child_compared sel v = first_compared (map (λ (c : Step × Data). c.1) (candidates sel v))
-
 -- what a side of that form stands for, with `@` at the value
 abbrev pub plain_compared : {F : Type 0} {g : _} → Scope F g → PlainForm → Data → Compared
 plain_compared scope (Fixed side) v = side_view side
-plain_compared scope (Child single) v = child_compared (single_view single) v
+plain_compared scope (Child single) v = first_compared (candidate_values (single_view single) v)
 plain_compared scope (Descent segments) v = first_compared (values_of_segments scope segments.now v)
 
 abbrev pub compared_by : {F : Type 0} {g : _} → Scope F g → SideForm → Data → Option Compared

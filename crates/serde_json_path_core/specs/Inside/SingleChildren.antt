@@ -25,13 +25,17 @@ is_single (name k) = true
 is_single (index i) = true
 is_single _ = false
 
+-- the values of the children that a selector chooses from
+abbrev pub candidate_values : Selector → Data → List Data
+candidate_values sel v = map (λ (c : Step × Data). c.1) (candidates sel v)
+
 -- the values that segments select from a value, in order
 abbrev pub values_from : FunctionSet → Data → Segments → Data → List Data
 values_from F top segs v = map (λ (n : Located). n.value) (results_from F top segs (itself v))
 
 -- the segments are one child segment of that selector alone, which admits all children that it chooses from
 abbrev pub SelectOnly : List Node → List Part → Selector → Type 0
-SelectOnly nodes segments sel = (F : FunctionSet) (top v : Data) → values_from F top (segments_at nodes segments) v ≡ map (λ (c : Step × Data). c.1) (candidates sel v)
+SelectOnly nodes segments sel = (F : FunctionSet) (top v : Data) → values_from F top (segments_at nodes segments) v ≡ candidate_values sel v
 
 -- those that the segments that are left select
 abbrev pub values_reached : FunctionSet → Data → List Node → Reached → List Data

@@ -1,19 +1,17 @@
 //! Frames of a walk: a frame is a value at which one segment is being applied.
 
-ghost use Rattle.std.specs.Prelude.{◌≡◌, ◌+◌, ◌<◌, ◌≤◌, ◌^◌, [], ◌∷◌, None, Some, IfOk, IfErr, MatchOption, drop, length, option_map};
+ghost use Rattle.std.specs.Prelude.{◌≡◌, ◌+◌, ◌<◌, ◌≤◌, ◌^◌, [], ◌∷◌, None, Some, IfOk, IfErr, drop, length, option_map};
 ghost use Rattle.serde_json.specs.View.{view};
+ghost use Rattle.serde_json_path_nodes.specs.Views.{step_view};
 ghost use Rattle.serde_json_path_syntax.specs.Flat.{segment_at, segments_at};
 ghost use Rattle.serde_json_path_syntax.specs.Parts.{nodes_in};
-ghost use Rattle.serde_json_path_syntax.specs.Tree.{filter};
 ghost use Rattle.serde_json_path_syntax.specs.PartBounds.{parts_bound, selector_bound};
 ghost use Rattle.serde_json_path_syntax.specs.Typing.{AreTypedSegments, IsTypedSegment, UnderSome};
 ghost use Rattle.serde_json_path_core.specs.Inside.Evaluates.{IsAtAdmitted, IsAtTask, Passes, Skips, SoundOr, SoundSegment, SoundSelector};
 ghost use Rattle.serde_json_path_core.specs.Inside.Scopes.{MayRefuse, nodes_of, top_of};
-ghost use Rattle.serde_json_path_core.specs.Inside.Views.{cursor_left};
-ghost use Rattle.serde_json_path_core.specs.Inside.Views.{child_view};
+ghost use Rattle.serde_json_path_core.specs.Inside.Views.{child_view, cursor_left, frame_view, frames_view, task_view};
 ghost use Rattle.serde_json_path_core.specs.Inside.Rest.{candidates, entered, opened, begun, passed, IsInside, AllStandIn};
 ghost use Rattle.serde_json_path_syntax.specs.Stages.{selector_view, stage_at, stages_at};
-ghost use Rattle.serde_json_path_core.specs.Inside.Views.{frame_view, frames_view, task_view};
 ghost use Rattle.serde_json_path_functions.specs.declared.error.QueryError.TheVariants.{Pattern};
 
 use crate::child::{Child, item, member};
@@ -92,26 +90,26 @@ fn begin<'b>(query: &Checked, segments: &[Part], number: usize, value: &'b Value
 }
 
 impl<'b> Frame<'b> {
-    /// The frame that a task opens.
-    pub(crate) fn of(query: &Checked, segments: &[Part], task: Task<'b>) -> Frame<'b>
+    /// The frame at a value, where the segment of that number is applied.
+    pub(crate) fn at(
+        query: &Checked,
+        segments: &[Part],
+        step: Option<PathElement<'b>>,
+        number: usize,
+        value: &'b Value,
+    ) -> Frame<'b>
         requires within { parts_bound segments.now ≤ length (nodes_in query.now) }
         requires typed { UnderSome AreTypedSegments
             (segments_at (nodes_in query.now) segments.now) }
-        ensures { let c = child_view task.entry.child in
-            frame_view result ≡ record {
-              step = Some c.0;
-              value = c.1;
-              segment = task.entry.segment;
-              selector = 0;
-              left = begun (drop task.entry.segment (stages_at (nodes_in query.now) segments.now)) c.1;
-            } }
+        ensures { frame_view result ≡ entered (option_map step_view step.entry) number
+            (drop number (stages_at (nodes_in query.now) segments.now)) (view value.now) }
     {
         Frame {
-            step: Some(task.child.step),
-            value: task.child.value,
-            segment: task.segment,
+            step,
+            value,
+            segment: number,
             selector: 0,
-            cursor: begin(query, segments, task.segment, task.child.value),
+            cursor: begin(query, segments, number, value),
         }
     }
 
@@ -179,13 +177,7 @@ pub(crate) fn started<'b>(
         ≡ entered None 0 (stages_at (nodes_in query.now) segments.now) (view value.now) ∷ []) }
 {
     let mut frames = Vec::new(alloc);
-    frames.push(Frame {
-        step: None,
-        value,
-        segment: 0,
-        selector: 0,
-        cursor: begin(query, segments, 0, value),
-    })?;
+    frames.push(Frame::at(query, segments, None, 0, value))?;
     Ok(frames)
 }
 

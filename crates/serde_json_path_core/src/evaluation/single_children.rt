@@ -4,6 +4,7 @@ ghost use Rattle.std.specs.Prelude.{◌≡◌, ◌∷◌, [], ◌≤◌, ◌<◌
 ghost use Rattle.serde_json.specs.Data.{Data};
 ghost use Rattle.serde_json.specs.View.{view};
 ghost use Rattle.serde_json_path_functions.specs.Functions.{FunctionSet};
+ghost use Rattle.serde_json_path_nodes.specs.Views.{node_value};
 ghost use Rattle.serde_json_path_syntax.specs.Flat.{segment_at, segments_at};
 ghost use Rattle.serde_json_path_syntax.specs.Parts.{nodes_in};
 ghost use Rattle.serde_json_path_syntax.specs.PartBounds.{parts_bound};
@@ -13,11 +14,10 @@ ghost use Rattle.serde_json_path_syntax.specs.Kinds.{are_singular};
 ghost use Rattle.serde_json_path_syntax.specs.Tree.{Selector, child, wildcard};
 ghost use Rattle.serde_json_path_syntax.specs.Typing.{AreTypedSegments, IsTypedSegment, UnderSome};
 ghost use Rattle.serde_json_path_core.specs.PatternCalls.{StandsIn};
-ghost use Rattle.serde_json_path_core.specs.Inside.Rest.{candidates, EndsIn};
-ghost use Rattle.serde_json_path_core.specs.Inside.SingleChildren.{SelectOnly, is_single, single_view, values_from, values_reached};
-ghost use Rattle.serde_json_path_core.specs.Inside.Views.{child_view};
+ghost use Rattle.serde_json_path_core.specs.Inside.Rest.{EndsIn};
+ghost use Rattle.serde_json_path_core.specs.Inside.SingleChildren.{SelectOnly, candidate_values, is_single, single_view, values_from, values_reached};
 
-use crate::child::{Child, item, member};
+use crate::child::item;
 use serde_json::Value;
 use serde_json_path_syntax::{Checked, Part, SelectorRef};
 
@@ -96,15 +96,15 @@ pub(crate) fn is_wildcard(query: &Checked, segments: &[Part]) -> bool
     matches!(query.only_selector(*segment), Some(SelectorRef::Wildcard))
 }
 
-/// The child that a selector selects, if there is one.
+/// The value of the child that a selector selects, if there is one.
 #[inline(always)]
-pub(crate) fn select<'b>(single: SingleSelector<'_>, value: &'b Value) -> Option<Child<'b>>
-    ensures { option_to_list (option_map child_view result)
-        ≡ candidates (single_view single.entry) (view value.now) }
+pub(crate) fn select<'b>(single: SingleSelector<'_>, value: &'b Value) -> Option<&'b Value>
+    ensures { option_to_list (option_map node_value result)
+        ≡ candidate_values (single_view single.entry) (view value.now) }
 {
     match single {
-        SingleSelector::Name(name) => member(value, name),
-        SingleSelector::Index(index) => item(value, index),
+        SingleSelector::Name(name) => value.get(name),
+        SingleSelector::Index(index) => Some(item(value, index)?.value),
     }
 }
 
@@ -135,7 +135,7 @@ pub(crate) fn go_down<'q, 'b>(
             };
         };
         match select(selector, reached) {
-            Some(child) => reached = child.value,
+            Some(child) => reached = child,
             None => {
                 return Reached {
                     segments: &segments[passed..],

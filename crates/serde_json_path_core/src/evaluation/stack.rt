@@ -14,6 +14,7 @@ ghost use Rattle.serde_json_path_syntax.specs.Stages.{stages_at};
 ghost use Rattle.serde_json_path_core.specs.Inside.Views.{frames_view, task_view};
 ghost use Rattle.serde_json_path_functions.specs.declared.error.QueryError.TheVariants.{Memory, Pattern};
 
+use crate::child::Child;
 use crate::evaluation::frame::{Frame, Task};
 use crate::evaluation::scope::Scope;
 use serde_json::Value;
@@ -106,7 +107,8 @@ fn enter<'b>(
         return Ok(());
     }
     let last = frames.len() - 1;
-    frames.push(Frame::of(query, segments, task))?;
+    let Child { step, value } = task.child;
+    frames.push(Frame::at(query, segments, Some(step), task.segment, value))?;
     frames[last].pass();
     Ok(())
 }

@@ -8,15 +8,14 @@ ghost use Rattle.serde_json.specs.View.{view};
 ghost use Rattle.serde_json_path_syntax.specs.Flat.{part_query, segments_at};
 ghost use Rattle.serde_json_path_syntax.specs.Kinds.{are_singular, is_singular};
 ghost use Rattle.serde_json_path_syntax.specs.PartBounds.{parts_bound};
-ghost use Rattle.serde_json_path_core.specs.Inside.Comparisons.{IsComparisonOf, SoundForm, SoundPlain, child_compared, compared_by, first_compared, form_bound, plain_compared};
+ghost use Rattle.serde_json_path_core.specs.Inside.Comparisons.{IsComparisonOf, SoundForm, SoundPlain, compared_by, first_compared, form_bound, plain_compared};
 ghost use Rattle.serde_json_path_core.specs.Inside.Evaluates.{SoundComparable, SoundOr, SoundQuery, SoundSegments, compared_at, values_at, values_of_segments};
 ghost use Rattle.serde_json_path_core.specs.Inside.Scopes.{nodes_of};
 ghost use Rattle.serde_json_path_core.specs.Inside.Sides.{side_view};
-ghost use Rattle.serde_json_path_core.specs.Inside.SingleChildren.{single_view};
 
 use crate::evaluation::scope::Scope;
-use crate::evaluation::single_children::{SingleSelector, go_down, only_child};
-use crate::filter::side::{Side, side_of_item, side_of_literal, side_of_value};
+use crate::evaluation::single_children::{SingleSelector, go_down, only_child, select};
+use crate::filter::side::{Side, side_of_literal, side_of_value};
 use serde_json::Value;
 use serde_json_path_functions::Functions;
 use serde_json_path_syntax::{
@@ -67,18 +66,6 @@ fn descended<'b, F: Functions>(
     side_of_value(go_down(scope.query, segments, value).value)
 }
 
-/// The child that a selector selects, or Nothing.
-// By name it takes no `Child`, whose step is not wanted.
-#[inline(always)]
-fn child_side<'b>(selector: SingleSelector<'_>, value: &'b Value) -> Side<'b>
-    ensures { side_view result ≡ child_compared (single_view selector.entry) (view value.now) }
-{
-    match selector {
-        SingleSelector::Name(name) => side_of_value(value.get(name)),
-        SingleSelector::Index(index) => side_of_item(value, index),
-    }
-}
-
 /// What a side of that form stands for, with `@` at the value.
 #[inline(always)]
 pub(crate) fn plain_side<'x, 'q: 'x, 'b: 'x, F: Functions>(
@@ -93,7 +80,7 @@ pub(crate) fn plain_side<'x, 'q: 'x, 'b: 'x, F: Functions>(
         PlainForm::Fixed(side) => side,
         PlainForm::Child(selector) => {
             let current: &'x Value = current;
-            child_side(selector, current)
+            side_of_value(select(selector, current))
         }
         PlainForm::Descent(segments) => {
             let current: &'x Value = current;

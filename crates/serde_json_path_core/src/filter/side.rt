@@ -12,9 +12,7 @@ ghost use Rattle.serde_json_path_numbers.specs.Views.{exact_view};
 ghost use Rattle.serde_json_path_syntax.specs.Flat.{held_view};
 ghost use Rattle.serde_json_path_syntax.specs.Kinds.{literal_fits};
 ghost use Rattle.serde_json_path_core.specs.Inside.Sides.{side_view};
-ghost use Rattle.serde_json_path_core.specs.Inside.Computed.{item_at};
 
-use crate::child::item;
 use serde_json::{Number, Value};
 use serde_json_path_functions::{FunctionValue, ValueType};
 use serde_json_path_numbers::ExactNumber;
@@ -41,17 +39,6 @@ pub(crate) fn side_of_value(found: Option<&Value>) -> Side<'_>
 {
     match found {
         Some(value) => Side::Value(value),
-        None => Side::Nothing,
-    }
-}
-
-/// The item of an array at an index, or Nothing.
-#[inline(always)]
-pub(crate) fn side_of_item(value: &Value, index: i64) -> Side<'_>
-    ensures { side_view result ≡ value_compared (option_map (λ c. c.1) (item_at (view value.now) index)) }
-{
-    match item(value, index) {
-        Some(child) => Side::Value(child.value),
         None => Side::Nothing,
     }
 }

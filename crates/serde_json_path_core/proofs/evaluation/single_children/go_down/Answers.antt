@@ -1,5 +1,5 @@
 use Rattle.std.proofs.Common.{get_or, None, Some, ◌∙◌, arith, sym, true≢false}
-use Rattle.serde_json_path_core.proofs.Words.{get_or_default, view, pieces, nodes_in, Part, within_get, typed_segment, child_view}
+use Rattle.serde_json_path_core.proofs.Words.{get_or_default, view, pieces, nodes_in, Part, within_get, typed_segment}
 use Rattle.serde_json_path_core.proofs.Walks.Chains.{child_stands}
 use Rattle.serde_json_path_core.proofs.Walks.SingleChildren.{child-selected, ends-at, goes_down, next-singular}
 use Rattle.serde_json_path_core.proofs.evaluation.single_children.go_down.Goals as goal
@@ -44,7 +44,8 @@ loop-passed-preserved c =
     let parts = c.args.segments.now in
     let i = c.loop-passed.passed in
     let first : Part = record { number = 0 } in
-    let child = child_view c.in-Some-select.child in
+    let child = view c.in-Some-select.child.now in
+    let selected = child-selected c.in-Some.selector (view c.loop-passed.reached.now) child c.in-Some-select.ensures in
     record {
       selects = λ F top.
           c.loop-passed.invariant.selects F top
@@ -53,7 +54,7 @@ loop-passed-preserved c =
       singular = λ all.
           (next-singular (nodes_in c.args.query.now) parts i (get_or parts i first) c.loop-passed-test.true (get_or_default parts i first (get_or parts i first) c.loop-passed-test.true) (c.loop-passed.invariant.singular all)).3;
       inside = λ top stands.
-          child_stands top (view c.loop-passed.reached.now) child.0 child.1 (child-selected c.in-Some.selector (view c.loop-passed.reached.now) child c.in-Some-select.ensures) (c.loop-passed.invariant.inside top stands);
+          child_stands top (view c.loop-passed.reached.now) selected.0 child selected.1 (c.loop-passed.invariant.inside top stands);
     }
 
 pub returns-in_default-clause-whole : goal.returns-in_default-clause-whole

@@ -12,6 +12,6 @@ returns-clause-ok c =
     let with_leaf : Bool → List Frame = λ leaf. front ++ cond leaf [] (entered (Some task.1.0) task.0 (drop task.0 all) task.1.1 ∷ []) in
     let some = c.requires.some in
     let len = c.len-last.ensures ∙ frames.ok.0 in
-    sees_passed_below frames.items c.push.new.self.items (c.len-last.result - 1) c.index_mut.result.now c.pass.new.self c.of.result (omega arith) c.in_ok-push.ensures.items
+    sees_passed_below frames.items c.push.new.self.items (c.len-last.result - 1) c.index_mut.result.now c.pass.new.self c.at.result (omega arith) c.in_ok-push.ensures.items
     c.index_mut.ensures.value c.pass.ensures
-    ∙ ap (λ q. front ++ q ∷ []) c.of.ensures ∙ ap with_leaf (sym c.if-is_leaf.false ∙ c.is_leaf.ensures)
+    ∙ ap (λ q. front ++ q ∷ []) c.at.ensures ∙ ap with_leaf (sym c.if-is_leaf.false ∙ c.is_leaf.ensures)
