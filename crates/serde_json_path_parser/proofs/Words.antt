@@ -1,17 +1,14 @@
 -- The words of definitions that proofs cite, from one place.
 unfoldable pub use Rattle.serde_json_path_nodes.specs.Text.{in_decimal}
-unfoldable pub use Rattle.serde_json_path_parser.specs.Filters.{and_at, and_from, argument_at, arguments_at, basic_at, basic_from, call_at}
-unfoldable pub use Rattle.serde_json_path_parser.specs.Filters.{comparable_at, ended, level, literal_word_at, logical_from, named_at, named_call_at}
-unfoldable pub use Rattle.serde_json_path_parser.specs.Filters.{negated_at, negated_call_at, next_and_at, next_basic_at, operand_at, or_at, or_from}
-unfoldable pub use Rattle.serde_json_path_parser.specs.Filters.{parameters_at, paren_at, path_at, query_at, relation_at, right_side_at, test_at}
-unfoldable pub use Rattle.serde_json_path_parser.specs.Filters.{text_at}
-unfoldable pub use Rattle.serde_json_path_parser.specs.Numbers.{amount_at, digits_after_point_at, fraction_at, number_at, whole_at}
+unfoldable pub use Rattle.serde_json_path_parser.specs.Filters.{argument_at, level, named_call_at, path_at, text_at}
+unfoldable pub use Rattle.serde_json_path_parser.specs.Numbers.{amount_at, fraction_at}
 unfoldable pub use Rattle.serde_json_path_parser.specs.Parsed.{many, many_at}
-unfoldable pub use Rattle.serde_json_path_parser.specs.Parsing.{bound_at, bracket_at, descendant_at, digits_at, dot_at, dotted_at, int_at, name_at}
-unfoldable pub use Rattle.serde_json_path_parser.specs.Parsing.{next_segment_at, next_selector_at, position_at, quoted_at, segment_at, selector_at}
-unfoldable pub use Rattle.serde_json_path_parser.specs.Parsing.{selectors_at, slice_at, step_at}
-unfoldable pub use Rattle.serde_json_path_parser.specs.Strings.{escape_at, hex4_at, hexadecimal_at, low_at, piece_at, string_at, unicode_at}
-pub use Rattle.std.proofs.Common.{Err, Ok, Result, [], ap, arith, drop, is_ok, length, min, option_map, refl, rules, sym, true, true≢false, ◌++◌, ◌+◌, ◌-◌, ◌<◌, ◌∙◌, ◌≡◌, ◌≤◌}
+unfoldable pub use Rattle.serde_json_path_parser.specs.Parsing.{quoted_at}
+pub use Rattle.serde_json_path_parser.specs.Filters.{and_at, and_from, arguments_at, basic_at, basic_from, call_at, comparable_at, ended, literal_word_at, logical_from, named_at, negated_at, negated_call_at, next_and_at, next_basic_at, operand_at, or_at, or_from, parameters_at, paren_at, query_at, relation_at, right_side_at, test_at, Deeper, alone, and_list, begins_call, ends_argument, operator_at, or_list, past_word, word, filter_at}
+pub use Rattle.serde_json_path_parser.specs.Numbers.{digits_after_point_at, number_at, whole_at, greatest_amount, is_exponent}
+pub use Rattle.serde_json_path_parser.specs.Parsing.{bound_at, bracket_at, descendant_at, digits_at, dot_at, dotted_at, int_at, name_at, next_segment_at, next_selector_at, position_at, segment_at, selector_at, selectors_at, slice_at, step_at, after_dot, begins_int, is_first_digit, negative, opens_after_root, opens_next, segment_list, segments_at, selector_list}
+pub use Rattle.serde_json_path_parser.specs.Strings.{escape_at, hex4_at, hexadecimal_at, low_at, piece_at, string_at, unicode_at, head, hexadecimal_value, is_control, is_hexadecimal, is_high, is_inside, is_letter_escape, is_low, letter_value}
+pub use Rattle.std.proofs.Common.{Err, Ok, Result, [], ap, arith, drop, is_ok, length, min, option_map, refl, rules, sym, true, true≢false, ◌++◌, ◌+◌, ◌-◌, ◌<◌, ◌∙◌, ◌≡◌, ◌≤◌, ℕ, Bool, false, List, ◌∷◌, append_assoc, inl, inr, zero, suc, subst, ◌⊎◌, Option, cond, get_or, take, set, if◌then◌else◌, ◌≢◌, map, lt-ltb, unwrap_or, ltb-true, ltb-false}
 pub use Rattle.std.proofs.Math.Nat.{le-mul_of_pos_right, mul-le-mul_right, mul-lt-mul_of_pos_right, mul-mod_left, mul-sub, mul_assoc, mul_comm, one-le-pow, pow-succ'}
 pub use Rattle.std.proofs.Math.Seq.{drop-append_seam, take-append_seam}
 pub use Rattle.std.proofs.lemmas.Bool.{and_parts, cases_Bool, cases_lt, eq-eqb, eqb-true, false_from_ne_true, le-ltb, or_parts, or_right}
@@ -47,22 +44,21 @@ pub use Rattle.serde_json_path_syntax.specs.Typing.{AreTypedArguments, AreTypedS
 pub use Rattle.serde_json_path_syntax.specs.Used.{AreCalled, AreDeclared, MayFinish, deepest, names_in}
 pub use Rattle.serde_json_path_syntax.specs.declared.builder.SyntaxBuilder.{SyntaxBuilder}
 pub use Rattle.serde_json_path_syntax.specs.declared.node.Part.{Part}
-pub use Rattle.serde_json_path_parser.specs.Filters.{Deeper, alone, and_list, begins_call, ends_argument, operator_at, or_list, past_word, word}
 pub use Rattle.serde_json_path_parser.specs.Grammar.{InParentheses, IsBound, IsLiteral, IsSign, IsSlice, IsSliceStep, Negated, ReadArguments, ReadMoreAnds, ReadMoreArguments, ReadMoreOrs, ReadMoreSelectors, ReadSegments, ReadSelectors, Reads, ReadsAnd, ReadsArgument, ReadsBasic, ReadsCall, ReadsComparable, ReadsOr, ReadsSegment, ReadsSelector, StandsAlone, dots_before_bracket, dots_before_name, operator_sign, query_sign}
-pub use Rattle.serde_json_path_parser.specs.Inside.Looking.{IsAhead, is_ascii, limit_of, LooksOn, Gathered, Stretched, is_ascii_name_char, is_ascii_plain}
+pub use Rattle.serde_json_path_parser.specs.Inside.Looking.{IsAhead, is_ascii, limit_of, LooksOn, Gathered, Stretched, is_ascii_name_char, is_ascii_plain, begins_operator}
 pub use Rattle.serde_json_path_parser.specs.Inside.Giving.{Moves, left, Fails, Gives, Grows, GrowsFrom, IsRefused, IsWithin, MakesArguments, error_of, segment_piece, at_level, deeper, signatures, literal_word}
 pub use Rattle.serde_json_path_parser.specs.Lexical.{AllPass, ArePieces, IsAmount, IsBlank, IsDecimal, IsFraction, IsFunctionName, IsHex4, IsInt, IsName, IsNumber, IsPiece, IsQuote, IsString, Joined, are_at, begins, begins_both, escaped_by, fraction_of, hex_escape, hexadecimal_of, is_at, is_blank, is_digit, is_function_char, is_name_char, is_name_first, is_plain, is_small_letter, letter_escape, opens, pair_escape, pair_of, plain, quote_escape, value_from, ◌∈◌}
-pub use Rattle.serde_json_path_parser.specs.Numbers.{greatest_amount, is_exponent}
-pub use Rattle.serde_json_path_parser.specs.Operands.{Operand, a_call, a_literal, calls_in_operand, fits, is_result, is_test, is_value_literal, is_whole, takes_result}
+pub use Rattle.serde_json_path_parser.specs.Operands.{Operand, a_call, a_literal, calls_in_operand, fits, is_result, is_test, is_value_literal, is_whole, takes_result, a_query}
 pub use Rattle.serde_json_path_parser.specs.Parse.{Answers, NeedsNoMemory, ParsedQuery, checked_view, is_dollar}
 pub use Rattle.serde_json_path_parser.specs.Parsed.{Parsed, byte_count, front, past, past_blanks, refusal, refusal_at, ◌>>=◌}
-pub use Rattle.serde_json_path_parser.specs.Parsing.{after_dot, begins_int, is_first_digit, negative, opens_after_root, opens_next, segment_list, segments_at, selector_list}
 pub use Rattle.serde_json_path_parser.specs.Reported.{IsUndeclared, Reports, reported}
 pub use Rattle.serde_json_path_parser.specs.Source.{Told, greatest_usize, looked, one_more}
-pub use Rattle.serde_json_path_parser.specs.Strings.{head, hexadecimal_value, is_control, is_hexadecimal, is_high, is_inside, is_letter_escape, is_low, letter_value}
 pub use Rattle.serde_json_path_parser.specs.declared.error.Failure.{Failure}
 pub use Rattle.serde_json_path_parser.specs.declared.error.ParseErrorKind.{ParseErrorKind}
 pub use Rattle.serde_json_path_parser.specs.declared.error.ParseErrorKind.TheVariants.{BadEscape, BadMemberName, ControlCharacter, ExpectedClosingBracket, ExpectedClosingParenthesis, ExpectedComparisonOperator, ExpectedEndingQuote, ExpectedExpression, ExpectedRoot, ExpectedSelector, ExponentOrEmptyFraction, FractionTooLong, IntegerOutOfRange, NestedTooDeep, NoMemory, NonSingularQuery, NumberOutOfRange, TextAfterPath, UndefinedFunction, WrongArgumentType, WrongNumberOfArguments, WrongReturnType}
 pub use Rattle.serde_json_path_parser.specs.declared.error.Refusal.{Refusal}
 pub use Rattle.serde_json_path_parser.specs.declared.parser.reader.Reader.{Reader}
 pub use Rattle.serde_json_path_parser.specs.declared.source.PathSource.{Ghosts}
+pub use Rattle.serde_json_path_parser.specs.declared.error.Failure.TheVariants.{Memory, Refused}
+pub use Rattle.serde_json_path_parser.specs.declared.error.Context.{Context}
+pub use Rattle.serde_json_path_parser.specs.declared.error.Context.TheVariants.{LongHand}

@@ -1,5 +1,4 @@
-use Rattle.std.proofs.Common.{◌≡◌, true, false, drop, refl, sym, ap, ◌∙◌, arith, is_ok, rules}
-use Rattle.serde_json_path_parser.proofs.Words.{string_bytes, ◌==◌, common_steps, err_from_is_err_and, begins, left, is_inside, string_at}
+use Rattle.serde_json_path_parser.proofs.Words.{string_bytes, ◌==◌, common_steps, err_from_is_err_and, begins, left, is_inside, string_at, ◌≡◌, true, false, drop, refl, sym, ap, ◌∙◌, arith, is_ok, rules}
 use Rattle.serde_json_path_parser.proofs.Grammar.Strings.{piece_takes}
 use Rattle.serde_json_path_parser.proofs.Grammar.Strings as t
 use Rattle.serde_json_path_parser.proofs.parser.primitive.string.parse_string.Goals as goal

@@ -1,5 +1,5 @@
-use Rattle.serde_json_path_parser.proofs.Words.{◌≡◌, ◌+◌, length, refl, sym, ap, ◌∙◌, arith, slice_get_past, limit_of}
-use Rattle.serde_json_path_parser.proofs.Texts.{some_next, utf8_of, step, step_one}
+use Rattle.serde_json_path_parser.proofs.Words.{◌≡◌, ◌+◌, length, refl, sym, ap, ◌∙◌, arith, slice_get_past, limit_of, IsUtf8-from_is_utf8}
+use Rattle.serde_json_path_parser.proofs.Texts.{some_next, step, step_one}
 use Rattle.serde_json_path_parser.proofs.parser.reader.Reader.take_char.Goals as goal
 use Rattle.serde_json_path_parser.proofs.parser.reader.Reader.take_char.Goals.{in-None+in-None-second, in-Some, in-None+in-Some-second}
 
@@ -50,7 +50,7 @@ returns-then-lead-lt128-clause-value g c =
     ]
 
 pub wide_character_at-c-requires-clause-utf8 : goal.wide_character_at-c-requires-clause-utf8
-wide_character_at-c-requires-clause-utf8 g c = utf8_of _ c.args.self.now.utf8
+wide_character_at-c-requires-clause-utf8 g c = IsUtf8-from_is_utf8 _ c.args.self.now.utf8
 
 pub invariant_of-self-2-clause-utf8 : goal.invariant_of-self-2-clause-utf8
 invariant_of-self-2-clause-utf8 g c =
