@@ -341,9 +341,6 @@ pub after_sign : (k : ℕ) (cs : List ℕ) → begins (λ c. c == k) cs ≡ true
 after_sign k cs e = after_one k cs e ∙ ap (λ (l : List ℕ). k ∷ l) (whole is_blank (drop 1 cs))
 
 module _ {A : Type 0} {is : List ℕ → A → Type 0} {Tells : ParseErrorKind → List ℕ → Type 0} {start cs : List ℕ} where
-  pub read_so : (x : A × List ℕ) → Read is cs x → OutcomeIn is Tells start cs (Ok x)
-  read_so x h = gives x h
-
   pub read_spaced : (x : A × List ℕ) → Read is cs x → OutcomeIn (Spaced is) Tells start cs (Ok (x.0, past_blanks x.1))
   read_spaced x h = gives (x.0, past_blanks x.1) (with_blanks is cs x h)
 
@@ -400,13 +397,13 @@ module _ {A : Type 0} {is : List ℕ → A → Type 0} {Tells : ParseErrorKind �
   -- a step that makes something of what it reads
   pub made : {B : Type 0} {is_made : List ℕ → B → Type 0} {read : Parsed A} (make : A → B) → ((t : List ℕ) (a : A) → is t a → is_made t (make a)) → OutcomeIn is Tells start cs read
       → OutcomeIn is_made Tells start cs (read >>= λ a. Ok (make a.0, a.1))
-  made make good h = onward h (λ x e r. read_so (make x.0, x.1) (record { text = r.text; is_so = good r.text x.0 r.is_so; split = r.split }))
+  made make good h = onward h (λ x e r. gives (make x.0, x.1) (record { text = r.text; is_so = good r.text x.0 r.is_so; split = r.split }))
 
   -- one that goes past the blanks after it, too
   pub made_spaced : {B : Type 0} {is_made : List ℕ → B → Type 0} {read : Parsed A} (make : A → B) → ((t : List ℕ) (a : A) → is t a → is_made t (make a)) → OutcomeIn is Tells start cs read
       → OutcomeIn (Spaced is_made) Tells start cs (read >>= λ a. Ok (make a.0, past_blanks a.1))
   made_spaced {is_made} make good h = onward h (λ x e r.
-      read_so (make x.0, past_blanks x.1) (with_blanks is_made cs (make x.0, x.1) (record { text = r.text; is_so = good r.text x.0 r.is_so; split = r.split })))
+      gives (make x.0, past_blanks x.1) (with_blanks is_made cs (make x.0, x.1) (record { text = r.text; is_so = good r.text x.0 r.is_so; split = r.split })))
 
 module _ {A : Type 0} {is : List ℕ → A → Type 0} {Tells : ParseErrorKind → List ℕ → Type 0} {cs : List ℕ} where
   -- one step, and the next, which refuses in what is left
@@ -416,7 +413,7 @@ module _ {A : Type 0} {is : List ℕ → A → Type 0} {Tells : ParseErrorKind �
 
   -- what was read with the blanks after it is also something else
   pub read_as : {B : Type 0} {is_made : List ℕ → B → Type 0} {x : A × List ℕ} (y : B) → Read (Spaced is) cs x → ((t : List ℕ) → is t x.0 → is_made t y) → Outcome (Spaced is_made) Tells cs (Ok (y, x.1))
-  read_as {x} y r good = read_so (y, x.1) (record { text = r.text; is_so = (r.is_so.0, r.is_so.1, good r.is_so.0 r.is_so.2, r.is_so.3, r.is_so.4); split = r.split })
+  read_as {x} y r good = gives (y, x.1) (record { text = r.text; is_so = (r.is_so.0, r.is_so.1, good r.is_so.0 r.is_so.2, r.is_so.3, r.is_so.4); split = r.split })
 
   pub after_spaced : {B : Type 0} {is_whole : List ℕ → B → Type 0} {read : Parsed A} {next : A × List ℕ → Parsed B} → Outcome is Tells cs read
       → ((x : A × List ℕ) → read ≡ Ok x → (r : Read is cs x) → Outcome (Spaced (λ u y. is_whole (r.text ++ u) y)) Tells x.1 (next x)) → Outcome (Spaced is_whole) Tells cs (read >>= next)
@@ -436,7 +433,7 @@ inner h = stands_so (λ r s. record { before = s.before; rest = s.rest; split = 
 module _ {A : Type 0} (is : List ℕ → A → Type 0) (Tells : ParseErrorKind → List ℕ → Type 0) (more : List ℕ → Bool) (item : List ℕ → Parsed A)
     (each : (cs : List ℕ) → more cs ≡ true → Outcome is Tells cs (item cs)) where
   none : (cs : List ℕ) → Outcome (Joined is) Tells cs (Ok ([], cs))
-  none cs = read_so ([], cs) (record { text = []; is_so = refl; split = refl })
+  none cs = gives ([], cs) (record { text = []; is_so = refl; split = refl })
 
   pub many_outcome : (n : ℕ) (cs : List ℕ) → Outcome (Joined is) Tells cs (many_at more item n cs)
   unfolding many_at

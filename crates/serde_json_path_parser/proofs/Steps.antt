@@ -1,9 +1,7 @@
 -- Steps of the code: rows of items that a loop reads, how the builder grows by them, arguments, and what stands in filters.
-use Rattle.serde_json_path_parser.proofs.Words.{◌↔◌, append-nil, map-append, name_of, names_of, calls_in_segments, calls_from, calls_in_arguments, KeepsParts, KeepsTrees, calls_in, AreDeclared, MayFinish, deepest, names_in, IsTyped, depth, Part, query, root, Segments, Call, call, Arguments, SyntaxBuilder, Signature, Grows, Parsed, Failure, Reader, Ghosts, SegmentKind, Segment, ArePartsOf, segment_list, length-append, Piece, IsPart, ArePartsFor, parts_for_kept, Fails, GrowsFrom, ◌>>=◌, many, Selector, LogicalOr, LogicalAnd, Basic, Deeper, a_selector, an_and, a_basic, segment_piece, segment_pieces, selector_pieces, or_pieces, and_pieces, calls_in_selectors, calls_in_or, calls_in_and, selector_list, or_list, and_list, past_blanks, is_at, are_at, begins, opens, opens_next, level, segment_at, selector_at, and_at, basic_at, no_arguments, argument, Argument, Kind, ExpectedClosingParenthesis, calls_in_argument, an_argument, Gives, MakesArguments, refusal, ends_argument, argument_at, arguments_at, nat_tests, Literal, ExpectedExpression, Operand, a_literal, word, past_word, literal_word_at, literal_word, of_value, kind_view, is_result, ◌==◌, filter, byte_count, or_at, call_at, IsTrue, calls_in_operand, alone, is_singular, is_whole, is_value_literal, number, IsValueLiteral, Query, IsSingular, cases_Bool, not_test, result_kind, WrongReturnType, begins_call, named_call_at, named_at, negated_at, a_call, cond, ◌||◌, ◌≡◌, ◌≤◌, ℕ, List, [], ◌∷◌, ◌++◌, inl, inr, Some, Option, Result, Ok, Err, refl, sym, ap, subst, ◌∙◌, append_assoc, ◌<◌, Bool, true, false, length, arith, drop, None, zero, suc, ◌-◌, Memory, Refused, Context, filter_at, LongHand}
-use Rattle.serde_json_path_parser.specs.Inside.Giving.{MakesSo, IsOperandOf}
+use Rattle.serde_json_path_parser.proofs.Words.{◌↔◌, append-nil, map-append, name_of, names_of, calls_in_segments, calls_from, calls_in_arguments, KeepsParts, KeepsTrees, calls_in, AreDeclared, MayFinish, deepest, names_in, IsTyped, depth, Part, query, root, Segments, Call, call, Arguments, SyntaxBuilder, Signature, Grows, Parsed, Failure, Reader, Ghosts, SegmentKind, Segment, ArePartsOf, segment_list, length-append, Piece, IsPart, ArePartsFor, parts_for_kept, Fails, GrowsFrom, ◌>>=◌, many, Selector, LogicalOr, LogicalAnd, Basic, Deeper, a_selector, an_and, a_basic, segment_piece, segment_pieces, selector_pieces, or_pieces, and_pieces, calls_in_selectors, calls_in_or, calls_in_and, selector_list, or_list, and_list, past_blanks, is_at, are_at, begins, opens, opens_next, level, segment_at, selector_at, and_at, basic_at, no_arguments, argument, Argument, Kind, ExpectedClosingParenthesis, calls_in_argument, an_argument, Gives, MakesArguments, refusal, ends_argument, argument_at, arguments_at, nat_tests, Literal, ExpectedExpression, Operand, a_literal, word, past_word, literal_word_at, literal_word, of_value, kind_view, is_result, ◌==◌, filter, byte_count, or_at, call_at, IsTrue, calls_in_operand, alone, is_singular, is_whole, is_value_literal, number, IsValueLiteral, Query, IsSingular, cases_Bool, not_test, result_kind, WrongReturnType, begins_call, named_call_at, named_at, negated_at, a_call, cond, ◌||◌, ◌≡◌, ◌≤◌, ℕ, List, [], ◌∷◌, ◌++◌, inl, inr, Some, Option, Result, Ok, Err, refl, sym, ap, subst, ◌∙◌, append_assoc, ◌<◌, Bool, true, false, length, arith, drop, None, zero, suc, ◌-◌, Memory, Refused, Context, filter_at, LongHand, MakesSo, IsOperandOf, calls_in_piece, same_from_decides, query_singular}
 use Rattle.serde_json_path_syntax.proofs.Names.Finishing.{may_finish}
 use Rattle.serde_json_path_syntax.proofs.Lists.{in_append}
-use Rattle.serde_json_path_syntax.specs.Piece.{calls_in_piece}
 use Rattle.serde_json_path_parser.proofs.Grammar.Calls.{level_laws, amount_whole, whole_amount}
 use Rattle.serde_json_path_parser.proofs.Grammar.LogicalExpressions.{next_basic_takes, next_and_takes}
 use Rattle.serde_json_path_parser.proofs.Grammar.Segments as segments
@@ -14,9 +12,7 @@ use denote.Enum.Bare.{sameb}
 use Rattle.serde_json_path_functions.specs.contracts.types.FunctionArgType.{the_type}
 use Rattle.serde_json_path_functions.specs.declared.types.FunctionArgType.{FunctionArgType}
 use Rattle.serde_json_path_functions.specs.declared.types.FunctionArgType.TheVariants as results
-use Rattle.std.proofs.lemmas.Bool.Decides.{same_from_decides}
 use Rattle.serde_json_path_parser.proofs.Grammar.LogicalForms.{singular_query}
-use Rattle.serde_json_path_syntax.proofs.Tree.NamedParts.{query_singular}
 
 -- ---- how the builder grows, and by which calls; and which parts stand for no segment
 

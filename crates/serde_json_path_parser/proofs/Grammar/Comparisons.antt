@@ -1,9 +1,8 @@
 -- Operands, comparisons and tests, by what holds one level deeper.
-use Rattle.serde_json_path_parser.proofs.Words.{◌==◌, codes, bytes_eq, ℤ, and_parts, ReadSegments, is_digit, is_exponent, nat_le, ◌&&◌, bytes_eq-Decides, QueryKind, root, current, query, Call, Literal, text, number, truth, null, Segments, call, Signature, ExpectedExpression, is_at, begins, is_small_letter, is_function_char, IsFunctionName, IsQuote, AllPass, is_blank, is_name_char, IsNumber, opens, IsLiteral, Reads, ReadsCall, query_sign, Parsed, past_blanks, byte_count, string_at, segment_list, begins_int, opens_next, Operand, a_literal, a_call, Deeper, word, past_word, begins_call, literal_word_at, query_at, named_call_at, text_at, operand_at, ◌>>=◌, Basic, relation, exist, test, Comparable, literal, singular, called, Operator, equal, less, greater, result_kind, IsTestKind, Kind, of_value, of_nodes, of_logical, NonSingularQuery, WrongReturnType, ExpectedComparisonOperator, IsBlank, operator_sign, is_result, operator_at, comparable_at, test_at, right_side_at, relation_at, basic_from, ℕ, ◌<◌, ◌≡◌, inl, inr, true, false, List, [], ◌∷◌, ◌++◌, drop, Option, Ok, refl, sym, ap, ◌∙◌, append_assoc, Bool, arith, cond, Some, None, subst, LongHand, a_query, named_at, or_parts, begins_operator}
-use Rattle.serde_json_path_syntax.proofs.Tree.NamedParts.{query_singular}
+use Rattle.serde_json_path_parser.proofs.Words.{◌==◌, codes, bytes_eq, ℤ, and_parts, ReadSegments, is_digit, is_exponent, nat_le, ◌&&◌, bytes_eq-Decides, QueryKind, root, current, query, Call, Literal, text, number, truth, null, Segments, call, Signature, ExpectedExpression, is_at, begins, is_small_letter, is_function_char, IsFunctionName, IsQuote, AllPass, is_blank, is_name_char, IsNumber, opens, IsLiteral, Reads, ReadsCall, query_sign, Parsed, past_blanks, byte_count, string_at, segment_list, begins_int, opens_next, Operand, a_literal, a_call, Deeper, word, past_word, begins_call, literal_word_at, query_at, named_call_at, text_at, operand_at, ◌>>=◌, Basic, relation, exist, test, Comparable, literal, singular, called, Operator, equal, less, greater, result_kind, IsTestKind, Kind, of_value, of_nodes, of_logical, NonSingularQuery, WrongReturnType, ExpectedComparisonOperator, IsBlank, operator_sign, is_result, operator_at, comparable_at, test_at, right_side_at, relation_at, basic_from, ℕ, ◌<◌, ◌≡◌, inl, inr, true, false, List, [], ◌∷◌, ◌++◌, drop, Option, Ok, refl, sym, ap, ◌∙◌, append_assoc, Bool, arith, cond, Some, None, subst, LongHand, a_query, named_at, or_parts, begins_operator, query_singular}
 use Rattle.serde_json_path_parser.proofs.Grammar.LogicalForms.{IsGoodQuery, IsGoodCall, DeeperLaws, ends_operand, IsCallText, IsOperandText, singular_query, ends_basic, IsBasicText, IsComparableText, begins_operand, operand_begins, as_expression, no_blank_begins}
 use Rattle.serde_json_path_parser.proofs.Grammar.Numbers.{number_outcome, goes_on, number_first, number_again}
-use Rattle.serde_json_path_parser.proofs.Reading.{whole, front_each, front_begins, some_begun, begins_front, begins_where, differs, begins_differs, front_all, past_run, no_blank, blanks_of, begins_not, Spaced, after_one, Read, after_two, made_spaced, read_spaced, guarded, along, choose, inner, past_spaced, remade, Outcome, past_text, read_as, refused, onward, read_so, Inner}
+use Rattle.serde_json_path_parser.proofs.Reading.{whole, front_each, front_begins, some_begun, begins_front, begins_where, differs, begins_differs, front_all, past_run, no_blank, blanks_of, begins_not, Spaced, after_one, Read, after_two, made_spaced, read_spaced, guarded, along, choose, inner, past_spaced, remade, Outcome, past_text, read_as, refused, onward, gives, Inner}
 use Rattle.serde_json_path_parser.proofs.Grammar.Segments.{segments_outcome, same_segments, segments_again}
 use Rattle.serde_json_path_parser.proofs.Rows.{Follows}
 use Rattle.serde_json_path_parser.proofs.Grammar.Strings.{string_outcome, string_again, of_quote}
@@ -231,11 +230,11 @@ module _ (signature : List ℕ → Option Signature) (n : ℕ) (deeper : Deeper)
   -- an operand of this text, which stands before
   comparable_outcome : (is : List ℕ → Comparable → Type 0) (start before t : List ℕ) (o : Operand) (cs : List ℕ) → IsOperandText signature n t o → start ≡ before ++ cs → ((a : Comparable) → IsComparableText signature n t a → is before a)
       → Outcome is (Inner signature) start (comparable_at signature deeper (byte_count start) o cs)
-  comparable_outcome is start before t (a_literal l) cs h split good = read_so (literal l, cs) (record { text = before; is_so = good (literal l) ((tt, omega arith), h.1); split = split })
+  comparable_outcome is start before t (a_literal l) cs h split good = gives (literal l, cs) (record { text = before; is_so = good (literal l) ((tt, omega arith), h.1); split = split })
   comparable_outcome is start before t (a_query q) cs h split good = guarded NonSingularQuery LongHand (inl refl) (λ e.
-      read_so (singular q, cs) (record { text = before; is_so = good (singular q) (h.0, (singular_query q e, h.1)); split = split }))
+      gives (singular q, cs) (record { text = before; is_so = good (singular q) (h.0, (singular_query q e, h.1)); split = split }))
   comparable_outcome is start before t (a_call c) cs h split good = guarded WrongReturnType LongHand (inl refl) (λ e.
-      read_so (called c, cs) (record { text = before; is_so = good (called c) (((h.0.0, value_result (result_kind signature c) e), h.0.1), h.1); split = split }))
+      gives (called c, cs) (record { text = before; is_so = good (called c) (((h.0.0, value_result (result_kind signature c) e), h.0.1), h.1); split = split }))
 
   test_outcome : (start : List ℕ) (o : Operand × List ℕ) → Read (Spaced (IsOperandText signature n)) start o → Outcome (Spaced (IsBasicText signature n)) (Inner signature) start (test_at signature deeper (byte_count start) o.0 o.1)
   test_outcome start (a_literal l, cs) s = past_text s.text s.split (refused ExpectedComparisonOperator LongHand (inl refl))

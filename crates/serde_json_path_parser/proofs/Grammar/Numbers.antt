@@ -1,6 +1,6 @@
 -- Integers and number literals: what is read is one, each is read, and where a refusal of one stands.
 use Rattle.serde_json_path_parser.proofs.Words.{nat_le, ◌==◌, ℤ, pos, negsuc, ints, largest, ExpectedSelector, IntegerOutOfRange, is_at, cases_Bool, begins, is_blank, is_digit, value_from, IsDecimal, IsInt, front, past, byte_count, is_first_digit, digits_at, negative, int_at, begins_int, ◌||◌, ◌-ℤ◌, encode_utf8, ExpectedExpression, ExponentOrEmptyFraction, FractionTooLong, NumberOutOfRange, AllPass, fraction_of, IsFraction, IsAmount, IsNumber, refusal_at, is_exponent, whole_at, digits_after_point_at, fraction_at, amount_at, greatest_amount, number_at, mul-le-mul_right, mul-lt-mul_of_pos_right, le-mul_of_pos_right, one-le-pow, pow-succ', length-append, pow-add, encode_ascii, encode_utf8_all, ◌≡◌, ℕ, zero, suc, ◌+◌, ◌-◌, ◌*◌, ◌≤◌, inl, inr, Bool, true, false, List, [], ◌∷◌, ◌++◌, drop, Ok, refl, sym, ap, ◌∙◌, arith, ◌^◌, length, Err, append_assoc, ◌<◌, min, LongHand}
-use Rattle.serde_json_path_parser.proofs.Reading.{begins_where, differs, begins_differs, no_blank, whole, front_each, front_begins, front_begins_not, front_all, past_run, value_least, some_begun, begins_front, Read, after_one, Plain, OutcomeIn, Outcome, read_so, choose, guarded, past_in, made, refused, onward, after_in}
+use Rattle.serde_json_path_parser.proofs.Reading.{begins_where, differs, begins_differs, no_blank, whole, front_each, front_begins, front_begins_not, front_all, past_run, value_least, some_begun, begins_front, Read, after_one, Plain, OutcomeIn, Outcome, gives, choose, guarded, past_in, made, refused, onward, after_in}
 use Rattle.serde_json_path_syntax.specs.WellFormed.{IsLiteralAmount}
 
 -- ---- first digits
@@ -37,7 +37,7 @@ digits_outcome : (start cs : List ℕ) → begins is_first_digit cs ≡ true →
 digits_outcome start cs first = guarded IntegerOutOfRange LongHand refl (λ e.
     let r = decimal_read cs first in
     let most : value_from 0 (front is_digit cs) ≤ largest = grind (arith, e) in
-    read_so _ (record { text = r.text; is_so = (r.is_so, some_value cs first, most); split = r.split }))
+    gives _ (record { text = r.text; is_so = (r.is_so, some_value cs first, most); split = r.split }))
 
 negative_is : (text : List ℕ) (n : ℕ) → IsPositive text n → IsInt (45 ∷ text) (negative n)
 negative_is text zero (d, some, most) = absurd (omega (arith, some))
@@ -52,7 +52,7 @@ zero_is = record { first = refl; each = (refl, tt); plain = inl refl; value_of =
 pub int_outcome : (cs : List ℕ) → Outcome IsInt Plain cs (int_at cs)
 int_outcome cs =
     choose (λ e. guarded ExpectedSelector LongHand refl (λ f. past_in (45 ∷ []) (after_one 45 cs e) (made negative negative_is (digits_outcome cs (drop 1 cs) f)))) (λ _.
-    choose (λ e. read_so (pos 0, drop 1 cs) (record { text = 48 ∷ []; is_so = positive_is (48 ∷ []) 0 zero_is (omega arith); split = after_one 48 cs e })) (λ _.
+    choose (λ e. gives (pos 0, drop 1 cs) (record { text = 48 ∷ []; is_so = positive_is (48 ∷ []) 0 zero_is (omega arith); split = after_one 48 cs e })) (λ _.
     guarded ExpectedSelector LongHand refl (λ f. made pos (λ t n h. positive_is t n h.0 h.2) (digits_outcome cs cs f))))
 
 -- ---- each integer is read
@@ -102,7 +102,7 @@ int_no_blank t i rest is = int_first is_blank false t i rest (λ c e. no_blank b
 
 whole_outcome : (start cs : List ℕ) → OutcomeIn IsDecimal Plain start cs (whole_at (byte_count start) cs)
 whole_outcome start cs =
-    choose (λ e. read_so (0, drop 1 cs) (record { text = 48 ∷ []; is_so = zero_is; split = after_one 48 cs e })) (λ _. guarded ExpectedExpression LongHand refl (λ e. read_so _ (decimal_read cs e)))
+    choose (λ e. gives (0, drop 1 cs) (record { text = 48 ∷ []; is_so = zero_is; split = after_one 48 cs e })) (λ _. guarded ExpectedExpression LongHand refl (λ e. gives _ (decimal_read cs e)))
 
 fraction_digits_outcome : (start cs : List ℕ) → OutcomeIn (λ t n. IsFraction (46 ∷ t) n) Plain start cs (digits_after_point_at (byte_count start) cs)
 fraction_digits_outcome start cs =
@@ -111,13 +111,13 @@ fraction_digits_outcome start cs =
     guarded FractionTooLong LongHand refl (λ (few : nat_le (length (front is_digit cs)) 9 ≡ true).
     let least : 1 ≤ length (front is_digit cs) = some_begun is_digit (front is_digit cs) (front_begins is_digit is_digit cs (λ c d. d) some) in
     let most : length (front is_digit cs) ≤ 9 = grind (arith, few) in
-    read_so _ (record { text = front is_digit cs; is_so = inr (front is_digit cs, refl, front_each is_digit cs, least, most, refl); split = whole is_digit cs }))))
+    gives _ (record { text = front is_digit cs; is_so = inr (front is_digit cs, refl, front_each is_digit cs, least, most, refl); split = whole is_digit cs }))))
 
 fraction_outcome : (start cs : List ℕ) → OutcomeIn IsFraction Plain start cs (fraction_at (byte_count start) cs)
 unfolding fraction_at
 fraction_outcome start cs =
     choose (λ e. past_in (46 ∷ []) (after_one 46 cs e) (fraction_digits_outcome start (drop 1 cs))) (λ _.
-    choose (λ _. refused ExponentOrEmptyFraction LongHand refl) (λ _. read_so (0, cs) (record { text = []; is_so = inl (refl, refl); split = refl })))
+    choose (λ _. refused ExponentOrEmptyFraction LongHand refl) (λ _. gives (0, cs) (record { text = []; is_so = inl (refl, refl); split = refl })))
 
 amount_outcome : (start cs : List ℕ) → OutcomeIn IsAmount Plain start cs (amount_at (byte_count start) cs)
 unfolding amount_at
@@ -133,9 +133,9 @@ positive_in_range n e = let most : n ≤ greatest_amount = grind (arith, e) in (
 pub number_outcome : (cs : List ℕ) → Outcome IsNumber Plain cs (number_at cs)
 number_outcome cs =
     choose (λ e. past_in (45 ∷ []) (after_one 45 cs e) (onward (amount_outcome cs (drop 1 cs)) (λ n f r. guarded NumberOutOfRange LongHand refl (λ most.
-    read_so _ (record { text = r.text; is_so = ((n.0, inr (r.text, r.is_so, refl, refl)), negative_in_range n.0 most); split = r.split }))))) (λ _.
+    gives _ (record { text = r.text; is_so = ((n.0, inr (r.text, r.is_so, refl, refl)), negative_in_range n.0 most); split = r.split }))))) (λ _.
     onward (amount_outcome cs cs) (λ n f r. guarded NumberOutOfRange LongHand refl (λ most.
-    read_so _ (record { text = r.text; is_so = ((n.0, inl (r.is_so, refl)), positive_in_range n.0 most); split = r.split }))))
+    gives _ (record { text = r.text; is_so = ((n.0, inl (r.is_so, refl)), positive_in_range n.0 most); split = r.split }))))
 
 -- ---- each number is read
 

@@ -1,6 +1,6 @@
 -- Selectors, brackets with them, and segments: what is read is in the grammar, what is in the grammar is read, where a refusal stands.
 use Rattle.serde_json_path_parser.proofs.Words.{ℤ, ◌==◌, append-nil, Slice, Selector, slice, index, IsBound, IsSliceStep, IsSlice, false_from_ne_true, begins, is_blank, is_digit, IsBlank, IsInt, Parsed, past_blanks, begins_int, bound_at, step_at, slice_at, position_at, selector_at, None, name, wildcard, filter, IsQuote, quoted_at, string_at, Signature, codes, SegmentKind, long_hand, Selectors, no_selectors, selector, ExpectedClosingBracket, ReadSelectors, ReadMoreSelectors, dots_before_bracket, next_selector_at, selectors_at, selector_list, bracket_at, Deeper, AreTypedSelectors, selectors_depth, is_at, length-append, child, descendant, Segments, no_segments, segment, Segment, dot_name, dot_wildcard, BadMemberName, is_name_first, is_name_char, IsName, Joined, opens, dots_before_name, front, many, after_dot, name_at, dotted_at, descendant_at, dot_at, segment_at, opens_next, next_segment_at, segments_at, segment_list, ◌≡◌, ◌≤◌, ℕ, inl, inr, true, false, true≢false, List, [], ◌∷◌, ◌++◌, drop, Option, Some, Ok, refl, sym, ap, subst, ◌∙◌, append_assoc, arith, ◌<◌, length, LongHand, filter_at, Context}
-use Rattle.serde_json_path_parser.proofs.Reading.{begins_where, blanks_of, spread, differs, no_blank, past_end, no_longer, begins_not, some_begun, begins_front, begins_differs, whole, front_each, front_begins, front_all, past_run, Spaced, after_one, many_again, Plain, Inner, Outcome, read_so, choose, weaker, past_text, past_spaced, along, onward, after_spaced, remade, with_blanks, after_sign, made_spaced, inner, guarded, after, read_spaced, made, many_outcome, Takes, past_through, begins_other}
+use Rattle.serde_json_path_parser.proofs.Reading.{begins_where, blanks_of, spread, differs, no_blank, past_end, no_longer, begins_not, some_begun, begins_front, begins_differs, whole, front_each, front_begins, front_all, past_run, Spaced, after_one, many_again, Plain, Inner, Outcome, gives, choose, weaker, past_text, past_spaced, along, onward, after_spaced, remade, with_blanks, after_sign, made_spaced, inner, guarded, after, read_spaced, made, many_outcome, Takes, past_through, begins_other}
 use Rattle.serde_json_path_parser.proofs.Grammar.LogicalForms.{DeeperLaws, IsSelectorText, IsSegmentText, ends_selectors, ends_selector, filter_outcome, filter_again, AreSegmentsText}
 use Rattle.serde_json_path_parser.proofs.Grammar.Numbers.{int_outcome, int_again, int_not, int_no_blank, int_first}
 use Rattle.serde_json_path_parser.proofs.Grammar.Strings.{string_outcome, string_again, of_quote}
@@ -10,8 +10,8 @@ use Rattle.serde_json_path_parser.proofs.Rows.{Follows, AreRows, RowLaw, next_ta
 
 pub bound_outcome : (cs : List ℕ) → Outcome (λ t i. IsBound i t) Plain cs (bound_at cs)
 bound_outcome cs =
-    choose (λ _. onward (int_outcome cs) (λ i _ r. let s = with_blanks IsInt cs i r in read_so (Some i.0, past_blanks i.1) (record { text = s.text; is_so = s.is_so; split = s.split }))) (λ _.
-    read_so (None, cs) (record { text = []; is_so = refl; split = refl }))
+    choose (λ _. onward (int_outcome cs) (λ i _ r. let s = with_blanks IsInt cs i r in gives (Some i.0, past_blanks i.1) (record { text = s.text; is_so = s.is_so; split = s.split }))) (λ _.
+    gives (None, cs) (record { text = []; is_so = refl; split = refl }))
 
 -- a bound after a second colon
 step_is : (t k : List ℕ) (i : Option ℤ) → IsBlank k → IsBound i t → Spaced (λ t i. IsSliceStep i t) (58 ∷ (k ++ t)) i
@@ -22,7 +22,7 @@ step_is t k (Some i) blank b =
 step_outcome : (cs : List ℕ) → Outcome (Spaced (λ t i. IsSliceStep i t)) Plain cs (step_at cs)
 step_outcome cs =
     choose (λ e. past_text (58 ∷ blanks_of (drop 1 cs)) (after_sign 58 cs e) (weaker (λ t i b. step_is t (blanks_of (drop 1 cs)) i (front_each is_blank (drop 1 cs)) b) (bound_outcome (past_blanks (drop 1 cs))))) (λ _.
-    read_so (None, cs) (record { text = []; is_so = ([], [], inl refl, tt, refl); split = refl }))
+    gives (None, cs) (record { text = []; is_so = ([], [], inl refl, tt, refl); split = refl }))
 
 -- after the first bound and the colon
 pub slice_outcome : (start : Option ℤ) (a cs : List ℕ) → IsBound start a → Outcome (Spaced (λ t s. IsSlice s t)) Plain (a ++ (58 ∷ cs)) (slice_at start cs)
@@ -36,7 +36,7 @@ position_outcome signature n cs = onward (int_outcome cs) (λ i _ r.
     let rest = past_blanks i.1 in
     let s = with_blanks IsInt cs i r in
     choose (λ e. along (s.split ∙ ap (λ (l : List ℕ). s.text ++ l) (after_one 58 rest e)) (remade (λ s. slice s) (λ t s is. ((tt, omega arith), is)) (slice_outcome (Some i.0) s.text (drop 1 rest) s.is_so))) (λ _.
-    read_so _ (record { text = s.text; is_so = (s.is_so.0, s.is_so.1, ((tt, omega arith), s.is_so.2), s.is_so.3, s.is_so.4); split = s.split })))
+    gives _ (record { text = s.text; is_so = (s.is_so.0, s.is_so.1, ((tt, omega arith), s.is_so.2), s.is_so.3, s.is_so.4); split = s.split })))
 
 -- ---- each is read again
 
@@ -128,7 +128,7 @@ module _ (filter_at : List ℕ → Parsed Selector) where
 -- ---- member names
 
 name_outcome : (at : Context) (cs : List ℕ) → Outcome IsName Plain cs (name_at at cs)
-name_outcome at cs = guarded BadMemberName at refl (λ e. read_so _ (record {
+name_outcome at cs = guarded BadMemberName at refl (λ e. gives _ (record {
   text = front is_name_char cs;
   is_so = record { first = front_begins is_name_char is_name_first cs (λ c h. rw h refl) e; each = front_each is_name_char cs; bytes_of = refl };
   split = whole is_name_char cs;
@@ -237,7 +237,7 @@ module _ (signature : List ℕ → Option Signature) (n : ℕ) (deeper : Deeper)
       past_text (dots ++ (91 ∷ j)) (ap (λ (l : List ℕ). dots ++ (91 ∷ l)) (whole is_blank cs) ∙ sym (append_assoc dots (91 ∷ j) (past_blanks cs))) (after (selectors_outcome cs) (λ ss _ r.
       let a = r.is_so.0 in
       let k = r.is_so.1 in
-      guarded ExpectedClosingBracket LongHand (inl refl) (λ e. read_so (long_hand (selector_list ss.0), drop 1 ss.1) (record {
+      guarded ExpectedClosingBracket LongHand (inl refl) (λ e. gives (long_hand (selector_list ss.0), drop 1 ss.1) (record {
         text = 93 ∷ [];
         is_so = (
           r.is_so.2.0,
@@ -279,7 +279,7 @@ module _ (signature : List ℕ → Option Signature) (n : ℕ) (deeper : Deeper)
     dotted_outcome : (kind : SegmentKind) (at : Context) (cs : List ℕ) → Outcome (IsSegment kind) Plain (dots_before_name kind ++ cs) (dotted_at at cs)
     dotted_outcome kind at cs =
         past_text (dots_before_name kind) refl
-        (choose (λ e. read_so (dot_wildcard, drop 1 cs) (record { text = 42 ∷ []; is_so = ((tt, omega arith), refl); split = after_one 42 cs e })) (λ _. made (λ n. dot_name n) (λ t n is. ((tt, omega arith), (t, is, refl))) (name_outcome at cs)))
+        (choose (λ e. gives (dot_wildcard, drop 1 cs) (record { text = 42 ∷ []; is_so = ((tt, omega arith), refl); split = after_one 42 cs e })) (λ _. made (λ n. dot_name n) (λ t n is. ((tt, omega arith), (t, is, refl))) (name_outcome at cs)))
 
     descendant_outcome : (cs : List ℕ) → Outcome (IsSegment descendant) (Inner signature) (46 ∷ 46 ∷ cs) (descendant_at filters here cs)
     descendant_outcome cs =

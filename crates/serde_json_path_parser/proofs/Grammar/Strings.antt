@@ -1,7 +1,7 @@
 -- String literals: what is read is one, each is read, and where a refusal of one stands.
 use Rattle.serde_json_path_parser.proofs.Words.{cases_lt, nat_le, ◌==◌, not, encode_utf8, encode_utf8_all, eq-eqb, and_parts, eqb_tells, length-append, append-nil, ExpectedEndingQuote, BadEscape, ControlCharacter, ◌∈◌, AllPass, is_at, begins, hexadecimal_of, IsHex4, IsPiece, plain, quote_escape, letter_escape, hex_escape, pair_escape, IsQuote, IsString, Parsed, ◌>>=◌, refusal, many, byte_count, is_hexadecimal, hexadecimal_value, head, hexadecimal_at, hex4_at, is_high, is_low, low_at, unicode_at, is_letter_escape, letter_value, escape_at, is_control, piece_at, is_inside, string_at, is_ascii_plain, Stretched, encode_ascii, Failure, Fails, ◌≡◌, ℕ, ◌≤◌, ◌+◌, ◌*◌, ◌<◌, ◌⊎◌, inl, inr, Bool, true, false, cond, ◌&&◌, List, [], ◌∷◌, ◌++◌, length, drop, Some, Ok, Err, refl, sym, ap, subst, ◌∙◌, append_assoc, arith, LongHand, Memory, Refused, is_plain}
 use Rattle.serde_json_path_parser.proofs.Texts.{ascii_that}
-use Rattle.serde_json_path_parser.proofs.Reading.{some_begun, after_one, Again, many_again, Plain, OutcomeIn, Outcome, read_so, refused, choose, guarded, past_text, past_in, onward, after, after_in, made, many_outcome, Takes, many_end, many_err, many_more, with_front}
+use Rattle.serde_json_path_parser.proofs.Reading.{some_begun, after_one, Again, many_again, Plain, OutcomeIn, Outcome, gives, refused, choose, guarded, past_text, past_in, onward, after, after_in, made, many_outcome, Takes, many_end, many_err, many_more, with_front}
 
 -- ---- what a reading gives: hexadecimal digits
 
@@ -18,7 +18,7 @@ IsHexDigit t n = (c : ℕ) × (t ≡ c ∷ []) × (hexadecimal_of c ≡ Some n)
 hexadecimal_outcome : (escape cs : List ℕ) → OutcomeIn IsHexDigit Plain escape cs (hexadecimal_at (byte_count escape) cs)
 hexadecimal_outcome escape cs = guarded BadEscape LongHand refl (λ e.
     let first = first_is is_hexadecimal cs e in
-    read_so _ (record { text = head cs ∷ []; is_so = (head cs, refl, hexadecimal_is (head cs) first.1); split = first.0 }))
+    gives _ (record { text = head cs ∷ []; is_so = (head cs, refl, hexadecimal_is (head cs) first.1); split = first.0 }))
 
 hex4_outcome : (escape cs : List ℕ) → OutcomeIn IsHex4 Plain escape cs (hex4_at (byte_count escape) cs)
 hex4_outcome escape cs =
@@ -65,14 +65,14 @@ low_outcome quote escape t high cs first h =
     guarded BadEscape LongHand refl (λ letter.
     past_in (92 ∷ 117 ∷ []) (slash_and_u cs slash letter) (onward (hex4_outcome escape (drop 1 (drop 1 cs))) (λ l _ second.
     guarded BadEscape LongHand refl (λ low.
-    read_so _ (record { text = second.text; is_so = pair_escape t second.text high l.0 first second.is_so (range_of 0xd800 0xdbff high h) (range_of 0xdc00 0xdfff l.0 low); split = second.split }))))))
+    gives _ (record { text = second.text; is_so = pair_escape t second.text high l.0 first second.is_so (range_of 0xd800 0xdbff high h) (range_of 0xdc00 0xdfff l.0 low); split = second.split }))))))
 
 -- after a backslash and `u`
 unicode_outcome : (quote : ℕ) (escape cs : List ℕ) → OutcomeIn (λ t c. IsPiece quote (92 ∷ 117 ∷ t) c) Plain escape cs (unicode_at (byte_count escape) cs)
 unicode_outcome quote escape cs = onward (hex4_outcome escape cs) (λ h _ first.
     choose (λ high. past_in first.text first.split (low_outcome quote escape first.text h.0 h.1 first.is_so high)) (λ high.
     choose (λ _. refused BadEscape LongHand refl) (λ low.
-    read_so _ (record { text = first.text; is_so = hex_escape first.text h.0 first.is_so (scalar_of h.0 high low); split = first.split }))))
+    gives _ (record { text = first.text; is_so = hex_escape first.text h.0 first.is_so (scalar_of h.0 high low); split = first.split }))))
 
 -- a fact of both quotes
 pub of_quote : (Fact : ℕ → Type 0) → Fact 39 → Fact 34 → (quote : ℕ) → IsQuote quote → Fact quote
@@ -90,7 +90,7 @@ escape_outcome quote cs is slash =
     choose (λ e. past_in (92 ∷ 117 ∷ []) (slash_and_u cs slash e) (unicode_outcome quote cs (drop 1 (drop 1 cs)))) (λ _.
     guarded BadEscape LongHand refl (λ e.
     let first = first_is (is_letter_escape quote) (drop 1 cs) e in
-    read_so _ (record {
+    gives _ (record {
       text = 92 ∷ head (drop 1 cs) ∷ [];
       is_so = letter_sound quote (head (drop 1 cs)) is first.1;
       split = after_one 92 cs slash ∙ ap (λ (l : List ℕ). 92 ∷ l) first.0;
@@ -101,7 +101,7 @@ piece_outcome quote is [] i = absurd cc
 piece_outcome quote is (c ∷ cs) i =
     choose (λ e. escape_outcome quote (c ∷ cs) is e) (λ slash.
     choose (λ _. refused ControlCharacter LongHand refl) (λ control.
-    read_so (c, cs) (record { text = c ∷ []; is_so = plain c (grind (arith, i, slash, control)); split = refl })))
+    gives (c, cs) (record { text = c ∷ []; is_so = plain c (grind (arith, i, slash, control)); split = refl })))
 
 -- after the opening quote
 pub string_outcome : (quote : ℕ) → IsQuote quote → (cs : List ℕ) → Outcome IsString Plain (quote ∷ cs) (string_at quote cs)
@@ -109,7 +109,7 @@ unfolding many
 string_outcome quote is cs =
     past_text (quote ∷ []) refl (after (many_outcome (IsPiece quote) Plain (begins (is_inside quote)) (piece_at quote) (piece_outcome quote is) (length cs) cs) (λ s _ r.
     guarded ExpectedEndingQuote LongHand refl (λ e.
-    read_so _ (record { text = quote ∷ []; is_so = (quote, r.text, s.0, is, r.is_so, refl, refl); split = after_one quote s.1 e }))))
+    gives _ (record { text = quote ∷ []; is_so = (quote, r.text, s.0, is, r.is_so, refl, refl); split = after_one quote s.1 e }))))
 
 -- ---- each string is read
 
