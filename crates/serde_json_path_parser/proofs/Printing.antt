@@ -3,8 +3,7 @@
 pub mod QuotedTexts
 -- numbers, slices and literals
 pub mod Literals
-use Rattle.std.proofs.Common.{◌≡◌, ◌<◌, ℕ, true, List, [], ◌∷◌, ◌++◌, codes, refl, sym, ap, subst, ◌∙◌, append_assoc, arith}
-use Rattle.serde_json_path_parser.proofs.Words.{AllByRecursion, flat_map, IsUtf8, chars, all_scalars, nat_tests, chars-encodes, scalars-chars, Query, query, QueryKind, root, current, Segments, no_segments, segment, SegmentKind, child, descendant, Segment, dot_name, dot_wildcard, long_hand, Selectors, no_selectors, selector, Selector, name, wildcard, index, slice, filter, LogicalOr, no_or, or, LogicalAnd, no_and, and, Basic, paren, not_paren, relation, exist, not_exist, test, not_test, Comparable, literal, singular, called, Call, call, Arguments, no_arguments, argument, Argument, literal_argument, query_argument, call_argument, logical_argument, Operator, equal, not_equal, less, less_or_equal, greater, greater_or_equal, operator_text, query_kind_text, dots_of, bracket_dots_of, joined, query_text, segments_text, segment_text, selector_texts, selector_text, or_text, and_texts, and_text, basic_texts, basic_text, comparable_text, call_text, argument_texts, argument_text, IsFunctionName, is_function_char, Reads, ReadSegments, ReadsSegment, ReadSelectors, ReadMoreSelectors, ReadsSelector, ReadsOr, ReadMoreOrs, ReadsAnd, ReadMoreAnds, ReadsBasic, ReadsComparable, ReadsCall, ReadArguments, ReadMoreArguments, ReadsArgument, InParentheses, Negated, IsSign, IsName, query_sign, operator_sign, dots_before_bracket, dots_before_name}
+use Rattle.serde_json_path_parser.proofs.Words.{AllByRecursion, flat_map, IsUtf8, chars, all_scalars, nat_tests, chars-encodes, scalars-chars, Query, query, QueryKind, root, current, Segments, no_segments, segment, SegmentKind, child, descendant, Segment, dot_name, dot_wildcard, long_hand, Selectors, no_selectors, selector, Selector, name, wildcard, index, slice, filter, LogicalOr, no_or, or, LogicalAnd, no_and, and, Basic, paren, not_paren, relation, exist, not_exist, test, not_test, Comparable, literal, singular, called, Call, call, Arguments, no_arguments, argument, Argument, literal_argument, query_argument, call_argument, logical_argument, Operator, equal, not_equal, less, less_or_equal, greater, greater_or_equal, operator_text, query_kind_text, dots_of, bracket_dots_of, joined, query_text, segments_text, segment_text, selector_texts, selector_text, or_text, and_texts, and_text, basic_texts, basic_text, comparable_text, call_text, argument_texts, argument_text, IsFunctionName, is_function_char, Reads, ReadSegments, ReadsSegment, ReadSelectors, ReadMoreSelectors, ReadsSelector, ReadsOr, ReadMoreOrs, ReadsAnd, ReadMoreAnds, ReadsBasic, ReadsComparable, ReadsCall, ReadArguments, ReadMoreArguments, ReadsArgument, InParentheses, Negated, IsSign, IsName, query_sign, operator_sign, dots_before_bracket, dots_before_name, ◌≡◌, ◌<◌, ℕ, true, List, [], ◌∷◌, ◌++◌, codes, refl, sym, ap, subst, ◌∙◌, append_assoc, arith}
 use QuotedTexts.{Spells, Spelt, spell_nothing, scalars_parts, scalars_of, spell_both, spell_ascii, spell_sign, spelt_nothing, spelt_as, spelt_after, spelt_between, spelt_both, string_spelt}
 use Literals.{int_spelt, slice_spelt, literal_spelt}
 
@@ -66,12 +65,6 @@ operator_spelt sign h = record {
   spells = spell_both blank_spells (spell_both h blank_spells);
   is_so = between_blanks sign;
 }
-
-or_spelt : Spelt (IsSign (codes "||")) (codes " || ")
-or_spelt = operator_spelt (codes "||") (spell_ascii (codes "||") (omega arith, (omega arith, tt)))
-
-and_spelt : Spelt (IsSign (codes "&&")) (codes " && ")
-and_spelt = operator_spelt (codes "&&") (spell_ascii (codes "&&") (omega arith, (omega arith, tt)))
 
 module _ {Is More : List ℕ → Type 0} {first more : List ℕ} where
   -- a first part and more
@@ -147,7 +140,7 @@ mutual
   more_ors_spelt no_or t e h = spelt_nothing refl
   more_ors_spelt (or part more) t e (s, a, b, sign, first, rest, split) =
       let h = scalars_after t s a b e split in
-      one_more (codes "||") or_spelt (ands_spelt part a h.0 first) (more_ors_spelt more b h.1 rest)
+      one_more (codes "||") (operator_spelt (codes "||") (spell_ascii (codes "||") (omega arith, (omega arith, tt)))) (ands_spelt part a h.0 first) (more_ors_spelt more b h.1 rest)
 
   ands_spelt : (c : LogicalAnd) (t : List ℕ) → all_scalars t ≡ true → ReadsAnd c t → Spelt (ReadsAnd c) (and_text c)
   ands_spelt no_and t e h = elim h [ ]
@@ -159,7 +152,7 @@ mutual
   more_ands_spelt no_and t e h = spelt_nothing refl
   more_ands_spelt (and part more) t e (s, a, b, sign, first, rest, split) =
       let h = scalars_after t s a b e split in
-      one_more (codes "&&") and_spelt (basic_spelt part a h.0 first) (more_ands_spelt more b h.1 rest)
+      one_more (codes "&&") (operator_spelt (codes "&&") (spell_ascii (codes "&&") (omega arith, (omega arith, tt)))) (basic_spelt part a h.0 first) (more_ands_spelt more b h.1 rest)
 
   basic_spelt : (part : Basic) (t : List ℕ) → all_scalars t ≡ true → ReadsBasic part t → Spelt (ReadsBasic part) (basic_text part)
   basic_spelt (paren c) t e (j, a, k, blank, inside, blank', split) =

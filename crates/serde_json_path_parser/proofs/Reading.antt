@@ -1,8 +1,5 @@
 -- Reading lists of characters, whatever is read: runs at the start, items one after another, and what a reader gives.
-use Rattle.std.proofs.Common.{◌≡◌, ℕ, ◌+◌, ◌-◌, ◌*◌, ◌<◌, ◌≤◌, min, Bool, true, false, true≢false, List, [], ◌∷◌, ◌++◌, length, refl, sym, ap, ◌∙◌, append_assoc, inl, inr, arith, zero, suc, Ok, Err, drop, Result, subst, ◌⊎◌, Option, cond}
-use Rattle.serde_json_path_parser.proofs.Words.{cases_lt, eqb-true, encode_utf8_all, encode_utf8, ◌==◌, AllByRecursion, begins, is_blank, is_digit, value_from, front, past, length-append, IsBlank, past_blanks, Refusal, Parsed, ◌>>=◌, many_at, many, and_parts, begins_both, Joined, Failure, Fails, Signature, ParseErrorKind, ExpectedRoot, UndefinedFunction, TextAfterPath, NoMemory, IsUndeclared, byte_count, refusal, cases_Bool, false_from_ne_true}
-use Rattle.serde_json_path_parser.specs.declared.error.Failure.TheVariants as failures
-use Rattle.serde_json_path_parser.specs.declared.error.Context as declared
+use Rattle.serde_json_path_parser.proofs.Words.{cases_lt, eqb-true, encode_utf8_all, encode_utf8, ◌==◌, AllByRecursion, begins, is_blank, is_digit, value_from, front, past, length-append, IsBlank, past_blanks, Refusal, Parsed, ◌>>=◌, many_at, many, and_parts, begins_both, Joined, Failure, Fails, Signature, ParseErrorKind, ExpectedRoot, UndefinedFunction, TextAfterPath, NoMemory, IsUndeclared, byte_count, refusal, cases_Bool, false_from_ne_true, ◌≡◌, ℕ, ◌+◌, ◌-◌, ◌*◌, ◌<◌, ◌≤◌, min, Bool, true, false, true≢false, List, [], ◌∷◌, ◌++◌, length, refl, sym, ap, ◌∙◌, append_assoc, inl, inr, arith, zero, suc, Ok, Err, drop, Result, subst, ◌⊎◌, Option, cond, Memory, Refused, Context, append-nil, ◌||◌}
 
 -- ---- what begins a list
 
@@ -20,15 +17,16 @@ pub begins_where : (p q : ℕ → Bool) (b : Bool) (cs : List ℕ) → ((c : ℕ
 begins_where p q b [] h e = absurd cc
 begins_where p q b (c ∷ cs) h e = h c e
 
+-- a list that begins with one of two characters, and not with the first, begins with the other
+pub begins_other : (a b : ℕ) (cs : List ℕ) → begins (λ c. c == a || c == b) cs ≡ true → begins (λ c. c == a) cs ≡ false → begins (λ c. c == b) cs ≡ true
+begins_other a b [] e none = absurd cc
+begins_other a b (c ∷ cs) e none = sym (rw none refl) ∙ e
+
 -- ---- characters that differ
 
 -- a character that passes a test is none that fails it
 pub differs : (p : ℕ → Bool) (k c : ℕ) → p k ≡ false → p c ≡ true → (c == k) ≡ false
-differs p k c fails passes = by_test (c == k) refl
-  where
-    by_test : (b : Bool) → (c == k) ≡ b → (c == k) ≡ false
-    by_test true e = absurd (true≢false (sym passes ∙ ap p (eqb-true c k e) ∙ fails))
-    by_test false e = e
+differs p k c fails passes = false_from_ne_true (c == k) (λ e. true≢false (sym passes ∙ ap p (eqb-true c k e) ∙ fails))
 
 -- nor a blank, where each blank fails
 pub no_blank : (p : ℕ → Bool) (c : ℕ) → p 32 ≡ false → p 9 ≡ false → p 10 ≡ false → p 13 ≡ false → p c ≡ true → is_blank c ≡ false
@@ -43,19 +41,11 @@ begins_differs p k cs fails begun = begins_where p (λ c. c == k) false cs (λ c
 -- the front and what is after it are the whole
 pub whole : (p : ℕ → Bool) (cs : List ℕ) → cs ≡ front p cs ++ past p cs
 whole p [] = refl
-whole p (c ∷ cs) = by_test (p c) refl (whole p cs)
-  where
-    by_test : (b : Bool) → p c ≡ b → cs ≡ front p cs ++ past p cs → c ∷ cs ≡ front p (c ∷ cs) ++ past p (c ∷ cs)
-    by_test true e h = rw e (ap (λ (l : List ℕ). c ∷ l) h)
-    by_test false e h = rw e refl
+whole p (c ∷ cs) = elim (cases_Bool (p c)) [ inl e ↦ rw e (ap (λ (l : List ℕ). c ∷ l) (whole p cs)) | inr e ↦ rw e refl ]
 
 pub front_each : (p : ℕ → Bool) (cs : List ℕ) → AllByRecursion (λ c. p c ≡ true) (front p cs)
 front_each p [] = tt
-front_each p (c ∷ cs) = by_test (p c) refl (front_each p cs)
-  where
-    by_test : (b : Bool) → p c ≡ b → AllByRecursion (λ c. p c ≡ true) (front p cs) → AllByRecursion (λ c. p c ≡ true) (front p (c ∷ cs))
-    by_test true e h = rw e (e, h)
-    by_test false e h = rw e tt
+front_each p (c ∷ cs) = elim (cases_Bool (p c)) [ inl e ↦ rw e (e, front_each p cs) | inr e ↦ rw e tt ]
 
 -- the front begins as the list does
 pub front_begins : (p q : ℕ → Bool) (cs : List ℕ) → ((c : ℕ) → q c ≡ true → p c ≡ true) → begins q cs ≡ true → begins q (front p cs) ≡ true
@@ -64,21 +54,23 @@ front_begins p q (c ∷ cs) sub e = rw (sub c e) e
 
 pub front_begins_not : (p q : ℕ → Bool) (cs : List ℕ) → begins q cs ≡ false → begins q (front p cs) ≡ false
 front_begins_not p q [] e = refl
-front_begins_not p q (c ∷ cs) e = by_test (p c) refl
-  where
-    by_test : (b : Bool) → p c ≡ b → begins q (front p (c ∷ cs)) ≡ false
-    by_test true t = rw t e
-    by_test false t = rw t refl
+front_begins_not p q (c ∷ cs) e = elim (cases_Bool (p c)) [ inl t ↦ rw t e | inr t ↦ rw t refl ]
+
+pub front_end : (p : ℕ → Bool) (cs : List ℕ) → begins p cs ≡ false → front p cs ≡ []
+front_end p [] t = refl
+front_end p (c ∷ cs) t = rw t refl
+
+pub past_end : (p : ℕ → Bool) (cs : List ℕ) → begins p cs ≡ false → past p cs ≡ cs
+past_end p [] t = refl
+past_end p (c ∷ cs) t = rw t refl
+
+-- the front of a text that passes, and more
+pub front_through : (p : ℕ → Bool) (t rest : List ℕ) → AllByRecursion (λ c. p c ≡ true) t → front p (t ++ rest) ≡ t ++ front p rest
+front_through p [] rest h = refl
+front_through p (c ∷ t) rest h = rw h.0 (ap (λ (l : List ℕ). c ∷ l) (front_through p t rest h.1))
 
 pub front_all : (p : ℕ → Bool) (t rest : List ℕ) → AllByRecursion (λ c. p c ≡ true) t → begins p rest ≡ false → front p (t ++ rest) ≡ t
-front_all p [] [] h e = refl
-front_all p [] (c ∷ rest) h e = rw e refl
-front_all p (c ∷ t) rest h e = rw h.0 (ap (λ (l : List ℕ). c ∷ l) (front_all p t rest h.1 e))
-
-pub past_run : (p : ℕ → Bool) (t rest : List ℕ) → AllByRecursion (λ c. p c ≡ true) t → begins p rest ≡ false → past p (t ++ rest) ≡ rest
-past_run p [] [] h e = refl
-past_run p [] (c ∷ rest) h e = rw e refl
-past_run p (c ∷ t) rest h e = rw h.0 (past_run p t rest h.1 e)
+front_all p t rest h e = front_through p t rest h ∙ ap (λ (l : List ℕ). t ++ l) (front_end p rest e) ∙ append-nil t
 
 -- what is after a text that passes, and more
 pub past_through : (p : ℕ → Bool) (t rest : List ℕ) → AllByRecursion (λ c. p c ≡ true) t → past p (t ++ rest) ≡ past p rest
@@ -91,13 +83,8 @@ front_more p cs ds c e t = let k : p c ≡ true = sym (ap (begins p) e) ∙ t in
 pub past_more : (p : ℕ → Bool) (cs ds : List ℕ) (c : ℕ) → cs ≡ c ∷ ds → begins p cs ≡ true → past p cs ≡ past p ds
 past_more p cs ds c e t = let k : p c ≡ true = sym (ap (begins p) e) ∙ t in ap (past p) e ∙ rw k refl
 
-pub front_end : (p : ℕ → Bool) (cs : List ℕ) → begins p cs ≡ false → front p cs ≡ []
-front_end p [] t = refl
-front_end p (c ∷ cs) t = rw t refl
-
-pub past_end : (p : ℕ → Bool) (cs : List ℕ) → begins p cs ≡ false → past p cs ≡ cs
-past_end p [] t = refl
-past_end p (c ∷ cs) t = rw t refl
+pub past_run : (p : ℕ → Bool) (t rest : List ℕ) → AllByRecursion (λ c. p c ≡ true) t → begins p rest ≡ false → past p (t ++ rest) ≡ rest
+past_run p t rest h e = past_through p t rest h ∙ past_end p rest e
 
 -- one more character of the front is taken into a text
 pub taken : (p : ℕ → Bool) (cs ds : List ℕ) (c : ℕ) (text whole : List ℕ) → cs ≡ c ∷ ds → begins p cs ≡ true
@@ -136,24 +123,12 @@ split_again a b rest first second = first ∙ ap (λ (l : List ℕ). a ++ l) sec
 
 -- ---- blanks at the start of a text
 
-pub past_some : (k rest : List ℕ) → IsBlank k → past_blanks (k ++ rest) ≡ past_blanks rest
-past_some k rest h = past_through is_blank k rest h
-
-pub past_all : (k rest : List ℕ) → IsBlank k → begins is_blank rest ≡ false → past_blanks (k ++ rest) ≡ rest
-past_all k rest h e = past_some k rest h ∙ past_end is_blank rest e
-
 -- the blanks themselves
 abbrev pub blanks_of : List ℕ → List ℕ
 blanks_of cs = front is_blank cs
 
-pub are_blank : (cs : List ℕ) → IsBlank (blanks_of cs)
-are_blank cs = front_each is_blank cs
-
-pub split_blanks : (cs : List ℕ) → cs ≡ blanks_of cs ++ past_blanks cs
-split_blanks cs = whole is_blank cs
-
 pub no_longer : (cs : List ℕ) → length (past_blanks cs) ≤ length cs
-no_longer cs = omega (arith, ap length (split_blanks cs), length-append (blanks_of cs) (past_blanks cs))
+no_longer cs = omega (arith, ap length (whole is_blank cs), length-append (blanks_of cs) (past_blanks cs))
 
 -- what no blank is, the first character of blanks and a text is not either, if that of the text is not
 pub begins_not : (p : ℕ → Bool) (k rest : List ℕ) → ((c : ℕ) → is_blank c ≡ true → p c ≡ false) → IsBlank k → begins p rest ≡ false → begins p (k ++ rest) ≡ false
@@ -264,7 +239,7 @@ pub record Again {A : Type 0} (is : List ℕ → A → Type 0) (more : List ℕ 
   pub starts : (t : List ℕ) (x : A) (rest : List ℕ) → is t x → more (t ++ rest) ≡ true
   pub failures : (t : List ℕ) (x : A) (rest : List ℕ) → is t x → Stops (t ++ rest)
 
-module _ {A : Type 0} (is : List ℕ → A → Type 0) (more : List ℕ → Bool) (item : List ℕ → Parsed A) (Stops : List ℕ → Type 0) (law : Again is more item Stops) where
+module _ {A : Type 0} {is : List ℕ → A → Type 0} {more : List ℕ → Bool} {item : List ℕ → Parsed A} {Stops : List ℕ → Type 0} (law : Again is more item Stops) where
   stops_at : (t : List ℕ) (xs : List A) (rest : List ℕ) → Joined is t xs → Stops rest → Stops (t ++ rest)
   stops_at t [] rest h s = subst (λ (l : List ℕ). Stops (l ++ rest)) (sym h) s
   stops_at t (x ∷ xs) rest h s = subst Stops (sym (ap (λ (l : List ℕ). l ++ rest) h.4 ∙ append_assoc h.0 h.1 rest)) (law.failures h.0 x (h.1 ++ rest) h.2)
@@ -281,8 +256,8 @@ module _ {A : Type 0} (is : List ℕ → A → Type 0) (more : List ℕ → Bool
 
 -- what goes on after a first step fails where that does
 pub first_fails : {A B : Type 0} (s : Failure) (read : Result A Refusal) (f : A → Result B Refusal) → Fails s read → Fails s (read >>= f)
-first_fails failures.Memory read f h = tt
-first_fails (failures.Refused r) read f h = ap (λ (x : Result _ Refusal). x >>= f) h
+first_fails Memory read f h = tt
+first_fails (Refused r) read f h = ap (λ (x : Result _ Refusal). x >>= f) h
 
 -- ---- what a kind tells of the text from the refusal on
 
@@ -312,16 +287,6 @@ pub record Stands (Tells : ParseErrorKind → List ℕ → Type 0) (cs : List �
   pub left : r.left ≡ byte_count rest
   pub tells : Tells r.kind rest
 
--- as in a piece that may hold filters
-pub inside : {signature : List ℕ → Option Signature} (cs : List ℕ) (r : Refusal) → Stands Plain cs r → Stands (Inner signature) cs r
-inside cs r s = record { before = s.before; rest = s.rest; split = s.split; left = s.left; tells = inl s.tells }
-
-pub err_is : {A : Type 0} (d r : Refusal) (read : Result A Refusal) → read ≡ Err d → read ≡ Err r → d ≡ r
-err_is d r read e f = cc
-
-pub further : {Tells : ParseErrorKind → List ℕ → Type 0} (cs t rest : List ℕ) (r : Refusal) → cs ≡ t ++ rest → Stands Tells rest r → Stands Tells cs r
-further cs t rest r e s = record { before = t ++ s.before; rest = s.rest; split = e ∙ ap (λ (l : List ℕ). t ++ l) s.split ∙ sym (append_assoc t s.before s.rest); left = s.left; tells = s.tells }
-
 -- ---- what a reader gives, for both of its answers: what is read is so, or the refusal stands in the text
 
 -- what is given is so, and so is each refusal
@@ -334,7 +299,7 @@ module _ {A : Type 0} {Is : A → Type 0} {Refuses : Refusal → Type 0} where
   gives x h = record { reads = λ y e. subst Is (ok_is x y e) h; stands = λ r e. absurd cc }
 
   pub refuses : (d : Refusal) → Refuses d → Gives Is Refuses (Err d)
-  refuses d h = record { reads = λ x e. absurd cc; stands = λ r e. subst Refuses (err_is d r (Err d) refl e) h }
+  refuses d h = record { reads = λ x e. absurd cc; stands = λ r e. let same : d ≡ r = cc in subst Refuses same h }
 
   pub choose : {b : Bool} {x y : Result A Refusal} → (b ≡ true → Gives Is Refuses x) → (b ≡ false → Gives Is Refuses y) → Gives Is Refuses (cond b x y)
   choose {b = true} f g = f refl
@@ -354,12 +319,17 @@ OutcomeIn is Tells start cs answer = Gives (Read is cs) (Stands Tells start) ans
 abbrev pub Outcome : {A : Type 0} → (List ℕ → A → Type 0) → (ParseErrorKind → List ℕ → Type 0) → List ℕ → Parsed A → Type 0
 Outcome is Tells cs answer = OutcomeIn is Tells cs cs answer
 
+-- where each refusal stands otherwise
+pub stands_so : {A : Type 0} {is : List ℕ → A → Type 0} {Tells Tells_too : ParseErrorKind → List ℕ → Type 0} {start whole cs : List ℕ} {answer : Parsed A} → ((r : Refusal) → Stands Tells start r → Stands Tells_too whole r)
+    → OutcomeIn is Tells start cs answer → OutcomeIn is Tells_too whole cs answer
+stands_so better h = record { reads = h.reads; stands = λ r e. better r (h.stands r e) }
+
 -- what was read, and the blanks after it
 pub with_blanks : {A : Type 0} (is : List ℕ → A → Type 0) (cs : List ℕ) (x : A × List ℕ) → Read is cs x → Read (Spaced is) cs (x.0, past_blanks x.1)
 with_blanks is cs x r = record {
   text = r.text ++ blanks_of x.1;
-  is_so = (r.text, blanks_of x.1, r.is_so, are_blank x.1, refl);
-  split = r.split ∙ ap (λ (l : List ℕ). r.text ++ l) (split_blanks x.1) ∙ sym (append_assoc r.text (blanks_of x.1) (past_blanks x.1));
+  is_so = (r.text, blanks_of x.1, r.is_so, front_each is_blank x.1, refl);
+  split = r.split ∙ ap (λ (l : List ℕ). r.text ++ l) (whole is_blank x.1) ∙ sym (append_assoc r.text (blanks_of x.1) (past_blanks x.1));
 }
 
 -- what stands after some text
@@ -368,21 +338,18 @@ Past before is t x = (u : List ℕ) × is u x × (t ≡ before ++ u)
 
 -- a character and the blanks after it
 pub after_sign : (k : ℕ) (cs : List ℕ) → begins (λ c. c == k) cs ≡ true → cs ≡ (k ∷ blanks_of (drop 1 cs)) ++ past_blanks (drop 1 cs)
-after_sign k cs e = after_one k cs e ∙ ap (λ (l : List ℕ). k ∷ l) (split_blanks (drop 1 cs))
+after_sign k cs e = after_one k cs e ∙ ap (λ (l : List ℕ). k ∷ l) (whole is_blank (drop 1 cs))
 
 module _ {A : Type 0} {is : List ℕ → A → Type 0} {Tells : ParseErrorKind → List ℕ → Type 0} {start cs : List ℕ} where
-  pub read_so : (x : A × List ℕ) → Read is cs x → OutcomeIn is Tells start cs (Ok x)
-  read_so x h = gives x h
-
   pub read_spaced : (x : A × List ℕ) → Read is cs x → OutcomeIn (Spaced is) Tells start cs (Ok (x.0, past_blanks x.1))
   read_spaced x h = gives (x.0, past_blanks x.1) (with_blanks is cs x h)
 
   -- a refusal at the text's beginning
-  pub refused : (kind : ParseErrorKind) (at : declared.Context) → Tells kind start → OutcomeIn is Tells start cs (Err (refusal kind at start))
+  pub refused : (kind : ParseErrorKind) (at : Context) → Tells kind start → OutcomeIn is Tells start cs (Err (refusal kind at start))
   refused kind at tells = refuses (refusal kind at start) (record { before = []; rest = start; split = refl; left = refl; tells = tells })
 
   -- a test with a refusal after it
-  pub guarded : {b : Bool} {x : Parsed A} (kind : ParseErrorKind) (at : declared.Context) → Tells kind start → (b ≡ true → OutcomeIn is Tells start cs x)
+  pub guarded : {b : Bool} {x : Parsed A} (kind : ParseErrorKind) (at : Context) → Tells kind start → (b ≡ true → OutcomeIn is Tells start cs x)
       → OutcomeIn is Tells start cs (cond b x (Err (refusal kind at start)))
   guarded kind at tells f = choose f (λ e. refused kind at tells)
 
@@ -401,7 +368,7 @@ module _ {A : Type 0} {is : List ℕ → A → Type 0} {Tells : ParseErrorKind �
 
   -- where more of the text stands before
   pub moved : (t : List ℕ) {whole : List ℕ} {answer : Parsed A} → whole ≡ t ++ start → OutcomeIn is Tells start cs answer → OutcomeIn is Tells whole cs answer
-  moved t {whole} split h = record { reads = h.reads; stands = λ r e. further whole t start r split (h.stands r e) }
+  moved t split h = stands_so (λ r s. record { before = t ++ s.before; rest = s.rest; split = split_again t s.before s.rest split s.split; left = s.left; tells = s.tells }) h
 
 module _ {A : Type 0} {is : List ℕ → A → Type 0} {Tells : ParseErrorKind → List ℕ → Type 0} {cs : List ℕ} where
   -- the same, where the rest refuses in itself
@@ -430,13 +397,13 @@ module _ {A : Type 0} {is : List ℕ → A → Type 0} {Tells : ParseErrorKind �
   -- a step that makes something of what it reads
   pub made : {B : Type 0} {is_made : List ℕ → B → Type 0} {read : Parsed A} (make : A → B) → ((t : List ℕ) (a : A) → is t a → is_made t (make a)) → OutcomeIn is Tells start cs read
       → OutcomeIn is_made Tells start cs (read >>= λ a. Ok (make a.0, a.1))
-  made make good h = onward h (λ x e r. read_so (make x.0, x.1) (record { text = r.text; is_so = good r.text x.0 r.is_so; split = r.split }))
+  made make good h = onward h (λ x e r. gives (make x.0, x.1) (record { text = r.text; is_so = good r.text x.0 r.is_so; split = r.split }))
 
   -- one that goes past the blanks after it, too
   pub made_spaced : {B : Type 0} {is_made : List ℕ → B → Type 0} {read : Parsed A} (make : A → B) → ((t : List ℕ) (a : A) → is t a → is_made t (make a)) → OutcomeIn is Tells start cs read
       → OutcomeIn (Spaced is_made) Tells start cs (read >>= λ a. Ok (make a.0, past_blanks a.1))
   made_spaced {is_made} make good h = onward h (λ x e r.
-      read_so (make x.0, past_blanks x.1) (with_blanks is_made cs (make x.0, x.1) (record { text = r.text; is_so = good r.text x.0 r.is_so; split = r.split })))
+      gives (make x.0, past_blanks x.1) (with_blanks is_made cs (make x.0, x.1) (record { text = r.text; is_so = good r.text x.0 r.is_so; split = r.split })))
 
 module _ {A : Type 0} {is : List ℕ → A → Type 0} {Tells : ParseErrorKind → List ℕ → Type 0} {cs : List ℕ} where
   -- one step, and the next, which refuses in what is left
@@ -444,14 +411,9 @@ module _ {A : Type 0} {is : List ℕ → A → Type 0} {Tells : ParseErrorKind �
       → ((x : A × List ℕ) → read ≡ Ok x → (r : Read is cs x) → Outcome (λ u y. is_whole (r.text ++ u) y) Tells x.1 (next x)) → Outcome is_whole Tells cs (read >>= next)
   after h more = onward h (λ x e r. past_text r.text r.split (more x e r))
 
-  -- one step after some of the text, and the next, which reports of the whole
-  pub onward_at : {whole : List ℕ} {B : Type 0} {is_whole : List ℕ → B → Type 0} {read : Parsed A} {next : A × List ℕ → Parsed B} (t : List ℕ) → whole ≡ t ++ cs → Outcome is Tells cs read
-      → ((x : A × List ℕ) → read ≡ Ok x → Read is cs x → Outcome is_whole Tells whole (next x)) → Outcome is_whole Tells whole (read >>= next)
-  onward_at t split h more = onward (moved t split h) more
-
   -- what was read with the blanks after it is also something else
   pub read_as : {B : Type 0} {is_made : List ℕ → B → Type 0} {x : A × List ℕ} (y : B) → Read (Spaced is) cs x → ((t : List ℕ) → is t x.0 → is_made t y) → Outcome (Spaced is_made) Tells cs (Ok (y, x.1))
-  read_as {x} y r good = read_so (y, x.1) (record { text = r.text; is_so = (r.is_so.0, r.is_so.1, good r.is_so.0 r.is_so.2, r.is_so.3, r.is_so.4); split = r.split })
+  read_as {x} y r good = gives (y, x.1) (record { text = r.text; is_so = (r.is_so.0, r.is_so.1, good r.is_so.0 r.is_so.2, r.is_so.3, r.is_so.4); split = r.split })
 
   pub after_spaced : {B : Type 0} {is_whole : List ℕ → B → Type 0} {read : Parsed A} {next : A × List ℕ → Parsed B} → Outcome is Tells cs read
       → ((x : A × List ℕ) → read ≡ Ok x → (r : Read is cs x) → Outcome (Spaced (λ u y. is_whole (r.text ++ u) y)) Tells x.1 (next x)) → Outcome (Spaced is_whole) Tells cs (read >>= next)
@@ -465,13 +427,13 @@ remade make good h = made make (λ t a s. (s.0, s.1, good s.0 a s.2, s.3, s.4)) 
 -- as in a piece that may hold filters
 pub inner : {A : Type 0} {signature : List ℕ → Option Signature} {is : List ℕ → A → Type 0} {start cs : List ℕ} {answer : Parsed A} → OutcomeIn is Plain start cs answer
     → OutcomeIn is (Inner signature) start cs answer
-inner {start} h = record { reads = h.reads; stands = λ r e. inside start r (h.stands r e) }
+inner h = stands_so (λ r s. record { before = s.before; rest = s.rest; split = s.split; left = s.left; tells = inl s.tells }) h
 
 -- many items, one after the other
 module _ {A : Type 0} (is : List ℕ → A → Type 0) (Tells : ParseErrorKind → List ℕ → Type 0) (more : List ℕ → Bool) (item : List ℕ → Parsed A)
     (each : (cs : List ℕ) → more cs ≡ true → Outcome is Tells cs (item cs)) where
   none : (cs : List ℕ) → Outcome (Joined is) Tells cs (Ok ([], cs))
-  none cs = read_so ([], cs) (record { text = []; is_so = refl; split = refl })
+  none cs = gives ([], cs) (record { text = []; is_so = refl; split = refl })
 
   pub many_outcome : (n : ℕ) (cs : List ℕ) → Outcome (Joined is) Tells cs (many_at more item n cs)
   unfolding many_at

@@ -1,8 +1,6 @@
 -- Items in a row, with a sign and blanks between them: as they are read, each with the blanks after it, and as the grammar has them, with blanks round each sign.
-use Rattle.std.proofs.Common.{◌≡◌, ℕ, Bool, true, false, List, [], ◌∷◌, ◌++◌, length, drop, Option, Ok, refl, sym, ap, ◌∙◌, append_assoc, arith}
-use Rattle.serde_json_path_parser.proofs.Words.{◌==◌, ◌&&◌, ◌||◌, or_right, and_parts, eq-eqb, append-nil, length-append, drop-append_seam, Signature, Parsed, ◌>>=◌, past_blanks, many, begins, is_blank, IsBlank, IsSign, Joined}
-use Rattle.serde_json_path_parser.proofs.Reading as m
-use Rattle.serde_json_path_parser.proofs.Reading.{Read, Spaced, after_one, Inner, Outcome, past_text, made, weaker, many_outcome, split_again, blanks_of, are_blank, split_blanks, past_all, spread, some_begun, begins_where, begins_differs}
+use Rattle.serde_json_path_parser.proofs.Words.{◌==◌, ◌&&◌, ◌||◌, or_right, and_parts, eq-eqb, append-nil, length-append, drop-append_seam, Signature, Parsed, ◌>>=◌, past_blanks, many, begins, is_blank, IsBlank, IsSign, Joined, ◌≡◌, ℕ, Bool, true, false, List, [], ◌∷◌, ◌++◌, length, drop, Option, Ok, refl, sym, ap, ◌∙◌, append_assoc, arith}
+use Rattle.serde_json_path_parser.proofs.Reading.{Read, Spaced, after_one, Inner, Outcome, past_text, made, weaker, many_outcome, split_again, blanks_of, spread, some_begun, begins_where, begins_differs, Takes, many_end, many_more, with_front, past_run, front_each, whole}
 
 -- after the blanks stands a character that passes
 abbrev pub Follows : (ℕ → Bool) → List ℕ → Type 0
@@ -39,7 +37,7 @@ pub at_sign : (sign t s j k a b rest : List ℕ) → ((cs : List ℕ) → begins
     → past_blanks (t ++ rest) ≡ sign ++ (k ++ (a ++ (b ++ rest)))
 at_sign sign t s j k a b rest none blank is_sign e =
     ap (λ (l : List ℕ). past_blanks (l ++ rest)) (e ∙ ap (λ (l : List ℕ). l ++ (a ++ b)) is_sign) ∙ ap past_blanks (regrouped j sign k a b rest)
-    ∙ past_all j (sign ++ (k ++ (a ++ (b ++ rest)))) blank (none (k ++ (a ++ (b ++ rest))))
+    ∙ past_run is_blank j (sign ++ (k ++ (a ++ (b ++ rest)))) blank (none (k ++ (a ++ (b ++ rest))))
   where
     regrouped : (j s k a b d : List ℕ) → ((j ++ (s ++ k)) ++ (a ++ b)) ++ d ≡ j ++ (s ++ (k ++ (a ++ (b ++ d))))
     regrouped j s k a b d = simp append_assoc refl
@@ -116,17 +114,17 @@ module _ {A : Type 0} {signature : List ℕ → Option Signature} {k : ℕ} {oth
   next_outcome cs begun =
       let rest = drop (length sign) cs in
       let j = blanks_of rest in
-      past_text (sign ++ j) (after_all k others cs begun ∙ ap (λ (l : List ℕ). sign ++ l) (split_blanks rest) ∙ sym (append_assoc sign j (past_blanks rest))) (weaker (λ t x s. record {
+      past_text (sign ++ j) (after_all k others cs begun ∙ ap (λ (l : List ℕ). sign ++ l) (whole is_blank rest) ∙ sym (append_assoc sign j (past_blanks rest))) (weaker (λ t x s. record {
         before = j;
         text = s.0;
         after = s.1;
-        blank_before = are_blank rest;
+        blank_before = front_each is_blank rest;
         is_so = s.2;
         blank_after = s.3;
         joined = append_assoc sign j t ∙ ap (λ (l : List ℕ). sign ++ (j ++ l)) s.4;
       }) (law.outcome (past_blanks rest)))
 
-  pub next_takes : m.Takes more next
+  pub next_takes : Takes more next
   next_takes = record {
     shorter = λ cs rest x begun e.
         let read = (next_outcome cs begun).reads (x, rest) e in
@@ -159,14 +157,14 @@ module _ {A : Type 0} {signature : List ℕ → Option Signature} {k : ℕ} {oth
 
   rows_again : (xs : List A) (t rest : List ℕ) → AreRows sign is t xs → Follows ends rest → many more next (past_blanks (t ++ rest)) ≡ Ok (xs, past_blanks rest)
   rows_again [] t rest h follows =
-      ap (λ (l : List ℕ). many more next (past_blanks (l ++ rest))) h ∙ m.many_end more next (past_blanks rest) (none_there k others (past_blanks rest) (begins_differs ends k (past_blanks rest) law.sign_no_end follows))
+      ap (λ (l : List ℕ). many more next (past_blanks (l ++ rest))) h ∙ many_end more next (past_blanks rest) (none_there k others (past_blanks rest) (begins_differs ends k (past_blanks rest) law.sign_no_end follows))
   rows_again (x ∷ xs) t rest (s, a, b, (i, j, before, after, is_sign), h, rows, e) follows =
       let inside = j ++ (a ++ (b ++ rest)) in
       let one : next (sign ++ inside) ≡ Ok (x, past_blanks (b ++ rest)) =
-      ap (λ (l : List ℕ). item (past_blanks l)) (drop-append_seam sign inside) ∙ ap item (past_all j (a ++ (b ++ rest)) after (law.starts a x (b ++ rest) h)) ∙ law.again a x (b ++ rest) h (rows_follow xs b rest rows follows) in
+      ap (λ (l : List ℕ). item (past_blanks l)) (drop-append_seam sign inside) ∙ ap item (past_run is_blank j (a ++ (b ++ rest)) after (law.starts a x (b ++ rest) h)) ∙ law.again a x (b ++ rest) h (rows_follow xs b rest rows follows) in
       ap (many more next) (at_sign sign t s i j a b rest (λ cs. law.sign_no_blank) before is_sign e)
-      ∙ m.many_more more next next_takes (sign ++ inside) (past_blanks (b ++ rest)) x (all_there k others inside) one
-      ∙ ap (m.with_front (x ∷ [])) (rows_again xs b rest rows follows)
+      ∙ many_more more next next_takes (sign ++ inside) (past_blanks (b ++ rest)) x (all_there k others inside) one
+      ∙ ap (with_front (x ∷ [])) (rows_again xs b rest rows follows)
 
   pub row_again : {B : Type 0} (make : List A → B) (x : A) (xs : List A) (t a c rest : List ℕ) → is a x → AreRows sign is c xs → t ≡ a ++ c → Follows ends rest
       → (item (t ++ rest) >>= a_row make) ≡ Ok (make (x ∷ xs), past_blanks rest)

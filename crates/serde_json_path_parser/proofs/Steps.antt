@@ -1,29 +1,18 @@
 -- Steps of the code: rows of items that a loop reads, how the builder grows by them, arguments, and what stands in filters.
-use Rattle.std.proofs.Common.{cond, true≢false, ◌||◌, ◌≡◌, ◌≤◌, ℕ, List, [], ◌∷◌, ◌++◌, inl, inr, Some, Option, Result, Ok, Err, refl, sym, ap, subst, ◌∙◌, append_assoc, ◌<◌, Bool, true, false, length, arith, drop, None, zero, suc, ◌-◌}
-use Rattle.serde_json_path_parser.proofs.Words.{◌↔◌, append-nil, map-append, name_of, names_of, calls_in_segments, calls_from, calls_in_arguments, KeepsParts, KeepsTrees, calls_in, AreDeclared, MayFinish, deepest, names_in, IsTyped, depth, Part, query, root, Segments, Call, call, Arguments, SyntaxBuilder, Signature, Grows, Parsed, Failure, Reader, Ghosts, SegmentKind, Segment, ArePartsOf, segment_list, length-append, Piece, IsPart, ArePartsFor, parts_for_kept, Fails, GrowsFrom, ◌>>=◌, many, Selector, LogicalOr, LogicalAnd, Basic, Deeper, a_selector, an_and, a_basic, segment_piece, segment_pieces, selector_pieces, or_pieces, and_pieces, calls_in_selectors, calls_in_or, calls_in_and, selector_list, or_list, and_list, AreSelectorsOf, AreOrPartsOf, AreAndPartsOf, past_blanks, is_at, are_at, begins, opens, opens_next, level, segment_at, next_segment_at, selector_at, next_selector_at, and_at, next_and_at, basic_at, next_basic_at, no_arguments, argument, Argument, Kind, ExpectedClosingParenthesis, calls_in_argument, an_argument, Gives, MakesArguments, refusal, ends_argument, argument_at, arguments_at, nat_tests, Literal, ExpectedExpression, Operand, a_literal, word, past_word, literal_word_at, literal_word, of_value, kind_view, is_result, ◌==◌, filter, byte_count, or_at, call_at, IsTrue, calls_in_operand, alone, is_singular, is_whole, is_value_literal, number, IsValueLiteral, Query, IsSingular, cases_Bool, not_test, result_kind, WrongReturnType, begins_call, named_call_at, named_at, negated_call_at, negated_at, a_call, operator_at}
-use Rattle.serde_json_path_parser.specs.Inside.Looking.{begins_operator}
-use Rattle.serde_json_path_parser.specs.Inside.Giving.{MakesSo, IsOperandOf}
+use Rattle.serde_json_path_parser.proofs.Words.{◌↔◌, append-nil, map-append, name_of, names_of, calls_in_segments, calls_from, calls_in_arguments, KeepsParts, KeepsTrees, calls_in, AreDeclared, MayFinish, deepest, names_in, IsTyped, depth, Part, query, root, Segments, Call, call, Arguments, SyntaxBuilder, Signature, Grows, Parsed, Failure, Reader, Ghosts, SegmentKind, Segment, ArePartsOf, segment_list, length-append, Piece, IsPart, ArePartsFor, parts_for_kept, Fails, GrowsFrom, ◌>>=◌, many, Selector, LogicalOr, LogicalAnd, Basic, Deeper, a_selector, an_and, a_basic, segment_piece, segment_pieces, selector_pieces, or_pieces, and_pieces, calls_in_selectors, calls_in_or, calls_in_and, selector_list, or_list, and_list, past_blanks, is_at, are_at, begins, opens, opens_next, level, segment_at, selector_at, and_at, basic_at, no_arguments, argument, Argument, Kind, ExpectedClosingParenthesis, calls_in_argument, an_argument, Gives, MakesArguments, refusal, ends_argument, argument_at, arguments_at, nat_tests, Literal, ExpectedExpression, Operand, a_literal, word, past_word, literal_word_at, literal_word, of_value, kind_view, is_result, ◌==◌, filter, byte_count, or_at, call_at, IsTrue, calls_in_operand, alone, is_singular, is_whole, is_value_literal, number, IsValueLiteral, Query, IsSingular, cases_Bool, not_test, result_kind, WrongReturnType, begins_call, named_call_at, named_at, negated_at, a_call, cond, ◌||◌, ◌≡◌, ◌≤◌, ℕ, List, [], ◌∷◌, ◌++◌, inl, inr, Some, Option, Result, Ok, Err, refl, sym, ap, subst, ◌∙◌, append_assoc, ◌<◌, Bool, true, false, length, arith, drop, None, zero, suc, ◌-◌, Memory, Refused, Context, filter_at, LongHand, MakesSo, IsOperandOf, calls_in_piece, same_from_decides, query_singular}
 use Rattle.serde_json_path_syntax.proofs.Names.Finishing.{may_finish}
 use Rattle.serde_json_path_syntax.proofs.Lists.{in_append}
-use Rattle.serde_json_path_syntax.specs.Piece.{calls_in_piece}
-use Rattle.serde_json_path_parser.specs.declared.error.Failure.TheVariants as failures
-use Rattle.serde_json_path_parser.proofs.Reading as m
-use Rattle.serde_json_path_parser.specs.declared.error.Context as declared
-use Rattle.serde_json_path_parser.specs.Filters.{filter_at}
 use Rattle.serde_json_path_parser.proofs.Grammar.Calls.{level_laws, amount_whole, whole_amount}
 use Rattle.serde_json_path_parser.proofs.Grammar.LogicalExpressions.{next_basic_takes, next_and_takes}
 use Rattle.serde_json_path_parser.proofs.Grammar.Segments as segments
-use Rattle.serde_json_path_parser.specs.declared.error.Context.TheVariants as context
-use Rattle.serde_json_path_parser.proofs.Reading.{first_fails, begins_differs}
+use Rattle.serde_json_path_parser.proofs.Reading.{first_fails, begins_differs, Takes, many_end, many_err, many_more, with_front}
 use Rattle.serde_json_path_parser.specs.declared.parser.operand.Operand as operands
 use Rattle.serde_json_path_parser.specs.declared.parser.operand.Operand.TheVariants as the_operands
 use denote.Enum.Bare.{sameb}
 use Rattle.serde_json_path_functions.specs.contracts.types.FunctionArgType.{the_type}
 use Rattle.serde_json_path_functions.specs.declared.types.FunctionArgType.{FunctionArgType}
 use Rattle.serde_json_path_functions.specs.declared.types.FunctionArgType.TheVariants as results
-use Rattle.std.proofs.lemmas.Bool.Decides.{same_from_decides}
 use Rattle.serde_json_path_parser.proofs.Grammar.LogicalForms.{singular_query}
-use Rattle.serde_json_path_syntax.proofs.Tree.NamedParts.{query_singular}
 
 -- ---- how the builder grows, and by which calls; and which parts stand for no segment
 
@@ -136,7 +125,7 @@ module _ {A B : Type 0} (row : Row A B) where
   after items read = read >>= λ xs. Ok (row.whole (items ++ xs.0), xs.1)
 
   pub record IsRow : Type 0 where
-    pub takes : m.Takes row.more next
+    pub takes : Takes row.more next
     pub pieces : Joins (λ x. row.piece x ∷ []) row.pieces
     pub calls : Joins (λ x. calls_in_piece (row.piece x)) row.calls
 
@@ -149,7 +138,7 @@ module _ {A B : Type 0} (row : Row A B) where
     pub grown : GrowsFrom signature old builder first (row.calls items)
 
 module _ {A B : Type 0} {row : Row A B} (law : IsRow row) where
-  regrouped : (items : List A) (x : A) (read : Parsed (List A)) → after row items (m.with_front (x ∷ []) read) ≡ after row (items ++ x ∷ []) read
+  regrouped : (items : List A) (x : A) (read : Parsed (List A)) → after row items (with_front (x ∷ []) read) ≡ after row (items ++ x ∷ []) read
   regrouped items x (Ok xs) = ap (λ (l : List A). Ok (row.whole l, xs.1)) (sym (append_assoc items (x ∷ []) xs.0))
   regrouped items x (Err d) = refl
 
@@ -169,9 +158,9 @@ module _ {A B : Type 0} {row : Row A B} (law : IsRow row) where
     -- an item is refused
     pub row_fails : {signature : List ℕ → Option Signature} {old builder : SyntaxBuilder} {first : List Call} {parts : List Part} {read : Parsed B} → SoFar row signature old builder first parts cs read
         → (s : Failure) → Fails s (row.item ds) → Fails s read
-    row_fails so_far failures.Memory h = tt
-    row_fails so_far (failures.Refused d) h =
-        sym so_far.reads ∙ ap (after row so_far.items) (m.many_err row.more (next row) law.takes cs d there (ap row.item (sym past) ∙ h))
+    row_fails so_far Memory h = tt
+    row_fails so_far (Refused d) h =
+        sym so_far.reads ∙ ap (after row so_far.items) (many_err row.more (next row) law.takes cs d there (ap row.item (sym past) ∙ h))
 
     -- an item is made
     module _ {signature : List ℕ → Option Signature} {builder new : SyntaxBuilder} {part : Part} {rest : List ℕ}
@@ -188,7 +177,7 @@ module _ {A B : Type 0} {row : Row A B} (law : IsRow row) where
         items = so_far.items ++ one.0 ∷ [];
         are = rw (e, ← joined law.pieces so_far.items one.0) (pushed_part new parts (row.pieces so_far.items) part (row.piece one.0) (parts_for_kept builder new one.3.trees parts (row.pieces so_far.items) so_far.are) one.1);
         some = rw (e, length-append parts (part ∷ [])) (let some = so_far.some in omega arith);
-        reads = sym (regrouped so_far.items one.0 (many row.more (next row) rest)) ∙ ap (after row so_far.items) (sym (m.many_more row.more (next row) law.takes cs rest one.0 there reads_next)) ∙ so_far.reads;
+        reads = sym (regrouped so_far.items one.0 (many row.more (next row) rest)) ∙ ap (after row so_far.items) (sym (many_more row.more (next row) law.takes cs rest one.0 there reads_next)) ∙ so_far.reads;
         grown = λ before h. grows_same (joined law.calls so_far.items one.0) (grows_then (so_far.grown before h) one.3);
       }
 
@@ -196,13 +185,13 @@ module _ {A B : Type 0} {row : Row A B} (law : IsRow row) where
   pub row_done : {signature : List ℕ → Option Signature} {old builder : SyntaxBuilder} {first : List Call} {parts : List Part} {cs rest : List ℕ} {read : Parsed B}
       → (so_far : SoFar row signature old builder first parts cs read) → row.more cs ≡ false → rest ≡ cs → read ≡ Ok (row.whole so_far.items, rest)
   row_done {cs = cs} so_far ends stays =
-      sym so_far.reads ∙ ap (after row so_far.items) (m.many_end row.more (next row) cs ends) ∙ ap (λ l. Ok (row.whole l, cs)) (append-nil so_far.items)
+      sym so_far.reads ∙ ap (after row so_far.items) (many_end row.more (next row) cs ends) ∙ ap (λ l. Ok (row.whole l, cs)) (append-nil so_far.items)
       ∙ ap (λ l. Ok (row.whole so_far.items, l)) (sym stays)
 
 -- ---- the rows that are read at a level: segments, selectors, and what `||` and `&&` join
 
 module _ (signature : List ℕ → Option Signature) (deeper : Deeper) where
-  abbrev pub segment_row : declared.Context → Row (SegmentKind × Segment) (List (SegmentKind × Segment))
+  abbrev pub segment_row : Context → Row (SegmentKind × Segment) (List (SegmentKind × Segment))
   segment_row here = record {
     more = opens_next;
     before = past_blanks;
@@ -254,19 +243,17 @@ module _ (signature : List ℕ → Option Signature) (n : ℕ) where
   abbrev here : Deeper
   here = level signature n
 
-  pub segments_stand : (at : declared.Context) → IsRow (segment_row signature here at)
-  unfolding next_segment_at
+  pub segments_stand : (at : Context) → IsRow (segment_row signature here at)
   segments_stand at = record {
     takes = segments.next_segment_takes signature n here (level_laws signature n) at;
     pieces = record { none = refl; some = λ s ss. refl };
     calls = record { none = refl; some = λ s ss. refl };
   }
 
-  pub segment_shorter : (at : declared.Context) (cs rest : List ℕ) (x : SegmentKind × Segment) → begins opens cs ≡ true → segment_at (filter_at signature here) at cs ≡ Ok (x, rest) → length rest < length cs
+  pub segment_shorter : (at : Context) (cs rest : List ℕ) (x : SegmentKind × Segment) → begins opens cs ≡ true → segment_at (filter_at signature here) at cs ≡ Ok (x, rest) → length rest < length cs
   segment_shorter at = segments.segment_shorter signature n here (level_laws signature n) at
 
   pub selectors_stand : IsRow (selector_row signature here)
-  unfolding next_selector_at
   selectors_stand = record {
     takes = segments.next_selector_takes signature n here (level_laws signature n);
     pieces = record { none = refl; some = λ s ss. refl };
@@ -274,7 +261,6 @@ module _ (signature : List ℕ → Option Signature) (n : ℕ) where
   }
 
   pub ors_stand : IsRow (or_row signature here)
-  unfolding next_and_at
   ors_stand = record {
     takes = next_and_takes signature n here (level_laws signature n);
     pieces = record { none = refl; some = λ x xs. refl };
@@ -282,7 +268,6 @@ module _ (signature : List ℕ → Option Signature) (n : ℕ) where
   }
 
   pub ands_stand : IsRow (and_row signature here)
-  unfolding next_basic_at
   ands_stand = record {
     takes = next_basic_takes signature n here (level_laws signature n);
     pieces = record { none = refl; some = λ b bs. refl };
@@ -290,18 +275,10 @@ module _ (signature : List ℕ → Option Signature) (n : ℕ) where
   }
 
 -- where there is one part at least
-pub some_selectors : (builder : SyntaxBuilder) (parts : List Part) (ss : List Selector) → 1 ≤ length parts → ArePartsFor builder parts (selector_pieces (selector_list ss))
-    → AreSelectorsOf builder parts (selector_list ss)
-some_selectors builder [] ss some h = absurd (omega (arith, some))
-some_selectors builder (part ∷ parts) ss some h = h
-
-pub some_ors : (builder : SyntaxBuilder) (parts : List Part) (e : LogicalOr) → 1 ≤ length parts → ArePartsFor builder parts (or_pieces e) → AreOrPartsOf builder parts e
-some_ors builder [] e some h = absurd (omega (arith, some))
-some_ors builder (part ∷ parts) e some h = h
-
-pub some_ands : (builder : SyntaxBuilder) (parts : List Part) (e : LogicalAnd) → 1 ≤ length parts → ArePartsFor builder parts (and_pieces e) → AreAndPartsOf builder parts e
-some_ands builder [] e some h = absurd (omega (arith, some))
-some_ands builder (part ∷ parts) e some h = h
+pub some_parts : (builder : SyntaxBuilder) (Are : List Part → Type 0) (parts : List Part) (pieces : List Piece) → 1 ≤ length parts
+    → ((part : Part) (others : List Part) → ArePartsFor builder (part ∷ others) pieces → Are (part ∷ others)) → ArePartsFor builder parts pieces → Are parts
+some_parts builder Are [] pieces some are h = absurd (omega (arith, some))
+some_parts builder Are (part ∷ parts) pieces some are h = are part parts h
 
 -- ---- parts of arguments
 
@@ -340,13 +317,11 @@ one_more {parts = parts} {read = read} {others = others} a so_far put is grown e
 
 module _ (signature : List ℕ → Option Signature) (deeper : Deeper) (start : ℕ) where
   pub first_refused : (kinds : List Kind) (cs : List ℕ) (s : Failure) → Fails s (argument_at signature deeper cs) → Fails s (arguments_at signature deeper start kinds cs)
-  unfolding arguments_at
   first_refused [] cs s h = first_fails s _ _ h
   first_refused (kind ∷ kinds) cs s h = first_fails s _ _ h
 
   pub first_open : (kinds : List Kind) (cs : List ℕ) (a : Argument × List ℕ) → argument_at signature deeper cs ≡ Ok a → begins ends_argument a.1 ≡ false
-      → arguments_at signature deeper start kinds cs ≡ Err (refusal ExpectedClosingParenthesis context.LongHand a.1)
-  unfolding arguments_at
+      → arguments_at signature deeper start kinds cs ≡ Err (refusal ExpectedClosingParenthesis LongHand a.1)
   first_open [] cs a read no_end = rw (read, no_end) refl
   first_open (kind ∷ kinds) cs a read no_end = rw (read, no_end) refl
 
@@ -355,11 +330,10 @@ module _ (signature : List ℕ → Option Signature) (deeper : Deeper) (start : 
 -- what reading gives where the word is that literal's, or none's
 abbrev pub read_literal : Option Literal → List ℕ → Parsed Operand
 read_literal (Some l) cs = Ok (a_literal l, past_blanks (past_word cs))
-read_literal None cs = Err (refusal ExpectedExpression context.LongHand cs)
+read_literal None cs = Err (refusal ExpectedExpression LongHand cs)
 
 -- the tests for each literal's word, one after another, give what the word's literal does
 pub literal_word_reads : (cs : List ℕ) → literal_word_at cs ≡ read_literal (literal_word (word cs)) cs
-unfolding literal_word_at
 literal_word_reads cs = grind (arith, nat_tests)
 
 -- ---- the steps of the code within a filter
@@ -376,7 +350,6 @@ level_down signature (suc n) m l e = let same : m ≡ n = omega (arith, e) in rw
 module _ (signature : List ℕ → Option Signature) (deeper : Deeper) where
   -- a selector that begins with `?` is a filter
   pub at_mark : (cs : List ℕ) → is_at "?" cs ≡ true → selector_at (filter_at signature deeper) cs ≡ (deeper.expression (byte_count cs) (past_blanks (drop 1 cs)) >>= λ e. Ok (filter e.0, e.1))
-  unfolding selector_at filter_at
   at_mark cs mark =
       let other : (k : ℕ) → (k == 63) ≡ false → begins (λ c. c == k) cs ≡ false = λ k differs. begins_differs (λ c. c == 63) k cs differs mark in
       rw (other 39 refl, other 34 refl, other 42 refl, other 58 refl, mark) refl
@@ -391,19 +364,18 @@ value_kind _ = refl
 module _ (signature : List ℕ → Option Signature) (cs : List ℕ) where
   -- what is made of the operand that the name begins
   abbrev negated : Operand → List ℕ → Parsed Basic
-  negated (a_call c) rest = cond (is_result of_value (result_kind signature c)) (Err (refusal WrongReturnType context.LongHand cs)) (Ok (not_test c, rest))
-  negated o rest = Err (refusal ExpectedExpression context.LongHand cs)
+  negated (a_call c) rest = cond (is_result of_value (result_kind signature c)) (Err (refusal WrongReturnType LongHand cs)) (Ok (not_test c, rest))
+  negated o rest = Err (refusal ExpectedExpression LongHand cs)
 
   -- what is no call may not stand there
   pub no_call : (builder : SyntaxBuilder) (o : operands.Operand) (x : Operand) (rest : List ℕ) → ((part : Part) (kind : FunctionArgType) → o ≡ the_operands.Call part kind → ⊥)
-      → IsOperandOf signature builder o x → negated x rest ≡ Err (refusal ExpectedExpression context.LongHand cs)
+      → IsOperandOf signature builder o x → negated x rest ≡ Err (refusal ExpectedExpression LongHand cs)
   no_call builder (the_operands.Literal l) x rest other h = rw h refl
   no_call builder (the_operands.Query part) x rest other h = rw h.1 refl
   no_call builder (the_operands.Call part kind) x rest other h = absurd (other part kind refl)
 
   module _ (deeper : Deeper) where
     pub negated_named : is_at "(" cs ≡ false → is_at "@" cs ≡ false → is_at "$" cs ≡ false → negated_at signature deeper cs ≡ (named_at signature deeper cs >>= λ o. negated o.0 o.1)
-    unfolding named_at negated_at negated_call_at
     negated_named no_parenthesis no_current no_root = rw (no_parenthesis, no_current, no_root) (elim (cases_Bool (begins_call cs)) [
       | inl e ↦ rw e (by_call (named_call_at signature deeper cs))
       | inr e ↦ rw (e, literal_word_reads cs) (by_word (literal_word (word cs)))
@@ -413,7 +385,7 @@ module _ (signature : List ℕ → Option Signature) (cs : List ℕ) where
         by_call (Ok c) = refl
         by_call (Err d) = refl
 
-        by_word : (l : Option Literal) → Err (refusal ExpectedExpression context.LongHand cs) ≡ (read_literal l cs >>= λ o. negated o.0 o.1)
+        by_word : (l : Option Literal) → Err (refusal ExpectedExpression LongHand cs) ≡ (read_literal l cs >>= λ o. negated o.0 o.1)
         by_word (Some l) = refl
         by_word None = refl
 
@@ -431,18 +403,3 @@ singular_by b q h = same_from_decides (is_singular q) b (singular_query q, query
 pub value_by : (b : Bool) (l : Literal) → IsTrue b ↔ IsValueLiteral l → b ≡ is_value_literal l
 value_by b (number amount) h = same_from_decides b (is_whole amount) h (whole_amount amount, λ w. amount_whole amount w.0 w.1)
 value_by b _ h = h.1 tt
-
--- ---- operators
-
-neither : (a b : Bool) → (a || b) ≡ false → (a ≡ false) × (b ≡ false)
-neither true b e = absurd (true≢false e)
-neither false b e = (refl, e)
-
--- no operator is there where none may begin
-pub no_operator : (cs : List ℕ) → begins begins_operator cs ≡ false → operator_at cs ≡ None
-no_operator [] e = refl
-no_operator (c ∷ cs) e =
-    let equal = neither (c == 61) _ e in
-    let not_equal = neither (c == 33) _ equal.1 in
-    let less = neither (c == 60) _ not_equal.1 in
-    rw (equal.0, not_equal.0, less.0, less.1) refl

@@ -1,9 +1,7 @@
 -- Bytes and the characters that they encode: the character at a place, by its first byte, and ASCII characters that are taken many at a time.
-use Rattle.std.proofs.Common.{◌≡◌, ℕ, ◌+◌, ◌*◌, ◌%◌, ◌<◌, ◌≤◌, inl, inr, true, List, [], ◌∷◌, length, get_or, drop, Some, refl, sym, ap, subst, ◌∙◌, arith, true≢false, Option, None, zero, suc, ◌-◌, Bool, ◌++◌, take, set, if◌then◌else◌, append_assoc}
-use Rattle.serde_json_path_parser.proofs.Words.{slice_get, IsUtf8, encode_utf8_all, StartsWithChar, get_or-drop, slice_get_within, slice_get-get_or, same_Some, none-some, length-drop, cases_lt, ◌==◌, is_utf8, chars, eqb-true, drop-drop, drop_all, IsUtf8-from_is_utf8, is_utf8-from_IsUtf8, chars-nil, chars_past_char, byte_from_char, char_from_byte, is_ascii, IsAhead, begins, nat_le, nat_lt, ◌^◌, max, IsAscii, and_parts, cases_Bool, length-take-le, take_more_set, encodes-append, encodes-IsAscii, AllPass, is_name_char, is_plain, front, past, Told, one_more, looked, LooksOn, is_ascii_name_char, is_ascii_plain, Gathered, Stretched, IsSome}
+use Rattle.serde_json_path_parser.proofs.Words.{slice_get, IsUtf8, encode_utf8_all, StartsWithChar, get_or-drop, slice_get_within, slice_get-get_or, same_Some, none-some, length-drop, cases_lt, ◌==◌, is_utf8, chars, eqb-true, drop-drop, drop_all, IsUtf8-from_is_utf8, is_utf8-from_IsUtf8, chars-nil, chars_past_char, byte_from_char, char_from_byte, is_ascii, IsAhead, begins, nat_le, nat_lt, ◌^◌, max, IsAscii, and_parts, cases_Bool, length-take-le, take_more_set, encodes-append, encodes-IsAscii, AllPass, is_name_char, front, past, Told, one_more, looked, LooksOn, is_ascii_name_char, Gathered, Stretched, IsSome, ◌≡◌, ℕ, ◌+◌, ◌*◌, ◌%◌, ◌<◌, ◌≤◌, inl, inr, true, List, [], ◌∷◌, length, get_or, drop, Some, refl, sym, ap, subst, ◌∙◌, arith, true≢false, Option, None, zero, suc, ◌-◌, Bool, ◌++◌, take, set, if◌then◌else◌, append_assoc, ◌&&◌, IsScalar}
 use Rattle.std.proofs.iter.FirstChar.{wide, in_one, in_two, in_three, in_four}
-use Rattle.std.specs.Char.{IsScalar}
-use Rattle.serde_json_path_parser.proofs.Reading.{past_through}
+use Rattle.serde_json_path_parser.proofs.Reading.{past_through, front_through}
 
 -- ---- the character at a place of a text, by its first byte
 
@@ -49,9 +47,6 @@ module _ (text : List ℕ) (at lead : ℕ) (utf8 : IsUtf8 (drop at text)) (is : 
 none_past : (xs : List ℕ) (i : ℕ) → slice_get xs i ≡ None → drop i xs ≡ []
 none_past xs i e = drop_all i xs (elim (cases_lt i (length xs)) [ inl k ↦ absurd (none-some _ (sym e ∙ slice_get-get_or xs i 0 k)) | inr k ↦ k ])
 
-pub utf8_of : (bs : List ℕ) → is_utf8 bs ≡ true → IsUtf8 bs
-utf8_of bs e = IsUtf8-from_is_utf8 bs e
-
 ahead_some : (bs : List ℕ) (b : ℕ) → IsUtf8 bs → 0 < length bs → get_or bs 0 0 ≡ b → IsAhead (Some b) (chars bs)
 ahead_some bs b ([], (s, split)) l e = absurd (omega (arith, ap length split))
 ahead_some bs b (c ∷ more, (s, split)) l e =
@@ -65,8 +60,8 @@ ahead_some bs b (c ∷ more, (s, split)) l e =
 pub ahead : (text : List ℕ) (at : ℕ) (o : Option ℕ) → is_utf8 (drop at text) ≡ true → o ≡ slice_get text at → IsAhead o (chars (drop at text))
 ahead text at None u e = ap chars (none_past text at (sym e)) ∙ chars-nil
 ahead text at (Some b) u e =
-    let w : at < length text = within text at b (utf8_of _ u) (sym e) in
-    ahead_some (drop at text) b (utf8_of _ u) (omega (arith, length-drop at text)) (lead_is text at b (utf8_of _ u) (sym e))
+    let w : at < length text = within text at b (IsUtf8-from_is_utf8 _ u) (sym e) in
+    ahead_some (drop at text) b (IsUtf8-from_is_utf8 _ u) (omega (arith, length-drop at text)) (lead_is text at b (IsUtf8-from_is_utf8 _ u) (sym e))
 
 -- a step over the character at a place
 pub record Step (text : List ℕ) (at c w : ℕ) : Type 0 where
@@ -78,14 +73,14 @@ pub step : (text : List ℕ) (at c w : ℕ) → at ≤ length text → is_utf8 (
 step text at c w l u s =
     let past : drop w (drop at text) ≡ drop (at + w) text = drop-drop w at text in
     record {
-      left = chars_past_char (drop at text) (drop w (drop at text)) c (utf8_of _ u) s.0 ∙ ap (λ (r : List ℕ). c ∷ chars r) past;
+      left = chars_past_char (drop at text) (drop w (drop at text)) c (IsUtf8-from_is_utf8 _ u) s.0 ∙ ap (λ (r : List ℕ). c ∷ chars r) past;
       within = omega (arith, s.3, length-drop at text);
       utf8 = is_utf8-from_IsUtf8 (drop (at + w) text) (subst IsUtf8 past s.4);
     }
 
 -- a step over an ASCII character
 pub step_one : (text : List ℕ) (at lead : ℕ) → at ≤ length text → is_utf8 (drop at text) ≡ true → slice_get text at ≡ Some lead → lead < 128 → Step text at lead 1
-step_one text at lead l u e ascii = step text at lead 1 l u (one text at lead (utf8_of _ u) e ascii).1
+step_one text at lead l u e ascii = step text at lead 1 l u (one text at lead (IsUtf8-from_is_utf8 _ u) e ascii).1
 
 -- what the byte after an ASCII one tells of the characters after the first
 pub ahead_second : (text : List ℕ) (at : ℕ) (next second : Option ℕ) → at ≤ length text → is_utf8 (drop at text) ≡ true → next ≡ slice_get text at → is_ascii next ≡ true → second ≡ slice_get text (at + 1)
@@ -109,15 +104,10 @@ some_next text at next is l = elim (cases_lt at (length text)) [
   | inr k ↦ absurd (omega (arith, ap (λ (r : List ℕ). length (chars r)) (drop_all at text k), ap length chars-nil, l))
 ]
 
--- ---- an ASCII character of a name
+-- ---- ASCII characters that pass a test
 
-pub below_128 : (c : ℕ) → is_ascii_name_char c ≡ true → c < 128
-below_128 c e = let h = (and_parts (nat_le c 127) (is_name_char c) e).0 in grind arith
-
-in_name : (c : ℕ) → is_ascii_name_char c ≡ true → is_name_char c ≡ true
-in_name c e = (and_parts (nat_le c 127) (is_name_char c) e).1
-
--- ---- lists of them
+pub ascii_that : (p : ℕ → Bool) (c : ℕ) → (nat_le c 127 && p c) ≡ true → (c < 128) × (p c ≡ true)
+ascii_that p c e = let h = and_parts (nat_le c 127) (p c) e in (let low = h.0 in grind (arith, low), h.1)
 
 pub all_ascii : (p : ℕ → Bool) → ((c : ℕ) → p c ≡ true → c < 128) → (cs : List ℕ) → AllPass p cs → IsAscii cs
 all_ascii p ascii [] h i = omega arith
@@ -126,15 +116,11 @@ all_ascii p ascii (c ∷ cs) h (suc i) = all_ascii p ascii cs h.1 i
 
 all_in_name : (cs : List ℕ) → AllPass is_ascii_name_char cs → AllPass is_name_char cs
 all_in_name [] h = tt
-all_in_name (c ∷ cs) h = (in_name c h.0, all_in_name cs h.1)
+all_in_name (c ∷ cs) h = ((ascii_that is_name_char c h.0).1, all_in_name cs h.1)
 
 all_more : (p : ℕ → Bool) (cs : List ℕ) (c : ℕ) → AllPass p cs → p c ≡ true → AllPass p (cs ++ c ∷ [])
 all_more p [] c h e = (e, tt)
 all_more p (d ∷ cs) c h e = (h.0, all_more p cs c h.1 e)
-
-front_past : (p : ℕ → Bool) (cs rest : List ℕ) → AllPass p cs → front p (cs ++ rest) ≡ cs ++ front p rest
-front_past p [] rest h = refl
-front_past p (c ∷ cs) rest h = rw h.0 (ap (λ (l : List ℕ). c ∷ l) (front_past p cs rest h.1))
 
 -- a name that begins with an ASCII byte begins with an ASCII character
 pub name_begun : (first : ℕ) (cs : List ℕ) → IsAhead (Some first) cs → first < 128 → begins is_name_char cs ≡ true → begins is_ascii_name_char cs ≡ true
@@ -195,9 +181,9 @@ pub front_part : (cs part rest text : List ℕ) → AllPass is_ascii_name_char p
 front_part cs part rest text h e =
     let inside : encode_utf8_all (front is_name_char cs) ≡ part ++ encode_utf8_all (front is_name_char rest) =
     ap (λ (l : List ℕ). encode_utf8_all (front is_name_char l)) e
-    ∙ ap encode_utf8_all (front_past is_name_char part rest (all_in_name part h))
+    ∙ ap encode_utf8_all (front_through is_name_char part rest (all_in_name part h))
     ∙ encodes-append part (front is_name_char rest)
-    ∙ ap (λ (l : List ℕ). l ++ encode_utf8_all (front is_name_char rest)) (encodes-IsAscii part (all_ascii is_ascii_name_char below_128 part h)) in
+    ∙ ap (λ (l : List ℕ). l ++ encode_utf8_all (front is_name_char rest)) (encodes-IsAscii part (all_ascii is_ascii_name_char (λ c e. (ascii_that is_name_char c e).0) part h)) in
     append_assoc text part _ ∙ ap (λ (l : List ℕ). text ++ l) (sym inside)
 
 -- the same of a stretch
@@ -219,11 +205,3 @@ stretched p text index end part old new ok some long h is = record {
   taken = h.taken;
   text = λ e. is ∙ ap (λ b. if b then old ++ take (end - index) part else old) e;
 }
-
--- ---- characters of a string that stand for themselves
-
-pub plain_below_128 : (quote c : ℕ) → is_ascii_plain quote c ≡ true → c < 128
-plain_below_128 quote c e = let h = (and_parts (nat_le c 127) (is_plain quote c) e).0 in grind arith
-
-pub plain_of : (quote c : ℕ) → is_ascii_plain quote c ≡ true → is_plain quote c ≡ true
-plain_of quote c e = (and_parts (nat_le c 127) (is_plain quote c) e).1

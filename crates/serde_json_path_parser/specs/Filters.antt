@@ -32,7 +32,7 @@ abbrev pub begins_call : List ℕ → Bool
 begins_call cs = begins is_small_letter cs && is_at "(" (past_word cs)
 
 -- `true`, `false` or `null`
-unfoldable pub literal_word_at : List ℕ → Parsed Operand
+abbrev pub literal_word_at : List ℕ → Parsed Operand
 literal_word_at cs =
     if bytes_eq (word cs) (codes "true") then Ok (a_literal (truth true), past_blanks (past_word cs))
     else if bytes_eq (word cs) (codes "false") then Ok (a_literal (truth false), past_blanks (past_word cs))
@@ -78,7 +78,7 @@ abbrev pub ends_argument : ℕ → Bool
 ends_argument c = c ∈ ",)"
 
 -- after the last argument
-unfoldable pub ended : ℕ → List Kind → List ℕ → Parsed Arguments
+abbrev pub ended : ℕ → List Kind → List ℕ → Parsed Arguments
 ended start [] cs = Ok (no_arguments, past_blanks cs)
 ended start (kind ∷ kinds) cs = Err (refusal_at WrongNumberOfArguments context.LongHand start)
 
@@ -92,13 +92,13 @@ pub record Deeper : Type 0 where
 
 module _ (signature : List ℕ → Option Signature) (deeper : Deeper) where
   -- at `?`
-  unfoldable pub filter_at : List ℕ → Parsed Selector
+  abbrev pub filter_at : List ℕ → Parsed Selector
   filter_at cs = deeper.expression (byte_count cs) (past_blanks (drop 1 cs)) >>= λ e. Ok (filter e.0, e.1)
 
   -- ---- operands
 
   -- at `@` or `$`
-  unfoldable pub query_at : QueryKind → List ℕ → Parsed Query
+  abbrev pub query_at : QueryKind → List ℕ → Parsed Query
   query_at kind cs = segments_at filter_at context.LongHand (drop 1 cs) >>= λ ss. Ok (query kind (segment_list ss.0), past_blanks ss.1)
 
   -- at a name with `(` after it
@@ -106,10 +106,10 @@ module _ (signature : List ℕ → Option Signature) (deeper : Deeper) where
   named_call_at cs = deeper.call_of (byte_count cs) (word cs) (drop 1 (past_word cs))
 
   -- at a small letter
-  unfoldable pub named_at : List ℕ → Parsed Operand
+  abbrev pub named_at : List ℕ → Parsed Operand
   named_at cs = if begins_call cs then (named_call_at cs >>= λ c. Ok (a_call c.0, c.1)) else literal_word_at cs
 
-  unfoldable pub operand_at : List ℕ → Parsed Operand
+  abbrev pub operand_at : List ℕ → Parsed Operand
   operand_at cs =
       if is_at "'" cs then text_at (code "'") cs
       else if is_at "\"" cs then text_at (code "\"") cs
@@ -121,41 +121,41 @@ module _ (signature : List ℕ → Option Signature) (deeper : Deeper) where
 
   -- ---- comparisons and tests; start bytes are left where the operand begins
 
-  unfoldable pub comparable_at : ℕ → Operand → List ℕ → Parsed Comparable
+  abbrev pub comparable_at : ℕ → Operand → List ℕ → Parsed Comparable
   comparable_at start (a_literal l) cs = Ok (literal l, cs)
   comparable_at start (a_query q) cs = if is_singular q then Ok (singular q, cs) else Err (refusal_at NonSingularQuery context.LongHand start)
   comparable_at start (a_call c) cs = if is_result of_value (result_kind signature c) then Ok (called c, cs) else Err (refusal_at WrongReturnType context.LongHand start)
 
   -- no operator stands after the operand
-  unfoldable pub test_at : ℕ → Operand → List ℕ → Parsed Basic
+  abbrev pub test_at : ℕ → Operand → List ℕ → Parsed Basic
   test_at start (a_literal l) cs = Err (refusal ExpectedComparisonOperator context.LongHand cs)
   test_at start (a_query q) cs = Ok (exist q, cs)
   test_at start (a_call c) cs = if is_result of_value (result_kind signature c) then Err (refusal_at WrongReturnType context.LongHand start) else Ok (test c, cs)
 
-  unfoldable pub right_side_at : List ℕ → Parsed Comparable
+  abbrev pub right_side_at : List ℕ → Parsed Comparable
   right_side_at cs = operand_at cs >>= λ o. comparable_at (byte_count cs) o.0 o.1
 
-  unfoldable pub relation_at : ℕ → Operand → Option (Operator × List ℕ) → List ℕ → Parsed Basic
+  abbrev pub relation_at : ℕ → Operand → Option (Operator × List ℕ) → List ℕ → Parsed Basic
   relation_at start o None cs = test_at start o cs
   relation_at start o (Some op) cs = comparable_at start o (past_blanks op.1) >>= λ a. right_side_at a.1 >>= λ b. Ok (relation a.0 op.0 b.0, b.1)
 
   -- after an operand that begins at start
-  unfoldable pub basic_from : ℕ → Operand → List ℕ → Parsed Basic
+  abbrev pub basic_from : ℕ → Operand → List ℕ → Parsed Basic
   basic_from start o cs = relation_at start o (operator_at cs) cs
 
   -- ---- parentheses and `!`
 
   -- at `(`
-  unfoldable pub paren_at : List ℕ → Parsed LogicalOr
+  abbrev pub paren_at : List ℕ → Parsed LogicalOr
   paren_at cs = deeper.expression (byte_count cs) (past_blanks (drop 1 cs)) >>= λ e.
       if is_at ")" e.1 then Ok (e.0, past_blanks (drop 1 e.1)) else Err (refusal ExpectedClosingParenthesis context.LongHand e.1)
 
-  unfoldable pub negated_call_at : List ℕ → Parsed Basic
+  abbrev pub negated_call_at : List ℕ → Parsed Basic
   negated_call_at cs = named_call_at cs >>= λ c.
       if is_result of_value (result_kind signature c.0) then Err (refusal WrongReturnType context.LongHand cs) else Ok (not_test c.0, c.1)
 
   -- after `!` and blanks
-  unfoldable pub negated_at : List ℕ → Parsed Basic
+  abbrev pub negated_at : List ℕ → Parsed Basic
   negated_at cs =
       if is_at "(" cs then (paren_at cs >>= λ e. Ok (not_paren e.0, e.1))
       else if is_at "@" cs then (query_at current cs >>= λ q. Ok (not_exist q.0, q.1))
@@ -165,37 +165,37 @@ module _ (signature : List ℕ → Option Signature) (deeper : Deeper) where
 
   -- ---- logical expressions
 
-  unfoldable pub basic_at : List ℕ → Parsed Basic
+  abbrev pub basic_at : List ℕ → Parsed Basic
   basic_at cs =
       if is_at "(" cs then (paren_at cs >>= λ e. Ok (paren e.0, e.1))
       else if is_at "!" cs then negated_at (past_blanks (drop 1 cs))
       else (operand_at cs >>= λ o. basic_from (byte_count cs) o.0 o.1)
 
   -- at `&&`
-  unfoldable pub next_basic_at : List ℕ → Parsed Basic
+  abbrev pub next_basic_at : List ℕ → Parsed Basic
   next_basic_at cs = basic_at (past_blanks (drop 2 cs))
 
   -- after a first part
-  unfoldable pub and_from : Basic → List ℕ → Parsed LogicalAnd
+  abbrev pub and_from : Basic → List ℕ → Parsed LogicalAnd
   and_from b cs = many (are_at "&&") next_basic_at cs >>= λ bs. Ok (and_list (b ∷ bs.0), bs.1)
 
-  unfoldable pub and_at : List ℕ → Parsed LogicalAnd
+  abbrev pub and_at : List ℕ → Parsed LogicalAnd
   and_at cs = basic_at cs >>= λ b. and_from b.0 b.1
 
   -- at `||`
-  unfoldable pub next_and_at : List ℕ → Parsed LogicalAnd
+  abbrev pub next_and_at : List ℕ → Parsed LogicalAnd
   next_and_at cs = and_at (past_blanks (drop 2 cs))
 
-  unfoldable pub or_from : LogicalAnd → List ℕ → Parsed LogicalOr
+  abbrev pub or_from : LogicalAnd → List ℕ → Parsed LogicalOr
   or_from a cs = many (are_at "||") next_and_at cs >>= λ more. Ok (or_list (a ∷ more.0), more.1)
 
-  unfoldable pub or_at : List ℕ → Parsed LogicalOr
+  abbrev pub or_at : List ℕ → Parsed LogicalOr
   or_at cs = and_at cs >>= λ a. or_from a.0 a.1
 
   -- ---- calls
 
   -- what begins with an operand that does not stand alone
-  unfoldable pub logical_from : ℕ → Operand → List ℕ → Parsed Argument
+  abbrev pub logical_from : ℕ → Operand → List ℕ → Parsed Argument
   logical_from start o cs =
       basic_from start o cs >>= λ b. and_from b.0 b.1 >>= λ a. or_from a.0 a.1 >>= λ e. Ok (logical_argument e.0, e.1)
 
@@ -205,7 +205,7 @@ module _ (signature : List ℕ → Option Signature) (deeper : Deeper) where
       else (operand_at cs >>= λ o. if begins ends_argument o.1 then Ok (alone o.0, o.1) else logical_from (byte_count cs) o.0 o.1)
 
   -- one argument or more, of a call that begins at start, for parameters of these types
-  unfoldable pub arguments_at : ℕ → List Kind → List ℕ → Parsed Arguments
+  abbrev pub arguments_at : ℕ → List Kind → List ℕ → Parsed Arguments
   arguments_at start [] cs = argument_at cs >>= λ a.
       if begins ends_argument a.1 then Err (refusal_at WrongNumberOfArguments context.LongHand start)
       else Err (refusal ExpectedClosingParenthesis context.LongHand a.1)
@@ -218,11 +218,11 @@ module _ (signature : List ℕ → Option Signature) (deeper : Deeper) where
       else Err (refusal ExpectedClosingParenthesis context.LongHand a.1)
 
   -- after `(` and blanks
-  unfoldable pub parameters_at : ℕ → List Kind → List ℕ → Parsed Arguments
+  abbrev pub parameters_at : ℕ → List Kind → List ℕ → Parsed Arguments
   parameters_at start kinds cs = if is_at ")" cs then ended start kinds (drop 1 cs) else arguments_at start kinds cs
 
   -- a call of a name that has this signature
-  unfoldable pub call_at : ℕ → List ℕ → Option Signature → List ℕ → Parsed Call
+  abbrev pub call_at : ℕ → List ℕ → Option Signature → List ℕ → Parsed Call
   call_at start name None cs = Err (refusal_at UndefinedFunction context.LongHand start)
   call_at start name (Some s) cs = parameters_at start s.params (past_blanks cs) >>= λ args. Ok (call name args.0, args.1)
 

@@ -4,3 +4,5 @@
 pub mod Giving
 -- what the bytes ahead tell, what was looked at, and stretches of characters
 pub mod Looking
+-- the words of contracts of private functions, from one place
+pub mod Words

@@ -12,14 +12,14 @@ abbrev pub is_exponent : ℕ → Bool
 is_exponent c = c ∈ "eE"
 
 -- `0`, or digits that do not begin with it
-unfoldable pub whole_at : ℕ → List ℕ → Parsed ℕ
+abbrev pub whole_at : ℕ → List ℕ → Parsed ℕ
 whole_at start cs =
     if is_at "0" cs then Ok (0, drop 1 cs)
     else if begins is_first_digit cs then Ok (value_from 0 (front is_digit cs), past is_digit cs)
     else Err (refusal_at ExpectedExpression context.LongHand start)
 
 -- after a point: the billionths of the digits there, which are read whole
-unfoldable pub digits_after_point_at : ℕ → List ℕ → Parsed ℕ
+abbrev pub digits_after_point_at : ℕ → List ℕ → Parsed ℕ
 digits_after_point_at start cs =
     if begins is_digit cs then
     (if begins is_exponent (past is_digit cs) then Err (refusal_at ExponentOrEmptyFraction context.LongHand start)
@@ -43,7 +43,7 @@ abbrev pub greatest_amount : ℕ
 greatest_amount = (2 ^ 64 - 1) * 1000000000
 
 -- -2 ^ 63 to 2 ^ 64 - 1
-unfoldable pub number_at : List ℕ → Parsed ℤ
+abbrev pub number_at : List ℕ → Parsed ℤ
 number_at cs =
     if is_at "-" cs then
     (amount_at (byte_count cs) (drop 1 cs) >>= λ n.

@@ -12,7 +12,7 @@ use Rattle.serde_json_path_parser.specs.Strings.{string_at}
 
 -- ---- names and integers
 
-unfoldable pub name_at : declared.Context → List ℕ → Parsed (List ℕ)
+abbrev pub name_at : declared.Context → List ℕ → Parsed (List ℕ)
 name_at here cs =
     if begins is_name_first cs then Ok (encode_utf8_all (front is_name_char cs), past is_name_char cs)
     else Err (refusal BadMemberName here cs)
@@ -22,7 +22,7 @@ abbrev pub is_first_digit : ℕ → Bool
 is_first_digit c = between "1" "9" c
 
 -- the digits of an integer, at whose first character start bytes are left; they are read whole before their range is judged
-unfoldable pub digits_at : ℕ → List ℕ → Parsed ℕ
+abbrev pub digits_at : ℕ → List ℕ → Parsed ℕ
 digits_at start cs =
     if nat_le (value_from 0 (front is_digit cs)) largest then Ok (value_from 0 (front is_digit cs), past is_digit cs)
     else Err (refusal_at IntegerOutOfRange context.LongHand start)
@@ -32,7 +32,7 @@ abbrev pub negative : ℕ → ℤ
 negative zero = pos 0
 negative (suc n) = negsuc n
 
-unfoldable pub int_at : List ℕ → Parsed ℤ
+abbrev pub int_at : List ℕ → Parsed ℤ
 int_at cs =
     if is_at "-" cs then
     (if begins is_first_digit (drop 1 cs) then (digits_at (byte_count cs) (drop 1 cs) >>= λ n. Ok (negative n.0, n.1)) else Err (refusal ExpectedSelector context.LongHand cs))
@@ -46,20 +46,20 @@ abbrev pub begins_int : ℕ → Bool
 begins_int c = c ∈ "-" || is_digit c
 
 -- a part of a slice, or nothing
-unfoldable pub bound_at : List ℕ → Parsed (Option ℤ)
+abbrev pub bound_at : List ℕ → Parsed (Option ℤ)
 bound_at cs = if begins begins_int cs then (int_at cs >>= λ i. Ok (Some i.0, past_blanks i.1)) else Ok (None, cs)
 
 -- a second colon and a step, or nothing
-unfoldable pub step_at : List ℕ → Parsed (Option ℤ)
+abbrev pub step_at : List ℕ → Parsed (Option ℤ)
 step_at cs = if is_at ":" cs then bound_at (past_blanks (drop 1 cs)) else Ok (None, cs)
 
 -- after a slice's start and its first colon
-unfoldable pub slice_at : Option ℤ → List ℕ → Parsed Slice
+abbrev pub slice_at : Option ℤ → List ℕ → Parsed Slice
 slice_at start cs =
     bound_at (past_blanks cs) >>= λ end. step_at end.1 >>= λ step. Ok (record { start = start; end = end.0; step = step.0 }, step.1)
 
 -- an index, or a slice that begins with an integer
-unfoldable pub position_at : List ℕ → Parsed Selector
+abbrev pub position_at : List ℕ → Parsed Selector
 position_at cs = int_at cs >>= λ i.
     if is_at ":" (past_blanks i.1) then (slice_at (Some i.0) (drop 1 (past_blanks i.1)) >>= λ s. Ok (slice s.0, s.1))
     else Ok (index i.0, past_blanks i.1)
@@ -90,13 +90,13 @@ abbrev pub of_kind : SegmentKind → Parsed Segment → Parsed (SegmentKind × S
 of_kind kind read = read >>= λ s. Ok ((kind, s.0), s.1)
 
 -- after `.` or `..`
-unfoldable pub dotted_at : declared.Context → List ℕ → Parsed Segment
+abbrev pub dotted_at : declared.Context → List ℕ → Parsed Segment
 dotted_at here cs =
     if is_at "*" cs then Ok (dot_wildcard, drop 1 cs) else (name_at here cs >>= λ n. Ok (dot_name n.0, n.1))
 
 -- how a filter is read, at its `?`
 module _ (filter_at : List ℕ → Parsed Selector) where
-  unfoldable pub selector_at : List ℕ → Parsed Selector
+  abbrev pub selector_at : List ℕ → Parsed Selector
   selector_at cs =
       if is_at "'" cs then quoted_at (code "'") (drop 1 cs)
       else if is_at "\"" cs then quoted_at (code "\"") (drop 1 cs)
@@ -106,34 +106,34 @@ module _ (filter_at : List ℕ → Parsed Selector) where
       else position_at cs
 
   -- at a comma
-  unfoldable pub next_selector_at : List ℕ → Parsed Selector
+  abbrev pub next_selector_at : List ℕ → Parsed Selector
   next_selector_at cs = selector_at (past_blanks (drop 1 cs))
 
-  unfoldable pub selectors_at : List ℕ → Parsed (List Selector)
+  abbrev pub selectors_at : List ℕ → Parsed (List Selector)
   selectors_at cs =
       selector_at (past_blanks cs) >>= λ s. many (is_at ",") next_selector_at s.1 >>= λ ss. Ok (s.0 ∷ ss.0, ss.1)
 
   -- after `[`
-  unfoldable pub bracket_at : List ℕ → Parsed Segment
+  abbrev pub bracket_at : List ℕ → Parsed Segment
   bracket_at cs = selectors_at cs >>= λ ss.
       if is_at "]" ss.1 then Ok (long_hand (selector_list ss.0), drop 1 ss.1) else Err (refusal ExpectedClosingBracket context.LongHand ss.1)
 
 -- segments that stand here
 module _ (filter_at : List ℕ → Parsed Selector) (here : declared.Context) where
   -- after `..`
-  unfoldable pub descendant_at : List ℕ → Parsed Segment
+  abbrev pub descendant_at : List ℕ → Parsed Segment
   descendant_at cs = if is_at "[" cs then bracket_at filter_at (drop 1 cs) else dotted_at here cs
 
   -- after `.`
-  unfoldable pub dot_at : List ℕ → Parsed (SegmentKind × Segment)
+  abbrev pub dot_at : List ℕ → Parsed (SegmentKind × Segment)
   dot_at cs = if is_at "." cs then of_kind descendant (descendant_at (drop 1 cs)) else of_kind child (dotted_at (after_dot here) cs)
 
   -- at `.` or `[`
-  unfoldable pub segment_at : List ℕ → Parsed (SegmentKind × Segment)
+  abbrev pub segment_at : List ℕ → Parsed (SegmentKind × Segment)
   segment_at cs = if is_at "." cs then dot_at (drop 1 cs) else of_kind child (bracket_at filter_at (drop 1 cs))
 
   -- blanks and a segment
-  unfoldable pub next_segment_at : List ℕ → Parsed (SegmentKind × Segment)
+  abbrev pub next_segment_at : List ℕ → Parsed (SegmentKind × Segment)
   next_segment_at cs = segment_at (past_blanks cs)
 
   abbrev pub segments_at : List ℕ → Parsed (List (SegmentKind × Segment))

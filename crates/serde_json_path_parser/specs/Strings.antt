@@ -21,11 +21,11 @@ abbrev pub head : List ℕ → ℕ
 head [] = 0
 head (c ∷ cs) = c
 
-unfoldable pub hexadecimal_at : ℕ → List ℕ → Parsed ℕ
+abbrev pub hexadecimal_at : ℕ → List ℕ → Parsed ℕ
 hexadecimal_at start cs =
     if begins is_hexadecimal cs then Ok (hexadecimal_value (head cs), drop 1 cs) else Err (refusal_at BadEscape context.LongHand start)
 
-unfoldable pub hex4_at : ℕ → List ℕ → Parsed ℕ
+abbrev pub hex4_at : ℕ → List ℕ → Parsed ℕ
 hex4_at start cs = do
   a ← hexadecimal_at start cs
   b ← hexadecimal_at start a.1
@@ -42,7 +42,7 @@ abbrev pub is_low : ℕ → Bool
 is_low n = nat_le 0xdc00 n && nat_le n 0xdfff
 
 -- after a high surrogate: `\u` and a low one
-unfoldable pub low_at : ℕ → ℕ → List ℕ → Parsed ℕ
+abbrev pub low_at : ℕ → ℕ → List ℕ → Parsed ℕ
 low_at start high cs =
     if is_at "\\" cs then
     (if is_at "u" (drop 1 cs) then
@@ -51,7 +51,7 @@ low_at start high cs =
     else Err (refusal_at BadEscape context.LongHand start)
 
 -- after `\u`
-unfoldable pub unicode_at : ℕ → List ℕ → Parsed ℕ
+abbrev pub unicode_at : ℕ → List ℕ → Parsed ℕ
 unicode_at start cs = hex4_at start cs >>= λ h.
     if is_high h.0 then low_at start h.0 h.1 else (if is_low h.0 then Err (refusal_at BadEscape context.LongHand start) else Ok (h.0, h.1))
 
@@ -68,7 +68,7 @@ letter_value c =
     else (if c ∈ "f" then 0x0c else (if c ∈ "n" then 0x0a else (if c ∈ "r" then 0x0d else (if c ∈ "t" then 0x09 else c))))
 
 -- at a backslash
-unfoldable pub escape_at : ℕ → List ℕ → Parsed ℕ
+abbrev pub escape_at : ℕ → List ℕ → Parsed ℕ
 escape_at quote cs =
     if is_at "u" (drop 1 cs) then unicode_at (byte_count cs) (drop 1 (drop 1 cs))
     else (if begins (is_letter_escape quote) (drop 1 cs) then Ok (letter_value (head (drop 1 cs)), drop 1 (drop 1 cs)) else Err (refusal BadEscape context.LongHand cs))
@@ -76,7 +76,7 @@ escape_at quote cs =
 abbrev pub is_control : ℕ → Bool
 is_control c = nat_le c 0x1f
 
-unfoldable pub piece_at : ℕ → List ℕ → Parsed ℕ
+abbrev pub piece_at : ℕ → List ℕ → Parsed ℕ
 piece_at quote cs =
     if is_at "\\" cs then escape_at quote cs
     else (if begins is_control cs then Err (refusal ControlCharacter context.LongHand cs) else Ok (head cs, drop 1 cs))
@@ -87,6 +87,6 @@ abbrev pub is_inside : ℕ → ℕ → Bool
 is_inside quote c = not (c == quote)
 
 -- after the opening quote
-unfoldable pub string_at : ℕ → List ℕ → Parsed (List ℕ)
+abbrev pub string_at : ℕ → List ℕ → Parsed (List ℕ)
 string_at quote cs = many (begins (is_inside quote)) (piece_at quote) cs >>= λ s.
     if begins (λ c. c == quote) s.1 then Ok (encode_utf8_all s.0, drop 1 s.1) else Err (refusal ExpectedEndingQuote context.LongHand s.1)

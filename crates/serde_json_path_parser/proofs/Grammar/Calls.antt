@@ -1,11 +1,7 @@
 -- Arguments and calls, by what holds one level deeper; and the laws of these pieces at every level.
-use Rattle.std.proofs.Common.{cond, ◌≡◌, ℕ, ◌≤◌, inl, inr, Bool, true, false, List, [], ◌∷◌, ◌++◌, Option, Some, Ok, Err, refl, sym, ap, subst, ◌∙◌, append_assoc, arith, ◌+◌, zero, suc, drop, None}
-use Rattle.serde_json_path_parser.proofs.Words.{Call, ◌==◌, ◌||◌, ℤ, pos, negsuc, ◌*ℤ◌, ◌-ℤ◌, ◌/◌, ◌%◌, ◌*◌, eqb-true, eq-eqb, or_parts, ints, cases_Bool, div-add-mod', LogicalOr, LogicalAnd, Basic, exist, test, Argument, literal_argument, query_argument, call_argument, logical_argument, number, Operator, no_or, or, no_and, and, result_kind, TakesResult, IsTypedArgument, argument_depth, Kind, of_value, of_nodes, of_logical, Signature, WrongReturnType, is_at, are_at, begins, begins_both, IsBlank, StandsAlone, ReadsArgument, ◌>>=◌, refusal, past_blanks, byte_count, Operand, a_literal, a_call, is_result, is_test, takes_result, is_whole, fits, alone, ends_argument, Deeper, operand_at, test_at, relation_at, basic_from, basic_at, next_basic_at, and_from, and_at, next_and_at, or_from, or_at, logical_from, argument_at, mul-mod_left, is_blank, ReadsCall, append-nil, Reads, Parsed, codes, call, Arguments, no_arguments, argument, AreTypedArguments, IsTypedCall, arguments_depth, call_depth, ExpectedClosingParenthesis, WrongArgumentType, UndefinedFunction, WrongNumberOfArguments, IsFunctionName, ReadMoreArguments, ReadArguments, ended, arguments_at, parameters_at, call_at, NestedTooDeep, level}
-use Rattle.serde_json_path_parser.specs.declared.error.Context.TheVariants as context
-use Rattle.serde_json_path_parser.specs.Operands.{a_query}
-use Rattle.serde_json_path_parser.proofs.Reading.{past_all, split_again, blanks_of, are_blank, split_blanks, past_some, spread, begins_where, differs, no_blank, begins_differs, Read, Spaced, bind_ok, ok_is, after_one, many_end, Inner, onward, choose, remade, read_as, Outcome, weaker_spaced, refused, past_text, Past, onward_at, read_spaced, after_sign, past_spaced}
-use Rattle.serde_json_path_syntax.proofs.Tree.NamedParts.{query_singular}
-use Rattle.serde_json_path_parser.proofs.Grammar.LogicalForms.{IsGoodOr, IsGoodQuery, IsGoodCall, DeeperLaws, singular_query, ends_operand, ends_basic, ends_or, IsOperandText, IsOrText, begins_operand, begins_expression, operand_begins, as_expression, or_begins, no_blank_begins}
+use Rattle.serde_json_path_parser.proofs.Words.{Call, ◌==◌, ◌||◌, ℤ, pos, negsuc, ◌*ℤ◌, ◌-ℤ◌, ◌/◌, ◌%◌, ◌*◌, eqb-true, eq-eqb, or_parts, ints, cases_Bool, div-add-mod', LogicalOr, LogicalAnd, Basic, exist, test, Argument, literal_argument, query_argument, call_argument, logical_argument, number, Operator, no_or, or, no_and, and, result_kind, TakesResult, IsTypedArgument, argument_depth, Kind, of_value, of_nodes, of_logical, Signature, WrongReturnType, is_at, are_at, begins, begins_both, IsBlank, StandsAlone, ReadsArgument, ◌>>=◌, refusal, past_blanks, byte_count, Operand, a_literal, a_call, is_result, is_test, takes_result, is_whole, fits, alone, ends_argument, Deeper, operand_at, test_at, relation_at, basic_from, basic_at, next_basic_at, and_from, and_at, next_and_at, or_from, or_at, argument_at, mul-mod_left, is_blank, ReadsCall, append-nil, Reads, Parsed, codes, call, Arguments, no_arguments, argument, AreTypedArguments, IsTypedCall, arguments_depth, call_depth, ExpectedClosingParenthesis, WrongArgumentType, UndefinedFunction, WrongNumberOfArguments, IsFunctionName, ReadMoreArguments, ReadArguments, ended, arguments_at, parameters_at, call_at, NestedTooDeep, level, cond, ◌≡◌, ℕ, ◌≤◌, inl, inr, Bool, true, false, List, [], ◌∷◌, ◌++◌, Option, Some, Ok, Err, refl, sym, ap, subst, ◌∙◌, append_assoc, arith, ◌+◌, zero, suc, drop, None, LongHand, a_query, begins_operator, query_singular}
+use Rattle.serde_json_path_parser.proofs.Reading.{split_again, blanks_of, spread, begins_where, differs, no_blank, begins_differs, Read, Spaced, bind_ok, ok_is, after_one, many_end, Inner, onward, choose, remade, read_as, Outcome, weaker_spaced, refused, past_text, Past, read_spaced, after_sign, past_spaced, past_through, past_run, front_each, whole, moved, begins_other}
+use Rattle.serde_json_path_parser.proofs.Grammar.LogicalForms.{IsGoodOr, IsGoodQuery, IsGoodCall, DeeperLaws, singular_query, ends_operand, ends_or, IsOperandText, IsOrText, begins_operand, begins_expression, operand_begins, as_expression, or_begins, no_blank_begins}
 use Rattle.serde_json_path_parser.proofs.Grammar.LogicalExpressions.{or_again, or_outcome, and_from_outcome, or_from_outcome}
 use Rattle.serde_json_path_parser.proofs.Grammar.Comparisons.{operand_again, operand_outcome, no_operator, basic_from_outcome}
 use Rattle.serde_json_path_parser.proofs.Rows.{Follows, at_sign}
@@ -122,7 +118,7 @@ module _ (signature : List ℕ → Option Signature) (n : ℕ) (deeper : Deeper)
   -- ---- what a reading gives
 
   pub argument_outcome : (cs : List ℕ) → Outcome (Spaced (IsLooseArgument signature n)) (Inner signature) cs (argument_at signature deeper cs)
-  unfolding argument_at logical_from
+  unfolding argument_at
   argument_outcome cs =
       choose {b = begins (λ c. c == 40 || c == 33) cs} (λ e. remade (λ e. logical_argument e) (λ t e h. h) (or_outcome signature n deeper laws cs)) (λ _.
       onward (operand_outcome signature n deeper laws cs) (λ o e s.
@@ -150,7 +146,7 @@ module _ (signature : List ℕ → Option Signature) (n : ℕ) (deeper : Deeper)
   not_alone : (e : LogicalOr) (t k rest : List ℕ) → IsOrText signature n t e → IsBlank k → begins ends_argument rest ≡ true → argument_at signature deeper (t ++ (k ++ rest)) ≡ Ok (logical_argument e, rest) → StandsAlone e → ⊥
   not_alone e t k rest h blank ends read stands =
       let o = alone_text e t h stands in
-      let past : past_blanks (k ++ rest) ≡ rest = past_all k rest blank (begins_where ends_argument is_blank false rest (λ c e. no_blank ends_argument c refl refl refl refl e) ends) in
+      let past : past_blanks (k ++ rest) ≡ rest = past_run is_blank k rest blank (begins_where ends_argument is_blank false rest (λ c e. no_blank ends_argument c refl refl refl refl e) ends) in
       let again = operand_argument t o.0 (k ++ rest) o.1 (ap (begins ends_argument) past ∙ ends) in
       o.2 (ap (λ y. y.0) (ok_is (alone o.0, past_blanks (k ++ rest)) (logical_argument e, rest) (sym again ∙ read)))
 
@@ -169,7 +165,6 @@ module _ (signature : List ℕ → Option Signature) (n : ℕ) (deeper : Deeper)
 
   -- before an argument's end nothing is joined to it
   none_joined : (b : Basic) (cs : List ℕ) (x : LogicalOr × List ℕ) → begins ends_argument cs ≡ true → more_of (b, cs) ≡ Ok x → or (and b no_and) no_or ≡ x.0
-  unfolding and_from or_from
   none_joined b cs x ends e =
       let ands = many_end (are_at "&&") (next_basic_at signature deeper) cs (no_sign 38 cs refl ends) in
       let ors = many_end (are_at "||") (next_and_at signature deeper) cs (no_sign 124 cs refl ends) in
@@ -177,11 +172,10 @@ module _ (signature : List ℕ → Option Signature) (n : ℕ) (deeper : Deeper)
       ap (λ y. y.0) (ok_is (or (and b no_and) no_or, cs) x (sym whole ∙ e))
 
   operand_alone : (start : List ℕ) (o : Operand) (cs : List ℕ) (x : LogicalOr × List ℕ) → begins ends_argument cs ≡ true → (basic_from signature deeper (byte_count start) o cs >>= more_of) ≡ Ok x → StandsAlone x.0
-  unfolding basic_from relation_at test_at
   operand_alone start o cs x ends e =
-      by_operand o (ap (λ (op : Option (Operator × List ℕ)). relation_at signature deeper (byte_count start) o op cs >>= more_of) (sym (no_operator cs (begins_where ends_argument ends_basic true cs (λ c e. grind (arith, e)) ends))) ∙ e)
+      by_operand o (ap (λ (op : Option (Operator × List ℕ)). relation_at signature deeper (byte_count start) o op cs >>= more_of) (sym (no_operator cs (begins_where ends_argument begins_operator false cs (λ c e. grind (arith, e)) ends))) ∙ e)
     where
-      by_result : (c : Call) (value : Bool) → (cond value (Err (refusal WrongReturnType context.LongHand start)) (Ok (test c, cs)) >>= more_of) ≡ Ok x → StandsAlone x.0
+      by_result : (c : Call) (value : Bool) → (cond value (Err (refusal WrongReturnType LongHand start)) (Ok (test c, cs)) >>= more_of) ≡ Ok x → StandsAlone x.0
       by_result c true e = absurd cc
       by_result c false e = subst StandsAlone (none_joined (test c) cs x ends e) tt
 
@@ -193,14 +187,14 @@ module _ (signature : List ℕ → Option Signature) (n : ℕ) (deeper : Deeper)
   -- an operand and what is joined to it
   joined_again : (cs : List ℕ) (x : LogicalOr × List ℕ) (o : Operand × List ℕ) (b : Basic × List ℕ) (a : LogicalAnd × List ℕ) → begins (λ c. c == 40 || c == 33) cs ≡ false → (StandsAlone x.0 → ⊥)
       → operand_at signature deeper cs ≡ Ok o → basic_from signature deeper (byte_count cs) o.0 o.1 ≡ Ok b → and_from signature deeper b.0 b.1 ≡ Ok a → or_from signature deeper a.0 a.1 ≡ Ok x → argument_at signature deeper cs ≡ Ok (logical_argument x.0, x.1)
-  unfolding argument_at logical_from
+  unfolding argument_at
   joined_again cs x o b a plain free first second third fourth = elim (cases_Bool (begins ends_argument o.1)) [
     | inl ends ↦ absurd (free (operand_alone cs o.0 o.1 x ends (rw (second, third) fourth)))
     | inr ends ↦ rw (plain, first, ends, second, third, fourth) refl
   ]
 
   logical_again : (cs : List ℕ) (x : LogicalOr × List ℕ) → (StandsAlone x.0 → ⊥) → or_at signature deeper cs ≡ Ok x → argument_at signature deeper cs ≡ Ok (logical_argument x.0, x.1)
-  unfolding argument_at or_at and_at basic_at
+  unfolding argument_at
   logical_again cs x free e = elim (cases_Bool (begins (λ c. c == 40 || c == 33) cs)) [
     | inl opened ↦ rw (opened, e) refl
     | inr opened ↦
@@ -241,20 +235,15 @@ module _ (signature : List ℕ → Option Signature) (n : ℕ) (deeper : Deeper)
 
   -- one argument or more
   abbrev AreSome : List Kind → List ℕ → Arguments → Type 0
-  AreSome kinds t no_arguments = ⊥
-  AreSome kinds t args = AreClosed kinds t args
+  AreSome kinds t args = AreClosed kinds t args × (args ≡ no_arguments → ⊥)
 
   -- after an argument and blanks
   abbrev AreMore : List ℕ → List Kind → List ℕ → Arguments → Type 0
   AreMore k kinds t args = AreGood kinds args × (a j : List ℕ) × ReadMoreArguments args a × IsBlank j × (k ++ t ≡ a ++ (j ++ 41 ∷ []))
 
-  some_closed : (kinds : List Kind) (t : List ℕ) (args : Arguments) → AreSome kinds t args → AreClosed kinds t args
-  some_closed kinds t no_arguments h = absurd h
-  some_closed kinds t (argument a more) h = h
-
   after_comma : (k i : List ℕ) (kinds : List Kind) (t : List ℕ) (args : Arguments) → IsBlank k → IsBlank i → AreSome kinds t args → AreMore k kinds (44 ∷ (i ++ t)) args
-  after_comma k i kinds t no_arguments before after h = absurd h
-  after_comma k i kinds t (argument a more) before after (good, all, j, (b, c, is, are, e), blank, same) = (
+  after_comma k i kinds t no_arguments before after h = absurd (h.1 refl)
+  after_comma k i kinds t (argument a more) before after ((good, all, j, (b, c, is, are, e), blank, same), some) = (
     good,
     (k ++ (44 ∷ i)) ++ (b ++ c),
     j,
@@ -268,30 +257,22 @@ module _ (signature : List ℕ → Option Signature) (n : ℕ) (deeper : Deeper)
 
   with_first : (a : Argument) (kind : Kind) (kinds : List Kind) (t k u : List ℕ) (args : Arguments) → IsArgument signature n t a → IsTypedArgument signature a kind → AreMore k kinds u args
       → AreSome (kind ∷ kinds) ((t ++ k) ++ u) (argument a args)
-  with_first a kind kinds t k u args is typed (good, c, j, are, blank, same) = (
-    ((typed, good.0), omega (arith, good_depth signature n a is.0, good.1)),
-    t ++ c,
-    j,
-    (t, c, is.1, are, refl),
-    blank,
-    split_again t c (j ++ 41 ∷ []) (append_assoc t k u) same,
-  )
+  with_first a kind kinds t k u args is typed (good, c, j, are, blank, same) =
+      ((((typed, good.0), omega (arith, good_depth signature n a is.0, good.1)), t ++ c, j, (t, c, is.1, are, refl), blank, split_again t c (j ++ 41 ∷ []) (append_assoc t k u) same), λ e. cc)
 
   -- at `)`
   ended_outcome : {is : List ℕ → Arguments → Type 0} (start before : List ℕ) (kinds : List Kind) (cs : List ℕ) → start ≡ before ++ cs → (kinds ≡ [] → is before no_arguments)
       → Outcome (Spaced is) (Inner signature) start (ended (byte_count start) kinds cs)
-  unfolding ended
   ended_outcome start before [] cs split good = read_spaced (no_arguments, cs) (record { text = before; is_so = good refl; split = split })
-  ended_outcome start before (kind ∷ kinds) cs split good = refused WrongNumberOfArguments context.LongHand (inl refl)
+  ended_outcome start before (kind ∷ kinds) cs split good = refused WrongNumberOfArguments LongHand (inl refl)
 
   arguments_outcome : (before start : List ℕ) (kinds : List Kind) (cs : List ℕ) → start ≡ before ++ cs
       → Outcome (Spaced (Past before (AreSome kinds))) (Inner signature) start (arguments_at signature deeper (byte_count start) kinds cs)
-  unfolding arguments_at
   arguments_outcome before start [] cs split =
-      onward_at before split (argument_outcome signature n deeper laws cs) (λ a f s. choose (λ _. refused WrongNumberOfArguments context.LongHand (inl refl)) (λ _.
-      past_text (before ++ s.text) (split_again before s.text a.1 split s.split) (refused ExpectedClosingParenthesis context.LongHand (inl refl))))
+      onward (moved before split (argument_outcome signature n deeper laws cs)) (λ a f s. choose (λ _. refused WrongNumberOfArguments LongHand (inl refl)) (λ _.
+      past_text (before ++ s.text) (split_again before s.text a.1 split s.split) (refused ExpectedClosingParenthesis LongHand (inl refl))))
   arguments_outcome before start (kind ∷ kinds) cs split =
-      onward_at before split (argument_outcome signature n deeper laws cs) (λ a f s.
+      onward (moved before split (argument_outcome signature n deeper laws cs)) (λ a f s.
       let t = s.is_so.0 in
       let k = s.is_so.1 in
       let here = before ++ (t ++ k) in
@@ -303,38 +284,32 @@ module _ (signature : List ℕ → Option Signature) (n : ℕ) (deeper : Deeper)
       (λ u more h. ((t ++ k) ++ h.0, with_first a.0 kind kinds t k h.0 more is (fits_typed signature n a.0 kind is.0 fit) h.1, h.2 ∙ append_assoc before (t ++ k) h.0))
       (choose (λ comma.
       let i = blanks_of (drop 1 a.1) in
-      weaker_spaced (λ u args h. (44 ∷ (i ++ h.0), after_comma k i kinds h.0 args s.is_so.3 (are_blank (drop 1 a.1)) h.1, h.2 ∙ append_assoc here (44 ∷ i) h.0))
+      weaker_spaced (λ u args h. (44 ∷ (i ++ h.0), after_comma k i kinds h.0 args s.is_so.3 (front_each is_blank (drop 1 a.1)) h.1, h.2 ∙ append_assoc here (44 ∷ i) h.0))
       (arguments_outcome (here ++ (44 ∷ i)) start kinds (past_blanks (drop 1 a.1)) (split_again here (44 ∷ i) (past_blanks (drop 1 a.1)) whole (after_sign 44 a.1 comma))))
       (λ no_comma.
-      ended_outcome start (here ++ 41 ∷ []) kinds (drop 1 a.1) (split_again here (41 ∷ []) (drop 1 a.1) whole (after_one 41 a.1 (closes a.1 ends no_comma))) (λ none. (41 ∷ [], ((none, omega arith), [], k, refl, s.is_so.3, refl), refl)))))
-      (λ _. past_text before split (refused WrongArgumentType context.LongHand (inl refl))))
-      (λ _. past_text here whole (refused ExpectedClosingParenthesis context.LongHand (inl refl))))
-    where
-      closes : (cs : List ℕ) → begins ends_argument cs ≡ true → is_at "," cs ≡ false → is_at ")" cs ≡ true
-      closes [] e h = absurd cc
-      closes (c ∷ cs) e h = sym (rw h refl) ∙ e
+      ended_outcome start (here ++ 41 ∷ []) kinds (drop 1 a.1) (split_again here (41 ∷ []) (drop 1 a.1) whole (after_one 41 a.1 (begins_other 44 41 a.1 ends no_comma))) (λ none. (41 ∷ [], ((none, omega arith), [], k, refl, s.is_so.3, refl), refl)))))
+      (λ _. past_text before split (refused WrongArgumentType LongHand (inl refl))))
+      (λ _. past_text here whole (refused ExpectedClosingParenthesis LongHand (inl refl))))
 
   -- ---- calls: what a reading gives
 
   -- after `(` and blanks
   parameters_outcome : (before start : List ℕ) (kinds : List Kind) (cs : List ℕ) → start ≡ before ++ cs → Outcome (Spaced (Past before (AreClosed kinds))) (Inner signature) start (parameters_at signature deeper (byte_count start) kinds cs)
-  unfolding parameters_at
   parameters_outcome before start kinds cs split =
       choose (λ e.
       ended_outcome start (before ++ 41 ∷ []) kinds (drop 1 cs) (split_again before (41 ∷ []) (drop 1 cs) split (after_one 41 cs e)) (λ none. (41 ∷ [], ((none, omega arith), [], [], refl, tt, refl), refl))) (λ _.
-      weaker_spaced (λ u args h. (h.0, some_closed kinds h.0 args h.1, h.2)) (arguments_outcome before start kinds cs split))
+      weaker_spaced (λ u args h. (h.0, h.1.0, h.2)) (arguments_outcome before start kinds cs split))
 
   -- a call of this name, which begins at start
   pub call_outcome : (start f cs : List ℕ) (sig : Option Signature) → IsFunctionName f f → start ≡ f ++ (40 ∷ cs) → signature f ≡ sig
       → Outcome (Spaced (λ t c. (IsTypedCall signature c × (call_depth c ≤ n + 1)) × ReadsCall c t)) (Inner signature) start (call_at signature deeper (byte_count start) f sig cs)
-  unfolding call_at
-  call_outcome start f cs None named split undeclared = refused UndefinedFunction context.LongHand (inr (refl, (f, cs, named, split, undeclared)))
+  call_outcome start f cs None named split undeclared = refused UndefinedFunction LongHand (inr (refl, (f, cs, named, split, undeclared)))
   call_outcome start f cs (Some s) named split declared =
       let j = blanks_of cs in
       remade (λ args. call f args) (λ t args (u, (good, a, k, reads, blank, same), whole). (
         ((s, declared, good.0), omega (arith, good.1)),
-        (f, j, a, k, named, are_blank cs, reads, blank, whole ∙ ap (λ (l : List ℕ). (f ++ (40 ∷ j)) ++ l) same ∙ append_assoc f (40 ∷ j) (a ++ (k ++ 41 ∷ []))),
-      )) (parameters_outcome (f ++ (40 ∷ j)) start s.params (past_blanks cs) (split_again f (40 ∷ j) (past_blanks cs) split (ap (λ (l : List ℕ). 40 ∷ l) (split_blanks cs))))
+        (f, j, a, k, named, front_each is_blank cs, reads, blank, whole ∙ ap (λ (l : List ℕ). (f ++ (40 ∷ j)) ++ l) same ∙ append_assoc f (40 ∷ j) (a ++ (k ++ 41 ∷ []))),
+      )) (parameters_outcome (f ++ (40 ∷ j)) start s.params (past_blanks cs) (split_again f (40 ∷ j) (past_blanks cs) split (ap (λ (l : List ℕ). 40 ∷ l) (whole is_blank cs))))
 
   -- ---- what is good is read
 
@@ -344,7 +319,7 @@ module _ (signature : List ℕ → Option Signature) (n : ℕ) (deeper : Deeper)
     closing = k ++ (41 ∷ rest)
 
     at_closing : past_blanks closing ≡ 41 ∷ rest
-    at_closing = past_all k (41 ∷ rest) blank refl
+    at_closing = past_run is_blank k (41 ∷ rest) blank refl
 
     follows : (more : Arguments) (t : List ℕ) → ReadMoreArguments more t → Follows ends_argument (t ++ closing)
     follows no_arguments t h = ap (λ (l : List ℕ). begins ends_argument (past_blanks (l ++ closing))) h ∙ ap (begins ends_argument) at_closing
@@ -353,7 +328,6 @@ module _ (signature : List ℕ → Option Signature) (n : ℕ) (deeper : Deeper)
 
     arguments_again : (start : List ℕ) (kinds : List Kind) (a : Argument) (more : Arguments) (t others : List ℕ) → AreTypedArguments signature (argument a more) kinds → arguments_depth (argument a more) ≤ n
         → ReadsArgument a t → ReadMoreArguments more others → arguments_at signature deeper (byte_count start) kinds (t ++ (others ++ closing)) ≡ Ok (argument a more, past_blanks rest)
-    unfolding arguments_at ended
     arguments_again start [] a more t others typed shallow is are = absurd typed
     arguments_again start (kind ∷ kinds) a no_arguments t others typed shallow is are =
         let read : argument_at signature deeper (t ++ (others ++ closing)) ≡ Ok (a, 41 ∷ rest) =
@@ -364,20 +338,19 @@ module _ (signature : List ℕ → Option Signature) (n : ℕ) (deeper : Deeper)
         let read : argument_at signature deeper (t ++ (others ++ closing)) ≡ Ok (a, 44 ∷ (i ++ (c ++ (d ++ closing)))) =
         argument_again signature n deeper laws t a (others ++ closing) (typed_good signature n a kind typed.0 (omega (arith, shallow)), is) (follows (argument b more) others (s, c, d, (j, i, blanks, after, sign), next, are, e))
         ∙ ap (λ (l : List ℕ). Ok (a, l)) (at_sign (codes ",") others s j i c d closing (λ cs. refl) blanks sign e) in
-        let onward : past_blanks (i ++ (c ++ (d ++ closing))) ≡ c ++ (d ++ closing) = past_all i (c ++ (d ++ closing)) after (no_blank_begins (c ++ (d ++ closing)) (argument_begins signature n deeper laws c b (d ++ closing) next)) in
+        let onward : past_blanks (i ++ (c ++ (d ++ closing))) ≡ c ++ (d ++ closing) = past_run is_blank i (c ++ (d ++ closing)) after (no_blank_begins (c ++ (d ++ closing)) (argument_begins signature n deeper laws c b (d ++ closing) next)) in
         rw (read, typed_fits signature a kind typed.0, onward, arguments_again start kinds b more c d typed.1 (omega (arith, shallow)) next are) refl
 
     -- after `(` and blanks
     parameters_again : (start : List ℕ) (kinds : List Kind) (args : Arguments) (t : List ℕ) → AreTypedArguments signature args kinds → arguments_depth args ≤ n → ReadArguments args t
         → parameters_at signature deeper (byte_count start) kinds (past_blanks (t ++ closing)) ≡ Ok (args, past_blanks rest)
-    unfolding parameters_at ended
     parameters_again start kinds no_arguments t typed shallow is =
         let here : past_blanks (t ++ closing) ≡ 41 ∷ rest = ap (λ (l : List ℕ). past_blanks (l ++ closing)) is ∙ at_closing in
         rw (here, typed) refl
     parameters_again start kinds (argument a more) t typed shallow (b, others, is, are, e) =
         let whole : t ++ closing ≡ b ++ (others ++ closing) = ap (λ (l : List ℕ). l ++ closing) e ∙ append_assoc b others closing in
         let begun : begins begins_expression (b ++ (others ++ closing)) ≡ true = argument_begins signature n deeper laws b a (others ++ closing) is in
-        let here : past_blanks (t ++ closing) ≡ b ++ (others ++ closing) = ap past_blanks whole ∙ past_all [] (b ++ (others ++ closing)) tt (no_blank_begins (b ++ (others ++ closing)) begun) in
+        let here : past_blanks (t ++ closing) ≡ b ++ (others ++ closing) = ap past_blanks whole ∙ past_run is_blank [] (b ++ (others ++ closing)) tt (no_blank_begins (b ++ (others ++ closing)) begun) in
         let closes_not : is_at ")" (b ++ (others ++ closing)) ≡ false = begins_differs begins_expression 41 (b ++ (others ++ closing)) refl begun in
         rw (here, closes_not) (arguments_again start kinds a more b others typed shallow is are)
 
@@ -386,9 +359,8 @@ module _ (signature : List ℕ → Option Signature) (n : ℕ) (deeper : Deeper)
   -- after `(` of a call of this name
   pub call_again : (start f : List ℕ) (args : Arguments) (j a k rest : List ℕ) → (IsTypedCall signature (call f args) × (call_depth (call f args) ≤ n + 1)) → IsBlank j → ReadArguments args a → IsBlank k
       → call_at signature deeper (byte_count start) f (signature f) ((j ++ (a ++ (k ++ 41 ∷ []))) ++ rest) ≡ Ok (call f args, past_blanks rest)
-  unfolding call_at
   call_again start f args j a k rest good before is after =
-      let here : past_blanks ((j ++ (a ++ (k ++ 41 ∷ []))) ++ rest) ≡ past_blanks (a ++ (k ++ (41 ∷ rest))) = ap past_blanks (spread j a k (codes ")") rest) ∙ past_some j (a ++ (k ++ (41 ∷ rest))) before in
+      let here : past_blanks ((j ++ (a ++ (k ++ 41 ∷ []))) ++ rest) ≡ past_blanks (a ++ (k ++ (41 ∷ rest))) = ap past_blanks (spread j a k (codes ")") rest) ∙ past_through is_blank j (a ++ (k ++ (41 ∷ rest))) before in
       rw (good.0.1, here, parameters_again k rest after start good.0.0.params args a good.0.2 (omega (arith, good.1)) is) refl
 
 -- ---- the laws of how filters, parentheses and calls are read hold at every level
@@ -397,9 +369,9 @@ module _ (signature : List ℕ → Option Signature) where
   pub level_laws : (n : ℕ) → DeeperLaws signature n (level signature n)
   unfolding level
   level_laws zero = record {
-    inside_outcome = λ before start cs split. refused NestedTooDeep context.LongHand (inl refl);
+    inside_outcome = λ before start cs split. refused NestedTooDeep LongHand (inl refl);
     inside_again = λ start t e rest good is ends. absurd (omega (arith, good.1));
-    call_outcome = λ start f cs named split. refused NestedTooDeep context.LongHand (inl refl);
+    call_outcome = λ start f cs named split. refused NestedTooDeep LongHand (inl refl);
     call_again = λ start f args j a k rest good before is after. absurd (omega (arith, good.1));
   }
   level_laws (suc n) =

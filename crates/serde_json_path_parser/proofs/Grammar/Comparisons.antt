@@ -1,12 +1,8 @@
 -- Operands, comparisons and tests, by what holds one level deeper.
-use Rattle.std.proofs.Common.{ℕ, ◌<◌, ◌≡◌, inl, inr, true, false, List, [], ◌∷◌, ◌++◌, drop, Option, Ok, refl, sym, ap, ◌∙◌, append_assoc, Bool, arith, cond, Some, None, subst}
-use Rattle.serde_json_path_parser.proofs.Words.{◌==◌, codes, bytes_eq, ℤ, and_parts, ReadSegments, is_digit, is_exponent, nat_le, ◌&&◌, bytes_eq-Decides, QueryKind, root, current, query, Call, Literal, text, number, truth, null, Segments, call, Signature, ExpectedExpression, is_at, begins, is_small_letter, is_function_char, IsFunctionName, IsQuote, AllPass, is_blank, is_name_char, IsNumber, opens, IsLiteral, Reads, ReadsCall, query_sign, Parsed, past_blanks, byte_count, string_at, segment_list, begins_int, opens_next, Operand, a_literal, a_call, Deeper, word, past_word, begins_call, literal_word_at, query_at, named_call_at, text_at, operand_at, ◌>>=◌, Basic, relation, exist, test, Comparable, literal, singular, called, Operator, equal, less, greater, Query, result_kind, IsTestKind, Kind, of_value, of_nodes, of_logical, NonSingularQuery, WrongReturnType, ExpectedComparisonOperator, IsBlank, operator_sign, is_result, operator_at, comparable_at, test_at, right_side_at, relation_at, basic_from}
-use Rattle.serde_json_path_parser.specs.declared.error.Context.TheVariants as context
-use Rattle.serde_json_path_parser.specs.Operands.{a_query}
-use Rattle.serde_json_path_syntax.proofs.Tree.NamedParts.{query_singular}
+use Rattle.serde_json_path_parser.proofs.Words.{◌==◌, codes, bytes_eq, ℤ, and_parts, ReadSegments, is_digit, is_exponent, nat_le, ◌&&◌, bytes_eq-Decides, QueryKind, root, current, query, Call, Literal, text, number, truth, null, Segments, call, Signature, ExpectedExpression, is_at, begins, is_small_letter, is_function_char, IsFunctionName, IsQuote, AllPass, is_blank, is_name_char, IsNumber, opens, IsLiteral, Reads, ReadsCall, query_sign, Parsed, past_blanks, byte_count, string_at, segment_list, begins_int, opens_next, Operand, a_literal, a_call, Deeper, word, past_word, begins_call, literal_word_at, query_at, named_call_at, text_at, operand_at, ◌>>=◌, Basic, relation, exist, test, Comparable, literal, singular, called, Operator, equal, less, greater, result_kind, IsTestKind, Kind, of_value, of_nodes, of_logical, NonSingularQuery, WrongReturnType, ExpectedComparisonOperator, IsBlank, operator_sign, is_result, operator_at, comparable_at, test_at, right_side_at, relation_at, basic_from, ℕ, ◌<◌, ◌≡◌, inl, inr, true, false, List, [], ◌∷◌, ◌++◌, drop, Option, Ok, refl, sym, ap, ◌∙◌, append_assoc, Bool, arith, cond, Some, None, subst, LongHand, a_query, named_at, or_parts, begins_operator, query_singular}
 use Rattle.serde_json_path_parser.proofs.Grammar.LogicalForms.{IsGoodQuery, IsGoodCall, DeeperLaws, ends_operand, IsCallText, IsOperandText, singular_query, ends_basic, IsBasicText, IsComparableText, begins_operand, operand_begins, as_expression, no_blank_begins}
 use Rattle.serde_json_path_parser.proofs.Grammar.Numbers.{number_outcome, goes_on, number_first, number_again}
-use Rattle.serde_json_path_parser.proofs.Reading.{whole, front_each, front_begins, some_begun, begins_front, begins_where, differs, begins_differs, front_all, past_run, no_blank, blanks_of, are_blank, split_blanks, begins_not, past_all, Spaced, after_one, Read, after_two, made_spaced, read_spaced, guarded, along, choose, inner, past_spaced, remade, Outcome, past_text, read_as, refused, onward, read_so, Inner}
+use Rattle.serde_json_path_parser.proofs.Reading.{whole, front_each, front_begins, some_begun, begins_front, begins_where, differs, begins_differs, front_all, past_run, no_blank, blanks_of, begins_not, Spaced, after_one, Read, after_two, made_spaced, read_spaced, guarded, along, choose, inner, past_spaced, remade, Outcome, past_text, read_as, refused, onward, gives, Inner}
 use Rattle.serde_json_path_parser.proofs.Grammar.Segments.{segments_outcome, same_segments, segments_again}
 use Rattle.serde_json_path_parser.proofs.Rows.{Follows}
 use Rattle.serde_json_path_parser.proofs.Grammar.Strings.{string_outcome, string_again, of_quote}
@@ -28,11 +24,10 @@ module _ (signature : List ℕ → Option Signature) (n : ℕ) (deeper : Deeper)
   word_outcome cs bytes l is e = read_spaced (a_literal l, past_word cs) (record { text = word cs; is_so = (tt, is (word cs) ((bytes_eq-Decides (word cs) bytes).0 e)); split = whole is_function_char cs })
 
   literal_word_outcome : (cs : List ℕ) → Gives cs (literal_word_at cs)
-  unfolding literal_word_at
   literal_word_outcome cs =
       choose (word_outcome cs (codes "true") (truth true) (λ t same. same)) (λ _.
       choose (word_outcome cs (codes "false") (truth false) (λ t same. same)) (λ _.
-      guarded ExpectedExpression context.LongHand (inl refl) (word_outcome cs (codes "null") null (λ t same. same))))
+      guarded ExpectedExpression LongHand (inl refl) (word_outcome cs (codes "null") null (λ t same. same))))
 
   quoted_outcome : (quote : ℕ) (cs : List ℕ) → IsQuote quote → begins (λ c. c == quote) cs ≡ true → Gives cs (text_at quote cs)
   unfolding text_at
@@ -40,10 +35,9 @@ module _ (signature : List ℕ → Option Signature) (n : ℕ) (deeper : Deeper)
 
   pub query_outcome : (kind : QueryKind) (sign : ℕ) (cs : List ℕ) → query_sign kind ≡ sign ∷ [] → begins (λ c. c == sign) cs ≡ true
       → Outcome (Spaced (λ t q. IsGoodQuery signature n q × Reads q t)) (Inner signature) cs (query_at signature deeper kind cs)
-  unfolding query_at
   query_outcome kind sign cs is e =
       past_spaced (sign ∷ []) (after_one sign cs e)
-      (made_spaced (λ ss. query kind (segment_list ss)) (λ t ss h. (h.0, (t, h.1, ap (λ (l : List ℕ). l ++ t) (sym is)))) (segments_outcome signature n deeper laws context.LongHand (drop 1 cs)))
+      (made_spaced (λ ss. query kind (segment_list ss)) (λ t ss h. (h.0, (t, h.1, ap (λ (l : List ℕ). l ++ t) (sym is)))) (segments_outcome signature n deeper laws LongHand (drop 1 cs)))
 
   pub named_call_outcome : (cs : List ℕ) → begins_call cs ≡ true → Outcome (Spaced (IsCallText signature n)) (Inner signature) cs (named_call_at signature deeper cs)
   unfolding named_call_at
@@ -52,7 +46,6 @@ module _ (signature : List ℕ → Option Signature) (n : ℕ) (deeper : Deeper)
       laws.call_outcome cs (word cs) (drop 1 (past_word cs)) (word_is_name cs parts.0) (whole is_function_char cs ∙ ap (λ (l : List ℕ). word cs ++ l) (after_one 40 (past_word cs) parts.1))
 
   pub operand_outcome : (cs : List ℕ) → Gives cs (operand_at signature deeper cs)
-  unfolding operand_at
   operand_outcome cs =
       choose (quoted_outcome 39 cs (inl refl)) (λ _.
       choose (quoted_outcome 34 cs (inr refl)) (λ _.
@@ -66,7 +59,7 @@ module _ (signature : List ℕ → Option Signature) (n : ℕ) (deeper : Deeper)
 -- it begins with no character that passes a test, where neither a blank nor what may follow does
 none_after : (p : ℕ → Bool) (rest : List ℕ) → ((c : ℕ) → is_blank c ≡ true → p c ≡ false) → ((c : ℕ) → ends_operand c ≡ true → p c ≡ false) → Follows ends_operand rest → begins p rest ≡ false
 none_after p rest blank ends follows =
-    ap (begins p) (split_blanks rest) ∙ begins_not p (blanks_of rest) (past_blanks rest) blank (are_blank rest) (begins_where ends_operand p false (past_blanks rest) ends follows)
+    ap (begins p) (whole is_blank rest) ∙ begins_not p (blanks_of rest) (past_blanks rest) blank (front_each is_blank rest) (begins_where ends_operand p false (past_blanks rest) ends follows)
 
 ends_no_digit : (c : ℕ) → ends_operand c ≡ true → is_digit c ≡ false
 ends_no_digit c e = grind (arith, e)
@@ -97,9 +90,8 @@ module _ (signature : List ℕ → Option Signature) (n : ℕ) (deeper : Deeper)
 
   pub query_again : (kind : QueryKind) (sign : ℕ) (a : List ℕ) (segs : Segments) (rest : List ℕ) → IsGoodQuery signature n (query kind segs) → ReadSegments segs a → Follows ends_operand rest
       → query_at signature deeper kind (sign ∷ (a ++ rest)) ≡ Ok (query kind segs, past_blanks rest)
-  unfolding query_at
   query_again kind sign a segs rest good reads follows =
-      let read = segments_again signature n deeper laws context.LongHand a segs rest (good, reads) (none_after is_name_char rest blank_no_name ends_no_name follows) (no_segment rest follows) in
+      let read = segments_again signature n deeper laws LongHand a segs rest (good, reads) (none_after is_name_char rest blank_no_name ends_no_name follows) (no_segment rest follows) in
       rw (read, same_segments segs) refl
 
   pub named_call_again : (t : List ℕ) (c : Call) (rest : List ℕ) → IsGoodCall signature n c → ReadsCall c t → (begins_call (t ++ rest) ≡ true) × (named_call_at signature deeper (t ++ rest) ≡ Ok (c, past_blanks rest))
@@ -118,24 +110,22 @@ module _ (signature : List ℕ → Option Signature) (n : ℕ) (deeper : Deeper)
   read cs = operand_at signature deeper cs
 
   -- at a letter stands a call or a literal word
-  word_read : (cs : List ℕ) → begins is_small_letter cs ≡ true → is_at "(" (past_word cs) ≡ false → read cs ≡ literal_word_at cs
-  unfolding operand_at
-  word_read cs letter alone =
+  at_letter : (cs : List ℕ) → begins is_small_letter cs ≡ true → read cs ≡ named_at signature deeper cs
+  at_letter cs letter =
       let other : (k : ℕ) → is_small_letter k ≡ false → begins (λ c. c == k) cs ≡ false = λ k none. begins_differs is_small_letter k cs none letter in
-      rw (other 39 refl, other 34 refl, other 64 refl, other 36 refl, letter, alone) refl
+      rw (other 39 refl, other 34 refl, other 64 refl, other 36 refl, letter) refl
 
   word_again : (w rest : List ℕ) (l : Literal) → AllPass is_function_char w → begins is_small_letter (w ++ rest) ≡ true
       → ((cs : List ℕ) → word cs ≡ w → literal_word_at cs ≡ Ok (a_literal l, past_blanks (past_word cs))) → Follows ends_operand rest → read (w ++ rest) ≡ Ok (a_literal l, past_blanks rest)
   word_again w rest l each letter at follows =
       let h = word_alone w rest each follows in
-      word_read (w ++ rest) letter h.2 ∙ at (w ++ rest) h.0 ∙ ap (λ (after : List ℕ). Ok (a_literal l, past_blanks after)) h.1
+      at_letter (w ++ rest) letter ∙ rw (letter, h.2) (at (w ++ rest) h.0) ∙ ap (λ (after : List ℕ). Ok (a_literal l, past_blanks after)) h.1
 
   quoted_again : (quote : ℕ) (cs bytes rest : List ℕ) → IsQuote quote → string_at quote cs ≡ Ok (bytes, rest) → read (quote ∷ cs) ≡ Ok (a_literal (text bytes), past_blanks rest)
-  unfolding operand_at text_at
+  unfolding text_at
   quoted_again quote cs bytes rest is e = of_quote (λ q. string_at q cs ≡ Ok (bytes, rest) → read (q ∷ cs) ≡ Ok (a_literal (text bytes), past_blanks rest)) (λ e. rw e refl) (λ e. rw e refl) quote is e
 
   number_read : (t : List ℕ) (amount : ℤ) (rest : List ℕ) → IsNumber t amount → Follows ends_operand rest → read (t ++ rest) ≡ Ok (a_literal (number amount), past_blanks rest)
-  unfolding operand_at
   number_read t amount rest is follows =
       let other : (k : ℕ) → begins_int k ≡ false → begins (λ c. c == k) (t ++ rest) ≡ false = λ k none. number_first (λ c. c == k) false t amount rest (λ c e. differs begins_int k c none e) is in
       let no_word : begins is_small_letter (t ++ rest) ≡ false = number_first is_small_letter false t amount rest (λ c e. grind (arith, e)) is in
@@ -144,7 +134,6 @@ module _ (signature : List ℕ → Option Signature) (n : ℕ) (deeper : Deeper)
   -- ---- operands
 
   pub operand_again : (t : List ℕ) (o : Operand) (rest : List ℕ) → IsOperandText signature n t o → Follows ends_operand rest → operand_at signature deeper (t ++ rest) ≡ Ok (o, past_blanks rest)
-  unfolding operand_at literal_word_at
   operand_again t (a_literal (text bytes)) rest h follows =
       let s = string_again t bytes rest h.1 in
       ap (λ (l : List ℕ). read (l ++ rest)) s.3 ∙ quoted_again s.0 (s.1 ++ rest) bytes rest s.2 s.4
@@ -157,8 +146,7 @@ module _ (signature : List ℕ → Option Signature) (n : ℕ) (deeper : Deeper)
   operand_again t (a_call c) rest h follows =
       let named = named_call_again t c rest h.0 h.1 in
       let letter : begins is_small_letter (t ++ rest) ≡ true = (and_parts (begins is_small_letter (t ++ rest)) (begins (λ d. d == 40) (past_word (t ++ rest))) named.0).0 in
-      let other : (k : ℕ) → is_small_letter k ≡ false → begins (λ c. c == k) (t ++ rest) ≡ false = λ k none. begins_differs is_small_letter k (t ++ rest) none letter in
-      rw (other 39 refl, other 34 refl, other 64 refl, other 36 refl, named.0, named.1) refl
+      at_letter (t ++ rest) letter ∙ rw (named.0, named.1) refl
 
 -- ---- operators
 
@@ -186,9 +174,14 @@ operator_again less rest none = rw none refl
 operator_again greater rest none = rw none refl
 operator_again _ rest none = refl
 
-pub no_operator : (cs : List ℕ) → begins ends_basic cs ≡ true → operator_at cs ≡ None
-no_operator cs follows =
-    rw (begins_differs ends_basic 61 cs refl follows, begins_differs ends_basic 33 cs refl follows, begins_differs ends_basic 60 cs refl follows, begins_differs ends_basic 62 cs refl follows) refl
+-- no operator is there where none may begin
+pub no_operator : (cs : List ℕ) → begins begins_operator cs ≡ false → operator_at cs ≡ None
+no_operator [] e = refl
+no_operator (c ∷ cs) e =
+    let equal = or_parts (c == 61) _ e in
+    let not_equal = or_parts (c == 33) _ equal.1 in
+    let less = or_parts (c == 60) _ not_equal.1 in
+    rw (equal.0, not_equal.0, less.0, less.1) refl
 
 operator_ends : (op : Operator) (rest : List ℕ) → begins ends_operand (operator_sign op ++ rest) ≡ true
 operator_ends equal rest = refl
@@ -232,43 +225,30 @@ module _ (signature : List ℕ → Option Signature) (n : ℕ) where
       subst IsTestKind (sym result) (test_result typed.0.result (ap (is_result of_value) (sym result) ∙ e))
 
 module _ (signature : List ℕ → Option Signature) (n : ℕ) (deeper : Deeper) (laws : DeeperLaws signature n deeper) where
-  abbrev IsOperand : List ℕ → Operand → Type 0
-  IsOperand t o = IsOperandText signature n t o
-
-  abbrev IsComparable : List ℕ → Comparable → Type 0
-  IsComparable t a = IsComparableText signature n t a
-
-  abbrev IsBasic : List ℕ → Basic → Type 0
-  IsBasic t b = IsBasicText signature n t b
-
   -- ---- what a reading gives
 
   -- an operand of this text, which stands before
-  comparable_outcome : (is : List ℕ → Comparable → Type 0) (start before t : List ℕ) (o : Operand) (cs : List ℕ) → IsOperand t o → start ≡ before ++ cs → ((a : Comparable) → IsComparable t a → is before a)
+  comparable_outcome : (is : List ℕ → Comparable → Type 0) (start before t : List ℕ) (o : Operand) (cs : List ℕ) → IsOperandText signature n t o → start ≡ before ++ cs → ((a : Comparable) → IsComparableText signature n t a → is before a)
       → Outcome is (Inner signature) start (comparable_at signature deeper (byte_count start) o cs)
-  unfolding comparable_at
-  comparable_outcome is start before t (a_literal l) cs h split good = read_so (literal l, cs) (record { text = before; is_so = good (literal l) ((tt, omega arith), h.1); split = split })
-  comparable_outcome is start before t (a_query q) cs h split good = guarded NonSingularQuery context.LongHand (inl refl) (λ e.
-      read_so (singular q, cs) (record { text = before; is_so = good (singular q) (h.0, (singular_query q e, h.1)); split = split }))
-  comparable_outcome is start before t (a_call c) cs h split good = guarded WrongReturnType context.LongHand (inl refl) (λ e.
-      read_so (called c, cs) (record { text = before; is_so = good (called c) (((h.0.0, value_result (result_kind signature c) e), h.0.1), h.1); split = split }))
+  comparable_outcome is start before t (a_literal l) cs h split good = gives (literal l, cs) (record { text = before; is_so = good (literal l) ((tt, omega arith), h.1); split = split })
+  comparable_outcome is start before t (a_query q) cs h split good = guarded NonSingularQuery LongHand (inl refl) (λ e.
+      gives (singular q, cs) (record { text = before; is_so = good (singular q) (h.0, (singular_query q e, h.1)); split = split }))
+  comparable_outcome is start before t (a_call c) cs h split good = guarded WrongReturnType LongHand (inl refl) (λ e.
+      gives (called c, cs) (record { text = before; is_so = good (called c) (((h.0.0, value_result (result_kind signature c) e), h.0.1), h.1); split = split }))
 
-  test_outcome : (start : List ℕ) (o : Operand × List ℕ) → Read (Spaced IsOperand) start o → Outcome (Spaced IsBasic) (Inner signature) start (test_at signature deeper (byte_count start) o.0 o.1)
-  unfolding test_at
-  test_outcome start (a_literal l, cs) s = past_text s.text s.split (refused ExpectedComparisonOperator context.LongHand (inl refl))
+  test_outcome : (start : List ℕ) (o : Operand × List ℕ) → Read (Spaced (IsOperandText signature n)) start o → Outcome (Spaced (IsBasicText signature n)) (Inner signature) start (test_at signature deeper (byte_count start) o.0 o.1)
+  test_outcome start (a_literal l, cs) s = past_text s.text s.split (refused ExpectedComparisonOperator LongHand (inl refl))
   test_outcome start (a_query q, cs) s = read_as (exist q) s (λ t h. h)
-  test_outcome start (a_call c, cs) s = choose (λ e. refused WrongReturnType context.LongHand (inl refl)) (λ e. read_as (test c) s (λ t h. (((h.0.0, may_test signature n c h.0 e), h.0.1), h.1)))
+  test_outcome start (a_call c, cs) s = choose (λ e. refused WrongReturnType LongHand (inl refl)) (λ e. read_as (test c) s (λ t h. (((h.0.0, may_test signature n c h.0 e), h.0.1), h.1)))
 
-  right_side_outcome : (cs : List ℕ) → Outcome (Spaced IsComparable) (Inner signature) cs (right_side_at signature deeper cs)
-  unfolding right_side_at
+  right_side_outcome : (cs : List ℕ) → Outcome (Spaced (IsComparableText signature n)) (Inner signature) cs (right_side_at signature deeper cs)
   right_side_outcome cs = onward (operand_outcome signature n deeper laws cs) (λ o e s.
-      comparable_outcome (Spaced IsComparable) cs s.text s.is_so.0 o.0 o.1 s.is_so.2 s.split (λ a h. (s.is_so.0, s.is_so.1, h, s.is_so.3, s.is_so.4)))
+      comparable_outcome (Spaced (IsComparableText signature n)) cs s.text s.is_so.0 o.0 o.1 s.is_so.2 s.split (λ a h. (s.is_so.0, s.is_so.1, h, s.is_so.3, s.is_so.4)))
 
-  pub basic_from_outcome : (start : List ℕ) (o : Operand × List ℕ) → Read (Spaced IsOperand) start o → Outcome (Spaced IsBasic) (Inner signature) start (basic_from signature deeper (byte_count start) o.0 o.1)
-  unfolding basic_from relation_at
+  pub basic_from_outcome : (start : List ℕ) (o : Operand × List ℕ) → Read (Spaced (IsOperandText signature n)) start o → Outcome (Spaced (IsBasicText signature n)) (Inner signature) start (basic_from signature deeper (byte_count start) o.0 o.1)
   basic_from_outcome start o s = by_operator (operator_at o.1) (operator_found o.1)
     where
-      by_operator : (op : Option (Operator × List ℕ)) → Found o.1 op → Outcome (Spaced IsBasic) (Inner signature) start (relation_at signature deeper (byte_count start) o.0 op o.1)
+      by_operator : (op : Option (Operator × List ℕ)) → Found o.1 op → Outcome (Spaced (IsBasicText signature n)) (Inner signature) start (relation_at signature deeper (byte_count start) o.0 op o.1)
       by_operator None found = test_outcome start o s
       by_operator (Some op) found =
           let t = s.is_so.0 in
@@ -276,12 +256,12 @@ module _ (signature : List ℕ → Option Signature) (n : ℕ) (deeper : Deeper)
           let j = blanks_of op.1 in
           let sign = k ++ (operator_sign op.0 ++ j) in
           let split : start ≡ (t ++ sign) ++ past_blanks op.1 =
-          s.split ∙ ap (λ (l : List ℕ). l ++ o.1) s.is_so.4 ∙ ap (λ (l : List ℕ). (t ++ k) ++ l) (found ∙ ap (λ (l : List ℕ). operator_sign op.0 ++ l) (split_blanks op.1))
+          s.split ∙ ap (λ (l : List ℕ). l ++ o.1) s.is_so.4 ∙ ap (λ (l : List ℕ). (t ++ k) ++ l) (found ∙ ap (λ (l : List ℕ). operator_sign op.0 ++ l) (whole is_blank op.1))
           ∙ regrouped t k (operator_sign op.0) j (past_blanks op.1) in
-          onward (comparable_outcome (λ u a. IsComparable t a × (u ≡ t ++ sign)) start (t ++ sign) t o.0 (past_blanks op.1) s.is_so.2 split (λ a h. (h, refl))) (λ a e r.
+          onward (comparable_outcome (λ u a. IsComparableText signature n t a × (u ≡ t ++ sign)) start (t ++ sign) t o.0 (past_blanks op.1) s.is_so.2 split (λ a h. (h, refl))) (λ a e r.
           past_spaced r.text r.split (remade (λ b. relation a.0 op.0 b) (λ u b h. (
             ((r.is_so.0.0.0, h.0.0), omega (arith, r.is_so.0.0.1, h.0.1)),
-            (t, sign, u, r.is_so.0.1, (k, j, s.is_so.3, are_blank op.1, refl), h.1, ap (λ (l : List ℕ). l ++ u) r.is_so.1 ∙ append_assoc t sign u),
+            (t, sign, u, r.is_so.0.1, (k, j, s.is_so.3, front_each is_blank op.1, refl), h.1, ap (λ (l : List ℕ). l ++ u) r.is_so.1 ∙ append_assoc t sign u),
           )) (right_side_outcome a.1)))
         where
           regrouped : (t k o j d : List ℕ) → (t ++ k) ++ (o ++ (j ++ d)) ≡ (t ++ (k ++ (o ++ j))) ++ d
@@ -289,13 +269,12 @@ module _ (signature : List ℕ → Option Signature) (n : ℕ) (deeper : Deeper)
 
   -- ---- what is good is read
 
-  as_operand : (a : Comparable) (t : List ℕ) → IsComparable t a → IsOperandText signature n t (operand_of a)
+  as_operand : (a : Comparable) (t : List ℕ) → IsComparableText signature n t a → IsOperandText signature n t (operand_of a)
   as_operand (literal l) t h = (tt, h.1)
   as_operand (singular q) t h = (h.0, h.1.1)
   as_operand (called c) t h = ((h.0.0.0, h.0.1), h.1)
 
-  comparable_again : (start : List ℕ) (a : Comparable) (t cs : List ℕ) → IsComparable t a → comparable_at signature deeper (byte_count start) (operand_of a) cs ≡ Ok (a, cs)
-  unfolding comparable_at
+  comparable_again : (start : List ℕ) (a : Comparable) (t cs : List ℕ) → IsComparableText signature n t a → comparable_at signature deeper (byte_count start) (operand_of a) cs ≡ Ok (a, cs)
   comparable_again start (literal l) t cs h = refl
   comparable_again start (singular q) t cs h = rw (query_singular q h.1.0) refl
   comparable_again start (called c) t cs h = rw h.0.0.1 refl
@@ -304,39 +283,29 @@ module _ (signature : List ℕ → Option Signature) (n : ℕ) (deeper : Deeper)
   abbrev pub compared : List ℕ → Parsed Basic
   compared cs = operand_at signature deeper cs >>= λ o. basic_from signature deeper (byte_count cs) o.0 o.1
 
-  pub relation_again : (t : List ℕ) (left : Comparable) (op : Operator) (right : Comparable) (rest : List ℕ) → IsBasic t (relation left op right) → Follows ends_basic rest
+  pub relation_again : (t : List ℕ) (left : Comparable) (op : Operator) (right : Comparable) (rest : List ℕ) → IsBasicText signature n t (relation left op right) → Follows ends_basic rest
       → compared (t ++ rest) ≡ Ok (relation left op right, past_blanks rest)
-  unfolding basic_from relation_at right_side_at
   relation_again t left op right rest (good, (a, s, b, is_left, (j, k, before, after, sign), is_right, same)) follows =
       let here = operator_sign op ++ (k ++ (b ++ rest)) in
       let start = a ++ (j ++ here) in
       let whole : t ++ rest ≡ start = ap (λ (l : List ℕ). l ++ rest) (same ∙ ap (λ (l : List ℕ). a ++ (l ++ b)) sign) ∙ regrouped a j (operator_sign op) k b rest in
-      let left_good : IsComparable a left = ((good.0.0, omega (arith, good.1)), is_left) in
-      let right_good : IsComparable b right = ((good.0.1, omega (arith, good.1)), is_right) in
+      let left_good : IsComparableText signature n a left = ((good.0.0, omega (arith, good.1)), is_left) in
+      let right_good : IsComparableText signature n b right = ((good.0.1, omega (arith, good.1)), is_right) in
       let o = as_operand right b right_good in
       let first = operand_begins (operand_of right) b rest o.1 in
-      let past : past_blanks (j ++ here) ≡ here = past_all j here before (operator_no_blank op (k ++ (b ++ rest))) in
+      let past : past_blanks (j ++ here) ≡ here = past_run is_blank j here before (operator_no_blank op (k ++ (b ++ rest))) in
       let left_read : operand_at signature deeper start ≡ Ok (operand_of left, here) =
       operand_again signature n deeper laws a (operand_of left) (j ++ here) (as_operand left a left_good) (ap (begins ends_operand) past ∙ operator_ends op (k ++ (b ++ rest)))
       ∙ ap (λ (l : List ℕ). Ok (operand_of left, l)) past in
       let right_read = operand_again signature n deeper laws b (operand_of right) rest o (basic_ends_operand rest follows) in
       let found = operator_again op (k ++ (b ++ rest)) (no_equals k (b ++ rest) after first) in
       ap compared whole ∙ rw (left_read, found)
-      (rw (past_all k (b ++ rest) after (no_blank_begins (b ++ rest) (as_expression (b ++ rest) first)), comparable_again start left a (b ++ rest) left_good, right_read, comparable_again (b ++ rest) right b (past_blanks rest) right_good) refl)
+      (rw (past_run is_blank k (b ++ rest) after (no_blank_begins (b ++ rest) (as_expression (b ++ rest) first)), comparable_again start left a (b ++ rest) left_good, right_read, comparable_again (b ++ rest) right b (past_blanks rest) right_good) refl)
     where
       regrouped : (a j o k b d : List ℕ) → (a ++ ((j ++ (o ++ k)) ++ b)) ++ d ≡ a ++ (j ++ (o ++ (k ++ (b ++ d))))
       regrouped a j o k b d = simp append_assoc refl
 
-  tested : (t : List ℕ) (o : Operand) (rest : List ℕ) → IsOperand t o → Follows ends_basic rest → compared (t ++ rest) ≡ test_at signature deeper (byte_count (t ++ rest)) o (past_blanks rest)
-  unfolding basic_from relation_at
+  pub tested : (t : List ℕ) (o : Operand) (rest : List ℕ) → IsOperandText signature n t o → Follows ends_basic rest → compared (t ++ rest) ≡ test_at signature deeper (byte_count (t ++ rest)) o (past_blanks rest)
   tested t o rest h follows =
       rw (operand_again signature n deeper laws t o rest h (basic_ends_operand rest follows))
-      (ap (λ op. relation_at signature deeper (byte_count (t ++ rest)) o op (past_blanks rest)) (no_operator (past_blanks rest) follows))
-
-  pub exist_again : (t : List ℕ) (q : Query) (rest : List ℕ) → IsBasic t (exist q) → Follows ends_basic rest → compared (t ++ rest) ≡ Ok (exist q, past_blanks rest)
-  unfolding test_at
-  exist_again t q rest h follows = tested t (a_query q) rest h follows
-
-  pub test_again : (t : List ℕ) (c : Call) (rest : List ℕ) → IsBasic t (test c) → Follows ends_basic rest → compared (t ++ rest) ≡ Ok (test c, past_blanks rest)
-  unfolding test_at
-  test_again t c rest h follows = tested t (a_call c) rest ((h.0.0.0, h.0.1), h.1) follows ∙ rw (test_no_value (result_kind signature c) h.0.0.1) refl
+      (ap (λ op. relation_at signature deeper (byte_count (t ++ rest)) o op (past_blanks rest)) (no_operator (past_blanks rest) (begins_where ends_basic begins_operator false (past_blanks rest) (λ c e. grind (arith, e)) follows)))

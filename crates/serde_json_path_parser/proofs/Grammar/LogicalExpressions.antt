@@ -1,38 +1,24 @@
 -- Logical expressions: what is read is a good one, or where the refusal stands; and each good one is read.
-use Rattle.std.proofs.Common.{◌≡◌, ℕ, ◌≤◌, inl, true, false, List, [], ◌∷◌, ◌++◌, drop, Option, Ok, refl, ap, ◌∙◌, append_assoc, arith}
-use Rattle.serde_json_path_parser.proofs.Words.{◌==◌, codes, and_parts, root, current, LogicalOr, LogicalAnd, Basic, paren, not_paren, relation, exist, not_exist, test, not_test, query, no_or, or, no_and, and, result_kind, IsTypedOr, IsTypedAnd, or_depth, and_depth, Signature, WrongReturnType, ExpectedClosingParenthesis, ExpectedExpression, is_at, are_at, begins, IsBlank, is_small_letter, InParentheses, ReadsOr, ReadMoreOrs, ReadMoreAnds, past_blanks, a_call, begins_call, and_list, or_list, Deeper, paren_at, negated_call_at, negated_at, basic_at, next_basic_at, and_from, and_at, next_and_at, or_from, or_at, past_word}
-use Rattle.serde_json_path_parser.specs.declared.error.Context.TheVariants as context
-use Rattle.serde_json_path_parser.proofs.Reading as m
-use Rattle.serde_json_path_parser.specs.Operands.{a_query}
-use Rattle.serde_json_path_parser.proofs.Reading.{blanks_of, are_blank, past_all, spread, begins_differs, Read, Spaced, after_one, Inner, guarded, onward, remade, refused, choose, Outcome, after_sign, past_spaced, read_spaced, read_as}
+use Rattle.serde_json_path_parser.proofs.Words.{◌==◌, codes, and_parts, root, current, LogicalOr, LogicalAnd, Basic, paren, not_paren, relation, exist, not_exist, test, not_test, query, no_or, or, no_and, and, result_kind, IsTypedOr, IsTypedAnd, or_depth, and_depth, Signature, WrongReturnType, ExpectedClosingParenthesis, ExpectedExpression, is_at, are_at, begins, IsBlank, is_small_letter, InParentheses, ReadsOr, ReadMoreOrs, ReadMoreAnds, past_blanks, a_call, begins_call, and_list, or_list, Deeper, paren_at, negated_call_at, negated_at, basic_at, next_basic_at, and_from, and_at, next_and_at, or_from, or_at, past_word, ◌≡◌, ℕ, ◌≤◌, inl, true, false, List, [], ◌∷◌, ◌++◌, drop, Option, Ok, refl, ap, ◌∙◌, append_assoc, arith, LongHand, a_query, is_blank}
+use Rattle.serde_json_path_parser.proofs.Reading.{blanks_of, spread, begins_differs, Read, Spaced, after_one, Inner, guarded, onward, remade, refused, choose, Outcome, after_sign, past_spaced, read_spaced, read_as, Takes, past_run, front_each}
 use Rattle.serde_json_path_parser.proofs.Grammar.LogicalForms.{IsGoodInside, DeeperLaws, ends_or, ends_and, ends_basic, IsOrText, IsAndText, IsBasicText, begins_operand, begins_expression, operand_begins, basic_begins, and_begins, or_begins, no_blank_begins, comparable_begins}
-use Rattle.serde_json_path_parser.proofs.Grammar.Comparisons.{query_again, named_call_again, query_outcome, named_call_outcome, operand_outcome, exist_again, basic_ends_operand, relation_again, test_no_value, may_test, compared, test_again, basic_from_outcome}
+use Rattle.serde_json_path_parser.proofs.Grammar.Comparisons.{query_again, named_call_again, query_outcome, named_call_outcome, operand_outcome, basic_ends_operand, relation_again, test_no_value, may_test, compared, basic_from_outcome, tested}
 use Rattle.serde_json_path_parser.proofs.Rows.{Follows, AreRows, RowLaw, next_takes, row_outcome, row_again}
 
 module _ (signature : List ℕ → Option Signature) (n : ℕ) (deeper : Deeper) (laws : DeeperLaws signature n deeper) where
-  abbrev IsBasic : List ℕ → Basic → Type 0
-  IsBasic t b = IsBasicText signature n t b
-
-  abbrev IsAnd : List ℕ → LogicalAnd → Type 0
-  IsAnd t e = IsAndText signature n t e
-
-  abbrev IsOr : List ℕ → LogicalOr → Type 0
-  IsOr t e = IsOrText signature n t e
-
   -- ---- parentheses and `!`: what a reading gives
 
   -- at `(`
   paren_outcome : (cs : List ℕ) → is_at "(" cs ≡ true
       → Outcome (Spaced (λ t e. IsGoodInside signature n e × InParentheses (ReadsOr e) t)) (Inner signature) cs (paren_at signature deeper cs)
-  unfolding paren_at
   paren_outcome cs opened =
       let j = blanks_of (drop 1 cs) in
       onward (laws.inside_outcome (40 ∷ j) cs (past_blanks (drop 1 cs)) (after_sign 40 cs opened)) (λ e f s.
-      past_spaced s.text s.split (guarded ExpectedClosingParenthesis context.LongHand (inl refl) (λ closed.
+      past_spaced s.text s.split (guarded ExpectedClosingParenthesis LongHand (inl refl) (λ closed.
       let k = s.is_so.1 in
       let inside = s.is_so.2 in
       let same : s.text ++ 41 ∷ [] ≡ 40 ∷ (j ++ (inside.0 ++ (k ++ 41 ∷ []))) = ap (λ (l : List ℕ). l ++ 41 ∷ []) (s.is_so.4 ∙ ap (λ (l : List ℕ). l ++ k) inside.2) ∙ regrouped (40 ∷ j) inside.0 k (codes ")") in
-      read_spaced (e.0, drop 1 e.1) (record { text = 41 ∷ []; is_so = (inside.1.0, (j, inside.0, k, are_blank (drop 1 cs), inside.1.1, s.is_so.3, same)); split = after_one 41 e.1 closed }))))
+      read_spaced (e.0, drop 1 e.1) (record { text = 41 ∷ []; is_so = (inside.1.0, (j, inside.0, k, front_each is_blank (drop 1 cs), inside.1.1, s.is_so.3, same)); split = after_one 41 e.1 closed }))))
     where
       regrouped : (a b c d : List ℕ) → ((a ++ b) ++ c) ++ d ≡ a ++ (b ++ (c ++ d))
       regrouped a b c d = simp append_assoc refl
@@ -40,55 +26,48 @@ module _ (signature : List ℕ → Option Signature) (n : ℕ) (deeper : Deeper)
   -- after `!` and blanks
   module _ (k : List ℕ) (blank : IsBlank k) where
     abbrev IsNegated : List ℕ → Basic → Type 0
-    IsNegated t b = IsBasic (33 ∷ (k ++ t)) b
+    IsNegated t b = IsBasicText signature n (33 ∷ (k ++ t)) b
 
     negated_call_outcome : (cs : List ℕ) → begins_call cs ≡ true → Outcome (Spaced IsNegated) (Inner signature) cs (negated_call_at signature deeper cs)
-    unfolding negated_call_at
     negated_call_outcome cs begun = onward (named_call_outcome signature n deeper laws cs begun) (λ c f s.
-        choose (λ e. refused WrongReturnType context.LongHand (inl refl)) (λ e. read_as (not_test c.0) s (λ t h. (((h.0.0, may_test signature n c.0 h.0 e), h.0.1), (k, t, blank, h.1, refl)))))
+        choose (λ e. refused WrongReturnType LongHand (inl refl)) (λ e. read_as (not_test c.0) s (λ t h. (((h.0.0, may_test signature n c.0 h.0 e), h.0.1), (k, t, blank, h.1, refl)))))
 
     negated_outcome : (cs : List ℕ) → Outcome (Spaced IsNegated) (Inner signature) cs (negated_at signature deeper cs)
-    unfolding negated_at
     negated_outcome cs =
         choose (λ e. remade (λ e. not_paren e) (λ t e h. (h.0, (k, t, blank, h.1, refl))) (paren_outcome cs e)) (λ _.
         choose (λ e. remade (λ q. not_exist q) (λ t q h. (h.0, (k, t, blank, h.1, refl))) (query_outcome signature n deeper laws current 64 cs refl e)) (λ _.
         choose (λ e. remade (λ q. not_exist q) (λ t q h. (h.0, (k, t, blank, h.1, refl))) (query_outcome signature n deeper laws root 36 cs refl e)) (λ _.
-        guarded ExpectedExpression context.LongHand (inl refl) (negated_call_outcome cs))))
+        guarded ExpectedExpression LongHand (inl refl) (negated_call_outcome cs))))
 
   -- ---- parentheses and `!`: what is good is read
 
   paren_again : (t : List ℕ) (e : LogicalOr) (rest : List ℕ) → IsGoodInside signature n e → InParentheses (ReadsOr e) t
       → (is_at "(" (t ++ rest) ≡ true) × (paren_at signature deeper (t ++ rest) ≡ Ok (e, past_blanks rest))
-  unfolding paren_at
   paren_again t e rest good (j, a, k, before, is, after, same) =
-      let closing : past_blanks (k ++ (41 ∷ rest)) ≡ 41 ∷ rest = past_all k (41 ∷ rest) after refl in
+      let closing : past_blanks (k ++ (41 ∷ rest)) ≡ 41 ∷ rest = past_run is_blank k (41 ∷ rest) after refl in
       let inside : past_blanks (drop 1 (t ++ rest)) ≡ a ++ (k ++ (41 ∷ rest)) =
-      rw (same, spread j a k (codes ")") rest) (past_all j (a ++ (k ++ (41 ∷ rest))) before (no_blank_begins (a ++ (k ++ (41 ∷ rest))) (or_begins e a (k ++ (41 ∷ rest)) is))) in
+      rw (same, spread j a k (codes ")") rest) (past_run is_blank j (a ++ (k ++ (41 ∷ rest))) before (no_blank_begins (a ++ (k ++ (41 ∷ rest))) (or_begins e a (k ++ (41 ∷ rest)) is))) in
       let inner = laws.inside_again (t ++ rest) a e (k ++ (41 ∷ rest)) good is (ap (begins ends_or) closing) in
       (ap (λ (l : List ℕ). is_at "(" (l ++ rest)) same, rw (inside, inner, closing) refl)
 
   -- `!`, blanks and what it negates
   negated_again : (t k a rest : List ℕ) (b : Basic) → IsBlank k → t ≡ 33 ∷ (k ++ a) → begins begins_expression (a ++ rest) ≡ true
       → negated_at signature deeper (a ++ rest) ≡ Ok (b, past_blanks rest) → basic_at signature deeper (t ++ rest) ≡ Ok (b, past_blanks rest)
-  unfolding basic_at
   negated_again t k a rest b blank same first e =
-      ap (λ (l : List ℕ). basic_at signature deeper (l ++ rest)) same ∙ ap (negated_at signature deeper) (ap past_blanks (append_assoc k a rest) ∙ past_all k (a ++ rest) blank (no_blank_begins (a ++ rest) first)) ∙ e
+      ap (λ (l : List ℕ). basic_at signature deeper (l ++ rest)) same ∙ ap (negated_at signature deeper) (ap past_blanks (append_assoc k a rest) ∙ past_run is_blank k (a ++ rest) blank (no_blank_begins (a ++ rest) first)) ∙ e
 
   -- ---- basic expressions
 
-  basic_outcome : (cs : List ℕ) → Outcome (Spaced IsBasic) (Inner signature) cs (basic_at signature deeper cs)
-  unfolding basic_at
+  basic_outcome : (cs : List ℕ) → Outcome (Spaced (IsBasicText signature n)) (Inner signature) cs (basic_at signature deeper cs)
   basic_outcome cs =
       choose (λ e. remade (λ e. paren e) (λ t e h. h) (paren_outcome cs e)) (λ _.
-      choose (λ e. let k = blanks_of (drop 1 cs) in past_spaced (33 ∷ k) (after_sign 33 cs e) (negated_outcome k (are_blank (drop 1 cs)) (past_blanks (drop 1 cs)))) (λ _.
+      choose (λ e. let k = blanks_of (drop 1 cs) in past_spaced (33 ∷ k) (after_sign 33 cs e) (negated_outcome k (front_each is_blank (drop 1 cs)) (past_blanks (drop 1 cs)))) (λ _.
       onward (operand_outcome signature n deeper laws cs) (λ o e s. basic_from_outcome signature n deeper laws cs o s)))
 
   of_operand : (cs : List ℕ) → begins begins_operand cs ≡ true → basic_at signature deeper cs ≡ compared signature n deeper laws cs
-  unfolding basic_at
   of_operand cs first = rw (begins_differs begins_operand 40 cs refl first, begins_differs begins_operand 33 cs refl first) refl
 
-  basic_again : (t : List ℕ) (b : Basic) (rest : List ℕ) → IsBasic t b → Follows ends_basic rest → basic_at signature deeper (t ++ rest) ≡ Ok (b, past_blanks rest)
-  unfolding basic_at negated_at negated_call_at
+  basic_again : (t : List ℕ) (b : Basic) (rest : List ℕ) → IsBasicText signature n t b → Follows ends_basic rest → basic_at signature deeper (t ++ rest) ≡ Ok (b, past_blanks rest)
   basic_again t (paren e) rest h follows = let p = paren_again t e rest h.0 h.1 in rw (p.0, p.1) refl
   basic_again t (not_paren e) rest (good, (k, a, blank, is, same)) follows =
       let p = paren_again a e rest good is in
@@ -96,14 +75,14 @@ module _ (signature : List ℕ → Option Signature) (n : ℕ) (deeper : Deeper)
   basic_again t (relation left op right) rest h follows =
       let first = ap (λ (l : List ℕ). begins begins_operand (l ++ rest)) h.1.6 ∙ ap (begins begins_operand) (append_assoc h.1.0 _ rest) ∙ comparable_begins left h.1.0 ((h.1.1 ++ h.1.2) ++ rest) h.1.3 in
       of_operand (t ++ rest) first ∙ relation_again signature n deeper laws t left op right rest h follows
-  basic_again t (exist q) rest h follows = of_operand (t ++ rest) (operand_begins (a_query q) t rest h.1) ∙ exist_again signature n deeper laws t q rest h follows
+  basic_again t (exist q) rest h follows = of_operand (t ++ rest) (operand_begins (a_query q) t rest h.1) ∙ tested signature n deeper laws t (a_query q) rest h follows
   basic_again t (not_exist (query root segs)) rest (good, (k, a, blank, (b, reads, e), same)) follows =
       negated_again t k a rest (not_exist (query root segs)) blank same (basic_begins (exist (query root segs)) a rest (b, reads, e))
       (rw (e, query_again signature n deeper laws root 36 b segs rest good reads (basic_ends_operand rest follows)) refl)
   basic_again t (not_exist (query current segs)) rest (good, (k, a, blank, (b, reads, e), same)) follows =
       negated_again t k a rest (not_exist (query current segs)) blank same (basic_begins (exist (query current segs)) a rest (b, reads, e))
       (rw (e, query_again signature n deeper laws current 64 b segs rest good reads (basic_ends_operand rest follows)) refl)
-  basic_again t (test c) rest h follows = of_operand (t ++ rest) (operand_begins (a_call c) t rest h.1) ∙ test_again signature n deeper laws t c rest h follows
+  basic_again t (test c) rest h follows = of_operand (t ++ rest) (operand_begins (a_call c) t rest h.1) ∙ tested signature n deeper laws t (a_call c) rest ((h.0.0.0, h.0.1), h.1) follows ∙ rw (test_no_value (result_kind signature c) h.0.0.1) refl
   basic_again t (not_test c) rest (good, (k, a, blank, is, same)) follows =
       let named = named_call_again signature n deeper laws a c rest (good.0.0, good.1) is in
       let letter = (and_parts (begins is_small_letter (a ++ rest)) (begins (λ d. d == 40) (past_word (a ++ rest))) named.0).0 in
@@ -113,42 +92,33 @@ module _ (signature : List ℕ → Option Signature) (n : ℕ) (deeper : Deeper)
 
   -- ---- what is joined by `&&`
 
-  basic_row : RowLaw signature 38 (38 ∷ []) IsBasic (basic_at signature deeper) ends_and
-  basic_row = record {
-    outcome = basic_outcome;
-    again = basic_again;
-    starts = λ t b rest h. no_blank_begins (t ++ rest) (basic_begins b t rest h.1);
-    sign_no_blank = refl;
-    sign_no_end = refl;
-  }
+  basic_row : RowLaw signature 38 (38 ∷ []) (IsBasicText signature n) (basic_at signature deeper) ends_and
+  basic_row =
+      record { outcome = basic_outcome; again = basic_again; starts = λ t b rest h. no_blank_begins (t ++ rest) (basic_begins b t rest h.1); sign_no_blank = refl; sign_no_end = refl }
 
-  pub next_basic_takes : m.Takes (are_at "&&") (next_basic_at signature deeper)
-  unfolding next_basic_at
+  pub next_basic_takes : Takes (are_at "&&") (next_basic_at signature deeper)
   next_basic_takes = next_takes basic_row
 
-  more_ands : (bs : List Basic) (t : List ℕ) → AreRows (codes "&&") IsBasic t bs → (IsTypedAnd signature (and_list bs) × (and_depth (and_list bs) ≤ n)) × ReadMoreAnds (and_list bs) t
+  more_ands : (bs : List Basic) (t : List ℕ) → AreRows (codes "&&") (IsBasicText signature n) t bs → (IsTypedAnd signature (and_list bs) × (and_depth (and_list bs) ≤ n)) × ReadMoreAnds (and_list bs) t
   more_ands [] t h = ((tt, omega arith), h)
   more_ands (b ∷ bs) t (s, a, c, sign, is, rest, e) =
       let more = more_ands bs c rest in
       (((is.0.0, more.0.0), omega (arith, is.0.1, more.0.1)), (s, a, c, sign, is.1, more.1, e))
 
   -- after a first part
-  pub and_from_outcome : (start : List ℕ) (b : Basic × List ℕ) → Read (Spaced IsBasic) start b → Outcome (Spaced IsAnd) (Inner signature) start (and_from signature deeper b.0 b.1)
-  unfolding and_from next_basic_at
+  pub and_from_outcome : (start : List ℕ) (b : Basic × List ℕ) → Read (Spaced (IsBasicText signature n)) start b → Outcome (Spaced (IsAndText signature n)) (Inner signature) start (and_from signature deeper b.0 b.1)
   and_from_outcome start b s = row_outcome basic_row and_list (λ b bs t c is rows. let more = more_ands bs c rows in (((is.0.0, more.0.0), omega (arith, is.0.1, more.0.1)), (t, c, is.1, more.1, refl))) start b s
 
-  and_outcome : (cs : List ℕ) → Outcome (Spaced IsAnd) (Inner signature) cs (and_at signature deeper cs)
-  unfolding and_at
+  and_outcome : (cs : List ℕ) → Outcome (Spaced (IsAndText signature n)) (Inner signature) cs (and_at signature deeper cs)
   and_outcome cs = onward (basic_outcome cs) (λ b e s. and_from_outcome cs b s)
 
-  and_rows : (e : LogicalAnd) (t : List ℕ) → IsTypedAnd signature e → and_depth e ≤ n → ReadMoreAnds e t → (bs : List Basic) × (and_list bs ≡ e) × AreRows (codes "&&") IsBasic t bs
+  and_rows : (e : LogicalAnd) (t : List ℕ) → IsTypedAnd signature e → and_depth e ≤ n → ReadMoreAnds e t → (bs : List Basic) × (and_list bs ≡ e) × AreRows (codes "&&") (IsBasicText signature n) t bs
   and_rows no_and t typed depth h = ([], refl, h)
   and_rows (and b more) t typed depth (s, a, c, sign, is, others, e) =
       let rest = and_rows more c typed.1 (omega (arith, depth)) others in
       (b ∷ rest.0, ap (and b) rest.1, (s, a, c, sign, ((typed.0, omega (arith, depth)), is), rest.2, e))
 
-  and_again : (t : List ℕ) (e : LogicalAnd) (rest : List ℕ) → IsAnd t e → Follows ends_and rest → and_at signature deeper (t ++ rest) ≡ Ok (e, past_blanks rest)
-  unfolding and_at and_from next_basic_at
+  and_again : (t : List ℕ) (e : LogicalAnd) (rest : List ℕ) → IsAndText signature n t e → Follows ends_and rest → and_at signature deeper (t ++ rest) ≡ Ok (e, past_blanks rest)
   and_again t no_and rest h follows = absurd h.1
   and_again t (and b more) rest (good, (a, c, is, others, same)) follows =
       let rows = and_rows more c good.0.1 (omega (arith, good.1)) others in
@@ -156,41 +126,32 @@ module _ (signature : List ℕ → Option Signature) (n : ℕ) (deeper : Deeper)
 
   -- ---- what is joined by `||`
 
-  and_row : RowLaw signature 124 (124 ∷ []) IsAnd (and_at signature deeper) ends_or
-  and_row = record {
-    outcome = and_outcome;
-    again = and_again;
-    starts = λ t e rest h. no_blank_begins (t ++ rest) (and_begins e t rest h.1);
-    sign_no_blank = refl;
-    sign_no_end = refl;
-  }
+  and_row : RowLaw signature 124 (124 ∷ []) (IsAndText signature n) (and_at signature deeper) ends_or
+  and_row =
+      record { outcome = and_outcome; again = and_again; starts = λ t e rest h. no_blank_begins (t ++ rest) (and_begins e t rest h.1); sign_no_blank = refl; sign_no_end = refl }
 
-  pub next_and_takes : m.Takes (are_at "||") (next_and_at signature deeper)
-  unfolding next_and_at
+  pub next_and_takes : Takes (are_at "||") (next_and_at signature deeper)
   next_and_takes = next_takes and_row
 
-  more_ors : (xs : List LogicalAnd) (t : List ℕ) → AreRows (codes "||") IsAnd t xs → (IsTypedOr signature (or_list xs) × (or_depth (or_list xs) ≤ n)) × ReadMoreOrs (or_list xs) t
+  more_ors : (xs : List LogicalAnd) (t : List ℕ) → AreRows (codes "||") (IsAndText signature n) t xs → (IsTypedOr signature (or_list xs) × (or_depth (or_list xs) ≤ n)) × ReadMoreOrs (or_list xs) t
   more_ors [] t h = ((tt, omega arith), h)
   more_ors (x ∷ xs) t (s, a, c, sign, is, rest, e) =
       let more = more_ors xs c rest in
       (((is.0.0, more.0.0), omega (arith, is.0.1, more.0.1)), (s, a, c, sign, is.1, more.1, e))
 
-  pub or_from_outcome : (start : List ℕ) (a : LogicalAnd × List ℕ) → Read (Spaced IsAnd) start a → Outcome (Spaced IsOr) (Inner signature) start (or_from signature deeper a.0 a.1)
-  unfolding or_from next_and_at
+  pub or_from_outcome : (start : List ℕ) (a : LogicalAnd × List ℕ) → Read (Spaced (IsAndText signature n)) start a → Outcome (Spaced (IsOrText signature n)) (Inner signature) start (or_from signature deeper a.0 a.1)
   or_from_outcome start a s = row_outcome and_row or_list (λ x xs t c is rows. let more = more_ors xs c rows in (((is.0.0, more.0.0), omega (arith, is.0.1, more.0.1)), (t, c, is.1, more.1, refl))) start a s
 
-  pub or_outcome : (cs : List ℕ) → Outcome (Spaced IsOr) (Inner signature) cs (or_at signature deeper cs)
-  unfolding or_at
+  pub or_outcome : (cs : List ℕ) → Outcome (Spaced (IsOrText signature n)) (Inner signature) cs (or_at signature deeper cs)
   or_outcome cs = onward (and_outcome cs) (λ a e s. or_from_outcome cs a s)
 
-  or_rows : (e : LogicalOr) (t : List ℕ) → IsTypedOr signature e → or_depth e ≤ n → ReadMoreOrs e t → (xs : List LogicalAnd) × (or_list xs ≡ e) × AreRows (codes "||") IsAnd t xs
+  or_rows : (e : LogicalOr) (t : List ℕ) → IsTypedOr signature e → or_depth e ≤ n → ReadMoreOrs e t → (xs : List LogicalAnd) × (or_list xs ≡ e) × AreRows (codes "||") (IsAndText signature n) t xs
   or_rows no_or t typed depth h = ([], refl, h)
   or_rows (or x more) t typed depth (s, a, c, sign, is, others, e) =
       let rest = or_rows more c typed.1 (omega (arith, depth)) others in
       (x ∷ rest.0, ap (or x) rest.1, (s, a, c, sign, ((typed.0, omega (arith, depth)), is), rest.2, e))
 
-  pub or_again : (t : List ℕ) (e : LogicalOr) (rest : List ℕ) → IsOr t e → Follows ends_or rest → or_at signature deeper (t ++ rest) ≡ Ok (e, past_blanks rest)
-  unfolding or_at or_from next_and_at
+  pub or_again : (t : List ℕ) (e : LogicalOr) (rest : List ℕ) → IsOrText signature n t e → Follows ends_or rest → or_at signature deeper (t ++ rest) ≡ Ok (e, past_blanks rest)
   or_again t no_or rest h follows = absurd h.1
   or_again t (or x more) rest (good, (a, c, is, others, same)) follows =
       let rows = or_rows more c good.0.1 (omega (arith, good.1)) others in

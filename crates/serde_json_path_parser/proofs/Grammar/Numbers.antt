@@ -1,8 +1,6 @@
 -- Integers and number literals: what is read is one, each is read, and where a refusal of one stands.
-use Rattle.std.proofs.Common.{◌≡◌, ℕ, zero, suc, ◌+◌, ◌-◌, ◌*◌, ◌≤◌, inl, inr, Bool, true, false, List, [], ◌∷◌, ◌++◌, drop, Ok, refl, sym, ap, ◌∙◌, arith, ◌^◌, length, Err, append_assoc, ◌<◌, min}
-use Rattle.serde_json_path_parser.proofs.Words.{nat_le, ◌==◌, ℤ, pos, negsuc, ints, largest, ExpectedSelector, IntegerOutOfRange, is_at, cases_Bool, begins, is_blank, is_digit, value_from, IsDecimal, IsInt, front, past, byte_count, is_first_digit, digits_at, negative, int_at, begins_int, ◌||◌, ◌-ℤ◌, encode_utf8, ExpectedExpression, ExponentOrEmptyFraction, FractionTooLong, NumberOutOfRange, AllPass, fraction_of, IsFraction, IsAmount, IsNumber, refusal_at, is_exponent, whole_at, digits_after_point_at, fraction_at, amount_at, greatest_amount, number_at, mul-le-mul_right, mul-lt-mul_of_pos_right, le-mul_of_pos_right, one-le-pow, pow-succ', length-append, pow-add, encode_ascii, encode_utf8_all}
-use Rattle.serde_json_path_parser.specs.declared.error.Context.TheVariants as context
-use Rattle.serde_json_path_parser.proofs.Reading.{begins_where, differs, begins_differs, no_blank, whole, front_each, front_begins, front_begins_not, front_all, past_run, value_least, some_begun, begins_front, Read, after_one, Plain, OutcomeIn, Outcome, read_so, choose, guarded, past_in, made, refused, onward, after_in}
+use Rattle.serde_json_path_parser.proofs.Words.{nat_le, ◌==◌, ℤ, pos, negsuc, ints, largest, ExpectedSelector, IntegerOutOfRange, is_at, cases_Bool, begins, is_blank, is_digit, value_from, IsDecimal, IsInt, front, past, byte_count, is_first_digit, digits_at, negative, int_at, begins_int, ◌||◌, ◌-ℤ◌, encode_utf8, ExpectedExpression, ExponentOrEmptyFraction, FractionTooLong, NumberOutOfRange, AllPass, fraction_of, IsFraction, IsAmount, IsNumber, refusal_at, is_exponent, whole_at, digits_after_point_at, fraction_at, amount_at, greatest_amount, number_at, mul-le-mul_right, mul-lt-mul_of_pos_right, le-mul_of_pos_right, one-le-pow, pow-succ', length-append, pow-add, encode_ascii, encode_utf8_all, ◌≡◌, ℕ, zero, suc, ◌+◌, ◌-◌, ◌*◌, ◌≤◌, inl, inr, Bool, true, false, List, [], ◌∷◌, ◌++◌, drop, Ok, refl, sym, ap, ◌∙◌, arith, ◌^◌, length, Err, append_assoc, ◌<◌, min, LongHand}
+use Rattle.serde_json_path_parser.proofs.Reading.{begins_where, differs, begins_differs, no_blank, whole, front_each, front_begins, front_begins_not, front_all, past_run, value_least, some_begun, begins_front, Read, after_one, Plain, OutcomeIn, Outcome, gives, choose, guarded, past_in, made, refused, onward, after_in}
 use Rattle.serde_json_path_syntax.specs.WellFormed.{IsLiteralAmount}
 
 -- ---- first digits
@@ -36,11 +34,10 @@ abbrev IsPositive : List ℕ → ℕ → Type 0
 IsPositive t n = IsDecimal t n × (1 ≤ n) × (n ≤ largest)
 
 digits_outcome : (start cs : List ℕ) → begins is_first_digit cs ≡ true → OutcomeIn IsPositive Plain start cs (digits_at (byte_count start) cs)
-unfolding digits_at
-digits_outcome start cs first = guarded IntegerOutOfRange context.LongHand refl (λ e.
+digits_outcome start cs first = guarded IntegerOutOfRange LongHand refl (λ e.
     let r = decimal_read cs first in
     let most : value_from 0 (front is_digit cs) ≤ largest = grind (arith, e) in
-    read_so _ (record { text = r.text; is_so = (r.is_so, some_value cs first, most); split = r.split }))
+    gives _ (record { text = r.text; is_so = (r.is_so, some_value cs first, most); split = r.split }))
 
 negative_is : (text : List ℕ) (n : ℕ) → IsPositive text n → IsInt (45 ∷ text) (negative n)
 negative_is text zero (d, some, most) = absurd (omega (arith, some))
@@ -53,16 +50,14 @@ pub zero_is : IsDecimal (48 ∷ []) 0
 zero_is = record { first = refl; each = (refl, tt); plain = inl refl; value_of = refl }
 
 pub int_outcome : (cs : List ℕ) → Outcome IsInt Plain cs (int_at cs)
-unfolding int_at
 int_outcome cs =
-    choose (λ e. guarded ExpectedSelector context.LongHand refl (λ f. past_in (45 ∷ []) (after_one 45 cs e) (made negative negative_is (digits_outcome cs (drop 1 cs) f)))) (λ _.
-    choose (λ e. read_so (pos 0, drop 1 cs) (record { text = 48 ∷ []; is_so = positive_is (48 ∷ []) 0 zero_is (omega arith); split = after_one 48 cs e })) (λ _.
-    guarded ExpectedSelector context.LongHand refl (λ f. made pos (λ t n h. positive_is t n h.0 h.2) (digits_outcome cs cs f))))
+    choose (λ e. guarded ExpectedSelector LongHand refl (λ f. past_in (45 ∷ []) (after_one 45 cs e) (made negative negative_is (digits_outcome cs (drop 1 cs) f)))) (λ _.
+    choose (λ e. gives (pos 0, drop 1 cs) (record { text = 48 ∷ []; is_so = positive_is (48 ∷ []) 0 zero_is (omega arith); split = after_one 48 cs e })) (λ _.
+    guarded ExpectedSelector LongHand refl (λ f. made pos (λ t n h. positive_is t n h.0 h.2) (digits_outcome cs cs f))))
 
 -- ---- each integer is read
 
 digits_again : (start t : List ℕ) (n : ℕ) (rest : List ℕ) → IsDecimal t n → n ≤ largest → begins is_digit rest ≡ false → digits_at (byte_count start) (t ++ rest) ≡ Ok (n, rest)
-unfolding digits_at
 digits_again start t n rest d most e =
     let in_range : nat_le (value_from 0 t) largest ≡ true = grind (arith, most, d.value_of) in
     rw (front_all is_digit t rest d.each e, past_run is_digit t rest d.each e, in_range) (ap (λ (k : ℕ). Ok (k, rest)) (sym d.value_of))
@@ -72,7 +67,6 @@ first_digit [] rest d z = absurd cc
 first_digit (c ∷ t) rest d z = grind (arith, d, z)
 
 pub int_again : (t : List ℕ) (i : ℤ) (rest : List ℕ) → IsInt t i → begins is_digit rest ≡ false → int_at (t ++ rest) ≡ Ok (i, rest)
-unfolding int_at
 int_again t (pos n) rest h e = elim h.0.plain [
   | inl z ↦ ap (λ (l : List ℕ). int_at (l ++ rest)) z ∙ ap (λ (k : ℕ). Ok (pos k, rest)) (sym (h.0.value_of ∙ ap (value_from 0) z))
   | inr z ↦
@@ -98,9 +92,6 @@ int_first p b [] (pos n) rest h is = absurd (let first = is.0.first in cc)
 int_first p b (c ∷ t) (pos n) rest h is = h c (digit_begins c is.0.first)
 int_first p b t (negsuc n) rest h is = ap (λ (l : List ℕ). begins p (l ++ rest)) is.0.2 ∙ h 45 refl
 
-pub int_begins : (t : List ℕ) (i : ℤ) (rest : List ℕ) → IsInt t i → begins begins_int (t ++ rest) ≡ true
-int_begins t i rest is = int_first begins_int true t i rest (λ c e. e) is
-
 pub int_not : (k : ℕ) (t : List ℕ) (i : ℤ) (rest : List ℕ) → begins_int k ≡ false → IsInt t i → begins (λ c. c == k) (t ++ rest) ≡ false
 int_not k t i rest never is = int_first (λ c. c == k) false t i rest (λ c e. differs begins_int k c never e) is
 
@@ -110,25 +101,23 @@ int_no_blank t i rest is = int_first is_blank false t i rest (λ c e. no_blank b
 -- ---- what a reading gives, of a number that begins at start
 
 whole_outcome : (start cs : List ℕ) → OutcomeIn IsDecimal Plain start cs (whole_at (byte_count start) cs)
-unfolding whole_at
 whole_outcome start cs =
-    choose (λ e. read_so (0, drop 1 cs) (record { text = 48 ∷ []; is_so = zero_is; split = after_one 48 cs e })) (λ _. guarded ExpectedExpression context.LongHand refl (λ e. read_so _ (decimal_read cs e)))
+    choose (λ e. gives (0, drop 1 cs) (record { text = 48 ∷ []; is_so = zero_is; split = after_one 48 cs e })) (λ _. guarded ExpectedExpression LongHand refl (λ e. gives _ (decimal_read cs e)))
 
 fraction_digits_outcome : (start cs : List ℕ) → OutcomeIn (λ t n. IsFraction (46 ∷ t) n) Plain start cs (digits_after_point_at (byte_count start) cs)
-unfolding digits_after_point_at
 fraction_digits_outcome start cs =
-    guarded ExponentOrEmptyFraction context.LongHand refl (λ some.
-    choose (λ _. refused ExponentOrEmptyFraction context.LongHand refl) (λ _.
-    guarded FractionTooLong context.LongHand refl (λ (few : nat_le (length (front is_digit cs)) 9 ≡ true).
+    guarded ExponentOrEmptyFraction LongHand refl (λ some.
+    choose (λ _. refused ExponentOrEmptyFraction LongHand refl) (λ _.
+    guarded FractionTooLong LongHand refl (λ (few : nat_le (length (front is_digit cs)) 9 ≡ true).
     let least : 1 ≤ length (front is_digit cs) = some_begun is_digit (front is_digit cs) (front_begins is_digit is_digit cs (λ c d. d) some) in
     let most : length (front is_digit cs) ≤ 9 = grind (arith, few) in
-    read_so _ (record { text = front is_digit cs; is_so = inr (front is_digit cs, refl, front_each is_digit cs, least, most, refl); split = whole is_digit cs }))))
+    gives _ (record { text = front is_digit cs; is_so = inr (front is_digit cs, refl, front_each is_digit cs, least, most, refl); split = whole is_digit cs }))))
 
 fraction_outcome : (start cs : List ℕ) → OutcomeIn IsFraction Plain start cs (fraction_at (byte_count start) cs)
 unfolding fraction_at
 fraction_outcome start cs =
     choose (λ e. past_in (46 ∷ []) (after_one 46 cs e) (fraction_digits_outcome start (drop 1 cs))) (λ _.
-    choose (λ _. refused ExponentOrEmptyFraction context.LongHand refl) (λ _. read_so (0, cs) (record { text = []; is_so = inl (refl, refl); split = refl })))
+    choose (λ _. refused ExponentOrEmptyFraction LongHand refl) (λ _. gives (0, cs) (record { text = []; is_so = inl (refl, refl); split = refl })))
 
 amount_outcome : (start cs : List ℕ) → OutcomeIn IsAmount Plain start cs (amount_at (byte_count start) cs)
 unfolding amount_at
@@ -142,12 +131,11 @@ positive_in_range : (n : ℕ) → nat_le n greatest_amount ≡ true → IsLitera
 positive_in_range n e = let most : n ≤ greatest_amount = grind (arith, e) in (omega (arith, ints, most), omega (arith, ints, most))
 
 pub number_outcome : (cs : List ℕ) → Outcome IsNumber Plain cs (number_at cs)
-unfolding number_at
 number_outcome cs =
-    choose (λ e. past_in (45 ∷ []) (after_one 45 cs e) (onward (amount_outcome cs (drop 1 cs)) (λ n f r. guarded NumberOutOfRange context.LongHand refl (λ most.
-    read_so _ (record { text = r.text; is_so = ((n.0, inr (r.text, r.is_so, refl, refl)), negative_in_range n.0 most); split = r.split }))))) (λ _.
-    onward (amount_outcome cs cs) (λ n f r. guarded NumberOutOfRange context.LongHand refl (λ most.
-    read_so _ (record { text = r.text; is_so = ((n.0, inl (r.is_so, refl)), positive_in_range n.0 most); split = r.split }))))
+    choose (λ e. past_in (45 ∷ []) (after_one 45 cs e) (onward (amount_outcome cs (drop 1 cs)) (λ n f r. guarded NumberOutOfRange LongHand refl (λ most.
+    gives _ (record { text = r.text; is_so = ((n.0, inr (r.text, r.is_so, refl, refl)), negative_in_range n.0 most); split = r.split }))))) (λ _.
+    onward (amount_outcome cs cs) (λ n f r. guarded NumberOutOfRange LongHand refl (λ most.
+    gives _ (record { text = r.text; is_so = ((n.0, inl (r.is_so, refl)), positive_in_range n.0 most); split = r.split }))))
 
 -- ---- each number is read
 
@@ -161,7 +149,6 @@ no_part [] e = (refl, refl, refl)
 no_part (c ∷ cs) e = (grind (arith, e), grind (arith, e), grind (arith, e))
 
 whole_again : (start t : List ℕ) (n : ℕ) (rest : List ℕ) → IsDecimal t n → begins is_digit rest ≡ false → whole_at (byte_count start) (t ++ rest) ≡ Ok (n, rest)
-unfolding whole_at
 whole_again start t n rest d e = elim d.plain [
   | inl z ↦
       let none : n ≡ 0 = d.value_of ∙ ap (value_from 0) z in
@@ -176,7 +163,7 @@ digits_begin [] rest some each = absurd (omega (arith, some))
 digits_begin (c ∷ digits) rest some each = each.0
 
 fraction_again : (start t : List ℕ) (n : ℕ) (rest : List ℕ) → IsFraction t n → begins goes_on rest ≡ false → fraction_at (byte_count start) (t ++ rest) ≡ Ok (n, rest)
-unfolding fraction_at digits_after_point_at
+unfolding fraction_at
 fraction_again start t n rest is e = elim is [
   | inl none ↦ ap (λ (l : List ℕ). fraction_at (byte_count start) (l ++ rest)) none.0 ∙ rw ((no_part rest e).1, (no_part rest e).2) (ap (λ (k : ℕ). Ok (k, rest)) (sym none.1))
   | inr some ↦
@@ -207,7 +194,6 @@ amount_first p b t n rest h is =
     ap (begins p) regrouped ∙ begins_where is_digit p b (is.0 ++ (is.1 ++ rest)) h first
 
 pub number_again : (t : List ℕ) (amount : ℤ) (rest : List ℕ) → IsNumber t amount → begins goes_on rest ≡ false → number_at (t ++ rest) ≡ Ok (amount, rest)
-unfolding number_at
 number_again t amount rest ((n, inl (is, same)), in_range) e =
     let most : n ≤ greatest_amount = let within = in_range.1 in omega (arith, ints, within, same) in
     let judged : nat_le n greatest_amount ≡ true = grind (arith, most) in
@@ -229,16 +215,13 @@ number_first p b t amount rest h is = elim is.0.1 [
 
 -- ---- bytes
 
-digit_byte : (c : ℕ) → is_digit c ≡ true → length (encode_utf8 c) ≡ 1
-digit_byte c d =
-    let ascii : c < 128 = grind (arith, d) in
-    ap length (encode_ascii c ascii)
-
 -- a digit is one byte
 front_bytes : (cs : List ℕ) → length (encode_utf8_all cs) ≡ length (front is_digit cs) + length (encode_utf8_all (past is_digit cs))
 front_bytes [] = refl
 front_bytes (c ∷ cs) = elim (cases_Bool (is_digit c)) [
-  | inl e ↦ rw e (omega (arith, length-append (encode_utf8 c) (encode_utf8_all cs), digit_byte c e, front_bytes cs))
+  | inl e ↦
+      let ascii : c < 128 = grind (arith, e) in
+      rw e (omega (arith, length-append (encode_utf8 c) (encode_utf8_all cs), ap length (encode_ascii c ascii), front_bytes cs))
   | inr e ↦ rw e (omega arith)
 ]
 
@@ -289,10 +272,8 @@ fraction_is ds value power count each c few v p =
 -- ---- reading
 
 module _ (start : ℕ) (cs : List ℕ) (some : begins is_digit cs ≡ true) (plain : begins is_exponent (past is_digit cs) ≡ false) where
-  pub too_long : 9 < length (front is_digit cs) → digits_after_point_at start cs ≡ Err (refusal_at FractionTooLong context.LongHand start)
-  unfolding digits_after_point_at
+  pub too_long : 9 < length (front is_digit cs) → digits_after_point_at start cs ≡ Err (refusal_at FractionTooLong LongHand start)
   too_long many = let judged : nat_le (length (front is_digit cs)) 9 ≡ false = grind (arith, many) in rw (some, plain, judged) refl
 
   pub reads : length (front is_digit cs) ≤ 9 → digits_after_point_at start cs ≡ Ok (fraction_of (front is_digit cs), past is_digit cs)
-  unfolding digits_after_point_at
   reads few = let judged : nat_le (length (front is_digit cs)) 9 ≡ true = grind (arith, few) in rw (some, plain, judged) refl

@@ -1,14 +1,11 @@
 -- Whole paths, and the promises of a parse.
-use Rattle.std.proofs.Common.{◌≡◌, ◌≢◌, ℕ, ◌≤◌, ◌↔◌, true, false, true≢false, List, [], ◌∷◌, ◌++◌, length, drop, Option, Ok, refl, sym, ap, subst, ◌∙◌, arith, ◌+◌, ◌-◌, inl, inr, ◌<◌, take, Some, Err}
-use Rattle.serde_json_path_parser.proofs.Words.{◌==◌, encode_utf8_all, all_scalars, chars, IsUtf8, IsCharBoundary, append-nil, length-append, nil_from_length, eqb-true, SegmentKind, Segments, Segment, deepest, Signature, ParseErrorKind, ExpectedRoot, UndefinedFunction, TextAfterPath, NoMemory, IsUndeclared, is_at, begins, Parsed, refusal, opens_next, segments_at, segment_list, opens_after_root, level, path_at, encodes-chars, encodes-append, scalars-chars, IsCharBoundary-at_seam, ◌&&◌, take-append_seam, drop-append_seam, IsCharBoundary-start, chars-encodes, Query, query, root, current, greatest_usize, Refusal, Failure, tree_of, signatures_of, opens, AreCalled, Reports, reported, Fails, IsRefused, IsWithin, error_of, is_dollar, NeedsNoMemory, ParsedQuery, Answers, checked_view, eq-eqb, length-le-encodes}
+use Rattle.serde_json_path_parser.proofs.Words.{◌==◌, encode_utf8_all, all_scalars, chars, IsUtf8, IsCharBoundary, append-nil, length-append, nil_from_length, eqb-true, SegmentKind, Segments, Segment, deepest, Signature, ParseErrorKind, ExpectedRoot, UndefinedFunction, TextAfterPath, NoMemory, IsUndeclared, is_at, begins, Parsed, refusal, opens_next, segments_at, segment_list, opens_after_root, level, path_at, encodes-chars, encodes-append, scalars-chars, IsCharBoundary-at_seam, ◌&&◌, take-append_seam, drop-append_seam, IsCharBoundary-start, chars-encodes, Query, query, root, current, greatest_usize, Refusal, Failure, tree_of, signatures_of, opens, AreCalled, Reports, reported, Fails, IsRefused, IsWithin, error_of, is_dollar, NeedsNoMemory, ParsedQuery, Answers, checked_view, eq-eqb, length-le-encodes, ◌≡◌, ◌≢◌, ℕ, ◌≤◌, ◌↔◌, true, false, true≢false, List, [], ◌∷◌, ◌++◌, length, drop, Option, Ok, refl, sym, ap, subst, ◌∙◌, arith, ◌+◌, ◌-◌, inl, inr, ◌<◌, take, Some, Err, filter_at, Memory, Refused, is_blank, next_segment_at}
 use Rattle.serde_json_path_parser.specs.declared.error.Context.TheVariants as context
-use Rattle.serde_json_path_parser.specs.Filters.{filter_at}
 use Rattle.serde_json_path_parser.proofs.Grammar.LogicalForms.{AreSegmentsText}
 use Rattle.serde_json_path_parser.proofs.Grammar.Calls.{level_laws}
-use Rattle.serde_json_path_parser.proofs.Grammar.Segments.{segments_outcome, segments_again, same_segments, no_segments_read}
+use Rattle.serde_json_path_parser.proofs.Grammar.Segments.{segments_outcome, segments_again, same_segments}
 use Rattle.serde_json_path_parser.proofs.Printing.QuotedTexts.{scalars_of}
-use Rattle.serde_json_path_parser.proofs.Reading.{ok_is, after_one, is_plain, Inner, Stands, Gives, gives, refuses, choose, onward, past_all}
-use Rattle.serde_json_path_parser.specs.declared.error.Failure.TheVariants as failures
+use Rattle.serde_json_path_parser.proofs.Reading.{ok_is, after_one, is_plain, Inner, Stands, Gives, gives, refuses, choose, onward, past_run, stands_so, many_end}
 use Rattle.serde_json_path_syntax.specs.declared.checked.Checked.{Checked}
 use Rattle.serde_json_path_parser.specs.Accepted.{IsAccepted}
 use Rattle.serde_json_path_parser.specs.Laws.{OneTreeAtMost}
@@ -28,7 +25,7 @@ module _ (signature : List ℕ → Option Signature) where
   pub none_read : (cs ds rest : List ℕ) (c : ℕ) (ss : List (SegmentKind × Segment)) → begins (λ d. d == 36) cs ≡ true → cs ≡ c ∷ ds → path_segments_at ds ≡ Ok (ss, rest) → opens_after_root cs ≡ false → ss ≡ []
   none_read cs ds rest c ss sign split read none =
       let closed : opens_next ds ≡ false = sym (rw (sign, split) refl) ∙ none in
-      let empty = no_segments_read (filter_at signature (level signature deepest)) context.Path ds closed in
+      let empty = many_end opens_next (next_segment_at (filter_at signature (level signature deepest)) context.Path) ds closed in
       ap (λ (x : List (SegmentKind × Segment) × List ℕ). x.0) (ok_is (ss, rest) ([], ds) (sym read ∙ empty))
 
   -- ---- each path is read
@@ -47,10 +44,6 @@ inner_differs : (signature : List ℕ → Option Signature) (kind other : ParseE
 inner_differs signature kind other rest outer differs (inl plain) e = true≢false (sym plain ∙ ap is_plain e ∙ outer)
 inner_differs signature kind other rest outer differs (inr undefined) e = differs (sym undefined.0 ∙ e)
 
-undeclared_there : (signature : List ℕ → Option Signature) (kind : ParseErrorKind) (rest : List ℕ) → Inner signature kind rest → kind ≡ UndefinedFunction → IsUndeclared signature rest
-undeclared_there signature kind rest (inl plain) e = absurd (true≢false (sym plain ∙ ap is_plain e))
-undeclared_there signature kind rest (inr undefined) e = undefined.1
-
 module _ (signature : List ℕ → Option Signature) where
   -- what a kind tells of the whole text, and of its rest from the refusal on
   pub record PathTells (cs : List ℕ) (kind : ParseErrorKind) (rest : List ℕ) : Type 0 where
@@ -64,7 +57,7 @@ module _ (signature : List ℕ → Option Signature) where
     no_memory = inner_differs signature kind NoMemory rest refl (λ f. cc) h;
     root_missing = ((λ e. absurd (inner_differs signature kind ExpectedRoot rest refl (λ f. cc) h e)), (λ e. absurd (true≢false (sym rooted ∙ e))));
     after = λ e. absurd (inner_differs signature kind TextAfterPath rest refl (λ f. cc) h e);
-    undefined = undeclared_there signature kind rest h;
+    undefined = λ e. elim h [ inl plain ↦ absurd (true≢false (sym plain ∙ ap is_plain e)) | inr undefined ↦ undefined.1 ];
   }
 
   pub path_outcome : (cs : List ℕ) → Gives (λ segs. (a : List ℕ) × AreSegmentsText signature deepest a segs × (cs ≡ 36 ∷ a)) (Stands (PathTells cs) cs) (path_at signature cs)
@@ -72,12 +65,7 @@ module _ (signature : List ℕ → Option Signature) where
   path_outcome cs = choose (λ sign.
       let begun = after_one 36 cs sign in
       let segments = segments_outcome signature deepest (level signature deepest) (level_laws signature deepest) context.Path (drop 1 cs) in
-      onward (record {
-        reads = segments.reads;
-        stands = λ r e.
-            let s = segments.stands r e in
-            record { before = 36 ∷ s.before; rest = s.rest; split = begun ∙ ap (λ (l : List ℕ). 36 ∷ l) s.split; left = s.left; tells = in_segment cs r.kind s.rest sign s.tells };
-      }) (λ ss _ r.
+      onward (stands_so (λ r s. record { before = 36 ∷ s.before; rest = s.rest; split = begun ∙ ap (λ (l : List ℕ). 36 ∷ l) s.split; left = s.left; tells = in_segment cs r.kind s.rest sign s.tells }) segments) (λ ss _ r.
       let split : cs ≡ 36 ∷ (r.text ++ ss.1) = begun ∙ ap (λ (l : List ℕ). 36 ∷ l) r.split in
       choose (λ e. gives (segment_list ss.0) (r.text, r.is_so, split ∙ ap (λ (l : List ℕ). 36 ∷ (r.text ++ l)) (nil_from_length ss.1 (eqb-true (length ss.1) 0 e)) ∙ ap (λ (l : List ℕ). 36 ∷ l) (append-nil r.text))) (λ e.
       refuses (refusal TextAfterPath context.Path ss.1) (record {
@@ -136,7 +124,7 @@ one_tree_at_most signature text p q h g =
 -- where nothing is to be kept no segment begins after `$`
 needs_none : (cs : List ℕ) → NeedsNoMemory cs → opens_after_root cs ≡ false
 needs_none cs (inl h) = ap (λ b. b && opens_next (drop 1 cs)) h
-needs_none cs (inr h) = ap opens_after_root h.2 ∙ ap (begins opens) (past_all h.0 h.1 h.3 h.4) ∙ h.5
+needs_none cs (inr h) = ap opens_after_root h.2 ∙ ap (begins opens) (past_run is_blank h.0 h.1 h.3 h.4) ∙ h.5
 
 -- ---- the text before text that stands after a path
 
@@ -185,13 +173,13 @@ module _ (signature : List ℕ → Option Signature) (text : List ℕ) (u : IsUt
 
   -- where the refusal stands
   pub within : (s : Failure) (total : ℕ) → total ≡ length text → Fails s (path_at signature (chars text)) → IsWithin s total
-  within failures.Memory total t h = tt
-  within (failures.Refused r) total t h = let k = (told r h).placed.0 in omega (arith, t, k)
+  within Memory total t h = tt
+  within (Refused r) total t h = let k = (told r h).placed.0 in omega (arith, t, k)
 
   -- ---- the three ends of a parse
 
   -- want of memory, where something has to be stored
-  unstored : (length text < greatest_usize → NeedsNoMemory (chars text) → ⊥) → Answers signature text (Err (error_of failures.Memory 0))
+  unstored : (length text < greatest_usize → NeedsNoMemory (chars text) → ⊥) → Answers signature text (Err (error_of Memory 0))
   unstored stores = record {
     accepted = tt;
     kept = tt;
@@ -202,7 +190,7 @@ module _ (signature : List ℕ → Option Signature) (text : List ℕ) (u : IsUt
     too_long = λ e. refl;
   }
 
-  pub too_long : length text ≡ greatest_usize → Answers signature text (Err (error_of failures.Memory 0))
+  pub too_long : length text ≡ greatest_usize → Answers signature text (Err (error_of Memory 0))
   too_long long = unstored (λ less none. omega (arith, long))
 
   pub parsed : (short : length text < greatest_usize) (segs : Segments) (checked : Checked) → tree_of checked ≡ query root segs → AreCalled (signatures_of checked) (query root segs) → path_at signature (chars text) ≡ Ok segs → Answers signature text (Ok (checked_view checked))
@@ -220,8 +208,8 @@ module _ (signature : List ℕ → Option Signature) (text : List ℕ) (u : IsUt
 
   pub refused : (short : length text < greatest_usize) (s : Failure) (total : ℕ) → Fails s (path_at signature (chars text)) → (opens_after_root (chars text) ≡ false → IsRefused s)
       → Answers signature text (Err (error_of s total))
-  refused short failures.Memory total h spares = unstored (λ less none. spares (needs_none (chars text) none))
-  refused short (failures.Refused r) total h spares = record {
+  refused short Memory total h spares = unstored (λ less none. spares (needs_none (chars text) none))
+  refused short (Refused r) total h spares = record {
     accepted = tt;
     kept = tt;
     only = tt;
@@ -233,7 +221,7 @@ module _ (signature : List ℕ → Option Signature) (text : List ℕ) (u : IsUt
 
   -- ---- what is reported at each
 
-  unstored_reported : (length text < greatest_usize → NeedsNoMemory (chars text) → ⊥) → Reports signature text (Err (error_of failures.Memory 0))
+  unstored_reported : (length text < greatest_usize → NeedsNoMemory (chars text) → ⊥) → Reports signature text (Err (error_of Memory 0))
   unstored_reported stores = record {
     told = λ other. absurd (other refl);
     missing_root = ((λ e. absurd cc), (λ g. absurd (stores g.0 (inl g.1))));
@@ -242,7 +230,7 @@ module _ (signature : List ℕ → Option Signature) (text : List ℕ) (u : IsUt
     position = (omega arith, IsCharBoundary-start text u);
   }
 
-  pub too_long_reported : length text ≡ greatest_usize → Reports signature text (Err (error_of failures.Memory 0))
+  pub too_long_reported : length text ≡ greatest_usize → Reports signature text (Err (error_of Memory 0))
   too_long_reported long = unstored_reported (λ less none. omega (arith, long))
 
   pub parsed_reported : (read : ParsedQuery) (segs : Segments) → path_at signature (chars text) ≡ Ok segs → Reports signature text (Ok read)
@@ -258,8 +246,8 @@ module _ (signature : List ℕ → Option Signature) (text : List ℕ) (u : IsUt
 
   pub refused_reported : (short : length text < greatest_usize) (s : Failure) (total : ℕ) → total ≡ length text → Fails s (path_at signature (chars text)) → (opens_after_root (chars text) ≡ false → IsRefused s)
       → Reports signature text (Err (error_of s total))
-  refused_reported short failures.Memory total t h spares = unstored_reported (λ less none. spares (needs_none (chars text) none))
-  refused_reported short (failures.Refused r) total t h spares =
+  refused_reported short Memory total t h spares = unstored_reported (λ less none. spares (needs_none (chars text) none))
+  refused_reported short (Refused r) total t h spares =
       let k = told r h in
       let cut : (total - r.left + 1) - 1 ≡ length text - r.left = omega (arith, t) in
       record {

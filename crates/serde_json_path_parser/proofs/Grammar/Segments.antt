@@ -1,23 +1,17 @@
 -- Selectors, brackets with them, and segments: what is read is in the grammar, what is in the grammar is read, where a refusal stands.
-use Rattle.std.proofs.Common.{◌≡◌, ◌≤◌, ℕ, inl, inr, true, false, true≢false, List, [], ◌∷◌, ◌++◌, drop, Option, Some, None, Ok, refl, sym, ap, subst, ◌∙◌, append_assoc, arith, ◌<◌, length}
-use Rattle.serde_json_path_parser.proofs.Words.{ℤ, ◌==◌, append-nil, Slice, Selector, slice, index, IsBound, IsSliceStep, IsSlice, false_from_ne_true, begins, is_blank, is_digit, IsBlank, IsInt, Parsed, past_blanks, begins_int, bound_at, step_at, slice_at, position_at, selector_at, None, name, wildcard, filter, IsQuote, quoted_at, string_at, Signature, codes, SegmentKind, long_hand, Selectors, no_selectors, selector, ExpectedClosingBracket, ReadSelectors, ReadMoreSelectors, dots_before_bracket, next_selector_at, selectors_at, selector_list, bracket_at, Deeper, AreTypedSelectors, selectors_depth, is_at, length-append, child, descendant, Segments, no_segments, segment, Segment, dot_name, dot_wildcard, BadMemberName, is_name_first, is_name_char, IsName, Joined, opens, dots_before_name, front, many, after_dot, name_at, dotted_at, descendant_at, dot_at, segment_at, opens_next, next_segment_at, segments_at, segment_list}
-use Rattle.serde_json_path_parser.proofs.Reading.{begins_where, past_some, blanks_of, are_blank, split_blanks, past_all, spread, differs, no_blank, past_end, no_longer, begins_not, some_begun, begins_front, begins_differs, whole, front_each, front_begins, front_all, past_run, Spaced, after_one, Again, many_again, Plain, Inner, Outcome, read_so, choose, weaker, past_text, past_spaced, along, onward, after_spaced, remade, with_blanks, after_sign, made_spaced, inner, guarded, after, read_spaced, made, many_outcome}
+use Rattle.serde_json_path_parser.proofs.Words.{ℤ, ◌==◌, append-nil, Slice, Selector, slice, index, IsBound, IsSliceStep, IsSlice, false_from_ne_true, begins, is_blank, is_digit, IsBlank, IsInt, Parsed, past_blanks, begins_int, bound_at, step_at, slice_at, position_at, selector_at, None, name, wildcard, filter, IsQuote, quoted_at, string_at, Signature, codes, SegmentKind, long_hand, Selectors, no_selectors, selector, ExpectedClosingBracket, ReadSelectors, ReadMoreSelectors, dots_before_bracket, next_selector_at, selectors_at, selector_list, bracket_at, Deeper, AreTypedSelectors, selectors_depth, is_at, length-append, child, descendant, Segments, no_segments, segment, Segment, dot_name, dot_wildcard, BadMemberName, is_name_first, is_name_char, IsName, Joined, opens, dots_before_name, front, many, after_dot, name_at, dotted_at, descendant_at, dot_at, segment_at, opens_next, next_segment_at, segments_at, segment_list, ◌≡◌, ◌≤◌, ℕ, inl, inr, true, false, true≢false, List, [], ◌∷◌, ◌++◌, drop, Option, Some, Ok, refl, sym, ap, subst, ◌∙◌, append_assoc, arith, ◌<◌, length, LongHand, filter_at, Context}
+use Rattle.serde_json_path_parser.proofs.Reading.{begins_where, blanks_of, spread, differs, no_blank, past_end, no_longer, begins_not, some_begun, begins_front, begins_differs, whole, front_each, front_begins, front_all, past_run, Spaced, after_one, many_again, Plain, Inner, Outcome, gives, choose, weaker, past_text, past_spaced, along, onward, after_spaced, remade, with_blanks, after_sign, made_spaced, inner, guarded, after, read_spaced, made, many_outcome, Takes, past_through, begins_other}
 use Rattle.serde_json_path_parser.proofs.Grammar.LogicalForms.{DeeperLaws, IsSelectorText, IsSegmentText, ends_selectors, ends_selector, filter_outcome, filter_again, AreSegmentsText}
-use Rattle.serde_json_path_parser.proofs.Grammar.Numbers.{int_outcome, int_again, int_begins, int_not, int_no_blank}
+use Rattle.serde_json_path_parser.proofs.Grammar.Numbers.{int_outcome, int_again, int_not, int_no_blank, int_first}
 use Rattle.serde_json_path_parser.proofs.Grammar.Strings.{string_outcome, string_again, of_quote}
-use Rattle.serde_json_path_parser.specs.declared.error.Context.TheVariants as context
-use Rattle.serde_json_path_parser.proofs.Reading as m
 use Rattle.serde_json_path_parser.proofs.Rows.{Follows, AreRows, RowLaw, next_takes, row_outcome, row_again}
-use Rattle.serde_json_path_parser.specs.Filters.{filter_at}
-use Rattle.serde_json_path_parser.specs.declared.error.Context as declared
 
 -- ---- slices: what a reading gives
 
 pub bound_outcome : (cs : List ℕ) → Outcome (λ t i. IsBound i t) Plain cs (bound_at cs)
-unfolding bound_at
 bound_outcome cs =
-    choose (λ _. onward (int_outcome cs) (λ i _ r. let s = with_blanks IsInt cs i r in read_so (Some i.0, past_blanks i.1) (record { text = s.text; is_so = s.is_so; split = s.split }))) (λ _.
-    read_so (None, cs) (record { text = []; is_so = refl; split = refl }))
+    choose (λ _. onward (int_outcome cs) (λ i _ r. let s = with_blanks IsInt cs i r in gives (Some i.0, past_blanks i.1) (record { text = s.text; is_so = s.is_so; split = s.split }))) (λ _.
+    gives (None, cs) (record { text = []; is_so = refl; split = refl }))
 
 -- a bound after a second colon
 step_is : (t k : List ℕ) (i : Option ℤ) → IsBlank k → IsBound i t → Spaced (λ t i. IsSliceStep i t) (58 ∷ (k ++ t)) i
@@ -26,26 +20,23 @@ step_is t k (Some i) blank b =
     (58 ∷ (k ++ b.0), b.1, (k, b.0, blank, b.2, refl), b.3, ap (λ (l : List ℕ). 58 ∷ (k ++ l)) b.4 ∙ sym (append_assoc (58 ∷ k) b.0 b.1))
 
 step_outcome : (cs : List ℕ) → Outcome (Spaced (λ t i. IsSliceStep i t)) Plain cs (step_at cs)
-unfolding step_at
 step_outcome cs =
-    choose (λ e. past_text (58 ∷ blanks_of (drop 1 cs)) (after_sign 58 cs e) (weaker (λ t i b. step_is t (blanks_of (drop 1 cs)) i (are_blank (drop 1 cs)) b) (bound_outcome (past_blanks (drop 1 cs))))) (λ _.
-    read_so (None, cs) (record { text = []; is_so = ([], [], inl refl, tt, refl); split = refl }))
+    choose (λ e. past_text (58 ∷ blanks_of (drop 1 cs)) (after_sign 58 cs e) (weaker (λ t i b. step_is t (blanks_of (drop 1 cs)) i (front_each is_blank (drop 1 cs)) b) (bound_outcome (past_blanks (drop 1 cs))))) (λ _.
+    gives (None, cs) (record { text = []; is_so = ([], [], inl refl, tt, refl); split = refl }))
 
 -- after the first bound and the colon
 pub slice_outcome : (start : Option ℤ) (a cs : List ℕ) → IsBound start a → Outcome (Spaced (λ t s. IsSlice s t)) Plain (a ++ (58 ∷ cs)) (slice_at start cs)
-unfolding slice_at
 slice_outcome start a cs first =
     let k = blanks_of cs in
-    past_spaced (a ++ (58 ∷ k)) (ap (λ (l : List ℕ). a ++ (58 ∷ l)) (split_blanks cs) ∙ sym (append_assoc a (58 ∷ k) (past_blanks cs))) (after_spaced (bound_outcome (past_blanks cs)) (λ end _ b.
-    remade (λ step. record { start = start; end = end.0; step = step }) (λ c step h. (a, k, b.text, c, first, are_blank cs, b.is_so, h, append_assoc a (58 ∷ k) (b.text ++ c))) (step_outcome end.1)))
+    past_spaced (a ++ (58 ∷ k)) (ap (λ (l : List ℕ). a ++ (58 ∷ l)) (whole is_blank cs) ∙ sym (append_assoc a (58 ∷ k) (past_blanks cs))) (after_spaced (bound_outcome (past_blanks cs)) (λ end _ b.
+    remade (λ step. record { start = start; end = end.0; step = step }) (λ c step h. (a, k, b.text, c, first, front_each is_blank cs, b.is_so, h, append_assoc a (58 ∷ k) (b.text ++ c))) (step_outcome end.1)))
 
 pub position_outcome : (signature : List ℕ → Option Signature) (n : ℕ) (cs : List ℕ) → Outcome (Spaced (IsSelectorText signature n)) Plain cs (position_at cs)
-unfolding position_at
 position_outcome signature n cs = onward (int_outcome cs) (λ i _ r.
     let rest = past_blanks i.1 in
     let s = with_blanks IsInt cs i r in
     choose (λ e. along (s.split ∙ ap (λ (l : List ℕ). s.text ++ l) (after_one 58 rest e)) (remade (λ s. slice s) (λ t s is. ((tt, omega arith), is)) (slice_outcome (Some i.0) s.text (drop 1 rest) s.is_so))) (λ _.
-    read_so _ (record { text = s.text; is_so = (s.is_so.0, s.is_so.1, ((tt, omega arith), s.is_so.2), s.is_so.3, s.is_so.4); split = s.split })))
+    gives _ (record { text = s.text; is_so = (s.is_so.0, s.is_so.1, ((tt, omega arith), s.is_so.2), s.is_so.3, s.is_so.4); split = s.split })))
 
 -- ---- each is read again
 
@@ -67,19 +58,17 @@ ends_digits (c ∷ cs) h = false_from_ne_true (is_digit c) (λ d.
     true≢false (sym begun ∙ h))
 
 bound_again : (e : Option ℤ) (t rest : List ℕ) → IsBound e t → Ends rest → bound_at (past_blanks (t ++ rest)) ≡ Ok (e, past_blanks rest)
-unfolding bound_at
 bound_again None t rest b ends = ap (λ (l : List ℕ). bound_at (past_blanks (l ++ rest))) b ∙ rw ends refl
 bound_again (Some i) t rest (a, k, is, blank, e) ends =
     let here : past_blanks (t ++ rest) ≡ a ++ (k ++ rest) = rw (e, append_assoc a k rest) (past_end is_blank (a ++ (k ++ rest)) (int_no_blank a i (k ++ rest) is)) in
-    let further : begins is_digit (k ++ rest) ≡ false = ends_digits (k ++ rest) (rw (past_some k rest blank) ends) in
-    rw (here, int_begins a i (k ++ rest) is, int_again a i (k ++ rest) is further, past_some k rest blank) refl
+    let further : begins is_digit (k ++ rest) ≡ false = ends_digits (k ++ rest) (rw (past_through is_blank k rest blank) ends) in
+    rw (here, int_first begins_int true a i (k ++ rest) (λ c e. e) is, int_again a i (k ++ rest) is further, past_through is_blank k rest blank) refl
 
 step_again : (e : Option ℤ) (t rest : List ℕ) → IsSliceStep e t → Follows ends_selector rest → step_at (past_blanks (t ++ rest)) ≡ Ok (e, past_blanks rest)
-unfolding step_at
 step_again None t rest (inl e) closes = rw (e, no_colon rest closes) refl
 step_again None t rest (inr e) closes = rw e (bound_again None [] rest refl (closed_ends rest closes))
 step_again (Some i) t rest (k, a, blank, is, e) closes =
-    rw (e, append_assoc k a rest, past_some k (a ++ rest) blank) (bound_again (Some i) a rest (a, [], is, tt, sym (append-nil a)) (closed_ends rest closes))
+    rw (e, append_assoc k a rest, past_through is_blank k (a ++ rest) blank) (bound_again (Some i) a rest (a, [], is, tt, sym (append-nil a)) (closed_ends rest closes))
 
 step_ends : (e : Option ℤ) (t rest : List ℕ) → IsSliceStep e t → Follows ends_selector rest → Ends (t ++ rest)
 step_ends None t rest (inl e) closes = subst (λ (l : List ℕ). Ends (l ++ rest)) (sym e) (closed_ends rest closes)
@@ -89,14 +78,12 @@ step_ends (Some i) t rest (k, a, blank, is, e) closes = subst (λ (l : List ℕ)
 -- after the first colon
 parts_again : (start end step : Option ℤ) (k b c rest : List ℕ) → IsBlank k → IsBound end b → IsSliceStep step c → Follows ends_selector rest
     → slice_at start (k ++ (b ++ (c ++ rest))) ≡ Ok (record { start = start; end = end; step = step }, past_blanks rest)
-unfolding slice_at
 parts_again start end step k b c rest blank second third closes =
-    rw (past_some k (b ++ (c ++ rest)) blank, bound_again end b (c ++ rest) second (step_ends step c rest third closes), step_again step c rest third closes) refl
+    rw (past_through is_blank k (b ++ (c ++ rest)) blank, bound_again end b (c ++ rest) second (step_ends step c rest third closes), step_again step c rest third closes) refl
 
 begun_again : (t k : List ℕ) (i : ℤ) (rest : List ℕ) (s : Slice) (after : List ℕ) → IsInt t i → IsBlank k → slice_at (Some i) rest ≡ Ok (s, after) → position_at (t ++ (k ++ (58 ∷ rest))) ≡ Ok (slice s, after)
-unfolding position_at
 begun_again t k i rest s after is blank read =
-    let colon : past_blanks (k ++ (58 ∷ rest)) ≡ 58 ∷ rest = past_some k (58 ∷ rest) blank in
+    let colon : past_blanks (k ++ (58 ∷ rest)) ≡ 58 ∷ rest = past_through is_blank k (58 ∷ rest) blank in
     let further = ends_digits (k ++ (58 ∷ rest)) (ap (begins begins_int) colon) in
     rw (int_again t i (k ++ (58 ∷ rest)) is further, colon, read) refl
 
@@ -113,16 +100,10 @@ slice_no_blank t s rest (a, k, b, c, first, blank, second, third, e) = by_start 
 -- the same as selectors
 module _ (filter_at : List ℕ → Parsed Selector) where
   at_position : (t : List ℕ) (i : ℤ) (rest : List ℕ) → IsInt t i → selector_at filter_at (t ++ rest) ≡ position_at (t ++ rest)
-  unfolding selector_at
   at_position t i rest is = rw (int_not 39 t i rest refl is, int_not 34 t i rest refl is, int_not 42 t i rest refl is, int_not 58 t i rest refl is, int_not 63 t i rest refl is) refl
 
   pub index_again : (t : List ℕ) (i : ℤ) (rest : List ℕ) → IsInt t i → Follows ends_selector rest → selector_at filter_at (t ++ rest) ≡ Ok (index i, past_blanks rest)
-  unfolding position_at
   index_again t i rest is closes = at_position t i rest is ∙ rw (int_again t i rest is (ends_digits rest (closed_ends rest closes)), no_colon rest closes) refl
-
-  colon_again : (rest : List ℕ) (s : Slice) (after : List ℕ) → slice_at None rest ≡ Ok (s, after) → selector_at filter_at (58 ∷ rest) ≡ Ok (slice s, after)
-  unfolding selector_at
-  colon_again rest s after read = rw read refl
 
   pub slice_again : (t : List ℕ) (s : Slice) (rest : List ℕ) → IsSlice s t → Follows ends_selector rest → selector_at filter_at (t ++ rest) ≡ Ok (slice s, past_blanks rest)
   slice_again t s rest (a, k, b, c, first, blank, second, third, e) closes = by_start s.start refl first
@@ -138,7 +119,7 @@ module _ (filter_at : List ℕ → Parsed Selector) where
 
       by_start : (start : Option ℤ) → s.start ≡ start → IsBound start a → selector_at filter_at (t ++ rest) ≡ Ok (slice s, past_blanks rest)
       by_start None same none =
-          ap (selector_at filter_at) (here ∙ ap (λ (l : List ℕ). l ++ (58 ∷ (k ++ (b ++ (c ++ rest))))) none) ∙ colon_again (k ++ (b ++ (c ++ rest))) s (past_blanks rest) (parts None same)
+          ap (selector_at filter_at) (here ∙ ap (λ (l : List ℕ). l ++ (58 ∷ (k ++ (b ++ (c ++ rest))))) none) ∙ rw (parts None same) refl
       by_start (Some i) same (n, j, is, gap, text) =
           let tail = 58 ∷ (k ++ (b ++ (c ++ rest))) in
           let begun : t ++ rest ≡ n ++ (j ++ tail) = here ∙ ap (λ (l : List ℕ). l ++ tail) text ∙ append_assoc n j tail in
@@ -146,31 +127,21 @@ module _ (filter_at : List ℕ → Parsed Selector) where
 
 -- ---- member names
 
-start_is_char : (c : ℕ) → is_name_first c ≡ true → is_name_char c ≡ true
-start_is_char c e = rw e refl
-
-name_outcome : (at : declared.Context) (cs : List ℕ) → Outcome IsName Plain cs (name_at at cs)
-unfolding name_at
-name_outcome at cs = guarded BadMemberName at refl (λ e. read_so _ (record {
+name_outcome : (at : Context) (cs : List ℕ) → Outcome IsName Plain cs (name_at at cs)
+name_outcome at cs = guarded BadMemberName at refl (λ e. gives _ (record {
   text = front is_name_char cs;
-  is_so = record { first = front_begins is_name_char is_name_first cs start_is_char e; each = front_each is_name_char cs; bytes_of = refl };
+  is_so = record { first = front_begins is_name_char is_name_first cs (λ c h. rw h refl) e; each = front_each is_name_char cs; bytes_of = refl };
   split = whole is_name_char cs;
 }))
 
-name_again : (here : declared.Context) (t n rest : List ℕ) → IsName t n → begins is_name_char rest ≡ false → name_at here (t ++ rest) ≡ Ok (n, rest)
-unfolding name_at
+name_again : (here : Context) (t n rest : List ℕ) → IsName t n → begins is_name_char rest ≡ false → name_at here (t ++ rest) ≡ Ok (n, rest)
 name_again here t n rest h e = rw (begins_front is_name_first true t rest (some_begun is_name_first t h.first) h.first, front_all is_name_char t rest h.each e, past_run is_name_char t rest h.each e, ← h.bytes_of) refl
 
 -- a name begins with no character that may not begin it
 name_begins_not : (k : ℕ) (t n rest : List ℕ) → is_name_first k ≡ false → IsName t n → begins (λ c. c == k) (t ++ rest) ≡ false
 name_begins_not k t n rest none h = begins_differs is_name_first k (t ++ rest) none (begins_front is_name_first true t rest (some_begun is_name_first t h.first) h.first)
 
-one_of : (cs : List ℕ) → begins opens cs ≡ true → is_at "." cs ≡ false → is_at "[" cs ≡ true
-one_of [] o n = absurd cc
-one_of (c ∷ cs) o n = sym (rw n refl) ∙ o
-
-dotted_again : (here : declared.Context) (t n rest : List ℕ) → IsName t n → begins is_name_char rest ≡ false → dotted_at here (t ++ rest) ≡ Ok (dot_name n, rest)
-unfolding dotted_at
+dotted_again : (here : Context) (t n rest : List ℕ) → IsName t n → begins is_name_char rest ≡ false → dotted_at here (t ++ rest) ≡ Ok (dot_name n, rest)
 dotted_again here t n rest h e = rw (name_begins_not 42 t n rest refl h, name_again here t n rest h e) refl
 
 abbrev pub segments_in : Segments → List (SegmentKind × Segment)
@@ -180,10 +151,6 @@ segments_in (segment kind seg more) = (kind, seg) ∷ segments_in more
 pub same_segments : (segs : Segments) → segment_list (segments_in segs) ≡ segs
 same_segments no_segments = refl
 same_segments (segment kind seg more) = ap (segment kind seg) (same_segments more)
-
--- where no segment begins there is none
-pub no_segments_read : (filter_at : List ℕ → Parsed Selector) (here : declared.Context) (cs : List ℕ) → opens_next cs ≡ false → segments_at filter_at here cs ≡ Ok ([], cs)
-no_segments_read filter_at here cs e = m.many_end opens_next (next_segment_at filter_at here) cs e
 
 -- ---- selectors and brackets: what a reading gives
 
@@ -200,7 +167,6 @@ module _ (signature : List ℕ → Option Signature) (n : ℕ) (deeper : Deeper)
       inner (along (after_one quote cs e) (made_spaced (λ bytes. name bytes) (λ t bytes h. ((tt, omega arith), h)) (string_outcome quote is (drop 1 cs))))
 
   pub selector_outcome : (cs : List ℕ) → Outcome (Spaced IsText) (Inner signature) cs (selector_at filters cs)
-  unfolding selector_at
   selector_outcome cs =
       choose (quoted_outcome 39 cs (inl refl)) (λ _.
       choose (quoted_outcome 34 cs (inr refl)) (λ _.
@@ -211,11 +177,10 @@ module _ (signature : List ℕ → Option Signature) (n : ℕ) (deeper : Deeper)
   -- ---- each selector is read
 
   quoted_again : (quote : ℕ) (cs bytes rest : List ℕ) → IsQuote quote → string_at quote cs ≡ Ok (bytes, rest) → selector_at filters (quote ∷ cs) ≡ Ok (name bytes, past_blanks rest)
-  unfolding selector_at quoted_at
+  unfolding quoted_at
   quoted_again quote cs bytes rest is e = of_quote (λ q. string_at q cs ≡ Ok (bytes, rest) → selector_at filters (q ∷ cs) ≡ Ok (name bytes, past_blanks rest)) (λ e. rw e refl) (λ e. rw e refl) quote is e
 
   pub selector_again : (t : List ℕ) (sel : Selector) (rest : List ℕ) → IsText t sel → Follows ends_selector rest → selector_at filters (t ++ rest) ≡ Ok (sel, past_blanks rest)
-  unfolding selector_at
   selector_again t (name bytes) rest h e =
       let s = string_again t bytes rest h.1 in
       rw s.3 (quoted_again s.0 (s.1 ++ rest) bytes rest s.2 s.4)
@@ -237,16 +202,9 @@ module _ (signature : List ℕ → Option Signature) (n : ℕ) (deeper : Deeper)
   -- ---- the selectors of a bracket
 
   selector_row : RowLaw signature 44 [] IsText (selector_at filters) ends_selectors
-  selector_row = record {
-    outcome = selector_outcome;
-    again = selector_again;
-    starts = begins_no_blank;
-    sign_no_blank = refl;
-    sign_no_end = refl;
-  }
+  selector_row = record { outcome = selector_outcome; again = selector_again; starts = begins_no_blank; sign_no_blank = refl; sign_no_end = refl }
 
-  pub next_selector_takes : m.Takes (is_at ",") (next_selector_at filters)
-  unfolding next_selector_at
+  pub next_selector_takes : Takes (is_at ",") (next_selector_at filters)
   next_selector_takes = next_takes selector_row
 
   abbrev AreTyped : Selectors → Type 0
@@ -259,7 +217,6 @@ module _ (signature : List ℕ → Option Signature) (n : ℕ) (deeper : Deeper)
       (((is.0.0, more.0.0), omega (arith, is.0.1, more.0.1)), (s, a, c, sign, is.1, more.1, e))
 
   selectors_outcome : (cs : List ℕ) → Outcome (Spaced (λ t sels. AreTyped (selector_list sels) × ReadSelectors (selector_list sels) t)) (Inner signature) (past_blanks cs) (selectors_at filters cs)
-  unfolding selectors_at next_selector_at
   selectors_outcome cs = onward (selector_outcome (past_blanks cs)) (λ s _ first.
       row_outcome selector_row (λ sels. sels) (λ sel sels t c is rows.
       let more = more_selectors sels c rows in
@@ -274,14 +231,13 @@ module _ (signature : List ℕ → Option Signature) (n : ℕ) (deeper : Deeper)
   -- ---- the bracket
 
   pub bracket_outcome : (kind : SegmentKind) (cs : List ℕ) → Outcome (IsSegmentText signature n kind) (Inner signature) (dots_before_bracket kind ++ (91 ∷ cs)) (bracket_at filters cs)
-  unfolding bracket_at
   bracket_outcome kind cs =
       let dots = dots_before_bracket kind in
       let j = blanks_of cs in
-      past_text (dots ++ (91 ∷ j)) (ap (λ (l : List ℕ). dots ++ (91 ∷ l)) (split_blanks cs) ∙ sym (append_assoc dots (91 ∷ j) (past_blanks cs))) (after (selectors_outcome cs) (λ ss _ r.
+      past_text (dots ++ (91 ∷ j)) (ap (λ (l : List ℕ). dots ++ (91 ∷ l)) (whole is_blank cs) ∙ sym (append_assoc dots (91 ∷ j) (past_blanks cs))) (after (selectors_outcome cs) (λ ss _ r.
       let a = r.is_so.0 in
       let k = r.is_so.1 in
-      guarded ExpectedClosingBracket context.LongHand (inl refl) (λ e. read_so (long_hand (selector_list ss.0), drop 1 ss.1) (record {
+      guarded ExpectedClosingBracket LongHand (inl refl) (λ e. gives (long_hand (selector_list ss.0), drop 1 ss.1) (record {
         text = 93 ∷ [];
         is_so = (
           r.is_so.2.0,
@@ -289,7 +245,7 @@ module _ (signature : List ℕ → Option Signature) (n : ℕ) (deeper : Deeper)
             j,
             a,
             k,
-            are_blank cs,
+            front_each is_blank cs,
             r.is_so.2.1,
             r.is_so.3,
             ap (λ (l : List ℕ). (dots ++ (91 ∷ j)) ++ (l ++ 93 ∷ [])) r.is_so.4 ∙ append_assoc dots (91 ∷ j) ((a ++ k) ++ 93 ∷ []) ∙ ap (λ (l : List ℕ). dots ++ (91 ∷ (j ++ l))) (append_assoc a k (93 ∷ [])),
@@ -300,35 +256,32 @@ module _ (signature : List ℕ → Option Signature) (n : ℕ) (deeper : Deeper)
 
   -- after `[`
   pub bracket_again : (sels : Selectors) (j t k rest : List ℕ) → IsBlank j → ReadSelectors sels t → IsBlank k → AreTyped sels → bracket_at filters ((j ++ (t ++ (k ++ 93 ∷ []))) ++ rest) ≡ Ok (long_hand sels, rest)
-  unfolding bracket_at selectors_at next_selector_at
   bracket_again no_selectors j t k rest before is after good = absurd is
   bracket_again (selector sel more) j t k rest before (a, c, is, others, e) after good =
       let closing = k ++ (93 ∷ rest) in
-      let closed : past_blanks closing ≡ 93 ∷ rest = past_all k (93 ∷ rest) after refl in
+      let closed : past_blanks closing ≡ 93 ∷ rest = past_run is_blank k (93 ∷ rest) after refl in
       let first : IsText a sel = ((good.0.0, omega (arith, good.1)), is) in
       let rows = selector_rows more c (good.0.1, omega (arith, good.1)) others in
       let begun : past_blanks (j ++ (t ++ closing)) ≡ t ++ closing =
-      rw (e, append_assoc a c closing) (past_all j (a ++ (c ++ closing)) before (begins_no_blank a sel (c ++ closing) first)) in
+      rw (e, append_assoc a c closing) (past_run is_blank j (a ++ (c ++ closing)) before (begins_no_blank a sel (c ++ closing) first)) in
       let read = row_again selector_row (λ sels. sels) sel rows.0 t a c closing first rows.2 e (ap (begins ends_selectors) closed) in
       ap (bracket_at filters) (spread j t k (codes "]") rest) ∙ rw (begun, read, closed, rows.1) refl
 
   -- ---- segments that stand here
 
-  module _ (here : declared.Context) where
+  module _ (here : Context) where
     -- a good segment of that kind
     abbrev IsSegment : SegmentKind → List ℕ → Segment → Type 0
     IsSegment kind t seg = IsSegmentText signature n kind t seg
 
     -- ---- after the dots
 
-    dotted_outcome : (kind : SegmentKind) (at : declared.Context) (cs : List ℕ) → Outcome (IsSegment kind) Plain (dots_before_name kind ++ cs) (dotted_at at cs)
-    unfolding dotted_at
+    dotted_outcome : (kind : SegmentKind) (at : Context) (cs : List ℕ) → Outcome (IsSegment kind) Plain (dots_before_name kind ++ cs) (dotted_at at cs)
     dotted_outcome kind at cs =
         past_text (dots_before_name kind) refl
-        (choose (λ e. read_so (dot_wildcard, drop 1 cs) (record { text = 42 ∷ []; is_so = ((tt, omega arith), refl); split = after_one 42 cs e })) (λ _. made (λ n. dot_name n) (λ t n is. ((tt, omega arith), (t, is, refl))) (name_outcome at cs)))
+        (choose (λ e. gives (dot_wildcard, drop 1 cs) (record { text = 42 ∷ []; is_so = ((tt, omega arith), refl); split = after_one 42 cs e })) (λ _. made (λ n. dot_name n) (λ t n is. ((tt, omega arith), (t, is, refl))) (name_outcome at cs)))
 
     descendant_outcome : (cs : List ℕ) → Outcome (IsSegment descendant) (Inner signature) (46 ∷ 46 ∷ cs) (descendant_at filters here cs)
-    unfolding descendant_at
     descendant_outcome cs =
         choose (λ e. along (ap (λ (l : List ℕ). 46 ∷ 46 ∷ l) (after_one 91 cs e)) (bracket_outcome descendant (drop 1 cs))) (λ _. inner (dotted_outcome descendant here cs))
 
@@ -339,24 +292,21 @@ module _ (signature : List ℕ → Option Signature) (n : ℕ) (deeper : Deeper)
     IsItem t x = IsSegment x.0 t x.1
 
     dot_outcome : (cs : List ℕ) → Outcome IsItem (Inner signature) (46 ∷ cs) (dot_at filters here cs)
-    unfolding dot_at
     dot_outcome cs =
         choose (λ e. along (ap (λ (l : List ℕ). 46 ∷ l) (after_one 46 cs e)) (made (λ s. (descendant, s)) (λ t s is. is) (descendant_outcome (drop 1 cs)))) (λ _.
         made (λ s. (child, s)) (λ t s is. is) (inner (dotted_outcome child (after_dot here) cs)))
 
     segment_outcome : (cs : List ℕ) → begins opens cs ≡ true → Outcome IsItem (Inner signature) cs (segment_at filters here cs)
-    unfolding segment_at
     segment_outcome cs o =
         choose (λ e. along (after_one 46 cs e) (dot_outcome (drop 1 cs))) (λ e.
-        along (after_one 91 cs (one_of cs o e)) (made (λ s. (child, s)) (λ t s is. is) (bracket_outcome child (drop 1 cs))))
+        along (after_one 91 cs (begins_other 46 91 cs o e)) (made (λ s. (child, s)) (λ t s is. is) (bracket_outcome child (drop 1 cs))))
 
     -- blanks and a segment
     abbrev pub IsNextItem : List ℕ → (SegmentKind × Segment) → Type 0
     IsNextItem t x = (k a : List ℕ) × IsBlank k × IsItem a x × (t ≡ k ++ a)
 
     next_segment_outcome : (cs : List ℕ) → opens_next cs ≡ true → Outcome IsNextItem (Inner signature) cs (next_segment_at filters here cs)
-    unfolding next_segment_at
-    next_segment_outcome cs o = past_text (blanks_of cs) (split_blanks cs) (weaker (λ t x is. (blanks_of cs, t, are_blank cs, is, refl)) (segment_outcome (past_blanks cs) o))
+    next_segment_outcome cs o = past_text (blanks_of cs) (whole is_blank cs) (weaker (λ t x is. (blanks_of cs, t, front_each is_blank cs, is, refl)) (segment_outcome (past_blanks cs) o))
 
     -- ---- how a segment's text begins
 
@@ -371,7 +321,7 @@ module _ (signature : List ℕ → Option Signature) (n : ℕ) (deeper : Deeper)
     past_next : (t : List ℕ) (x : SegmentKind × Segment) (rest : List ℕ) → (h : IsNextItem t x) → past_blanks (t ++ rest) ≡ h.1 ++ rest
     past_next t x rest (k, a, blank, is, e) =
         ap (λ (l : List ℕ). past_blanks (l ++ rest)) e ∙ ap past_blanks (append_assoc k a rest)
-        ∙ past_all k (a ++ rest) blank (begins_where opens is_blank false (a ++ rest) (λ c o. no_blank opens c refl refl refl refl o) (item_begins a x rest is))
+        ∙ past_run is_blank k (a ++ rest) blank (begins_where opens is_blank false (a ++ rest) (λ c o. no_blank opens c refl refl refl refl o) (item_begins a x rest is))
 
     next_segment_begins : (t : List ℕ) (x : SegmentKind × Segment) (rest : List ℕ) → IsNextItem t x → opens_next (t ++ rest) ≡ true
     next_segment_begins t x rest h = ap (begins opens) (past_next t x rest h) ∙ item_begins h.1 x rest h.3
@@ -385,7 +335,6 @@ module _ (signature : List ℕ → Option Signature) (n : ℕ) (deeper : Deeper)
     -- ---- each segment is read
 
     segment_again : (t : List ℕ) (x : SegmentKind × Segment) (rest : List ℕ) → IsItem t x → begins is_name_char rest ≡ false → segment_at filters here (t ++ rest) ≡ Ok (x, rest)
-    unfolding segment_at dot_at descendant_at dotted_at
     segment_again t (child, dot_name n) rest h e = rw (h.1.2, name_begins_not 46 h.1.0 n rest refl h.1.1, dotted_again (after_dot here) h.1.0 n rest h.1.1 e) refl
     segment_again t (descendant, dot_name n) rest h e = rw (h.1.2, name_begins_not 91 h.1.0 n rest refl h.1.1, dotted_again here h.1.0 n rest h.1.1 e) refl
     segment_again t (child, dot_wildcard) rest h e = rw h.1 refl
@@ -394,7 +343,6 @@ module _ (signature : List ℕ → Option Signature) (n : ℕ) (deeper : Deeper)
     segment_again t (descendant, long_hand sels) rest h e = rw (h.1.6, bracket_again sels h.1.0 h.1.1 h.1.2 rest h.1.3 h.1.4 h.1.5 h.0) refl
 
     next_again : (t : List ℕ) (x : SegmentKind × Segment) (rest : List ℕ) → IsNextItem t x → begins is_name_char rest ≡ false → next_segment_at filters here (t ++ rest) ≡ Ok (x, rest)
-    unfolding next_segment_at
     next_again t x rest h e = ap (segment_at filters here) (past_next t x rest h) ∙ segment_again h.1 x rest h.3 e
 
     -- ---- all segments
@@ -404,15 +352,11 @@ module _ (signature : List ℕ → Option Signature) (n : ℕ) (deeper : Deeper)
         let r = (segment_outcome cs o).reads (x, rest) e in
         omega (arith, ap length r.split, length-append r.text rest, some_begun opens (r.text ++ []) (item_begins r.text x [] r.is_so), length-append r.text [])
 
-    pub next_segment_takes : m.Takes opens_next (next_segment_at filters here)
-    unfolding next_segment_at
+    pub next_segment_takes : Takes opens_next (next_segment_at filters here)
     next_segment_takes = record {
       shorter = λ cs rest x o e. omega (arith, segment_shorter (past_blanks cs) rest x o e, no_longer cs);
       some = λ cs o. omega (arith, some_begun opens (past_blanks cs) o, no_longer cs);
     }
-
-    segments_law : Again IsNextItem opens_next (next_segment_at filters here) (λ rest. begins is_name_char rest ≡ false)
-    segments_law = record { takes = next_segment_takes; again = next_again; starts = next_segment_begins; failures = next_stops }
 
     listed : (t : List ℕ) (ss : List (SegmentKind × Segment)) → Joined IsNextItem t ss → AreSegmentsText signature n t (segment_list ss)
     listed t [] h = ((tt, omega arith), h)
@@ -433,4 +377,5 @@ module _ (signature : List ℕ → Option Signature) (n : ℕ) (deeper : Deeper)
         (k ++ a, b, (k, a, blank, ((good.0.0, omega (arith, good.1)), is), refl), are_joined b more ((good.0.1, omega (arith, good.1)), rest), e ∙ sym (append_assoc k a b))
 
     pub segments_again : (t : List ℕ) (segs : Segments) (rest : List ℕ) → AreSegmentsText signature n t segs → begins is_name_char rest ≡ false → opens_next rest ≡ false → segments_at filters here (t ++ rest) ≡ Ok (segments_in segs, rest)
-    segments_again t segs rest h s e = many_again IsNextItem opens_next (next_segment_at filters here) (λ rest. begins is_name_char rest ≡ false) segments_law t (segments_in segs) rest (are_joined t segs h) s e
+    segments_again t segs rest h s e =
+        many_again (record { takes = next_segment_takes; again = next_again; starts = next_segment_begins; failures = next_stops }) t (segments_in segs) rest (are_joined t segs h) s e

@@ -1,11 +1,7 @@
 -- String literals: what is read is one, each is read, and where a refusal of one stands.
-use Rattle.std.proofs.Common.{◌≡◌, ℕ, ◌≤◌, ◌+◌, ◌*◌, ◌<◌, ◌⊎◌, inl, inr, Bool, true, false, cond, ◌&&◌, List, [], ◌∷◌, ◌++◌, length, drop, Some, Ok, Err, refl, sym, ap, subst, ◌∙◌, append_assoc, arith}
-use Rattle.serde_json_path_parser.proofs.Words.{cases_lt, nat_le, ◌==◌, not, encode_utf8, encode_utf8_all, eq-eqb, and_parts, eqb_tells, length-append, append-nil, ExpectedEndingQuote, BadEscape, ControlCharacter, ◌∈◌, AllPass, is_at, begins, hexadecimal_of, IsHex4, IsPiece, plain, quote_escape, letter_escape, hex_escape, pair_escape, IsQuote, IsString, Parsed, ◌>>=◌, refusal, many, byte_count, is_hexadecimal, hexadecimal_value, head, hexadecimal_at, hex4_at, is_high, is_low, low_at, unicode_at, is_letter_escape, letter_value, escape_at, is_control, piece_at, is_inside, string_at, is_ascii_plain, Stretched, encode_ascii, Failure, Fails}
-use Rattle.serde_json_path_parser.specs.declared.error.Context.TheVariants as context
-use Rattle.serde_json_path_parser.proofs.Texts.{plain_below_128, plain_of}
-use Rattle.serde_json_path_parser.proofs.Reading as m
-use Rattle.serde_json_path_parser.proofs.Reading.{some_begun, after_one, Again, many_again, Plain, OutcomeIn, Outcome, read_so, refused, choose, guarded, past_text, past_in, onward, after, after_in, made, many_outcome}
-use Rattle.serde_json_path_parser.specs.declared.error.Failure.TheVariants as failures
+use Rattle.serde_json_path_parser.proofs.Words.{cases_lt, nat_le, ◌==◌, not, encode_utf8, encode_utf8_all, eq-eqb, and_parts, eqb_tells, length-append, append-nil, ExpectedEndingQuote, BadEscape, ControlCharacter, ◌∈◌, AllPass, is_at, begins, hexadecimal_of, IsHex4, IsPiece, plain, quote_escape, letter_escape, hex_escape, pair_escape, IsQuote, IsString, Parsed, ◌>>=◌, refusal, many, byte_count, is_hexadecimal, hexadecimal_value, head, hexadecimal_at, hex4_at, is_high, is_low, low_at, unicode_at, is_letter_escape, letter_value, escape_at, is_control, piece_at, is_inside, string_at, is_ascii_plain, Stretched, encode_ascii, Failure, Fails, ◌≡◌, ℕ, ◌≤◌, ◌+◌, ◌*◌, ◌<◌, ◌⊎◌, inl, inr, Bool, true, false, cond, ◌&&◌, List, [], ◌∷◌, ◌++◌, length, drop, Some, Ok, Err, refl, sym, ap, subst, ◌∙◌, append_assoc, arith, LongHand, Memory, Refused, is_plain}
+use Rattle.serde_json_path_parser.proofs.Texts.{ascii_that}
+use Rattle.serde_json_path_parser.proofs.Reading.{some_begun, after_one, Again, many_again, Plain, OutcomeIn, Outcome, gives, refused, choose, guarded, past_text, past_in, onward, after, after_in, made, many_outcome, Takes, many_end, many_err, many_more, with_front}
 
 -- ---- what a reading gives: hexadecimal digits
 
@@ -20,13 +16,11 @@ abbrev IsHexDigit : List ℕ → ℕ → Type 0
 IsHexDigit t n = (c : ℕ) × (t ≡ c ∷ []) × (hexadecimal_of c ≡ Some n)
 
 hexadecimal_outcome : (escape cs : List ℕ) → OutcomeIn IsHexDigit Plain escape cs (hexadecimal_at (byte_count escape) cs)
-unfolding hexadecimal_at
-hexadecimal_outcome escape cs = guarded BadEscape context.LongHand refl (λ e.
+hexadecimal_outcome escape cs = guarded BadEscape LongHand refl (λ e.
     let first = first_is is_hexadecimal cs e in
-    read_so _ (record { text = head cs ∷ []; is_so = (head cs, refl, hexadecimal_is (head cs) first.1); split = first.0 }))
+    gives _ (record { text = head cs ∷ []; is_so = (head cs, refl, hexadecimal_is (head cs) first.1); split = first.0 }))
 
 hex4_outcome : (escape cs : List ℕ) → OutcomeIn IsHex4 Plain escape cs (hex4_at (byte_count escape) cs)
-unfolding hex4_at
 hex4_outcome escape cs =
     after_in (hexadecimal_outcome escape cs) (λ a _ p.
     after_in (hexadecimal_outcome escape a.1) (λ b _ q.
@@ -66,21 +60,19 @@ slash_and_u cs slash letter = after_one 92 cs slash ∙ ap (λ (l : List ℕ). 9
 -- after a high surrogate, of these digits
 low_outcome : (quote : ℕ) (escape t : List ℕ) (high : ℕ) (cs : List ℕ) → IsHex4 t high → is_high high ≡ true
     → OutcomeIn (λ u c. IsPiece quote (92 ∷ 117 ∷ (t ++ u)) c) Plain escape cs (low_at (byte_count escape) high cs)
-unfolding low_at
 low_outcome quote escape t high cs first h =
-    guarded BadEscape context.LongHand refl (λ slash.
-    guarded BadEscape context.LongHand refl (λ letter.
+    guarded BadEscape LongHand refl (λ slash.
+    guarded BadEscape LongHand refl (λ letter.
     past_in (92 ∷ 117 ∷ []) (slash_and_u cs slash letter) (onward (hex4_outcome escape (drop 1 (drop 1 cs))) (λ l _ second.
-    guarded BadEscape context.LongHand refl (λ low.
-    read_so _ (record { text = second.text; is_so = pair_escape t second.text high l.0 first second.is_so (range_of 0xd800 0xdbff high h) (range_of 0xdc00 0xdfff l.0 low); split = second.split }))))))
+    guarded BadEscape LongHand refl (λ low.
+    gives _ (record { text = second.text; is_so = pair_escape t second.text high l.0 first second.is_so (range_of 0xd800 0xdbff high h) (range_of 0xdc00 0xdfff l.0 low); split = second.split }))))))
 
 -- after a backslash and `u`
 unicode_outcome : (quote : ℕ) (escape cs : List ℕ) → OutcomeIn (λ t c. IsPiece quote (92 ∷ 117 ∷ t) c) Plain escape cs (unicode_at (byte_count escape) cs)
-unfolding unicode_at
 unicode_outcome quote escape cs = onward (hex4_outcome escape cs) (λ h _ first.
     choose (λ high. past_in first.text first.split (low_outcome quote escape first.text h.0 h.1 first.is_so high)) (λ high.
-    choose (λ _. refused BadEscape context.LongHand refl) (λ low.
-    read_so _ (record { text = first.text; is_so = hex_escape first.text h.0 first.is_so (scalar_of h.0 high low); split = first.split }))))
+    choose (λ _. refused BadEscape LongHand refl) (λ low.
+    gives _ (record { text = first.text; is_so = hex_escape first.text h.0 first.is_so (scalar_of h.0 high low); split = first.split }))))
 
 -- a fact of both quotes
 pub of_quote : (Fact : ℕ → Type 0) → Fact 39 → Fact 34 → (quote : ℕ) → IsQuote quote → Fact quote
@@ -94,41 +86,37 @@ letter_sound quote letter is e = elim (eqb_tells letter quote) [
 ]
 
 escape_outcome : (quote : ℕ) (cs : List ℕ) → IsQuote quote → is_at "\\" cs ≡ true → Outcome (IsPiece quote) Plain cs (escape_at quote cs)
-unfolding escape_at
 escape_outcome quote cs is slash =
     choose (λ e. past_in (92 ∷ 117 ∷ []) (slash_and_u cs slash e) (unicode_outcome quote cs (drop 1 (drop 1 cs)))) (λ _.
-    guarded BadEscape context.LongHand refl (λ e.
+    guarded BadEscape LongHand refl (λ e.
     let first = first_is (is_letter_escape quote) (drop 1 cs) e in
-    read_so _ (record {
+    gives _ (record {
       text = 92 ∷ head (drop 1 cs) ∷ [];
       is_so = letter_sound quote (head (drop 1 cs)) is first.1;
       split = after_one 92 cs slash ∙ ap (λ (l : List ℕ). 92 ∷ l) first.0;
     })))
 
 piece_outcome : (quote : ℕ) → IsQuote quote → (cs : List ℕ) → begins (is_inside quote) cs ≡ true → Outcome (IsPiece quote) Plain cs (piece_at quote cs)
-unfolding piece_at
 piece_outcome quote is [] i = absurd cc
 piece_outcome quote is (c ∷ cs) i =
     choose (λ e. escape_outcome quote (c ∷ cs) is e) (λ slash.
-    choose (λ _. refused ControlCharacter context.LongHand refl) (λ control.
-    read_so (c, cs) (record { text = c ∷ []; is_so = plain c (grind (arith, i, slash, control)); split = refl })))
+    choose (λ _. refused ControlCharacter LongHand refl) (λ control.
+    gives (c, cs) (record { text = c ∷ []; is_so = plain c (grind (arith, i, slash, control)); split = refl })))
 
 -- after the opening quote
 pub string_outcome : (quote : ℕ) → IsQuote quote → (cs : List ℕ) → Outcome IsString Plain (quote ∷ cs) (string_at quote cs)
-unfolding string_at many
+unfolding many
 string_outcome quote is cs =
     past_text (quote ∷ []) refl (after (many_outcome (IsPiece quote) Plain (begins (is_inside quote)) (piece_at quote) (piece_outcome quote is) (length cs) cs) (λ s _ r.
-    guarded ExpectedEndingQuote context.LongHand refl (λ e.
-    read_so _ (record { text = quote ∷ []; is_so = (quote, r.text, s.0, is, r.is_so, refl, refl); split = after_one quote s.1 e }))))
+    guarded ExpectedEndingQuote LongHand refl (λ e.
+    gives _ (record { text = quote ∷ []; is_so = (quote, r.text, s.0, is, r.is_so, refl, refl); split = after_one quote s.1 e }))))
 
 -- ---- each string is read
 
 hexadecimal_again : (escape rest : List ℕ) (c n : ℕ) → hexadecimal_of c ≡ Some n → hexadecimal_at (byte_count escape) (c ∷ rest) ≡ Ok (n, rest)
-unfolding hexadecimal_at
 hexadecimal_again escape rest c n e = grind (arith, e)
 
 hex4_again : (escape t : List ℕ) (n : ℕ) (rest : List ℕ) → IsHex4 t n → hex4_at (byte_count escape) (t ++ rest) ≡ Ok (n, rest)
-unfolding hex4_at
 hex4_again escape t n rest (a, b, c, d, p, q, r, s, text, first, second, third, fourth, value) =
     ap (λ (l : List ℕ). hex4_at (byte_count escape) (l ++ rest)) text
     ∙ rw (
@@ -142,7 +130,6 @@ no_surrogate : (n : ℕ) → (n < 0xd800) ⊎ (0xdfff < n) → (is_high n ≡ fa
 no_surrogate n side = (grind (arith, side), grind (arith, side))
 
 piece_again : (quote : ℕ) → IsQuote quote → (t : List ℕ) (c : ℕ) (rest : List ℕ) → IsPiece quote t c → piece_at quote (t ++ rest) ≡ Ok (c, rest)
-unfolding piece_at escape_at unicode_at low_at
 piece_again quote is t c rest (plain d e) =
     let slash : (d == 92) ≡ false = grind (arith, e) in
     let control : is_control d ≡ false = grind (arith, e) in
@@ -160,36 +147,23 @@ piece_begins : (quote : ℕ) → IsQuote quote → (t : List ℕ) (c : ℕ) (res
 piece_begins quote is t c rest (plain d e) = grind (arith, e)
 piece_begins quote is t c rest _ = of_quote (λ quote. is_inside quote 92 ≡ true) refl refl quote is
 
-piece_some : (quote : ℕ) (t : List ℕ) (c : ℕ) → IsPiece quote t c → 0 < length t
-piece_some quote t c (plain d e) = omega arith
-piece_some quote t c _ = omega arith
-
-pub piece_takes : (quote : ℕ) → IsQuote quote → m.Takes (begins (is_inside quote)) (piece_at quote)
+pub piece_takes : (quote : ℕ) → IsQuote quote → Takes (begins (is_inside quote)) (piece_at quote)
 piece_takes quote is = record {
   shorter = λ cs rest x i e.
       let r = (piece_outcome quote is cs i).reads (x, rest) e in
-      let some = piece_some quote r.text x r.is_so in
-      let sum = ap length r.split ∙ length-append r.text rest in
-      omega (arith, some, sum);
+      omega (arith, ap length r.split, length-append r.text rest, some_begun (is_inside quote) (r.text ++ []) (piece_begins quote is r.text x [] r.is_so), length-append r.text []);
   some = λ cs i. some_begun (is_inside quote) cs i;
-}
-
-pieces_law : (quote : ℕ) → IsQuote quote → Again (IsPiece quote) (begins (is_inside quote)) (piece_at quote) (λ rest. Unit {0})
-pieces_law quote is = record {
-  takes = piece_takes quote is;
-  again = λ t x rest h failures. piece_again quote is t x rest h;
-  starts = piece_begins quote is;
-  failures = λ t x rest h. tt;
 }
 
 -- a string is read after its opening quote
 pub string_again : (t bytes rest : List ℕ) → IsString t bytes → (quote : ℕ) × (inner : List ℕ) × IsQuote quote × (t ≡ quote ∷ inner) × (string_at quote (inner ++ rest) ≡ Ok (bytes, rest))
-unfolding string_at
 string_again t bytes rest (quote, inside, characters, is, pieces, text, value) =
     let inner = inside ++ (quote ∷ []) in
     let same = eq-eqb quote quote refl in
     let ends : is_inside quote quote ≡ false = rw same refl in
-    let read = many_again (IsPiece quote) (begins (is_inside quote)) (piece_at quote) (λ rest. Unit {0}) (pieces_law quote is) inside characters (quote ∷ rest) pieces tt ends in
+    let law : Again (IsPiece quote) (begins (is_inside quote)) (piece_at quote) (λ rest. Unit {0}) =
+    record { takes = piece_takes quote is; again = λ t x rest h stops. piece_again quote is t x rest h; starts = piece_begins quote is; failures = λ t x rest h. tt } in
+    let read = many_again law inside characters (quote ∷ rest) pieces tt ends in
     (quote, inner, is, text, ap (string_at quote) (append_assoc inside (quote ∷ []) rest) ∙ rw (read, same) (ap (λ (b : List ℕ). Ok (b, rest)) (sym value)))
 
 -- ---- piece by piece, as the loop of the code meets them
@@ -197,11 +171,11 @@ string_again t bytes rest (quote, inside, characters, is, pieces, text, value) =
 -- the text so far, and what is read of the pieces to come up to the ending quote
 abbrev pub with_text : ℕ → List ℕ → Parsed (List ℕ) → Parsed (List ℕ)
 with_text quote before read = read >>= λ s.
-    cond (begins (λ c. c == quote) s.1) (Ok (before ++ encode_utf8_all s.0, drop 1 s.1)) (Err (refusal ExpectedEndingQuote context.LongHand s.1))
+    cond (begins (λ c. c == quote) s.1) (Ok (before ++ encode_utf8_all s.0, drop 1 s.1)) (Err (refusal ExpectedEndingQuote LongHand s.1))
 
-joined : (quote : ℕ) (before : List ℕ) (x : ℕ) (read : Parsed (List ℕ)) → with_text quote before (m.with_front (x ∷ []) read) ≡ with_text quote (before ++ encode_utf8 x) read
+joined : (quote : ℕ) (before : List ℕ) (x : ℕ) (read : Parsed (List ℕ)) → with_text quote before (with_front (x ∷ []) read) ≡ with_text quote (before ++ encode_utf8 x) read
 joined quote before x (Ok r) =
-    ap (λ (l : List ℕ). cond (begins (λ c. c == quote) r.1) (Ok (l, drop 1 r.1)) (Err (refusal ExpectedEndingQuote context.LongHand r.1)))
+    ap (λ (l : List ℕ). cond (begins (λ c. c == quote) r.1) (Ok (l, drop 1 r.1)) (Err (refusal ExpectedEndingQuote LongHand r.1)))
     (sym (append_assoc before (encode_utf8 x) (encode_utf8_all r.0)))
 joined quote before x (Err f) = refl
 
@@ -212,17 +186,17 @@ module _ (quote : ℕ) (is : IsQuote quote) where
   pub goes_on : (before : List ℕ) (x : ℕ) (cs rest : List ℕ) (total : Parsed (List ℕ)) → begins (is_inside quote) cs ≡ true → piece_at quote cs ≡ Ok (x, rest)
       → with_text quote before (pieces cs) ≡ total → with_text quote (before ++ encode_utf8 x) (pieces rest) ≡ total
   goes_on before x cs rest total t e h =
-      sym (ap (with_text quote before) (m.many_more (begins (is_inside quote)) (piece_at quote) (piece_takes quote is) cs rest x t e) ∙ joined quote before x (pieces rest)) ∙ h
+      sym (ap (with_text quote before) (many_more (begins (is_inside quote)) (piece_at quote) (piece_takes quote is) cs rest x t e) ∙ joined quote before x (pieces rest)) ∙ h
 
   -- the same over characters that stand for themselves
   over_plain : (part before rest : List ℕ) (total : Parsed (List ℕ)) → AllPass (is_ascii_plain quote) part
       → with_text quote before (pieces (part ++ rest)) ≡ total → with_text quote (before ++ part) (pieces rest) ≡ total
   over_plain [] before rest total each h = ap (λ (l : List ℕ). with_text quote l (pieces rest)) (append-nil before) ∙ h
   over_plain (c ∷ part) before rest total each h =
-      let is_one = plain_of quote c each.0 in
+      let is_one = (ascii_that (is_plain quote) c each.0).1 in
       let inside : is_inside quote c ≡ true = (and_parts (nat_le 0x20 c && not (c ∈ "\\")) (is_inside quote c) is_one).1 in
       let one = goes_on before c (c ∷ (part ++ rest)) (part ++ rest) total inside (piece_again quote is (c ∷ []) c (part ++ rest) (plain c is_one)) h in
-      let ascii : encode_utf8 c ≡ c ∷ [] = encode_ascii c (plain_below_128 quote c each.0) in
+      let ascii : encode_utf8 c ≡ c ∷ [] = encode_ascii c ((ascii_that (is_plain quote) c each.0).0) in
       let more = over_plain part (before ++ c ∷ []) rest total each.1 (subst (λ (l : List ℕ). with_text quote (before ++ l) (pieces (part ++ rest)) ≡ total) ascii one) in
       ap (λ (l : List ℕ). with_text quote l (pieces rest)) (sym (append_assoc before (c ∷ []) part)) ∙ more
 
@@ -232,13 +206,13 @@ module _ (quote : ℕ) (is : IsQuote quote) where
       ap (λ (l : List ℕ). with_text quote l (pieces rest)) (s.text done) ∙ over_plain s.part before rest total s.each (sym (ap (λ (l : List ℕ). with_text quote before (pieces l)) s.taken) ∙ h)
 
   pub is_done : (before cs : List ℕ) (total : Parsed (List ℕ)) → begins (is_inside quote) cs ≡ false → with_text quote before (pieces cs) ≡ total
-      → total ≡ cond (begins (λ c. c == quote) cs) (Ok (before, drop 1 cs)) (Err (refusal ExpectedEndingQuote context.LongHand cs))
+      → total ≡ cond (begins (λ c. c == quote) cs) (Ok (before, drop 1 cs)) (Err (refusal ExpectedEndingQuote LongHand cs))
   is_done before cs total t h =
-      sym h ∙ ap (with_text quote before) (m.many_end (begins (is_inside quote)) (piece_at quote) cs t)
-      ∙ ap (λ (l : List ℕ). cond (begins (λ c. c == quote) cs) (Ok (l, drop 1 cs)) (Err (refusal ExpectedEndingQuote context.LongHand cs))) (append-nil before)
+      sym h ∙ ap (with_text quote before) (many_end (begins (is_inside quote)) (piece_at quote) cs t)
+      ∙ ap (λ (l : List ℕ). cond (begins (λ c. c == quote) cs) (Ok (l, drop 1 cs)) (Err (refusal ExpectedEndingQuote LongHand cs))) (append-nil before)
 
   pub fails : (s : Failure) (before cs : List ℕ) (total : Parsed (List ℕ)) → begins (is_inside quote) cs ≡ true → Fails s (piece_at quote cs)
       → with_text quote before (pieces cs) ≡ total → Fails s total
-  fails failures.Memory before cs total t e h = tt
-  fails (failures.Refused f) before cs total t e h =
-      sym h ∙ ap (with_text quote before) (m.many_err (begins (is_inside quote)) (piece_at quote) (piece_takes quote is) cs f t e)
+  fails Memory before cs total t e h = tt
+  fails (Refused f) before cs total t e h =
+      sym h ∙ ap (with_text quote before) (many_err (begins (is_inside quote)) (piece_at quote) (piece_takes quote is) cs f t e)

@@ -1,6 +1,5 @@
 -- A text between single quotes, as it is printed, reads as a string of it.
-use Rattle.std.proofs.Common.{◌≡◌, ◌<◌, ℕ, true, List, [], ◌∷◌, ◌++◌, refl, ap, sym, ◌∙◌, arith, lt-ltb, ◌/◌, ◌%◌, ◌==◌, inl, inr, nat_lt, nat_le, Bool, false, if◌then◌else◌, Option, Some, None, unwrap_or, encode_utf8, subst, append-nil, eqb-true, ltb-true, ltb-false}
-use Rattle.serde_json_path_parser.proofs.Words.{AllByRecursion, IsScalar, encode_utf8_all, all_scalars, and_parts, encodes-append, encode_ascii, flat_map, digit_char, chars, IsUtf8, cases_lt, le-ltb, nat_tests, encodes-chars, scalars-chars, hexadecimal_escape, escape_of, in_quotes, quoted, hexadecimal_of, IsHex4, pair_of, escaped_by, is_plain, IsPiece, plain, quote_escape, letter_escape, hex_escape, pair_escape, ArePieces, IsQuote, IsString}
+use Rattle.serde_json_path_parser.proofs.Words.{AllByRecursion, IsScalar, encode_utf8_all, all_scalars, and_parts, encodes-append, encode_ascii, flat_map, digit_char, chars, IsUtf8, cases_lt, le-ltb, nat_tests, encodes-chars, scalars-chars, hexadecimal_escape, escape_of, in_quotes, quoted, hexadecimal_of, IsHex4, pair_of, escaped_by, is_plain, IsPiece, plain, quote_escape, letter_escape, hex_escape, pair_escape, ArePieces, IsQuote, IsString, ◌≡◌, ◌<◌, ℕ, true, List, [], ◌∷◌, ◌++◌, refl, ap, sym, ◌∙◌, arith, lt-ltb, ◌/◌, ◌%◌, ◌==◌, inl, inr, nat_lt, nat_le, Bool, false, if◌then◌else◌, Option, Some, None, unwrap_or, encode_utf8, subst, append-nil, eqb-true, ltb-true, ltb-false}
 use Rattle.std.proofs.str.Laws.{scalars-append}
 use Rattle.serde_json_path_parser.proofs.Grammar.Strings.{of_quote}
 

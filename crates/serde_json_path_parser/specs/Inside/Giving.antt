@@ -173,9 +173,7 @@ module _ {S : Type 0} {g : Ghosts S} (signature : List ℕ → Option Signature)
   MakesSegments (Err e) reader read = Fails e read
 
   abbrev pub MakesOperand : Result operands.Operand Failure → Reader S g → Parsed Operand → Type 0
-  MakesOperand (Ok o) reader read =
-      (x : Operand) × IsOperandOf signature new o x × (read ≡ Ok (x, left reader)) × Grows signature old new (calls_in_operand x)
-  MakesOperand (Err e) reader read = Fails e read
+  MakesOperand = MakesSo (IsOperandOf signature new) (λ x. Grows signature old new (calls_in_operand x))
 
   -- The call is the one that reading gives, and its result is of that type.
   abbrev pub MakesCall : Result (Part × FunctionArgType) Failure → Reader S g → Parsed Call → Type 0

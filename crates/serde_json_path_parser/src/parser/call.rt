@@ -1,17 +1,10 @@
 //! Calls of functions (RFC 9535, section 2.4).
 
-ghost use Rattle.std.specs.Prelude.{◌≡◌, ◌==◌, ◌<◌, ℕ, List, drop, length, map, true, string_bytes, Option, IfOk};
-ghost use Rattle.serde_json_path_syntax.specs.Parts.{KeepsParts, IsPart};
-ghost use Rattle.serde_json_path_syntax.specs.Piece.{an_argument};
-ghost use Rattle.serde_json_path_functions.specs.Functions.{Signature};
+ghost use Rattle.serde_json_path_parser.specs.Inside.Words.{◌≡◌, ◌==◌, ◌<◌, ℕ, List, drop, length, map, true, string_bytes, Option, IfOk, KeepsParts, IsPart, an_argument, Signature, argument_at, logical_from, ended, MakesArgument, MakesArguments, MakesCall, IsArgumentOf, Gives, MovesTo, at_level, signatures, deeper, left, begins, no_arguments};
 ghost use Rattle.serde_json_path_functions.specs.Terms.{kind_view};
-ghost use Rattle.serde_json_path_parser.specs.Filters.{argument_at, logical_from, ended};
 ghost use Rattle.serde_json_path_parser.specs.Filters as filters;
-ghost use Rattle.serde_json_path_parser.specs.Inside.Giving.{MakesArgument, MakesArguments, MakesCall, IsArgumentOf, Gives, MovesTo, at_level, signatures, deeper, left};
-ghost use Rattle.serde_json_path_parser.specs.Lexical.{begins};
 ghost use Rattle.serde_json_path_parser.specs.Operands as operands;
 ghost use Rattle.serde_json_path_syntax.specs.Tree as tree;
-ghost use Rattle.serde_json_path_syntax.specs.Tree.{no_arguments};
 
 use crate::error::{Context, Failure, ParseErrorKind as Kind};
 use crate::parser::Parser;
@@ -78,7 +71,6 @@ impl Argument {
 /// Parses the end of a call, at its `)`, and the blanks after it. `types` are those of the parameters that have
 /// no argument yet. `place` bytes are left where the call begins.
 #[inline(always)]
-#[tactic(auto, unfolding(crate::specs::Filters::ended))]
 fn parse_end<S: PathSource>(
     reader: &mut Reader<'_, S>,
     place: usize,
@@ -133,7 +125,6 @@ impl<F: Functions> Parser<'_, F> {
     /// Parses the arguments of a call for parameters of these types, after `(` and blanks, and its end. The arguments
     /// are appended to `parts`.
     #[cycle(filters)]
-    #[tactic(auto, unfolding(crate::specs::Filters::parameters_at))]
     fn parse_arguments<S: PathSource>(
         &self,
         builder: &mut SyntaxBuilder,
@@ -177,7 +168,7 @@ impl<F: Functions> Parser<'_, F> {
 
     /// Parses an argument and the blanks after it.
     #[cycle(filters)]
-    #[tactic(auto, unfolding(crate::specs::Filters::argument_at, crate::specs::Filters::logical_from))]
+    #[tactic(auto, unfolding(crate::specs::Filters::argument_at))]
     fn parse_argument<S: PathSource>(
         &self,
         builder: &mut SyntaxBuilder,

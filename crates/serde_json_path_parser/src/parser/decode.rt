@@ -1,11 +1,6 @@
 //! Characters out of bytes.
 
-ghost use Rattle.std.specs.Prelude.{◌≡◌, ◌<◌, ◌≤◌, ◌+◌, ◌-◌, ◌%◌, ◌^◌, length, slice_index, slice_get, drop, Some, None};
-ghost use Rattle.std.specs.Option.{ForSome};
-ghost use Rattle.std.specs.Str.{IsUtf8};
-ghost use Rattle.std.specs.Str.Pattern.{StartsWithChar};
-ghost use Rattle.std.specs.Char.{IsScalar};
-ghost use Rattle.serde_json_path_parser.specs.Inside.Looking.{LooksOn, up_to};
+ghost use Rattle.serde_json_path_parser.specs.Inside.Words.{◌≡◌, ◌<◌, ◌≤◌, ◌+◌, ◌-◌, ◌%◌, ◌^◌, length, slice_index, slice_get, drop, Some, None, ForSome, IsUtf8, StartsWithChar, IsScalar, LooksOn, up_to};
 
 use crate::source::PathSource;
 

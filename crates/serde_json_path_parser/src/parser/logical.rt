@@ -1,17 +1,9 @@
 //! Logical expressions (RFC 9535, section 2.3.5.1).
 
-ghost use Rattle.std.specs.Prelude.{◌≡◌, ◌==◌, ◌<◌, drop, length, true, IfOk};
-ghost use Rattle.serde_json_path_syntax.specs.Calls.{calls_in_and, calls_in_basic};
-ghost use Rattle.serde_json_path_syntax.specs.Parts.{IsPart};
-ghost use Rattle.serde_json_path_syntax.specs.Piece.{an_or, an_and, a_basic};
+ghost use Rattle.serde_json_path_parser.specs.Inside.Words.{◌≡◌, ◌==◌, ◌<◌, drop, length, true, IfOk, calls_in_and, calls_in_basic, IsPart, an_or, an_and, a_basic, paren_at, negated_at, basic_at, and_from, and_at, or_from, or_at, Makes, MakesFrom, IsOperandOf, MovesTo, at_level, signatures, deeper, left, is_at, begins, calls_in_operand, byte_count, past_blanks};
 ghost use Rattle.serde_json_path_syntax.specs.Tree as tree;
-ghost use Rattle.serde_json_path_parser.specs.Filters.{paren_at, negated_at, basic_at, and_from, and_at, or_from, or_at};
 ghost use Rattle.serde_json_path_parser.specs.Filters as filters;
-ghost use Rattle.serde_json_path_parser.specs.Inside.Giving.{Makes, MakesFrom, IsOperandOf, MovesTo, at_level, signatures, deeper, left};
-ghost use Rattle.serde_json_path_parser.specs.Lexical.{is_at, begins};
 ghost use Rattle.serde_json_path_parser.specs.Operands as operands;
-ghost use Rattle.serde_json_path_parser.specs.Operands.{calls_in_operand};
-ghost use Rattle.serde_json_path_parser.specs.Parsed.{byte_count, past_blanks};
 
 use crate::error::{Context, Failure, ParseErrorKind as Kind};
 use crate::parser::Parser;
@@ -48,7 +40,6 @@ impl<F: Functions> Parser<'_, F> {
 
     /// Parses operands of `||`, and the blanks after the last one.
     #[cycle(filters)]
-    #[tactic(auto, unfolding(crate::specs::Filters::or_at))]
     pub(crate) fn parse_logical_or<S: PathSource>(
         &self,
         builder: &mut SyntaxBuilder,
@@ -91,7 +82,6 @@ impl<F: Functions> Parser<'_, F> {
 
     /// Parses operands of `&&`, and the blanks after the last one.
     #[cycle(filters)]
-    #[tactic(auto, unfolding(crate::specs::Filters::and_at))]
     fn parse_logical_and<S: PathSource>(
         &self,
         builder: &mut SyntaxBuilder,
@@ -136,7 +126,6 @@ impl<F: Functions> Parser<'_, F> {
 
     /// Parses an operand of `&&` (a parenthesis, a negation, a comparison or a test), and the blanks after it.
     #[cycle(filters)]
-    #[tactic(auto, unfolding(crate::specs::Filters::basic_at))]
     fn parse_basic<S: PathSource>(
         &self,
         builder: &mut SyntaxBuilder,
@@ -163,7 +152,6 @@ impl<F: Functions> Parser<'_, F> {
 
     /// Parses a comparison or a test after its first operand. `place` bytes are left where that operand begins.
     #[cycle(filters)]
-    #[tactic(auto, unfolding(crate::specs::Filters::basic_from, crate::specs::Filters::relation_at, crate::specs::Filters::right_side_at))]
     pub(crate) fn parse_basic_from<S: PathSource>(
         &self,
         builder: &mut SyntaxBuilder,
@@ -195,7 +183,6 @@ impl<F: Functions> Parser<'_, F> {
 
     /// Parses a parenthesis, from its `(` on, and the blanks after it.
     #[cycle(filters)]
-    #[tactic(auto, unfolding(crate::specs::Filters::paren_at))]
     fn parse_paren<S: PathSource>(
         &self,
         builder: &mut SyntaxBuilder,
@@ -220,7 +207,6 @@ impl<F: Functions> Parser<'_, F> {
     // Inlined into `parse_basic`, it would widen the stack frame of each parenthesis.
     #[inline(never)]
     #[cycle(filters)]
-    #[tactic(auto, unfolding(crate::specs::Filters::negated_at))]
     fn parse_negated<S: PathSource>(
         &self,
         builder: &mut SyntaxBuilder,

@@ -1,16 +1,8 @@
 //! Operands: what a filter compares or tests, read before its use is known (RFC 9535, section 2.3.5.1).
 
-ghost use Rattle.std.specs.Prelude.{◌≡◌, ◌==◌, ◌<◌, ℕ, List, length, true, Option};
+ghost use Rattle.serde_json_path_parser.specs.Inside.Words.{◌≡◌, ◌==◌, ◌<◌, ℕ, List, length, true, Option, KeepsParts, SyntaxBuilder, a_query, a_comparable, a_basic, Signature, query_at, operand_at, comparable_at, named_at, test_at, text_at, Makes, MakesOf, MakesOperand, IsOperandOf, IsNear, MovesTo, at_level, signatures, left, begins, is_small_letter, IsQuote, calls_in_operand};
 ghost use Rattle.serde_json_path_syntax.specs.Flat.{kind_view};
-ghost use Rattle.serde_json_path_syntax.specs.Parts.{KeepsParts};
-ghost use Rattle.serde_json_path_syntax.specs.declared.builder.SyntaxBuilder.{SyntaxBuilder};
-ghost use Rattle.serde_json_path_syntax.specs.Piece.{a_query, a_comparable, a_basic};
-ghost use Rattle.serde_json_path_functions.specs.Functions.{Signature};
-ghost use Rattle.serde_json_path_parser.specs.Filters.{query_at, operand_at, comparable_at, named_at, test_at, text_at};
-ghost use Rattle.serde_json_path_parser.specs.Inside.Giving.{Makes, MakesOf, MakesOperand, IsOperandOf, IsNear, MovesTo, at_level, signatures, left};
-ghost use Rattle.serde_json_path_parser.specs.Lexical.{begins, is_small_letter, IsQuote};
 ghost use Rattle.serde_json_path_parser.specs.Operands as operands;
-ghost use Rattle.serde_json_path_parser.specs.Operands.{calls_in_operand};
 
 use crate::error::{Context, Failure, ParseErrorKind as Kind};
 use crate::parser::Parser;
@@ -57,7 +49,6 @@ fn parse_text<S: PathSource>(
 impl<F: Functions> Parser<'_, F> {
     /// Parses a query in a filter, from its `@` or `$` on, and the blanks after it.
     #[cycle(filters)]
-    #[tactic(auto, unfolding(crate::specs::Filters::query_at))]
     pub(crate) fn parse_query<S: PathSource>(
         &self,
         builder: &mut SyntaxBuilder,
@@ -77,7 +68,7 @@ impl<F: Functions> Parser<'_, F> {
 
     /// Parses what begins with a small letter (a call, `true`, `false` or `null`), and the blanks after it.
     #[cycle(filters)]
-    #[tactic(auto, unfolding(crate::specs::Filters::named_at, crate::specs::Filters::named_call_at, crate::specs::Filters::literal_word_at))]
+    #[tactic(auto, unfolding(crate::specs::Filters::named_call_at))]
     pub(crate) fn parse_named<S: PathSource>(
         &self,
         builder: &mut SyntaxBuilder,
@@ -106,7 +97,6 @@ impl<F: Functions> Parser<'_, F> {
 
     /// Parses an operand and the blanks after it.
     #[cycle(filters)]
-    #[tactic(auto, unfolding(crate::specs::Filters::operand_at))]
     pub(crate) fn parse_operand<S: PathSource>(
         &self,
         builder: &mut SyntaxBuilder,
@@ -140,7 +130,6 @@ impl<F: Functions> Parser<'_, F> {
     }
 
     /// The operand as a side of a comparison. `place` bytes are left where it begins.
-    #[tactic(auto, unfolding(crate::specs::Filters::comparable_at))]
     pub(crate) fn as_comparable<S: PathSource>(
         &self,
         builder: &mut SyntaxBuilder,
@@ -175,7 +164,6 @@ impl<F: Functions> Parser<'_, F> {
     }
 
     /// The operand as a test. `place` bytes are left where it begins.
-    #[tactic(auto, unfolding(crate::specs::Filters::test_at))]
     pub(crate) fn as_test<S: PathSource>(
         &self,
         builder: &mut SyntaxBuilder,

@@ -1,9 +1,6 @@
 //! The whole query.
 
-ghost use Rattle.std.specs.Prelude.{◌≡◌, false, IfErr};
-ghost use Rattle.serde_json_path_parser.specs.Filters.{path_at};
-ghost use Rattle.serde_json_path_parser.specs.Inside.Giving.{GivesQuery, MovesTo, IsRefused, left};
-ghost use Rattle.serde_json_path_parser.specs.Parsing.{opens_after_root};
+ghost use Rattle.serde_json_path_parser.specs.Inside.Words.{◌≡◌, false, IfErr, path_at, GivesQuery, MovesTo, IsRefused, left, opens_after_root};
 
 use crate::error::{Context, Failure, ParseErrorKind as Kind, Refusal};
 use crate::parser::reader::Reader;

@@ -1,14 +1,9 @@
 //! A text that is read character by character, and each byte looked at once.
 
-ghost use Rattle.std.specs.Prelude.{◌≡◌, ◌==◌, ◌<◌, ◌≤◌, ◌+◌, ◌-◌, ◌^◌, ◌∷◌, ℕ, length, slice_get, drop, true, max, None, Some, IfOk, IsTrue, is_ok, string_bytes, ◌++◌};
-ghost use Rattle.std.specs.Str.{is_utf8, chars};
-ghost use Rattle.std.specs.Char.{IsScalar};
-ghost use Rattle.serde_json_path_parser.specs.Inside.Looking.{Stretched, begins_operator, is_ascii, limit_of, IsAhead, IsSecond};
-ghost use Rattle.serde_json_path_parser.specs.Lexical.{begins, begins_both, is_blank, is_digit, is_name_first, is_name_char, is_small_letter, is_function_char};
+ghost use Rattle.std.specs.Prelude.{◌≡◌, ◌<◌, ◌≤◌, ◌+◌, length, slice_get, drop, true};
+ghost use Rattle.std.specs.Str.{is_utf8};
+ghost use Rattle.serde_json_path_parser.specs.Inside.Looking.{limit_of, IsSecond};
 ghost use Rattle.serde_json_path_parser.specs.Source.{greatest_usize};
-ghost use Rattle.serde_json_path_parser.specs.Parsed.{front, past};
-ghost use Rattle.serde_json_path_parser.specs.Numbers.{is_exponent};
-ghost use Rattle.serde_json_path_parser.specs.Strings.{is_hexadecimal, is_letter_escape, is_control, is_inside};
 
 use crate::error::{Context, Failure, ParseErrorKind, Refusal};
 use crate::parser::decode::{byte_at, byte_below, wide_character_at};
@@ -35,12 +30,7 @@ pub(crate) struct Reader<'s, S: PathSource> {
 }
 
 impl<'s, S: PathSource> Reader<'s, S> {
-    ghost use Rattle.std.specs.Str.{encode_utf8_all};
-    ghost use Rattle.serde_json_path_parser.specs.Parsed.{byte_count, refusal, past_blanks};
-    ghost use Rattle.serde_json_path_parser.specs.Parsing.{is_first_digit, begins_int};
-    ghost use Rattle.serde_json_path_parser.specs.Lexical.{opens, ◌∈◌};
-    ghost use Rattle.serde_json_path_parser.specs.Inside.Giving.{told, left, seen, Moves, StopsNear};
-    ghost use Rattle.serde_json_path_parser.specs.Filters.{ends_argument};
+    ghost use Rattle.serde_json_path_parser.specs.Inside.Words.{◌==◌, ◌-◌, ◌^◌, ◌∷◌, ℕ, max, None, Some, IfOk, IsTrue, is_ok, string_bytes, ◌++◌, chars, IsScalar, Stretched, begins_operator, is_ascii, IsAhead, begins, begins_both, is_blank, is_digit, is_name_first, is_name_char, is_small_letter, is_function_char, front, past, is_exponent, is_hexadecimal, is_letter_escape, is_control, is_inside, encode_utf8_all, byte_count, refusal, past_blanks, is_first_digit, begins_int, opens, ◌∈◌, told, left, seen, Moves, StopsNear, ends_argument};
 
     /// A reader at the start of a text.
     pub(crate) fn new(source: &'s mut S) -> Reader<'s, S>

@@ -1,11 +1,6 @@
 //! Segments.
 
-ghost use Rattle.std.specs.Prelude.{◌≡◌, true, ℕ, List, Option, IfErr, false};
-ghost use Rattle.serde_json_path_syntax.specs.Flat.{segment_kind_view};
-ghost use Rattle.serde_json_path_functions.specs.Functions.{Signature};
-ghost use Rattle.serde_json_path_parser.specs.Inside.Giving.{Makes, MakesSegments, segment_piece, MovesTo, IsRefused, filter_at, signatures, left};
-ghost use Rattle.serde_json_path_parser.specs.Lexical.{begins, opens};
-ghost use Rattle.serde_json_path_parser.specs.Parsing.{bracket_at, after_dot, dotted_at, of_kind, segment_at, segments_at, opens_next};
+ghost use Rattle.serde_json_path_parser.specs.Inside.Words.{◌≡◌, true, ℕ, List, Option, IfErr, false, segment_kind_view, Signature, Makes, MakesSegments, segment_piece, MovesTo, IsRefused, filter_at, signatures, left, begins, opens, bracket_at, after_dot, dotted_at, of_kind, segment_at, segments_at, opens_next};
 
 use crate::error::{Context, Failure, ParseErrorKind as Kind};
 use crate::parser::Parser;
@@ -19,7 +14,6 @@ use std::alloc::Global;
 /// Parses what follows the dots of a segment: a member name or `*`.
 // Inlined into `parse_segment`, it would widen the stack frame of each bracket.
 #[inline(never)]
-#[tactic(auto, unfolding(crate::specs::Parsing::dotted_at))]
 fn parse_dotted<S: PathSource>(
     alloc: Global,
     builder: &mut SyntaxBuilder,
@@ -53,7 +47,6 @@ fn after_one_dot(context: Context) -> Context
 impl<F: Functions> Parser<'_, F> {
     /// Parses what follows `[`: selectors and `]`.
     #[cycle(filters)]
-    #[tactic(auto, unfolding(crate::specs::Parsing::bracket_at))]
     fn parse_bracket<S: PathSource>(
         &self,
         builder: &mut SyntaxBuilder,
@@ -76,7 +69,6 @@ impl<F: Functions> Parser<'_, F> {
 
     /// Parses a segment (RFC 9535, section 2.5), from its `.` or `[` on.
     #[cycle(filters)]
-    #[tactic(auto, unfolding(crate::specs::Parsing::segment_at, crate::specs::Parsing::dot_at, crate::specs::Parsing::descendant_at))]
     fn parse_segment<S: PathSource>(
         &self,
         builder: &mut SyntaxBuilder,

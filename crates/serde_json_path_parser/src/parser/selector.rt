@@ -1,11 +1,6 @@
 //! Selectors.
 
-ghost use Rattle.std.specs.Prelude.{◌≡◌, ℕ, List, Option};
-ghost use Rattle.serde_json_path_syntax.specs.Piece.{a_selector};
-ghost use Rattle.serde_json_path_functions.specs.Functions.{Signature};
-ghost use Rattle.serde_json_path_parser.specs.Inside.Giving.{Makes, MakesSelectors, MovesTo, filter_at, signatures, left};
-ghost use Rattle.serde_json_path_parser.specs.Lexical.{begins, IsQuote};
-ghost use Rattle.serde_json_path_parser.specs.Parsing.{position_at, quoted_at, selector_at, selectors_at};
+ghost use Rattle.serde_json_path_parser.specs.Inside.Words.{◌≡◌, ℕ, List, Option, a_selector, Signature, Makes, MakesSelectors, MovesTo, filter_at, signatures, left, begins, IsQuote, position_at, quoted_at, selector_at, selectors_at};
 
 use crate::error::Failure;
 use crate::parser::Parser;
@@ -20,7 +15,6 @@ use std::alloc::Global;
 
 /// Parses an index, or a slice that begins with an integer, and the blanks after it (RFC 9535, sections 2.3.3 and
 /// 2.3.4).
-#[tactic(auto, unfolding(crate::specs::Parsing::position_at))]
 fn parse_index_or_slice<S: PathSource>(
     builder: &mut SyntaxBuilder,
     reader: &mut Reader<'_, S>,
@@ -62,7 +56,6 @@ fn parse_quoted<S: PathSource>(
 impl<F: Functions> Parser<'_, F> {
     /// Parses a selector and the blanks after it (RFC 9535, section 2.3).
     #[cycle(filters)]
-    #[tactic(auto, unfolding(crate::specs::Parsing::selector_at))]
     fn parse_selector<S: PathSource>(
         &self,
         builder: &mut SyntaxBuilder,
@@ -101,7 +94,6 @@ impl<F: Functions> Parser<'_, F> {
     /// Parses the selectors after a bracket, with commas between them and blanks round them (RFC 9535, section
     /// 2.5.1).
     #[cycle(filters)]
-    #[tactic(auto, unfolding(crate::specs::Parsing::selectors_at))]
     pub(crate) fn parse_selectors<S: PathSource>(
         &self,
         builder: &mut SyntaxBuilder,

@@ -1,10 +1,6 @@
 //! Slices.
 
-ghost use Rattle.std.specs.Prelude.{IfOk};
-ghost use Rattle.serde_json_path_syntax.specs.SliceView.{slice_view};
-ghost use Rattle.serde_json_path_syntax.specs.WellFormed.{IsOptionalInteger};
-ghost use Rattle.serde_json_path_parser.specs.Inside.Giving.{Gives, MovesTo, left};
-ghost use Rattle.serde_json_path_parser.specs.Parsing.{bound_at, slice_at};
+ghost use Rattle.serde_json_path_parser.specs.Inside.Words.{IfOk, slice_view, IsOptionalInteger, Gives, MovesTo, left, bound_at, slice_at};
 
 use crate::error::Failure;
 use crate::parser::primitive::int::parse_int;
@@ -13,7 +9,6 @@ use crate::source::PathSource;
 use serde_json_path_syntax::Slice;
 
 /// Parses a bound of a slice and the blanks after it, or nothing.
-#[tactic(auto, unfolding(crate::specs::Parsing::bound_at))]
 fn parse_bound<S: PathSource>(reader: &mut Reader<'_, S>) -> Result<Option<i64>, Failure>
     ensures moves { MovesTo result reader.old reader.new }
     ensures gives { Gives (λ i. i) result reader.new (bound_at (left reader.old)) }
@@ -28,7 +23,6 @@ fn parse_bound<S: PathSource>(reader: &mut Reader<'_, S>) -> Result<Option<i64>,
 }
 
 /// Parses a slice (RFC 9535, section 2.3.4.1) after its start and its first colon, and the blanks after it.
-#[tactic(auto, unfolding(crate::specs::Parsing::slice_at, crate::specs::Parsing::step_at))]
 pub(crate) fn parse_rest_of_slice<S: PathSource>(
     reader: &mut Reader<'_, S>,
     start: Option<i64>,

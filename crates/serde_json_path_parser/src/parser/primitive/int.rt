@@ -1,9 +1,6 @@
 //! Integers.
 
-ghost use Rattle.std.specs.Prelude.{◌≡◌, ◌≤◌, List, ℕ, length, IfOk};
-ghost use Rattle.serde_json_path_syntax.specs.Tree.{largest, IsInteger};
-ghost use Rattle.serde_json_path_parser.specs.Inside.Giving.{Gives, MovesTo, left};
-ghost use Rattle.serde_json_path_parser.specs.Parsing.{digits_at, int_at};
+ghost use Rattle.serde_json_path_parser.specs.Inside.Words.{◌≡◌, ◌≤◌, List, ℕ, length, IfOk, largest, IsInteger, Gives, MovesTo, left, digits_at, int_at};
 
 use crate::error::{Context, Failure, ParseErrorKind as Kind};
 use crate::parser::primitive::decimal::parse_decimal;
@@ -15,7 +12,6 @@ const LARGEST: u128 = 9_007_199_254_740_991;
 
 /// Parses the digits of an integer, at whose first character `place` bytes are left. They are read whole before their
 /// range is checked.
-#[tactic(auto, unfolding(crate::specs::Parsing::digits_at))]
 fn parse_digits<S: PathSource>(reader: &mut Reader<'_, S>, place: usize) -> Result<u64, Failure>
     ensures moves { MovesTo result reader.old reader.new }
     ensures gives { Gives (λ n. n) result reader.new (digits_at place (left reader.old)) }
@@ -29,7 +25,6 @@ fn parse_digits<S: PathSource>(reader: &mut Reader<'_, S>, place: usize) -> Resu
 }
 
 /// Parses an integer of -(2^53 - 1) to 2^53 - 1 (RFC 9535, section 2.3.3.1): an index, or a part of a slice.
-#[tactic(auto, unfolding(crate::specs::Parsing::int_at))]
 pub(crate) fn parse_int<S: PathSource>(reader: &mut Reader<'_, S>) -> Result<i64, Failure>
     ensures moves { MovesTo result reader.old reader.new }
     ensures gives { Gives (λ i. i) result reader.new (int_at (left reader.old)) }

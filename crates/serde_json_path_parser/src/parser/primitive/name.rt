@@ -1,8 +1,6 @@
 //! Member names.
 
-ghost use Rattle.std.specs.Prelude.{◌≡◌, string_bytes};
-ghost use Rattle.serde_json_path_parser.specs.Inside.Giving.{Gives, MovesTo, left};
-ghost use Rattle.serde_json_path_parser.specs.Parsing.{name_at};
+ghost use Rattle.serde_json_path_parser.specs.Inside.Words.{◌≡◌, string_bytes, Gives, MovesTo, left, name_at};
 
 use crate::error::{Context, Failure, ParseErrorKind as Kind};
 use crate::parser::reader::Reader;
@@ -10,7 +8,6 @@ use crate::source::PathSource;
 use std::alloc::Global;
 
 /// Parses a member name (RFC 9535, section 2.5.1.1).
-#[tactic(auto, unfolding(crate::specs::Parsing::name_at))]
 pub(crate) fn parse_name<S: PathSource>(
     alloc: Global,
     reader: &mut Reader<'_, S>,

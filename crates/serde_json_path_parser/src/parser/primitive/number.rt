@@ -1,9 +1,6 @@
 //! Number literals.
 
-ghost use Rattle.std.specs.Prelude.{◌≡◌, ◌≤◌, ◌<◌, ℕ, List, length, IfOk};
-ghost use Rattle.serde_json_path_syntax.specs.Literals.{number_amount};
-ghost use Rattle.serde_json_path_parser.specs.Inside.Giving.{Gives, MovesTo, left};
-ghost use Rattle.serde_json_path_parser.specs.Numbers.{whole_at, fraction_at, amount_at, number_at, capped};
+ghost use Rattle.serde_json_path_parser.specs.Inside.Words.{◌≡◌, ◌≤◌, ◌<◌, ℕ, List, length, IfOk, number_amount, Gives, MovesTo, left, whole_at, fraction_at, amount_at, number_at, capped};
 
 use crate::error::{Failure, ParseErrorKind as Kind};
 use crate::parser::primitive::decimal::parse_decimal;
@@ -21,7 +18,6 @@ const FRACTION_DIGITS: usize = 9;
 const TOO_MANY: u128 = (1 << 127) - 1;
 
 /// Parses the digits before a point.
-#[tactic(auto, unfolding(crate::specs::Numbers::whole_at))]
 fn parse_whole<S: PathSource>(reader: &mut Reader<'_, S>, place: usize) -> Result<u128, Failure>
     ensures moves { MovesTo result reader.old reader.new }
     ensures gives { Gives (λ n. n) result reader.new (capped (whole_at place (left reader.old))) }
@@ -37,7 +33,7 @@ fn parse_whole<S: PathSource>(reader: &mut Reader<'_, S>, place: usize) -> Resul
 }
 
 /// Parses a fraction, whose digits are read whole: its billionths, or 0 where there is none.
-#[tactic(auto, unfolding(crate::specs::Numbers::fraction_at, crate::specs::Numbers::digits_after_point_at))]
+#[tactic(auto, unfolding(crate::specs::Numbers::fraction_at))]
 fn parse_fraction<S: PathSource>(reader: &mut Reader<'_, S>, place: usize) -> Result<u128, Failure>
     ensures moves { MovesTo result reader.old reader.new }
     ensures gives { Gives (λ n. n) result reader.new (fraction_at place (left reader.old)) }
@@ -77,7 +73,6 @@ fn parse_amount<S: PathSource>(reader: &mut Reader<'_, S>, place: usize) -> Resu
 
 /// Parses a number literal of -2^63 to 2^64 - 1 (RFC 9535, section 2.3.5.1), from its first digit or its `-` on. It
 /// has no exponent, and at most nine digits after its point. Its digits are read whole before they are checked.
-#[tactic(auto, unfolding(crate::specs::Numbers::number_at))]
 pub(crate) fn parse_number<S: PathSource>(
     reader: &mut Reader<'_, S>,
 ) -> Result<NumberLiteral, Failure>

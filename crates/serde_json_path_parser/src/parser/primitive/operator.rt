@@ -1,16 +1,13 @@
 //! Comparison operators.
 
-ghost use Rattle.std.specs.Prelude.{◌≡◌, IsNone, option_map};
-ghost use Rattle.serde_json_path_syntax.specs.Literals.{operator_view};
-ghost use Rattle.serde_json_path_parser.specs.Filters.{operator_at};
-ghost use Rattle.serde_json_path_parser.specs.Inside.Giving.{left, Moves};
+ghost use Rattle.serde_json_path_parser.specs.Inside.Words.{◌≡◌, IsNone, option_map, operator_view, operator_at, left, Moves};
 
 use crate::parser::reader::Reader;
 use crate::source::PathSource;
 use serde_json_path_syntax::ComparisonOperator;
 
 /// Parses a comparison operator, the longest that is there, or nothing (RFC 9535, section 2.3.5.1).
-#[tactic(auto, using(crate::proofs::Steps::no_operator))]
+#[tactic(auto, using(crate::proofs::Grammar::Comparisons::no_operator))]
 pub(crate) fn parse_operator<S: PathSource>(
     reader: &mut Reader<'_, S>,
 ) -> Option<ComparisonOperator>

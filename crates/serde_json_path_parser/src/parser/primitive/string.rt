@@ -1,10 +1,6 @@
 //! String literals.
 
-ghost use Rattle.std.specs.Prelude.{◌≡◌, ◌==◌, ◌<◌, ◌≤◌, ◌+◌, ◌^◌, ℕ, List, length, true, IfOk, string_bytes};
-ghost use Rattle.std.specs.Char.{IsScalar};
-ghost use Rattle.serde_json_path_parser.specs.Inside.Giving.{Gives, MovesTo, left};
-ghost use Rattle.serde_json_path_parser.specs.Lexical.{begins, IsQuote};
-ghost use Rattle.serde_json_path_parser.specs.Strings.{hexadecimal_at, hex4_at, is_high, low_at, unicode_at, piece_at, is_inside, string_at};
+ghost use Rattle.serde_json_path_parser.specs.Inside.Words.{◌≡◌, ◌==◌, ◌<◌, ◌≤◌, ◌+◌, ◌^◌, ℕ, List, length, true, IfOk, string_bytes, IsScalar, Gives, MovesTo, left, begins, IsQuote, hexadecimal_at, hex4_at, is_high, low_at, unicode_at, piece_at, is_inside, string_at};
 
 use crate::error::{Context, Failure, ParseErrorKind as Kind};
 use crate::parser::reader::Reader;
@@ -13,7 +9,6 @@ use crate::source::PathSource;
 use std::alloc::Global;
 
 /// Parses a hexadecimal digit of either case.
-#[tactic(auto, unfolding(crate::specs::Strings::hexadecimal_at))]
 fn parse_hexadecimal<S: PathSource>(
     reader: &mut Reader<'_, S>,
     place: usize,
@@ -36,7 +31,6 @@ fn parse_hexadecimal<S: PathSource>(
 }
 
 /// Parses four hexadecimal digits.
-#[tactic(auto, unfolding(crate::specs::Strings::hex4_at))]
 fn parse_hex4<S: PathSource>(reader: &mut Reader<'_, S>, place: usize) -> Result<u32, Failure>
     ensures moves { MovesTo result reader.old reader.new }
     ensures small { IfOk result (λ n. n < 65536) }
@@ -50,7 +44,6 @@ fn parse_hex4<S: PathSource>(reader: &mut Reader<'_, S>, place: usize) -> Result
 }
 
 /// Parses the low surrogate after the high one, and returns the pair's character.
-#[tactic(auto, unfolding(crate::specs::Strings::low_at))]
 fn parse_low_surrogate<S: PathSource>(
     reader: &mut Reader<'_, S>,
     place: usize,
@@ -76,7 +69,6 @@ fn parse_low_surrogate<S: PathSource>(
 }
 
 /// Parses the digits of an escape after its `u`: its character.
-#[tactic(auto, unfolding(crate::specs::Strings::unicode_at))]
 fn parse_unicode<S: PathSource>(reader: &mut Reader<'_, S>, place: usize) -> Result<char, Failure>
     ensures moves { MovesTo result reader.old reader.new }
     ensures gives { Gives (λ c. c) result reader.new (unicode_at place (left reader.old)) }
@@ -92,7 +84,6 @@ fn parse_unicode<S: PathSource>(reader: &mut Reader<'_, S>, place: usize) -> Res
 }
 
 /// Parses one character of a string, or an escape that stands for one.
-#[tactic(auto, unfolding(crate::specs::Strings::piece_at, crate::specs::Strings::escape_at))]
 fn parse_piece<S: PathSource>(reader: &mut Reader<'_, S>, quote: u8) -> Result<char, Failure>
     requires quote { quote < 128 }
     requires inside { begins (is_inside quote) (left reader.old) ≡ true }
@@ -126,7 +117,6 @@ fn parse_piece<S: PathSource>(reader: &mut Reader<'_, S>, quote: u8) -> Result<c
 }
 
 /// Parses a string (RFC 9535, section 2.3.1.1) after its opening quote, up to and including the closing one.
-#[tactic(auto, unfolding(crate::specs::Strings::string_at))]
 pub(crate) fn parse_string<S: PathSource>(
     alloc: Global,
     reader: &mut Reader<'_, S>,

@@ -1,15 +1,12 @@
-use Rattle.serde_json_path_parser.proofs.Reading.{first_fails, no_longer}
-use Rattle.serde_json_path_parser.proofs.Words.{drop, ◌∙◌, [], Some, Err, refl, sym, ap, option_map, arith, true≢false, past_blanks, string_bytes, nil_from_length, err_from_is_err_and, literal_view, number_amount, operator_view, a_comparable, logical_argument, call, number, signature_view, alone, basic_at, or_at, and_at, parameters_at, and_list, or_list, named_at, signatures, deeper, begins, opens, a_literal, a_call, left, common_steps, bracket_at, next_selector_at, selectors_at, selector_list, next_segment_at, segments_at, segment_list, argument_at, logical_from, arguments_at, operand_at, named_call_at, call_at, basic_from, relation_at, right_side_at, query_at, negated_at, and_from, or_from, next_basic_at, next_and_at, calls_in_operand}
+use Rattle.serde_json_path_parser.proofs.Reading.{first_fails, no_longer, with_none}
+use Rattle.serde_json_path_parser.proofs.Words.{drop, ◌∙◌, [], Some, Err, refl, sym, ap, option_map, arith, true≢false, past_blanks, string_bytes, nil_from_length, err_from_is_err_and, literal_view, number_amount, operator_view, a_comparable, logical_argument, call, number, signature_view, alone, and_list, or_list, signatures, deeper, begins, opens, a_literal, a_call, left, common_steps, selector_list, segments_at, segment_list, named_call_at, calls_in_operand, a_query, AreAndPartsOf, AreOrPartsOf, AreSelectorsOf, map, kind_view, argument_at}
 use Rattle.serde_json_path_parser.specs.Inside.Giving.{filter_at}
-use Rattle.serde_json_path_parser.specs.Operands.{a_query}
-use Rattle.serde_json_path_parser.proofs.Steps.{none_made, one_more, first_refused, first_open, alone_calls, literal_word_reads, level_down, at_mark, value_kind, negated_named, no_call, grows_none, grows_kept, grows_same, grows_then, grows_call, grown_so, begins_row, row_fails, row_shorter, row_goes_on, row_done, segments_stand, selectors_stand, ors_stand, ands_stand, segment_shorter, some_selectors, some_ors, some_ands}
+use Rattle.serde_json_path_parser.proofs.Steps.{none_made, one_more, first_refused, first_open, alone_calls, literal_word_reads, level_down, at_mark, value_kind, negated_named, no_call, grows_none, grows_kept, grows_same, grows_then, grows_call, grown_so, begins_row, row_fails, row_shorter, row_goes_on, row_done, segments_stand, selectors_stand, ors_stand, ands_stand, segment_shorter, some_parts}
 use Rattle.serde_json_path_syntax.specs.Flat.{segment_kind_view, kind_view as query_kind_view}
 use Rattle.serde_json_path_parser.proofs.parser.Parser.+filters.Goals as goal
 use Rattle.serde_json_path_syntax.specs.Tree as tree
-use Rattle.serde_json_path_parser.proofs.Reading as m
 
 pub parse_and_from-parts-init : goal.parse_and_from-parts-init
-unfolding and_from next_basic_at
 parse_and_from-parts-init g t c = record {
   moves = grind (arith, common_steps);
   so_far = λ x is. begins_row (ands_stand _ _) x (omega arith) c.new-parts.ensures.items c.in_ok-push.ensures.items is (λ before grown. grown) refl;
@@ -18,28 +15,28 @@ parse_and_from-parts-init g t c = record {
 pub parse_and_from-returns-in_err-part-clause-gives : goal.parse_and_from-returns-in_err-part-clause-gives
 parse_and_from-returns-in_err-part-clause-gives g t c = λ x is.
     let p = err_from_is_err_and c.from_residual-in_err-part.result c.from_residual-in_err-part.ensures.1 in
-    rw (p.1, p.2) (row_fails (ands_stand _ _) (grind (arith, common_steps)) (grind (arith, common_steps)) (c.parts.invariant.so_far x is) c.in_err-part.field-0.0 c.in_err-part.ensures.gives)
+    rw (p.1, p.2) (row_fails (ands_stand _ _) {ds = left c.skip_blanks.new.self} (grind (arith, common_steps)) (grind (arith, common_steps)) (c.parts.invariant.so_far x is) c.in_err-part.field-0.0 c.in_err-part.ensures.gives)
 
 pub parse_and_from-parts-smaller : goal.parse_and_from-parts-smaller
 parse_and_from-parts-smaller g t c =
-    row_shorter (ands_stand _ _) (grind (arith, common_steps)) (grind (arith, common_steps)) c.in_ok-part.ensures.gives
+    row_shorter (ands_stand (signatures g.F.Functions.set c.args.self.now) c.args.self.now.depth) {ds = left c.skip_blanks.new.self} (grind (arith, common_steps)) (grind (arith, common_steps)) c.in_ok-part.ensures.gives
 
 pub parse_and_from-parts-preserved : goal.parse_and_from-parts-preserved
 parse_and_from-parts-preserved g t c = record {
   moves = grind (arith, common_steps);
-  so_far = λ x is. row_goes_on (ands_stand _ _) (grind (arith, common_steps)) (grind (arith, common_steps)) c.in_ok-part.ensures.gives (c.parts.invariant.so_far x is) c.in_ok-push-2.ensures.items;
+  so_far = λ x is. row_goes_on (ands_stand _ _) {ds = left c.skip_blanks.new.self} (grind (arith, common_steps)) (grind (arith, common_steps)) c.in_ok-part.ensures.gives (c.parts.invariant.so_far x is) c.in_ok-push-2.ensures.items;
 }
 
 pub parse_and_from-logical_and-requires : goal.parse_and_from-logical_and-requires
 parse_and_from-logical_and-requires g t c =
     let so_far = c.parts.invariant.so_far c.requires.0 c.requires.1 in
-    (and_list so_far.items, some_ands c.parts.builder _ _ so_far.some so_far.are)
+    (and_list so_far.items, some_parts c.parts.builder (λ parts. AreAndPartsOf c.parts.builder parts (and_list so_far.items)) _ _ so_far.some (λ part others are. are) so_far.are)
 
 pub parse_and_from-returns-clause-gives : goal.parse_and_from-returns-clause-gives
 parse_and_from-returns-clause-gives g t c = λ x is.
     let so_far = c.parts.invariant.so_far x is in (
       and_list so_far.items,
-      c.in_ok-logical_and.ensures.made (and_list so_far.items) (some_ands c.parts.builder _ _ so_far.some so_far.are),
+      c.in_ok-logical_and.ensures.made (and_list so_far.items) (some_parts c.parts.builder (λ parts. AreAndPartsOf c.parts.builder parts (and_list so_far.items)) _ _ so_far.some (λ part others are. are) so_far.are),
       row_done (ands_stand _ _) so_far (grind (arith, common_steps)) c.sees_both.ensures.stays,
       λ before grown. grows_kept (so_far.grown before grown) c.logical_and.ensures.keeps,
     )
@@ -57,7 +54,7 @@ parse_argument-returns-then-sees_end_of_argument-clause-gives g t c =
     (alone o.0, (o.0, refl, o.1), grind (arith, common_steps), grows_same (alone_calls o.0) o.3)
 
 pub parse_argument-returns-clause-gives : goal.parse_argument-returns-clause-gives
-unfolding argument_at logical_from
+unfolding argument_at
 parse_argument-returns-clause-gives g t c =
     let o = c.in_ok-operand.ensures.gives in
     let b = rw c.bytes_left-place.ensures.value at (c.in_ok-basic.ensures.gives o.0 o.1) in
@@ -66,40 +63,35 @@ parse_argument-returns-clause-gives g t c =
     (logical_argument e.0, (e.0, refl, e.1), grind (arith, common_steps, b.2, a.2, e.2), e.3 c.args.builder.now (a.3 c.args.builder.now (b.3 c.args.builder.now o.3)))
 
 pub parse_arguments-returns-then-sees-clause-gives : goal.parse_arguments-returns-then-sees-clause-gives
-unfolding parameters_at
 parse_arguments-returns-then-sees-clause-gives g t c =
     rw (sym c.sees.ensures ∙ c.if-sees.true) (none_made _ c.args.builder.now c.args.parts.now.items _ _ _ c.parse_end.ensures.gives)
 
 pub parse_arguments-arguments-init : goal.parse_arguments-arguments-init
-unfolding parameters_at
 parse_arguments-arguments-init g t c = record { moves = grind (arith, common_steps); so_far = record { made = λ new after reader result made. rw (sym c.sees.ensures ∙ c.if-sees.false) made } }
 
 pub parse_arguments-returns-in_err-argument-clause-gives : goal.parse_arguments-returns-in_err-argument-clause-gives
 parse_arguments-returns-in_err-argument-clause-gives g t c =
     let p = err_from_is_err_and c.from_residual.result c.from_residual.ensures.1 in
     let s = c.in_err-argument.field-0.0 in
-    rw (p.1, p.2) (c.arguments.invariant.so_far.made c.arguments.builder [] c.arguments.reader (Err s) (first_refused _ _ _ _ _ s c.in_err-argument.ensures.gives))
+    rw (p.1, p.2) (c.arguments.invariant.so_far.made c.arguments.builder [] c.arguments.reader (Err s) (first_refused (signatures g.F.Functions.set c.args.self.now) (deeper g.F.Functions.set c.args.self.now) c.args.place (map kind_view c.arguments.types.now) (left c.arguments.reader) s c.in_err-argument.ensures.gives))
 
 pub parse_arguments-returns-then-not-sees_end_of_argument-clause-gives : goal.parse_arguments-returns-then-not-sees_end_of_argument-clause-gives
 parse_arguments-returns-then-not-sees_end_of_argument-clause-gives g t c =
     c.arguments.invariant.so_far.made c.arguments.builder [] c.arguments.reader (Err c.refuse.result)
-    (rw c.refuse.ensures.value (first_open _ _ _ _ _ _ c.in_ok-argument.ensures.gives.2 (sym c.sees_end_of_argument.ensures ∙ c.if-not-sees_end_of_argument.true)))
+    (rw c.refuse.ensures.value (first_open (signatures g.F.Functions.set c.args.self.now) (deeper g.F.Functions.set c.args.self.now) c.args.place (map kind_view c.arguments.types.now) (left c.arguments.reader) _ c.in_ok-argument.ensures.gives.2 (sym c.sees_end_of_argument.ensures ∙ c.if-not-sees_end_of_argument.true)))
 
 pub parse_arguments-returns-in_default-clause-gives : goal.parse_arguments-returns-in_default-clause-gives
-unfolding arguments_at
 parse_arguments-returns-in_default-clause-gives g t c =
     c.arguments.invariant.so_far.made c.arguments.builder [] c.arguments.reader (Err c.in_long_hand.result)
     (rw (c.in_long_hand.ensures, nil_from_length c.arguments.types.now c.in_default.ensures.cases, c.in_ok-argument.ensures.gives.2, sym c.sees_end_of_argument.ensures ∙ c.if-not-sees_end_of_argument.false) refl)
 
 pub parse_arguments-returns-then-not-fits-clause-gives : goal.parse_arguments-returns-then-not-fits-clause-gives
-unfolding arguments_at
 parse_arguments-returns-then-not-fits-clause-gives g t c =
     let a = c.in_ok-argument.ensures.gives in
     let fits = c.fits.ensures _ a.0 a.1 in
     c.arguments.invariant.so_far.made c.arguments.builder [] c.arguments.reader (Err c.in_long_hand-then-not-fits.result) (grind (arith, common_steps, a.2, fits))
 
 pub parse_arguments-arguments-preserved : goal.parse_arguments-arguments-preserved
-unfolding arguments_at
 parse_arguments-arguments-preserved g t c =
     let a = c.in_ok-argument.ensures.gives in
     let fits = c.fits.ensures _ a.0 a.1 in
@@ -110,7 +102,6 @@ parse_arguments-arguments-preserved g t c =
     }
 
 pub parse_arguments-returns-then-not-sees-clause-gives : goal.parse_arguments-returns-then-not-sees-clause-gives
-unfolding arguments_at
 parse_arguments-returns-then-not-sees-clause-gives g t c =
     let a = c.in_ok-argument.ensures.gives in
     let fits = c.fits.ensures _ a.0 a.1 in
@@ -118,13 +109,11 @@ parse_arguments-returns-then-not-sees-clause-gives g t c =
     (none_made _ c.part.new.builder c.push.new.self.items _ _ _ c.parse_end-then-not-sees.ensures.gives)
 
 pub parse_basic-returns-then-sees-clause-gives : goal.parse_basic-returns-then-sees-clause-gives
-unfolding basic_at
 parse_basic-returns-then-sees-clause-gives g t c =
     let inner = c.in_ok-inner.ensures.gives in
     (tree.paren inner.0, c.in_ok-paren.ensures.made inner.0 inner.1, grind (arith, common_steps), grows_kept inner.3 c.paren.ensures.keeps)
 
 pub parse_basic_from-returns-in_default-clause-gives : goal.parse_basic_from-returns-in_default-clause-gives
-unfolding basic_from relation_at
 parse_basic_from-returns-in_default-clause-gives g t c = λ x is.
     rw (c.in_default.ensures.value, ← c.in_default.ensures.stays refl) (grown_so _ _ _ _ _ c.as_test.result (c.as_test.ensures.gives x is) (λ b same before grown. grows_same same (grows_kept grown c.as_test.ensures.keeps)))
 
@@ -134,7 +123,6 @@ parse_basic_from-relation-requires-clause-left g t c =
     (a.0, c.as_comparable-2.ensures.keeps.trees c.in_ok-left.left (a_comparable a.0) (c.in_ok-operand.ensures.gives.3.trees c.in_ok-left.left (a_comparable a.0) a.1))
 
 pub parse_basic_from-returns-clause-gives : goal.parse_basic_from-returns-clause-gives
-unfolding basic_from relation_at right_side_at
 parse_basic_from-returns-clause-gives g t c = λ x is.
     let a = c.in_ok-left.ensures.gives x is in
     let o = c.in_ok-operand.ensures.gives in
@@ -150,7 +138,6 @@ parse_basic_from-returns-clause-gives g t c = λ x is.
     )
 
 pub parse_bracket-returns-clause-gives : goal.parse_bracket-returns-clause-gives
-unfolding bracket_at
 parse_bracket-returns-clause-gives g t c =
     let kind = segment_kind_view c.args.kind in
     let read = c.in_ok-selectors.ensures.gives in (
@@ -161,12 +148,10 @@ parse_bracket-returns-clause-gives g t c =
     )
 
 pub parse_call-returns-in_default-clause-gives : goal.parse_call-returns-in_default-clause-gives
-unfolding call_at
 parse_call-returns-in_default-clause-gives g t c =
     rw (level_down (signatures g.F.Functions.set c.args.self.now) c.args.self.now.depth _ (omega (arith, c.if-self-eq0.false)) refl) (grind (arith, common_steps))
 
 pub parse_call-returns-in_err-parse_arguments-clause-gives : goal.parse_call-returns-in_err-parse_arguments-clause-gives
-unfolding call_at
 parse_call-returns-in_err-parse_arguments-clause-gives g t c =
     let p = err_from_is_err_and c.from_residual.result c.from_residual.ensures.1 in
     let declared = ap (signatures g.F.Functions.set c.args.self.now) (sym c.as_str.ensures.value) ∙ sym c.signature.ensures ∙ ap (option_map signature_view) c.in-Some.is in
@@ -175,7 +160,6 @@ parse_call-returns-in_err-parse_arguments-clause-gives g t c =
     rw (p.1, p.2, down, declared, c.take_char.ensures.value) (first_fails c.in_err-parse_arguments.field-0.0 _ _ read)
 
 pub parse_call-returns-clause-gives : goal.parse_call-returns-clause-gives
-unfolding call_at
 parse_call-returns-clause-gives g t c =
     let f = string_bytes c.args.name in
     let declared = ap (signatures g.F.Functions.set c.args.self.now) (sym c.as_str.ensures.value) ∙ sym c.signature.ensures ∙ ap (option_map signature_view) c.in-Some.is in
@@ -192,31 +176,27 @@ parse_inside-returns-clause-gives g t c =
     rw (level_down (signatures g.F.Functions.set c.args.self.now) c.args.self.now.depth c.deeper.result.depth (omega (arith, c.if-self-eq0.false)) c.deeper.ensures.depth, c.take_char.ensures.value, ← c.skip_blanks.ensures.left) (rw c.deeper.ensures.functions at c.parse_logical_or.ensures.gives)
 
 pub parse_named-returns-then-sees-clause-gives : goal.parse_named-returns-then-sees-clause-gives
-unfolding named_at named_call_at
+unfolding named_call_at
 parse_named-returns-then-sees-clause-gives g t c =
     let k = rw c.bytes_left-place.ensures.value at c.in_ok-call.ensures.gives in
     (a_call k.0, (k.0, refl, k.1.0, k.1.1), rw (c.requires, ← c.in_ok-word.ensures.rest, sym c.sees.ensures ∙ c.if-sees.true, named_call_at, ← c.in_ok-word.ensures.word, k.2) refl, k.3)
 
 pub parse_named-returns-in-Some-clause-gives : goal.parse_named-returns-in-Some-clause-gives
-unfolding named_at
 parse_named-returns-in-Some-clause-gives g t c =
     let reads = literal_word_reads (left c.args.reader.now) in
     (a_literal (literal_view c.in-Some.literal), refl, grind (arith, common_steps, reads), grows_none c.args.builder.now)
 
 pub parse_negated-returns-then-sees-clause-gives : goal.parse_negated-returns-then-sees-clause-gives
-unfolding negated_at
 parse_negated-returns-then-sees-clause-gives g t c =
     let inner = c.in_ok-inner.ensures.gives in
     (tree.not_paren inner.0, c.in_ok-not_paren.ensures.made inner.0 inner.1, grind (arith, common_steps), grows_kept inner.3 c.not_paren.ensures.keeps)
 
 pub parse_negated-returns-then-sees-2-clause-gives : goal.parse_negated-returns-then-sees-2-clause-gives
-unfolding negated_at
 parse_negated-returns-then-sees-2-clause-gives g t c =
     let q = c.in_ok-query.ensures.gives in
     (tree.not_exist q.0, c.in_ok-not_exist.ensures.made q.0 q.1, grind (arith, common_steps), grows_kept q.3 c.not_exist.ensures.keeps)
 
 pub parse_negated-returns-then-sees-3-clause-gives : goal.parse_negated-returns-then-sees-3-clause-gives
-unfolding negated_at
 parse_negated-returns-then-sees-3-clause-gives g t c =
     let q = c.in_ok-query-2.ensures.gives in
     (tree.not_exist q.0, c.in_ok-not_exist-2.ensures.made q.0 q.1, grind (arith, common_steps), grows_kept q.3 c.not_exist-then-sees-3.ensures.keeps)
@@ -250,31 +230,33 @@ parse_negated-returns-clause-gives g t c =
       grows_kept (grows_same (ap calls_in_operand f.1) o.3) c.not_test.ensures.keeps,
     )
 
+pub parse_operand-returns-then-sees-clause-gives : goal.parse_operand-returns-then-sees-clause-gives
+parse_operand-returns-then-sees-clause-gives g t c = rw (sym c.sees.ensures ∙ c.if-sees.true) (c.parse_text.ensures.gives _ _)
+
+pub parse_operand-returns-then-sees-2-clause-gives : goal.parse_operand-returns-then-sees-2-clause-gives
+parse_operand-returns-then-sees-2-clause-gives g t c =
+    rw (sym c.sees.ensures ∙ c.if-sees.false, sym c.sees-2.ensures ∙ c.if-sees-2.true) (c.parse_text-then-sees-2.ensures.gives _ _)
+
 pub parse_operand-returns-then-sees-3-clause-gives : goal.parse_operand-returns-then-sees-3-clause-gives
-unfolding operand_at
 parse_operand-returns-then-sees-3-clause-gives g t c =
     let q = c.in_ok-query.ensures.gives in
     (a_query q.0, (q.0, refl, q.1), grind (arith, common_steps), q.3)
 
 pub parse_operand-returns-then-sees-4-clause-gives : goal.parse_operand-returns-then-sees-4-clause-gives
-unfolding operand_at
 parse_operand-returns-then-sees-4-clause-gives g t c =
     let q = c.in_ok-query-2.ensures.gives in
     (a_query q.0, (q.0, refl, q.1), grind (arith, common_steps), q.3)
 
 pub parse_operand-returns-then-sees_small_letter-clause-gives : goal.parse_operand-returns-then-sees_small_letter-clause-gives
-unfolding operand_at named_at
 parse_operand-returns-then-sees_small_letter-clause-gives g t c =
     let letter = sym c.sees_small_letter.ensures ∙ c.if-sees_small_letter.true in
     rw (sym c.sees.ensures ∙ c.if-sees.false, sym c.sees-2.ensures ∙ c.if-sees-2.false, sym c.sees-3.ensures ∙ c.if-sees-3.false, sym c.sees-4.ensures ∙ c.if-sees-4.false, letter) (rw letter at c.parse_named.ensures.gives)
 
 pub parse_operand-returns-clause-gives : goal.parse_operand-returns-clause-gives
-unfolding operand_at
 parse_operand-returns-clause-gives g t c =
     (a_literal (number (number_amount c.in_ok-number.number)), refl, grind (arith, common_steps), grows_none c.args.builder.now)
 
 pub parse_or_from-parts-init : goal.parse_or_from-parts-init
-unfolding or_from next_and_at
 parse_or_from-parts-init g t c = record {
   moves = grind (arith, common_steps);
   so_far = λ x is. begins_row (ors_stand _ _) x (omega arith) c.new-parts.ensures.items c.in_ok-push.ensures.items is (λ before grown. grown) refl;
@@ -283,34 +265,33 @@ parse_or_from-parts-init g t c = record {
 pub parse_or_from-returns-in_err-part-clause-gives : goal.parse_or_from-returns-in_err-part-clause-gives
 parse_or_from-returns-in_err-part-clause-gives g t c = λ x is.
     let p = err_from_is_err_and c.from_residual-in_err-part.result c.from_residual-in_err-part.ensures.1 in
-    rw (p.1, p.2) (row_fails (ors_stand _ _) (grind (arith, common_steps)) (grind (arith, common_steps)) (c.parts.invariant.so_far x is) c.in_err-part.field-0.0 c.in_err-part.ensures.gives)
+    rw (p.1, p.2) (row_fails (ors_stand _ _) {ds = left c.skip_blanks.new.self} (grind (arith, common_steps)) (grind (arith, common_steps)) (c.parts.invariant.so_far x is) c.in_err-part.field-0.0 c.in_err-part.ensures.gives)
 
 pub parse_or_from-parts-smaller : goal.parse_or_from-parts-smaller
 parse_or_from-parts-smaller g t c =
-    row_shorter (ors_stand _ _) (grind (arith, common_steps)) (grind (arith, common_steps)) c.in_ok-part.ensures.gives
+    row_shorter (ors_stand (signatures g.F.Functions.set c.args.self.now) c.args.self.now.depth) {ds = left c.skip_blanks.new.self} (grind (arith, common_steps)) (grind (arith, common_steps)) c.in_ok-part.ensures.gives
 
 pub parse_or_from-parts-preserved : goal.parse_or_from-parts-preserved
 parse_or_from-parts-preserved g t c = record {
   moves = grind (arith, common_steps);
-  so_far = λ x is. row_goes_on (ors_stand _ _) (grind (arith, common_steps)) (grind (arith, common_steps)) c.in_ok-part.ensures.gives (c.parts.invariant.so_far x is) c.in_ok-push-2.ensures.items;
+  so_far = λ x is. row_goes_on (ors_stand _ _) {ds = left c.skip_blanks.new.self} (grind (arith, common_steps)) (grind (arith, common_steps)) c.in_ok-part.ensures.gives (c.parts.invariant.so_far x is) c.in_ok-push-2.ensures.items;
 }
 
 pub parse_or_from-logical_or-requires : goal.parse_or_from-logical_or-requires
 parse_or_from-logical_or-requires g t c =
     let so_far = c.parts.invariant.so_far c.requires.0 c.requires.1 in
-    (or_list so_far.items, some_ors c.parts.builder _ _ so_far.some so_far.are)
+    (or_list so_far.items, some_parts c.parts.builder (λ parts. AreOrPartsOf c.parts.builder parts (or_list so_far.items)) _ _ so_far.some (λ part others are. are) so_far.are)
 
 pub parse_or_from-returns-clause-gives : goal.parse_or_from-returns-clause-gives
 parse_or_from-returns-clause-gives g t c = λ x is.
     let so_far = c.parts.invariant.so_far x is in (
       or_list so_far.items,
-      c.in_ok-logical_or.ensures.made (or_list so_far.items) (some_ors c.parts.builder _ _ so_far.some so_far.are),
+      c.in_ok-logical_or.ensures.made (or_list so_far.items) (some_parts c.parts.builder (λ parts. AreOrPartsOf c.parts.builder parts (or_list so_far.items)) _ _ so_far.some (λ part others are. are) so_far.are),
       row_done (ors_stand _ _) so_far (grind (arith, common_steps)) c.sees_both.ensures.stays,
       λ before grown. grows_kept (so_far.grown before grown) c.logical_or.ensures.keeps,
     )
 
 pub parse_query-returns-clause-gives : goal.parse_query-returns-clause-gives
-unfolding query_at
 parse_query-returns-clause-gives g t c =
     let kind = query_kind_view c.args.kind in
     let read = c.in_ok-parts.ensures.gives in (
@@ -321,7 +302,6 @@ parse_query-returns-clause-gives g t c =
     )
 
 pub parse_segments-segments-init : goal.parse_segments-segments-init
-unfolding next_segment_at
 parse_segments-segments-init g t c = record {
   moves = c.skip_blanks.ensures.moves;
   none = λ e. ap (begins opens) c.skip_blanks.ensures.left ∙ e;
@@ -333,7 +313,7 @@ parse_segments-segments-init g t c = record {
       items = [];
       are = rw c.new-parts.ensures.items tt;
       some = omega arith;
-      reads = m.with_none (segments_at (filter_at g.F.Functions.set c.args.self.now) c.args.context (left c.args.reader.now));
+      reads = with_none (segments_at (filter_at g.F.Functions.set c.args.self.now) c.args.context (left c.args.reader.now));
       grown = λ before grown. grown;
     },
   );
@@ -357,7 +337,7 @@ parse_segments-returns-in_err-push-clause-spares g t c =
 
 pub parse_segments-segments-smaller : goal.parse_segments-segments-smaller
 parse_segments-segments-smaller g t c =
-    let shorter = segment_shorter (signatures g.F.Functions.set c.args.self.now) c.args.self.now.depth c.args.context _ _ c.in_ok-part.ensures.gives.0 (grind (arith, common_steps)) c.in_ok-part.ensures.gives.2 in
+    let shorter = segment_shorter (signatures g.F.Functions.set c.args.self.now) c.args.self.now.depth c.args.context (left c.segments.reader) _ c.in_ok-part.ensures.gives.0 (grind (arith, common_steps)) c.in_ok-part.ensures.gives.2 in
     rw c.skip_blanks-in-segments.ensures.left (omega (arith, shorter, no_longer (left c.parse_segment.new.reader)))
 
 pub parse_segments-segments-preserved : goal.parse_segments-segments-preserved
@@ -387,7 +367,6 @@ parse_selector-returns-then-sees-clause-gives g t c =
     (tree.filter read.0, c.in_ok-filter.ensures.made read.0 read.1, rw (at_mark (signatures g.F.Functions.set c.args.self.now) (deeper g.F.Functions.set c.args.self.now) (left c.args.reader.now) (sym c.sees.ensures ∙ c.if-sees.true), read.2) refl, grows_kept read.3 c.filter.ensures.keeps)
 
 pub parse_selectors-selectors-init : goal.parse_selectors-selectors-init
-unfolding selectors_at next_selector_at
 parse_selectors-selectors-init g t c =
     let read = c.in_ok-first.ensures.gives in
     record {
@@ -398,22 +377,22 @@ parse_selectors-selectors-init g t c =
 pub parse_selectors-returns-in_err-part-clause-gives : goal.parse_selectors-returns-in_err-part-clause-gives
 parse_selectors-returns-in_err-part-clause-gives g t c =
     let p = err_from_is_err_and c.from_residual-in_err-part.result c.from_residual-in_err-part.ensures.1 in
-    rw (p.1, p.2) (row_fails (selectors_stand _ _) (grind (arith, common_steps)) (grind (arith, common_steps)) c.selectors.invariant.so_far c.in_err-part.field-0.0 c.in_err-part.ensures.gives)
+    rw (p.1, p.2) (row_fails (selectors_stand _ _) {ds = left c.skip_blanks-in-selectors.new.self} (grind (arith, common_steps)) (grind (arith, common_steps)) c.selectors.invariant.so_far c.in_err-part.field-0.0 c.in_err-part.ensures.gives)
 
 pub parse_selectors-selectors-smaller : goal.parse_selectors-selectors-smaller
 parse_selectors-selectors-smaller g t c =
-    row_shorter (selectors_stand _ _) (grind (arith, common_steps)) (grind (arith, common_steps)) c.in_ok-part.ensures.gives
+    row_shorter (selectors_stand (signatures g.F.Functions.set c.args.self.now) c.args.self.now.depth) {ds = left c.skip_blanks-in-selectors.new.self} (grind (arith, common_steps)) (grind (arith, common_steps)) c.in_ok-part.ensures.gives
 
 pub parse_selectors-selectors-preserved : goal.parse_selectors-selectors-preserved
 parse_selectors-selectors-preserved g t c = record {
   moves = grind (arith, common_steps);
-  so_far = row_goes_on (selectors_stand _ _) (grind (arith, common_steps)) (grind (arith, common_steps)) c.in_ok-part.ensures.gives c.selectors.invariant.so_far c.in_ok-push-2.ensures.items;
+  so_far = row_goes_on (selectors_stand _ _) {ds = left c.skip_blanks-in-selectors.new.self} (grind (arith, common_steps)) (grind (arith, common_steps)) c.in_ok-part.ensures.gives c.selectors.invariant.so_far c.in_ok-push-2.ensures.items;
 }
 
 pub parse_selectors-returns-clause-gives : goal.parse_selectors-returns-clause-gives
 parse_selectors-returns-clause-gives g t c =
     let so_far = c.selectors.invariant.so_far in
-    (so_far.items, some_selectors c.selectors.builder _ _ so_far.some so_far.are, row_done (selectors_stand _ _) so_far (grind (arith, common_steps)) refl, so_far.grown c.args.builder.now (grows_none c.args.builder.now))
+    (so_far.items, some_parts c.selectors.builder (λ parts. AreSelectorsOf c.selectors.builder parts (selector_list so_far.items)) _ _ so_far.some (λ part others are. are) so_far.are, row_done (selectors_stand _ _) so_far (grind (arith, common_steps)) refl, so_far.grown c.args.builder.now (grows_none c.args.builder.now))
 
 pub parse_and_from-returns-clause-made : goal.parse_and_from-returns-clause-made
 parse_and_from-returns-clause-made g t c =
@@ -426,19 +405,16 @@ parse_basic_from-returns-clause-made g t c =
     (made.0, made.1)
 
 pub parse_logical_or-returns-clause-gives : goal.parse_logical_or-returns-clause-gives
-unfolding or_at
 parse_logical_or-returns-clause-gives g t c =
     let one = c.in_ok-first.ensures.gives in
     rw one.2 (grown_so _ _ _ _ _ c.parse_or_from.result (c.parse_or_from.ensures.gives one.0 one.1) (λ e grown. grown c.args.builder.now one.3))
 
 pub parse_logical_and-returns-clause-gives : goal.parse_logical_and-returns-clause-gives
-unfolding and_at
 parse_logical_and-returns-clause-gives g t c =
     let one = c.in_ok-first.ensures.gives in
     rw one.2 (grown_so _ _ _ _ _ c.parse_and_from.result (c.parse_and_from.ensures.gives one.0 one.1) (λ e grown. grown c.args.builder.now one.3))
 
 pub parse_basic-returns-clause-gives : goal.parse_basic-returns-clause-gives
-unfolding basic_at
 parse_basic-returns-clause-gives g t c =
     let o = c.in_ok-operand.ensures.gives in
     let made = rw c.bytes_left-place.ensures.value at (c.parse_basic_from.ensures.gives o.0 o.1) in

@@ -1,5 +1,4 @@
-use Rattle.std.proofs.Common.{◌≡◌, ◌+◌, ◌*◌, ℕ, List, [], false, length, map}
-use Rattle.serde_json_path_parser.proofs.Words.{calls_in_and, calls_in_basic, parts_in, LogicalAnd, Basic, IsPart, an_and, a_basic, begins, opens, signatures, at_level, and_from, or_from, past_blanks, byte_count, opens_next, selectors_at, segments_at, left, Moves, kind_view, parameters_at, arguments_at}
+use Rattle.serde_json_path_parser.proofs.Words.{calls_in_and, calls_in_basic, parts_in, LogicalAnd, Basic, IsPart, an_and, a_basic, begins, opens, signatures, at_level, and_from, or_from, past_blanks, byte_count, opens_next, selectors_at, segments_at, left, Moves, kind_view, parameters_at, arguments_at, ◌≡◌, ◌+◌, ◌*◌, ℕ, List, [], false, length, map}
 use Rattle.serde_json_path_parser.specs.Inside.Giving.{filter_at}
 use Rattle.serde_json_path_parser.proofs.Steps.{LeadsTo, SoFar, segment_row, selector_row, or_row, and_row}
 use Rattle.serde_json_path_parser.proofs.parser.Parser.+filters.Given as goal

@@ -1,16 +1,14 @@
-use Rattle.serde_json_path_parser.proofs.Words.{refl, ap, comparable_at, calls_in_operand}
+use Rattle.serde_json_path_parser.proofs.Words.{refl, ap, calls_in_operand}
 use Rattle.serde_json_path_syntax.specs.Tree as tree
 use Rattle.serde_json_path_parser.proofs.Steps.{singular_by}
 use Rattle.serde_json_path_parser.proofs.parser.Parser.as_comparable.Goals as goal
 
 pub returns-then-not-is_singular-clause-gives : goal.returns-then-not-is_singular-clause-gives
-unfolding comparable_at
 returns-then-not-is_singular-clause-gives g c = λ x h.
     let q = rw c.in-Query.is at h in
     rw (c.in_long_hand.ensures, q.1, singular_by c.is_singular.result q.0 (c.is_singular.ensures q.0 q.2), c.if-not-is_singular.true) refl
 
 pub returns-in_ok-singular-in-Query-clause-gives : goal.returns-in_ok-singular-in-Query-clause-gives
-unfolding comparable_at
 returns-in_ok-singular-in-Query-clause-gives g c = λ x h.
     let q = rw c.in-Query.is at h in (
       tree.singular q.0,

@@ -1,5 +1,4 @@
-use Rattle.std.proofs.Common.{◌≡◌, ◌∙◌, [], true≢false, Ok, sym, ap, subst, refl, arith}
-use Rattle.serde_json_path_parser.proofs.Words.{err_from_is_err_and, parts_in, query, root, AreCalled, Fits, path_at, segment_list, left, calls_in}
+use Rattle.serde_json_path_parser.proofs.Words.{err_from_is_err_and, parts_in, query, root, AreCalled, Fits, path_at, segment_list, left, calls_in, ◌≡◌, ◌∙◌, [], true≢false, Ok, sym, ap, subst, refl, arith}
 use Rattle.serde_json_path_parser.proofs.Grammar.Paths.{all_read, none_read, path_outcome}
 use Rattle.serde_json_path_syntax.proofs.Names.Once.{called_once, each_fits, fits_once}
 use Rattle.serde_json_path_parser.proofs.Steps.{all_declared, finishes, none_for_none}

@@ -1,10 +1,9 @@
-use Rattle.serde_json_path_parser.proofs.Words.{arith, common_steps, string_bytes, segment_kind_view, dotted_at}
+use Rattle.serde_json_path_parser.proofs.Words.{arith, common_steps, string_bytes, segment_kind_view}
 use Rattle.serde_json_path_syntax.specs.Tree as tree
 use Rattle.serde_json_path_parser.proofs.Steps.{grows_leaf}
 use Rattle.serde_json_path_parser.proofs.parser.segment.parse_dotted.Goals as goal
 
 pub returns-then-sees-clause-gives : goal.returns-then-sees-clause-gives
-unfolding dotted_at
 returns-then-sees-clause-gives g c = λ signature. (
   (segment_kind_view c.args.kind, tree.dot_wildcard),
   c.in_ok-dot_wildcard.ensures.made,
@@ -13,7 +12,6 @@ returns-then-sees-clause-gives g c = λ signature. (
 )
 
 pub returns-clause-gives : goal.returns-clause-gives
-unfolding dotted_at
 returns-clause-gives g c = λ signature. (
   (segment_kind_view c.args.kind, tree.dot_name (string_bytes c.in_ok-text.text)),
   c.in_ok-dot_name.ensures.made,

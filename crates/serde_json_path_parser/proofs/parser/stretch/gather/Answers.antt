@@ -1,5 +1,4 @@
-use Rattle.std.proofs.Common.{◌≡◌, ℕ, ◌<◌, ◌+◌, ◌-◌, List, length, set, Some, sym, ap, subst, ◌∙◌, arith}
-use Rattle.serde_json_path_parser.proofs.Words.{slice_get, length-set, slice_get-get_or, Told, Gathered}
+use Rattle.serde_json_path_parser.proofs.Words.{slice_get, length-set, slice_get-get_or, Told, Gathered, ◌≡◌, ℕ, ◌<◌, ◌+◌, ◌-◌, List, length, set, Some, sym, ap, subst, ◌∙◌, arith}
 use Rattle.serde_json_path_parser.proofs.Texts.{more_gathered, looked_on}
 use Rattle.serde_json_path_parser.proofs.parser.stretch.gather.Goals as goal
 

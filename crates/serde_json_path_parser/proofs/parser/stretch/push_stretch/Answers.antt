@@ -10,14 +10,8 @@ gather-end-requires-clause-first g c =
 
 pub gather-end-requires-clause-some : goal.gather-end-requires-clause-some
 gather-end-requires-clause-some g c =
-    let within = slice_get_within (g.S.PathSource.told c.args.source.now).text c.args.index c.args.first c.requires.first_is in
-    let l = c.len.ensures.bytes in
-    let m = c.min.ensures in
-    omega (arith, within, l, m)
+    omega (arith, slice_get_within (g.S.PathSource.told c.args.source.now).text c.args.index c.args.first c.requires.first_is, c.len.ensures.bytes, c.min.ensures)
 
 pub gather-end-requires-clause-within : goal.gather-end-requires-clause-within
 gather-end-requires-clause-within g c =
-    let within = slice_get_within (g.S.PathSource.told c.args.source.now).text c.args.index c.args.first c.requires.first_is in
-    let l = c.len.ensures.bytes in
-    let m = c.min.ensures in
-    omega (arith, within, l, m)
+    omega (arith, slice_get_within (g.S.PathSource.told c.args.source.now).text c.args.index c.args.first c.requires.first_is, c.len.ensures.bytes, c.min.ensures)

@@ -1,5 +1,4 @@
-use Rattle.std.proofs.Common.{◌≡◌, ◌-◌, ◌<◌, ◌≤◌, true, false, length, sym, ap, ◌∙◌, arith}
-use Rattle.serde_json_path_parser.proofs.Words.{begins, is_digit, is_exponent, front, past, left, fraction_at}
+use Rattle.serde_json_path_parser.proofs.Words.{begins, is_digit, is_exponent, front, past, left, ◌≡◌, ◌-◌, ◌<◌, ◌≤◌, true, false, length, sym, ap, ◌∙◌, arith, fraction_at}
 use Rattle.serde_json_path_parser.proofs.Grammar.Numbers.{counted, fraction_below, fraction_is, too_long, reads}
 use Rattle.serde_json_path_parser.proofs.Reading.{front_each}
 use Rattle.serde_json_path_parser.proofs.parser.primitive.number.parse_fraction.Goals as goal

@@ -1,5 +1,5 @@
-use Rattle.serde_json_path_parser.proofs.Words.{◌≡◌, ◌+◌, length, refl, sym, ap, ◌∙◌, arith, slice_get_past, limit_of}
-use Rattle.serde_json_path_parser.proofs.Texts.{some_next, utf8_of, step, step_one}
+use Rattle.serde_json_path_parser.proofs.Words.{◌≡◌, ◌+◌, length, refl, sym, ap, ◌∙◌, arith, slice_get_past, limit_of, IsUtf8-from_is_utf8}
+use Rattle.serde_json_path_parser.proofs.Texts.{some_next, step, step_one}
 use Rattle.serde_json_path_parser.proofs.parser.reader.Reader.take_char.Goals as goal
 use Rattle.serde_json_path_parser.proofs.parser.reader.Reader.take_char.Goals.{in-None+in-None-second, in-Some, in-None+in-Some-second}
 
@@ -11,8 +11,7 @@ unwrap-lead-requires g c =
 pub invariant_of-self-clause-utf8 : goal.invariant_of-self-clause-utf8
 invariant_of-self-clause-utf8 g c =
     let r = c.args.self.now in
-    let s = step_one (g.S.PathSource.told r.source.now).text r.index c.unwrap-lead.result r.within r.utf8 (sym r.next_is ∙ c.unwrap-lead.ensures) c.if-lead-lt128.true in
-    rw c.byte_below.ensures.looks.same_text s.utf8
+    rw c.byte_below.ensures.looks.same_text (step_one _ _ _ r.within r.utf8 (sym r.next_is ∙ c.unwrap-lead.ensures) c.if-lead-lt128.true).utf8
 
 pub invariant_of-self-clause-next_is : goal.invariant_of-self-clause-next_is
 invariant_of-self-clause-next_is g c = rw c.byte_below.ensures.looks.same_text (sym (c.byte_below.ensures.some c.in-Some.next c.in-Some.is).1)
@@ -20,8 +19,7 @@ invariant_of-self-clause-next_is g c = rw c.byte_below.ensures.looks.same_text (
 pub invariant_of-self-in-Some-second-clause-utf8 : goal.invariant_of-self-in-Some-second-clause-utf8
 invariant_of-self-in-Some-second-clause-utf8 g c =
     let r = c.args.self.now in
-    let s = step_one (g.S.PathSource.told r.source.now).text r.index c.unwrap-lead.result r.within r.utf8 (sym r.next_is ∙ c.unwrap-lead.ensures) c.if-lead-lt128.true in
-    rw c.byte_below.ensures.looks.same_text s.utf8
+    rw c.byte_below.ensures.looks.same_text (step_one _ _ _ r.within r.utf8 (sym r.next_is ∙ c.unwrap-lead.ensures) c.if-lead-lt128.true).utf8
 
 pub invariant_of-self-in-Some-second-clause-next_is : goal.invariant_of-self-in-Some-second-clause-next_is
 invariant_of-self-in-Some-second-clause-next_is g c = rw c.byte_below.ensures.looks.same_text (c.args.self.now.second_is c.in-Some-second.second c.in-Some-second.is).0
@@ -29,8 +27,7 @@ invariant_of-self-in-Some-second-clause-next_is g c = rw c.byte_below.ensures.lo
 pub invariant_of-self-in-None-second-clause-utf8 : goal.invariant_of-self-in-None-second-clause-utf8
 invariant_of-self-in-None-second-clause-utf8 g c =
     let r = c.args.self.now in
-    let s = step_one (g.S.PathSource.told r.source.now).text r.index c.unwrap-lead.result r.within r.utf8 (sym r.next_is ∙ c.unwrap-lead.ensures) c.if-lead-lt128.true in
-    rw c.byte_below.ensures.looks.same_text s.utf8
+    rw c.byte_below.ensures.looks.same_text (step_one _ _ _ r.within r.utf8 (sym r.next_is ∙ c.unwrap-lead.ensures) c.if-lead-lt128.true).utf8
 
 pub invariant_of-self-in-None-second-clause-next_is : goal.invariant_of-self-in-None-second-clause-next_is
 invariant_of-self-in-None-second-clause-next_is g c =
@@ -42,7 +39,7 @@ invariant_of-self-in-None-second-clause-next_is g c =
 pub returns-then-lead-lt128-clause-value : goal.returns-then-lead-lt128-clause-value
 returns-then-lead-lt128-clause-value g c =
     let r = c.args.self.now in
-    let s = step_one (g.S.PathSource.told r.source.now).text r.index c.unwrap-lead.result r.within r.utf8 (sym r.next_is ∙ c.unwrap-lead.ensures) c.if-lead-lt128.true in
+    let s = step_one _ _ _ r.within r.utf8 (sym r.next_is ∙ c.unwrap-lead.ensures) c.if-lead-lt128.true in
     elim c.match-byte_below.branch [
       | in-Some w ↦ rw (w.self-is, c.byte_below.ensures.looks.same_text) s.left
       | in-None+in-Some-second w ↦ rw (w.self-is, c.byte_below.ensures.looks.same_text) s.left
@@ -50,13 +47,12 @@ returns-then-lead-lt128-clause-value g c =
     ]
 
 pub wide_character_at-c-requires-clause-utf8 : goal.wide_character_at-c-requires-clause-utf8
-wide_character_at-c-requires-clause-utf8 g c = utf8_of _ c.args.self.now.utf8
+wide_character_at-c-requires-clause-utf8 g c = IsUtf8-from_is_utf8 _ c.args.self.now.utf8
 
 pub invariant_of-self-2-clause-utf8 : goal.invariant_of-self-2-clause-utf8
 invariant_of-self-2-clause-utf8 g c =
     let r = c.args.self.now in
-    let s = step (g.S.PathSource.told r.source.now).text r.index c.wide_character_at-c.result.0 c.wide_character_at-c.result.1 r.within r.utf8 c.wide_character_at-c.ensures.decodes in
-    rw (c.byte_at-self.ensures.looks.same_text, c.wide_character_at-c.ensures.looks.same_text) s.utf8
+    rw (c.byte_at-self.ensures.looks.same_text, c.wide_character_at-c.ensures.looks.same_text) (step _ _ _ _ r.within r.utf8 c.wide_character_at-c.ensures.decodes).utf8
 
 pub invariant_of-self-2-clause-next_is : goal.invariant_of-self-2-clause-next_is
 invariant_of-self-2-clause-next_is g c = c.byte_at-self.ensures.value ∙ rw c.byte_at-self.ensures.looks.same_text refl
@@ -64,5 +60,4 @@ invariant_of-self-2-clause-next_is g c = c.byte_at-self.ensures.value ∙ rw c.b
 pub returns-clause-value : goal.returns-clause-value
 returns-clause-value g c =
     let r = c.args.self.now in
-    let s = step (g.S.PathSource.told r.source.now).text r.index c.wide_character_at-c.result.0 c.wide_character_at-c.result.1 r.within r.utf8 c.wide_character_at-c.ensures.decodes in
-    rw (c.byte_at-self.ensures.looks.same_text, c.wide_character_at-c.ensures.looks.same_text) s.left
+    rw (c.byte_at-self.ensures.looks.same_text, c.wide_character_at-c.ensures.looks.same_text) (step _ _ _ _ r.within r.utf8 c.wide_character_at-c.ensures.decodes).left
