@@ -1,9 +1,10 @@
 -- The lines of some nodes, with the line of another node after them; what a write leaves, and the beginnings of texts.
-use Rattle.std.proofs.Common.{◌≡◌, ℕ, ◌-◌, List, ◌++◌, length, take, drop, Option, sym, ap, ◌∙◌, append_assoc, take-append-drop, [], ◌∷◌, if◌then◌else◌, Result, Ok, Err, is_ok, OnOk, refl}
+use Rattle.std.proofs.Common.{◌≡◌, ℕ, ◌-◌, List, ◌++◌, length, take, drop, Option, sym, ap, ◌∙◌, append_assoc, take-append-drop, [], ◌∷◌, codes, if◌then◌else◌, Result, Ok, Err, is_ok, OnOk, refl}
 use Rattle.std.proofs.lemmas.List.{take_rest, append-nil}
 use Rattle.jsonpath_report.specs.Run.{AppendsBeginning}
+use Rattle.serde_json.specs.Data.{Data}
 use Rattle.serde_json_path_nodes.specs.Location.{Located}
-use Rattle.jsonpath_report.specs.Report.{IsLineIn, AreLinesIn}
+use Rattle.jsonpath_report.specs.Report.{EndsLine, IsJsonOf, IsLineIn, AreLinesIn}
 use Rattle.jsonpath_report.specs.declared.report.LineForm.{LineForm}
 
 -- ---- what writes up to a failure leave of a text, and the beginnings of texts that were appended
@@ -24,7 +25,7 @@ lines_pushed form [] text line n h l = (line, [], l, refl, ap (λ (t : List ℕ)
 lines_pushed form (m ∷ ns) text line n h l =
     (h.0, h.1 ++ line, h.2, lines_pushed form ns h.1 line n h.3 l, ap (λ (t : List ℕ). t ++ line) h.4 ∙ append_assoc h.0 h.1 line)
 
--- what a write of a text leaves where it is done
-pub appended : {A E : Type 0} (r : Result A E) (old part new : List ℕ) → new ≡ (if is_ok r then old ++ part else old) → OnOk r (new ≡ old ++ part)
-appended (Ok x) old part new e = e
-appended (Err x) old part new e = tt
+-- what a write of a value's JSON and a line feed leaves
+pub line_ended : {A E : Type 0} (r : Result A E) (d : Data) (json old new : List ℕ) → IsJsonOf d json → new ≡ (if is_ok r then old ++ (json ++ codes "\n") else old) → OnOk r (EndsLine d old new)
+line_ended (Ok x) d json old new is e = (json, is, e)
+line_ended (Err x) d json old new is e = tt

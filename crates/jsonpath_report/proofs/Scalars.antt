@@ -13,7 +13,7 @@ use Rattle.serde_json.specs.Find.{as_number, as_u64, as_i64}
 use Rattle.serde_json.specs.Read.{read, of_json, max_depth}
 use Rattle.serde_json.specs.View.{view}
 use Rattle.serde_json.specs.declared.value.Value as value
-use Rattle.serde_json.specs.Written.{outline, compact_text}
+use Rattle.serde_json.specs.Written.{outline, compact_text, has_float}
 use Rattle.serde_json.proofs.Numbers.{number_of-decimal, number_of-negative}
 use Rattle.serde_json.proofs.Texts.{print-outline}
 use Rattle.jsonpath_report.specs.Report.{IsJsonOf}
@@ -21,30 +21,15 @@ use Rattle.jsonpath_report.specs.Report.{IsJsonOf}
 abbrev whole : Option (json.Json × List Token) → Option Data
 whole o = option_and_then of_json (option_and_then (λ p. json.if_last p.0 p.1) o)
 
--- the compact text of a value reads back, where the value's outline is the value and nests no deeper than is read
-reads_back : (d : Data) → HasNumbers (outline d) → of_json (outline d) ≡ Some d → tree.depth (outline d) ≤ max_depth → read (compact_text d) ≡ Some d
-reads_back d numbers same shallow =
+-- the compact text of a value is its JSON, where the value's outline is the value, nests no deeper than is read, and has no float
+written : (d : Data) → HasNumbers (outline d) → of_json (outline d) ≡ Some d → tree.depth (outline d) ≤ max_depth → has_float d ≡ false → IsJsonOf d (compact_text d)
+written d numbers same shallow exact =
     let ts = json_tokens (outline d) in
+    let reads_back : read (compact_text d) ≡ Some d =
     ap read (sym (print-outline d))
     ∙ ap whole (ap (json.value max_depth) (tokens-print ts (ArePrintable-json_tokens (outline d) numbers) ∙ sym (append-nil ts)) ∙ value-json_tokens (outline d) max_depth [] shallow)
-    ∙ same
-
-null_json : IsJsonOf null (compact_text null)
-null_json = (λ _. refl, λ _. reads_back null tt refl (omega arith), λ float. absurd cc)
-
-boolean_json : (b : Bool) → IsJsonOf (boolean b) (compact_text (boolean b))
-boolean_json b = (λ _. refl, λ _. reads_back (boolean b) tt refl (omega arith), λ float. absurd cc)
-
-unsigned_json : (n : ℕ) → n < 2 ^ 64 → IsJsonOf (number (unsigned n)) (decimal n)
-unsigned_json n h =
-    (λ _. refl, λ _. reads_back (number (unsigned n)) (IsNumber-decimal n h) (ap (option_map number) (number_of-decimal n h)) (omega arith), λ float. absurd cc)
-
-negative_json : (n : ℕ) → n < 2 ^ 63 → IsJsonOf (number (negative (negsuc n))) (signed_decimal (negsuc n))
-negative_json n h = (
-  λ _. refl,
-  λ _. reads_back (number (negative (negsuc n))) (IsNumber-signed_decimal (negsuc n) h) (ap (option_map number) (number_of-negative n h)) (omega arith),
-  λ float. absurd cc,
-)
+    ∙ same in
+    (λ _. refl, λ _. reads_back, λ float. absurd cc)
 
 not_unsigned : (small : Bool) (m n : ℕ) → (if small then Some (pos m) else None) ≡ Some (negsuc n) → ⊥
 not_unsigned true m n e = cc
@@ -54,21 +39,26 @@ not_unsigned false m n e = cc
 pub json_of_null : (v : value.Value) → v ≡ value.Null → IsJsonOf (view v) (compact_text null)
 json_of_null v is =
     let seen : null ≡ view value.Null = search (rules, value.the_lemmas) in
-    rw (is, ← seen) null_json
+    rw (is, ← seen) (written null tt refl (omega arith) refl)
 
 pub json_of_boolean : (v : value.Value) (held b : Bool) → v ≡ value.Bool held → held ≡ b → IsJsonOf (view v) (compact_text (boolean b))
 json_of_boolean v held b is same =
     let seen : boolean b ≡ view (value.Bool b) = search (rules, value.the_lemmas) in
-    rw (is, same, ← seen) (boolean_json b)
+    rw (is, same, ← seen) (written (boolean b) tt refl (omega arith) refl)
 
 -- a value that is held as an unsigned integer
 pub json_of_u64 : (d : Data) (n : ℕ) → n < 2 ^ 64 → option_and_then as_u64 (as_number d) ≡ Some n → IsJsonOf d (decimal n)
-json_of_u64 (number (unsigned m)) n h e = let same : m ≡ n = cc in rw same (unsigned_json n h)
+json_of_u64 (number (unsigned m)) n h e =
+    let same : m ≡ n = cc in
+    rw same (written (number (unsigned n)) (IsNumber-decimal n h) (ap (option_map number) (number_of-decimal n h)) (omega arith) refl)
 json_of_u64 _ n h e = absurd cc
 
 -- a value that is held as a negative integer
 pub json_of_i64 : (d : Data) (z : ℤ) → SFits w64 z → int_lt z (pos 0) ≡ true → option_and_then as_i64 (as_number d) ≡ Some z → IsJsonOf d (signed_decimal z)
 json_of_i64 d (pos n) fits below e = absurd (grind arith)
 json_of_i64 (number (unsigned m)) (negsuc n) fits below e = absurd (not_unsigned (nat_lt m (2 ^ 63)) m n e)
-json_of_i64 (number (negative z)) (negsuc n) fits below e = let same : z ≡ negsuc n = cc in rw same (negative_json n (grind arith))
+json_of_i64 (number (negative z)) (negsuc n) fits below e =
+    let same : z ≡ negsuc n = cc in
+    let h : n < 2 ^ 63 = grind arith in
+    rw same (written (number (negative (negsuc n))) (IsNumber-signed_decimal (negsuc n) h) (ap (option_map number) (number_of-negative n h)) (omega arith) refl)
 json_of_i64 _ (negsuc n) fits below e = absurd cc

@@ -22,20 +22,12 @@ use Rattle.serde_json_path_parser.proofs.Printing.Literals.{position_spelt}
 
 -- ---- what the tree is
 
-pub segments_typed : (signature : List ℕ → Option Signature) (steps : List Step) → AreTypedSegments signature (segments_to steps)
-segments_typed signature [] = tt
-segments_typed signature (by_name k ∷ steps) = ((tt, tt), segments_typed signature steps)
-segments_typed signature (by_position p ∷ steps) = ((tt, tt), segments_typed signature steps)
-
-pub segments_shallow : (steps : List Step) → segments_depth (segments_to steps) ≡ 0
-segments_shallow [] = refl
-segments_shallow (by_name k ∷ steps) = rw (segments_shallow steps) refl
-segments_shallow (by_position p ∷ steps) = rw (segments_shallow steps) refl
-
-pub segments_silent : (steps : List Step) → calls_in_segments (segments_to steps) ≡ []
-segments_silent [] = refl
-segments_silent (by_name k ∷ steps) = segments_silent steps
-segments_silent (by_position p ∷ steps) = segments_silent steps
+-- it is well-typed under any signatures, nests nothing, and calls nothing
+pub segments_plain : (signature : List ℕ → Option Signature) (steps : List Step)
+    → AreTypedSegments signature (segments_to steps) × (segments_depth (segments_to steps) ≡ 0) × (calls_in_segments (segments_to steps) ≡ [])
+segments_plain signature [] = (tt, refl, refl)
+segments_plain signature (by_name k ∷ steps) = let more = segments_plain signature steps in (((tt, tt), more.0), rw more.1 refl, more.2)
+segments_plain signature (by_position p ∷ steps) = let more = segments_plain signature steps in (((tt, tt), more.0), rw more.1 refl, more.2)
 
 -- ---- what it selects
 
@@ -61,7 +53,7 @@ node_reached F top (s ∷ steps) n end e =
 pub node_selected : (F : FunctionSet) (top : Data) (node : Located) → at top node.location ≡ Some node.value → IsResult F top (query root (segments_to node.location)) top (node ∷ [])
 node_selected F top node e =
     subst (IsResult F top (query root (segments_to node.location)) top) (node_reached F top node.location (itself top) node.value e)
-    (computed_result F top (query root (segments_to node.location)) top (segments_typed F.signature node.location))
+    (computed_result F top (query root (segments_to node.location)) top)
 
 -- ---- the normalised path of a location is accepted, with the tree that goes down its steps
 
@@ -92,6 +84,6 @@ normal_accepted signature steps proper written =
     record {
       reads = (x.characters, x.is_so, text);
       from_root = refl;
-      typed = segments_typed signature steps;
-      shallow = rw (segments_shallow steps) (omega arith);
+      typed = (segments_plain signature steps).0;
+      shallow = rw (segments_plain signature steps).1 (omega arith);
     }

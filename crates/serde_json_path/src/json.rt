@@ -5,7 +5,6 @@ ghost use Rattle.serde_json.specs.Data.{string};
 ghost use Rattle.serde_json.specs.View.{view};
 ghost use Rattle.serde_json_path_functions.specs.Functions.{Fits};
 ghost use Rattle.serde_json_path_functions.specs.Patterns.{builtin_functions};
-ghost use Rattle.serde_json_path_parser.specs.declared.error.ParseError as path_error;
 
 use crate::path::JsonPath;
 use serde_json::Value;

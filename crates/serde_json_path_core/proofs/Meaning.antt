@@ -8,7 +8,7 @@ pub mod SlicePositions
 pub mod Descents
 -- the computed comparisons answer as the definitions say
 pub mod Comparisons
--- under a function set that keeps types, the computed arguments and answers of well-typed calls have their declared types
+-- well-typed calls have answers, and under a function set that keeps types these and the computed arguments have their declared types
 pub mod AnswerKinds
 -- where derivations end, and what is beneath
 pub mod DerivationEnds
@@ -16,5 +16,3 @@ pub mod DerivationEnds
 pub mod Order
 -- the computed ends are those of the derivations, and the computed tests hold where the defined ones do
 pub mod Derived
--- one more segment selects at each node of the shorter query
-pub mod LastSegments

@@ -53,7 +53,7 @@ pub use Rattle.serde_json_path_syntax.specs.declared.node.Part.{Part}
 pub use Rattle.serde_json_path_core.specs.Compared.{AreEqual, AreEqualAmounts, AreRisingAmounts, Compared, Compares, EqualData, EqualItems, EqualMembers, IsLess, amount_of, billionths, literal_compared, nothing, value_compared}
 pub use Rattle.serde_json_path_core.specs.Derivation.{Before, BelongsTo, SelectedBefore, SelectedBeforeBy, SelectedBeforeIn, Triple, TripleBefore, beneath, location_of, start_of}
 pub use Rattle.serde_json_path_core.specs.Inside.Rest.{ComesTo, IsAtAdmitted, IsAtNode, IsAtTask, IsDone, IsSameFrame, Passes, Skips, AllStandIn, EndsIn, Frame, IsAtChild, IsAtStart, IsChain, IsInside, IsOfValue, IsStack, IsStackIn, admitted, begun, candidates, entered, entering, frame_tasks, here, is_leaf, last_passed, lower, lower_left, node_at, opened, passed, rest_of, stack_path, tasks, unfiltered, visit, visit_place, visit_rest, visit_stack, without_node, work}
-pub use Rattle.serde_json_path_core.specs.Inside.Computed.{SlicePositions, all_true, answer, answer_compared, answer_holds, argument_as, arguments, at_positions, basic_true, below_member, children, chosen, chosen_by, comes_before, compare, compare_sides, compared, count_within, descents, falling, in_order, is_nonempty, is_same, is_true, items_descents, items_from, itself, members_all, members_descents, next_position, placed, positions_by, reached, results, results_from, rising, rising_amount, same_amount, same_data, same_items, same_members, selected, sliced, strided, child_by, item_at, position_in}
+pub use Rattle.serde_json_path_core.specs.Inside.Computed.{SlicePositions, all_true, answer, answer_compared, answer_holds, are_taken, argument_as, arguments, at_positions, basic_true, below_member, children, chosen, chosen_by, comes_before, compare, compare_sides, compared, count_within, descents, falling, in_order, is_answered, is_nonempty, is_same, is_taken, is_true, items_descents, items_from, itself, members_all, members_descents, next_position, placed, positions_by, reached, results, results_from, rising, same_data, same_items, same_members, selected, sliced, strided, child_by, item_at, position_in}
 pub use Rattle.serde_json_path_core.specs.Inside.Views.{cursor_left, frame_view, frames_view, task_view, child_view}
 pub use Rattle.serde_json_path_core.specs.Inside.Evaluates.{Sound}
 pub use Rattle.serde_json_path_core.specs.Inside.Scopes.{nodes_of, top_of, IsSound}

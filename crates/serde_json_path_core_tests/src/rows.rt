@@ -35,33 +35,35 @@ pub fn holds(is_held: bool, of: &str) -> Result<(), Fail> {
 
 /// The rows of a test, each of which may fail.
 #[derive(Drop)]
-pub struct Table {
+pub struct Table<'r, R> {
+    rt: &'r R,
     rows: usize,
     failed: usize,
 }
 
-impl Table {
+impl<'r, R: Eprint + AllocGlobal> Table<'r, R> {
     /// A table without rows so far.
-    pub fn new() -> Table {
-        Table { rows: 0, failed: 0 }
+    pub fn new(rt: &'r R) -> Table<'r, R> {
+        let (rows, failed) = (0, 0);
+        Table { rt, rows, failed }
     }
 
     /// Tells that a row fails.
-    fn tell(&mut self, rt: &impl Eprint, (of, given, wanted): (&str, &str, &str), came: &str) {
+    fn tell(&mut self, (of, given, wanted): (&str, &str, &str), came: &str) {
         self.failed = self.failed.saturating_add(1);
-        let _ = eprintln!(rt; "{given} ({of}): wanted {wanted}, came {came}");
+        let _ = eprintln!(self.rt; "{given} ({of}): wanted {wanted}, came {came}");
     }
 
     /// Holds what came of a row to what is wanted. The row has what it shares with others, as a document or a function set,
     /// what is given, and what is wanted.
-    pub fn hold(&mut self, rt: &impl Eprint, row: (&str, &str, &str), came: Result<String, Fail>) {
+    pub fn hold(&mut self, row: (&str, &str, &str), came: Result<String, Fail>) {
         self.rows = self.rows.saturating_add(1);
         match came {
             Ok(came) if came.as_str() == row.2 => {}
-            Ok(came) => self.tell(rt, row, came.as_str()),
+            Ok(came) => self.tell(row, came.as_str()),
             Err(fail) => {
-                let _ = Err::<(), Fail>(fail).report(rt);
-                self.tell(rt, row, "the failure above");
+                let _ = Err::<(), Fail>(fail).report(self.rt);
+                self.tell(row, "the failure above");
             }
         }
     }
@@ -69,8 +71,6 @@ impl Table {
     /// Holds what comes of each row to what is wanted. The rows share a document or a function set.
     pub fn hold_each<F: Fn(Global, &str) -> Result<String, Fail>>(
         &mut self,
-        rt: &impl Eprint,
-        alloc: Global,
         of: &str,
         rows: &[&str],
         came: F,
@@ -79,7 +79,7 @@ impl Table {
     {
         for &row in rows {
             let (given, wanted) = ends(row);
-            self.hold(rt, (of, given, wanted), came(alloc, given));
+            self.hold((of, given, wanted), came(self.rt.alloc(), given));
         }
     }
 
@@ -94,15 +94,14 @@ impl Table {
 
 /// Holds what comes of each row to what is wanted, and fails where a row has failed.
 pub fn hold_rows<F: Fn(Global, &str) -> Result<String, Fail>>(
-    rt: &impl Eprint,
-    alloc: Global,
+    rt: &(impl Eprint + AllocGlobal),
     rows: &[&str],
     came: F,
 ) -> Result<(), Fail>
     requires { F.IsAlwaysCallable came }
 {
-    let mut table = Table::new();
-    table.hold_each(rt, alloc, "built-in functions", rows, came);
+    let mut table = Table::new(rt);
+    table.hold_each("built-in functions", rows, came);
     table.end()
 }
 
@@ -117,14 +116,14 @@ fn again(alloc: Global, answer: Result<Option<String>, Fail>) -> Result<String, 
 /// Holds what a call answers of each row to what is wanted, as [`hold_rows`] does. A call that answers nothing, since it was
 /// refused memory, is made again. `tools/refuse_memory` holds that answer to what is wanted.
 pub fn hold_answers<F: Fn(Global, &str) -> Result<Option<String>, Fail>>(
-    rt: &impl Eprint,
-    alloc: Global,
+    rt: &(impl Eprint + AllocGlobal),
     rows: &[&str],
     call: F,
 ) -> Result<(), Fail>
     requires { F.IsAlwaysCallable call }
 {
-    let mut table = Table::new();
+    let alloc = rt.alloc();
+    let mut table = Table::new(rt);
     for &row in rows {
         let (given, wanted) = ends(row);
         let came = match call(alloc, given) {
@@ -132,7 +131,7 @@ pub fn hold_answers<F: Fn(Global, &str) -> Result<Option<String>, Fail>>(
             Ok(None) => again(alloc, call(alloc, given)),
             Err(fail) => Err(fail),
         };
-        table.hold(rt, ("refused memory", given, wanted), came);
+        table.hold(("refused memory", given, wanted), came);
     }
     table.end()
 }

@@ -12,9 +12,11 @@ use std::test::Fail;
 const DOCUMENTS: &[&str] = &[
     "null",
     "[1]",
+    "[1,2]",
     "[1, 1.5]",
     "[0,1]",
     "[18446744073709551615]",
+    r#"{"a":1}"#,
     r#"{"a":[1]}"#,
     r#"{"a":1,"b":2}"#,
     r#"{"foo":{"bar":{"baz":1},"baz":2},"baz":3}"#,
@@ -50,7 +52,7 @@ fn is_line_or_no_json(alloc: Global, document: &[u8]) -> Result<(), Fail> {
 }
 
 /// Reports on each beginning of a document.
-fn cut(alloc: Global, document: &[u8]) -> Result<String, Fail> {
+pub(crate) fn cut(alloc: Global, document: &[u8]) -> Result<String, Fail> {
     for end in 0..document.len() + 1 {
         if let Some(start) = document.get(..end) {
             is_line_or_no_json(alloc, start)?;
@@ -59,16 +61,11 @@ fn cut(alloc: Global, document: &[u8]) -> Result<String, Fail> {
     Ok(String::new(alloc))
 }
 
-/// Reports on each beginning of each document.
-pub(crate) fn cut_each(rt: &impl Eprint, alloc: Global, documents: &[&str]) -> Result<(), Fail> {
-    let mut table = Table::new();
-    for &document in documents {
-        table.hold(rt, ("cut", document, ""), cut(alloc, document.as_bytes()));
-    }
-    table.end()
-}
-
 #[test]
 fn cuts_documents(rt: HostRuntime) -> Result<(), Fail> {
-    cut_each(&rt, rt.alloc(), DOCUMENTS)
+    let mut table = Table::new(&rt);
+    for &document in DOCUMENTS {
+        table.hold(("cut", document, ""), cut(rt.alloc(), document.as_bytes()));
+    }
+    table.end()
 }

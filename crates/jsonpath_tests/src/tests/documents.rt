@@ -1,10 +1,11 @@
 //! Documents that are no JSON, and documents with unusual names and texts.
 
-use crate::tests::cuts::cut_each;
-use crate::tests::reports::{hold_reports, refusal};
+use crate::tests::cuts::cut;
+use crate::tests::reports::{refusal, reported};
 use serde_json_path::functions::Builtin;
-use serde_json_path_core_tests::rows::Table;
+use serde_json_path_core_tests::rows::{Table, fields, hold_rows};
 use serde_json_path_core_tests::texts::long;
+use std::alloc::Global;
 use std::test::Fail;
 
 /// Bytes that are no JSON text.
@@ -41,55 +42,48 @@ const NO_JSON: &[&[u8]] = &[
 
 #[test]
 fn refuses_what_is_no_json(rt: HostRuntime) -> Result<(), Fail> {
-    let mut table = Table::new();
+    let mut table = Table::new(&rt);
     for &document in NO_JSON {
         let given = format!(in rt.alloc(); "{document:?}")?;
         let came = refusal(rt.alloc(), "$", document);
-        table.hold(&rt, ("documents", given.as_str(), "not JSON"), came);
+        table.hold(("documents", given.as_str(), "not JSON"), came);
     }
     table.end()
 }
 
 /// A path, a document, and the lines of their report.
-const UNUSUAL: &[(&str, &str, &str)] = &[
-    ("$", " [ ] ", "$\t[]\n"),
-    ("$", r#"{"a":1,"a":2}"#, "$\t{\"a\":2}\n"),
-    ("$.a", r#"{"a":[1],"b":0,"a":[2,3]}"#, "$['a']\t[2,3]\n"),
-    ("$.*", r#"{"\u0000":1}"#, "$['\\u0000']\t1\n"),
-    (
-        "$",
-        r#"{"\u0000":"\u0000"}"#,
-        "$\t{\"\\u0000\":\"\\u0000\"}\n",
-    ),
-    ("$.*", r#"{"'":1,"\"":2}"#, "$['\"']\t2\n$['\\'']\t1\n"),
-    ("$", r#"{"'":1,"\"":2}"#, "$\t{\"\\\"\":2,\"'\":1}\n"),
-    ("$.*", r#"{"\n":"a\nb"}"#, "$['\\n']\t\"a\\nb\"\n"),
-    (
-        "$.*",
-        "{\"\u{1f600}\":\"\u{10ffff}\"}",
-        "$['\u{1f600}']\t\"\u{10ffff}\"\n",
-    ),
-    ("$.*", r#"{"\ud83d\ude00":1}"#, "$['\u{1f600}']\t1\n"),
-    ("$.*", r#"{"":1}"#, "$['']\t1\n"),
+const UNUSUAL: &[&str] = &[
+    "$ ~  [ ]  -> $\t[]\n",
+    "$ ~ {\"a\":1,\"a\":2} -> $\t{\"a\":2}\n",
+    "$.a ~ {\"a\":[1],\"b\":0,\"a\":[2,3]} -> $['a']\t[2,3]\n",
+    "$.* ~ {\"\\u0000\":1} -> $['\\u0000']\t1\n",
+    "$ ~ {\"\\u0000\":\"\\u0000\"} -> $\t{\"\\u0000\":\"\\u0000\"}\n",
+    "$.* ~ {\"'\":1,\"\\\"\":2} -> $['\"']\t2\n$['\\'']\t1\n",
+    "$ ~ {\"'\":1,\"\\\"\":2} -> $\t{\"\\\"\":2,\"'\":1}\n",
+    "$.* ~ {\"\\n\":\"a\\nb\"} -> $['\\n']\t\"a\\nb\"\n",
+    "$.* ~ {\"\u{1f600}\":\"\u{10ffff}\"} -> $['\u{1f600}']\t\"\u{10ffff}\"\n",
+    "$.* ~ {\"\\ud83d\\ude00\":1} -> $['\u{1f600}']\t1\n",
+    "$.* ~ {\"\":1} -> $['']\t1\n",
 ];
+
+/// The report of a row's path and document, which is cut at each byte.
+fn cut_and_reported(alloc: Global, given: &str) -> Result<String, Fail> {
+    let (path, document) = fields(given)?;
+    let _cut = cut(alloc, document.as_bytes())?;
+    reported(alloc, &Builtin, path, document)
+}
 
 #[test]
 fn reports_unusual_names_and_texts(rt: HostRuntime) -> Result<(), Fail> {
-    hold_reports(&rt, rt.alloc(), &Builtin, UNUSUAL)
+    hold_rows(&rt, UNUSUAL, cut_and_reported)
 }
 
 #[test]
 fn reports_a_million_letters(rt: HostRuntime) -> Result<(), Fail> {
     let document = long(rt.alloc(), "[\"", "abcdefghij", 100_000, "\"]")?;
     let lines = long(rt.alloc(), "$[0]\t\"", "abcdefghij", 100_000, "\"\n")?;
-    let row = ("$[0]", document.as_str(), lines.as_str());
-    hold_reports(&rt, rt.alloc(), &Builtin, &[row])
-}
-
-#[test]
-fn cuts_unusual_documents(rt: HostRuntime) -> Result<(), Fail> {
-    for &(_, document, _) in UNUSUAL {
-        cut_each(&rt, rt.alloc(), &[document])?;
-    }
-    cut_each(&rt, rt.alloc(), &[r#"{"a":1}"#, "[1,2]"])
+    let came = reported(rt.alloc(), &Builtin, "$[0]", document.as_str());
+    let mut table = Table::new(&rt);
+    table.hold((document.as_str(), "$[0]", lines.as_str()), came);
+    table.end()
 }

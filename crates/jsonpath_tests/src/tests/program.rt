@@ -87,12 +87,12 @@ fn ran(alloc: Global, words: &[String], document: &str) -> Result<String, Fail> 
 
 #[test]
 fn statuses_and_texts(rt: HostRuntime) -> Result<(), Fail> {
-    let mut table = Table::new();
+    let mut table = Table::new(&rt);
     for &(given, document, wanted) in RUNS {
         let name = format!(in rt.alloc(); "{given:?}")?;
         let words = words(rt.alloc(), given)?;
         let came = ran(rt.alloc(), &words, document);
-        table.hold(&rt, (document, name.as_str(), wanted), came);
+        table.hold((document, name.as_str(), wanted), came);
     }
     table.end()
 }

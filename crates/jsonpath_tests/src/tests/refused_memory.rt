@@ -3,13 +3,12 @@
 //!
 //! A call that answers no memory is made again, and then answers as its row says.
 
-use crate::tests::reports::READINGS;
 use jsonpath_report::report::{DocumentError, ReportError, report};
 use jsonpath_report::samples::Samples;
 use serde_json::Value;
 use serde_json_path::functions::{Builtin, Functions};
 use serde_json_path::{JsonPath, ParseErrorKind, QueryError};
-use serde_json_path_core_tests::rows::{Table, hold_answers, hold_rows, holds};
+use serde_json_path_core_tests::rows::{fields, hold_answers, hold_rows, holds};
 use serde_json_path_core_tests::texts::{of_calls, of_located, of_nodes, of_walk};
 use std::alloc::Global;
 use std::test::Fail;
@@ -41,65 +40,56 @@ fn reported<F: Functions>(
     Ok(format!(in alloc; "{text}, after no memory for the {place}")?)
 }
 
-/// Holds the report of a path and a document under a set to its lines.
+/// Holds the report of a row's path and document under a set to its lines.
 fn hold_report<F: Functions>(
-    rt: &impl Eprint,
-    alloc: Global,
+    rt: &(impl Eprint + AllocGlobal),
     functions: &F,
-    (path, document, lines): (&str, &str, &str),
+    row: &str,
 ) -> Result<(), Fail> {
-    let mut table = Table::new();
-    let came = reported(alloc, functions, (path, document));
-    table.hold(rt, (document, path, lines), came);
-    table.end()
+    hold_rows(
+        rt,
+        &[row],
+        |alloc, given| reported(alloc, functions, fields(given)?),
+    )
 }
 
 #[test]
 fn report_of_descendants(rt: HostRuntime) -> Result<(), Fail> {
-    let row = (
-        "$.foo..baz",
-        r#"{"foo":{"bar":{"baz":1},"baz":2},"baz":3}"#,
-        "$['foo']['baz']\t2\n$['foo']['bar']['baz']\t1\n",
-    );
-    hold_report(&rt, rt.alloc(), &Builtin, row)
+    let row =
+        "$.foo..baz ~ {\"foo\":{\"bar\":{\"baz\":1},\"baz\":2},\"baz\":3} -> $['foo']['baz']\t2\n$['foo']['bar']['baz']\t1\n";
+    hold_report(&rt, &Builtin, row)
 }
 
 #[test]
 fn report_of_an_escaped_name(rt: HostRuntime) -> Result<(), Fail> {
-    let row = ("$.*", r#"{"a'b\\\u000b":1}"#, "$['a\\'b\\\\\\u000b']\t1\n");
-    hold_report(&rt, rt.alloc(), &Builtin, row)
+    let row = "$.* ~ {\"a'b\\\\\\u000b\":1} -> $['a\\'b\\\\\\u000b']\t1\n";
+    hold_report(&rt, &Builtin, row)
 }
 
 #[test]
 fn report_of_a_set(rt: HostRuntime) -> Result<(), Fail> {
-    let row = ("$[?first(@.*) == 4]", SQUARE, "$[1]\t[4,5,6]\n");
-    hold_report(&rt, rt.alloc(), &Samples, row)
+    let row = "$[?first(@.*) == 4] ~ [[1,2,3],[4,5,6],[7,8,9]] -> $[1]\t[4,5,6]\n";
+    hold_report(&rt, &Samples, row)
 }
 
 #[test]
 fn report_of_filters(rt: HostRuntime) -> Result<(), Fail> {
-    let row = (
-        "$[?@.a[?@ > $.min]]",
-        r#"{"min":3,"x":{"a":[1,5]},"y":{"a":[2]}}"#,
-        "$['x']\t{\"a\":[1,5]}\n",
-    );
-    hold_report(&rt, rt.alloc(), &Builtin, row)
+    let row =
+        "$[?@.a[?@ > $.min]] ~ {\"min\":3,\"x\":{\"a\":[1,5]},\"y\":{\"a\":[2]}} -> $['x']\t{\"a\":[1,5]}\n";
+    hold_report(&rt, &Builtin, row)
 }
 
 #[test]
 fn report_of_readings(rt: HostRuntime) -> Result<(), Fail> {
-    let row = (
-        "$.readings[? @.val > $.threshold ].msg",
-        READINGS,
-        "$['readings'][2]['msg']\t\"biz\"\n$['readings'][3]['msg']\t\"bop\"\n",
-    );
-    hold_report(&rt, rt.alloc(), &Builtin, row)
+    let row =
+        "$.readings[? @.val > $.threshold ].msg ~ {\"threshold\":40,\"readings\":[{\"val\":35,\"msg\":\"foo\"},{\"val\":40,\"msg\":\"bar\"},{\"val\":42,\"msg\":\"biz\"},{\"val\":48,\"msg\":\"bop\"}]} -> $['readings'][2]['msg']\t\"biz\"\n$['readings'][3]['msg']\t\"bop\"\n";
+    hold_report(&rt, &Builtin, row)
 }
 
 #[test]
 fn report_of_nothing(rt: HostRuntime) -> Result<(), Fail> {
-    let path = "$.foo['bar'][1:10][?@.baz > 10 && @.foo.bar < 20]";
-    hold_report(&rt, rt.alloc(), &Builtin, (path, "null", ""))
+    let row = "$.foo['bar'][1:10][?@.baz > 10 && @.foo.bar < 20] ~ null -> ";
+    hold_report(&rt, &Builtin, row)
 }
 
 /// Three rows of three numbers.
@@ -127,12 +117,12 @@ fn parsed(alloc: Global, text: &str) -> Result<Option<String>, Fail> {
 
 #[test]
 fn parse_with(rt: HostRuntime) -> Result<(), Fail> {
-    hold_answers(&rt, rt.alloc(), TEXTS, parsed)
+    hold_answers(&rt, TEXTS, parsed)
 }
 
 #[test]
 fn try_clone(rt: HostRuntime) -> Result<(), Fail> {
-    hold_answers(&rt, rt.alloc(), TEXTS, |alloc, text| {
+    hold_answers(&rt, TEXTS, |alloc, text| {
         match JsonPath::parse_with(alloc, text, &Samples)?.try_clone(alloc) {
             Ok(copy) => of_path(alloc, &copy),
             Err(_) => Ok(None),
@@ -142,7 +132,7 @@ fn try_clone(rt: HostRuntime) -> Result<(), Fail> {
 
 #[test]
 fn to_text(rt: HostRuntime) -> Result<(), Fail> {
-    hold_answers(&rt, rt.alloc(), TEXTS, |alloc, text| {
+    hold_answers(&rt, TEXTS, |alloc, text| {
         let path = JsonPath::parse_with(alloc, text, &Samples)?;
         Ok(path.to_text(alloc).ok())
     })
@@ -150,7 +140,7 @@ fn to_text(rt: HostRuntime) -> Result<(), Fail> {
 
 #[test]
 fn to_json(rt: HostRuntime) -> Result<(), Fail> {
-    hold_answers(&rt, rt.alloc(), TEXTS, |alloc, text| {
+    hold_answers(&rt, TEXTS, |alloc, text| {
         match JsonPath::parse_with(alloc, text, &Samples)?.to_json(alloc) {
             Ok(Value::String(text)) => Ok(Some(text)),
             _ => Ok(None),
@@ -163,7 +153,7 @@ const VALUES: &[&str] = &["$[?first(@.*) == 4] -> [4,5,6]"];
 
 #[test]
 fn query_with(rt: HostRuntime) -> Result<(), Fail> {
-    hold_answers(&rt, rt.alloc(), VALUES, |alloc, path| {
+    hold_answers(&rt, VALUES, |alloc, path| {
         let path = JsonPath::parse_with(alloc, path, &Samples)?;
         let document = Value::from_str(alloc, SQUARE)?;
         of_nodes(alloc, path.query_with(alloc, &document, &Samples))
@@ -175,7 +165,7 @@ const LOCATIONS: &[&str] = &["$[?first(@.*) == 4] -> $[1]"];
 
 #[test]
 fn query_located_with(rt: HostRuntime) -> Result<(), Fail> {
-    hold_answers(&rt, rt.alloc(), LOCATIONS, |alloc, path| {
+    hold_answers(&rt, LOCATIONS, |alloc, path| {
         let path = JsonPath::parse_with(alloc, path, &Samples)?;
         let document = Value::from_str(alloc, SQUARE)?;
         of_located(alloc, path.query_located_with(alloc, &document, &Samples))
@@ -184,7 +174,7 @@ fn query_located_with(rt: HostRuntime) -> Result<(), Fail> {
 
 #[test]
 fn walk(rt: HostRuntime) -> Result<(), Fail> {
-    hold_answers(&rt, rt.alloc(), LOCATIONS, |alloc, path| {
+    hold_answers(&rt, LOCATIONS, |alloc, path| {
         let path = JsonPath::parse_with(alloc, path, &Samples)?;
         let document = Value::from_str(alloc, SQUARE)?;
         of_walk(alloc, path.walk(alloc, &document, &Samples))
@@ -193,7 +183,7 @@ fn walk(rt: HostRuntime) -> Result<(), Fail> {
 
 #[test]
 fn next(rt: HostRuntime) -> Result<(), Fail> {
-    hold_rows(&rt, rt.alloc(), LOCATIONS, |alloc, path| {
+    hold_rows(&rt, LOCATIONS, |alloc, path| {
         let path = JsonPath::parse_with(alloc, path, &Samples)?;
         let document = Value::from_str(alloc, SQUARE)?;
         of_calls(alloc, path.walk(alloc, &document, &Samples)?)

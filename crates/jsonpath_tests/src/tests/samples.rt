@@ -1,11 +1,11 @@
 //! The sample functions, as filters call them.
 
-use crate::tests::reports::hold_reports;
+use crate::tests::reports::of_row;
 use jsonpath_report::samples::Samples;
 use serde_json::Value;
 use serde_json_path::JsonPath;
 use serde_json_path::functions::{Builtin, Functions};
-use serde_json_path_core_tests::rows::Table;
+use serde_json_path_core_tests::rows::{Table, fields, hold_rows};
 use serde_json_path_core_tests::texts::locations;
 use std::alloc::Global;
 use std::test::Fail;
@@ -19,35 +19,19 @@ const BOOKS: &str = concat!(
 );
 
 /// A path, a document, and the locations of what the path selects there.
-const SELECTED: &[(&str, &str, &str)] = &[
-    ("$[?first(@.*) == 4]", "[[1,2,3],[4,5,6],[7,8,9]]", "$[1]"),
-    (
-        "$[? first(@.books.*.author) == 'Alexandre Dumas']",
-        BOOKS,
-        "$[0]",
-    ),
-    ("$[? length(first(@.books.*.title)) == 18 ]", BOOKS, "$[1]"),
-    (
-        "$[?first(@.*) == @.x]",
-        r#"[{},{"x":1},{"y":1}]"#,
-        "$[0] $[1]",
-    ),
-    (
-        "$[?both(@.a, @.b > 1)]",
-        r#"[{"a":1,"b":2},{"a":1,"b":1},{"b":3}]"#,
-        "$[0]",
-    ),
-    (
-        "$[?both(both(@.a, @.b), !@.c)]",
-        r#"[{"a":1,"b":1},{"a":1,"b":1,"c":1}]"#,
-        "$[0]",
-    ),
-    (
-        "$[?both((@.a), @.b || @.c)]",
-        r#"[{"a":0,"c":0},{"a":0}]"#,
-        "$[0]",
-    ),
-    ("$[?none() == @.x]", r#"[{},{"x":1}]"#, "$[0]"),
+const SELECTED: &[&str] = &[
+    "$[?first(@.*) == 4] ~ [[1,2,3],[4,5,6],[7,8,9]] -> $[1]",
+    r#"$[?first(@.*) == @.x] ~ [{},{"x":1},{"y":1}] -> $[0] $[1]"#,
+    r#"$[?both(@.a, @.b > 1)] ~ [{"a":1,"b":2},{"a":1,"b":1},{"b":3}] -> $[0]"#,
+    r#"$[?both(both(@.a, @.b), !@.c)] ~ [{"a":1,"b":1},{"a":1,"b":1,"c":1}] -> $[0]"#,
+    r#"$[?both((@.a), @.b || @.c)] ~ [{"a":0,"c":0},{"a":0}] -> $[0]"#,
+    r#"$[?none() == @.x] ~ [{},{"x":1}] -> $[0]"#,
+];
+
+/// A path, and the locations of what it selects from [`BOOKS`].
+const OF_BOOKS: &[&str] = &[
+    "$[? first(@.books.*.author) == 'Alexandre Dumas'] -> $[0]",
+    "$[? length(first(@.books.*.title)) == 18 ] -> $[1]",
 ];
 
 /// The locations of what a path selects from a document, where its filters call the samples.
@@ -60,27 +44,28 @@ fn selected(alloc: Global, path: &str, document: &str) -> Result<String, Fail> {
 
 #[test]
 fn filters_call_the_samples(rt: HostRuntime) -> Result<(), Fail> {
-    let mut table = Table::new();
-    for &(path, document, wanted) in SELECTED {
-        let came = selected(rt.alloc(), path, document);
-        table.hold(&rt, (document, path, wanted), came);
-    }
+    let mut table = Table::new(&rt);
+    table.hold_each("samples", SELECTED, |alloc, given| {
+        let (path, document) = fields(given)?;
+        selected(alloc, path, document)
+    });
+    table.hold_each(
+        "books",
+        OF_BOOKS,
+        |alloc, path| selected(alloc, path, BOOKS),
+    );
     table.end()
 }
 
 /// A path, a document, and the lines of their report.
-const REPORTED: &[(&str, &str, &str)] = &[
-    ("$[?first(@.*) == 4]", "[[4],[5,5],[5]]", "$[0]\t[4]\n"),
-    (
-        "$[?first(@.*) == 5 && length(@) == 1]",
-        "[[4],[5,5],[5]]",
-        "$[2]\t[5]\n",
-    ),
+const REPORTED: &[&str] = &[
+    "$[?first(@.*) == 4] ~ [[4],[5,5],[5]] -> $[0]\t[4]\n",
+    "$[?first(@.*) == 5 && length(@) == 1] ~ [[4],[5,5],[5]] -> $[2]\t[5]\n",
 ];
 
 #[test]
 fn reports_call_the_samples(rt: HostRuntime) -> Result<(), Fail> {
-    hold_reports(&rt, rt.alloc(), &Samples, REPORTED)
+    hold_rows(&rt, REPORTED, |alloc, row| of_row(alloc, &Samples, row))
 }
 
 /// A text, and the kind and the position of its refusal.
@@ -111,11 +96,11 @@ fn refusal<F: Functions>(alloc: Global, functions: &F, text: &str) -> Result<Str
 #[test]
 fn typed_calls_of_the_samples(rt: HostRuntime) -> Result<(), Fail> {
     let alloc = rt.alloc();
-    let mut table = Table::new();
-    table.hold_each(&rt, alloc, "samples", REFUSED, |alloc, text| {
+    let mut table = Table::new(&rt);
+    table.hold_each("samples", REFUSED, |alloc, text| {
         refusal(alloc, &Samples, text)
     });
-    table.hold_each(&rt, alloc, "built-in", NOT_BUILTIN, |alloc, text| {
+    table.hold_each("built-in", NOT_BUILTIN, |alloc, text| {
         refusal(alloc, &Builtin, text)
     });
     table.end()

@@ -209,16 +209,12 @@ evaluation::stack::find_next-next_task-requires g t c =
 pub evaluation::stack::find_next-returns-in-None-clause-found : goal.evaluation::stack::find_next-returns-in-None-clause-found
 evaluation::stack::find_next-returns-in-None-clause-found g t c =
     let scope = c.args.scope.now in
-    let nodes = nodes_of scope in
-    let frames = c.loop-last.frames in
-    let items = frames.items in
-    let n = c.in-Some.last in
+    let items = c.loop-last.frames.items in
     let some = c.in-Some.ensures in
-    let len = c.len.ensures ∙ frames.ok.0 in
-    let long : length items ≡ n + 1 = omega arith in (
+    let len = c.len.ensures ∙ c.loop-last.frames.ok.0 in (
       omega arith,
-      came-start (set_of scope) (top_of scope) nodes c.args.segments.now items n c.index.result.now _ long c.index.ensures (past_length _ _ c.in-None.ensures.lookup.0)
-          (ap (λ f. (frame_view f).value) (c.index.ensures ∙ get_or_default items n _ _ (omega arith) ∙ sym c.index-in-None.ensures)),
+      came-start (set_of scope) (top_of scope) (nodes_of scope) c.args.segments.now items c.in-Some.last c.index.result.now _ (omega arith) c.index.ensures (past_length _ _ c.in-None.ensures.lookup.0)
+          (ap (λ f. (frame_view f).value) (c.index.ensures ∙ get_or_default items c.in-Some.last _ _ (omega arith) ∙ sym c.index-in-None.ensures)),
     )
 
 came_by : (g : _) (t : _) (c : evaluation::stack::find_next-After-next_task g t)
@@ -443,5 +439,5 @@ filter::call::answer-returns-clause-means g t c =
     let kinds = iter_rest c.loop-argument.argument-iterator.b in
     let given = map term_view c.loop-argument.given.items in
     let over : (length parts ≡ 0) ⊎ (length kinds ≡ 0) = elim c.in-None.ensures.steps [ inl h ↦ inl h.1.0 | inr h ↦ inr h.1.0 ] in
-    answered (set_of scope) (top_of scope) asked c.called_name-name.result.now v given c.call.result c.called_name-name.ensures
+    answered (set_of scope) (top_of scope) asked c.called_name-name.result.now v given c.call.result c.requires.sound.0 c.called_name-name.ensures
     (given-all (set_of scope) (top_of scope) (pieces (nodes_of scope)) parts kinds v given _ over c.loop-argument.invariant.means) c.call.ensures.means

@@ -1,16 +1,30 @@
--- Under a function set that keeps types, the computed arguments and answers of well-typed calls have their declared types.
-use Rattle.std.proofs.Common.{◌≡◌, List, [], ◌∷◌, map, Option, Some, option_map, refl, sym, ap, ◌∙◌}
-use Rattle.serde_json_path_core.proofs.Words.{same_Some, Data, Comparable, literal, singular, called, Call, call, Arguments, no_arguments, argument, Argument, literal_argument, query_argument, call_argument, logical_argument, Kind, of_value, of_nodes, of_logical, Signature, Term, nodes, logical, FunctionSet, kind_of_term, KeepsTypes, Compared, literal_compared, value_compared, first_value, params_of, result_kind, IsTypedComparable, IsTypedCall, AreTypedArguments, IsTypedArgument, results, compared, answer, arguments, argument_as, answer_compared}
+-- Well-typed calls have answers, and under a function set that keeps types these and the computed arguments have their declared types.
+use Rattle.std.proofs.Common.{◌≡◌, List, [], ◌∷◌, map, Option, Some, option_map, true, refl, sym, ap, ◌∙◌}
+use Rattle.serde_json_path_core.proofs.Words.{same_Some, Data, Comparable, literal, singular, called, Call, call, Arguments, no_arguments, argument, Argument, literal_argument, query_argument, call_argument, logical_argument, Kind, of_value, of_nodes, of_logical, Signature, Term, nodes, logical, FunctionSet, kind_of_term, KeepsTypes, Compared, literal_compared, value_compared, first_value, params_of, result_kind, IsTypedComparable, IsTypedCall, AreTypedArguments, IsTypedArgument, results, compared, answer, arguments, argument_as, answer_compared, are_taken, is_answered, is_taken}
 use Rattle.serde_json_path_functions.specs.Functions.{value}
+
+module _ (F : FunctionSet) where
+  mutual
+    -- a well-typed call has an answer
+    pub answered-typed : (c : Call) → IsTypedCall F.signature c → is_answered F c ≡ true
+    answered-typed (call f args) typed = rw typed.1 (taken-typed args typed.0.params typed.2)
+
+    pub taken-typed : (args : Arguments) (kinds : List Kind) → AreTypedArguments F.signature args kinds → are_taken F args kinds ≡ true
+    taken-typed no_arguments kinds typed = refl
+    taken-typed (argument a more) [] typed = absurd typed
+    taken-typed (argument a more) (kind ∷ kinds) typed = rw (argument-typed a kind typed.0) (taken-typed more kinds typed.1)
+
+    argument-typed : (a : Argument) (kind : Kind) → IsTypedArgument F.signature a kind → is_taken F a ≡ true
+    argument-typed (call_argument c) kind typed = answered-typed c typed.0
+    argument-typed _ kind typed = refl
 
 module _ (F : FunctionSet) (top : Data) (keeps : KeepsTypes F) where
   mutual
     -- a call's answer has the type of its result
     pub answer_kind : (c : Call) → IsTypedCall F.signature c → (v : Data) → Some (kind_of_term (answer F top c v)) ≡ result_kind F.signature c
     answer_kind (call f args) typed v =
-        ap (λ (o : Option Signature). Some (kind_of_term (F.meaning f (arguments F top args (params_of o) v)))) typed.1
-        ∙ ap Some ((keeps f typed.0 typed.1).1 (arguments F top args typed.0.params v) (arguments_kinds args typed.0.params typed.2 v))
-        ∙ sym (ap (option_map (λ (s : Signature). s.result)) typed.1)
+        rw (answered-typed F (call f args) typed, typed.1)
+        (ap Some ((keeps f typed.0 typed.1).1 (arguments F top args typed.0.params v) (arguments_kinds args typed.0.params typed.2 v)))
 
     -- the arguments have the types of the parameters
     pub arguments_kinds : (args : Arguments) (kinds : List Kind) → AreTypedArguments F.signature args kinds → (v : Data) → map kind_of_term (arguments F top args kinds v) ≡ kinds
@@ -22,18 +36,15 @@ module _ (F : FunctionSet) (top : Data) (keeps : KeepsTypes F) where
     argument_kind (literal_argument l) of_value typed v = refl
     argument_kind (literal_argument l) _ typed v = absurd typed
     argument_kind (query_argument q) of_value typed v = refl
-    argument_kind (query_argument q) of_nodes typed v = refl
-    argument_kind (query_argument q) of_logical typed v = refl
-    argument_kind (call_argument c) of_value typed v = same_Some (kind_of_term (answer F top c v)) of_value (answer_kind c typed.0 v ∙ typed.1)
-    argument_kind (call_argument c) of_nodes typed v = same_Some (kind_of_term (answer F top c v)) of_nodes (answer_kind c typed.0 v ∙ typed.1)
+    argument_kind (query_argument q) _ typed v = refl
     argument_kind (call_argument c) of_logical typed v = refl
+    argument_kind (call_argument c) kind typed v = same_Some (kind_of_term (answer F top c v)) kind (answer_kind c typed.0 v ∙ typed.1)
     argument_kind (logical_argument e) of_logical typed v = refl
     argument_kind (logical_argument e) _ typed v = absurd typed
 
   value_there : (t : Term) → kind_of_term t ≡ of_value → (x : Compared) × (answer_compared t ≡ Some x)
   value_there (value o) e = (value_compared o, refl)
-  value_there (nodes ds) e = absurd (cc)
-  value_there (logical b) e = absurd (cc)
+  value_there _ e = absurd (cc)
 
   -- a side of a comparison stands for something that is compared
   pub compared_there : (a : Comparable) → IsTypedComparable F.signature a → (v : Data) → (x : Compared) × (compared F top a v ≡ Some x)

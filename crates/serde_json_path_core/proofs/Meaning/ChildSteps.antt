@@ -1,6 +1,6 @@
 -- The computed children of a value are those that a step leads to, in document order.
-use Rattle.std.proofs.Common.{◌≡◌, ℕ, zero, suc, ◌+◌, ◌<◌, ℤ, List, Ordering, Less, Equal, Greater, nat_cmp, is_eq, true, false, bytes_eq, Option, Some, ◌↔◌, inl, inr, refl, sym, ap, subst, ◌∙◌, arith, true≢false, option_to_list, ◌-◌, pos, negsuc, None, option_map}
-use Rattle.serde_json_path_core.proofs.Words.{slice_cmp, ordering_reverse, match_ordering, nat_list_cmp_total, tied_itself, is_eq-slice_cmp, none-some, same_Some, bytes_eq-Decides, Data, array, object, Items, no_items, item, Members, no_members, member, put, get_item, get_member, get_member-put, get_member-put_other, Step, by_name, by_position, child_at, StepBefore, IsIn, IsInOrder, SelectsIndex, IsPositionOf, child_by, item_at, children, items_from, members_all, in_order, cases_Bool, in_option, ◌+ℤ◌, nat_lt, ints, items_len}
+use Rattle.std.proofs.Common.{◌≡◌, ℕ, zero, suc, ◌+◌, ◌<◌, ◌≤◌, ℤ, List, Ordering, Less, Equal, Greater, nat_cmp, is_eq, true, false, bytes_eq, Option, Some, ◌↔◌, inl, inr, refl, sym, ap, subst, ◌∙◌, arith, true≢false, option_to_list, ◌-◌, pos, negsuc, None, option_map, option_and_then}
+use Rattle.serde_json_path_core.proofs.Words.{slice_cmp, ordering_reverse, match_ordering, nat_list_cmp_total, tied_itself, is_eq-slice_cmp, none-some, option_and_then_some, same_Some, bytes_eq-Decides, Data, array, object, Items, no_items, item, Members, no_members, member, put, get_item, get_member, get_member-put, get_member-put_other, Step, by_name, by_position, child_at, StepBefore, IsIn, IsInOrder, SelectsIndex, IsPositionOf, child_by, item_at, position_in, children, items_from, members_all, in_order, cases_Bool, in_option, nat_lt, ints, items_len}
 
 -- ---- the child at a step, and the item of an index
 
@@ -11,39 +11,39 @@ by_step v s t c e = elim (child_at v s) as (λ o. ◌≡◌ {A = Option (Step ×
   | Some d ↦ λ f. let same = same_Some {A = Step × Data} (s, d) (t, c) f in (sym (ap (λ (x : Step × Data). x.0) same), ap (λ (x : Step × Data). Some x.1) same)
 ] e
 
--- and the other way round
-there_by : (v : Data) (s : Step) (c : Data) → child_at v s ≡ Some c → child_by v s ≡ Some (s, c)
-there_by v s c e = ap (option_map (λ d. (s, d))) e
+pub in_child_by : (v : Data) (s : Step) (c : Step × Data) → IsIn c (option_to_list (child_by v s)) ↔ ((c.0 ≡ s) × (child_at v c.0 ≡ Some c.1))
+in_child_by v s c =
+    let here = in_option c (child_by v s) in (
+      λ h. let b = by_step v s c.0 c.1 (here.0 h) in (b.0, ap (child_at v) b.0 ∙ b.1),
+      λ h. here.1 (ap (child_by v) (sym h.0) ∙ ap (option_map (λ d. (c.0, d))) h.1),
+    )
 
-counted : (n k : ℕ) → nat_lt k n ≡ true → pos (n - (k + 1)) ≡ (negsuc k +ℤ pos n)
-counted n k e = let less : k < n = grind (arith, e) in omega (arith, ints)
-
--- the position that a negative index means
-counts_back : (n k q : ℕ) → pos q ≡ (negsuc k +ℤ pos n) → (nat_lt k n ≡ true) × (q ≡ n - (k + 1))
-counts_back n k q e = let less : k < n = omega (arith, ints) in (grind arith, omega (arith, ints))
-
--- the item of an index is at a position that it selects
-item_sound : (items : Items) (i : ℤ) (s : Step) (c : Data) → item_at (array items) i ≡ Some (s, c) → IsPositionOf (SelectsIndex i) (array items) s × (child_at (array items) s ≡ Some c)
-item_sound items (pos p) s c e =
-    let b = by_step (array items) (by_position p) s c e in
-    ((items, refl, p, b.0, inl refl), ap (child_at (array items)) b.0 ∙ b.1)
-item_sound items (negsuc k) s c e = elim (cases_Bool (nat_lt k (items_len items))) [
-  | inl f ↦ let b = by_step (array items) (by_position (items_len items - (k + 1))) s c (rw f at e) in
-      ((items, refl, items_len items - (k + 1), b.0, inr (omega (arith, ints), counted (items_len items) k f)), ap (child_at (array items)) b.0 ∙ b.1)
-  | inr f ↦ absurd (none-some (s, c) (rw f at e))
+-- the position that an index means is the one that it selects
+selects_index : (i : ℤ) (len p : ℕ) → (position_in i len ≡ Some p) ↔ SelectsIndex i len p
+selects_index (pos q) len p =
+    (λ e. inl (ap pos (same_Some q p e)), elim [ inl e ↦ ap Some (omega (arith, ints, e)) | inr h ↦ absurd (let below = h.0 in omega (arith, ints)) ])
+selects_index (negsuc k) len p = elim (cases_Bool (nat_lt k len)) [
+  | inl e ↦ let less : k < len = grind (arith, e) in rw e (
+    λ f. let same = same_Some (len - (k + 1)) p f in inr (omega (arith, ints), omega (arith, ints)),
+    elim [ inl f ↦ absurd (omega (arith, ints, f)) | inr h ↦ let is = h.1 in ap Some (omega (arith, ints)) ],
+  )
+  | inr e ↦ let most : len ≤ k = grind (arith, e) in rw e (
+    λ f. absurd (none-some p f),
+    elim [ inl f ↦ absurd (omega (arith, ints, f)) | inr h ↦ absurd (let is = h.1 in omega (arith, ints)) ],
+  )
 ]
 
--- a child at a position that an index selects is the item of the index
-item_complete : (v : Data) (i : ℤ) (s : Step) (c : Data) → IsPositionOf (SelectsIndex i) v s → child_at v s ≡ Some c → item_at v i ≡ Some (s, c)
-item_complete (array ds) (pos p) s c (items, e, q, t, inl f) g =
-    let same : p ≡ q = omega (arith, ints, f) in rw same (ap (child_by (array ds)) (sym t) ∙ there_by (array ds) s c g)
-item_complete (array ds) (pos p) s c (items, e, q, t, inr f) g = let h = f.0 in absurd (omega (arith, ints))
-item_complete (array ds) (negsuc k) s c (items, e, q, t, inl f) g = absurd (omega (arith, ints, f))
-item_complete (array ds) (negsuc k) s c (items, e, q, t, inr f) g =
-    let same : ds ≡ items = same_Some ds items e in
-    let back = counts_back (items_len ds) k q (f.1 ∙ ap (λ (xs : Items). negsuc k +ℤ pos (items_len xs)) (sym same)) in
-    rw (back.0, sym back.1) (ap (child_by (array ds)) (sym t) ∙ there_by (array ds) s c g)
-item_complete _ i s c h g = absurd (none-some h.0 h.1)
+-- the one child at an index
+pub in_item_at : (v : Data) (i : ℤ) (c : Step × Data) → IsIn c (option_to_list (item_at v i)) ↔ (IsPositionOf (SelectsIndex i) v c.0 × (child_at v c.0 ≡ Some c.1))
+in_item_at (array items) i c = (
+  λ h. option_and_then_some (λ p. child_by (array items) (by_position p)) (position_in i (items_len items)) c ((in_option c (item_at (array items) i)).0 h) (λ p f g.
+      let b = by_step (array items) (by_position p) c.0 c.1 g in ((items, refl, p, b.0, (selects_index i (items_len items) p).0 f), ap (child_at (array items)) b.0 ∙ b.1)),
+  λ ((same, e, p, is, selects), leads).
+      let there = (selects_index i (items_len items) p).1 (subst (λ xs. SelectsIndex i (items_len xs) p) (sym (same_Some items same e)) selects) in
+      (in_option c (item_at (array items) i)).1
+      (ap (option_and_then (λ q. child_by (array items) (by_position q))) there ∙ ap (child_by (array items)) (sym is) ∙ ap (option_map (λ d. (c.0, d))) leads),
+)
+in_item_at _ i c = (λ h. absurd h, λ h. absurd (none-some h.0.0 h.0.1))
 
 -- ---- items
 
@@ -188,16 +188,3 @@ pub children_ordered : (v : Data) → IsInOrder (λ (a b : Step × Data). StepBe
 children_ordered (array items) = items_ordered 0 items
 children_ordered (object ms) = members_ordered (in_order ms) (rising-in_order ms)
 children_ordered _ = tt
-
--- the one child at a step
-pub in_child_by : (v : Data) (s : Step) (c : Step × Data) → IsIn c (option_to_list (child_by v s)) ↔ ((c.0 ≡ s) × (child_at v c.0 ≡ Some c.1))
-in_child_by v s c =
-    let here = in_option c (child_by v s) in
-    (λ h. let b = by_step v s c.0 c.1 (here.0 h) in (b.0, ap (child_at v) b.0 ∙ b.1), λ h. here.1 (ap (child_by v) (sym h.0) ∙ there_by v c.0 c.1 h.1))
-
--- the one child at an index
-pub in_item_at : (v : Data) (i : ℤ) (c : Step × Data) → IsIn c (option_to_list (item_at v i)) ↔ (IsPositionOf (SelectsIndex i) v c.0 × (child_at v c.0 ≡ Some c.1))
-in_item_at (array items) i c =
-    let here = in_option c (item_at (array items) i) in
-    (λ h. item_sound items i c.0 c.1 (here.0 h), λ h. here.1 (item_complete (array items) i c.0 c.1 h.0 h.1))
-in_item_at _ i c = (λ h. absurd h, λ h. absurd (none-some h.0.0 h.0.1))

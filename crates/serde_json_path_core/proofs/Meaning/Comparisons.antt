@@ -1,14 +1,15 @@
 -- The computed comparisons answer as the definitions say.
-use Rattle.std.proofs.Common.{◌≡◌, ℤ, ◌&&◌, Option, Some, Ordering, Less, Equal, Greater, nat_cmp, refl, sym, arith, true≢false, chars, bytes_eq}
-use Rattle.serde_json_path_core.proofs.Words.{◌<ℤ◌, int_lt, Decides, slice_cmp, is_lt, Decides-int_eq, Decides-and, Decides-or, Decides-not, ints, bytes_eq-Decides, Data, null, boolean, number, string, array, object, Items, no_items, item, Members, no_members, member, as_integer, Operator, equal, not_equal, less, less_or_equal, greater, greater_or_equal, Compared, nothing, billionths, amount_of, AreEqualAmounts, AreRisingAmounts, EqualData, EqualItems, EqualMembers, AreEqual, IsLess, Compares, same_amount, rising_amount, same_data, same_items, same_members, is_same, comes_before, compare}
+use Rattle.std.proofs.Common.{◌≡◌, ℤ, ◌&&◌, Option, Some, Ordering, Less, nat_cmp, refl, sym, arith, true≢false, chars, bytes_eq}
+use Rattle.serde_json_path_core.proofs.Words.{◌<ℤ◌, int_lt, Decides, slice_cmp, is_lt, Decides-int_eq, Decides-and, Decides-or, Decides-not, ints, bytes_eq-Decides, Data, null, boolean, number, string, array, object, Items, no_items, item, Members, no_members, member, as_integer, Operator, equal, not_equal, less, less_or_equal, greater, greater_or_equal, Compared, nothing, billionths, amount_of, AreEqualAmounts, AreRisingAmounts, EqualData, EqualItems, EqualMembers, AreEqual, IsLess, Compares, same_data, same_items, same_members, is_same, comes_before, compare}
 use Rattle.std.specs.Cmp.{booleans_Decides}
+use Rattle.std.specs.Ordering.{int_eq}
 use Rattle.std.specs.Float.Ieee.{Float, eq, lt}
 use Rattle.std.specs.Prelude.{Bool, IsTrue}
 use Rattle.serde_json.specs.Data.{Num}
 use Rattle.serde_json_path_numbers.specs.Numbers.{document_number}
 use Rattle.serde_json_path_functions.specs.Functions.{Numbers, whole_numbers, all_numbers}
 use Rattle.serde_json_path_core.specs.Compared.{AreEqualExact, AreRisingExact, EqualNumbers, EqualSides, RisingSides, exact_of, value}
-use Rattle.serde_json_path_core.specs.Inside.Computed.{rising_exact, rising_sides, same_exact, same_number, same_sides}
+use Rattle.serde_json_path_core.specs.Inside.Computed.{of_both, rising_sides, same_number, same_sides}
 use Rattle.serde_json_path_syntax.proofs.Lists.{always, never}
 
 Decides-int_lt : (a b : ℤ) → Decides (int_lt a b) (a <ℤ b)
@@ -16,14 +17,13 @@ Decides-int_lt a b = (λ e. grind (arith, ints), λ h. grind (arith, ints))
 
 Decides-is_lt : (o : Ordering) → Decides (is_lt o) (o ≡ Less)
 Decides-is_lt Less = (λ e. refl, λ h. refl)
-Decides-is_lt Equal = (λ e. absurd (true≢false (sym e)), λ h. cc)
-Decides-is_lt Greater = (λ e. absurd (true≢false (sym e)), λ h. cc)
+Decides-is_lt _ = (λ e. absurd (true≢false (sym e)), λ h. cc)
 
-amounts_same : (a b : Option ℤ) → Decides (same_amount a b) (AreEqualAmounts a b)
+amounts_same : (a b : Option ℤ) → Decides (of_both int_eq a b) (AreEqualAmounts a b)
 amounts_same (Some a) (Some b) = Decides-int_eq a b
 amounts_same _ _ = never
 
-amounts_rising : (a b : Option ℤ) → Decides (rising_amount a b) (AreRisingAmounts a b)
+amounts_rising : (a b : Option ℤ) → Decides (of_both int_lt a b) (AreRisingAmounts a b)
 amounts_rising (Some a) (Some b) = Decides-int_lt a b
 amounts_rising _ _ = never
 
@@ -31,11 +31,11 @@ amounts_rising _ _ = never
 Decides-true : (b : Bool) → Decides b (IsTrue b)
 Decides-true b = (λ e. e, λ h. h)
 
-exact_same : (a b : Option Float) → Decides (same_exact a b) (AreEqualExact a b)
+exact_same : (a b : Option Float) → Decides (of_both eq a b) (AreEqualExact a b)
 exact_same (Some a) (Some b) = Decides-true (eq a b)
 exact_same _ _ = never
 
-exact_rising : (a b : Option Float) → Decides (rising_exact a b) (AreRisingExact a b)
+exact_rising : (a b : Option Float) → Decides (of_both lt a b) (AreRisingExact a b)
 exact_rising (Some a) (Some b) = Decides-true (lt a b)
 exact_rising _ _ = never
 

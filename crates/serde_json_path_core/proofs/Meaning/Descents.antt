@@ -47,50 +47,47 @@ descents_are _ = refl
 
 -- ---- membership
 
--- the list has each value with its location
-located_in : (location : List Step) (v d : Data) → IsIn (record { location = location; value = d }) (itself v ∷ flat_map below_child (children v)) ↔ (at v location ≡ Some d)
-located_in [] v d = (
-  elim [ inl e ↦ ap (λ (n : Located). Some n.value) (sym e) | inr h ↦ absurd (nowhere h) ],
-  λ e. inl (ap itself (sym (same_Some v d e))),
-)
-  where
-    nowhere : IsIn (record { location = []; value = d }) (flat_map below_child (children v)) → ⊥
-    nowhere h =
-        let c = (in_flat_map below_child (record { location = []; value = d }) (children v)).0 h in
-        let m = (in_map (beneath (c.0.0 ∷ [])) (record { location = []; value = d }) (descents c.0.1)).0 c.2 in
-        let e : [] ≡ c.0.0 ∷ m.0.location = ap (λ (n : Located). n.location) m.2 in cc
-located_in (s ∷ location) v d = (forth (λ c. located_in location c d), back (λ c. located_in location c d))
-  where
-    forth : ((c : Data) → IsIn (record { location = location; value = d }) (itself c ∷ flat_map below_child (children c)) ↔ (at c location ≡ Some d))
-        → IsIn (record { location = s ∷ location; value = d }) (itself v ∷ flat_map below_child (children v)) → at v (s ∷ location) ≡ Some d
-    forth later (inl e) = let f : s ∷ location ≡ [] = ap (λ (n : Located). n.location) e in absurd cc
-    forth later (inr h) =
-        let c = (in_flat_map below_child (record { location = s ∷ location; value = d }) (children v)).0 h in
-        let m = (in_map (beneath (c.0.0 ∷ [])) (record { location = s ∷ location; value = d }) (descents c.0.1)).0 c.2 in
-        let l : s ∷ location ≡ c.0.0 ∷ m.0.location = ap (λ (n : Located). n.location) m.2 in
-        let step_is : s ≡ c.0.0 = cc in
-        let rest_is : location ≡ m.0.location = cc in
-        let value_is : d ≡ m.0.value = ap (λ (n : Located). n.value) m.2 in
-        let here : IsIn (record { location = location; value = d }) (descents c.0.1) =
-        subst (λ n. IsIn n (descents c.0.1)) (λ i. record { location = sym rest_is i; value = sym value_is i }) m.1 in
-        let there = (later c.0.1).0 (subst (IsIn (record { location = location; value = d })) (descents_are c.0.1) here) in
-        let first = ap (child_at v) step_is ∙ (in_children v c.0).0 c.1 in
-        rw first there
-
-    back : ((c : Data) → IsIn (record { location = location; value = d }) (itself c ∷ flat_map below_child (children c)) ↔ (at c location ≡ Some d))
-        → at v (s ∷ location) ≡ Some d → IsIn (record { location = s ∷ location; value = d }) (itself v ∷ flat_map below_child (children v))
-    back later e =
-        option_and_then_some (λ w. at w location) (child_at v s) d e
-        (λ c f g.
-        let here = subst (IsIn (record { location = location; value = d })) (sym (descents_are c)) ((later c).1 g) in
-        inr ((in_flat_map below_child (record { location = s ∷ location; value = d }) (children v)).1
-        ((s, c), (in_children v (s, c)).1 f, map_in (beneath (s ∷ [])) (record { location = location; value = d }) (descents c) here)))
+-- what is below a child has the child's step first
+in_below : (c : Step × Data) (s : Step) (location : List Step) (d : Data)
+    → IsIn (record { location = s ∷ location; value = d }) (below_child c) ↔ ((c.0 ≡ s) × IsIn (record { location = location; value = d }) (descents c.1))
+in_below c s location d =
+    let i = in_map (beneath (c.0 ∷ [])) (record { location = s ∷ location; value = d }) (descents c.1) in (
+      λ h.
+          let (m, there, same) = i.0 h in
+          let e : s ∷ location ≡ c.0 ∷ m.location = ap (λ (n : Located). n.location) same in
+          let rest : m.location ≡ location = cc in
+          (cc, subst (λ n. IsIn n (descents c.1)) (λ j. record { location = rest j; value = sym (ap (λ (n : Located). n.value) same) j }) there),
+      λ h. i.1 (record { location = location; value = d }, h.1, λ j. record { location = sym h.0 j ∷ location; value = d }),
+    )
 
 -- the values below a value are those at its locations
+in_at : (location : List Step) (v d : Data) → IsIn (record { location = location; value = d }) (descents v) ↔ (at v location ≡ Some d)
+in_at [] v d = rw (descents_are v) (
+  elim [
+    | inl e ↦ ap (λ (n : Located). Some n.value) (sym e)
+    | inr h ↦
+        let c = (in_flat_map below_child (record { location = []; value = d }) (children v)).0 h in
+        let m = (in_map (beneath (c.0.0 ∷ [])) (record { location = []; value = d }) (descents c.0.1)).0 c.2 in
+        let e : [] ≡ c.0.0 ∷ m.0.location = ap (λ (n : Located). n.location) m.2 in absurd cc
+  ],
+  λ e. inl (ap itself (sym (same_Some v d e))),
+)
+in_at (s ∷ location) v d =
+    let among = in_flat_map below_child (record { location = s ∷ location; value = d }) (children v) in
+    rw (descents_are v) (
+      elim [
+        | inl e ↦ let f : s ∷ location ≡ [] = ap (λ (n : Located). n.location) e in absurd cc
+        | inr h ↦
+            let (c, child, below) = among.0 h in
+            let (same, rest) = (in_below c s location d).0 below in
+            rw (sym same, (in_children v c).0 child) ((in_at location c.1 d).0 rest)
+      ],
+      λ e. option_and_then_some (λ w. at w location) (child_at v s) d e
+          (λ c f g. inr (among.1 ((s, c), (in_children v (s, c)).1 f, (in_below (s, c) s location d).1 (refl, (in_at location c d).1 g)))),
+    )
+
 pub in_descents : (v : Data) (n : Located) → IsIn n (descents v) ↔ (at v n.location ≡ Some n.value)
-in_descents v n =
-    let there = located_in n.location v n.value in
-    (λ h. there.0 (subst (IsIn n) (descents_are v) h), λ e. subst (IsIn n) (sym (descents_are v)) (there.1 e))
+in_descents v n = in_at n.location v n.value
 
 -- ---- the longest location
 
@@ -109,35 +106,25 @@ no_longer v location w e = let n : Located = record { location = location; value
 
 -- ---- order
 
-abbrev IsOrdered : Data → Type 0
-IsOrdered v = IsInOrder (λ (m n : Located). DescentBefore m.location n.location) (descents v)
+abbrev StandsBefore : Located → Located → Type 0
+StandsBefore m n = DescentBefore m.location n.location
 
 -- the values below a value stand in document order where those below each child do
-ordered_by_children : (v : Data) → ((s : Step) (c : Data) → child_at v s ≡ Some c → IsOrdered c) → IsOrdered v
-ordered_by_children v below = subst (IsInOrder (λ (m n : Located). DescentBefore m.location n.location)) (sym (descents_are v)) (first v, rest v below)
-  where
-    first : (v : Data) (n : Located) → IsIn n (flat_map below_child (children v)) → DescentBefore [] n.location
-    first v n h =
-        let c = (in_flat_map below_child n (children v)).0 h in
-        let m = (in_map (beneath (c.0.0 ∷ [])) n (descents c.0.1)).0 c.2 in
-        rw m.2 tt
+ordered_by_children : (v : Data) → ((s : Step) (c : Data) → child_at v s ≡ Some c → IsInOrder StandsBefore (descents c)) → IsInOrder StandsBefore (descents v)
+ordered_by_children v below = subst (IsInOrder StandsBefore) (sym (descents_are v)) (
+  λ n h.
+      let c = (in_flat_map below_child n (children v)).0 h in
+      let m = (in_map (beneath (c.0.0 ∷ [])) n (descents c.0.1)).0 c.2 in
+      rw m.2 tt,
+  in_order-flat_map _ _ below_child (children v) (children_ordered v)
+      (λ c h. in_order-map _ (beneath (c.0 ∷ [])) (descents c.1) (weaker _ _ (descents c.1) (λ m n before. inr (refl, before)) (below c.0 c.1 ((in_children v c).0 h))))
+      (λ x y a b before h g.
+      let m = (in_map (beneath (x.0 ∷ [])) a (descents x.1)).0 h in
+      let n = (in_map (beneath (y.0 ∷ [])) b (descents y.1)).0 g in
+      rw (m.2, n.2) (inl before)),
+)
 
-    apart : (x y : Step × Data) (a b : Located) → StepBefore x.0 y.0 → IsIn a (below_child x) → IsIn b (below_child y) → DescentBefore a.location b.location
-    apart x y a b before h g =
-        let m = (in_map (beneath (x.0 ∷ [])) a (descents x.1)).0 h in
-        let n = (in_map (beneath (y.0 ∷ [])) b (descents y.1)).0 g in
-        rw (m.2, n.2) (inl before)
-
-    rest : (v : Data) → ((s : Step) (c : Data) → child_at v s ≡ Some c → IsOrdered c)
-        → IsInOrder (λ (m n : Located). DescentBefore m.location n.location) (flat_map below_child (children v))
-    rest v below =
-        in_order-flat_map (λ (a b : Step × Data). StepBefore a.0 b.0) (λ (m n : Located). DescentBefore m.location n.location) below_child (children v) (children_ordered v)
-        (λ c h. in_order-map (λ (m n : Located). DescentBefore m.location n.location) (beneath (c.0 ∷ [])) (descents c.1)
-        (weaker (λ (m n : Located). DescentBefore m.location n.location) (λ m n. DescentBefore (c.0 ∷ m.location) (c.0 ∷ n.location)) (descents c.1)
-        (λ m n before. inr (refl, before)) (below c.0 c.1 ((in_children v c).0 h))))
-        apart
-
-ordered_within : (most : ℕ) (v : Data) → ((location : List Step) (w : Data) → at v location ≡ Some w → length location ≤ most) → IsOrdered v
+ordered_within : (most : ℕ) (v : Data) → ((location : List Step) (w : Data) → at v location ≡ Some w → length location ≤ most) → IsInOrder StandsBefore (descents v)
 ordered_within zero v within = ordered_by_children v (λ s c leads. let long = within (s ∷ []) c (ap (option_and_then (λ d. at d [])) leads) in absurd (omega arith))
 ordered_within (suc most) v within =
     ordered_by_children v

@@ -1,6 +1,6 @@
 -- Derivations are in an order: never do two stand before each other, and a list in that order is fixed by its members.
 use Rattle.std.proofs.Common.{◌≡◌, ℕ, zero, suc, ◌<◌, List, [], ◌∷◌, ◌⊎◌, inl, inr, Less, Greater, refl, sym, ap, subst, ◌∙◌, arith, Some}
-use Rattle.serde_json_path_core.proofs.Words.{AllZip, ordering_reverse, nat_list_cmp_total, ints, Data, Step, by_name, by_position, at, StepBefore, DescentBefore, Located, Query, query, Segments, segment, Segment, long_hand, Selectors, no_selectors, selector, Selector, slice, FunctionSet, Triple, start_of, BelongsTo, SelectedBefore, SelectedBeforeBy, SelectedBeforeIn, TripleBefore, Before, IsIn, IsInOrder, IsResult}
+use Rattle.serde_json_path_core.proofs.Words.{AllZip, same_Some, ordering_reverse, nat_list_cmp_total, ints, Data, Step, by_name, by_position, at, StepBefore, DescentBefore, Located, Query, query, Segments, segment, Segment, long_hand, Selectors, no_selectors, selector, Selector, slice, FunctionSet, Triple, start_of, BelongsTo, SelectedBefore, SelectedBeforeBy, SelectedBeforeIn, TripleBefore, Before, IsIn, IsInOrder, IsResult}
 
 -- ---- never both
 
@@ -38,7 +38,7 @@ selected_once_in : (seg : Segment) (n : ℕ) (s t : Step) → SelectedBeforeIn s
 selected_once_in (long_hand sels) n s t h g = selected_once_by sels n s t h g
 selected_once_in _ n s t h g = step_once s t h g
 
-pub triple_once : (seg : Segment) (x y : Triple) → TripleBefore seg x y → TripleBefore seg y x → ⊥
+triple_once : (seg : Segment) (x y : Triple) → TripleBefore seg x y → TripleBefore seg y x → ⊥
 triple_once seg x y h g =
     first_once DescentBefore descent_once x.descent y.descent
     (λ same. first_once ◌<◌ (λ m n h g. absurd (omega arith)) x.number y.number
@@ -51,12 +51,6 @@ before_once _ _ _ h g = h
 
 -- ---- a list in order is fixed by its members
 
-heads : {A : Type 0} (R : A → A → Type 0) (once : (x y : A) → R x y → R y x → ⊥) (x y : A) (xs ys : List A)
-    → IsInOrder R (x ∷ xs) → IsInOrder R (y ∷ ys) → IsIn x (y ∷ ys) → IsIn y (x ∷ xs) → x ≡ y
-heads R once x y xs ys o p (inl e) g = e
-heads R once x y xs ys o p (inr h) (inl e) = sym e
-heads R once x y xs ys o p (inr h) (inr g) = absurd (once x y (o.0 y g) (p.0 x h))
-
 in_rest : {A : Type 0} (R : A → A → Type 0) (once : (x y : A) → R x y → R y x → ⊥) (x y z : A) (xs ys : List A)
     → x ≡ y → IsInOrder R (x ∷ xs) → IsIn z xs → IsIn z (y ∷ ys) → IsIn z ys
 in_rest R once x y z xs ys e o h (inr g) = g
@@ -68,7 +62,7 @@ in_order_once R once [] [] o p f g = refl
 in_order_once R once [] (y ∷ ys) o p f g = absurd (g y (inl refl))
 in_order_once R once (x ∷ xs) [] o p f g = absurd (f x (inl refl))
 in_order_once R once (x ∷ xs) (y ∷ ys) o p f g =
-    let e = heads R once x y xs ys o p (f x (inl refl)) (g y (inl refl)) in
+    let e : x ≡ y = elim (f x (inl refl)) [ inl e ↦ e | inr h ↦ elim (g y (inl refl)) [ inl e ↦ sym e | inr k ↦ absurd (once x y (o.0 y k) (p.0 x h)) ] ] in
     let t = in_order_once R once xs ys o.1 p.1
     (λ z h. in_rest R once x y z xs ys e o h (f z (inr h))) (λ z h. in_rest R once y x z ys xs (sym e) p h (g z (inr h))) in
     ap (λ w. w ∷ xs) e ∙ ap (λ ws. y ∷ ws) t
@@ -86,9 +80,8 @@ in_order_total R (z ∷ zs) x y o (inr h) (inr g) = in_order_total R zs x y o.1 
 same_pair : (start : Data) (xs : List Triple) (n m : Located) → BelongsTo start xs n → BelongsTo start xs m → n ≡ m
 same_pair start xs n m h g =
     let l : n.location ≡ m.location = h.0 ∙ sym g.0 in
-    let v : Some n.value ≡ Some m.value = sym h.1 ∙ ap (at start) l ∙ g.1 in
-    let w : n.value ≡ m.value = cc in
-    ap (λ location. record { location = location; value = n.value }) l ∙ ap (λ value. record { location = m.location; value = value }) w
+    let v = same_Some n.value m.value (sym h.1 ∙ ap (at start) l ∙ g.1) in
+    λ i. record { location = l i; value = v i }
 
 same_pairs : (start : Data) (ds : List (List Triple)) (ns ms : List Located) → AllZip (BelongsTo start) ds ns → AllZip (BelongsTo start) ds ms → ns ≡ ms
 same_pairs start [] [] [] h g = refl

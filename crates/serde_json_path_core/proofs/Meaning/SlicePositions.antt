@@ -37,26 +37,26 @@ pub next_strided : (count : ℕ) (upwards : Bool) (first stride : ℕ) (items : 
 next_strided count upwards first stride items o e =
     ap (λ x. option_map_or (λ d. (by_position first, d) ∷ strided count upwards (next_position upwards first stride) stride items) x []) e
 
-strided_sound : (count : ℕ) (upwards : Bool) (first stride : ℕ) (items : Items) → ((j : ℕ) → j < count → frame upwards first stride j < items_len items)
-    → (c : Step × Data) → IsIn c (strided count upwards first stride items) → IsPlaced count upwards first stride items c
-strided_sound zero upwards first stride items there c h = absurd h
-strided_sound (suc count) upwards first stride items there c h =
-    let later = strided_sound count upwards (next_position upwards first stride) stride items (λ j k. there (suc j) (omega arith)) c in
+-- the items there are those at these positions
+in_strided : (count : ℕ) (upwards : Bool) (first stride : ℕ) (items : Items) → ((j : ℕ) → j < count → frame upwards first stride j < items_len items)
+    → (c : Step × Data) → IsIn c (strided count upwards first stride items) ↔ IsPlaced count upwards first stride items c
+in_strided zero upwards first stride items there c = (λ h. absurd h, λ h. let k = h.1 in absurd (omega arith))
+in_strided (suc count) upwards first stride items there c =
+    let next = next_position upwards first stride in
     let d = item_there items first (there 0 (omega arith)) in
-    elim (subst (IsIn c) (next_strided count upwards first stride items (Some d.0) d.1) h) [
-      | inl f ↦ (0, omega arith, ap (λ (x : Step × Data). x.0) f, d.1 ∙ ap (λ (x : Step × Data). Some x.1) (sym f))
-      | inr g ↦ let k = later g in (suc k.0, omega arith, k.2, k.3)
-    ]
-
-strided_complete : (count : ℕ) (upwards : Bool) (first stride : ℕ) (items : Items) → ((j : ℕ) → j < count → frame upwards first stride j < items_len items)
-    → (c : Step × Data) → IsPlaced count upwards first stride items c → IsIn c (strided count upwards first stride items)
-strided_complete zero upwards first stride items there c h = let k = h.1 in absurd (omega arith)
-strided_complete (suc count) upwards first stride items there c (zero, k, f, g) =
-    rw (next_strided count upwards first stride items (Some c.1) g) (inl (λ i. (f i, c.1)))
-strided_complete (suc count) upwards first stride items there c (suc j, k, f, g) =
-    let d = item_there items first (there 0 (omega arith)) in
-    rw (next_strided count upwards first stride items (Some d.0) d.1)
-    (inr (strided_complete count upwards (next_position upwards first stride) stride items (λ i l. there (suc i) (omega arith)) c (j, omega arith, f, g)))
+    let later = in_strided count upwards next stride items (λ j k. there (suc j) (omega arith)) c in
+    rw (next_strided count upwards first stride items (Some d.0) d.1) (
+      elim [
+        | inl f ↦ (0, omega arith, ap (λ (x : Step × Data). x.0) f, d.1 ∙ ap (λ (x : Step × Data). Some x.1) (sym f))
+        | inr g ↦ let k = later.0 g in (suc k.0, omega arith, k.2, k.3)
+      ],
+      λ h.
+          elim h.0 as (λ j. j < suc count → c.0 ≡ by_position (frame upwards first stride j) → get_item (frame upwards first stride j) items ≡ Some c.1
+          → IsIn c ((by_position first, d.0) ∷ strided count upwards next stride items)) [
+            | zero ↦ λ k f g. inl (λ i. (f i, same_Some c.1 d.0 (sym g ∙ d.1) i))
+            | suc j ↦ λ k f g. inr (later.1 (j, omega arith, f, g))
+          ] h.1 h.2 h.3,
+    )
 
 strided_ordered : (R : Step → Step → Type 0) (count : ℕ) (upwards : Bool) (first stride : ℕ) (items : Items) → ((j : ℕ) → j < count → frame upwards first stride j < items_len items)
     → ((j k : ℕ) → j < k → k < count → R (by_position (frame upwards first stride j)) (by_position (frame upwards first stride k)))
@@ -67,7 +67,7 @@ strided_ordered R (suc count) upwards first stride items there before =
     let fewer : (j : ℕ) → j < count → frame upwards next stride j < items_len items = λ j k. there (suc j) (omega arith) in
     let d = item_there items first (there 0 (omega arith)) in
     subst (IsInOrder (λ (a b : Step × Data). R a.0 b.0)) (sym (next_strided count upwards first stride items (Some d.0) d.1)) (
-      (λ c h. let k = strided_sound count upwards next stride items fewer c h in
+      (λ c h. let k = (in_strided count upwards next stride items fewer c).0 h in
           subst (R (by_position first)) (sym k.2) (before 0 (suc k.0) (omega arith) (omega arith))),
       strided_ordered R count upwards next stride items fewer (λ j k h g. before (suc j) (suc k) (omega arith) (omega arith)),
     )
@@ -81,13 +81,17 @@ counted_within j (suc width) stride =
     let many = le-div_iff_mul-le {k = suc stride} {x = j} {y = width} (omega arith) in
     (λ h. let k = many.0 (omega arith) in omega arith, λ h. let k = many.1 (omega arith) in omega arith)
 
--- a bound that is cut lies in its range
-cut_within : (low high x : ℤ) → low ≤ℤ high → (low ≤ℤ int_min high (int_max low x)) × (int_min high (int_max low x) ≤ℤ high)
-cut_within low high x h = (omega (arith, ints, clamps), omega (arith, ints, clamps))
+counted : (z : ℤ) (len : ℕ) → pos 0 ≤ℤ z → z ≤ℤ pos len → (pos (nat_abs z) ≡ z) × (nat_abs z ≤ len)
+counted (pos n) len low high = (refl, omega (arith, ints))
+counted (negsuc n) len low high = absurd (omega (arith, ints))
 
-natural : (z : ℤ) → pos 0 ≤ℤ z → pos (nat_abs z) ≡ z
-natural (pos n) h = refl
-natural (negsuc n) h = absurd (omega (arith, ints))
+-- a bound that is cut to an array's length counts items, and so does one that may lie before position 0, with 1 added
+cut_counted : (len : ℕ) (x : ℤ) → let z = int_min (pos len) (int_max (pos 0) x) in (pos (nat_abs z) ≡ z) × (nat_abs z ≤ len)
+cut_counted len x = counted (int_min (pos len) (int_max (pos 0) x)) len (omega (arith, ints, clamps)) (omega (arith, ints, clamps))
+
+last_counted : (len : ℕ) (x : ℤ) → let z = int_min (pos len -ℤ pos 1) (int_max (pos 0 -ℤ pos 1) x) +ℤ pos 1 in (pos (nat_abs z) ≡ z) × (nat_abs z ≤ len)
+last_counted len x =
+    counted (int_min (pos len -ℤ pos 1) (int_max (pos 0 -ℤ pos 1) x) +ℤ pos 1) len (omega (arith, ints, clamps)) (omega (arith, ints, clamps))
 
 module _ (s : Slice) (len k : ℕ) where
   -- where rising positions begin (RFC 9535, section 2.3.4.2.2)
@@ -100,39 +104,23 @@ module _ (s : Slice) (len k : ℕ) where
 
   rising_bounds : (pos (nat_abs low) ≡ low) × (pos (nat_abs high) ≡ high) × (nat_abs high ≤ len)
   rising_bounds =
-      let a = cut_within (pos 0) (pos len) (from_end (pos len) (unwrap_or s.start (pos 0))) (omega (arith, ints)) in
-      let b = cut_within (pos 0) (pos len) (from_end (pos len) (unwrap_or s.end (pos len))) (omega (arith, ints)) in
-      let e = natural high b.0 in
-      let c : pos (nat_abs high) ≤ℤ pos len = subst (λ z. z ≤ℤ pos len) (sym e) b.1 in
-      (natural low a.0, e, omega (arith, ints))
+      let start = cut_counted len (from_end (pos len) (unwrap_or s.start (pos 0))) in
+      let end = cut_counted len (from_end (pos len) (unwrap_or s.end (pos len))) in
+      (start.0, end.0, end.1)
 
-  rising_positions : (p : ℕ) → step_of s ≡ pos (suc k)
-      → SelectsPosition s len p ↔ ((j : ℕ) × (j < (rising s len (suc k)).count) × (p ≡ frame true (nat_abs low) (suc k) j))
-  rising_positions p e = (forth, λ h. back h.0 h.1 h.2)
+  -- a position that is so many steps above the start and below the end
+  rising_at : (p n : ℕ) → step_of s ≡ pos (suc k)
+      → ((low ≤ℤ pos p) × (pos p <ℤ high) × (pos p ≡ (low +ℤ (pos n *ℤ step_of s))))
+      ↔ ((n < (rising s len (suc k)).count) × (p ≡ frame true (nat_abs low) (suc k) n))
+  rising_at p n e =
+      let at = place_up (nat_abs low) (suc k) n in
+      let count = counted_within n (nat_abs high - nat_abs low) k in
+      let is = numbers low high (nat_abs low) (nat_abs high) (n * suc k) rising_bounds.0 rising_bounds.1 in
+      rw (ap (λ z. pos n *ℤ z) e ∙ pos-*ℤ-pos n (suc k)) (λ h. let x = is.0 h in (count.1 x.0, x.1 ∙ sym at), λ h. is.1 (count.0 h.0, h.1 ∙ at))
     where
-      steps : (n : ℕ) → pos n *ℤ step_of s ≡ pos (n * suc k)
-      steps n = ap (λ z. pos n *ℤ z) e ∙ pos-*ℤ-pos n (suc k)
-
-      -- over numbers alone
-      found : (z b : ℤ) (i l m : ℕ) → pos i ≡ z → pos l ≡ b → pos p <ℤ b → pos p ≡ (z +ℤ pos m) → (m < l - i) × (p ≡ i + m)
-      found z b i l m f g h is = (omega (arith, ints), omega (arith, ints))
-
-      given : (z b : ℤ) (i l m : ℕ) → pos i ≡ z → pos l ≡ b → m < l - i → p ≡ i + m → (z ≤ℤ pos p) × (pos p <ℤ b) × (pos p ≡ (z +ℤ pos m))
-      given z b i l m f g h is = (omega (arith, ints), omega (arith, ints), omega (arith, ints))
-
-      forth : SelectsPosition s len p → (j : ℕ) × (j < (rising s len (suc k)).count) × (p ≡ frame true (nat_abs low) (suc k) j)
-      forth (inl (up, from, before, (n, is))) =
-          let b = rising_bounds in
-          let there = found low high (nat_abs low) (nat_abs high) (n * suc k) b.0 b.1 before (is ∙ ap (λ z. low +ℤ z) (steps n)) in
-          (n, (counted_within n (nat_abs high - nat_abs low) k).1 there.0, there.1 ∙ sym (place_up (nat_abs low) (suc k) n))
-      forth (inr h) = let d : pos (suc k) <ℤ pos 0 = subst (λ z. z <ℤ pos 0) e h.0 in absurd (omega (arith, ints))
-
-      back : (j : ℕ) → j < (rising s len (suc k)).count → p ≡ frame true (nat_abs low) (suc k) j → SelectsPosition s len p
-      back j h same =
-          let b = rising_bounds in
-          let less = (counted_within j (nat_abs high - nat_abs low) k).0 h in
-          let there = given low high (nat_abs low) (nat_abs high) (j * suc k) b.0 b.1 less (same ∙ place_up (nat_abs low) (suc k) j) in
-          inl (subst (λ z. pos 0 <ℤ z) (sym e) (omega (arith, ints)), there.0, there.1, (j, there.2 ∙ ap (λ z. low +ℤ z) (sym (steps j))))
+      numbers : (z b : ℤ) (i l m : ℕ) → pos i ≡ z → pos l ≡ b → ((z ≤ℤ pos p) × (pos p <ℤ b) × (pos p ≡ (z +ℤ pos m))) ↔ ((m < l - i) × (p ≡ i + m))
+      numbers z b i l m f g =
+          (λ (from, before, is). (omega (arith, ints), omega (arith, ints)), λ (less, is). (omega (arith, ints), omega (arith, ints), omega (arith, ints)))
 
   -- the last position
   abbrev last : ℤ
@@ -148,49 +136,26 @@ module _ (s : Slice) (len k : ℕ) where
 
   falling_bounds : (pos (nat_abs (top +ℤ pos 1)) ≡ (top +ℤ pos 1)) × (pos (nat_abs (bottom +ℤ pos 1)) ≡ (bottom +ℤ pos 1)) × (nat_abs (top +ℤ pos 1) ≤ len)
   falling_bounds =
-      let a = cut_within (pos 0 -ℤ pos 1) last (from_end (pos len) (unwrap_or s.start last)) (omega (arith, ints)) in
-      let b = cut_within (pos 0 -ℤ pos 1) last (from_end (pos len) (unwrap_or s.end ((pos 0 -ℤ pos len) -ℤ pos 1))) (omega (arith, ints)) in
-      let from : pos 0 ≤ℤ (top +ℤ pos 1) = above top a.0 in
-      let e = natural (top +ℤ pos 1) from in
-      let c : pos (nat_abs (top +ℤ pos 1)) ≤ℤ pos len = subst (λ z. z ≤ℤ pos len) (sym e) (within top a.1) in
-      (e, natural (bottom +ℤ pos 1) (above bottom b.0), omega (arith, ints))
+      let start = last_counted len (from_end (pos len) (unwrap_or s.start last)) in
+      let end = last_counted len (from_end (pos len) (unwrap_or s.end ((pos 0 -ℤ pos len) -ℤ pos 1))) in
+      (start.0, end.0, start.1)
+
+  -- a position that is so many steps below the start and above the end
+  falling_at : (p n : ℕ) → step_of s ≡ negsuc k
+      → ((bottom <ℤ pos p) × (pos p ≤ℤ top) × (pos p ≡ (top +ℤ (pos n *ℤ step_of s))))
+      ↔ ((n < (falling s len (suc k)).count) × (p ≡ frame false (nat_abs (top +ℤ pos 1) - 1) (suc k) n))
+  falling_at p n e =
+      let u = nat_abs (top +ℤ pos 1) in
+      let l = nat_abs (bottom +ℤ pos 1) in
+      let at = place_down (u - 1) (suc k) n in
+      let count = counted_within n (u - l) k in
+      let is = numbers top bottom u l (n * suc k) falling_bounds.0 falling_bounds.1 in
+      rw (ap (λ z. pos n *ℤ z) e ∙ pos-*ℤ-negsuc n k) (λ h. let x = is.0 h in (count.1 x.0, x.1 ∙ sym at), λ h. is.1 (count.0 h.0, h.1 ∙ at))
     where
-      above : (z : ℤ) → (pos 0 -ℤ pos 1) ≤ℤ z → pos 0 ≤ℤ (z +ℤ pos 1)
-      above z h = omega (arith, ints)
-
-      within : (z : ℤ) → z ≤ℤ (pos len -ℤ pos 1) → (z +ℤ pos 1) ≤ℤ pos len
-      within z h = omega (arith, ints)
-
-  falling_positions : (p : ℕ) → step_of s ≡ negsuc k
-      → SelectsPosition s len p ↔ ((j : ℕ) × (j < (falling s len (suc k)).count) × (p ≡ frame false (nat_abs (top +ℤ pos 1) - 1) (suc k) j))
-  falling_positions p e = (forth, λ h. back h.0 h.1 h.2)
-    where
-      steps : (n : ℕ) → pos n *ℤ step_of s ≡ neg_ℤ (pos (n * suc k))
-      steps n = ap (λ z. pos n *ℤ z) e ∙ pos-*ℤ-negsuc n k
-
-      -- over numbers alone
-      found : (z b : ℤ) (u l m : ℕ) → pos u ≡ (z +ℤ pos 1) → pos l ≡ (b +ℤ pos 1) → b <ℤ pos p → pos p ≡ (z +ℤ neg_ℤ (pos m)) → (m < u - l) × (p ≡ (u - 1) - m)
-      found z b u l m f g h is = (omega (arith, ints), omega (arith, ints))
-
-      given : (z b : ℤ) (u l m : ℕ) → pos u ≡ (z +ℤ pos 1) → pos l ≡ (b +ℤ pos 1) → m < u - l → p ≡ (u - 1) - m → (b <ℤ pos p) × (pos p ≤ℤ z) × (pos p ≡ (z +ℤ neg_ℤ (pos m)))
-      given z b u l m f g h is = (omega (arith, ints), omega (arith, ints), omega (arith, ints))
-
-      forth : SelectsPosition s len p → (j : ℕ) × (j < (falling s len (suc k)).count) × (p ≡ frame false (nat_abs (top +ℤ pos 1) - 1) (suc k) j)
-      forth (inl h) = let d : pos 0 <ℤ negsuc k = subst (λ z. pos 0 <ℤ z) e h.0 in absurd (omega (arith, ints))
-      forth (inr (down, after, upto, (n, is))) =
-          let b = falling_bounds in
-          let u = nat_abs (top +ℤ pos 1) in
-          let l = nat_abs (bottom +ℤ pos 1) in
-          let there = found top bottom u l (n * suc k) b.0 b.1 after (is ∙ ap (λ z. top +ℤ z) (steps n)) in
-          (n, (counted_within n (u - l) k).1 there.0, there.1 ∙ sym (place_down (u - 1) (suc k) n))
-
-      back : (j : ℕ) → j < (falling s len (suc k)).count → p ≡ frame false (nat_abs (top +ℤ pos 1) - 1) (suc k) j → SelectsPosition s len p
-      back j h same =
-          let b = falling_bounds in
-          let u = nat_abs (top +ℤ pos 1) in
-          let l = nat_abs (bottom +ℤ pos 1) in
-          let there = given top bottom u l (j * suc k) b.0 b.1 ((counted_within j (u - l) k).0 h) (same ∙ place_down (u - 1) (suc k) j) in
-          inr (subst (λ z. z <ℤ pos 0) (sym e) (omega (arith, ints)), there.0, there.1, (j, there.2 ∙ ap (λ z. top +ℤ z) (sym (steps j))))
+      numbers : (z b : ℤ) (u l m : ℕ) → pos u ≡ (z +ℤ pos 1) → pos l ≡ (b +ℤ pos 1)
+          → ((b <ℤ pos p) × (pos p ≤ℤ z) × (pos p ≡ (z +ℤ neg_ℤ (pos m)))) ↔ ((m < u - l) × (p ≡ (u - 1) - m))
+      numbers z b u l m f g =
+          (λ (after, upto, is). (omega (arith, ints), omega (arith, ints)), λ (less, is). (omega (arith, ints), omega (arith, ints), omega (arith, ints)))
 
 -- what positions with that step select, where they lie and in which order
 record ArePositions (s : Slice) (len : ℕ) (c : SlicePositions) : Type 0 where
@@ -217,20 +182,34 @@ is_course (pos (suc k)) s len e =
     let i = nat_abs (low s len k) in
     let w = nat_abs (high s len k) - i in
     let most = (rising_bounds s len k).2 in
+    let up : pos 0 <ℤ step_of s = subst (λ z. pos 0 <ℤ z) (sym e) (omega (arith, ints)) in
     record {
-      selects = λ p. rising_positions s len k p e;
+      selects = λ p. (
+        elim [
+          | inl (_, from, before, (n, is)) ↦ let h = (rising_at s len k p n e).0 (from, before, is) in (n, h.0, h.1)
+          | inr h ↦ absurd (let down = subst (λ z. z <ℤ pos 0) e h.0 in omega (arith, ints))
+        ],
+        λ (n, less, is). let h = (rising_at s len k p n e).1 (less, is) in inl (up, h.0, h.1, (n, h.2)),
+      );
       there = λ j h. let less = (counted_within j w k).0 h in omega (arith, place_up i (suc k) j);
-      before = λ a b h g. inl (subst (λ z. pos 0 <ℤ z) (sym e) (omega (arith, ints)), omega (arith, place_up i (suc k) a, place_up i (suc k) b, strides_less a b k h));
+      before = λ a b h g. inl (up, omega (arith, place_up i (suc k) a, place_up i (suc k) b, strides_less a b k h));
     }
 is_course (negsuc k) s len e =
     let u = nat_abs (top s len k +ℤ pos 1) in
     let w = u - nat_abs (bottom s len k +ℤ pos 1) in
     let most = (falling_bounds s len k).2 in
+    let down : step_of s <ℤ pos 0 = subst (λ z. z <ℤ pos 0) (sym e) (omega (arith, ints)) in
     record {
-      selects = λ p. falling_positions s len k p e;
+      selects = λ p. (
+        elim [
+          | inl h ↦ absurd (let up = subst (λ z. pos 0 <ℤ z) e h.0 in omega (arith, ints))
+          | inr (_, after, upto, (n, is)) ↦ let h = (falling_at s len k p n e).0 (after, upto, is) in (n, h.0, h.1)
+        ],
+        λ (n, less, is). let h = (falling_at s len k p n e).1 (less, is) in inr (down, h.0, h.1, (n, h.2)),
+      );
       there = λ j h. let less = (counted_within j w k).0 h in omega (arith, place_down (u - 1) (suc k) j);
       before = λ a b h g. let less = (counted_within b w k).0 g in
-          inr (subst (λ z. z <ℤ pos 0) (sym e) (omega (arith, ints)), omega (arith, place_down (u - 1) (suc k) a, place_down (u - 1) (suc k) b, strides_less a b k h));
+          inr (down, omega (arith, place_down (u - 1) (suc k) a, place_down (u - 1) (suc k) b, strides_less a b k h));
     }
 
 -- ---- slices
@@ -241,13 +220,13 @@ in_sliced s (array items) x =
     let c = positions_by (step_of s) s (items_len items) in
     let good = is_course (step_of s) s (items_len items) refl in (
       λ h.
-          let k = strided_sound c.count c.upwards c.first c.stride items good.there x h in
+          let k = (in_strided c.count c.upwards c.first c.stride items good.there x).0 h in
           let p = frame c.upwards c.first c.stride k.0 in
           ((items, refl, p, k.2, (good.selects p).1 (k.0, k.1, refl)), ap (child_at (array items)) k.2 ∙ k.3),
       λ h.
           let ((same, e, p, is, selects), found) = h in
           let k = (good.selects p).0 (subst (λ (xs : Items). SelectsPosition s (items_len xs) p) (sym (same_Some items same e)) selects) in
-          strided_complete c.count c.upwards c.first c.stride items good.there x
+          (in_strided c.count c.upwards c.first c.stride items good.there x).1
           (k.0, k.1, is ∙ ap by_position k.2, ap (λ q. get_item q items) (sym k.2) ∙ ap (child_at (array items)) (sym is) ∙ found),
     )
 in_sliced s _ x = (λ h. absurd h, λ h. absurd (none-some h.0.0 h.0.1))

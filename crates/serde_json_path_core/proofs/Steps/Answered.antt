@@ -8,6 +8,7 @@ use Rattle.serde_json_path_functions.specs.declared.error.QueryError.TheVariants
 use Rattle.serde_json_path_functions.specs.declared.types.FunctionArgType.{FunctionArgType}
 use Rattle.serde_json_path_functions.specs.declared.types.FunctionValue.{FunctionValue}
 use Rattle.serde_json_path_core.proofs.Sound.{own-call}
+use Rattle.serde_json_path_core.proofs.Meaning.AnswerKinds.{answered-typed, taken-typed}
 use Rattle.serde_json_path_core.proofs.Meaning.Derived.{arguments_right}
 
 module _ (F : FunctionSet) (top : Data) where
@@ -16,19 +17,19 @@ module _ (F : FunctionSet) (top : Data) where
       → arguments F top (arguments_in (pieces_named ps parts)) (map kind_view kinds) v ≡ []
   none-left ps [] kinds v h = refl
   none-left ps (part ∷ parts) [] v h = refl
-  none-left ps (part ∷ parts) (kind ∷ kinds) v (inl e) = absurd (cc)
-  none-left ps (part ∷ parts) (kind ∷ kinds) v (inr e) = absurd (cc)
+  none-left ps (part ∷ parts) (kind ∷ kinds) v h = absurd (elim h [ inl e ↦ cc | inr e ↦ cc ])
 
   -- then what is given are all arguments
   pub given-all : (ps : List Piece) (parts : List Part) (kinds : List FunctionArgType) (v : Data) (given all : List Term) → (length parts ≡ 0) ⊎ (length kinds ≡ 0)
       → all ≡ given ++ arguments F top (arguments_in (pieces_named ps parts)) (map kind_view kinds) v → given ≡ all
   given-all ps parts kinds v given all h e = sym (e ∙ ap (λ more. given ++ more) (none-left ps parts kinds v h) ∙ append-nil given)
 
-  pub answered : {E : Type 0} (c : Call) (name : List ℕ) (v : Data) (given : List Term) (r : Result FunctionValue E) → name ≡ name_of c
+  pub answered : {E : Type 0} (c : Call) (name : List ℕ) (v : Data) (given : List Term) (r : Result FunctionValue E) → IsTypedCall F.signature c → name ≡ name_of c
       → given ≡ arguments F top (arguments_of c) (params_of (F.signature (name_of c))) v
       → IfOk r (λ a. term_view a ≡ F.meaning name given) → IfOk r (λ a. term_view a ≡ answer F top c v)
-  answered (call f args) name v given (Ok a) e is means = means ∙ ap (λ n. F.meaning n given) e ∙ ap (F.meaning f) is
-  answered (call f args) name v given (Err x) e is means = tt
+  answered (call f args) name v given (Ok a) typed e is means =
+      rw (answered-typed F (call f args) typed) (means ∙ ap (λ n. F.meaning n given) e ∙ ap (F.meaning f) is)
+  answered _ name v given (Err x) typed e is means = tt
 
   -- a call that is refused for its pattern goes by one
   pub by_pattern : (q : Query) (c : Call) (name : List ℕ) (v : Data) (given : List Term) → name ≡ name_of c → IsSound F q IsTypedCall calls_from c → StandsIn top v
@@ -38,7 +39,7 @@ module _ (F : FunctionSet) (top : Data) where
       let typed = subst (AreTypedArguments F.signature args) (sym (ap params_of sound.0.1)) sound.0.2 in (
         call f args,
         own-call q (call f args) sound.1,
-        (v, stands, (given, (arguments_right F top args kinds typed v given).1 is, subst (λ n. MayRefuse (F.by_regex n) given) e may)),
+        (v, stands, (given, (arguments_right F top args kinds v given).1 (taken-typed F args kinds typed, is), subst (λ n. MayRefuse (F.by_regex n) given) e may)),
       )
 
 -- an error that a call hands on

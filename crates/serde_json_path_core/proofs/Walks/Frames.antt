@@ -1,14 +1,10 @@
 -- Frames of a walk: their tasks, and what they pass.
 use Rattle.std.proofs.Common.{◌≡◌, ℕ, ◌+◌, List, [], ◌∷◌, ◌++◌, map, flat_map, refl, ap, ◌∙◌, sym, append_assoc, drop, Some, inl, inr, subst}
-use Rattle.serde_json_path_core.proofs.Words.{map-append, Data, Step, SegmentKind, child, descendant, Selector, candidates, lower, opened, lower_left, tasks, child_at, FunctionSet, name, wildcard, index, slice, filter, Stage, AreChildrenOf, Frame, admitted, unfiltered, EndsIn, Skips, IsAtAdmitted, Passes, IsDone, IsAtTask, by_name, in_append}
+use Rattle.serde_json_path_core.proofs.Words.{map-append, Data, Step, SegmentKind, child, descendant, Selector, candidates, lower, opened, tasks, child_at, FunctionSet, name, wildcard, index, slice, filter, Stage, AreChildrenOf, Frame, admitted, unfiltered, EndsIn, Skips, IsAtAdmitted, Passes, IsDone, IsAtTask, by_name, in_append}
 use Rattle.serde_json_path_core.proofs.Meaning.ChildSteps.{in_children, in_child_by, in_item_at}
 use Rattle.serde_json_path_core.proofs.Meaning.SlicePositions.{in_sliced}
 
 -- ---- the tasks of a frame, a step at a time
-
-lower_left-lower : (kind : SegmentKind) (sel : Selector) (more : List Selector) (cs : List (Step × Data)) (v : Data) → lower_left kind (sel ∷ more) cs v ≡ lower kind v
-lower_left-lower child sel more cs v = refl
-lower_left-lower descendant sel more cs v = refl
 
 module _ (admit : Selector → List (Step × Data) → List (Step × Data)) (number : ℕ) (kind : SegmentKind) (v : Data) where
   -- a child for the next segment, and one for this segment
@@ -24,26 +20,20 @@ module _ (admit : Selector → List (Step × Data) → List (Step × Data)) (num
   -- where a segment begins
   pub next_opened : (sels : List Selector) → map onward (all_of sels) ++ map downward (lower kind v) ≡ tasks admit number kind sels (opened kind sels v) v
   next_opened [] = elim kind as (λ k. map downward (lower k v) ≡ tasks admit number k [] (opened k [] v) v) [ child ↦ refl | descendant ↦ refl ]
-  next_opened (sel ∷ more) = ap (λ xs. map onward (admit sel (candidates sel v) ++ all_of more) ++ map downward xs) (sym (lower_left-lower kind sel more (candidates sel v) v))
+  next_opened (sel ∷ more) = refl
 
   -- the selector at work passes some that it admits
   pub skips_over : (sels : List Selector) (sel : Selector) (more : List Selector) (cs ds front : List (Step × Data))
       → sels ≡ sel ∷ more → admit sel cs ≡ front ++ admit sel ds → tasks admit number kind sels cs v ≡ map onward front ++ tasks admit number kind sels ds v
   skips_over sels sel more cs ds front e a =
-      rw (
-        e,
-        a,
-        append_assoc front (admit sel ds) (all_of more),
-        map-append onward front (admit sel ds ++ all_of more),
-        lower_left-lower kind sel more cs v,
-        lower_left-lower kind sel more ds v,
-      ) (append_assoc (map onward front) (map onward (admit sel ds ++ all_of more)) (map downward (lower kind v)))
+      rw (e, a, append_assoc front (admit sel ds) (all_of more), map-append onward front (admit sel ds ++ all_of more))
+      (append_assoc (map onward front) (map onward (admit sel ds ++ all_of more)) (map downward (lower kind v)))
 
   -- the next selector begins, past what this one still admits
   pub turns_over : (sels : List Selector) (sel : Selector) (more : List Selector) (cs ds : List (Step × Data))
       → sels ≡ sel ∷ more → ds ≡ opened kind more v → tasks admit number kind sels cs v ≡ map onward (admit sel cs) ++ tasks admit number kind more ds v
   turns_over sels sel more cs ds e d =
-      rw (e, d, map-append onward (admit sel cs) (all_of more), lower_left-lower kind sel more cs v, sym (next_opened more))
+      rw (e, d, map-append onward (admit sel cs) (all_of more), sym (next_opened more))
       (append_assoc (map onward (admit sel cs)) (map onward (all_of more)) (map downward (lower kind v)))
 
   -- after the last selector, a child to go down to
@@ -76,10 +66,9 @@ first-of v c cs h = h c (inl refl)
 pub candidates-of : (sel : Selector) (v : Data) → AreChildrenOf v (candidates sel v)
 unfolding AreChildrenOf
 candidates-of (name k) v = λ c h. ((in_child_by v (by_name k) c).0 h).1
-candidates-of wildcard v = λ c h. (in_children v c).0 h
 candidates-of (index i) v = λ c h. ((in_item_at v i c).0 h).1
 candidates-of (slice s) v = λ c h. ((in_sliced s v c).0 h).1
-candidates-of (filter e) v = λ c h. (in_children v c).0 h
+candidates-of _ v = λ c h. (in_children v c).0 h
 
 pub opened-of : (kind : SegmentKind) (sels : List Selector) (v : Data) → AreChildrenOf v (opened kind sels v)
 unfolding AreChildrenOf

@@ -27,8 +27,7 @@ module _ {A : Type 0} (make : Located → List A) where
       ∙ ap (flat_map (λ m. make (beneath n.location m))) (descents_are n.value)
       ∙ ap (λ location. make (located location n.value) ++ flat_map (λ m. make (beneath n.location m)) (flat_map below_child (children n.value))) (append-nil n.location)
       ∙ ap (λ xs. make n ++ xs)
-      (flat_map-flat_map (λ m. make (beneath n.location m)) below_child (children n.value)
-      ∙ flat_map-same (λ c. flat_map (λ m. make (beneath n.location m)) (below_child c)) (λ c. flat_map make (reached descendant (placed n.location c))) (below-placed n) (children n.value))
+      (flat_map-flat_map (λ m. make (beneath n.location m)) below_child (children n.value) ∙ flat_map-same _ _ (below-placed n) (children n.value))
 
 -- ---- stacks
 
@@ -57,13 +56,7 @@ module _ (admit : Selector → List (Step × Data) → List (Step × Data)) {A :
       let xs = picks stage.selectors n.value in
       let ys = lower stage.kind n.value in
       unrolled (λ m. before ++ flat_map (λ c. made more (placed m.location c)) (picks stage.selectors m.value)) stage.kind n
-      ∙ rw (
-        flat_map-append (of_task n.location) (map (λ c. (number + 1, c)) xs) (map (λ c. (number, c)) ys),
-        flat_map-map (of_task n.location) (λ c. (number + 1, c)) xs,
-        flat_map-map (of_task n.location) (λ c. (number, c)) ys,
-        sym (drop-drop 1 number all) ∙ ap (drop 1) (sym e),
-        sym e,
-      )
+      ∙ rw (flat_map-append, flat_map-map, flat_map-map, sym (drop-drop 1 number all) ∙ ap (drop 1) (sym e), sym e)
       (append_assoc before (flat_map (λ c. made more (placed n.location c)) xs) (flat_map (λ c. made (stage ∷ more) (placed n.location c)) ys))
 
   of_stack-last : (above : List Step) (ps : List Frame) (p : Frame)
@@ -114,44 +107,32 @@ module _ (admit : Selector → List (Step × Data) → List (Step × Data)) {A :
       let L = here (stack_path [] ps) p in
       let Q = visit_place admit before leaf all (L ++ c.0 ∷ []) q in
       let passed = flat_map (of_task L) front in
+      let begun = enters (Some c.0) number (drop number all) (placed L c) refl in
+      let last = of_stack-last [] (ps ++ m ∷ []) q in
       passes ps p m stage more (front ++ task ∷ []) d (t ∙ sym (append_assoc front (task ∷ []) (frame_tasks admit stage m))) ms mk
-      ∙ rw (
-        flat_map-append (of_task L) front (task ∷ []),
-        append-nil (of_task L task),
-        enters (Some c.0) number (drop number all) (placed L c) refl,
-        append_assoc passed (before ++ Q) S,
-        append_assoc before Q S,
-        of_stack-last [] (ps ++ m ∷ []) q,
-        stack_path-last [] ps m,
-        ms,
-      ) refl
+      ∙ rw (flat_map-append, append-nil, begun, append_assoc passed (before ++ Q) S, append_assoc before Q S, last, stack_path-last, ms) refl
 
 -- ---- leaves
 
-leaf-candidates : (sel : Selector) (v : Data) → is_leaf v ≡ true → candidates sel v ≡ []
-leaf-candidates sel (array items) h = absurd cc
-leaf-candidates sel (object of) h = absurd cc
-leaf-candidates (name k) _ h = refl
-leaf-candidates _ _ h = refl
-
-admits-none : (F : FunctionSet) (top : Data) (sel : Selector) → admitted F top sel [] ≡ []
-admits-none F top (name k) = refl
-admits-none F top _ = refl
+leaf-admits : (F : FunctionSet) (top : Data) (sel : Selector) (v : Data) → is_leaf v ≡ true → admitted F top sel (candidates sel v) ≡ []
+leaf-admits F top sel (array items) h = absurd cc
+leaf-admits F top sel (object of) h = absurd cc
+leaf-admits F top (name k) _ h = refl
+leaf-admits F top _ _ h = refl
 
 leaf-picks : (F : FunctionSet) (top : Data) (sels : List Selector) (v : Data) → is_leaf v ≡ true → flat_map (λ s. admitted F top s (candidates s v)) sels ≡ []
 leaf-picks F top [] v h = refl
-leaf-picks F top (sel ∷ more) v h =
-    rw (leaf-candidates sel v h, admits-none F top sel) (leaf-picks F top more v h)
+leaf-picks F top (sel ∷ more) v h = rw (leaf-admits F top sel v h) (leaf-picks F top more v h)
 
-leaf-lower : (kind : SegmentKind) (v : Data) → is_leaf v ≡ true → lower kind v ≡ []
-leaf-lower child v h = refl
-leaf-lower descendant v h = leaf-candidates wildcard v h
+leaf-lower : (F : FunctionSet) (top : Data) (kind : SegmentKind) (v : Data) → is_leaf v ≡ true → lower kind v ≡ []
+leaf-lower F top child v h = refl
+leaf-lower F top descendant v h = leaf-admits F top wildcard v h
 
 -- a frame where a segment begins at a leaf has no task
 pub leaf-done : (F : FunctionSet) (top : Data) (step : Option Step) (number : ℕ) (stage : Stage) (more : List Stage) (v : Data) → is_leaf v ≡ true
     → frame_tasks (admitted F top) stage (entered step number (stage ∷ more) v) ≡ []
 leaf-done F top step number stage more v h =
-    rw (sym (next_opened (admitted F top) number stage.kind v stage.selectors), leaf-picks F top stage.selectors v h, leaf-lower stage.kind v h) refl
+    rw (sym (next_opened (admitted F top) number stage.kind v stage.selectors), leaf-picks F top stage.selectors v h, leaf-lower F top stage.kind v h) refl
 
 -- ---- what remains, and how much work, after one step of a walk
 
@@ -194,11 +175,6 @@ work-moved all ps p m stage more front number c d t ms mk =
     let held = length-append ps (m ∷ []) in
     omega arith
 
--- the last frame has no task left, and is dropped
-pub rest-dropped : (F : FunctionSet) (top : Data) (all : List Stage) (ps : List Frame) (p : Frame) (stage : Stage) (more : List Stage) → drop p.segment all ≡ stage ∷ more
-    → frame_tasks (admitted F top) stage p ≡ [] → rest_of F top all (ps ++ p ∷ []) ≡ rest_of F top all ps
-rest-dropped F top all ps p stage more d t = drops (admitted F top) [] (λ n. n ∷ []) all ps p stage more d ∙ rw t refl
-
 -- ---- what a walk that begins has left is the result of the segments
 
 module _ (F : FunctionSet) (top : Data) where
@@ -219,12 +195,10 @@ module _ (F : FunctionSet) (top : Data) where
   visit-results : (segs : Segments) (n : Located) → visit (admitted F top) [] (λ m. m ∷ []) (stages segs) n ≡ results_from F top segs n
   visit-results no_segments n = refl
   visit-results (segment kind seg more) n =
-      flat_map-same (λ m. flat_map (λ c. visit (admitted F top) [] (λ l. l ∷ []) (stages more) (placed m.location c)) (flat_map (λ s. admitted F top s (candidates s m.value)) (selectors_of seg)))
-      (λ m. flat_map (results_from F top more) (map (placed m.location) (chosen F top seg m.value)))
-      (λ m. ap (flat_map (λ c. visit (admitted F top) [] (λ l. l ∷ []) (stages more) (placed m.location c))) (chosen-list seg m.value)
-      ∙ flat_map-same (λ c. visit (admitted F top) [] (λ l. l ∷ []) (stages more) (placed m.location c)) (λ c. results_from F top more (placed m.location c)) (λ c. visit-results more (placed m.location c)) (chosen F top seg m.value)
-      ∙ sym (flat_map-map (results_from F top more) (placed m.location) (chosen F top seg m.value)))
-      (reached kind n)
+      flat_map-same _ _ (λ m.
+      ap (flat_map (λ c. visit (admitted F top) [] (λ l. l ∷ []) (stages more) (placed m.location c))) (chosen-list seg m.value)
+      ∙ flat_map-same _ (λ c. results_from F top more (placed m.location c)) (λ c. visit-results more (placed m.location c)) (chosen F top seg m.value)
+      ∙ sym (flat_map-map (results_from F top more) (placed m.location) (chosen F top seg m.value))) (reached kind n)
 
   pub rest-started : (segs : Segments) (v : Data) (ps : List Frame) → ps ≡ entered None 0 (stages segs) v ∷ [] → rest_of F top (stages segs) ps ≡ results_from F top segs (located [] v)
   rest-started segs v ps e =

@@ -6,7 +6,7 @@ use Rattle.serde_json_path_core.specs.declared.evaluation.frame.Frame as declare
 use Rattle.std.proofs.lemmas.Option.{get_or_from_slice_get, slice_get_cases, slice_get_within}
 use Rattle.serde_json_path_core.specs.Inside.Rest.{IsKept}
 use Rattle.serde_json_path_core.proofs.Walks.Chains.{begun-of, chain-split, stack-held, stack-moved}
-use Rattle.serde_json_path_core.proofs.Walks.Stacks.{gives, leaf-done, located, moves, passes, rest-dropped, stack_path-last, work-fewer, work-held, work-moved}
+use Rattle.serde_json_path_core.proofs.Walks.Stacks.{drops, gives, leaf-done, located, moves, passes, stack_path-last, work-fewer, work-held, work-moved}
 use Rattle.serde_json_path_core.specs.declared.evaluation.frame.Task.{Task}
 use Rattle.serde_json_path_core.proofs.Steps.Lookups.{found-none, found-some}
 
@@ -102,7 +102,7 @@ module _ (F : FunctionSet) (top : Data) (all : List Stage) where
 
   -- the last frame has no task left, and is dropped
   pub turn-dropped : (ps : List Frame) (p : Frame) (stage : Stage) (more : List Stage) → drop p.segment all ≡ stage ∷ more → IsDone F top stage p → IsTurn (ps ++ p ∷ []) ps
-  turn-dropped ps p stage more d done = (rest-dropped F top all ps p stage more d done, work-fewer all ps p, λ start h. (chain-split (IsAtStart start) ps p h).0)
+  turn-dropped ps p stage more d done = (drops (admitted F top) [] (λ n. n ∷ []) all ps p stage more d ∙ rw done refl, work-fewer all ps p, λ start h. (chain-split (IsAtStart start) ps p h).0)
 
   -- the last frame passes a task, for which there is a frame
   moved : (ps : List Frame) (p m : Frame) (stage : Stage) (more : List Stage) (number : ℕ) (c : Step × Data) → drop p.segment all ≡ stage ∷ more → ComesTo F top stage p (number, c) m

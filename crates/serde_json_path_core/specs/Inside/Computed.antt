@@ -152,39 +152,25 @@ sliced s _ = []
 
 -- ---- comparisons (section 2.3.5.2.2)
 
--- both amounts are there, and equal
-abbrev pub same_amount : Option ℤ → Option ℤ → Bool
-same_amount (Some a) (Some b) = int_eq a b
-same_amount _ _ = false
-
--- both amounts are there, and the first is less
-abbrev pub rising_amount : Option ℤ → Option ℤ → Bool
-rising_amount (Some a) (Some b) = int_lt a b
-rising_amount _ _ = false
-
--- the same of exact numbers
-abbrev pub same_exact : Option Float → Option Float → Bool
-same_exact (Some a) (Some b) = eq a b
-same_exact _ _ = false
-
-abbrev pub rising_exact : Option Float → Option Float → Bool
-rising_exact (Some a) (Some b) = lt a b
-rising_exact _ _ = false
+-- both are there, and the test holds of them
+abbrev pub of_both : {A : Type 0} → (A → A → Bool) → Option A → Option A → Bool
+of_both holds (Some a) (Some b) = holds a b
+of_both _ _ _ = false
 
 -- two numbers of documents are equal
 abbrev pub same_number : Numbers → Num → Num → Bool
-same_number whole_numbers a b = same_amount (as_integer a) (as_integer b)
+same_number whole_numbers a b = of_both int_eq (as_integer a) (as_integer b)
 same_number all_numbers a b = eq (document_number a) (document_number b)
 
 -- two sides are numbers, one at least of a literal, and equal
 abbrev pub same_sides : Numbers → Compared → Compared → Bool
-same_sides whole_numbers a b = same_amount (amount_of a) (amount_of b)
-same_sides all_numbers a b = same_exact (exact_of a) (exact_of b)
+same_sides whole_numbers a b = of_both int_eq (amount_of a) (amount_of b)
+same_sides all_numbers a b = of_both eq (exact_of a) (exact_of b)
 
 -- two sides are numbers, and the first is less
 abbrev pub rising_sides : Numbers → Compared → Compared → Bool
-rising_sides whole_numbers a b = rising_amount (amount_of a) (amount_of b)
-rising_sides all_numbers a b = rising_exact (exact_of a) (exact_of b)
+rising_sides whole_numbers a b = of_both int_lt (amount_of a) (amount_of b)
+rising_sides all_numbers a b = of_both lt (exact_of a) (exact_of b)
 
 module _ (numbers : Numbers) where
   abbrev mutual
@@ -268,6 +254,21 @@ result_as of_value ns = functions.value (first_value ns)
 result_as of_nodes ns = nodes (map (λ n. n.value) ns)
 result_as of_logical ns = logical (is_nonempty ns)
 
+module _ (F : FunctionSet) where
+  abbrev mutual
+    -- the call has an answer: there is a parameter for each of its arguments, as for those of the calls among them
+    pub is_answered : Call → Bool
+    is_answered (call f args) = are_taken args (params_of (F.signature f))
+
+    pub are_taken : Arguments → List Kind → Bool
+    are_taken no_arguments kinds = true
+    are_taken (argument a more) [] = false
+    are_taken (argument a more) (kind ∷ kinds) = is_taken a && are_taken more kinds
+
+    pub is_taken : Argument → Bool
+    is_taken (call_argument c) = is_answered c
+    is_taken _ = true
+
 module _ (F : FunctionSet) (top : Data) where
   -- ---- queries (sections 2.1 to 2.5)
 
@@ -327,9 +328,11 @@ module _ (F : FunctionSet) (top : Data) where
     compared (singular q) v = Some (value_compared (first_value (results q v)))
     compared (called c) v = answer_compared (answer c v)
 
-    -- the answer of a call: the set's meaning of its name and arguments (section 2.4)
+    -- the answer of a call: the set's meaning of its name and arguments (section 2.4); without one, what holds as no test and is
+    -- compared with nothing
     pub answer : Call → Data → Term
-    answer (call f args) v = F.meaning f (arguments args (params_of (F.signature f)) v)
+    answer (call f args) v =
+        if are_taken F args (params_of (F.signature f)) then F.meaning f (arguments args (params_of (F.signature f)) v) else logical false
 
     -- the arguments as parameters of those types take them (section 2.4.3)
     pub arguments : Arguments → List Kind → Data → List Term

@@ -83,9 +83,9 @@ entering all ps task = last_passed ps ++ cond (is_leaf task.1.1) [] (entered (So
 
 -- the children to go down to, where these selectors are left
 abbrev pub lower_left : SegmentKind → List Selector → List (Step × Data) → Data → List (Step × Data)
-lower_left child sels cs v = []
+lower_left kind (sel ∷ more) cs v = lower kind v
+lower_left child [] cs v = []
 lower_left descendant [] cs v = cs
-lower_left descendant (sel ∷ more) cs v = children v
 
 -- the location of a frame, given the location above it
 abbrev pub here : List Step → Frame → List Step

@@ -2,7 +2,6 @@
 
 ghost use Rattle.std.specs.Prelude.{◌≡◌, IfOk, map};
 ghost use Rattle.serde_json.specs.View.{view};
-ghost use Rattle.serde_json_path_nodes.specs.Location.{Step};
 ghost use Rattle.serde_json_path_nodes.specs.Views.{node_value};
 ghost use Rattle.serde_json_path_core.specs.Inside.Computed.{children};
 

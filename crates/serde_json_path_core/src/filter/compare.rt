@@ -1,12 +1,13 @@
 //! Comparisons (RFC 9535, section 2.3.5.2.2).
 
-ghost use Rattle.std.specs.Prelude.{◌≡◌, ◌||◌, option_map};
+ghost use Rattle.std.specs.Prelude.{◌≡◌, ◌||◌, int_lt, option_map};
+ghost use Rattle.std.specs.Float.Ieee.{eq, lt};
 ghost use Rattle.std.specs.Ordering.{nat_cmp, is_lt};
 ghost use Rattle.std.specs.Cmp.Lexicographic.{slice_cmp};
 ghost use Rattle.std.specs.Str.{chars};
 ghost use Rattle.serde_json_path_numbers.specs.Views.{exact_view};
 ghost use Rattle.serde_json_path_functions.specs.Terms.{numbers_view};
-ghost use Rattle.serde_json_path_core.specs.Inside.Computed.{comes_before, compare as comparison, is_same, rising_amount, rising_exact, rising_sides, same_exact, same_sides};
+ghost use Rattle.serde_json_path_core.specs.Inside.Computed.{comes_before, compare as comparison, is_same, of_both, rising_sides, same_sides};
 ghost use Rattle.serde_json_path_syntax.specs.Literals.{operator_view};
 ghost use Rattle.serde_json_path_core.specs.Inside.Sides.{side_view};
 
@@ -66,7 +67,7 @@ fn equal_numbers(numbers: Numbers, left: Side, right: Side) -> bool
 
 /// Whether two numbers are there, and equal.
 fn equal_exactly(left: Option<ExactNumber>, right: Option<ExactNumber>) -> bool
-    ensures { result ≡ same_exact (option_map exact_view left) (option_map exact_view right) }
+    ensures { result ≡ of_both eq (option_map exact_view left) (option_map exact_view right) }
 {
     match (left, right) {
         (Some(left), Some(right)) => left.is_equal(right),
@@ -103,7 +104,7 @@ fn rising_numbers(numbers: Numbers, left: Side, right: Side) -> bool
 /// Whether two amounts are there, and the first is less.
 #[inline(always)]
 fn rising_amounts(left: Option<i128>, right: Option<i128>) -> bool
-    ensures { result ≡ rising_amount left right }
+    ensures { result ≡ of_both int_lt left right }
 {
     match (left, right) {
         (Some(left), Some(right)) => left < right,
@@ -113,7 +114,7 @@ fn rising_amounts(left: Option<i128>, right: Option<i128>) -> bool
 
 /// Whether two numbers are there, and the first is less.
 fn rising_exactly(left: Option<ExactNumber>, right: Option<ExactNumber>) -> bool
-    ensures { result ≡ rising_exact (option_map exact_view left) (option_map exact_view right) }
+    ensures { result ≡ of_both lt (option_map exact_view left) (option_map exact_view right) }
 {
     match (left, right) {
         (Some(left), Some(right)) => left.is_less(right),

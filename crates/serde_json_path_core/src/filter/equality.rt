@@ -1,10 +1,11 @@
 //! Equality of values (RFC 9535, section 2.3.5.2.2).
 
 ghost use Rattle.std.specs.Prelude.{◌≡◌};
+ghost use Rattle.std.specs.Ordering.{int_eq};
 ghost use Rattle.serde_json.specs.Find.{as_integer};
 ghost use Rattle.serde_json.specs.View.{view, items_view, members_view, number_view};
 ghost use Rattle.serde_json_path_functions.specs.Terms.{numbers_view};
-ghost use Rattle.serde_json_path_core.specs.Inside.Computed.{same_amount, same_number, same_data, same_items as same_items_of, same_members as same_members_of};
+ghost use Rattle.serde_json_path_core.specs.Inside.Computed.{of_both, same_number, same_data, same_items as same_items_of, same_members as same_members_of};
 
 use crate::filter::side::amount;
 use serde_json::{Map, Number, Value};
@@ -44,7 +45,7 @@ fn same_numbers(numbers: Numbers, left: &Number, right: &Number) -> bool
 #[inline(always)]
 fn same_whole_numbers(left: &Number, right: &Number) -> bool
     ensures { result
-        ≡ same_amount (as_integer (number_view left.now)) (as_integer (number_view right.now)) }
+        ≡ of_both int_eq (as_integer (number_view left.now)) (as_integer (number_view right.now)) }
 {
     match (left.as_i64(), right.as_i64()) {
         (Some(first), Some(second)) => first == second,
@@ -55,7 +56,7 @@ fn same_whole_numbers(left: &Number, right: &Number) -> bool
 /// Whether two amounts are there, and equal.
 #[inline(always)]
 pub(crate) fn same_amounts(left: Option<i128>, right: Option<i128>) -> bool
-    ensures { result ≡ same_amount left right }
+    ensures { result ≡ of_both int_eq left right }
 {
     match (left, right) {
         (Some(left), Some(right)) => left == right,

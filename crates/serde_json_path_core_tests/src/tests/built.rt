@@ -100,16 +100,16 @@ fn selected(alloc: Global, query: &Checked, document: &str) -> Result<String, Fa
 #[test]
 fn selects_by_parts(rt: HostRuntime) -> Result<(), Fail> {
     let alloc = rt.alloc();
-    let mut table = Table::new();
+    let mut table = Table::new(&rt);
     let row = (r#"{"a":[1,2]}"#, "$.a[0]", "$['a'][0] ~ 1");
     let query = first_of_member(alloc)?;
-    table.hold(&rt, row, selected(alloc, &query, row.0));
+    table.hold(row, selected(alloc, &query, row.0));
     let row = (r#"{"b":2,"a":1}"#, "$['a', 'b']", "$['a'] $['b'] ~ 1 2");
     let query = made_from_the_end(alloc)?;
-    table.hold(&rt, row, selected(alloc, &query, row.0));
+    table.hold(row, selected(alloc, &query, row.0));
     let row = ("[[1,2]]", "$..*[*,1:]", "$[0][0] $[0][1] $[0][1] ~ 1 2 2");
     let query = all_and_all_but_the_first(alloc)?;
-    table.hold(&rt, row, selected(alloc, &query, row.0));
+    table.hold(row, selected(alloc, &query, row.0));
     table.end()
 }
 
@@ -141,13 +141,13 @@ fn selected_alone(
 #[test]
 fn gives_one_node_in_each_way(rt: HostRuntime) -> Result<(), Fail> {
     let alloc = rt.alloc();
-    let mut table = Table::new();
+    let mut table = Table::new(&rt);
     let row = (r#"{"a":[1]}"#, "$", r#"$ ~ {"a":[1]}"#);
     let query = Checked::new(alloc);
-    table.hold(&rt, row, selected_alone(&rt, alloc, &query, row.0));
+    table.hold(row, selected_alone(&rt, alloc, &query, row.0));
     let row = (r#"{"a":[1]}"#, "$.a[0]", "$['a'][0] ~ 1");
     let query = first_of_member(alloc)?;
-    table.hold(&rt, row, selected_alone(&rt, alloc, &query, row.0));
+    table.hold(row, selected_alone(&rt, alloc, &query, row.0));
     table.end()
 }
 

@@ -59,15 +59,11 @@ const ESCAPES: &[(char, &str)] = &[
 
 #[test]
 fn characters_print_as_the_rfc_says(rt: HostRuntime) -> Result<(), Fail> {
-    let mut table = Table::new();
+    let mut table = Table::new(&rt);
     for &(character, wanted) in ESCAPES {
         let given = format!(in rt.alloc(); "{character:?}")?;
-        let came = String::from_str(rt.alloc(), escaped(character).unwrap_or("itself"));
-        table.hold(
-            &rt,
-            ("escapes", given.as_str(), wanted),
-            came.map_err(Fail::from),
-        );
+        let came = String::from_str(rt.alloc(), escaped(character).unwrap_or("itself"))?;
+        table.hold(("escapes", given.as_str(), wanted), Ok(came));
     }
     table.end()
 }
@@ -104,11 +100,11 @@ fn pointed(alloc: Global, location: &NormalizedPath<'_>, document: &Value) -> Re
 #[test]
 fn locations_print_and_point(rt: HostRuntime) -> Result<(), Fail> {
     let document = Value::from_str(rt.alloc(), NAMED)?;
-    let mut table = Table::new();
+    let mut table = Table::new(&rt);
     for &(steps, wanted) in POINTED {
         let location = location(rt.alloc(), steps)?;
         let came = pointed(rt.alloc(), &location, &document);
-        table.hold(&rt, (NAMED, wanted, wanted), came);
+        table.hold((NAMED, wanted, wanted), came);
     }
     table.end()
 }
@@ -116,16 +112,12 @@ fn locations_print_and_point(rt: HostRuntime) -> Result<(), Fail> {
 // Two steps.
 const STEPS: &[PathElement<'static>] = &[Name("a"), Index(7)];
 
-// Holds a location to its two steps.
-fn are_steps(rt: &impl Abort, location: &NormalizedPath<'_>) {
+#[test]
+fn locations_are_lists_of_steps(rt: HostRuntime) -> Result<(), Fail> {
+    let location = location(rt.alloc(), STEPS)?;
     assert!(rt; location.len() == 2 && !location.is_empty() && location.iter().len() == 2);
     assert!(rt; location.get(1) == Some(STEPS[1]) && location.get(2).is_none());
     assert!(rt; location.iter().eq(STEPS.iter().copied()));
-}
-
-#[test]
-fn locations_are_lists_of_steps(rt: HostRuntime) -> Result<(), Fail> {
-    are_steps(&rt, &location(rt.alloc(), STEPS)?);
     Ok(())
 }
 
@@ -137,26 +129,16 @@ const COMPARED: &[(&[PathElement<'static>], &[PathElement<'static>], &str)] = &[
     (&[Name("a"), Index(7)], &[Name("b"), Index(7)], "false"),
 ];
 
-// Two locations, and whether they are equal.
-fn compared(
-    alloc: Global,
-    one: &NormalizedPath<'_>,
-    other: &NormalizedPath<'_>,
-) -> Result<(String, String), AllocError> {
-    let given = format!(in alloc; "{one} {other}")?;
-    let is_equal = one == other;
-    Ok((given, format!(in alloc; "{is_equal}")?))
-}
-
 #[test]
 fn locations_are_equal_by_their_steps(rt: HostRuntime) -> Result<(), Fail> {
     law_texts_tell_locations();
-    let mut table = Table::new();
+    let mut table = Table::new(&rt);
     for &(one, other, wanted) in COMPARED {
         let one = location(rt.alloc(), one)?;
         let other = location(rt.alloc(), other)?;
-        let (given, came) = compared(rt.alloc(), &one, &other)?;
-        table.hold(&rt, ("steps", given.as_str(), wanted), Ok(came));
+        let given = format!(in rt.alloc(); "{one} {other}")?;
+        let came = format!(in rt.alloc(); "{}", one == other)?;
+        table.hold(("steps", given.as_str(), wanted), Ok(came));
     }
     table.end()
 }
@@ -172,12 +154,12 @@ const REPEATED: &[(&[usize], &str)] = &[
 #[test]
 fn repeated_locations_leave_their_first_place(rt: HostRuntime) -> Result<(), Fail> {
     let node = Value::Null;
-    let mut table = Table::new();
+    let mut table = Table::new(&rt);
     for &(positions, kept) in REPEATED {
         let given = locations(rt.alloc(), &located(rt.alloc(), &node, positions)?)?;
         let list = located(rt.alloc(), &node, positions)?.dedup();
         let came = locations(rt.alloc(), &list);
-        table.hold(&rt, ("items", given.as_str(), kept), came);
+        table.hold(("items", given.as_str(), kept), came);
     }
     table.end()
 }
@@ -240,30 +222,18 @@ const COUNTED: &[(usize, &str)] = &[
 #[test]
 fn lists_answer_by_their_length(rt: HostRuntime) -> Result<(), Fail> {
     let node = Value::Null;
-    let mut table = Table::new();
+    let mut table = Table::new(&rt);
     for &(count, wanted) in COUNTED {
         let list = repeated(rt.alloc(), &node, count)?;
-        table.hold(
-            &rt,
-            ("nulls", wanted, wanted),
-            answered(rt.alloc(), list, count),
-        );
+        table.hold(("nulls", wanted, wanted), answered(rt.alloc(), list, count));
     }
     table.end()
 }
 
-// Whether a list has so many pairs, by each call that tells of their number.
-fn has_located(list: &LocatedNodeList<'_>, count: usize) -> bool {
-    list.len() == count
-        && !list.is_empty()
-        && list.iter().len() == count
-        && list.nodes().len() == count
-        && list.locations().len() == count
-}
-
 // Holds a list to two pairs of null and a location of one step.
 fn are_pairs(rt: &impl Abort, list: &LocatedNodeList<'_>) {
-    assert!(rt; has_located(list, 2));
+    assert!(rt; list.len() == 2 && !list.is_empty() && list.iter().len() == 2);
+    assert!(rt; list.nodes().len() == 2 && list.locations().len() == 2);
     assert!(rt; list.nodes().all(|node| node.is_null()));
     assert!(rt;
         list.iter()
@@ -298,13 +268,9 @@ fn refused(alloc: Global, positions: &[usize]) -> Result<String, Fail> {
 
 #[test]
 fn located_lists_answer_by_their_length(rt: HostRuntime) -> Result<(), Fail> {
-    let mut table = Table::new();
+    let mut table = Table::new(&rt);
     for &(positions, wanted) in LOCATED {
-        table.hold(
-            &rt,
-            ("nulls", wanted, wanted),
-            refused(rt.alloc(), positions),
-        );
+        table.hold(("nulls", wanted, wanted), refused(rt.alloc(), positions));
     }
     table.end()
 }

@@ -79,11 +79,11 @@ const ROWS: &[&str] = &[
 
 #[test]
 fn compares_all_numbers_where_the_set_says_so(rt: HostRuntime) -> Result<(), Fail> {
-    let mut table = Table::new();
-    table.hold_each(&rt, rt.alloc(), "the bookstore", BOOKS, |alloc, path| {
+    let mut table = Table::new(&rt);
+    table.hold_each("the bookstore", BOOKS, |alloc, path| {
         by_both_rules(alloc, path, BOOKSTORE)
     });
-    table.hold_each(&rt, rt.alloc(), "both rules", ROWS, of_row);
+    table.hold_each("both rules", ROWS, of_row);
     table.end()
 }
 
@@ -91,12 +91,12 @@ fn compares_all_numbers_where_the_set_says_so(rt: HostRuntime) -> Result<(), Fai
 fn has_the_choice_of_the_first_set(rt: HostRuntime) -> Result<(), Fail> {
     let alloc = rt.alloc();
     let row = |wanted| ("[1.5]", "$[?none() == none() && @ == 1.5]", wanted);
-    let ((document, path, _), mut table) = (row(""), Table::new());
+    let ((document, path, _), mut table) = (row(""), Table::new(&rt));
     let all = AllNumbers(Own::refusing(0));
-    table.hold(&rt, row("$[0]"), located(alloc, &all, path, document));
+    table.hold(row("$[0]"), located(alloc, &all, path, document));
     let first = Both(all, Own::refusing(0));
-    table.hold(&rt, row("$[0]"), located(alloc, &first, path, document));
+    table.hold(row("$[0]"), located(alloc, &first, path, document));
     let second = Both(Own::refusing(0), AllNumbers(Builtin));
-    table.hold(&rt, row(""), located(alloc, &second, path, document));
+    table.hold(row(""), located(alloc, &second, path, document));
     table.end()
 }

@@ -26,10 +26,5 @@ const COUNTED: &[&str] = &["$..* -> 27"];
 
 #[test]
 fn counts_all_below_the_bookstore(rt: HostRuntime) -> Result<(), Fail> {
-    hold_rows(
-        &rt,
-        rt.alloc(),
-        COUNTED,
-        |alloc, path| count(alloc, path, BOOKSTORE),
-    )
+    hold_rows(&rt, COUNTED, |alloc, path| count(alloc, path, BOOKSTORE))
 }

@@ -9,16 +9,6 @@ use std::test::Fail;
 /// The operators.
 const OPERATORS: &[&str] = &["==", "!=", "<", "<=", ">", ">="];
 
-/// Whether an operator holds between two sides for the one item of a document.
-fn is_held(
-    alloc: Global,
-    document: &Value,
-    (left, operator, right): (&str, &str, &str),
-) -> Result<bool, Fail> {
-    let path = format!(in alloc; "$[?{left} {operator} {right}]")?;
-    Ok(nodes(alloc, path.as_str(), document)?.len() == 1)
-}
-
 /// The operators that hold between two sides for the one item of a document, with a space between them.
 fn holding(alloc: Global, given: &str) -> Result<String, Fail> {
     let (document, sides) = fields(given)?;
@@ -26,7 +16,8 @@ fn holding(alloc: Global, given: &str) -> Result<String, Fail> {
     let document = Value::from_str(alloc, document)?;
     let mut text = String::new(alloc);
     for &operator in OPERATORS {
-        if is_held(alloc, &document, (left, operator, right))? {
+        let path = format!(in alloc; "$[?{left} {operator} {right}]")?;
+        if nodes(alloc, path.as_str(), &document)?.len() == 1 {
             if !text.is_empty() {
                 text.push(' ')?;
             }
@@ -97,5 +88,5 @@ const COMPARED: &[&str] = &[
 
 #[test]
 fn holds_operators_between_sides(rt: HostRuntime) -> Result<(), Fail> {
-    hold_rows(&rt, rt.alloc(), COMPARED, holding)
+    hold_rows(&rt, COMPARED, holding)
 }

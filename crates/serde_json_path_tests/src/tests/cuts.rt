@@ -1,6 +1,7 @@
 //! Texts of paths that are cut at each character.
 
-use crate::tests::long_texts::{CUT, hold_long};
+use crate::tests::long_texts::CUT;
+use crate::tests::nesting::hold_nested;
 use crate::tests::tables::of_refusal;
 use serde_json_path::functions::{Builtin, Functions};
 use serde_json_path::{JsonPath, ParseError};
@@ -62,10 +63,5 @@ pub(crate) fn cut<F: Functions>(alloc: Global, functions: &F, text: &str) -> Res
 
 #[test]
 fn cuts_long_texts(rt: HostRuntime) -> Result<(), Fail> {
-    hold_long(
-        &rt,
-        rt.alloc(),
-        CUT,
-        |alloc, text| of_refusal(alloc, &Builtin, text),
-    )
+    hold_nested(&rt, CUT, |alloc, text| of_refusal(alloc, &Builtin, text))
 }

@@ -6,43 +6,27 @@ use std::alloc::Global;
 use std::error::Error;
 use std::test::Fail;
 
-/// Holds an error to its text.
-fn tells<E: Error>(table: &mut Table, rt: &impl Eprint, alloc: Global, error: &E, wanted: &str) {
-    let text = format!(in alloc; "{error}").map_err(Fail::from);
-    table.hold(rt, ("errors", wanted, wanted), text);
+/// The text of an error.
+fn told<E: Error>(alloc: Global, error: &E) -> Result<String, Fail> {
+    Ok(format!(in alloc; "{error}")?)
 }
 
 #[test]
 fn are_errors(rt: HostRuntime) -> Result<(), Fail> {
     let alloc = rt.alloc();
-    let mut table = Table::new();
-    let two = "at most one node expected, found 2";
-    tells(&mut table, &rt, alloc, &AtMostOneError(2), two);
-    let none = "one node expected, found none";
-    tells(&mut table, &rt, alloc, &ExactlyOneError::Empty, none);
-    tells(
-        &mut table,
-        &rt,
-        alloc,
-        &QueryError::Pattern,
-        "pattern refused",
-    );
-    tells(
-        &mut table,
-        &rt,
-        alloc,
-        &FromJsonError::NotAString,
-        "not a string",
-    );
-    if let Err(refused) = JsonPath::parse(alloc, "x") {
-        tells(
-            &mut table,
-            &rt,
-            alloc,
-            &refused,
-            "at position 1, expected '$'",
-        );
-        return table.end();
-    }
-    Err(Fail::new("the text is accepted"))
+    let mut table = Table::new(&rt);
+    let row = ("errors", "two", "at most one node expected, found 2");
+    table.hold(row, told(alloc, &AtMostOneError(2)));
+    let row = ("errors", "none", "one node expected, found none");
+    table.hold(row, told(alloc, &ExactlyOneError::Empty));
+    let row = ("errors", "a pattern", "pattern refused");
+    table.hold(row, told(alloc, &QueryError::Pattern));
+    let row = ("errors", "a number", "not a string");
+    table.hold(row, told(alloc, &FromJsonError::NotAString));
+    let Err(refused) = JsonPath::parse(alloc, "x") else {
+        return Err(Fail::new("the text is accepted"));
+    };
+    let row = ("errors", "x", "at position 1, expected '$'");
+    table.hold(row, told(alloc, &refused));
+    table.end()
 }

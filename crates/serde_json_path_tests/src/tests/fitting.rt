@@ -63,10 +63,10 @@ fn queries_where_the_path_fits(rt: HostRuntime) -> Result<(), Fail> {
     let row = ("[[1,2],[3]]", "$[?length(@) == 2]", "[1,2]");
     let document = Value::from_str(alloc, row.0)?;
     let path = JsonPath::parse(alloc, row.1)?;
-    let mut table = Table::new();
+    let mut table = Table::new(&rt);
     let nodes = query_if_it_fits(alloc, &path, &document);
-    table.hold(&rt, row, given(alloc, nodes));
+    table.hold(row, given(alloc, nodes));
     let nodes = query_with_if_it_fits(alloc, &path, &document, &Builtin);
-    table.hold(&rt, row, given(alloc, nodes));
+    table.hold(row, given(alloc, nodes));
     table.end()
 }

@@ -166,7 +166,7 @@ fn found_again(alloc: Global, given: &str) -> Result<String, Fail> {
 
 #[test]
 fn leads_back_from_each_node(rt: HostRuntime) -> Result<(), Fail> {
-    hold_rows(&rt, rt.alloc(), FOUND, found_again)
+    hold_rows(&rt, FOUND, found_again)
 }
 
 #[test]
@@ -178,12 +178,9 @@ fn appends_a_segment(rt: HostRuntime) -> Result<(), Fail> {
     let longer = JsonPath::parse_with(alloc, "$[*].a", &Builtin)?;
     let (nodes, more) = append(alloc, &shorter, &longer, &document, &Builtin)?;
     let all = r#"$[0] $[1] $[2] ~ {"a":1} {"b":2} {"a":3}"#;
-    let mut table = Table::new();
-    table.hold(&rt, (text, "$[*]", all), located(alloc, &nodes));
-    table.hold(
-        &rt,
-        (text, "$[*].a", "$[0]['a'] $[2]['a'] ~ 1 3"),
-        located(alloc, &more),
-    );
+    let mut table = Table::new(&rt);
+    table.hold((text, "$[*]", all), located(alloc, &nodes));
+    let row = (text, "$[*].a", "$[0]['a'] $[2]['a'] ~ 1 3");
+    table.hold(row, located(alloc, &more));
     table.end()
 }

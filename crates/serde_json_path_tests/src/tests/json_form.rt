@@ -41,7 +41,7 @@ fn refusal(alloc: Global, value: &str) -> Result<String, Fail> {
 fn refuses_values_that_are_not_paths(rt: HostRuntime) -> Result<(), Fail> {
     let answer = JsonPath::from_json(rt.alloc(), &Value::from(7)).err();
     assert!(rt; answer == Some(FromJsonError::NotAString));
-    hold_rows(&rt, rt.alloc(), REFUSED, refusal)
+    hold_rows(&rt, REFUSED, refusal)
 }
 
 /// The values that the path of a JSON string selects from a document, which is asked for them.
@@ -56,5 +56,5 @@ fn read(alloc: Global, given: &str) -> Result<String, Fail> {
 
 #[test]
 fn reads_paths_from_strings(rt: HostRuntime) -> Result<(), Fail> {
-    hold_rows(&rt, rt.alloc(), READ, read)
+    hold_rows(&rt, READ, read)
 }

@@ -1,9 +1,9 @@
 //! What the lists of a query answer.
 
-use crate::tests::rows::{located_nodes, nodes};
+use crate::tests::rows::{nodes, read};
 use serde_json::Value;
 use serde_json_path::LocatedNodeList;
-use serde_json_path_core_tests::rows::{fields, hold_rows};
+use serde_json_path_core_tests::rows::hold_rows;
 use serde_json_path_core_tests::texts::locations;
 use std::alloc::Global;
 use std::test::Fail;
@@ -16,15 +16,13 @@ const ONCE: &[&str] = &[
 
 /// The locations of what a path selects from a document, each once.
 fn once(alloc: Global, given: &str) -> Result<String, Fail> {
-    let (path, document) = fields(given)?;
-    let document = Value::from_str(alloc, document)?;
-    let nodes = located_nodes(alloc, path, &document)?.dedup();
-    locations(alloc, &nodes)
+    let (path, document) = read(alloc, given)?;
+    locations(alloc, &path.query_located(alloc, &document)?.dedup())
 }
 
 #[test]
 fn keeps_each_location_once(rt: HostRuntime) -> Result<(), Fail> {
-    hold_rows(&rt, rt.alloc(), ONCE, once)
+    hold_rows(&rt, ONCE, once)
 }
 
 /// A path, a document, and the JSON pointers of what the path selects, with a `;` after each.
@@ -45,14 +43,13 @@ fn pointers(alloc: Global, nodes: &LocatedNodeList<'_>) -> Result<String, Fail> 
 
 /// The JSON pointers of what a path selects from a document.
 fn pointed(alloc: Global, given: &str) -> Result<String, Fail> {
-    let (path, document) = fields(given)?;
-    let document = Value::from_str(alloc, document)?;
-    pointers(alloc, &located_nodes(alloc, path, &document)?)
+    let (path, document) = read(alloc, given)?;
+    pointers(alloc, &path.query_located(alloc, &document)?)
 }
 
 #[test]
 fn points_at_each_node(rt: HostRuntime) -> Result<(), Fail> {
-    hold_rows(&rt, rt.alloc(), POINTED, pointed)
+    hold_rows(&rt, POINTED, pointed)
 }
 
 /// A path, how many nodes it selects from an object of two members, and how their list refuses to be exactly one node and
@@ -73,5 +70,5 @@ fn counted(alloc: Global, path: &str) -> Result<String, Fail> {
 
 #[test]
 fn refuses_by_the_number_of_nodes(rt: HostRuntime) -> Result<(), Fail> {
-    hold_rows(&rt, rt.alloc(), COUNTED, counted)
+    hold_rows(&rt, COUNTED, counted)
 }

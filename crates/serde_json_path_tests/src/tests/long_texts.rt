@@ -9,61 +9,32 @@ use serde_json_path_core_tests::texts::long;
 use std::alloc::Global;
 use std::test::Fail;
 
-/// The beginning of a text, what stands in it so many times, its end, and what its parse answers.
-type Long = (
-    &'static str,
-    &'static str,
-    usize,
-    &'static str,
-    &'static str,
-);
-
-/// Texts that are cut, too.
-pub(crate) const CUT: &[Long] = &[
-    ("$[", "9", 10_000, "]", "IntegerOutOfRange 3"),
-    ("$[?@ == ", "9", 10_000, "]", "NumberOutOfRange 9"),
-    ("$", " ", 10_000, "x", "TextAfterPath 2"),
+/// What is long, how often it stands there, and what the parse of that text answers. The texts are cut, too.
+pub(crate) const CUT: &[(Nesting<'static>, usize, &str)] = &[
+    (("$[", "9", "]", "", ""), 10_000, "IntegerOutOfRange 3"),
+    (("$[?@ == ", "9", "]", "", ""), 10_000, "NumberOutOfRange 9"),
+    (("$", " ", "x", "", ""), 10_000, "TextAfterPath 2"),
 ];
 
-/// Texts, of which the nesting of the last three ends and is not counted.
-const LONG: &[Long] = &[
-    ("$[?@ == 0.", "0", 10_000, "]", "FractionTooLong 9"),
-    ("$[?(@)", " && (@)", 200, "]", "accepted"),
+/// Calls, one after the other.
+const SEVERAL: Nesting<'static> = ("$[?count(@) == 1", " || count(@) == 1", "]", "", "");
+
+/// The same, of texts of which the nesting of the last three ends and is not counted.
+const LONG: &[(Nesting<'static>, usize, &str)] = &[
     (
-        "$[?count(@) == 1",
-        " || count(@) == 1",
-        200,
-        "]",
-        "accepted",
+        ("$[?@ == 0.", "0", "]", "", ""),
+        10_000,
+        "FractionTooLong 9",
     ),
-    ("$", "[?@]", 200, "", "accepted"),
+    (("$[?(@)", " && (@)", "]", "", ""), 200, "accepted"),
+    (SEVERAL, 200, "accepted"),
+    (("$", "[?@]", "", "", ""), 200, "accepted"),
 ];
-
-/// Holds what comes of each long text to what its parse answers.
-pub(crate) fn hold_long<F: Fn(Global, &str) -> Result<String, Fail>>(
-    rt: &impl Eprint,
-    alloc: Global,
-    rows: &[Long],
-    came: F,
-) -> Result<(), Fail>
-    requires { F.IsAlwaysCallable came }
-{
-    let mut table = Table::new();
-    for &(beginning, repeated, times, end, wanted) in rows {
-        let text = long(alloc, beginning, repeated, times, end)?;
-        table.hold(
-            rt,
-            ("a long text", beginning, wanted),
-            came(alloc, text.as_str()),
-        );
-    }
-    table.end()
-}
 
 #[test]
 fn parses_long_texts(rt: HostRuntime) -> Result<(), Fail> {
-    hold_long(&rt, rt.alloc(), CUT, parsed)?;
-    hold_long(&rt, rt.alloc(), LONG, parsed)
+    hold_nested(&rt, CUT, parsed)?;
+    hold_nested(&rt, LONG, parsed)
 }
 
 /// What a path, which prints itself, selects from a document.
@@ -79,12 +50,8 @@ fn selects_deep_nodes(rt: HostRuntime) -> Result<(), Fail> {
     let path = long(rt.alloc(), "$", "[0]", 20, "")?;
     let wanted = long(rt.alloc(), "$", "[0]", 20, " ~ 0")?;
     let came = of_path(rt.alloc(), path.as_str(), document.as_str());
-    let mut table = Table::new();
-    table.hold(
-        &rt,
-        (document.as_str(), path.as_str(), wanted.as_str()),
-        came,
-    );
+    let mut table = Table::new(&rt);
+    table.hold((document.as_str(), path.as_str(), wanted.as_str()), came);
     table.end()
 }
 
@@ -126,15 +93,15 @@ fn of_repeated(alloc: Global, given: &str) -> Result<String, Fail> {
 
 #[test]
 fn selects_by_long_names_and_literals(rt: HostRuntime) -> Result<(), Fail> {
-    hold_rows(&rt, rt.alloc(), REPEATED, of_repeated)
+    hold_rows(&rt, REPEATED, of_repeated)
 }
 
 #[test]
 fn counts_a_thousand_items(rt: HostRuntime) -> Result<(), Fail> {
     let zeros = long(rt.alloc(), "[0", ",0", 999, "]")?;
-    let mut table = Table::new();
+    let mut table = Table::new(&rt);
     let came = count(rt.alloc(), "$..*", zeros.as_str());
-    table.hold(&rt, ("a thousand zeros", "$..*", "1000"), came);
+    table.hold(("a thousand zeros", "$..*", "1000"), came);
     table.end()
 }
 
@@ -158,7 +125,7 @@ const LOOKED: &[(Nesting<'static>, usize, &str)] = &[
 
 #[test]
 fn looks_at_texts(rt: HostRuntime) -> Result<(), Fail> {
-    hold_nested(&rt, rt.alloc(), LOOKED, of_looks)
+    hold_nested(&rt, LOOKED, of_looks)
 }
 
 /// After how many members of a document its patterns come again, and how many members match theirs.
@@ -186,5 +153,5 @@ fn of_cycle(alloc: Global, cycle: &str) -> Result<String, Fail> {
 
 #[test]
 fn patterns_come_again(rt: HostRuntime) -> Result<(), Fail> {
-    hold_rows(&rt, rt.alloc(), CYCLES, of_cycle)
+    hold_rows(&rt, CYCLES, of_cycle)
 }

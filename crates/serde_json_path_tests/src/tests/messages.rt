@@ -62,11 +62,11 @@ fn message(alloc: Global, text: &str) -> Result<String, Fail> {
 
 #[test]
 fn tells_refusals(rt: HostRuntime) -> Result<(), Fail> {
-    let mut table = Table::new();
-    table.hold_each(&rt, rt.alloc(), "built-in functions", TOLD, message);
+    let mut table = Table::new(&rt);
+    table.hold_each("built-in functions", TOLD, message);
     let deep = nested(rt.alloc(), PARENTHESES, 128)?;
     let wanted = "at position 131, in long-hand segment, nested more than 128 deep";
     let told = message(rt.alloc(), deep.as_str());
-    table.hold(&rt, ("built-in functions", deep.as_str(), wanted), told);
+    table.hold(("built-in functions", deep.as_str(), wanted), told);
     table.end()
 }

@@ -66,25 +66,24 @@ fn of_text(alloc: Global, text: &str) -> Result<String, Fail> {
 
 /// Holds what comes of each nested text to what is wanted.
 pub(crate) fn hold_nested<F: Fn(Global, &str) -> Result<String, Fail>>(
-    rt: &impl Eprint,
-    alloc: Global,
+    rt: &(impl Eprint + AllocGlobal),
     rows: &[(Nesting<'static>, usize, &str)],
     came: F,
 ) -> Result<(), Fail>
     requires { F.IsAlwaysCallable came }
 {
-    let mut table = Table::new();
+    let mut table = Table::new(rt);
     for &(nesting, times, wanted) in rows {
-        let text = nested(alloc, nesting, times)?;
+        let text = nested(rt.alloc(), nesting, times)?;
         let row = ("built-in functions", text.as_str(), wanted);
-        table.hold(rt, row, came(alloc, text.as_str()));
+        table.hold(row, came(rt.alloc(), text.as_str()));
     }
     table.end()
 }
 
 #[test]
 fn nests(rt: HostRuntime) -> Result<(), Fail> {
-    hold_nested(&rt, rt.alloc(), NESTED, of_text)
+    hold_nested(&rt, NESTED, of_text)
 }
 
 /// A segment that stands within 126 filters, parentheses and calls in turn, and what the parse of that text answers. Where
@@ -114,5 +113,5 @@ fn within(alloc: Global, segment: &str) -> Result<String, Fail> {
 
 #[test]
 fn nests_all_in_turn(rt: HostRuntime) -> Result<(), Fail> {
-    hold_rows(&rt, rt.alloc(), IN_TURN, within)
+    hold_rows(&rt, IN_TURN, within)
 }

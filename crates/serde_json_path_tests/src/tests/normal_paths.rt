@@ -12,34 +12,22 @@ use std::test::Fail;
 fn finds_the_root_again(rt: HostRuntime) -> Result<(), Fail> {
     let alloc = rt.alloc();
     let root = NormalizedPath::from_steps(Vec::new(alloc));
-    let text = r#"[{"a":7}]"#;
-    let document = Value::from_str(alloc, text)?;
+    let row = (r#"[{"a":7}]"#, "the root", r#"$ ~ [{"a":7}]"#);
+    let document = Value::from_str(alloc, row.0)?;
     let nodes = find_again(alloc, &root, &document, &Builtin)?;
-    let mut table = Table::new();
-    table.hold(
-        &rt,
-        (text, "the root", r#"$ ~ [{"a":7}]"#),
-        located(alloc, &nodes),
-    );
+    let mut table = Table::new(&rt);
+    table.hold(row, located(alloc, &nodes));
     table.end()
 }
 
 #[test]
 fn finds_an_item_again(rt: HostRuntime) -> Result<(), Fail> {
     let alloc = rt.alloc();
-    let mut items = Vec::new(alloc);
-    items.push(Value::Null)?;
-    items.push(Value::Bool(true))?;
-    let document = Value::Array(items);
-    let mut steps = Vec::new(alloc);
-    steps.push(PathElement::Index(1))?;
-    let location = NormalizedPath::from_steps(steps);
+    let document = Value::Array(vec![in alloc; Value::Null, Value::Bool(true)]?);
+    let location = NormalizedPath::from_steps(vec![in alloc; PathElement::Index(1)]?);
     let nodes = find_again(alloc, &location, &document, &Builtin)?;
-    let mut table = Table::new();
-    table.hold(
-        &rt,
-        ("[null,true]", "the second item", "$[1] ~ true"),
-        located(alloc, &nodes),
-    );
+    let mut table = Table::new(&rt);
+    let row = ("[null,true]", "the second item", "$[1] ~ true");
+    table.hold(row, located(alloc, &nodes));
     table.end()
 }

@@ -10,8 +10,8 @@ use std::test::Fail;
 fn the_new_path_is_the_root(rt: HostRuntime) -> Result<(), Fail> {
     let row = (r#"{"a":[1]}"#, "the new path", r#"$ ~ {"a":[1]}"#);
     let path = JsonPath::new(rt.alloc());
-    let mut table = Table::new();
-    table.hold(&rt, row, queried(rt.alloc(), &path, row.0));
+    let mut table = Table::new(&rt);
+    table.hold(row, queried(rt.alloc(), &path, row.0));
     table.end()
 }
 
@@ -39,8 +39,8 @@ fn refused(alloc: Global, text: &str) -> Result<String, Fail> {
 
 #[test]
 fn from_str_reads_as_parse(rt: HostRuntime) -> Result<(), Fail> {
-    let mut table = Table::new();
-    table.hold_each(&rt, rt.alloc(), "built-in functions", SELECTED, selected);
-    table.hold_each(&rt, rt.alloc(), "built-in functions", REFUSED, refused);
+    let mut table = Table::new(&rt);
+    table.hold_each("built-in functions", SELECTED, selected);
+    table.hold_each("built-in functions", REFUSED, refused);
     table.end()
 }

@@ -97,10 +97,10 @@ fn of_path(alloc: Global, text: &str) -> Result<String, Fail> {
 
 #[test]
 fn prints_paths(rt: HostRuntime) -> Result<(), Fail> {
-    let mut table = Table::new();
-    table.hold_each(&rt, rt.alloc(), "built-in functions", PRINTED, of_path);
+    let mut table = Table::new(&rt);
+    table.hold_each("built-in functions", PRINTED, of_path);
     let root = printed(rt.alloc(), &JsonPath::new(rt.alloc()));
-    table.hold(&rt, ("no text", "the new path", "$"), root);
+    table.hold(("no text", "the new path", "$"), root);
     table.end()
 }
 
@@ -117,5 +117,5 @@ fn equality(alloc: Global, given: &str) -> Result<String, Fail> {
 
 #[test]
 fn tells_equal_paths(rt: HostRuntime) -> Result<(), Fail> {
-    hold_rows(&rt, rt.alloc(), COMPARED, equality)
+    hold_rows(&rt, COMPARED, equality)
 }

@@ -4,18 +4,14 @@
 //! A call that answers no memory is made again, and then answers as its row says. A test whose name begins with
 //! `takes_none` makes requests only for what it hands in.
 
-ghost use Rattle.serde_json_path_functions.specs.Functions.{Fits};
-ghost use Rattle.serde_json_path_functions.specs.Patterns.{builtin_functions};
-ghost use Rattle.serde_json_path.specs.Paths.{path_signatures};
-
-use crate::tests::rows::{located_nodes, nodes};
+use crate::tests::rows::{located_nodes, nodes, read};
 use serde_json::Value;
 use serde_json_path::functions::{
     Builtin, CachedPatterns, FunctionArgType, Functions, LogicalType, PatternStore, Signature,
 };
 use serde_json_path::{
-    FromJsonError, JsonPath, JsonPathExt, LocatedNode, LocatedNodeList, NodeList, ParseErrorKind,
-    PathSource, TextSource, law_set_before_itself, parse_source,
+    FromJsonError, JsonPath, JsonPathExt, LocatedNode, LocatedNodeList, NodeList, ParseError,
+    ParseErrorKind, PathSource, TextSource, parse_source,
 };
 use serde_json_path_core_tests::rows::{fields, hold_answers, hold_rows, holds};
 use serde_json_path_core_tests::texts::{long, of_calls, of_located, of_nodes, of_walk};
@@ -24,19 +20,6 @@ use serde_json_path_syntax::{Checked, SyntaxBuilder};
 use std::alloc::Global;
 use std::process::Abort;
 use std::test::Fail;
-
-/// A call that reads a path from a text, or that makes a copy or a text of a path.
-#[derive(Clone, Copy)]
-enum Call {
-    Parse,
-    FromStr,
-    ParseWith,
-    ParseSource,
-    FromJson,
-    TryClone,
-    ToText,
-    ToJson,
-}
 
 /// A text, and the text that its path prints, or the refusal.
 const TEXTS: &[&str] = &[
@@ -58,121 +41,89 @@ const PRINTED: &[&str] = &[
 ];
 
 /// The text of what is read, or nothing where memory is refused.
-fn told(alloc: Global, answer: Result<JsonPath, FromJsonError>) -> Result<Option<String>, Fail> {
+fn told(alloc: Global, answer: Result<JsonPath, ParseError>) -> Result<Option<String>, Fail> {
     match answer {
         Ok(path) => Ok(Some(path.to_text(alloc)?)),
-        Err(FromJsonError::Path(e)) if e.kind() == ParseErrorKind::NoMemory => Ok(None),
+        Err(e) if e.kind() == ParseErrorKind::NoMemory => Ok(None),
         Err(e) => Ok(Some(e.to_string(alloc)?)),
     }
 }
 
-/// What is read from a JSON string, as [`told`] gives it.
-fn from_json_string(alloc: Global, text: &str) -> Result<Option<String>, Fail> {
-    let value = Value::String(String::from_str(alloc, text)?);
-    told(alloc, JsonPath::from_json(alloc, &value))
-}
-
-/// What is read from a source, as [`told`] gives it. Fails where it looks at the source more often than the bound says.
-fn from_source(alloc: Global, text: &str) -> Result<Option<String>, Fail> {
-    let mut source = TextSource::new(text);
-    let answer = parse_source(alloc, &mut source, &Builtin);
-    holds(
-        source.looks() <= 32 * (text.len() as u128 + 1),
-        "too many looks",
-    )?;
-    told(alloc, answer.map_err(FromJsonError::Path))
-}
-
-/// The text of a copy, which is equal to its path and fits the same set.
-fn copied(alloc: Global, path: &JsonPath, copy: &JsonPath) -> Result<Option<String>, Fail> {
-    holds(copy == path && copy.fits(&Builtin), "another path")?;
-    Ok(Some(copy.to_text(alloc)?))
-}
-
-/// The text of what a call reads or makes of a text, or nothing where memory is refused.
-fn called(alloc: Global, call: Call, text: &str) -> Result<Option<String>, Fail> {
-    let answer = match call {
-        Call::ParseSource => return from_source(alloc, text),
-        Call::FromJson => return from_json_string(alloc, text),
-        Call::FromStr => JsonPath::from_str(alloc, text),
-        Call::ParseWith => JsonPath::parse_with(alloc, text, &Builtin),
-        _ => JsonPath::parse(alloc, text),
-    };
-    match call {
-        Call::TryClone | Call::ToText | Call::ToJson => written(alloc, call, &answer?),
-        _ => told(alloc, answer.map_err(FromJsonError::Path)),
-    }
-}
-
-/// The text that a call makes of a path, or nothing where memory is refused.
-fn written(alloc: Global, call: Call, path: &JsonPath) -> Result<Option<String>, Fail> {
-    match call {
-        Call::TryClone => match path.try_clone(alloc) {
-            Ok(copy) => copied(alloc, path, &copy),
-            Err(_) => Ok(None),
-        },
-        Call::ToText => Ok(path.to_text(alloc).ok()),
-        _ => match path.to_json(alloc) {
-            Ok(Value::String(text)) => Ok(Some(text)),
-            _ => Ok(None),
-        },
-    }
-}
-
-/// Holds each row to the text of what a call reads or makes.
-fn hold_texts(rt: &impl Eprint, alloc: Global, call: Call, rows: &[&str]) -> Result<(), Fail> {
-    hold_answers(rt, alloc, rows, |alloc, text| called(alloc, call, text))
-}
-
 #[test]
 fn parse(rt: HostRuntime) -> Result<(), Fail> {
-    hold_texts(&rt, rt.alloc(), Call::Parse, TEXTS)
+    hold_answers(&rt, TEXTS, |alloc, text| {
+        let answer = JsonPath::parse(alloc, text);
+        told(alloc, answer)
+    })
 }
 
 #[test]
 fn from_str(rt: HostRuntime) -> Result<(), Fail> {
-    hold_texts(&rt, rt.alloc(), Call::FromStr, TEXTS)
+    hold_answers(&rt, TEXTS, |alloc, text| {
+        let answer = JsonPath::from_str(alloc, text);
+        told(alloc, answer)
+    })
 }
 
 #[test]
 fn parse_with(rt: HostRuntime) -> Result<(), Fail> {
-    hold_texts(&rt, rt.alloc(), Call::ParseWith, TEXTS)
+    hold_answers(&rt, TEXTS, |alloc, text| {
+        let answer = JsonPath::parse_with(alloc, text, &Builtin);
+        told(alloc, answer)
+    })
 }
 
+/// A source may be looked at no more often than the bound says.
 #[test]
 fn parses_a_source(rt: HostRuntime) -> Result<(), Fail> {
-    hold_texts(&rt, rt.alloc(), Call::ParseSource, TEXTS)
+    hold_answers(&rt, TEXTS, |alloc, text| {
+        let mut source = TextSource::new(text);
+        let answer = parse_source(alloc, &mut source, &Builtin);
+        let most = 32 * (text.len() as u128 + 1);
+        holds(source.looks() <= most, "too many looks")?;
+        told(alloc, answer)
+    })
 }
 
 #[test]
 fn from_json(rt: HostRuntime) -> Result<(), Fail> {
-    hold_texts(&rt, rt.alloc(), Call::FromJson, TEXTS)
+    hold_answers(&rt, TEXTS, |alloc, text| {
+        let value = Value::String(String::from_str(alloc, text)?);
+        match JsonPath::from_json(alloc, &value) {
+            Err(FromJsonError::Path(refused)) => told(alloc, Err(refused)),
+            answer => told(alloc, Ok(answer?)),
+        }
+    })
 }
 
+/// The copy is equal to its path, and fits the same set.
 #[test]
 fn try_clone(rt: HostRuntime) -> Result<(), Fail> {
-    hold_texts(&rt, rt.alloc(), Call::TryClone, PRINTED)
+    hold_answers(&rt, PRINTED, |alloc, text| {
+        let path = JsonPath::parse(alloc, text)?;
+        let Ok(copy) = path.try_clone(alloc) else {
+            return Ok(None);
+        };
+        holds(copy == path && copy.fits(&Builtin), "another path")?;
+        Ok(Some(copy.to_text(alloc)?))
+    })
 }
 
 #[test]
 fn to_text(rt: HostRuntime) -> Result<(), Fail> {
-    hold_texts(&rt, rt.alloc(), Call::ToText, PRINTED)
+    hold_answers(&rt, PRINTED, |alloc, text| {
+        Ok(JsonPath::parse(alloc, text)?.to_text(alloc).ok())
+    })
 }
 
 #[test]
 fn to_json(rt: HostRuntime) -> Result<(), Fail> {
-    hold_texts(&rt, rt.alloc(), Call::ToJson, PRINTED)
-}
-
-/// A call that gives the nodes of a path, as values or with their locations.
-#[derive(Clone, Copy)]
-enum Querying {
-    Query,
-    QueryWith,
-    JsonPath,
-    QueryLocated,
-    QueryLocatedWith,
-    Walk,
+    hold_answers(&rt, PRINTED, |alloc, text| {
+        match JsonPath::parse(alloc, text)?.to_json(alloc) {
+            Ok(Value::String(text)) => Ok(Some(text)),
+            _ => Ok(None),
+        }
+    })
 }
 
 /// A path, a document, and the locations of what the path selects there.
@@ -198,83 +149,60 @@ const BY_PATTERNS: &[&str] = &[
     r#"$[?match(@[0], 'b+') || search(@[0], @[1])] ~ [["b"],["xcx","c"],["x","("],["y"],["z","c"],["y","("],["c","c"]] -> $[0] $[1] $[6]"#,
 ];
 
-/// What a query gives, as values or as locations, or nothing where memory is refused.
-fn queried(
-    alloc: Global,
-    query: Querying,
-    path: &JsonPath,
-    document: &Value,
-) -> Result<Option<String>, Fail>
-    requires { Fits builtin_functions (path_signatures path.now) }
-{
-    law_set_before_itself();
-    match query {
-        Querying::Query => of_nodes(alloc, path.query(alloc, document)),
-        Querying::QueryWith => of_nodes(alloc, path.query_with(alloc, document, &Builtin)),
-        Querying::JsonPath => of_nodes(alloc, document.json_path(alloc, path)),
-        Querying::QueryLocated => of_located(alloc, path.query_located(alloc, document)),
-        Querying::QueryLocatedWith => {
-            of_located(alloc, path.query_located_with(alloc, document, &Builtin))
-        }
-        Querying::Walk => of_walk(alloc, path.walk(alloc, document, &Builtin)),
-    }
-}
-
-/// What a query by a path gives of a document, as [`queried`] does.
-fn of_query(alloc: Global, query: Querying, row: &str) -> Result<Option<String>, Fail> {
-    let (path, document) = fields(row)?;
-    let path = JsonPath::parse(alloc, path)?;
-    queried(alloc, query, &path, &Value::from_str(alloc, document)?)
-}
-
-/// Holds each row to what a query gives.
-fn hold_queries(
-    rt: &impl Eprint,
-    alloc: Global,
-    query: Querying,
-    rows: &[&str],
-) -> Result<(), Fail> {
-    hold_answers(
-        rt,
-        alloc,
-        rows,
-        |alloc, given| of_query(alloc, query, given),
-    )
-}
-
 #[test]
 fn query(rt: HostRuntime) -> Result<(), Fail> {
-    hold_queries(&rt, rt.alloc(), Querying::Query, VALUES)
+    hold_answers(&rt, VALUES, |alloc, row| {
+        let (path, document) = read(alloc, row)?;
+        of_nodes(alloc, path.query(alloc, &document))
+    })
 }
 
 #[test]
 fn query_with(rt: HostRuntime) -> Result<(), Fail> {
-    hold_queries(&rt, rt.alloc(), Querying::QueryWith, VALUES)
+    hold_answers(&rt, VALUES, |alloc, row| {
+        let (path, document) = read(alloc, row)?;
+        of_nodes(alloc, path.query_with(alloc, &document, &Builtin))
+    })
 }
 
 #[test]
 fn json_path(rt: HostRuntime) -> Result<(), Fail> {
-    hold_queries(&rt, rt.alloc(), Querying::JsonPath, VALUES)
+    hold_answers(&rt, VALUES, |alloc, row| {
+        let (path, document) = read(alloc, row)?;
+        of_nodes(alloc, document.json_path(alloc, &path))
+    })
 }
 
 #[test]
 fn query_located(rt: HostRuntime) -> Result<(), Fail> {
-    hold_queries(&rt, rt.alloc(), Querying::QueryLocated, LOCATIONS)
+    hold_answers(&rt, LOCATIONS, |alloc, row| {
+        let (path, document) = read(alloc, row)?;
+        of_located(alloc, path.query_located(alloc, &document))
+    })
 }
 
 #[test]
 fn query_located_with(rt: HostRuntime) -> Result<(), Fail> {
-    hold_queries(&rt, rt.alloc(), Querying::QueryLocatedWith, LOCATIONS)
+    hold_answers(&rt, LOCATIONS, |alloc, row| {
+        let (path, document) = read(alloc, row)?;
+        of_located(alloc, path.query_located_with(alloc, &document, &Builtin))
+    })
 }
 
 #[test]
 fn query_located_by_patterns(rt: HostRuntime) -> Result<(), Fail> {
-    hold_queries(&rt, rt.alloc(), Querying::QueryLocated, BY_PATTERNS)
+    hold_answers(&rt, BY_PATTERNS, |alloc, row| {
+        let (path, document) = read(alloc, row)?;
+        of_located(alloc, path.query_located(alloc, &document))
+    })
 }
 
 #[test]
 fn walk(rt: HostRuntime) -> Result<(), Fail> {
-    hold_queries(&rt, rt.alloc(), Querying::Walk, LOCATIONS)
+    hold_answers(&rt, LOCATIONS, |alloc, row| {
+        let (path, document) = read(alloc, row)?;
+        of_walk(alloc, path.walk(alloc, &document, &Builtin))
+    })
 }
 
 /// The locations that a walk gives under a set, of which a call that is refused is made again.
@@ -287,12 +215,7 @@ fn of_next<F: Functions>(alloc: Global, functions: &F, row: &str) -> Result<Stri
 
 #[test]
 fn next(rt: HostRuntime) -> Result<(), Fail> {
-    hold_rows(
-        &rt,
-        rt.alloc(),
-        LOCATIONS,
-        |alloc, row| of_next(alloc, &Builtin, row),
-    )
+    hold_rows(&rt, LOCATIONS, |alloc, row| of_next(alloc, &Builtin, row))
 }
 
 /// The same, where the set keeps patterns: what a refused call has kept, the next one finds.
@@ -303,7 +226,7 @@ fn of_next_by_patterns(alloc: Global, row: &str) -> Result<String, Fail> {
 
 #[test]
 fn next_by_patterns(rt: HostRuntime) -> Result<(), Fail> {
-    hold_rows(&rt, rt.alloc(), BY_PATTERNS, of_next_by_patterns)
+    hold_rows(&rt, BY_PATTERNS, of_next_by_patterns)
 }
 
 /// A path, a document, and the pointer of the one node that the path selects there.
@@ -316,15 +239,14 @@ const POINTED: &[&str] = &[
 
 /// The pointer of the one node that a path selects from a document, or nothing where memory is refused.
 fn pointed(alloc: Global, row: &str) -> Result<Option<String>, Fail> {
-    let (path, document) = fields(row)?;
-    let document = Value::from_str(alloc, document)?;
-    let node = located_nodes(alloc, path, &document)?.exactly_one()?;
+    let (path, document) = read(alloc, row)?;
+    let node = path.query_located(alloc, &document)?.exactly_one()?;
     Ok(node.location().to_json_pointer(alloc).ok())
 }
 
 #[test]
 fn to_json_pointer(rt: HostRuntime) -> Result<(), Fail> {
-    hold_answers(&rt, rt.alloc(), POINTED, pointed)
+    hold_answers(&rt, POINTED, pointed)
 }
 
 /// Texts without a root.

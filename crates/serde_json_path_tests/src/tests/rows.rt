@@ -1,13 +1,14 @@
 //! What comes of the paths of rows, as texts.
 
+ghost use Rattle.std.specs.Prelude.{IfOk};
 ghost use Rattle.serde_json_path_functions.specs.Functions.{Fits};
-ghost use Rattle.serde_json_path_functions.specs.Patterns.{builtin_functions};
+ghost use Rattle.serde_json_path_functions.specs.Patterns.{before_builtin, builtin_functions};
 ghost use Rattle.serde_json_path.specs.Paths.{path_signatures};
 
 use serde_json::Value;
 use serde_json_path::functions::Functions;
-use serde_json_path::{JsonPath, LocatedNodeList, NodeList, ParseError};
-use serde_json_path_core_tests::rows::{alike, holds};
+use serde_json_path::{JsonPath, LocatedNodeList, NodeList, ParseError, law_set_before_itself};
+use serde_json_path_core_tests::rows::{alike, fields, holds};
 use serde_json_path_core_tests::texts::{located, values};
 use std::alloc::Global;
 use std::test::Fail;
@@ -46,6 +47,18 @@ pub(crate) fn selected<F: Functions>(
     let nodes = path.query_with(alloc, &document, functions)?;
     let with_locations = path.query_located_with(alloc, &document, functions)?;
     both(alloc, &nodes, &with_locations)
+}
+
+/// The path and the document of a row.
+pub(crate) fn read(alloc: Global, row: &str) -> Result<(JsonPath, Value), Fail>
+    ensures fits { IfOk result (λ read. Fits builtin_functions (path_signatures read.0)) }
+    ensures before { IfOk result (λ read.
+        Fits (before_builtin builtin_functions) (path_signatures read.0)) }
+{
+    law_set_before_itself();
+    let (path, document) = fields(row)?;
+    let path = JsonPath::parse(alloc, path)?;
+    Ok((path, Value::from_str(alloc, document)?))
 }
 
 /// The nodes that a path selects from a document.

@@ -189,19 +189,15 @@ const ODD: &[&str] = &[
 const NO_ODD: &[&str] = &["$[?length(1) == 3] -> WrongArgumentType 11"];
 
 /// Holds a set to a table of what is selected and to one of what is refused.
-fn hold_set<F: Functions>(
-    table: &mut Table,
-    rt: &impl Eprint,
-    alloc: Global,
+fn hold_set<R: Eprint + AllocGlobal, F: Functions>(
+    table: &mut Table<'_, R>,
     functions: &F,
     (name, paths, refused): (&str, &[&str], &[&str]),
 ) {
-    table.hold_each(rt, alloc, name, paths, |alloc, given| {
+    table.hold_each(name, paths, |alloc, given| {
         of_path_and_document(alloc, functions, given)
     });
     table.hold_each(
-        rt,
-        alloc,
         name,
         refused,
         |alloc, text| of_refusal(alloc, functions, text),
@@ -210,22 +206,10 @@ fn hold_set<F: Functions>(
 
 #[test]
 fn calls_functions_of_sets(rt: HostRuntime) -> Result<(), Fail> {
-    let mut table = Table::new();
+    let mut table = Table::new(&rt);
     let own = Own::refusing(0);
-    hold_set(
-        &mut table,
-        &rt,
-        rt.alloc(),
-        &own,
-        ("own functions", OWN, NO_OWN),
-    );
-    hold_set(
-        &mut table,
-        &rt,
-        rt.alloc(),
-        &Odd,
-        ("another length", ODD, NO_ODD),
-    );
+    hold_set(&mut table, &own, ("own functions", OWN, NO_OWN));
+    hold_set(&mut table, &Odd, ("another length", ODD, NO_ODD));
     table.end()
 }
 
@@ -245,9 +229,9 @@ fn refuses_where_a_function_is_refused(rt: HostRuntime) -> Result<(), Fail> {
     assert!(rt; located == Some(QueryError::Memory));
     let values = path.query_with(alloc, &document, &own).err();
     assert!(rt; values == Some(QueryError::Memory));
-    let mut table = Table::new();
+    let mut table = Table::new(&rt);
     let walked = of_walk(alloc, &own, (REFUSED, FIRST), 4);
-    table.hold(&rt, (FIRST, REFUSED, "$[0], 3 refused"), walked);
+    table.hold((FIRST, REFUSED, "$[0], 3 refused"), walked);
     table.end()
 }
 
@@ -268,18 +252,18 @@ const FITTING: &[&str] = &[
 #[test]
 fn fits_the_sets_that_declare_its_calls(rt: HostRuntime) -> Result<(), Fail> {
     let alloc = rt.alloc();
-    let mut table = Table::new();
-    table.hold_each(&rt, alloc, "built-in functions", FITTING, |alloc, text| {
+    let mut table = Table::new(&rt);
+    table.hold_each("built-in functions", FITTING, |alloc, text| {
         fitting(alloc, &Builtin, text)
     });
     let own = ("own functions", "$[?kids(@.*)]", "false, true, false");
-    table.hold(&rt, own, fitting(alloc, &Own::refusing(0), own.1));
+    table.hold(own, fitting(alloc, &Own::refusing(0), own.1));
     let odd = (
         "another length",
         "$[?length(@.*) == 3]",
         "false, false, true",
     );
-    table.hold(&rt, odd, fitting(alloc, &Odd, odd.1));
+    table.hold(odd, fitting(alloc, &Odd, odd.1));
     table.end()
 }
 
@@ -289,16 +273,13 @@ const NESTED: &[(usize, &str)] = &[(126, "accepted"), (127, "NestedTooDeep 131")
 /// An argument that is a logical expression adds no level.
 #[test]
 fn nests_logical_arguments(rt: HostRuntime) -> Result<(), Fail> {
-    let mut table = Table::new();
+    let mut table = Table::new(&rt);
     for &(times, wanted) in NESTED {
         let nesting = ("$[?", "(", "both(@.a && @.b, !@)", ")", "]");
         let text = nested(rt.alloc(), nesting, times)?;
         let answer = JsonPath::parse_with(rt.alloc(), text.as_str(), &Own::refusing(0));
-        table.hold(
-            &rt,
-            ("own functions", text.as_str(), wanted),
-            told(rt.alloc(), answer),
-        );
+        let row = ("own functions", text.as_str(), wanted);
+        table.hold(row, told(rt.alloc(), answer));
     }
     table.end()
 }

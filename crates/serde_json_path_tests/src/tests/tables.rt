@@ -47,10 +47,10 @@ pub(crate) fn of_refusal<F: Functions>(
 }
 
 /// Holds the paths of each table, as [`of_path_and_document`] gives what they select.
-fn hold_paths(rt: &impl Eprint, alloc: Global, tables: &[&[&str]]) -> Result<(), Fail> {
-    let mut table = Table::new();
+fn hold_paths(rt: &(impl Eprint + AllocGlobal), tables: &[&[&str]]) -> Result<(), Fail> {
+    let mut table = Table::new(rt);
     for &rows in tables {
-        table.hold_each(rt, alloc, "built-in functions", rows, |alloc, given| {
+        table.hold_each("built-in functions", rows, |alloc, given| {
             of_path_and_document(alloc, &Builtin, given)
         });
     }
@@ -58,10 +58,10 @@ fn hold_paths(rt: &impl Eprint, alloc: Global, tables: &[&[&str]]) -> Result<(),
 }
 
 /// Holds the texts of each table, as [`of_refusal`] gives how they are refused.
-fn hold_refusals(rt: &impl Eprint, alloc: Global, tables: &[&[&str]]) -> Result<(), Fail> {
-    let mut table = Table::new();
+fn hold_refusals(rt: &(impl Eprint + AllocGlobal), tables: &[&[&str]]) -> Result<(), Fail> {
+    let mut table = Table::new(rt);
     for &rows in tables {
-        table.hold_each(rt, alloc, "built-in functions", rows, |alloc, text| {
+        table.hold_each("built-in functions", rows, |alloc, text| {
             of_refusal(alloc, &Builtin, text)
         });
     }
@@ -69,47 +69,44 @@ fn hold_refusals(rt: &impl Eprint, alloc: Global, tables: &[&[&str]]) -> Result<
 }
 
 /// The tables of names, indexes, wildcards, slices and descendants.
-const SELECTORS: &[&[&str]] = &[
-    names::NAMES,
-    names::WILDCARDS,
-    names::INDEXES,
-    names::SEVERAL,
-    slices::SLICES,
-    descendants::DESCENDANTS,
-    blanks::BLANKS,
-];
-
 #[test]
 fn selects_by_names_and_indexes(rt: HostRuntime) -> Result<(), Fail> {
-    hold_paths(&rt, rt.alloc(), SELECTORS)
+    let tables = [
+        names::NAMES,
+        names::WILDCARDS,
+        names::INDEXES,
+        names::SEVERAL,
+        slices::SLICES,
+        descendants::DESCENDANTS,
+        blanks::BLANKS,
+    ];
+    hold_paths(&rt, &tables)
 }
 
 /// The tables of filters.
-const FILTERS: &[&[&str]] = &[
-    filters::FILTERS,
-    filters::NULLS,
-    comparisons::COMPARISONS,
-    calls::CALLS,
-    calls::PATTERNS,
-];
-
 #[test]
 fn selects_by_filters(rt: HostRuntime) -> Result<(), Fail> {
-    hold_paths(&rt, rt.alloc(), FILTERS)
+    let tables = [
+        filters::FILTERS,
+        filters::NULLS,
+        comparisons::COMPARISONS,
+        calls::CALLS,
+        calls::PATTERNS,
+    ];
+    hold_paths(&rt, &tables)
 }
 
 /// The tables of literals.
-const LITERALS: &[&[&str]] = &[
-    literals::NUMBERS,
-    literals::OTHERS,
-    strings::STRINGS,
-    numbers::NUMBERS,
-    words::WORDS,
-];
-
 #[test]
 fn selects_by_literals(rt: HostRuntime) -> Result<(), Fail> {
-    hold_paths(&rt, rt.alloc(), LITERALS)
+    let tables = [
+        literals::NUMBERS,
+        literals::OTHERS,
+        strings::STRINGS,
+        numbers::NUMBERS,
+        words::WORDS,
+    ];
+    hold_paths(&rt, &tables)
 }
 
 /// A document, and the table of its paths.
@@ -126,9 +123,9 @@ const DOCUMENTS: &[(&str, &[&str])] = &[
 
 #[test]
 fn selects_from_documents(rt: HostRuntime) -> Result<(), Fail> {
-    let mut table = Table::new();
+    let mut table = Table::new(&rt);
     for &(document, rows) in DOCUMENTS {
-        table.hold_each(&rt, rt.alloc(), document, rows, |alloc, path| {
+        table.hold_each(document, rows, |alloc, path| {
             of_path(alloc, &Builtin, path, document)
         });
     }
@@ -136,34 +133,32 @@ fn selects_from_documents(rt: HostRuntime) -> Result<(), Fail> {
 }
 
 /// The tables of texts that are refused outside filters.
-const REFUSALS: &[&[&str]] = &[
-    refusals::SEGMENTS,
-    refusals::SELECTORS,
-    refusals::SLICES,
-    refusals::STRINGS,
-    strings::NO_STRINGS,
-    numbers::NO_NUMBERS,
-    operators::OPERATORS,
-    operators::NO_OPERATORS,
-    words::LITERAL_WORDS,
-    words::OTHER_WORDS,
-];
-
 #[test]
 fn refuses_texts(rt: HostRuntime) -> Result<(), Fail> {
-    hold_refusals(&rt, rt.alloc(), REFUSALS)
+    let tables = [
+        refusals::SEGMENTS,
+        refusals::SELECTORS,
+        refusals::SLICES,
+        refusals::STRINGS,
+        strings::NO_STRINGS,
+        numbers::NO_NUMBERS,
+        operators::OPERATORS,
+        operators::NO_OPERATORS,
+        words::LITERAL_WORDS,
+        words::OTHER_WORDS,
+    ];
+    hold_refusals(&rt, &tables)
 }
 
 /// The tables of texts that are refused in filters.
-const FILTER_REFUSALS: &[&[&str]] = &[
-    filter_refusals::LOGIC,
-    filter_refusals::COMPARISONS,
-    filter_refusals::LITERALS,
-    filter_refusals::CALLS,
-    filter_refusals::ARGUMENTS,
-];
-
 #[test]
 fn refuses_texts_of_filters(rt: HostRuntime) -> Result<(), Fail> {
-    hold_refusals(&rt, rt.alloc(), FILTER_REFUSALS)
+    let tables = [
+        filter_refusals::LOGIC,
+        filter_refusals::COMPARISONS,
+        filter_refusals::LITERALS,
+        filter_refusals::CALLS,
+        filter_refusals::ARGUMENTS,
+    ];
+    hold_refusals(&rt, &tables)
 }

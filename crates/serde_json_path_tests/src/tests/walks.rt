@@ -1,5 +1,6 @@
 //! Walks, one node at a time.
 
+use crate::tests::rows::read;
 use crate::tests::sets::Own;
 use serde_json::Value;
 use serde_json_path::functions::{Builtin, CachedPatterns, Functions, PatternStore};
@@ -50,7 +51,7 @@ const WALKED: &[&str] = &[
 
 #[test]
 fn walks_give_one_node_after_the_other(rt: HostRuntime) -> Result<(), Fail> {
-    hold_rows(&rt, rt.alloc(), WALKED, |alloc, given| {
+    hold_rows(&rt, WALKED, |alloc, given| {
         of_walk(alloc, &Builtin, fields(given)?, 5)
     })
 }
@@ -81,10 +82,8 @@ fn walked_into<F: Functions + Drop>(
 
 #[test]
 fn walks_give_the_same_into_steps(rt: HostRuntime) -> Result<(), Fail> {
-    hold_rows(&rt, rt.alloc(), WALKED, |alloc, given| {
-        let (path, document) = fields(given)?;
-        let document = Value::from_str(alloc, document)?;
-        let path = JsonPath::parse_with(alloc, path, &Builtin)?;
+    hold_rows(&rt, WALKED, |alloc, given| {
+        let (path, document) = read(alloc, given)?;
         walked_into(alloc, path.walk(alloc, &document, &Builtin)?, 5)
     })
 }
@@ -97,10 +96,8 @@ const UNDER_A_SET: &[&str] = &[
 
 #[test]
 fn walks_go_under_a_set_alone(rt: HostRuntime) -> Result<(), Fail> {
-    hold_rows(&rt, rt.alloc(), UNDER_A_SET, |alloc, given| {
-        let (path, document) = fields(given)?;
-        let document = Value::from_str(alloc, document)?;
-        let path = JsonPath::parse(alloc, path)?;
+    hold_rows(&rt, UNDER_A_SET, |alloc, given| {
+        let (path, document) = read(alloc, given)?;
         let store = PatternStore::new();
         let functions = CachedPatterns::new(alloc, &store);
         walked(alloc, path.walk_under(alloc, &document, functions)?, 3)
@@ -121,7 +118,7 @@ const REFUSED: &[(u64, u32)] = &[
 fn walks_go_on_where_memory_was_refused(rt: HostRuntime) -> Result<(), Fail> {
     let alloc = rt.alloc();
     let given = ("$[?kids(@.*)]", "[[],[1],[[]],[],0,[2]]");
-    let mut table = Table::new();
+    let mut table = Table::new(&rt);
     for &(refused, times) in REFUSED {
         let wanted = format!(in alloc; "$[1], $[2], $[5], none, {times} refused")?;
         let came = of_walk(
@@ -130,7 +127,7 @@ fn walks_go_on_where_memory_was_refused(rt: HostRuntime) -> Result<(), Fail> {
             given,
             times.saturating_add(4),
         );
-        table.hold(&rt, ("a set that refuses", given.0, wanted.as_str()), came);
+        table.hold(("a set that refuses", given.0, wanted.as_str()), came);
     }
     table.end()
 }

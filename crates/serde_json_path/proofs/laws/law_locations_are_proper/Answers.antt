@@ -1,11 +1,11 @@
-use Rattle.std.proofs.Common.{◌≡◌, ℕ, zero, suc, List, [], ◌∷◌, Option, Some, None, Ordering, Less, Equal, Greater, nat_cmp, option_and_then, refl, sym, subst, ap, ◌∙◌}
+use Rattle.std.proofs.Common.{◌≡◌, ℕ, zero, suc, List, [], ◌∷◌, Option, Some, None, Ordering, Less, Equal, Greater, nat_cmp, refl, sym, subst, ap, ◌∙◌}
 use Rattle.std.specs.Ordering.{match_ordering}
 use Rattle.std.specs.Prelude.{String, string_bytes}
 use Rattle.std.specs.Cmp.Lexicographic.{slice_cmp}
 use Rattle.std.specs.Str.{IsUtf8}
 use Rattle.std.specs.declared.alloc.Global.{Global}
 use Rattle.std.proofs.lemmas.Map.Lookups.{exact_bytes}
-use Rattle.std.proofs.lemmas.Option.{none-some, same_Some}
+use Rattle.std.proofs.lemmas.Option.{none-some, option_and_then_some, same_Some}
 use Rattle.std.proofs.lemmas.Str.{IsUtf8-string_bytes}
 use Rattle.serde_json.specs.Data.{Data, Members}
 use Rattle.serde_json.specs.Find.{get_item, get_member}
@@ -50,16 +50,11 @@ step_first : (s : Step) (steps : List Step) → IsProper (s ∷ []) → IsProper
 step_first (by_name name) steps one rest = (one.0, rest)
 step_first (by_position p) steps one rest = rest
 
-steps_proper : (v : Value) (s : Step) (steps : List Step) (d : Data) (o : Option Data) → child_at (view v) s ≡ o
-    → ((w : Value) → at (view w) steps ≡ Some d → IsProper steps) → option_and_then (λ child. at child steps) o ≡ Some d → IsProper (s ∷ steps)
-steps_proper v s steps d None is later h = absurd (none-some d h)
-steps_proper v s steps d (Some child) is later h =
-    let (first, (w, same)) = child_proper v s child is in
-    step_first s steps first (later w (ap (λ c. at c steps) same ∙ h))
-
 proper : (location : List Step) (v : Value) (d : Data) → at (view v) location ≡ Some d → IsProper location
 proper [] v d h = tt
-proper (s ∷ steps) v d h = steps_proper v s steps d (child_at (view v) s) refl (λ w. proper steps w d) h
+proper (s ∷ steps) v d h = option_and_then_some (λ child. at child steps) (child_at (view v) s) d h (λ child is there.
+    let (first, (w, same)) = child_proper v s child is in
+    step_first s steps first (proper steps w d (ap (λ c. at c steps) same ∙ there)))
 
 pub returns : goal.returns
 returns c = λ document location v h. proper location document v h

@@ -1,13 +1,14 @@
+use Rattle.std.proofs.Common.{None}
 use Rattle.serde_json_path_parser.proofs.Grammar.Paths.{one_tree_at_most}
 use Rattle.serde_json_path.specs.Laws.{tree_to}
-use Rattle.serde_json_path.proofs.NormalTexts.{segments_silent, segments_shallow, node_selected, normal_accepted}
+use Rattle.serde_json_path.proofs.NormalTexts.{segments_plain, node_selected, normal_accepted}
 use Rattle.serde_json_path.proofs.laws.law_normal.Goals as goal
 
 pub returns : goal.returns
 returns c = λ location proper written. record {
   accepted = λ signature. normal_accepted signature location proper written;
   only = λ signature q read. one_tree_at_most signature _ q (tree_to location) read (normal_accepted signature location proper written);
-  silent = segments_silent location;
-  flat = segments_shallow location;
+  silent = (segments_plain (λ name. None) location).2;
+  flat = (segments_plain (λ name. None) location).1;
   selects = λ F top v there. node_selected F top (record { location = location; value = v }) there;
 }

@@ -22,4 +22,4 @@ returns-clause-selects g c =
     let tree = tree_of q in
     let top = view c.args.document.now in
     let values = values-query F top tree top top (segments_at (nodes_in q) c.segments.result.now) c.segments.ensures.tree (sym (ap (λ kind. start_of kind top top) q.rooted)) in
-    (results F top tree top, computed_result F top tree top (whole-sound F (signatures_of q) tree ∣ c.requires ∣₁ q.typed).0, c.from.ensures ∙ c.in_ok-found.ensures.means ∙ sym values)
+    (results F top tree top, computed_result F top tree top, c.from.ensures ∙ c.in_ok-found.ensures.means ∙ sym values)

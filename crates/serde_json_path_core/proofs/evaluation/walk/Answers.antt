@@ -19,7 +19,7 @@ returns-clause-selects g c =
     let begun = begun-results F top tree top top (segments_at (nodes_in q) c.segments.result.now) frames c.segments.ensures.tree
     (sym (ap (λ kind. start_of kind top top) q.rooted)) c.in_ok-frames.ensures in
     subst (IsResult F top tree top) (sym begun ∙ ap (λ segs. rest_of F top (stages segs) frames) c.segments.ensures.tree)
-    (computed_result F top tree top (whole-sound F (signatures_of q) tree ∣ c.requires ∣₁ q.typed).0)
+    (computed_result F top tree top)
 
 pub started-requires-clause-typed : goal.started-requires-clause-typed
 started-requires-clause-typed g c =

@@ -1,11 +1,11 @@
 -- A descendant segment's nodes are the child segment's at the node, then those of each child's subtree.
 use Rattle.std.proofs.Common.{◌≡◌, List, [], ◌∷◌, ◌++◌, map, flat_map, refl, sym, ap, ◌∙◌}
-use Rattle.serde_json_path_core.proofs.Words.{append-nil, map-id, flat_map-map, map-map, Data, Step, StepBefore, Located, Query, query, current, Segments, segment, child, descendant, Segment, FunctionSet, IsTyped, beneath, children, descents, placed, results, results_from, chosen, AreChildren, AreSubtreeResults, flat_map-same, flat_map-flat_map, map-flat_map}
+use Rattle.serde_json_path_core.proofs.Words.{append-nil, map-id, flat_map-map, map-map, Data, Step, StepBefore, Located, Query, query, current, Segments, segment, child, descendant, Segment, FunctionSet, beneath, children, itself, placed, reached, results, results_from, chosen, AreChildren, AreSubtreeResults, flat_map-same, flat_map-flat_map, map-flat_map}
 use Rattle.serde_json_path_core.proofs.Meaning.ChildSteps.{in_children, children_ordered}
 use Rattle.serde_json_path_core.proofs.Meaning.DerivationEnds.{results_beneath}
-use Rattle.serde_json_path_core.proofs.Meaning.Descents.{below_child, descents_are}
 use Rattle.serde_json_path_core.proofs.Meaning.Derived.{computed_only}
 use Rattle.serde_json_path_core.proofs.Meaning.Order.{step_once, in_order_once}
+use Rattle.serde_json_path_core.proofs.Walks.Stacks.{unrolled}
 use Rattle.serde_json_path_core.proofs.laws.law_descendants_in_document_order.Goals as goal
 
 -- a list of the children is the computed one
@@ -19,44 +19,23 @@ module _ (F : FunctionSet) (top : Data) where
   abbrev subtrees : Query → List (Step × Data) → List Located
   subtrees q cs = flat_map (λ (c : Step × Data). map (beneath (c.0 ∷ [])) (results F top q c.1)) cs
 
-  subtree_results : (q : Query) (cs : List (Step × Data)) (ns : List Located) → IsTyped F.signature q → AreSubtreeResults F top q cs ns → ns ≡ subtrees q cs
-  subtree_results q [] ns typed h = h
-  subtree_results q (c ∷ cs) ns typed h =
-      h.4 ∙ rw (computed_only F top q c.1 h.0 typed h.2, subtree_results q cs h.1 typed h.3) refl
+  subtree_results : (q : Query) (cs : List (Step × Data)) (ns : List Located) → AreSubtreeResults F top q cs ns → ns ≡ subtrees q cs
+  subtree_results q [] ns h = h
+  subtree_results q (c ∷ cs) ns h = h.4 ∙ rw (computed_only F top q c.1 h.0 h.2, subtree_results q cs h.1 h.3) refl
 
-  module _ (seg : Segment) (more : Segments) where
-    -- what the child segment selects at a node below
-    abbrev at_node : Located → List Located
-    at_node n = map (beneath n.location) (results F top (query current (segment child seg more)) n.value)
-
-    -- the descendant segment's nodes are the child segment's at the value and at each one below it
-    each_node : (v : Data) → results F top (query current (segment descendant seg more)) v ≡ flat_map at_node (descents v)
-    each_node v =
-        let select : Located → List Located = λ m. flat_map (results_from F top more) (map (placed m.location) (chosen F top seg m.value)) in
-        ap (flat_map select) (map-id (descents v))
-        ∙ flat_map-same select at_node (λ m. sym (append-nil (select m)) ∙ results_beneath F top (segment child seg more) m) (descents v)
-
-    -- those below a child are its subtree's
-    in_subtree : (c : Step × Data) → flat_map at_node (below_child c) ≡ map (beneath (c.0 ∷ [])) (results F top (query current (segment descendant seg more)) c.1)
-    in_subtree c =
-        flat_map-map at_node (beneath (c.0 ∷ [])) (descents c.1)
-        ∙ flat_map-same (λ n. at_node (beneath (c.0 ∷ []) n)) (λ n. map (beneath (c.0 ∷ [])) (at_node n))
-        (λ n. sym (map-map (beneath (c.0 ∷ [])) (beneath n.location) (results F top (query current (segment child seg more)) n.value))) (descents c.1)
-        ∙ sym (map-flat_map (beneath (c.0 ∷ [])) at_node (descents c.1)) ∙ ap (map (beneath (c.0 ∷ []))) (sym (each_node c.1))
-
-    node_then_subtrees : (v : Data) → results F top (query current (segment descendant seg more)) v
-        ≡ results F top (query current (segment child seg more)) v ++ subtrees (query current (segment descendant seg more)) (children v)
-    node_then_subtrees v =
-        each_node v ∙ ap (flat_map at_node) (descents_are v)
-        ∙ ap (λ ns. ns ++ flat_map at_node (flat_map below_child (children v))) (map-id (results F top (query current (segment child seg more)) v))
-        ∙ ap (λ ns. results F top (query current (segment child seg more)) v ++ ns)
-        (flat_map-flat_map at_node below_child (children v)
-        ∙ flat_map-same (λ c. flat_map at_node (below_child c)) (λ (c : Step × Data). map (beneath (c.0 ∷ [])) (results F top (query current (segment descendant seg more)) c.1)) in_subtree (children v))
+  node_then_subtrees : (seg : Segment) (more : Segments) (v : Data) → results F top (query current (segment descendant seg more)) v
+      ≡ results F top (query current (segment child seg more)) v ++ subtrees (query current (segment descendant seg more)) (children v)
+  node_then_subtrees seg more v =
+      let make : Located → List Located = λ m. flat_map (results_from F top more) (map (placed m.location) (chosen F top seg m.value)) in
+      unrolled make descendant (itself v)
+      ∙ ap (λ ns. ns ++ flat_map (λ c. flat_map make (reached descendant (placed [] c))) (children v)) (sym (append-nil (make (itself v))))
+      ∙ ap (λ ns. results F top (query current (segment child seg more)) v ++ ns)
+      (flat_map-same _ _ (λ c. results_beneath F top (segment descendant seg more) (placed [] c)) (children v))
 
 pub returns : goal.returns
 returns c = λ F top seg more v cs list here below typed is_list is_here are_children are_below.
     let whole = query current (segment descendant seg more) in
     let all = subtrees F top whole in
-    computed_only F top whole v list typed is_list ∙ node_then_subtrees F top seg more v
-    ∙ ap (λ ns. ns ++ all (children v)) (sym (computed_only F top (query current (segment child seg more)) v here typed is_here))
-    ∙ ap (λ ns. here ++ ns) (sym (subtree_results F top whole cs below typed are_below ∙ ap all (children_are v cs are_children)))
+    computed_only F top whole v list is_list ∙ node_then_subtrees F top seg more v
+    ∙ ap (λ ns. ns ++ all (children v)) (sym (computed_only F top (query current (segment child seg more)) v here is_here))
+    ∙ ap (λ ns. here ++ ns) (sym (subtree_results F top whole cs below are_below ∙ ap all (children_are v cs are_children)))

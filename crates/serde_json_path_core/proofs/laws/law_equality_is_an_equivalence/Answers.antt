@@ -68,47 +68,37 @@ mutual
   members_themselves (member k d ms) ([], h) = absurd cc
   members_themselves (member k d ms) (e ∷ es, h) = (refl, itself d (e.1, cc), members_themselves ms (es, cc))
 
--- ---- equal values are equal either way round, and what is equal to the same is equal
+-- ---- equal values are equal either way round, and the first equals what the second does
 
 mutual
-  data_symmetric : (a b : Data) → EqualData all_numbers a b → EqualData all_numbers b a
-  data_symmetric null null h = tt
-  data_symmetric (boolean a) (boolean b) h = sym h
-  data_symmetric (number a) (number b) h = equality.symmetric (document_number a) (document_number b) h
-  data_symmetric (string a) (string b) h = sym h
-  data_symmetric (array xs) (array ys) h = items_symmetric xs ys h
-  data_symmetric (object xs) (object ys) h = members_symmetric xs ys h
-  data_symmetric _ _ h = absurd h
+  data_equal : (a b c : Data) → EqualData all_numbers a b → EqualData all_numbers b a × (EqualData all_numbers b c → EqualData all_numbers a c)
+  data_equal null null c h = (tt, λ g. g)
+  data_equal (boolean a) (boolean b) c h = (sym h, subst (λ x. EqualData all_numbers (boolean x) c) (sym h))
+  data_equal (string a) (string b) c h = (sym h, subst (λ x. EqualData all_numbers (string x) c) (sym h))
+  data_equal (number a) (number b) (number c) h =
+      (equality.symmetric (document_number a) (document_number b) h, equality.transitive (document_number a) (document_number b) (document_number c) h)
+  data_equal (number a) (number b) _ h = (equality.symmetric (document_number a) (document_number b) h, λ g. absurd g)
+  data_equal (array xs) (array ys) (array zs) h = items_equal xs ys zs h
+  data_equal (array xs) (array ys) _ h = ((items_equal xs ys no_items h).0, λ g. absurd g)
+  data_equal (object xs) (object ys) (object zs) h = members_equal xs ys zs h
+  data_equal (object xs) (object ys) _ h = ((members_equal xs ys no_members h).0, λ g. absurd g)
+  data_equal _ _ c h = absurd h
 
-  items_symmetric : (xs ys : Items) → EqualItems all_numbers xs ys → EqualItems all_numbers ys xs
-  items_symmetric no_items no_items h = tt
-  items_symmetric (item a xs) (item b ys) h = (data_symmetric a b h.0, items_symmetric xs ys h.1)
-  items_symmetric _ _ h = absurd h
+  items_equal : (xs ys zs : Items) → EqualItems all_numbers xs ys → EqualItems all_numbers ys xs × (EqualItems all_numbers ys zs → EqualItems all_numbers xs zs)
+  items_equal no_items no_items zs h = (tt, λ g. g)
+  items_equal (item a xs) (item b ys) no_items h = (((data_equal a b null h.0).0, (items_equal xs ys no_items h.1).0), λ g. absurd g)
+  items_equal (item a xs) (item b ys) (item c zs) h =
+      let first = data_equal a b c h.0 in
+      let more = items_equal xs ys zs h.1 in ((first.0, more.0), λ g. (first.1 g.0, more.1 g.1))
+  items_equal _ _ zs h = absurd h
 
-  members_symmetric : (xs ys : Members) → EqualMembers all_numbers xs ys → EqualMembers all_numbers ys xs
-  members_symmetric no_members no_members h = tt
-  members_symmetric (member k a xs) (member l b ys) h = (sym h.0, data_symmetric a b h.1, members_symmetric xs ys h.2)
-  members_symmetric _ _ h = absurd h
-
-mutual
-  data_transitive : (a b c : Data) → EqualData all_numbers a b → EqualData all_numbers b c → EqualData all_numbers a c
-  data_transitive null null null h g = tt
-  data_transitive (boolean a) (boolean b) (boolean c) h g = h ∙ g
-  data_transitive (number a) (number b) (number c) h g = equality.transitive (document_number a) (document_number b) (document_number c) h g
-  data_transitive (string a) (string b) (string c) h g = h ∙ g
-  data_transitive (array xs) (array ys) (array zs) h g = items_transitive xs ys zs h g
-  data_transitive (object xs) (object ys) (object zs) h g = members_transitive xs ys zs h g
-  data_transitive _ _ _ h g = absurd (assumption (h, g))
-
-  items_transitive : (xs ys zs : Items) → EqualItems all_numbers xs ys → EqualItems all_numbers ys zs → EqualItems all_numbers xs zs
-  items_transitive no_items no_items no_items h g = tt
-  items_transitive (item a xs) (item b ys) (item c zs) h g = (data_transitive a b c h.0 g.0, items_transitive xs ys zs h.1 g.1)
-  items_transitive _ _ _ h g = absurd (assumption (h, g))
-
-  members_transitive : (xs ys zs : Members) → EqualMembers all_numbers xs ys → EqualMembers all_numbers ys zs → EqualMembers all_numbers xs zs
-  members_transitive no_members no_members no_members h g = tt
-  members_transitive (member k a xs) (member l b ys) (member m c zs) h g = (h.0 ∙ g.0, data_transitive a b c h.1 g.1, members_transitive xs ys zs h.2 g.2)
-  members_transitive _ _ _ h g = absurd (assumption (h, g))
+  members_equal : (xs ys zs : Members) → EqualMembers all_numbers xs ys → EqualMembers all_numbers ys xs × (EqualMembers all_numbers ys zs → EqualMembers all_numbers xs zs)
+  members_equal no_members no_members zs h = (tt, λ g. g)
+  members_equal (member k a xs) (member l b ys) no_members h = ((sym h.0, (data_equal a b null h.1).0, (members_equal xs ys no_members h.2).0), λ g. absurd g)
+  members_equal (member k a xs) (member l b ys) (member m c zs) h =
+      let first = data_equal a b c h.1 in
+      let more = members_equal xs ys zs h.2 in ((sym h.0, first.0, more.0), λ g. (h.0 ∙ g.0, first.1 g.1, more.1 g.2))
+  members_equal _ _ zs h = absurd h
 
 -- ---- sides: a number literal is as the value of its exact number
 
@@ -131,21 +121,17 @@ by_values (billionths a) (value (number b)) = refl
 by_values (billionths a) (billionths b) = refl
 by_values _ _ = refl
 
-values_symmetric : (a b : Option Data) → EqualValues a b → EqualValues b a
-values_symmetric None None h = tt
-values_symmetric (Some a) (Some b) h = data_symmetric a b h
-values_symmetric _ _ h = absurd h
-
-values_transitive : (a b c : Option Data) → EqualValues a b → EqualValues b c → EqualValues a c
-values_transitive None None None h g = tt
-values_transitive (Some a) (Some b) (Some c) h g = data_transitive a b c h g
-values_transitive _ _ _ h g = absurd (assumption (h, g))
+values_equal : (a b c : Option Data) → EqualValues a b → EqualValues b a × (EqualValues b c → EqualValues a c)
+values_equal None None c h = (tt, λ g. g)
+values_equal (Some a) (Some b) None h = ((data_equal a b null h).0, λ g. absurd g)
+values_equal (Some a) (Some b) (Some c) h = data_equal a b c h
+values_equal _ _ c h = absurd h
 
 pub returns : goal.returns
 returns c = record {
   documents = λ document. itself (view document) (document, refl);
   literals = λ amount range. equality.reflexive (literal_number amount) (all_finite.literals amount range);
   nothings = tt;
-  symmetric = λ a b. rw (by_values a b, by_values b a) (values_symmetric (as_value a) (as_value b));
-  transitive = λ a b c. rw (by_values a b, by_values b c, by_values a c) (values_transitive (as_value a) (as_value b) (as_value c));
+  symmetric = λ a b. rw (by_values a b, by_values b a) (λ h. (values_equal (as_value a) (as_value b) None h).0);
+  transitive = λ a b c. rw (by_values a b, by_values b c, by_values a c) (λ h. (values_equal (as_value a) (as_value b) (as_value c) h).1);
 }

@@ -1,23 +1,8 @@
 -- The result of a singular query has one node at most: its computed list has.
 use Rattle.std.proofs.Common.{ℕ, ◌≤◌, List, [], ◌∷◌, ◌++◌, length, map, flat_map, Option, Some, None, option_to_list, sym, subst, arith}
-use Rattle.serde_json_path_core.proofs.Words.{append-nil, Data, by_name, Located, Query, query, Segments, no_segments, segment, child, descendant, Segment, dot_name, long_hand, no_selectors, selector, name, index, IsSingularSegment, AreSingular, IsSingular, AreTypedSegments, IsTypedSegment, Signature, FunctionSet, start_of, IsResult, child_by, item_at, chosen, itself, placed, results_from}
+use Rattle.serde_json_path_core.proofs.Words.{append-nil, Data, by_name, Located, Query, query, Segments, no_segments, segment, child, descendant, Segment, dot_name, long_hand, no_selectors, selector, name, index, IsSingularSegment, AreSingular, IsSingular, FunctionSet, start_of, IsResult, child_by, item_at, chosen, itself, placed, results_from}
 use Rattle.serde_json_path_core.proofs.Meaning.Derived.{computed_only}
 use Rattle.serde_json_path_core.proofs.laws.law_singular_query_selects_at_most_one.Goals as goal
-
--- ---- singular segments are well-typed
-
-segment_typed : (signature : List ℕ → Option Signature) (seg : Segment) → IsSingularSegment seg → IsTypedSegment signature seg
-segment_typed signature (dot_name k) h = tt
-segment_typed signature (long_hand (selector (name k) no_selectors)) h = (tt, tt)
-segment_typed signature (long_hand (selector (index i) no_selectors)) h = (tt, tt)
-segment_typed signature _ h = absurd h
-
-segments_typed : (signature : List ℕ → Option Signature) (segs : Segments) → AreSingular segs → AreTypedSegments signature segs
-segments_typed signature no_segments h = tt
-segments_typed signature (segment child seg more) h = (segment_typed signature seg h.0, segments_typed signature more h.1)
-segments_typed signature (segment descendant seg more) h = absurd h
-
--- ---- and select one child at most
 
 abbrev IsShort : {A : Type 0} → List A → Type 0
 IsShort xs = length xs ≤ 1
@@ -51,7 +36,7 @@ module _ (F : FunctionSet) (top : Data) where
 
   selects_at_most_one : (q : Query) (v : Data) (ns : List Located) → IsSingular q → IsResult F top q v ns → length ns ≤ 1
   selects_at_most_one (query kind segs) v ns h r =
-      subst IsShort (sym (computed_only F top (query kind segs) v ns (segments_typed F.signature segs h) r)) (short_results segs h (itself (start_of kind top v)))
+      subst IsShort (sym (computed_only F top (query kind segs) v ns r)) (short_results segs h (itself (start_of kind top v)))
 
 pub returns : goal.returns
 returns c = λ F top q node list h g. selects_at_most_one F top q node list h g

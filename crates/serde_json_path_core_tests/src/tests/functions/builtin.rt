@@ -13,18 +13,13 @@ use serde_json_path_functions::{
 use std::alloc::Global;
 use std::test::Fail;
 
-/// A value as JSON, or the word `Nothing`.
-fn printed(alloc: Global, value: &ValueType) -> Result<String, Fail> {
-    match value.as_value() {
-        Some(value) => Ok(value.to_string(alloc)?),
-        None => Ok(String::from_str(alloc, "Nothing")?),
-    }
-}
-
-/// An answer of type Value, printed.
+/// An answer of type Value, as JSON or the word `Nothing`.
 fn printed_answer(alloc: Global, answer: &FunctionValue) -> Result<String, Fail> {
     match answer {
-        FunctionValue::Value(value) => printed(alloc, value),
+        FunctionValue::Value(value) => match value.as_value() {
+            Some(value) => Ok(value.to_string(alloc)?),
+            None => Ok(String::from_str(alloc, "Nothing")?),
+        },
         _ => Ok(String::from_str(alloc, "another type")?),
     }
 }
@@ -72,7 +67,7 @@ fn length_of(alloc: Global, document: &str) -> Result<String, Fail> {
 
 #[test]
 fn length_of_values(rt: HostRuntime) -> Result<(), Fail> {
-    hold_rows(&rt, rt.alloc(), LENGTHS, length_of)
+    hold_rows(&rt, LENGTHS, length_of)
 }
 
 /// A number of nodes, and what `count` and `value` answer to so many.
@@ -89,7 +84,7 @@ fn answers_to(alloc: Global, number: &str) -> Result<String, Fail> {
 
 #[test]
 fn count_and_value_of_nodes(rt: HostRuntime) -> Result<(), Fail> {
-    hold_rows(&rt, rt.alloc(), NODES, answers_to)
+    hold_rows(&rt, NODES, answers_to)
 }
 
 #[test]
@@ -126,13 +121,13 @@ fn are_same(one: Option<Signature>, other: Option<Signature>) -> Option<bool> {
 
 #[test]
 fn signatures_are_the_same_by_their_types(rt: HostRuntime) -> Result<(), Fail> {
-    let mut table = Table::new();
+    let mut table = Table::new(&rt);
     for &(params, result, wanted) in SIGNATURES {
         let one = Signature::new(&[Logical], Nodelist);
         let is_same = are_same(one, Signature::new(params, result));
         let given = format!(in rt.alloc(); "{params:?} {result:?}")?;
         let came = format!(in rt.alloc(); "{is_same:?}").map_err(Fail::from);
-        table.hold(&rt, ("signatures", given.as_str(), wanted), came);
+        table.hold(("signatures", given.as_str(), wanted), came);
     }
     table.end()
 }

@@ -105,7 +105,6 @@ const SEARCHES: &[&str] = &[
 fn matches_the_whole_text(rt: HostRuntime) -> Result<(), Fail> {
     hold_rows(
         &rt,
-        rt.alloc(),
         MATCHES,
         |alloc, given| answer_to(alloc, "match", given),
     )
@@ -115,7 +114,6 @@ fn matches_the_whole_text(rt: HostRuntime) -> Result<(), Fail> {
 fn searches_in_the_text(rt: HostRuntime) -> Result<(), Fail> {
     hold_rows(
         &rt,
-        rt.alloc(),
         SEARCHES,
         |alloc, given| answer_to(alloc, "search", given),
     )
@@ -131,15 +129,13 @@ const GREAT: &[&str] = &[
 #[test]
 fn refuses_patterns_that_are_too_great(rt: HostRuntime) -> Result<(), Fail> {
     let alloc = rt.alloc();
-    let mut table = Table::new();
+    let mut table = Table::new(&rt);
     table.hold_each(
-        &rt,
-        alloc,
         "`match`",
         GREAT,
         |alloc, given| answer_to(alloc, "match", given),
     );
-    table.hold_each(&rt, alloc, "`search`", GREAT, |alloc, given| {
+    table.hold_each("`search`", GREAT, |alloc, given| {
         answer_to(alloc, "search", given)
     });
     table.end()
