@@ -20,3 +20,5 @@ pub mod Comparisons
 pub mod Scopes
 -- the words of the functions that evaluate
 pub mod Evaluates
+-- the words of contracts of private functions, from one place
+pub mod Words

@@ -1,18 +1,9 @@
 -- Laws of the definitions.
-use Rattle.std.specs.Prelude.{◌≡◌, ◌≢◌, ◌≤◌, ℕ, ℤ, List, [], ◌∷◌, ◌++◌, length, map, ◌⊎◌, ◌↔◌, Some}
-use Rattle.serde_json.specs.Data.{Data}
-use Rattle.serde_json_path_nodes.specs.Location.{Step, child_at, StepBefore, Located}
-use Rattle.serde_json_path_syntax.specs.Tree.{QueryKind, Query, query, current, Segments, no_segments, segment, SegmentKind, child, descendant, Segment, relation, equal, not_equal, less, less_or_equal, Comparable, IsSingular}
-use Rattle.serde_json.specs.View.{view}
-use Rattle.serde_json.specs.declared.value.Value.{Value}
-use Rattle.serde_json_path_numbers.specs.Numbers.{IsInLiteralRange}
-use Rattle.serde_json_path_functions.specs.Functions.{FunctionSet, KeepsTypes, all_numbers}
+use Rattle.serde_json_path_core.specs.Imports.{◌≡◌, ◌≢◌, ◌≤◌, ℕ, ℤ, List, [], ◌∷◌, ◌++◌, length, map, ◌⊎◌, ◌↔◌, Some, Data, Step, child_at, StepBefore, Located, QueryKind, Query, query, current, Segments, no_segments, segment, SegmentKind, child, descendant, Segment, relation, equal, not_equal, less, less_or_equal, Comparable, IsSingular, view, Value, IsInLiteralRange, FunctionSet, KeepsTypes, all_numbers, IsIn, IsInOrder, IsTyped, IsTypedComparable}
 use Rattle.serde_json_path_core.specs.Compared.{Compared, nothing, value, billionths, AreEqual}
-use Rattle.serde_json_path_syntax.specs.Lists.{IsIn, IsInOrder}
 use Rattle.serde_json_path_core.specs.Height.{IsHeight}
 use Rattle.serde_json_path_core.specs.Derivation.{beneath, Triple, start_of, Before}
 use Rattle.serde_json_path_core.specs.Meaning.{Derives, HoldsBasic, IsResult}
-use Rattle.serde_json_path_syntax.specs.Typing.{IsTyped, IsTypedComparable}
 
 -- the result of a singular query has one node at most (RFC 9535, section 2.3.5.1)
 abbrev pub SingularQuerySelectsAtMostOne : Type 0

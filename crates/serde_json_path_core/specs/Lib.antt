@@ -20,3 +20,5 @@ pub mod Height
 pub mod Laws
 -- what contracts of private functions and proofs cite alone
 pub mod Inside
+-- what the definitions take from the crates below, from one place
+pub mod Imports

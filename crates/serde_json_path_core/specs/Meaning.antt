@@ -1,16 +1,9 @@
 -- What a query selects (RFC 9535, sections 2.1 to 2.5), under a function set and at the root of a document.
-use Rattle.std.specs.Prelude.{◌≡◌, ◌≢◌, ℕ, zero, suc, ℤ, pos, ◌+ℤ◌, ◌<ℤ◌, List, [], ◌∷◌, map, ◌⊎◌, ◌↔◌, Bool, Option, Some, None, IsTrue, int_div}
-use Rattle.std.specs.List.{AllZip}
-use Rattle.serde_json.specs.Data.{Data, Items, null as null_data, boolean, number as number_data, string}
-use Rattle.serde_json.specs.Find.{as_array, of_integer}
-use Rattle.serde_json.specs.Events.{items_len}
-use Rattle.serde_json_path_nodes.specs.Location.{Step, by_name, by_position, child_at, at, Located}
-use Rattle.serde_json_path_syntax.specs.Tree.{Query, query, Segments, no_segments, segment, SegmentKind, child, descendant, Segment, dot_name, dot_wildcard, long_hand, Selectors, no_selectors, selector, Selector, name, wildcard, index, slice, filter, LogicalOr, no_or, or, LogicalAnd, no_and, and, Basic, paren, not_paren, relation, exist, not_exist, test, not_test, Comparable, literal, singular, called, Call, call, Arguments, no_arguments, argument, Argument, literal_argument, query_argument, call_argument, logical_argument, Literal, text, number, truth, null}
+use Rattle.serde_json_path_core.specs.Imports.{◌≡◌, ◌≢◌, ℕ, zero, suc, ℤ, pos, ◌+ℤ◌, ◌<ℤ◌, List, [], ◌∷◌, map, ◌⊎◌, ◌↔◌, Bool, Option, Some, None, IsTrue, int_div, AllZip, Data, Items, null_data, boolean, number_data, string, as_array, of_integer, items_len, Step, by_name, by_position, child_at, at, Located, Query, query, Segments, no_segments, segment, SegmentKind, child, descendant, Segment, dot_name, dot_wildcard, long_hand, Selectors, no_selectors, selector, Selector, name, wildcard, index, slice, filter, LogicalOr, no_or, or, LogicalAnd, no_and, and, Basic, paren, not_paren, relation, exist, not_exist, test, not_test, Comparable, literal, singular, called, Call, call, Arguments, no_arguments, argument, Argument, literal_argument, query_argument, call_argument, logical_argument, Literal, text, truth, Kind, of_value, of_nodes, of_logical, Signature, Term, value, nodes, logical, FunctionSet, IsIn, IsInOrder}
+use Rattle.serde_json_path_syntax.specs.Tree.{number, null}
 use Rattle.serde_json_path_core.specs.Slices.{SelectsPosition}
-use Rattle.serde_json_path_functions.specs.Functions.{Kind, of_value, of_nodes, of_logical, Signature, Term, value, nodes, logical, FunctionSet}
 use Rattle.serde_json_path_core.specs.Compared.{Compared, Compares, literal_compared, value_compared}
 use Rattle.serde_json_path_core.specs.Derivation.{Triple, start_of, BelongsTo, Before}
-use Rattle.serde_json_path_syntax.specs.Lists.{IsIn, IsInOrder}
 
 -- a child segment goes down no further, a descendant segment any number of steps
 abbrev pub MayDescend : SegmentKind → List Step → Type 0

@@ -1,12 +1,5 @@
 -- The calls of a query by a pattern that `regex` reads: only these may be refused for their pattern.
-use Rattle.std.specs.Prelude.{◌≡◌, List, Some}
-use Rattle.serde_json.specs.Data.{Data}
-use Rattle.serde_json_path_nodes.specs.Location.{Step, at}
-use Rattle.serde_json_path_syntax.specs.Lists.{IsIn}
-use Rattle.serde_json_path_syntax.specs.Tree.{Query, Call, call}
-use Rattle.serde_json_path_syntax.specs.Calls.{calls_of}
-use Rattle.serde_json_path_functions.specs.Functions.{Term, FunctionSet}
-use Rattle.serde_json_path_functions.specs.Patterns.{MayRefuse}
+use Rattle.serde_json_path_core.specs.Imports.{◌≡◌, List, Some, Data, Step, at, IsIn, Query, Call, call, calls_of, Term, FunctionSet, MayRefuse}
 use Rattle.serde_json_path_core.specs.Meaning.{params_of, AreArguments}
 
 -- the value stands at some location of the document

@@ -1,11 +1,5 @@
 -- What the calls that evaluate promise: which nodes are selected, and when a call is refused.
-use Rattle.std.specs.Prelude.{◌≡◌, List, map, Result, IfErr}
-use Rattle.serde_json.specs.Data.{Data}
-use Rattle.serde_json_path_nodes.specs.Location.{Located}
-use Rattle.serde_json_path_functions.specs.Functions.{FunctionSet}
-use Rattle.serde_json_path_functions.specs.declared.error.QueryError.{QueryError}
-use Rattle.serde_json_path_functions.specs.declared.error.QueryError.TheVariants.{Pattern}
-use Rattle.serde_json_path_syntax.specs.Tree.{Query}
+use Rattle.serde_json_path_core.specs.Imports.{◌≡◌, List, map, Result, IfErr, Data, Located, FunctionSet, QueryError, Pattern, Query}
 use Rattle.serde_json_path_core.specs.PatternCalls.{CallsByPattern}
 use Rattle.serde_json_path_core.specs.Meaning.{IsResult}
 

@@ -1,14 +1,7 @@
 -- Walks as contracts see them.
-use Rattle.std.specs.Prelude.{ℕ, List, length}
-use Rattle.serde_json.specs.Data.{Data}
-use Rattle.serde_json.specs.View.{view}
-use Rattle.serde_json_path_nodes.specs.Location.{Located}
-use Rattle.serde_json_path_syntax.specs.Tree.{Query, segments_of}
-use Rattle.serde_json_path_functions.specs.Functions.{FunctionSet}
-use Rattle.serde_json_path_syntax.specs.Parts.{tree_of}
+use Rattle.serde_json_path_core.specs.Imports.{ℕ, List, length, Data, view, Located, Query, segments_of, FunctionSet, tree_of, stages}
 use Rattle.serde_json_path_core.specs.Inside.Views.{frames_view}
 use Rattle.serde_json_path_core.specs.Inside.Rest.{rest_of, work}
-use Rattle.serde_json_path_syntax.specs.Stages.{stages}
 use Rattle.serde_json_path_core.specs.declared.evaluation.walks.Walk.{Walk}
 
 -- the query, the function set and the document

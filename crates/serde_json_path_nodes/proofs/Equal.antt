@@ -1,11 +1,7 @@
 -- The derived `==` of elements answers as `same_step` does of their steps.
 use Rattle.std.proofs.Common.{◌≡◌, ℕ, zero, suc, ◌-◌, Bool, true, false, true≢false, List, [], ◌∷◌, length, map, slice_get, Option, Some, None, Bor, refl, sym, ◌∙◌}
-use Rattle.std.proofs.lemmas.Bool.{and_parts}
+use Rattle.serde_json_path_nodes.proofs.Words.{and_parts, pointwise, as_long, same_step, same_steps, step_view, PathElement}
 use Rattle.std.specs.Option.{option_eq, option_copied}
-use Rattle.std.specs.Cmp.Lexicographic.{pointwise, as_long}
-use Rattle.serde_json_path_nodes.specs.Same.{same_step, same_steps}
-use Rattle.serde_json_path_nodes.specs.Views.{step_view}
-use Rattle.serde_json_path_nodes.specs.declared.path_element.PathElement.{PathElement}
 use Rattle.serde_json_path_nodes.specs.declared.path_element.PathElement.TheVariants.{Name, Index}
 use Rattle.serde_json_path_nodes.specs.contracts.path_element.PathElementPartialEq.TheImpl.{eq-value}
 

@@ -1,17 +1,7 @@
 -- In a list of numbered nodes, those that no node of a lower number shares its location with are `first_places`.
 use Rattle.std.proofs.Common.{◌≡◌, ℕ, suc, ◌+◌, ◌<◌, ◌≤◌, Bool, true, false, not, cond, if◌then◌else◌, List, [], ◌∷◌, ◌++◌, length, get_or, map, refl, ap, sym, ◌∙◌, arith, append_assoc}
-use Rattle.std.specs.List.{All, AllByRecursion, filter, list_any}
-use Rattle.std.specs.Ordering.{on}
-use Rattle.std.proofs.lemmas.Bool.Decides.{nat_tests}
-use Rattle.std.proofs.lemmas.List.{map_push}
-use Rattle.std.proofs.lemmas.List.Elements.{All-nil, All-push, All-weaker, recursion_from_All}
+use Rattle.serde_json_path_nodes.proofs.Words.{All, AllByRecursion, filter, list_any, on, nat_tests, map_push, All-nil, All-push, All-weaker, recursion_from_All, Ordering, is_among, first_places, first_places_after, AreNumbered, location_cmp, located, location_of, LocatedNode}
 use Rattle.std.proofs.lemmas.List.Folds.{list_any-append}
-use Rattle.std.specs.declared.cmp.Ordering.{Ordering}
-use Rattle.serde_json_path_nodes.specs.Lists.{is_among, first_places, first_places_after}
-use Rattle.serde_json_path_nodes.specs.Inside.NodeOrder.{AreNumbered}
-use Rattle.serde_json_path_nodes.specs.Inside.StepOrder.{location_cmp}
-use Rattle.serde_json_path_nodes.specs.Views.{located, location_of}
-use Rattle.serde_json_path_nodes.specs.declared.located_node.LocatedNode.{LocatedNode}
 use Rattle.serde_json_path_nodes.proofs.KeptBySorting.{is_first_among, repeats}
 use Rattle.serde_json_path_nodes.proofs.Orders.{location_cmp-ties}
 

@@ -1,10 +1,7 @@
 -- A name in a pointer, character by character.
 use Rattle.std.proofs.Common.{◌≡◌, ◌≢◌, ℕ, ◌+◌, ◌/◌, ◌%◌, ◌≤◌, Bool, true, false, cond, List, [], ◌∷◌, ◌++◌, refl, arith, append_assoc}
 use lib.Utf8.{encode, next}
-use Rattle.std.specs.List.{flat_map}
-use Rattle.std.proofs.lemmas.Bool.Decides.{nat_tests}
-use Rattle.std.proofs.lemmas.Grind.{flat_map-append}
-use Rattle.serde_json_path_nodes.specs.Text.{in_pointer}
+use Rattle.serde_json_path_nodes.proofs.Words.{flat_map, nat_tests, flat_map-append, in_pointer}
 
 -- a byte other than `~` and `/` stands for itself
 in_pointer-itself : (b : ℕ) → b ≢ 126 → b ≢ 47 → in_pointer b ≡ b ∷ []

@@ -1,12 +1,6 @@
 -- A text in quotes, written in stretches of characters that print themselves.
 use Rattle.std.proofs.Common.{◌≡◌, ℕ, ◌+◌, ◌<◌, ◌≤◌, Bool, true, false, List, [], ◌∷◌, ◌++◌, length, get_or, Option, Some, None, is_some, take, drop, unwrap_or, encode_utf8, encode_utf8_all, nat_lt, refl, sym, ap, subst, ◌∙◌, append_assoc, arith}
-use Rattle.std.specs.List.{flat_map}
-use Rattle.std.specs.Str.{IsCharBoundary, IsUtf8, NonePass, chars}
-use Rattle.std.proofs.lemmas.Bool.Decides.{nat_tests}
-use Rattle.std.proofs.lemmas.Grind.{flat_map-append}
-use Rattle.std.proofs.lemmas.List.{take-append-drop, take_more}
-use Rattle.std.proofs.lemmas.Str.{chars-append, chars_past_char, encode_ascii, encodes-chars, IsUtf8-take}
-use Rattle.serde_json_path_nodes.specs.Text.{escape_of, in_quotes, is_escaped}
+use Rattle.serde_json_path_nodes.proofs.Words.{flat_map, IsCharBoundary, IsUtf8, NonePass, chars, nat_tests, flat_map-append, take-append-drop, take_more, chars-append, chars_past_char, encode_ascii, encodes-chars, IsUtf8-take, escape_of, in_quotes, is_escaped}
 
 -- ---- what prints itself
 

@@ -1,17 +1,11 @@
 -- Locations are read back from their normalised paths, since decimals and escapes are.
 use Rattle.std.proofs.Common.{◌≡◌, ℕ, zero, suc, ◌+◌, ◌-◌, ◌^◌, ◌<◌, List, [], ◌∷◌, map, refl, ap, sym, ◌∙◌, arith, ◌*◌, ◌==◌, nat_lt, Bool, true, false, if◌then◌else◌, ◌++◌, get_or, drop, is_some, encode_utf8, true≢false, ◌≢◌, codes, append_assoc}
-use Rattle.std.specs.Fmt.{decimal}
+use Rattle.serde_json_path_nodes.proofs.Words.{decimal, escape_of, in_quotes, normal_step, normal, nat_tests, encode_same, char_from_byte, encodes-chars, append_cancel_left, flat_map, chars, encode_utf8_all, Step, by_name, by_position, IsProper}
 use Rattle.std.specs.Int.Digits.{digits_of, number_from_digits, AllBelowBase}
 use Rattle.std.proofs.lemmas.Fmt.{decimal_digit, decimal-digits_of}
 use Rattle.std.proofs.lemmas.Int.Digits.{number_digits_of, all_below_base_digits_of, first_digits_of}
-use Rattle.serde_json_path_nodes.specs.Text.{in_decimal, escape_of, in_quotes, normal_step, normal}
+use Rattle.serde_json_path_nodes.specs.Text.{in_decimal}
 use Rattle.std.specs.Char.{digit_char}
-use Rattle.std.proofs.lemmas.Bool.Decides.{nat_tests}
-use Rattle.std.proofs.lemmas.Str.{encode_same, char_from_byte, encodes-chars}
-use Rattle.std.proofs.lemmas.List.{append_cancel_left}
-use Rattle.std.specs.List.{flat_map}
-use Rattle.std.specs.Str.{chars, encode_utf8_all}
-use Rattle.serde_json_path_nodes.specs.Location.{Step, by_name, by_position, IsProper}
 use Rattle.serde_json_path_nodes.specs.Laws.{TextsTellLocations}
 
 -- ---- a number is read back from its digits, and within 64 bits they are those that std prints

@@ -1,9 +1,5 @@
 -- Laws of the grammar and of the typed grammar.
-use Rattle.std.specs.Prelude.{◌≡◌, ℕ, List, Option}
-use Rattle.std.specs.Str.{IsUtf8, chars}
-use Rattle.serde_json_path_syntax.specs.Tree.{Query}
-use Rattle.serde_json_path_syntax.specs.Text.{query_text}
-use Rattle.serde_json_path_functions.specs.Functions.{Signature}
+use Rattle.serde_json_path_parser.specs.Imports.{◌≡◌, ℕ, List, Option, IsUtf8, chars, Query, query_text, Signature}
 use Rattle.serde_json_path_parser.specs.Accepted.{IsAccepted}
 use Rattle.serde_json_path_parser.specs.Grammar.{Reads}
 

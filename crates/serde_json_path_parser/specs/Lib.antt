@@ -38,3 +38,5 @@ pub mod Filters
 
 -- the vocabulary of private functions and of proofs
 pub mod Inside
+-- what the definitions take from the crates below, from one place
+pub mod Imports

@@ -1,11 +1,6 @@
 -- What a filter compares or tests: a literal, a query or a call, which is read before its use is known; and what decides
 -- how it may be used.
-use Rattle.std.specs.Prelude.{ℕ, ◌+◌, ◌%◌, ◌==◌, ◌||◌, Bool, true, false, ℤ, pos, negsuc, List, [], Option, Some}
-use Rattle.serde_json_path_syntax.specs.Calls.{calls_of, calls_from}
-use Rattle.serde_json_path_syntax.specs.Kinds.{is_singular}
-use Rattle.serde_json_path_syntax.specs.Tree.{Query, Call, Argument, literal_argument, query_argument, call_argument, logical_argument, Literal, number}
-use Rattle.serde_json_path_syntax.specs.Typing.{result_kind}
-use Rattle.serde_json_path_functions.specs.Functions.{Kind, of_value, of_nodes, of_logical, Signature}
+use Rattle.serde_json_path_parser.specs.Imports.{ℕ, ◌+◌, ◌%◌, ◌==◌, ◌||◌, Bool, true, false, ℤ, pos, negsuc, List, [], Option, Some, calls_of, calls_from, is_singular, Query, Call, Argument, literal_argument, query_argument, call_argument, logical_argument, Literal, number, result_kind, Kind, of_value, of_nodes, of_logical, Signature}
 
 pub data Operand : Type 0 where
   a_literal : Literal → Operand

@@ -1,12 +1,5 @@
 -- Acceptance: which texts a parse accepts, each with which tree, and what it may refuse for want of memory.
-use Rattle.std.specs.Prelude.{◌≡◌, ◌≢◌, ℕ, ◌<◌, ◌⊎◌, Bool, false, List, ◌++◌, length, codes, Option, Result, IfOk, IfErr, IsErrAnd}
-use Rattle.std.specs.Result.{result_map_both}
-use Rattle.std.specs.Str.{chars}
-use Rattle.serde_json_path_syntax.specs.declared.checked.Checked.{Checked}
-use Rattle.serde_json_path_syntax.specs.Parts.{tree_of, signatures_of}
-use Rattle.serde_json_path_syntax.specs.Tree.{Query}
-use Rattle.serde_json_path_syntax.specs.Used.{AreCalled}
-use Rattle.serde_json_path_functions.specs.Functions.{Signature}
+use Rattle.serde_json_path_parser.specs.Imports.{◌≡◌, ◌≢◌, ℕ, ◌<◌, ◌⊎◌, Bool, false, List, ◌++◌, length, codes, Option, Result, IfOk, IfErr, IsErrAnd, result_map_both, chars, Checked, tree_of, signatures_of, Query, AreCalled, Signature}
 use Rattle.serde_json_path_parser.specs.declared.error.ParseErrorKind.TheVariants.{NoMemory}
 use Rattle.serde_json_path_parser.specs.declared.error.ParseError.{ParseError}
 use Rattle.serde_json_path_parser.specs.Lexical.{◌∈◌, begins, is_blank, IsBlank, opens}

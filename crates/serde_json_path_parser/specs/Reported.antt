@@ -1,9 +1,5 @@
 -- Which refusal a parse reports. What a parse accepts is in `Parse`.
-use Rattle.std.specs.Prelude.{◌≡◌, ◌≢◌, ℕ, ◌+◌, ◌-◌, ◌<◌, ◌≤◌, ◌↔◌, false, List, ◌++◌, length, take, drop, codes, Option, Some, None, Result, Ok, Err, IfErr, IsErrAnd}
-use Rattle.std.specs.Result.{result_map_both}
-use Rattle.std.specs.Str.{chars, IsCharBoundary}
-use Rattle.serde_json_path_syntax.specs.Tree.{Query}
-use Rattle.serde_json_path_functions.specs.Functions.{Signature}
+use Rattle.serde_json_path_parser.specs.Imports.{◌≡◌, ◌≢◌, ℕ, ◌+◌, ◌-◌, ◌<◌, ◌≤◌, ◌↔◌, false, List, ◌++◌, length, take, drop, codes, Option, Some, None, Result, Ok, Err, IfErr, IsErrAnd, result_map_both, chars, IsCharBoundary, Query, Signature}
 use Rattle.serde_json_path_parser.specs.declared.error.ParseErrorKind.TheVariants.{ExpectedRoot, UndefinedFunction, TextAfterPath, NoMemory}
 use Rattle.serde_json_path_parser.specs.declared.error.ParseError.{ParseError}
 use Rattle.serde_json_path_parser.specs.declared.error.Refusal.{Refusal}

@@ -1,3 +1,5 @@
+-- the words that proofs cite, from one place
+mod Words
 -- trees of growing vectors
 pub mod Tree
 -- typing

@@ -1,11 +1,6 @@
 -- Members of lists, and lists in order.
 use Rattle.std.proofs.Common.{true, false, refl, sym, true≢false, ◌≡◌, List, [], ◌∷◌, ◌++◌, map, flat_map, filter as keep, ◌⊎◌, ◌↔◌, inl, inr, Bool, Option, Some, None, option_to_list, ap, subst, ◌∙◌}
-use Rattle.std.specs.Bool.{Decides}
-use Rattle.std.proofs.lemmas.Bool.{cases_Bool}
-use Rattle.std.proofs.lemmas.Grind.{flat_map-append}
-use Rattle.std.proofs.lemmas.List.{map-append}
-use Rattle.std.proofs.lemmas.Option.{none-some, same_Some}
-use Rattle.serde_json_path_syntax.specs.Lists.{IsIn, IsInOrder}
+use Rattle.serde_json_path_syntax.proofs.Words.{Decides, cases_Bool, flat_map-append, map-append, none-some, same_Some, IsIn, IsInOrder}
 
 -- ---- tests that always hold, and that never do
 

@@ -42,3 +42,5 @@ pub mod Stages
 
 -- the vocabulary of private functions and of proofs
 pub mod Inside
+-- the words of contracts and proofs, from one place
+pub mod Words

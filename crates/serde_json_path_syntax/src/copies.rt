@@ -1,7 +1,6 @@
 //! Copies of nodes. An error comes only where memory is refused.
 
-ghost use Rattle.std.specs.Prelude.{◌≡◌, IfOk};
-ghost use Rattle.serde_json_path_syntax.specs.Inside.Copies.{AreCopies, IsCopy};
+ghost use Rattle.serde_json_path_syntax.specs.Words.{◌≡◌, IfOk, AreCopies, IsCopy};
 
 use crate::literal::LiteralValue;
 use crate::node::Node;
@@ -28,8 +27,7 @@ fn copy_of(node: &Node) -> Result<Node, AllocError>
 }
 
 impl Clone for LiteralValue {
-    ghost use Rattle.serde_json_path_syntax.specs.Flat.{held_view};
-    ghost use Rattle.serde_json_path_syntax.specs.Kinds.{literal_fits};
+    ghost use Rattle.serde_json_path_syntax.specs.Words.{held_view, literal_fits};
 
     ghost is_clone = { λ old copy. (held_view copy ≡ held_view old) × (literal_fits copy ≡ literal_fits old) };
 

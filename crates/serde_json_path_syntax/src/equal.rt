@@ -1,13 +1,7 @@
 //! Equality of finished queries.
 
-ghost use Rattle.std.specs.Prelude.{◌≡◌, ◌<◌, ◌≤◌, ◌↔◌, IsTrue, true, length};
-ghost use Rattle.std.specs.Cmp.Lexicographic.{pointwise};
-ghost use Rattle.serde_json_path_syntax.specs.Flat.{argument_of, argument_parts, basic_of, basic_parts, comparable_of, comparable_parts, held_view, piece_at, pieces, pieces_named, segment_of, segment_parts, selector_of, selector_parts};
-ghost use Rattle.serde_json_path_syntax.specs.Kinds.{argument_fits, basic_fits, comparable_fits, literal_fits, segment_fits, selector_fits};
-ghost use Rattle.serde_json_path_syntax.specs.PartBounds.{parts_bound};
-ghost use Rattle.serde_json_path_syntax.specs.Parts.{nodes_in, number_of, tree_of};
+ghost use Rattle.serde_json_path_syntax.specs.Words.{◌≡◌, ◌<◌, ◌≤◌, ◌↔◌, IsTrue, true, length, pointwise, argument_of, argument_parts, basic_of, basic_parts, comparable_of, comparable_parts, held_view, piece_at, pieces, pieces_named, segment_of, segment_parts, selector_of, selector_parts, argument_fits, basic_fits, comparable_fits, literal_fits, segment_fits, selector_fits, parts_bound, nodes_in, number_of, tree_of, slice_view};
 ghost use Rattle.serde_json_path_syntax.specs.SameTree as trees;
-ghost use Rattle.serde_json_path_syntax.specs.SliceView.{slice_view};
 
 use crate::checked::Checked;
 use crate::literal::LiteralValue;
@@ -17,8 +11,7 @@ use serde_json::Value;
 
 /// Two queries are equal where their trees are: the signatures that they keep are not compared.
 impl PartialEq for Checked {
-    ghost use Rattle.std.specs.Cmp.{partial_equiv_from_equiv};
-    ghost use Rattle.serde_json_path_syntax.specs.Inside.SameLaws.{same_trees-equiv};
+    ghost use Rattle.serde_json_path_syntax.specs.Words.{partial_equiv_from_equiv, same_trees-equiv};
 
     ghost eq = { λ mine theirs. trees.same_query (tree_of mine) (tree_of theirs) };
 

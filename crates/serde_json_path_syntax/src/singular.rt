@@ -1,9 +1,6 @@
 //! Singular queries (RFC 9535, section 2.3.5.1).
 
-ghost use Rattle.std.specs.Prelude.{◌≡◌, ◌<◌, ◌≤◌, ◌↔◌, IsTrue, [], ◌∷◌, length};
-ghost use Rattle.serde_json_path_syntax.specs.Flat.{part_query, piece_at, pieces, segment_parts, segment_of, segments_at, selector_at};
-ghost use Rattle.serde_json_path_syntax.specs.PartBounds.{parts_bound};
-ghost use Rattle.serde_json_path_syntax.specs.Piece.{a_query};
+ghost use Rattle.serde_json_path_syntax.specs.Words.{◌≡◌, ◌<◌, ◌≤◌, ◌↔◌, IsTrue, [], ◌∷◌, length, part_query, piece_at, pieces, segment_parts, segment_of, segments_at, selector_at, parts_bound, a_query};
 ghost use Rattle.serde_json_path_syntax.specs.Tree as tree;
 
 use crate::arena::Arena;

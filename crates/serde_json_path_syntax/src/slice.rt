@@ -1,9 +1,6 @@
 //! Slice selectors.
 
-ghost use Rattle.std.specs.Prelude.{Some};
-ghost use Rattle.std.specs.Fmt.{WritesOnOk};
-ghost use Rattle.serde_json_path_syntax.specs.SliceView.{slice_view};
-ghost use Rattle.serde_json_path_syntax.specs.Text.{integer_text, slice_text};
+ghost use Rattle.serde_json_path_syntax.specs.Words.{Some, WritesOnOk, slice_view, integer_text, slice_text};
 
 use std::fmt;
 use std::fmt::{Formatter, Write};

@@ -1,14 +1,6 @@
 -- What all parts of an evaluation share, and what it asks of the query.
-use Rattle.std.specs.Prelude.{ℕ, List, Option}
-use Rattle.serde_json_path_functions.specs.Functions.{Signature, FunctionSet}
-use Rattle.serde_json_path_syntax.specs.Tree.{Query, Call}
-use Rattle.serde_json_path_syntax.specs.Calls.{OfEach, calls_of}
-use Rattle.serde_json_path_syntax.specs.Lists.{IsIn}
-use Rattle.serde_json.specs.Data.{Data}
-use Rattle.serde_json.specs.View.{view}
-use Rattle.serde_json_path_syntax.specs.Parts.{nodes_in, tree_of}
+use Rattle.serde_json_path_core.specs.Imports.{ℕ, List, Option, Signature, FunctionSet, Query, Call, OfEach, calls_of, IsIn, Data, view, nodes_in, tree_of, Node}
 use Rattle.serde_json_path_core.specs.PatternCalls.{CallsByPattern}
-use Rattle.serde_json_path_syntax.specs.declared.node.Node.{Node}
 use Rattle.serde_json_path_core.specs.declared.evaluation.scope.Scope.{Scope}
 
 -- ---- what the evaluation of a part of a query stands on: the part is well-typed, and its calls are calls of the query

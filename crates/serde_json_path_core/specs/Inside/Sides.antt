@@ -1,6 +1,5 @@
 -- The sides of a comparison as the definitions see them.
-use Rattle.serde_json.specs.View.{view}
-use Rattle.serde_json_path_syntax.specs.Literals.{number_amount}
+use Rattle.serde_json_path_core.specs.Imports.{view, number_amount}
 use Rattle.serde_json_path_core.specs.Compared.{Compared, nothing, value, billionths}
 use Rattle.serde_json_path_core.specs.declared.filter.side.Side.{Side}
 use Rattle.serde_json_path_core.specs.declared.filter.side.Side.TheVariants.{Nothing, Value, Number}

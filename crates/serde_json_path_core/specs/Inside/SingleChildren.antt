@@ -1,14 +1,5 @@
 -- Where a query goes on after segments that select one child at most (RFC 9535, section 2.3.5.1).
-use Rattle.std.specs.Prelude.{◌≡◌, List, [], map, Bool, true, false}
-use Rattle.std.specs.Option.{option_map_or}
-use Rattle.serde_json.specs.Data.{Data}
-use Rattle.serde_json.specs.View.{view}
-use Rattle.serde_json_path_nodes.specs.Location.{Step, Located}
-use Rattle.serde_json_path_functions.specs.Functions.{FunctionSet}
-use Rattle.serde_json_path_syntax.specs.Flat.{segments_at}
-use Rattle.serde_json_path_syntax.specs.Tree.{Segments, Selector, name, index}
-use Rattle.serde_json_path_syntax.specs.declared.node.Node.{Node}
-use Rattle.serde_json_path_syntax.specs.declared.node.Part.{Part}
+use Rattle.serde_json_path_core.specs.Imports.{◌≡◌, List, [], map, Bool, true, false, option_map_or, Data, view, Step, Located, FunctionSet, segments_at, Segments, Selector, name, index, Node, Part}
 use Rattle.serde_json_path_core.specs.Inside.Computed.{itself, results_from}
 use Rattle.serde_json_path_core.specs.Inside.Rest.{candidates}
 use Rattle.serde_json_path_core.specs.declared.evaluation.single_children.Reached.{Reached}

@@ -1,9 +1,6 @@
 //! The values of all children, without a frame.
 
-ghost use Rattle.std.specs.Prelude.{◌≡◌, IfOk, map};
-ghost use Rattle.serde_json.specs.View.{view};
-ghost use Rattle.serde_json_path_nodes.specs.Views.{node_value};
-ghost use Rattle.serde_json_path_core.specs.Inside.Computed.{children};
+ghost use Rattle.serde_json_path_core.specs.Inside.Words.{◌≡◌, IfOk, map, view, node_value, children};
 
 use crate::evaluation::cursor::Cursor;
 use serde_json::Value;

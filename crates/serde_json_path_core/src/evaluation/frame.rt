@@ -1,18 +1,6 @@
 //! Frames of a walk: a frame is a value at which one segment is being applied.
 
-ghost use Rattle.std.specs.Prelude.{◌≡◌, ◌+◌, ◌<◌, ◌≤◌, ◌^◌, [], ◌∷◌, None, Some, IfOk, IfErr, drop, length, option_map};
-ghost use Rattle.serde_json.specs.View.{view};
-ghost use Rattle.serde_json_path_nodes.specs.Views.{step_view};
-ghost use Rattle.serde_json_path_syntax.specs.Flat.{segment_at, segments_at};
-ghost use Rattle.serde_json_path_syntax.specs.Parts.{nodes_in};
-ghost use Rattle.serde_json_path_syntax.specs.PartBounds.{parts_bound, selector_bound};
-ghost use Rattle.serde_json_path_syntax.specs.Typing.{AreTypedSegments, IsTypedSegment, UnderSome};
-ghost use Rattle.serde_json_path_core.specs.Inside.Evaluates.{IsAtAdmitted, IsAtTask, Passes, Skips, SoundOr, SoundSegment, SoundSelector};
-ghost use Rattle.serde_json_path_core.specs.Inside.Scopes.{MayRefuse, nodes_of, top_of};
-ghost use Rattle.serde_json_path_core.specs.Inside.Views.{child_view, cursor_left, frame_view, frames_view, task_view};
-ghost use Rattle.serde_json_path_core.specs.Inside.Rest.{candidates, entered, opened, begun, passed, IsInside, AllStandIn};
-ghost use Rattle.serde_json_path_syntax.specs.Stages.{selector_view, stage_at, stages_at};
-ghost use Rattle.serde_json_path_functions.specs.declared.error.QueryError.TheVariants.{Pattern};
+ghost use Rattle.serde_json_path_core.specs.Inside.Words.{◌≡◌, ◌+◌, ◌<◌, ◌≤◌, ◌^◌, [], ◌∷◌, None, Some, IfOk, IfErr, drop, length, option_map, view, step_view, segment_at, segments_at, nodes_in, parts_bound, selector_bound, AreTypedSegments, IsTypedSegment, UnderSome, IsAtAdmitted, IsAtTask, Passes, Skips, SoundOr, SoundSegment, SoundSelector, MayRefuse, nodes_of, top_of, child_view, cursor_left, frame_view, frames_view, task_view, candidates, entered, opened, begun, passed, IsInside, AllStandIn, selector_view, stage_at, stages_at, Pattern};
 
 use crate::child::{Child, item, member};
 use crate::evaluation::cursor::Cursor;

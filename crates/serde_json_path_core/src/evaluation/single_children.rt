@@ -1,21 +1,6 @@
 //! Going down by segments that select one child at most, without a frame.
 
-ghost use Rattle.std.specs.Prelude.{◌≡◌, ◌∷◌, [], ◌≤◌, ◌<◌, List, IfSome, IsSome, IsTrue, true, length, option_map, option_to_list};
-ghost use Rattle.serde_json.specs.Data.{Data};
-ghost use Rattle.serde_json.specs.View.{view};
-ghost use Rattle.serde_json_path_functions.specs.Functions.{FunctionSet};
-ghost use Rattle.serde_json_path_nodes.specs.Views.{node_value};
-ghost use Rattle.serde_json_path_syntax.specs.Flat.{segment_at, segments_at};
-ghost use Rattle.serde_json_path_syntax.specs.Parts.{nodes_in};
-ghost use Rattle.serde_json_path_syntax.specs.PartBounds.{parts_bound};
-ghost use Rattle.serde_json_path_syntax.specs.Stages.{selector_view, stage_at};
-ghost use Rattle.serde_json_path_syntax.specs.declared.node.Node.{Node};
-ghost use Rattle.serde_json_path_syntax.specs.Kinds.{are_singular};
-ghost use Rattle.serde_json_path_syntax.specs.Tree.{Selector, child, wildcard};
-ghost use Rattle.serde_json_path_syntax.specs.Typing.{AreTypedSegments, IsTypedSegment, UnderSome};
-ghost use Rattle.serde_json_path_core.specs.PatternCalls.{StandsIn};
-ghost use Rattle.serde_json_path_core.specs.Inside.Rest.{EndsIn};
-ghost use Rattle.serde_json_path_core.specs.Inside.SingleChildren.{SelectOnly, candidate_values, is_single, single_view, values_from, values_reached};
+ghost use Rattle.serde_json_path_core.specs.Inside.Words.{◌≡◌, ◌∷◌, [], ◌≤◌, ◌<◌, List, IfSome, IsSome, IsTrue, true, length, option_map, option_to_list, Data, view, FunctionSet, node_value, segment_at, segments_at, nodes_in, parts_bound, selector_view, stage_at, Node, are_singular, Selector, child, wildcard, AreTypedSegments, IsTypedSegment, UnderSome, StandsIn, EndsIn, SelectOnly, candidate_values, is_single, single_view, values_from, values_reached};
 
 use crate::child::item;
 use serde_json::Value;

@@ -1,18 +1,6 @@
 //! The stack of a walk's frames, and how it reaches the next node.
 
-ghost use Rattle.std.specs.Prelude.{◌≡◌, ◌<◌, ◌≤◌, [], ◌++◌, None, Ok, IfOk, IfErr, OnOk, OnErr, MatchOption, length, option_map, option_to_list};
-ghost use Rattle.serde_json.specs.View.{view};
-ghost use Rattle.serde_json_path_nodes.specs.Views.{located, step_view};
-ghost use Rattle.serde_json_path_syntax.specs.Parts.{nodes_in};
-ghost use Rattle.serde_json_path_syntax.specs.PartBounds.{parts_bound};
-ghost use Rattle.serde_json_path_syntax.specs.Typing.{AreTypedSegments, UnderSome};
-ghost use Rattle.serde_json_path_core.specs.Inside.Evaluates.{IsAtNode, IsKept, SoundSegments};
-ghost use Rattle.serde_json_path_core.specs.Inside.Scopes.{MayRefuse, nodes_of, top_of};
-ghost use Rattle.serde_json_path_core.specs.Inside.Rest.{entering, is_leaf, last_passed, stack_path, without_node, IsStackIn};
-ghost use Rattle.serde_json_path_syntax.specs.Flat.{segments_at};
-ghost use Rattle.serde_json_path_syntax.specs.Stages.{stages_at};
-ghost use Rattle.serde_json_path_core.specs.Inside.Views.{frames_view, task_view};
-ghost use Rattle.serde_json_path_functions.specs.declared.error.QueryError.TheVariants.{Memory, Pattern};
+ghost use Rattle.serde_json_path_core.specs.Inside.Words.{◌≡◌, ◌<◌, ◌≤◌, [], ◌++◌, None, Ok, IfOk, IfErr, OnOk, OnErr, MatchOption, length, option_map, option_to_list, view, located, step_view, nodes_in, parts_bound, AreTypedSegments, UnderSome, IsAtNode, IsKept, SoundSegments, MayRefuse, nodes_of, top_of, entering, is_leaf, last_passed, stack_path, without_node, IsStackIn, segments_at, stages_at, frames_view, task_view, Memory, Pattern};
 
 use crate::child::Child;
 use crate::evaluation::frame::{Frame, Task};

@@ -1,16 +1,7 @@
 //! Calls of functions in filters (RFC 9535, section 2.4).
 
-ghost use Rattle.std.specs.Prelude.{◌≡◌, ◌<◌, Some, IfOk, IfErr, length};
-ghost use Rattle.serde_json.specs.View.{view};
-ghost use Rattle.serde_json_path_functions.specs.Functions.{kind_of_term};
-ghost use Rattle.serde_json_path_core.specs.Inside.Evaluates.{SoundArgument, SoundCall, SoundQuery, answer_at, given_at, results_at};
-ghost use Rattle.serde_json_path_functions.specs.Terms.{kind_view, term_view};
-ghost use Rattle.serde_json_path_syntax.specs.Typing.{result_kind};
-ghost use Rattle.serde_json_path_core.specs.PatternCalls.{StandsIn};
+ghost use Rattle.serde_json_path_core.specs.Inside.Words.{◌≡◌, ◌<◌, Some, IfOk, IfErr, length, view, kind_of_term, SoundArgument, SoundCall, SoundQuery, answer_at, given_at, results_at, kind_view, term_view, result_kind, StandsIn, call_at, MayRefuse, nodes_of, set_of, top_of, Pattern};
 ghost use Rattle.serde_json_path_core.specs.Inside.Computed as computed;
-ghost use Rattle.serde_json_path_syntax.specs.Flat.{call_at};
-ghost use Rattle.serde_json_path_core.specs.Inside.Scopes.{MayRefuse, nodes_of, set_of, top_of};
-ghost use Rattle.serde_json_path_functions.specs.declared.error.QueryError.TheVariants.{Pattern};
 
 use crate::evaluation::scope::Scope;
 use crate::filter::logic::or_holds;

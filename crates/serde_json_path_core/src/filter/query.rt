@@ -1,15 +1,6 @@
 //! The queries in filters and in arguments of calls.
 
-ghost use Rattle.std.specs.Prelude.{◌≡◌, ◌<◌, ◌≤◌, IfOk, IfErr, IfSome, length, map, option_map, slice_get};
-ghost use Rattle.serde_json.specs.View.{view};
-ghost use Rattle.serde_json_path_nodes.specs.Views.{node_value};
-ghost use Rattle.serde_json_path_core.specs.Inside.Evaluates.{SoundQuery, SoundSegments, results_at, values_at, values_of_segments};
-ghost use Rattle.serde_json_path_core.specs.PatternCalls.{StandsIn};
-ghost use Rattle.serde_json_path_core.specs.Meaning.{first_value};
-ghost use Rattle.serde_json_path_syntax.specs.PartBounds.{parts_bound};
-ghost use Rattle.serde_json_path_core.specs.Inside.SingleChildren.{values_reached};
-ghost use Rattle.serde_json_path_core.specs.Inside.Scopes.{MayRefuse, nodes_of, set_of, top_of};
-ghost use Rattle.serde_json_path_functions.specs.declared.error.QueryError.TheVariants.{Pattern};
+ghost use Rattle.serde_json_path_core.specs.Inside.Words.{◌≡◌, ◌<◌, ◌≤◌, IfOk, IfErr, IfSome, length, map, option_map, slice_get, view, node_value, SoundQuery, SoundSegments, results_at, values_at, values_of_segments, StandsIn, first_value, parts_bound, values_reached, MayRefuse, nodes_of, set_of, top_of, Pattern};
 
 use crate::evaluation::child_values::child_values;
 use crate::evaluation::frame::started;

@@ -1,17 +1,9 @@
 //! What the sides of a comparison stand for (RFC 9535, section 2.3.5.1).
 
-ghost use Rattle.std.specs.Prelude.{◌≡◌, Some, option_map, true};
+ghost use Rattle.serde_json_path_core.specs.Inside.Words.{◌≡◌, Some, option_map, true, number_view, view, kind_of_term, of_value, term_view, node_value, amount_of, exact_of, literal_compared, value_compared, exact_view, held_view, literal_fits, side_view};
 ghost use Rattle.serde_json.specs.Data.{number as number_data};
-ghost use Rattle.serde_json.specs.View.{number_view, view};
-ghost use Rattle.serde_json_path_functions.specs.Functions.{kind_of_term, of_value};
-ghost use Rattle.serde_json_path_functions.specs.Terms.{term_view};
-ghost use Rattle.serde_json_path_nodes.specs.Views.{node_value};
-ghost use Rattle.serde_json_path_core.specs.Compared.{amount_of, exact_of, value as a_value, literal_compared, value_compared};
+ghost use Rattle.serde_json_path_core.specs.Compared.{value as a_value};
 ghost use Rattle.serde_json_path_core.specs.Inside.Computed as computed;
-ghost use Rattle.serde_json_path_numbers.specs.Views.{exact_view};
-ghost use Rattle.serde_json_path_syntax.specs.Flat.{held_view};
-ghost use Rattle.serde_json_path_syntax.specs.Kinds.{literal_fits};
-ghost use Rattle.serde_json_path_core.specs.Inside.Sides.{side_view};
 
 use serde_json::{Number, Value};
 use serde_json_path_functions::{FunctionValue, ValueType};

@@ -1,31 +1,15 @@
 -- The words of contracts of private functions: a reader of a text, what is read at a level, and that what a function of the
 -- parser returned is what reading gives.
-use Rattle.std.specs.Prelude.{ℕ, true, false, List, codes, bytes_eq, Option, Some, None, if◌then◌else◌, ◌≡◌, ◌+◌, ◌≤◌, max, drop, length, ◌-◌, ◌++◌, Result, Ok, Err}
-use Rattle.serde_json_path_syntax.specs.Tree.{Literal, truth, null, Selector, Query, LogicalOr, query, root, SegmentKind, Segments, Segment, Call, Arguments, Argument, logical_argument}
-use Rattle.std.specs.Str.{chars}
+use Rattle.serde_json_path_parser.specs.Imports.{ℕ, true, false, List, codes, bytes_eq, Option, Some, None, if◌then◌else◌, ◌≡◌, ◌+◌, ◌≤◌, max, drop, length, ◌-◌, ◌++◌, Result, Ok, Err, Literal, truth, null, Selector, Query, LogicalOr, query, root, SegmentKind, Segments, Segment, Call, Arguments, Argument, logical_argument, chars, Signature, FunctionSet, Fits, names_of, calls_in_segments, calls_in_selectors, calls_from, calls_in_arguments, calls_in_argument, parts_in, literal_view, Piece, a_segment, calls_in_piece, IsPart, ArePartsOf, AreSelectorsOf, AreArgumentsOf, KeepsTrees, calls_in, signatures_of, tree_of, result_kind, AreCalled, AreDeclared, names_in, kind_view, FunctionArgType, Part, Parts, SyntaxBuilder, Checked}
 use Rattle.serde_json_path_parser.specs.Source.{Told}
 use Rattle.serde_json_path_parser.specs.Inside.Looking.{up_to_second}
 use Rattle.serde_json_path_parser.specs.declared.source.PathSource.{Ghosts}
 use Rattle.serde_json_path_parser.specs.declared.parser.reader.Reader.{Reader}
-use Rattle.serde_json_path_functions.specs.Functions.{Signature, FunctionSet, Fits}
 use Rattle.serde_json_path_parser.specs.declared.parser.Parser.{Parser}
 use Rattle.serde_json_path_parser.specs.Parsed.{Parsed, past_blanks, byte_count}
 use Rattle.serde_json_path_parser.specs.Filters as filters
 use Rattle.serde_json_path_parser.specs.Filters.{Deeper, alone}
-use Rattle.serde_json_path_syntax.specs.Calls.{names_of, calls_in_segments, calls_in_selectors, calls_from, calls_in_arguments, calls_in_argument}
-use Rattle.serde_json_path_syntax.specs.Flat.{parts_in}
-use Rattle.serde_json_path_syntax.specs.Literals.{literal_view}
 use Rattle.serde_json_path_syntax.specs.Piece as piece
-use Rattle.serde_json_path_syntax.specs.Piece.{Piece, a_segment, calls_in_piece}
-use Rattle.serde_json_path_syntax.specs.Parts.{IsPart, ArePartsOf, AreSelectorsOf, AreArgumentsOf, KeepsTrees, calls_in, signatures_of, tree_of}
-use Rattle.serde_json_path_syntax.specs.Typing.{result_kind}
-use Rattle.serde_json_path_syntax.specs.Used.{AreCalled, AreDeclared, names_in}
-use Rattle.serde_json_path_functions.specs.Terms.{kind_view}
-use Rattle.serde_json_path_functions.specs.declared.types.FunctionArgType.{FunctionArgType}
-use Rattle.serde_json_path_syntax.specs.declared.node.Part.{Part}
-use Rattle.serde_json_path_syntax.specs.declared.parts.Parts.{Parts}
-use Rattle.serde_json_path_syntax.specs.declared.builder.SyntaxBuilder.{SyntaxBuilder}
-use Rattle.serde_json_path_syntax.specs.declared.checked.Checked.{Checked}
 use Rattle.serde_json_path_parser.specs.declared.error.Refusal.{Refusal}
 use Rattle.serde_json_path_parser.specs.declared.error.Failure.{Failure}
 use Rattle.serde_json_path_parser.specs.declared.error.Failure.TheVariants as failures

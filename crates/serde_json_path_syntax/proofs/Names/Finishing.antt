@@ -1,12 +1,7 @@
 -- When the calls of a builder let a query be finished.
 use Rattle.std.proofs.Common.{◌≡◌, ◌≤◌, ℕ, List, Option, sym, subst}
-use Rattle.serde_json_path_functions.specs.Functions.{Signature}
-use Rattle.serde_json_path_syntax.specs.Tree.{Query, root, kind_of}
-use Rattle.serde_json_path_syntax.specs.Typing.{IsTyped}
+use Rattle.serde_json_path_syntax.proofs.Words.{Signature, Query, root, kind_of, IsTyped, calls_of, names_of, IsIn, AreDeclared, MayFinish, deepest, names_in, signature_in}
 use Rattle.serde_json_path_syntax.specs.Depth.{depth}
-use Rattle.serde_json_path_syntax.specs.Calls.{calls_of, names_of}
-use Rattle.serde_json_path_syntax.specs.Lists.{IsIn}
-use Rattle.serde_json_path_syntax.specs.Used.{AreDeclared, MayFinish, deepest, names_in, signature_in}
 use Rattle.serde_json_path_syntax.proofs.Lists.{map_in}
 use Rattle.serde_json_path_syntax.proofs.Names.Once.{declared_known}
 use Rattle.serde_json_path_syntax.proofs.Typing.TypedByNames.{typed_by_names}

@@ -1,15 +1,8 @@
 -- Names that a query calls, each once.
 use Rattle.std.proofs.Common.{List, [], ◌∷◌, ◌++◌, inl, inr, refl, arith, ◌≡◌, ◌≢◌, ◌↔◌, ℕ, filter, not, Bool, true, false, Option, Some, bytes_eq, sym, ap, subst, ◌∙◌, true≢false}
-use Rattle.serde_json_path_syntax.specs.Tree.{Call, call, Query}
-use Rattle.serde_json_path_syntax.specs.Calls.{OfEach, calls_from, calls_in_arguments}
-use Rattle.serde_json_path_syntax.specs.Lists.{IsIn, IsInOrder}
+use Rattle.serde_json_path_syntax.proofs.Words.{Call, call, Query, OfEach, calls_from, calls_in_arguments, IsIn, IsInOrder, cases_Bool, nat_tests, none-some, same_Some, Signature, FunctionSet, Fits, AreCalled, AreDeclared, AreNamesOf, each_once, names_in, signature_in}
 use Rattle.serde_json_path_syntax.proofs.Lists.{in_append, in_keep, in_map, in_order-keep, map_in}
-use Rattle.std.proofs.lemmas.Bool.{cases_Bool}
-use Rattle.std.proofs.lemmas.Bool.Decides.{nat_tests}
-use Rattle.std.proofs.lemmas.Option.{none-some, same_Some}
 use Rattle.std.proofs.lemmas.Slice.Eq.{bytes_eq-Decides}
-use Rattle.serde_json_path_functions.specs.Functions.{Signature, FunctionSet, Fits}
-use Rattle.serde_json_path_syntax.specs.Used.{AreCalled, AreDeclared, AreNamesOf, each_once, names_in, signature_in}
 
 -- ---- what holds of each call that a part makes holds of each that a part of it makes
 

@@ -1,14 +1,9 @@
 -- The tree of a vector of nodes, as it grows and is copied, and that its nodes fit.
 use Rattle.std.proofs.Common.{◌≡◌, ℕ, zero, suc, ◌+◌, ◌<◌, ◌≤◌, List, [], ◌∷◌, ◌++◌, ◌↔◌, length, drop, Bool, Result, Ok, Err, IfOk, OnOk, OnErr, inl, inr, get_or, refl, sym, ap, ◌∙◌, subst, arith, length-append, true, false, if◌then◌else◌, slice_index_or, Option, Some, None}
-use Rattle.std.proofs.lemmas.Grind.{common_steps, flat_map-append}
-use Rattle.std.proofs.lemmas.List.{append-nil, drop_more}
+use Rattle.serde_json_path_syntax.proofs.Words.{common_steps, flat_map-append, append-nil, drop_more, Signature, FunctionSet, Fits, IsIn, fits, AreFitting, Piece, Part, parts_bound, called_by, calls_among, no_piece, piece_in, pieces_named, parts_in, piece_of, pieces_from, piece_at, NamesBelow, IsGrown, query_at, query_in, cases_lt, AreCopies, IsCopy}
 use Rattle.std.specs.declared.alloc.AllocError.{AllocError}
-use Rattle.serde_json_path_functions.specs.Functions.{Signature, FunctionSet, Fits}
-use Rattle.serde_json_path_syntax.specs.Lists.{IsIn}
 use Rattle.serde_json_path_syntax.proofs.Lists.{in_append}
 use Rattle.serde_json_path_syntax.proofs.Names.Once.{fits_append}
-use Rattle.serde_json_path_syntax.specs.Kinds.{fits, AreFitting}
-use Rattle.serde_json_path_syntax.specs.Piece.{Piece}
 use Rattle.serde_json_path_syntax.specs.declared.node.Node.{Node}
 use Rattle.serde_json_path_syntax.specs.declared.node.Node.TheVariants as node
 use Rattle.serde_json_path_syntax.specs.declared.node.Segment.TheVariants.{LongHand}
@@ -16,11 +11,7 @@ use Rattle.serde_json_path_syntax.specs.declared.node.Selector.TheVariants as on
 use Rattle.serde_json_path_syntax.specs.declared.node.Basic.TheVariants.{Relation}
 use Rattle.serde_json_path_syntax.specs.declared.node.Comparable.TheVariants as side
 use Rattle.serde_json_path_syntax.specs.declared.node.Argument.TheVariants as given_as
-use Rattle.serde_json_path_syntax.specs.declared.node.Part.{Part}
-use Rattle.serde_json_path_syntax.specs.PartBounds.{parts_bound}
-use Rattle.serde_json_path_syntax.specs.Flat.{called_by, calls_among, no_piece, piece_in, pieces_named, parts_in, piece_of, pieces_from, pieces, piece_at, NamesBelow, IsGrown, query_at, query_in}
-use Rattle.std.proofs.lemmas.Bool.{cases_lt}
-use Rattle.serde_json_path_syntax.specs.Inside.Copies.{AreCopies, IsCopy}
+use Rattle.serde_json_path_syntax.specs.Flat.{pieces}
 use Rattle.std.proofs.lemmas.List.Elements.{AllZip-get_or}
 use Rattle.std.proofs.lemmas.Slice.Zip.{AllZip-long}
 

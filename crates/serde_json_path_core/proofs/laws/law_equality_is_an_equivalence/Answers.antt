@@ -2,19 +2,14 @@ use Rattle.std.proofs.Common.{◌≡◌, List, [], ◌∷◌, Option, Some, None
 use Rattle.std.specs.Prelude.{String}
 use Rattle.std.specs.declared.alloc.Global.{Global}
 use Rattle.serde_json.specs.Number.{is_valid, num_of}
-use Rattle.serde_json.specs.View.{number_view, view_step}
+use Rattle.serde_json_path_core.proofs.Words.{number_view, view_step, map-Value, out-Value, fold_out-Value, Num, float, document_number, literal_number, all_numbers, Data, null, boolean, number, string, array, object, Items, no_items, item, Members, no_members, member, Value, view, items_view, members_view, Compared, nothing, billionths, AreEqual, EqualData, EqualItems, EqualMembers}
 use Rattle.serde_json.specs.declared.number.N.{N}
 use Rattle.serde_json.specs.declared.number.N.TheVariants.{PosInt, NegInt, Float as Double}
-use Rattle.serde_json.specs.declared.value.Value.{map-Value, out-Value, fold_out-Value}
 use Rattle.serde_json.specs.declared.value.Value.TheOpen.{Value-F}
-use Rattle.serde_json.specs.Data.{Num, float}
 use Rattle.serde_json_path_numbers.proofs.Floats.{equality}
 use Rattle.serde_json_path_numbers.proofs.Finite.{all_finite}
 use Rattle.serde_json_path_numbers.specs.Laws.{IsFinite}
-use Rattle.serde_json_path_numbers.specs.Numbers.{document_number, literal_number}
-use Rattle.serde_json_path_functions.specs.Functions.{all_numbers}
 use Rattle.serde_json_path_core.specs.Compared.{value}
-use Rattle.serde_json_path_core.proofs.Words.{Data, null, boolean, number, string, array, object, Items, no_items, item, Members, no_members, member, Value, view, items_view, members_view, Compared, nothing, billionths, AreEqual, EqualData, EqualItems, EqualMembers}
 use Rattle.serde_json_path_core.proofs.laws.law_equality_is_an_equivalence.Goals as goal
 
 -- ---- what a document holds equals itself

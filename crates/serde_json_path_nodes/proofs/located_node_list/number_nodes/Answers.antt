@@ -1,8 +1,6 @@
 use Rattle.std.proofs.Common.{arith, ◌∙◌}
 use Rattle.std.proofs.Math.Seq.{map-set_same}
-use Rattle.std.proofs.lemmas.Grind.{common_steps}
-use Rattle.std.proofs.lemmas.List.{get_or-set_other}
-use Rattle.serde_json_path_nodes.specs.Views.{located}
+use Rattle.serde_json_path_nodes.proofs.Words.{common_steps, get_or-set_other, located}
 use Rattle.serde_json_path_nodes.proofs.located_node_list.number_nodes.Goals as goal
 
 pub loop-number-preserved : goal.loop-number-preserved

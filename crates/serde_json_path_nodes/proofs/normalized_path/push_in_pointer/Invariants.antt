@@ -1,7 +1,6 @@
 use Rattle.std.proofs.Common.{◌≡◌, ◌++◌, string_bytes}
-use Rattle.std.specs.List.{flat_map}
+use Rattle.serde_json_path_nodes.proofs.Words.{flat_map, in_pointer}
 use Rattle.std.specs.Str.Iter.{chars_rest}
-use Rattle.serde_json_path_nodes.specs.Text.{in_pointer}
 use Rattle.serde_json_path_nodes.proofs.normalized_path.push_in_pointer.Given as goal
 
 -- what is written and what is left are the whole name

@@ -1,6 +1,5 @@
 use Rattle.std.proofs.Common.{take}
-use Rattle.std.specs.Str.{NonePass}
-use Rattle.serde_json_path_nodes.specs.Text.{is_escaped}
+use Rattle.serde_json_path_nodes.proofs.Words.{NonePass, is_escaped}
 use Rattle.serde_json_path_nodes.proofs.quoted.plain_len.Given as goal
 
 -- none of the bytes so far is escaped

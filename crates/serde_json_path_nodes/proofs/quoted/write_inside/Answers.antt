@@ -1,11 +1,5 @@
 use Rattle.std.proofs.Common.{◌≡◌, ◌++◌, [], rules, subst, sym, ap, ◌∙◌, append-nil, encode_utf8}
-use Rattle.std.specs.Fmt.{HasWritten}
-use Rattle.std.specs.List.{flat_map}
-use Rattle.std.specs.Str.{chars, IsUtf8}
-use Rattle.std.proofs.Output.{has_written_append, has_written_of_eq}
-use Rattle.std.proofs.lemmas.List.{nil_from_length}
-use Rattle.std.proofs.lemmas.Str.{chars-nil, IsUtf8-drop}
-use Rattle.serde_json_path_nodes.specs.Text.{in_quotes}
+use Rattle.serde_json_path_nodes.proofs.Words.{HasWritten, flat_map, chars, IsUtf8, has_written_append, has_written_of_eq, nil_from_length, chars-nil, IsUtf8-drop, in_quotes}
 use Rattle.serde_json_path_nodes.proofs.Quotes.{front_written, char_written}
 use Rattle.serde_json_path_nodes.proofs.quoted.write_inside.Goals as goal
 

@@ -1,10 +1,7 @@
 use Rattle.std.proofs.Common.{◌≡◌, ℕ, List, ◌++◌, length}
 use denote.Shadow.{shadow}
 use denote.Text.{Utf8}
-use Rattle.std.specs.Fmt.{HasWritten, IsPlainFormatter}
-use Rattle.std.specs.List.{flat_map}
-use Rattle.std.specs.Str.{chars}
-use Rattle.serde_json_path_nodes.specs.Text.{in_quotes}
+use Rattle.serde_json_path_nodes.proofs.Words.{HasWritten, IsPlainFormatter, flat_map, chars, in_quotes}
 use Rattle.serde_json_path_nodes.proofs.quoted.write_inside.Given as goal
 
 -- what is written of the text, and what is left of it

@@ -1,8 +1,7 @@
 use Rattle.std.proofs.Common.{◌+◌, ◌*◌}
 use Rattle.std.specs.Slice.Iter.{iter_rest}
-use Rattle.serde_json_path_syntax.specs.Flat.{argument_parts, basic_parts, comparable_parts, pieces, segment_parts, selector_parts}
-use Rattle.serde_json_path_syntax.specs.PartBounds.{parts_bound}
-use Rattle.serde_json_path_syntax.specs.Parts.{nodes_in}
+use Rattle.serde_json_path_syntax.proofs.Words.{argument_parts, basic_parts, comparable_parts, segment_parts, selector_parts, parts_bound, nodes_in}
+use Rattle.serde_json_path_syntax.specs.Flat.{pieces}
 use Rattle.serde_json_path_syntax.proofs.Equality.{AreLeft}
 use Rattle.serde_json_path_syntax.proofs.equal.+comparing.Given as goal
 

@@ -1,11 +1,6 @@
 use Rattle.std.proofs.Common.{◌≡◌, ◌∙◌, ◌++◌, true, sym, ap, map, codes, option_map, append_assoc, rules}
-use Rattle.std.proofs.Output.{has_written_append, has_written_of_eq}
-use Rattle.serde_json_path_syntax.specs.Flat.{kind_view, parts_in, piece_at, pieces, pieces_named, segment_kind_view, selectors_in}
-use Rattle.serde_json_path_syntax.specs.Kinds.{each_is, is_argument, is_segment, is_selector}
-use Rattle.serde_json_path_syntax.specs.Parts.{nodes_in}
-use Rattle.serde_json_path_syntax.specs.Piece.{a_segment}
-use Rattle.serde_json_path_syntax.specs.Text.{bracket_dots_of, joined, piece_text, sign_text}
-use Rattle.serde_json_path_syntax.specs.Tree.{long_hand}
+use Rattle.serde_json_path_syntax.proofs.Words.{has_written_append, has_written_of_eq, kind_view, parts_in, piece_at, pieces_named, segment_kind_view, selectors_in, each_is, is_argument, is_segment, is_selector, nodes_in, a_segment, bracket_dots_of, joined, piece_text, sign_text, long_hand}
+use Rattle.serde_json_path_syntax.specs.Flat.{pieces}
 use Rattle.serde_json_path_syntax.proofs.Tree.NamedParts.{within_get, one_is, others, others-bound, others_are}
 use Rattle.serde_json_path_syntax.proofs.Printing.{begun_whole, texts_of_arguments, texts_of_selectors}
 use Rattle.serde_json_path_syntax.proofs.print.+printing.Goals as goal

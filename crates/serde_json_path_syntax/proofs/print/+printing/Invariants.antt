@@ -1,8 +1,6 @@
 use Rattle.std.proofs.Common.{◌+◌, ◌*◌, [], codes}
-use Rattle.std.specs.Fmt.{HasWritten, IsPlainFormatter}
-use Rattle.serde_json_path_syntax.specs.Flat.{argument_parts, basic_parts, comparable_parts, pieces}
-use Rattle.serde_json_path_syntax.specs.PartBounds.{parts_bound}
-use Rattle.serde_json_path_syntax.specs.Parts.{nodes_in}
+use Rattle.serde_json_path_syntax.proofs.Words.{HasWritten, IsPlainFormatter, argument_parts, basic_parts, comparable_parts, parts_bound, nodes_in}
+use Rattle.serde_json_path_syntax.specs.Flat.{pieces}
 use Rattle.serde_json_path_syntax.proofs.Printing.{begun}
 use Rattle.serde_json_path_syntax.proofs.print.+printing.Given as goal
 

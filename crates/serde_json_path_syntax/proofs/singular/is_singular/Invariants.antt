@@ -1,6 +1,5 @@
 use Rattle.std.specs.Prelude.{◌↔◌, drop}
-use Rattle.serde_json_path_syntax.specs.Tree.{AreSingular, IsSingular}
-use Rattle.serde_json_path_syntax.specs.Flat.{part_query, segments_at}
+use Rattle.serde_json_path_syntax.proofs.Words.{AreSingular, IsSingular, part_query, segments_at}
 use Rattle.serde_json_path_syntax.proofs.singular.is_singular.Given as goal
 
 abbrev pub invariant-loop-segment : goal.invariant-loop-segment

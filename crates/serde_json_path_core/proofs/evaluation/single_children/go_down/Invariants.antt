@@ -1,6 +1,5 @@
 use Rattle.std.proofs.Common.{◌≡◌, drop, true}
-use Rattle.serde_json_path_syntax.specs.Kinds.{are_singular}
-use Rattle.serde_json_path_core.proofs.Words.{Data, view, FunctionSet, segments_at, nodes_in, StandsIn, values_from}
+use Rattle.serde_json_path_core.proofs.Words.{are_singular, Data, view, FunctionSet, segments_at, nodes_in, StandsIn, values_from}
 use Rattle.serde_json_path_core.proofs.evaluation.single_children.go_down.Given as goal
 
 abbrev pub invariant-loop-passed : goal.invariant-loop-passed

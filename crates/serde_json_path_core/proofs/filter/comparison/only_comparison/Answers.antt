@@ -1,10 +1,7 @@
 use Rattle.std.proofs.Common.{◌≡◌, ◌∙◌, ap, arith, rules, subst, sym}
-use Rattle.serde_json_path_core.proofs.Words.{common_steps, calls_in_or, comparable_at, or_at, pieces, operator_view, and, no_and, no_or, or, relation, IsTypedOr, Part, Sound, nodes_of, top_of, within_get, compare_sides}
-use Rattle.serde_json_path_core.specs.Inside.Scopes.{query_of, set_of}
+use Rattle.serde_json_path_core.proofs.Words.{common_steps, calls_in_or, comparable_at, or_at, pieces, operator_view, and, no_and, no_or, or, relation, IsTypedOr, Part, Sound, nodes_of, top_of, within_get, compare_sides, query_of, set_of, compared_by, SoundComparable, compared_at}
 use Rattle.serde_json_path_core.proofs.Sound.{sound-and, sound-sides}
 use Rattle.serde_json_path_core.proofs.Steps.Lookups.{one-comparison, only-comparison}
-use Rattle.serde_json_path_core.specs.Inside.Comparisons.{compared_by}
-use Rattle.serde_json_path_core.specs.Inside.Evaluates.{SoundComparable, compared_at}
 use Rattle.serde_json_path_core.proofs.filter.comparison.only_comparison.Goals.{In-Basic-Relation}
 use Rattle.serde_json_path_core.proofs.filter.comparison.only_comparison.Goals as goal
 

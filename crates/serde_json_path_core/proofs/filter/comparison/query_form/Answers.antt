@@ -1,5 +1,4 @@
-use Rattle.serde_json_path_core.proofs.Words.{part_query, segments_at, nodes_of}
-use Rattle.serde_json_path_core.specs.Inside.Scopes.{query_of, set_of}
+use Rattle.serde_json_path_core.proofs.Words.{part_query, segments_at, nodes_of, query_of, set_of}
 use Rattle.serde_json_path_core.proofs.Sound.{sound-segments}
 use Rattle.serde_json_path_core.proofs.filter.comparison.query_form.Goals as goal
 

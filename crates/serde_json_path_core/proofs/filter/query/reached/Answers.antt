@@ -1,7 +1,6 @@
 use Rattle.std.proofs.Common.{ap, ◌∙◌, arith, subst, sym}
-use Rattle.serde_json_path_core.proofs.Words.{view, part_query, pieces, segments_at, StandsIn, start_of, nodes_of, top_of}
+use Rattle.serde_json_path_core.proofs.Words.{view, part_query, pieces, segments_at, StandsIn, start_of, nodes_of, top_of, query_of, set_of}
 use Rattle.serde_json_path_syntax.specs.Flat.{kind_view}
-use Rattle.serde_json_path_core.specs.Inside.Scopes.{query_of, set_of}
 use Rattle.serde_json_path_core.proofs.Sound.{bound-ends, sound-ends, sound-segments}
 use Rattle.serde_json_path_core.proofs.Walks.Chains.{start_stands}
 use Rattle.serde_json_path_core.proofs.Walks.SingleChildren.{values-query}

@@ -1,16 +1,6 @@
 use Rattle.std.proofs.Common.{◌≡◌, List, length, map, vec_len, rules, ap, subst, ◌∙◌}
-use Rattle.std.specs.List.{dedup}
-use Rattle.std.specs.List.Sorted.{IsNonDecreasingBy, IsPermutation, IsSortedBy}
-use Rattle.std.specs.Ordering.{eq_by_cmp, is_lt}
-use Rattle.std.proofs.lemmas.Cmp.{on_total}
+use Rattle.serde_json_path_nodes.proofs.Words.{dedup, IsNonDecreasingBy, IsPermutation, IsSortedBy, eq_by_cmp, is_lt, on_total, with_items_is, IsNonDecreasingBy-from_sort_by_key, ranks_by, first_places, node_cmp, same_steps, located, LocatedNode}
 use Rattle.std.proofs.lemmas.Fn.{always_returns_same, dedup_same}
-use Rattle.std.proofs.lemmas.List.{with_items_is}
-use Rattle.std.proofs.lemmas.List.Sorted.{IsNonDecreasingBy-from_sort_by_key, ranks_by}
-use Rattle.serde_json_path_nodes.specs.Lists.{first_places}
-use Rattle.serde_json_path_nodes.specs.Inside.NodeOrder.{node_cmp}
-use Rattle.serde_json_path_nodes.specs.Same.{same_steps}
-use Rattle.serde_json_path_nodes.specs.Views.{located}
-use Rattle.serde_json_path_nodes.specs.declared.located_node.LocatedNode.{LocatedNode}
 use Rattle.serde_json_path_nodes.proofs.FirstPlaces.{first_places_are_first, by_location, number_of}
 use Rattle.serde_json_path_nodes.proofs.KeptBySorting.{kept_by_sorting, order_then_number-total}
 use Rattle.serde_json_path_nodes.proofs.Orders.{location_cmp-total, location_cmp-ties}

@@ -1,8 +1,6 @@
 use Rattle.std.proofs.Common.{◌≡◌, length, map, vec_len}
-use Rattle.std.specs.Ordering.{nat_cmp}
+use Rattle.serde_json_path_nodes.proofs.Words.{nat_cmp, location_cmp, step_view}
 use Rattle.std.specs.Slice.Iter.{iter_rest}
-use Rattle.serde_json_path_nodes.specs.Inside.StepOrder.{location_cmp}
-use Rattle.serde_json_path_nodes.specs.Views.{step_view}
 use Rattle.serde_json_path_nodes.proofs.normalized_path.NormalizedPath.compare.Given as goal
 
 -- the steps that are left decide as the whole locations do, and so do their numbers

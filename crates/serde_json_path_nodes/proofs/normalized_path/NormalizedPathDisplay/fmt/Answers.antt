@@ -1,11 +1,6 @@
 use Rattle.std.proofs.Common.{◌≡◌, ◌++◌, map, take, codes, refl, ap, sym, ◌∙◌, arith}
-use Rattle.std.specs.List.{flat_map}
-use Rattle.std.specs.Str.{chars}
-use Rattle.std.specs.Fmt.{decimal}
-use Rattle.std.proofs.Output.{has_written_append, has_written_of_eq}
-use Rattle.serde_json_path_nodes.specs.Text.{in_decimal, in_quotes, normal}
-use Rattle.serde_json_path_nodes.specs.Views.{end_of, step_view}
-use Rattle.serde_json_path_nodes.specs.Location.{by_name, by_position}
+use Rattle.serde_json_path_nodes.proofs.Words.{flat_map, chars, decimal, has_written_append, has_written_of_eq, in_quotes, normal, end_of, step_view, by_name, by_position}
+use Rattle.serde_json_path_nodes.specs.Text.{in_decimal}
 use Rattle.serde_json_path_nodes.proofs.TextsApart.{in_decimal-decimal}
 use Rattle.serde_json_path_nodes.proofs.Steps.{index_more, name_more, normal_more}
 use Rattle.serde_json_path_nodes.proofs.normalized_path.NormalizedPathDisplay.fmt.Goals as goal

@@ -1,7 +1,5 @@
 use Rattle.std.proofs.Common.{◌≡◌, ℕ, List, ◌++◌, map, take}
-use Rattle.std.specs.Fmt.{HasWritten, IsPlainFormatter}
-use Rattle.serde_json_path_nodes.specs.Text.{normal}
-use Rattle.serde_json_path_nodes.specs.Views.{end_of, step_view}
+use Rattle.serde_json_path_nodes.proofs.Words.{HasWritten, IsPlainFormatter, normal, end_of, step_view}
 use Rattle.serde_json_path_nodes.proofs.normalized_path.NormalizedPathDisplay.fmt.Given as goal
 
 -- what is written of the text of the steps so far: all but its end

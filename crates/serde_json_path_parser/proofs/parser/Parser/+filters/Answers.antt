@@ -1,8 +1,7 @@
 use Rattle.serde_json_path_parser.proofs.Reading.{first_fails, no_longer, with_none}
-use Rattle.serde_json_path_parser.proofs.Words.{drop, ◌∙◌, [], Some, Err, refl, sym, ap, option_map, arith, true≢false, past_blanks, string_bytes, nil_from_length, err_from_is_err_and, literal_view, number_amount, operator_view, a_comparable, logical_argument, call, number, signature_view, alone, and_list, or_list, signatures, deeper, begins, opens, a_literal, a_call, left, common_steps, selector_list, segments_at, segment_list, named_call_at, calls_in_operand, a_query, AreAndPartsOf, AreOrPartsOf, AreSelectorsOf, map, kind_view, argument_at}
+use Rattle.serde_json_path_parser.proofs.Words.{drop, ◌∙◌, [], Some, Err, refl, sym, ap, option_map, arith, true≢false, past_blanks, string_bytes, nil_from_length, err_from_is_err_and, literal_view, number_amount, operator_view, a_comparable, logical_argument, call, number, signature_view, alone, and_list, or_list, signatures, deeper, begins, opens, a_literal, a_call, left, common_steps, selector_list, segments_at, segment_list, named_call_at, calls_in_operand, a_query, AreAndPartsOf, AreOrPartsOf, AreSelectorsOf, map, kind_view, argument_at, segment_kind_view, query_kind_view}
 use Rattle.serde_json_path_parser.specs.Inside.Giving.{filter_at}
 use Rattle.serde_json_path_parser.proofs.Steps.{none_made, one_more, first_refused, first_open, alone_calls, literal_word_reads, level_down, at_mark, value_kind, negated_named, no_call, grows_none, grows_kept, grows_same, grows_then, grows_call, grown_so, begins_row, row_fails, row_shorter, row_goes_on, row_done, segments_stand, selectors_stand, ors_stand, ands_stand, segment_shorter, some_parts}
-use Rattle.serde_json_path_syntax.specs.Flat.{segment_kind_view, kind_view as query_kind_view}
 use Rattle.serde_json_path_parser.proofs.parser.Parser.+filters.Goals as goal
 use Rattle.serde_json_path_syntax.specs.Tree as tree
 

@@ -1,5 +1,6 @@
 use Rattle.std.proofs.Common.{sym, ap, ◌∙◌}
-use Rattle.serde_json_path_syntax.specs.Flat.{piece_of, pieces}
+use Rattle.serde_json_path_syntax.proofs.Words.{piece_of}
+use Rattle.serde_json_path_syntax.specs.Flat.{pieces}
 use Rattle.serde_json_path_syntax.proofs.Tree.Growing.{called_among, piece_at-is}
 use Rattle.serde_json_path_syntax.proofs.arena.Arena.node.Goals as goal
 

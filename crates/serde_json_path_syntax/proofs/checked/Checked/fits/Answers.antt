@@ -1,7 +1,5 @@
 use Rattle.std.proofs.Common.{◌∙◌, arith, refl, sym, subst, true≢false}
-use Rattle.std.proofs.lemmas.List.{drop_all}
-use Rattle.serde_json_path_functions.specs.Functions.{Fits}
-use Rattle.serde_json_path_syntax.specs.Flat.{called_by, calls_among}
+use Rattle.serde_json_path_syntax.proofs.Words.{drop_all, Fits, called_by, calls_among}
 use Rattle.serde_json_path_syntax.proofs.Tree.Growing.{fits_from}
 use Rattle.serde_json_path_syntax.proofs.Names.Once.{fits_once, once_fits}
 use Rattle.serde_json_path_syntax.proofs.checked.Checked.fits.Goals as goal

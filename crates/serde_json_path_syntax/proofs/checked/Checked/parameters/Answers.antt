@@ -1,11 +1,7 @@
 use Rattle.std.proofs.Common.{◌∙◌, inl, refl, string_bytes, sym, ap, subst}
-use Rattle.std.proofs.lemmas.Option.{same_Some}
-use Rattle.serde_json_path_functions.specs.Functions.{Signature}
+use Rattle.serde_json_path_syntax.proofs.Words.{same_Some, Signature, name_of, IsIn, call_in, called_by, calls_among, piece_of, nodes_in}
 use Rattle.serde_json_path_functions.specs.Terms.{signature_view}
-use Rattle.serde_json_path_syntax.specs.Calls.{name_of}
-use Rattle.serde_json_path_syntax.specs.Lists.{IsIn}
-use Rattle.serde_json_path_syntax.specs.Flat.{call_in, called_by, calls_among, piece_of, pieces}
-use Rattle.serde_json_path_syntax.specs.Parts.{nodes_in}
+use Rattle.serde_json_path_syntax.specs.Flat.{pieces}
 use Rattle.serde_json_path_syntax.proofs.Names.Once.{fits_each, once_fits}
 use Rattle.serde_json_path_syntax.proofs.checked.Checked.parameters.Goals as goal
 

@@ -1,9 +1,6 @@
-use Rattle.serde_json_path_syntax.specs.Flat.{calls_among, query_at}
-use Rattle.serde_json_path_syntax.specs.Used.{each_once, signature_in}
+use Rattle.serde_json_path_syntax.proofs.Words.{calls_among, query_at, each_once, signature_in, IsTyped, nodes_in, tree_of}
 use Rattle.serde_json_path_syntax.proofs.Typing.Typings.{typed_recovered}
 use Rattle.std.proofs.Common.{subst}
-use Rattle.serde_json_path_syntax.specs.Typing.{IsTyped}
-use Rattle.serde_json_path_syntax.specs.Parts.{nodes_in, tree_of}
 use Rattle.serde_json_path_syntax.proofs.checked.Checked.segments.Goals as goal
 
 pub part_segments-requires-clause-typed : goal.part_segments-requires-clause-typed

@@ -1,8 +1,7 @@
 use Rattle.std.proofs.Common.{◌≡◌, ◌∙◌, sym, rules}
-use Rattle.serde_json_path_syntax.specs.Flat.{pieces, pieces_named}
-use Rattle.serde_json_path_syntax.specs.Parts.{nodes_in, tree_of}
+use Rattle.serde_json_path_syntax.proofs.Words.{pieces_named, nodes_in, tree_of, same_query}
+use Rattle.serde_json_path_syntax.specs.Flat.{pieces}
 use Rattle.serde_json_path_syntax.specs.Inside.SameLaws.{Decides-same_query}
-use Rattle.serde_json_path_syntax.specs.SameTree.{same_query}
 use Rattle.serde_json_path_syntax.proofs.Equality.{segments_same}
 use Rattle.serde_json_path_syntax.proofs.equal.CheckedPartialEq.eq.Goals as goal
 

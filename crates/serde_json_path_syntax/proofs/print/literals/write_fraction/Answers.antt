@@ -1,7 +1,5 @@
 use Rattle.std.proofs.Common.{◌∙◌, ◌++◌, ◌/◌, sym, ap, rules}
-use Rattle.std.specs.Fmt.{decimal}
-use Rattle.std.proofs.Output.{has_written_append, has_written_of_eq}
-use Rattle.std.proofs.lemmas.List.{append-nil}
+use Rattle.serde_json_path_syntax.proofs.Words.{decimal, has_written_append, has_written_of_eq, append-nil}
 use Rattle.serde_json_path_syntax.proofs.Printing.{fraction_ended, fraction_more}
 use Rattle.serde_json_path_syntax.proofs.print.literals.write_fraction.Goals as goal
 

@@ -1,5 +1,5 @@
 use Rattle.std.proofs.Common.{sym, ap, ◌∙◌}
-use Rattle.serde_json_path_syntax.specs.Literals.{literal_view}
+use Rattle.serde_json_path_parser.proofs.Words.{literal_view}
 use Rattle.serde_json_path_parser.specs.declared.parser.call.Argument.TheVariants as the_arguments
 use Rattle.serde_json_path_parser.proofs.Steps.{value_by, singular_by}
 use Rattle.serde_json_path_parser.proofs.parser.call.Argument.fits.Goals as goal

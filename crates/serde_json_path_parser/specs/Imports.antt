@@ -1,0 +1,29 @@
+-- What the definitions take from the crates below, from one place.
+pub use Rattle.serde_json_path_functions.specs.Functions.{Fits, FunctionSet, Kind, Signature, of_logical, of_nodes, of_value}
+pub use Rattle.serde_json_path_functions.specs.Terms.{kind_view}
+pub use Rattle.serde_json_path_functions.specs.declared.types.FunctionArgType.{FunctionArgType}
+pub use Rattle.serde_json_path_nodes.specs.Text.{code}
+pub use Rattle.serde_json_path_syntax.specs.Calls.{calls_from, calls_in_and, calls_in_argument, calls_in_arguments, calls_in_basic, calls_in_or, calls_in_segments, calls_in_selectors, calls_of, name_of, names_of}
+pub use Rattle.serde_json_path_syntax.specs.Depth.{depth}
+pub use Rattle.serde_json_path_syntax.specs.Flat.{kind_view as query_kind_view, parts_in, segment_kind_view}
+pub use Rattle.serde_json_path_syntax.specs.Kinds.{is_singular}
+pub use Rattle.serde_json_path_syntax.specs.Literals.{literal_view, number_amount, operator_view}
+pub use Rattle.serde_json_path_syntax.specs.Parts.{AreAndPartsOf, AreArgumentsOf, AreOrPartsOf, ArePartsFor, ArePartsOf, AreSelectorsOf, IsPart, KeepsParts, KeepsTrees, and_pieces, calls_in, or_pieces, segment_pieces, selector_pieces, signatures_of, tree_of}
+pub use Rattle.serde_json_path_syntax.specs.Piece.{Piece, a_basic, a_comparable, a_query, a_segment, a_selector, an_and, an_argument, an_or, calls_in_piece}
+pub use Rattle.serde_json_path_syntax.specs.SliceView.{slice_view}
+pub use Rattle.serde_json_path_syntax.specs.Text.{query_text}
+pub use Rattle.serde_json_path_syntax.specs.Tree.{AreSingular, Argument, Arguments, Basic, Call, Comparable, IsInteger, IsSingular, IsSingularSegment, Literal, LogicalAnd, LogicalOr, Operator, Query, QueryKind, Segment, SegmentKind, Segments, Selector, Selectors, Slice, and, argument, call, call_argument, called, child, current, descendant, dot_name, dot_wildcard, equal, exist, filter, greater, greater_or_equal, index, kind_of, largest, less, less_or_equal, literal, literal_argument, logical_argument, long_hand, name, no_and, no_arguments, no_or, no_segments, no_selectors, not_equal, not_exist, not_paren, not_test, null, number, or, paren, query, query_argument, relation, root, segment, selector, singular, slice, test, text, truth, wildcard}
+pub use Rattle.serde_json_path_syntax.specs.Typing.{IsTyped, result_kind}
+pub use Rattle.serde_json_path_syntax.specs.Used.{AreCalled, AreDeclared, deepest, names_in}
+pub use Rattle.serde_json_path_syntax.specs.WellFormed.{IsLiteralAmount, IsOptionalInteger}
+pub use Rattle.serde_json_path_syntax.specs.declared.builder.SyntaxBuilder.{SyntaxBuilder}
+pub use Rattle.serde_json_path_syntax.specs.declared.checked.Checked.{Checked}
+pub use Rattle.serde_json_path_syntax.specs.declared.node.Part.{Part}
+pub use Rattle.serde_json_path_syntax.specs.declared.parts.Parts.{Parts}
+pub use Rattle.std.specs.Char.{IsScalar, digit_char}
+pub use Rattle.std.specs.List.{AllByRecursion}
+pub use Rattle.std.specs.Option.{ForSome}
+pub use Rattle.std.specs.Prelude.{Bool, Err, IfErr, IfOk, IsErrAnd, IsNone, IsSome, IsTrue, List, None, Ok, Option, Result, Some, [], bytes_eq, codes, drop, encode_utf8, false, if◌then◌else◌, is_ok, length, map, max, min, nat_le, nat_lt, negsuc, not, option_map, pos, slice_get, slice_index, string_bytes, suc, take, true, zero, ℕ, ℤ, ◌%◌, ◌&&◌, ◌*ℤ◌, ◌*◌, ◌++◌, ◌+◌, ◌-ℤ◌, ◌-◌, ◌/◌, ◌<◌, ◌==◌, ◌^◌, ◌||◌, ◌↔◌, ◌∷◌, ◌≡◌, ◌≢◌, ◌≤◌, ◌⊎◌}
+pub use Rattle.std.specs.Result.{result_map_both}
+pub use Rattle.std.specs.Str.{IsAscii, IsCharBoundary, IsUtf8, all_scalars, chars, encode_utf8_all, is_utf8}
+pub use Rattle.std.specs.Str.Pattern.{StartsWithChar}
