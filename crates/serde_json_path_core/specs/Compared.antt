@@ -2,7 +2,8 @@
 -- numbers, this project's own rule, a number that is not held as an integer equals no value, itself included, and is not
 -- ordered; by all numbers each stands for its exact value. An object's members are taken as a document has them: each name
 -- once, in the order of the names' bytes.
-use Rattle.serde_json_path_core.specs.Imports.{◌≡◌, ℤ, pos, ◌*ℤ◌, ◌<ℤ◌, ◌⊎◌, Option, Some, None, option_map, Float, nat_cmp, Less, slice_cmp, chars, Num, Data, null, boolean, number, string, array, object, Items, Members, no_items, item, no_members, member, as_integer, document_number, literal_number, AreEqualNumbers, IsLessNumber, Numbers, whole_numbers, all_numbers, Literal, Operator, equal, not_equal, less, less_or_equal, greater, greater_or_equal}
+use Rattle.std.specs.Prelude.{◌≡◌, ℤ, pos, ◌*ℤ◌, ◌<ℤ◌, ◌⊎◌, Option, Some, None, option_map}
+use Rattle.serde_json_path_core.specs.Imports.{Float, nat_cmp, Less, slice_cmp, chars, Num, Data, null, boolean, number, string, array, object, Items, Members, no_items, item, no_members, member, as_integer, document_number, literal_number, AreEqualNumbers, IsLessNumber, Numbers, whole_numbers, all_numbers, Literal, Operator, equal, not_equal, less, less_or_equal, greater, greater_or_equal}
 use Rattle.serde_json_path_syntax.specs.Tree as tree
 
 -- what a comparable stands for: Nothing, a value, or the billionths of a number literal

@@ -1,5 +1,6 @@
 -- How far down a document goes.
-use Rattle.serde_json_path_core.specs.Imports.{◌≡◌, ◌≤◌, ℕ, List, length, Some, Data, Step, at}
+use Rattle.std.specs.Prelude.{◌≡◌, ◌≤◌, ℕ, List, length, Some}
+use Rattle.serde_json_path_core.specs.Imports.{Data, Step, at}
 
 -- the length of the document's longest location: none is longer, and some location is that long
 abbrev pub IsHeight : Data → ℕ → Type 0

@@ -35,6 +35,5 @@ pub use Rattle.std.specs.Int.{int_max, int_min}
 pub use Rattle.std.specs.List.{AllZip}
 pub use Rattle.std.specs.Option.{option_map_or}
 pub use Rattle.std.specs.Ordering.{int_eq, is_lt, match_ordering, nat_cmp, ordering_reverse}
-pub use Rattle.std.specs.Prelude.{Bool, IfErr, IfOk, IfSome, IsSome, IsTrue, List, MatchOption, None, Ok, OnErr, OnOk, Option, Result, Some, [], bytes_eq, cond, drop, false, filter as keep, flat_map, if◌then◌else◌, int_div, int_lt, length, map, nat_abs, nat_lt, negsuc, not, option_and_then, option_map, option_to_list, pos, slice_get, suc, take, true, unwrap_or, zero, ℕ, ℤ, ◌&&◌, ◌*ℤ◌, ◌++◌, ◌+ℤ◌, ◌+◌, ◌-ℤ◌, ◌-◌, ◌/◌, ◌<ℤ◌, ◌<◌, ◌^◌, ◌||◌, ◌↔◌, ◌∷◌, ◌≡◌, ◌≢◌, ◌≤ℤ◌, ◌≤◌, ◌⊎◌}
 pub use Rattle.std.specs.Str.{chars}
 pub use Rattle.std.specs.declared.cmp.Ordering.TheVariants.{Less}

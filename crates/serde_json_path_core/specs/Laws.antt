@@ -1,5 +1,6 @@
 -- Laws of the definitions.
-use Rattle.serde_json_path_core.specs.Imports.{◌≡◌, ◌≢◌, ◌≤◌, ℕ, ℤ, List, [], ◌∷◌, ◌++◌, length, map, ◌⊎◌, ◌↔◌, Some, Data, Step, child_at, StepBefore, Located, QueryKind, Query, query, current, Segments, no_segments, segment, SegmentKind, child, descendant, Segment, relation, equal, not_equal, less, less_or_equal, Comparable, IsSingular, view, Value, IsInLiteralRange, FunctionSet, KeepsTypes, all_numbers, IsIn, IsInOrder, IsTyped, IsTypedComparable}
+use Rattle.std.specs.Prelude.{◌≡◌, ◌≢◌, ◌≤◌, ℕ, ℤ, List, [], ◌∷◌, ◌++◌, length, map, ◌⊎◌, ◌↔◌, Some}
+use Rattle.serde_json_path_core.specs.Imports.{Data, Step, child_at, StepBefore, Located, QueryKind, Query, query, current, Segments, no_segments, segment, SegmentKind, child, descendant, Segment, relation, equal, not_equal, less, less_or_equal, Comparable, IsSingular, view, Value, IsInLiteralRange, FunctionSet, KeepsTypes, all_numbers, IsIn, IsInOrder, IsTyped, IsTypedComparable}
 use Rattle.serde_json_path_core.specs.Compared.{Compared, nothing, value, billionths, AreEqual}
 use Rattle.serde_json_path_core.specs.Height.{IsHeight}
 use Rattle.serde_json_path_core.specs.Derivation.{beneath, Triple, start_of, Before}

@@ -1,5 +1,6 @@
 -- What a query selects (RFC 9535, sections 2.1 to 2.5), under a function set and at the root of a document.
-use Rattle.serde_json_path_core.specs.Imports.{◌≡◌, ◌≢◌, ℕ, zero, suc, ℤ, pos, ◌+ℤ◌, ◌<ℤ◌, List, [], ◌∷◌, map, ◌⊎◌, ◌↔◌, Bool, Option, Some, None, IsTrue, int_div, AllZip, Data, Items, null_data, boolean, number_data, string, as_array, of_integer, items_len, Step, by_name, by_position, child_at, at, Located, Query, query, Segments, no_segments, segment, SegmentKind, child, descendant, Segment, dot_name, dot_wildcard, long_hand, Selectors, no_selectors, selector, Selector, name, wildcard, index, slice, filter, LogicalOr, no_or, or, LogicalAnd, no_and, and, Basic, paren, not_paren, relation, exist, not_exist, test, not_test, Comparable, literal, singular, called, Call, call, Arguments, no_arguments, argument, Argument, literal_argument, query_argument, call_argument, logical_argument, Literal, text, truth, Kind, of_value, of_nodes, of_logical, Signature, Term, value, nodes, logical, FunctionSet, IsIn, IsInOrder}
+use Rattle.std.specs.Prelude.{◌≡◌, ◌≢◌, ℕ, zero, suc, ℤ, pos, ◌+ℤ◌, ◌<ℤ◌, List, [], ◌∷◌, map, ◌⊎◌, ◌↔◌, Bool, Option, Some, None, IsTrue, int_div}
+use Rattle.serde_json_path_core.specs.Imports.{AllZip, Data, Items, null_data, boolean, number_data, string, as_array, of_integer, items_len, Step, by_name, by_position, child_at, at, Located, Query, query, Segments, no_segments, segment, SegmentKind, child, descendant, Segment, dot_name, dot_wildcard, long_hand, Selectors, no_selectors, selector, Selector, name, wildcard, index, slice, filter, LogicalOr, no_or, or, LogicalAnd, no_and, and, Basic, paren, not_paren, relation, exist, not_exist, test, not_test, Comparable, literal, singular, called, Call, call, Arguments, no_arguments, argument, Argument, literal_argument, query_argument, call_argument, logical_argument, Literal, text, truth, Kind, of_value, of_nodes, of_logical, Signature, Term, value, nodes, logical, FunctionSet, IsIn, IsInOrder}
 use Rattle.serde_json_path_syntax.specs.Tree.{number, null}
 use Rattle.serde_json_path_core.specs.Slices.{SelectsPosition}
 use Rattle.serde_json_path_core.specs.Compared.{Compared, Compares, literal_compared, value_compared}

@@ -1,5 +1,6 @@
 -- The calls of a query by a pattern that `regex` reads: only these may be refused for their pattern.
-use Rattle.serde_json_path_core.specs.Imports.{◌≡◌, List, Some, Data, Step, at, IsIn, Query, Call, call, calls_of, Term, FunctionSet, MayRefuse}
+use Rattle.std.specs.Prelude.{◌≡◌, List, Some}
+use Rattle.serde_json_path_core.specs.Imports.{Data, Step, at, IsIn, Query, Call, call, calls_of, Term, FunctionSet, MayRefuse}
 use Rattle.serde_json_path_core.specs.Meaning.{params_of, AreArguments}
 
 -- the value stands at some location of the document

@@ -1,5 +1,6 @@
 -- What the calls that evaluate promise: which nodes are selected, and when a call is refused.
-use Rattle.serde_json_path_core.specs.Imports.{◌≡◌, List, map, Result, IfErr, Data, Located, FunctionSet, QueryError, Pattern, Query}
+use Rattle.std.specs.Prelude.{◌≡◌, List, map, Result, IfErr}
+use Rattle.serde_json_path_core.specs.Imports.{Data, Located, FunctionSet, QueryError, Pattern, Query}
 use Rattle.serde_json_path_core.specs.PatternCalls.{CallsByPattern}
 use Rattle.serde_json_path_core.specs.Meaning.{IsResult}
 

@@ -1,5 +1,6 @@
 -- Which positions of an array a slice selects (RFC 9535, section 2.3.4.2).
-use Rattle.serde_json_path_core.specs.Imports.{◌≡◌, ℕ, ℤ, pos, ◌+ℤ◌, ◌-ℤ◌, ◌*ℤ◌, ◌<ℤ◌, ◌≤ℤ◌, int_lt, Option, unwrap_or, if◌then◌else◌, ◌⊎◌, int_max, int_min, Slice}
+use Rattle.std.specs.Prelude.{◌≡◌, ℕ, ℤ, pos, ◌+ℤ◌, ◌-ℤ◌, ◌*ℤ◌, ◌<ℤ◌, ◌≤ℤ◌, int_lt, Option, unwrap_or, if◌then◌else◌, ◌⊎◌}
+use Rattle.serde_json_path_core.specs.Imports.{int_max, int_min, Slice}
 
 -- a missing step is 1
 abbrev pub step_of : Slice → ℤ

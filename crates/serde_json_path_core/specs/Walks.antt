@@ -1,5 +1,6 @@
 -- Walks as contracts see them.
-use Rattle.serde_json_path_core.specs.Imports.{ℕ, List, length, Data, view, Located, Query, segments_of, FunctionSet, tree_of, stages}
+use Rattle.std.specs.Prelude.{ℕ, List, length}
+use Rattle.serde_json_path_core.specs.Imports.{Data, view, Located, Query, segments_of, FunctionSet, tree_of, stages}
 use Rattle.serde_json_path_core.specs.Inside.Views.{frames_view}
 use Rattle.serde_json_path_core.specs.Inside.Rest.{rest_of, work}
 use Rattle.serde_json_path_core.specs.declared.evaluation.walks.Walk.{Walk}

@@ -1,5 +1,6 @@
 -- The typed grammar: which text is accepted, and with which tree.
-use Rattle.serde_json_path_parser.specs.Imports.{◌≡◌, ℕ, ◌≤◌, List, Option, Query, root, kind_of, Signature, IsTyped, depth, deepest}
+use Rattle.std.specs.Prelude.{◌≡◌, ℕ, ◌≤◌, List, Option}
+use Rattle.serde_json_path_parser.specs.Imports.{Query, root, kind_of, Signature, IsTyped, depth, deepest}
 use Rattle.serde_json_path_parser.specs.Grammar.{Reads}
 
 -- The text, a list of characters, reads as the tree of a query from the root, well-typed under these signatures and no deeper than the limit.

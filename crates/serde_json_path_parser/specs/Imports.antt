@@ -23,7 +23,6 @@ pub use Rattle.serde_json_path_syntax.specs.declared.parts.Parts.{Parts}
 pub use Rattle.std.specs.Char.{IsScalar, digit_char}
 pub use Rattle.std.specs.List.{AllByRecursion}
 pub use Rattle.std.specs.Option.{ForSome}
-pub use Rattle.std.specs.Prelude.{Bool, Err, IfErr, IfOk, IsErrAnd, IsNone, IsSome, IsTrue, List, None, Ok, Option, Result, Some, [], bytes_eq, codes, drop, encode_utf8, false, if◌then◌else◌, is_ok, length, map, max, min, nat_le, nat_lt, negsuc, not, option_map, pos, slice_get, slice_index, string_bytes, suc, take, true, zero, ℕ, ℤ, ◌%◌, ◌&&◌, ◌*ℤ◌, ◌*◌, ◌++◌, ◌+◌, ◌-ℤ◌, ◌-◌, ◌/◌, ◌<◌, ◌==◌, ◌^◌, ◌||◌, ◌↔◌, ◌∷◌, ◌≡◌, ◌≢◌, ◌≤◌, ◌⊎◌}
 pub use Rattle.std.specs.Result.{result_map_both}
 pub use Rattle.std.specs.Str.{IsAscii, IsCharBoundary, IsUtf8, all_scalars, chars, encode_utf8_all, is_utf8}
 pub use Rattle.std.specs.Str.Pattern.{StartsWithChar}

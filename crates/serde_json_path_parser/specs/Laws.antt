@@ -1,5 +1,6 @@
 -- Laws of the grammar and of the typed grammar.
-use Rattle.serde_json_path_parser.specs.Imports.{◌≡◌, ℕ, List, Option, IsUtf8, chars, Query, query_text, Signature}
+use Rattle.std.specs.Prelude.{◌≡◌, ℕ, List, Option}
+use Rattle.serde_json_path_parser.specs.Imports.{IsUtf8, chars, Query, query_text, Signature}
 use Rattle.serde_json_path_parser.specs.Accepted.{IsAccepted}
 use Rattle.serde_json_path_parser.specs.Grammar.{Reads}
 

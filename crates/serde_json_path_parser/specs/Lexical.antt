@@ -1,6 +1,7 @@
 -- The pieces of a path's text (RFC 9535, sections 2.1.1, 2.3.1.1, 2.3.3.1, 2.3.5.1, 2.5 and 2.5.1.1). A text is a list of
 -- characters, each a Unicode scalar value; names and strings in trees are the bytes of their characters.
-use Rattle.serde_json_path_parser.specs.Imports.{◌≡◌, ◌==◌, ℕ, suc, ◌+◌, ◌-◌, ◌*◌, ◌<◌, ◌≤◌, ◌^◌, ◌⊎◌, ◌&&◌, ◌||◌, not, nat_le, ℤ, pos, negsuc, ◌-ℤ◌, Bool, true, false, List, [], ◌∷◌, ◌++◌, length, drop, codes, slice_index, Option, Some, None, if◌then◌else◌, AllByRecursion, encode_utf8_all, code, IsInteger, IsLiteralAmount}
+use Rattle.std.specs.Prelude.{◌≡◌, ◌==◌, ℕ, suc, ◌+◌, ◌-◌, ◌*◌, ◌<◌, ◌≤◌, ◌^◌, ◌⊎◌, ◌&&◌, ◌||◌, not, nat_le, ℤ, pos, negsuc, ◌-ℤ◌, Bool, true, false, List, [], ◌∷◌, ◌++◌, length, drop, codes, slice_index, Option, Some, None, if◌then◌else◌}
+use Rattle.serde_json_path_parser.specs.Imports.{AllByRecursion, encode_utf8_all, code, IsInteger, IsLiteralAmount}
 use Prim.Native.String.{String}
 
 -- every character passes the test

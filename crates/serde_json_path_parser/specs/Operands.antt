@@ -1,6 +1,7 @@
 -- What a filter compares or tests: a literal, a query or a call, which is read before its use is known; and what decides
 -- how it may be used.
-use Rattle.serde_json_path_parser.specs.Imports.{ℕ, ◌+◌, ◌%◌, ◌==◌, ◌||◌, Bool, true, false, ℤ, pos, negsuc, List, [], Option, Some, calls_of, calls_from, is_singular, Query, Call, Argument, literal_argument, query_argument, call_argument, logical_argument, Literal, number, result_kind, Kind, of_value, of_nodes, of_logical, Signature}
+use Rattle.std.specs.Prelude.{ℕ, ◌+◌, ◌%◌, ◌==◌, ◌||◌, Bool, true, false, ℤ, pos, negsuc, List, [], Option, Some}
+use Rattle.serde_json_path_parser.specs.Imports.{calls_of, calls_from, is_singular, Query, Call, Argument, literal_argument, query_argument, call_argument, logical_argument, Literal, number, result_kind, Kind, of_value, of_nodes, of_logical, Signature}
 
 pub data Operand : Type 0 where
   a_literal : Literal → Operand

@@ -1,5 +1,6 @@
 -- Acceptance: which texts a parse accepts, each with which tree, and what it may refuse for want of memory.
-use Rattle.serde_json_path_parser.specs.Imports.{◌≡◌, ◌≢◌, ℕ, ◌<◌, ◌⊎◌, Bool, false, List, ◌++◌, length, codes, Option, Result, IfOk, IfErr, IsErrAnd, result_map_both, chars, Checked, tree_of, signatures_of, Query, AreCalled, Signature}
+use Rattle.std.specs.Prelude.{◌≡◌, ◌≢◌, ℕ, ◌<◌, ◌⊎◌, Bool, false, List, ◌++◌, length, codes, Option, Result, IfOk, IfErr, IsErrAnd}
+use Rattle.serde_json_path_parser.specs.Imports.{result_map_both, chars, Checked, tree_of, signatures_of, Query, AreCalled, Signature}
 use Rattle.serde_json_path_parser.specs.declared.error.ParseErrorKind.TheVariants.{NoMemory}
 use Rattle.serde_json_path_parser.specs.declared.error.ParseError.{ParseError}
 use Rattle.serde_json_path_parser.specs.Lexical.{◌∈◌, begins, is_blank, IsBlank, opens}

@@ -1,6 +1,7 @@
 -- What reading from left to right gives, on lists of characters: what was read and the characters after it, or the first
 -- refusal that is met.
-use Rattle.serde_json_path_parser.specs.Imports.{ℕ, zero, suc, Bool, List, [], ◌∷◌, length, Result, Ok, Err, if◌then◌else◌, encode_utf8_all}
+use Rattle.std.specs.Prelude.{ℕ, zero, suc, Bool, List, [], ◌∷◌, length, Result, Ok, Err, if◌then◌else◌}
+use Rattle.serde_json_path_parser.specs.Imports.{encode_utf8_all}
 use Rattle.serde_json_path_parser.specs.declared.error.ParseErrorKind.{ParseErrorKind}
 use Rattle.serde_json_path_parser.specs.declared.error.Context as declared
 use Rattle.serde_json_path_parser.specs.declared.error.Refusal.{Refusal}

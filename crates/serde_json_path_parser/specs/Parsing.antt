@@ -1,5 +1,6 @@
 -- Reading a path from left to right by one character of look-ahead: what the parser computes, on lists of characters.
-use Rattle.serde_json_path_parser.specs.Imports.{ℕ, zero, suc, ℤ, pos, negsuc, ◌||◌, ◌&&◌, Bool, List, [], ◌∷◌, drop, Option, Some, None, Ok, Err, nat_le, if◌then◌else◌, encode_utf8_all, largest, SegmentKind, child, descendant, Segments, no_segments, segment, Segment, dot_name, dot_wildcard, long_hand, Selectors, selector, no_selectors, Selector, name, wildcard, index, slice, Slice, code}
+use Rattle.std.specs.Prelude.{ℕ, zero, suc, ℤ, pos, negsuc, ◌||◌, ◌&&◌, Bool, List, [], ◌∷◌, drop, Option, Some, None, Ok, Err, nat_le, if◌then◌else◌}
+use Rattle.serde_json_path_parser.specs.Imports.{encode_utf8_all, largest, SegmentKind, child, descendant, Segments, no_segments, segment, Segment, dot_name, dot_wildcard, long_hand, Selectors, selector, no_selectors, Selector, name, wildcard, index, slice, Slice, code}
 use Rattle.serde_json_path_parser.specs.declared.error.ParseErrorKind.TheVariants.{BadMemberName, ExpectedClosingBracket, ExpectedSelector, IntegerOutOfRange}
 use Rattle.serde_json_path_parser.specs.declared.error.Context as declared
 use Rattle.serde_json_path_parser.specs.declared.error.Context.TheVariants as context

@@ -1,5 +1,6 @@
 -- Which refusal a parse reports. What a parse accepts is in `Parse`.
-use Rattle.serde_json_path_parser.specs.Imports.{◌≡◌, ◌≢◌, ℕ, ◌+◌, ◌-◌, ◌<◌, ◌≤◌, ◌↔◌, false, List, ◌++◌, length, take, drop, codes, Option, Some, None, Result, Ok, Err, IfErr, IsErrAnd, result_map_both, chars, IsCharBoundary, Query, Signature}
+use Rattle.std.specs.Prelude.{◌≡◌, ◌≢◌, ℕ, ◌+◌, ◌-◌, ◌<◌, ◌≤◌, ◌↔◌, false, List, ◌++◌, length, take, drop, codes, Option, Some, None, Result, Ok, Err, IfErr, IsErrAnd}
+use Rattle.serde_json_path_parser.specs.Imports.{result_map_both, chars, IsCharBoundary, Query, Signature}
 use Rattle.serde_json_path_parser.specs.declared.error.ParseErrorKind.TheVariants.{ExpectedRoot, UndefinedFunction, TextAfterPath, NoMemory}
 use Rattle.serde_json_path_parser.specs.declared.error.ParseError.{ParseError}
 use Rattle.serde_json_path_parser.specs.declared.error.Refusal.{Refusal}

@@ -1,6 +1,7 @@
 -- String literals, as they are read from left to right (RFC 9535, section 2.3.1.1), on lists of characters. A bad escape
 -- is reported at its backslash: `start` bytes are left there.
-use Rattle.serde_json_path_parser.specs.Imports.{ℕ, ◌+◌, ◌-◌, ◌*◌, ◌==◌, ◌||◌, ◌&&◌, nat_le, not, Bool, List, [], ◌∷◌, drop, Ok, Err, if◌then◌else◌, encode_utf8_all, code}
+use Rattle.std.specs.Prelude.{ℕ, ◌+◌, ◌-◌, ◌*◌, ◌==◌, ◌||◌, ◌&&◌, nat_le, not, Bool, List, [], ◌∷◌, drop, Ok, Err, if◌then◌else◌}
+use Rattle.serde_json_path_parser.specs.Imports.{encode_utf8_all, code}
 use Rattle.serde_json_path_parser.specs.declared.error.ParseErrorKind.TheVariants.{ExpectedEndingQuote, BadEscape, ControlCharacter}
 use Rattle.serde_json_path_parser.specs.declared.error.Context.TheVariants as context
 use Rattle.serde_json_path_parser.specs.Lexical.{◌∈◌, between, is_at, begins, is_digit, pair_of}

@@ -27,4 +27,3 @@ pub use Rattle.serde_json_path_syntax.specs.WellFormed.{IsOptionalInteger}
 pub use Rattle.std.specs.Cmp.{partial_equiv_from_equiv}
 pub use Rattle.std.specs.Cmp.Lexicographic.{pointwise}
 pub use Rattle.std.specs.Fmt.{HasWritten, IsPlainFormatter, WritesOnOk, decimal}
-pub use Rattle.std.specs.Prelude.{IfOk, IfSome, IsSome, IsTrue, List, OnErr, OnOk, Some, [], codes, if◌then◌else◌, int_div, is_ok, length, map, option_map, pos, string_bytes, true, ℕ, ◌++◌, ◌/◌, ◌<◌, ◌^◌, ◌↔◌, ◌∷◌, ◌≡◌, ◌≤◌}

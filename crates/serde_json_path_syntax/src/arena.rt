@@ -16,7 +16,8 @@ pub(crate) struct Arena {
 }
 
 impl Arena {
-    ghost use Rattle.serde_json_path_syntax.specs.Words.{ℕ, List, true, ◌≡◌, ◌<◌, ◌≤◌, ◌++◌, ◌∷◌, [], IfOk, OnErr, OnOk, length, NamesBelow, called_by, calls_among, part_query, piece_at, piece_of, pieces, pieces_named, segments_at, Signature, each_is, fits, is_segment, IsIn, parts_bound, Query, segments_of, a_query};
+    ghost use Rattle.std.specs.Prelude.{ℕ, List, true, ◌≡◌, ◌<◌, ◌≤◌, ◌++◌, ◌∷◌, [], IfOk, OnErr, OnOk, length};
+    ghost use Rattle.serde_json_path_syntax.specs.Words.{NamesBelow, called_by, calls_among, part_query, piece_at, piece_of, pieces, pieces_named, segments_at, Signature, each_is, fits, is_segment, IsIn, parts_bound, Query, segments_of, a_query};
 
     /// No nodes. Takes no memory.
     pub(crate) fn new(alloc: Global) -> Arena

@@ -27,7 +27,8 @@ pub struct SyntaxBuilder {
 }
 
 impl SyntaxBuilder {
-    ghost use Rattle.serde_json_path_syntax.specs.Words.{true, ◌≡◌, ◌↔◌, ◌++◌, ◌∷◌, [], IfOk, OnErr, OnOk, IsTrue, string_bytes, length, literal_view, operator_view, a_query, a_segment, a_selector, an_or, an_and, a_basic, a_comparable, a_call, an_argument, IsOptionalInteger, called_by, kind_view, segment_kind_view, NamesBelow, parts_in, piece_of, pieces, fits, slice_view, HasNoParts, IsPart, ArePartsOf, AreSelectorsOf, AreOrPartsOf, AreAndPartsOf, AreArgumentsOf, KeepsParts, KeepsTrees, calls_in, tree_of, signatures_of, MayFinish, each_once, signature_view};
+    ghost use Rattle.std.specs.Prelude.{true, ◌≡◌, ◌↔◌, ◌++◌, ◌∷◌, [], IfOk, OnErr, OnOk, IsTrue, string_bytes, length};
+    ghost use Rattle.serde_json_path_syntax.specs.Words.{literal_view, operator_view, a_query, a_segment, a_selector, an_or, an_and, a_basic, a_comparable, a_call, an_argument, IsOptionalInteger, called_by, kind_view, segment_kind_view, NamesBelow, parts_in, piece_of, pieces, fits, slice_view, HasNoParts, IsPart, ArePartsOf, AreSelectorsOf, AreOrPartsOf, AreAndPartsOf, AreArgumentsOf, KeepsParts, KeepsTrees, calls_in, tree_of, signatures_of, MayFinish, each_once, signature_view};
     ghost use Rattle.serde_json_path_syntax.specs.Tree as tree;
 
     /// A builder with no parts. Takes no memory.

@@ -34,7 +34,8 @@ pub struct Checked {
 }
 
 impl Checked {
-    ghost use Rattle.serde_json_path_syntax.specs.Words.{ℕ, List, true, map, Some, IfOk, string_bytes, each_is, fits, is_segment, is_selector, IsIn, child, query, no_segments, segments_of, FunctionSet, Signature, arguments_of, name_of, AreTypedSelectors, IsTyped, IsTypedAnd, IsTypedCall, IsTypedOr, IsTypedSegment, IsTypedSelector, UnderSome, MayFinish, or_at, ors_in, and_at, ands_in, call_at, arguments_in, part_query, segment_kind_view, piece_at, piece_of, pieces, pieces_named, segment_at, segments_at, selector_at, selectors_at, NamesBelow, selectors_list, query_text, nodes_in, number_of, tree_of, signatures_of, parts_bound, selector_bound};
+    ghost use Rattle.std.specs.Prelude.{ℕ, List, true, map, Some, IfOk, string_bytes};
+    ghost use Rattle.serde_json_path_syntax.specs.Words.{each_is, fits, is_segment, is_selector, IsIn, child, query, no_segments, segments_of, FunctionSet, Signature, arguments_of, name_of, AreTypedSelectors, IsTyped, IsTypedAnd, IsTypedCall, IsTypedOr, IsTypedSegment, IsTypedSelector, UnderSome, MayFinish, or_at, ors_in, and_at, ands_in, call_at, arguments_in, part_query, segment_kind_view, piece_at, piece_of, pieces, pieces_named, segment_at, segments_at, selector_at, selectors_at, NamesBelow, selectors_list, query_text, nodes_in, number_of, tree_of, signatures_of, parts_bound, selector_bound};
     ghost use Rattle.serde_json_path_syntax.specs.Tree as tree;
     ghost use Rattle.serde_json_path_functions.specs.Terms.{kind_view};
     ghost use Rattle.serde_json_path_syntax.specs.Flat.{kind_view as query_kind_view};

@@ -31,7 +31,8 @@ pub struct NumberLiteral {
 }
 
 impl NumberLiteral {
-    ghost use Rattle.serde_json_path_syntax.specs.Words.{◌↔◌, IsSome, IfSome, int_div, pos, number, of_integer, view, literal_number, exact_view, number_amount};
+    ghost use Rattle.std.specs.Prelude.{◌↔◌, IsSome, IfSome, int_div, pos};
+    ghost use Rattle.serde_json_path_syntax.specs.Words.{number, of_integer, view, literal_number, exact_view, number_amount};
 
     /// The number of that many billionths, or `None` if it is out of range.
     pub fn from_billionths(billionths: i128) -> Option<NumberLiteral>
@@ -97,7 +98,8 @@ pub enum Literal {
 }
 
 impl Literal {
-    ghost use Rattle.serde_json_path_syntax.specs.Words.{◌≡◌, ◌↔◌, IsTrue, true, held_view, literal_fits, literal_view, IsValueLiteral};
+    ghost use Rattle.std.specs.Prelude.{◌≡◌, ◌↔◌, IsTrue, true};
+    ghost use Rattle.serde_json_path_syntax.specs.Words.{held_view, literal_fits, literal_view, IsValueLiteral};
 
     /// Whether the literal may be an argument of type Value: any literal but a number with a fraction. The RFC takes those too
     /// (RFC 9535, section 2.4.3); this project does not.
@@ -134,7 +136,8 @@ pub enum LiteralValue {
 }
 
 impl LiteralValue {
-    ghost use Rattle.serde_json_path_syntax.specs.Words.{◌≡◌, IfOk, held_view, literal_fits};
+    ghost use Rattle.std.specs.Prelude.{◌≡◌, IfOk};
+    ghost use Rattle.serde_json_path_syntax.specs.Words.{held_view, literal_fits};
 
     /// A copy of the literal. An error comes only where memory is refused.
     pub(crate) fn try_clone(&self) -> Result<LiteralValue, AllocError>

@@ -1,6 +1,7 @@
 //! Printed paths: a query as the text that is read back as it.
 
-ghost use Rattle.serde_json_path_syntax.specs.Words.{◌≡◌, ◌<◌, ◌≤◌, ◌++◌, Some, codes, length, map, option_map, true, WritesOnOk, argument_of, argument_parts, basic_of, basic_parts, comparable_of, comparable_parts, piece_at, pieces, pieces_named, segments_at, argument_fits, basic_fits, comparable_fits, each_is, is_segment, is_selector, parts_bound, nodes_in, number_of, tree_of, argument_text, basic_text, comparable_text, joined, piece_text, query_kind_text, query_text, segments_text, sign_text, opening_text};
+ghost use Rattle.std.specs.Prelude.{◌≡◌, ◌<◌, ◌≤◌, ◌++◌, Some, codes, length, map, option_map, true};
+ghost use Rattle.serde_json_path_syntax.specs.Words.{WritesOnOk, argument_of, argument_parts, basic_of, basic_parts, comparable_of, comparable_parts, piece_at, pieces, pieces_named, segments_at, argument_fits, basic_fits, comparable_fits, each_is, is_segment, is_selector, parts_bound, nodes_in, number_of, tree_of, argument_text, basic_text, comparable_text, joined, piece_text, query_kind_text, query_text, segments_text, sign_text, opening_text};
 ghost use Rattle.serde_json_path_syntax.specs.Flat.{kind_view as query_kind_view};
 
 mod literals;

@@ -1,5 +1,6 @@
 -- Comparisons, by how their sides are found.
-use Rattle.serde_json_path_core.specs.Imports.{◌≡◌, ℕ, suc, ◌<◌, ◌≤◌, Bool, List, length, Option, Some, slice_get, true, Data, of_value, Part, call_at, segments_at, are_singular, operator_view, Operator, parts_bound, result_kind}
+use Rattle.std.specs.Prelude.{◌≡◌, ℕ, suc, ◌<◌, ◌≤◌, Bool, List, length, Option, Some, slice_get, true}
+use Rattle.serde_json_path_core.specs.Imports.{Data, of_value, Part, call_at, segments_at, are_singular, operator_view, Operator, parts_bound, result_kind}
 use Rattle.serde_json_path_core.specs.Compared.{Compared, value_compared}
 use Rattle.serde_json_path_core.specs.Inside.Computed.{answer_compared, compare_sides}
 use Rattle.serde_json_path_core.specs.Inside.Evaluates.{SoundCall, SoundSegments, answer_at, compared_at, or_holds, values_of_segments}

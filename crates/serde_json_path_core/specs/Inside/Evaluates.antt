@@ -1,5 +1,6 @@
 -- The words of the functions that evaluate: what is asked of a part, and what it computes to where `@` is a value.
-use Rattle.serde_json_path_core.specs.Imports.{ℕ, List, map, Bool, Option, Data, Step, Located, Kind, Signature, Term, Call, calls_of, calls_in_segments, calls_in_segment, calls_in_selector, calls_in_or, calls_in_and, calls_in_basic, calls_in_comparable, calls_from, calls_in_argument, IsTyped, AreTypedSegments, IsTypedSegment, IsTypedSelector, IsTypedOr, IsTypedAnd, IsTypedBasic, IsTypedComparable, IsTypedCall, IsTypedArgument, Part, SelectorRef, or_at, and_at, basic_at, comparable_at, call_at, argument_at, part_query, segment_at, segments_at, ors_in, pieces, pieces_named, selector_view, stage_at, stages_at}
+use Rattle.std.specs.Prelude.{ℕ, List, map, Bool, Option}
+use Rattle.serde_json_path_core.specs.Imports.{Data, Step, Located, Kind, Signature, Term, Call, calls_of, calls_in_segments, calls_in_segment, calls_in_selector, calls_in_or, calls_in_and, calls_in_basic, calls_in_comparable, calls_from, calls_in_argument, IsTyped, AreTypedSegments, IsTypedSegment, IsTypedSelector, IsTypedOr, IsTypedAnd, IsTypedBasic, IsTypedComparable, IsTypedCall, IsTypedArgument, Part, SelectorRef, or_at, and_at, basic_at, comparable_at, call_at, argument_at, part_query, segment_at, segments_at, ors_in, pieces, pieces_named, selector_view, stage_at, stages_at}
 use Rattle.serde_json_path_core.specs.Inside.Rest as advances
 use Rattle.serde_json_path_core.specs.Compared.{Compared}
 use Rattle.serde_json_path_core.specs.Inside.Computed as computed

@@ -1,5 +1,6 @@
 -- What all parts of an evaluation share, and what it asks of the query.
-use Rattle.serde_json_path_core.specs.Imports.{ℕ, List, Option, Signature, FunctionSet, Query, Call, OfEach, calls_of, IsIn, Data, view, nodes_in, tree_of, Node}
+use Rattle.std.specs.Prelude.{ℕ, List, Option}
+use Rattle.serde_json_path_core.specs.Imports.{Signature, FunctionSet, Query, Call, OfEach, calls_of, IsIn, Data, view, nodes_in, tree_of, Node}
 use Rattle.serde_json_path_core.specs.PatternCalls.{CallsByPattern}
 use Rattle.serde_json_path_core.specs.declared.evaluation.scope.Scope.{Scope}
 

@@ -1,5 +1,6 @@
 -- Where a query goes on after segments that select one child at most (RFC 9535, section 2.3.5.1).
-use Rattle.serde_json_path_core.specs.Imports.{◌≡◌, List, [], map, Bool, true, false, option_map_or, Data, view, Step, Located, FunctionSet, segments_at, Segments, Selector, name, index, Node, Part}
+use Rattle.std.specs.Prelude.{◌≡◌, List, [], map, Bool, true, false}
+use Rattle.serde_json_path_core.specs.Imports.{option_map_or, Data, view, Step, Located, FunctionSet, segments_at, Segments, Selector, name, index, Node, Part}
 use Rattle.serde_json_path_core.specs.Inside.Computed.{itself, results_from}
 use Rattle.serde_json_path_core.specs.Inside.Rest.{candidates}
 use Rattle.serde_json_path_core.specs.declared.evaluation.single_children.Reached.{Reached}

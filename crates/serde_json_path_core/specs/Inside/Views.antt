@@ -1,5 +1,6 @@
 -- Children, cursors, slice positions and frames as the definitions see them.
-use Rattle.serde_json_path_core.specs.Imports.{Data, view, items_view, members_view, Step, step_view, List, [], ◌∷◌, drop, Option, Some, None, option_map, option_to_list, ℕ, map, Value}
+use Rattle.std.specs.Prelude.{List, [], ◌∷◌, drop, Option, Some, None, option_map, option_to_list, ℕ, map}
+use Rattle.serde_json_path_core.specs.Imports.{Data, view, items_view, members_view, Step, step_view, Value}
 use Rattle.serde_json_path_core.specs.declared.child.Child.{Child}
 use Rattle.serde_json_path_core.specs.Inside.Computed as computed
 use Rattle.serde_json_path_core.specs.declared.evaluation.slice_positions.SlicePositions.{SlicePositions}

@@ -1,6 +1,7 @@
 //! Logical expressions of filters (RFC 9535, section 2.3.5).
 
-ghost use Rattle.serde_json_path_core.specs.Inside.Words.{◌≡◌, ◌<◌, ◌≤◌, Some, IfOk, IfErr, length, view, SoundForm, compared_by, compared_with, holds_by, relation_holds, is_nonempty, SoundAnd, SoundBasic, SoundCall, SoundComparable, SoundOperands, SoundOr, SoundQuery, and_holds, answer_at, any_holds, basic_holds, or_holds, results_at, side_view, StandsIn, MayRefuse, nodes_of, top_of, operator_view, parts_bound, Pattern};
+ghost use Rattle.std.specs.Prelude.{◌≡◌, ◌<◌, ◌≤◌, Some, IfOk, IfErr, length};
+ghost use Rattle.serde_json_path_core.specs.Inside.Words.{view, SoundForm, compared_by, compared_with, holds_by, relation_holds, is_nonempty, SoundAnd, SoundBasic, SoundCall, SoundComparable, SoundOperands, SoundOr, SoundQuery, and_holds, answer_at, any_holds, basic_holds, or_holds, results_at, side_view, StandsIn, MayRefuse, nodes_of, top_of, operator_view, parts_bound, Pattern};
 ghost use Rattle.serde_json_path_core.specs.Inside.Computed.{answer_holds as holds_as_test};
 
 use crate::evaluation::scope::Scope;

@@ -1,6 +1,7 @@
 //! The queries in filters and in arguments of calls.
 
-ghost use Rattle.serde_json_path_core.specs.Inside.Words.{◌≡◌, ◌<◌, ◌≤◌, IfOk, IfErr, IfSome, length, map, option_map, slice_get, view, node_value, SoundQuery, SoundSegments, results_at, values_at, values_of_segments, StandsIn, first_value, parts_bound, values_reached, MayRefuse, nodes_of, set_of, top_of, Pattern};
+ghost use Rattle.std.specs.Prelude.{◌≡◌, ◌<◌, ◌≤◌, IfOk, IfErr, IfSome, length, map, option_map, slice_get};
+ghost use Rattle.serde_json_path_core.specs.Inside.Words.{view, node_value, SoundQuery, SoundSegments, results_at, values_at, values_of_segments, StandsIn, first_value, parts_bound, values_reached, MayRefuse, nodes_of, set_of, top_of, Pattern};
 
 use crate::evaluation::child_values::child_values;
 use crate::evaluation::frame::started;

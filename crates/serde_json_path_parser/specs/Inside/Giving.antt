@@ -1,6 +1,7 @@
 -- The words of contracts of private functions: a reader of a text, what is read at a level, and that what a function of the
 -- parser returned is what reading gives.
-use Rattle.serde_json_path_parser.specs.Imports.{ℕ, true, false, List, codes, bytes_eq, Option, Some, None, if◌then◌else◌, ◌≡◌, ◌+◌, ◌≤◌, max, drop, length, ◌-◌, ◌++◌, Result, Ok, Err, Literal, truth, null, Selector, Query, LogicalOr, query, root, SegmentKind, Segments, Segment, Call, Arguments, Argument, logical_argument, chars, Signature, FunctionSet, Fits, names_of, calls_in_segments, calls_in_selectors, calls_from, calls_in_arguments, calls_in_argument, parts_in, literal_view, Piece, a_segment, calls_in_piece, IsPart, ArePartsOf, AreSelectorsOf, AreArgumentsOf, KeepsTrees, calls_in, signatures_of, tree_of, result_kind, AreCalled, AreDeclared, names_in, kind_view, FunctionArgType, Part, Parts, SyntaxBuilder, Checked}
+use Rattle.std.specs.Prelude.{ℕ, true, false, List, codes, bytes_eq, Option, Some, None, if◌then◌else◌, ◌≡◌, ◌+◌, ◌≤◌, max, drop, length, ◌-◌, ◌++◌, Result, Ok, Err}
+use Rattle.serde_json_path_parser.specs.Imports.{Literal, truth, null, Selector, Query, LogicalOr, query, root, SegmentKind, Segments, Segment, Call, Arguments, Argument, logical_argument, chars, Signature, FunctionSet, Fits, names_of, calls_in_segments, calls_in_selectors, calls_from, calls_in_arguments, calls_in_argument, parts_in, literal_view, Piece, a_segment, calls_in_piece, IsPart, ArePartsOf, AreSelectorsOf, AreArgumentsOf, KeepsTrees, calls_in, signatures_of, tree_of, result_kind, AreCalled, AreDeclared, names_in, kind_view, FunctionArgType, Part, Parts, SyntaxBuilder, Checked}
 use Rattle.serde_json_path_parser.specs.Source.{Told}
 use Rattle.serde_json_path_parser.specs.Inside.Looking.{up_to_second}
 use Rattle.serde_json_path_parser.specs.declared.source.PathSource.{Ghosts}

@@ -1,5 +1,6 @@
 -- What the bytes ahead tell, what was looked at, and stretches of characters.
-use Rattle.serde_json_path_parser.specs.Imports.{◌≡◌, ℕ, ◌<◌, ◌≤◌, nat_le, Bool, true, false, List, [], ◌∷◌, Option, Some, None, drop, ◌+◌, max, ◌-◌, ◌&&◌, ◌++◌, length, take, ForSome, is_utf8, chars}
+use Rattle.std.specs.Prelude.{◌≡◌, ℕ, ◌<◌, ◌≤◌, nat_le, Bool, true, false, List, [], ◌∷◌, Option, Some, None, drop, ◌+◌, max, ◌-◌, ◌&&◌, ◌++◌, length, take}
+use Rattle.serde_json_path_parser.specs.Imports.{ForSome, is_utf8, chars}
 use Rattle.serde_json_path_parser.specs.Source.{Told}
 use Rattle.serde_json_path_parser.specs.Lexical.{◌∈◌, AllPass, is_name_char, is_plain}
 

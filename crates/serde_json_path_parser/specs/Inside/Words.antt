@@ -1,5 +1,5 @@
 -- The words of contracts of private functions, and of proofs, from one place.
-pub use Rattle.serde_json_path_parser.specs.Imports.{AreAndPartsOf, AreOrPartsOf, ArePartsFor, ArePartsOf, AreSelectorsOf, AreSingular, Argument, Arguments, Basic, Bool, Call, Comparable, Fits, ForSome, IfErr, IfOk, IsAscii, IsCharBoundary, IsInteger, IsNone, IsOptionalInteger, IsPart, IsScalar, IsSingular, IsSingularSegment, IsSome, IsTrue, IsUtf8, KeepsParts, KeepsTrees, Kind, List, Literal, LogicalAnd, LogicalOr, None, Operator, Option, Piece, Query, QueryKind, Segment, SegmentKind, Segments, Selector, Selectors, Signature, Slice, Some, StartsWithChar, SyntaxBuilder, a_basic, a_comparable, a_query, a_selector, all_scalars, an_and, an_argument, an_or, and, and_pieces, argument, bytes_eq, call, call_argument, called, calls_from, calls_in, calls_in_and, calls_in_argument, calls_in_arguments, calls_in_basic, calls_in_or, calls_in_piece, calls_in_segments, calls_in_selectors, chars, child, codes, current, descendant, digit_char, dot_name, dot_wildcard, drop, encode_utf8, encode_utf8_all, equal, exist, false, filter, greater, greater_or_equal, if◌then◌else◌, index, is_ok, is_utf8, largest, length, less, less_or_equal, literal, literal_argument, literal_view, logical_argument, long_hand, map, max, min, name, name_of, names_of, nat_le, nat_lt, negsuc, no_and, no_arguments, no_or, no_segments, no_selectors, not, not_equal, not_exist, not_paren, not_test, null, number, number_amount, of_logical, of_nodes, of_value, operator_view, option_map, or, or_pieces, paren, parts_in, pos, query, query_argument, query_kind_view, relation, root, segment, segment_kind_view, segment_pieces, selector, selector_pieces, signatures_of, singular, slice, slice_get, slice_index, slice_view, string_bytes, test, text, tree_of, true, truth, wildcard, ℕ, ℤ, ◌%◌, ◌&&◌, ◌*ℤ◌, ◌*◌, ◌++◌, ◌+◌, ◌-ℤ◌, ◌-◌, ◌/◌, ◌<◌, ◌==◌, ◌^◌, ◌||◌, ◌↔◌, ◌∷◌, ◌≡◌, ◌≤◌}
+pub use Rattle.serde_json_path_parser.specs.Imports.{AreAndPartsOf, AreOrPartsOf, ArePartsFor, ArePartsOf, AreSelectorsOf, AreSingular, Argument, Arguments, Basic, Call, Comparable, Fits, ForSome, IsAscii, IsCharBoundary, IsInteger, IsOptionalInteger, IsPart, IsScalar, IsSingular, IsSingularSegment, IsUtf8, KeepsParts, KeepsTrees, Kind, Literal, LogicalAnd, LogicalOr, Operator, Piece, Query, QueryKind, Segment, SegmentKind, Segments, Selector, Selectors, Signature, Slice, StartsWithChar, SyntaxBuilder, a_basic, a_comparable, a_query, a_selector, all_scalars, an_and, an_argument, an_or, and, and_pieces, argument, call, call_argument, called, calls_from, calls_in, calls_in_and, calls_in_argument, calls_in_arguments, calls_in_basic, calls_in_or, calls_in_piece, calls_in_segments, calls_in_selectors, chars, child, current, descendant, digit_char, dot_name, dot_wildcard, encode_utf8_all, equal, exist, filter, greater, greater_or_equal, index, is_utf8, largest, less, less_or_equal, literal, literal_argument, literal_view, logical_argument, long_hand, name, name_of, names_of, no_and, no_arguments, no_or, no_segments, no_selectors, not_equal, not_exist, not_paren, not_test, null, number, number_amount, of_logical, of_nodes, of_value, operator_view, or, or_pieces, paren, parts_in, query, query_argument, query_kind_view, relation, root, segment, segment_kind_view, segment_pieces, selector, selector_pieces, signatures_of, singular, slice, slice_view, test, text, tree_of, truth, wildcard}
 pub use Rattle.serde_json_path_parser.specs.Filters.{Deeper, alone, and_at, and_from, and_list, argument_at, arguments_at, basic_at, basic_from, begins_call, call_at, comparable_at, ended, ends_argument, literal_word_at, logical_from, named_at, negated_at, negated_call_at, next_and_at, next_basic_at, operand_at, operator_at, or_at, or_from, or_list, parameters_at, paren_at, past_word, path_at, query_at, relation_at, right_side_at, test_at, text_at, word}
 pub use Rattle.serde_json_path_parser.specs.Inside.Giving.{Fails, Gives, GivesQuery, Grows, GrowsFrom, IsArgumentOf, IsNear, IsOperandOf, IsRefused, IsWithin, Makes, MakesArgument, MakesArguments, MakesCall, MakesFrom, MakesOf, MakesOperand, MakesSegments, MakesSelectors, MakesSo, Moves, MovesTo, StopsNear, at_level, deeper, error_of, filter_at, left, literal_word, seen, segment_piece, signatures, told}
 pub use Rattle.serde_json_path_parser.specs.Inside.Looking.{Gathered, IsAhead, LooksOn, Stretched, begins_operator, is_ascii, is_ascii_name_char, is_ascii_plain, limit_of, up_to}

@@ -1,6 +1,7 @@
 //! Calls of functions (RFC 9535, section 2.4).
 
-ghost use Rattle.serde_json_path_parser.specs.Inside.Words.{◌≡◌, ◌==◌, ◌<◌, ℕ, List, drop, length, map, true, string_bytes, Option, IfOk, KeepsParts, IsPart, an_argument, Signature, argument_at, logical_from, ended, MakesArgument, MakesArguments, MakesCall, IsArgumentOf, Gives, MovesTo, at_level, signatures, deeper, left, begins, no_arguments};
+ghost use Rattle.std.specs.Prelude.{◌≡◌, ◌==◌, ◌<◌, ℕ, List, drop, length, map, true, string_bytes, Option, IfOk};
+ghost use Rattle.serde_json_path_parser.specs.Inside.Words.{KeepsParts, IsPart, an_argument, Signature, argument_at, logical_from, ended, MakesArgument, MakesArguments, MakesCall, IsArgumentOf, Gives, MovesTo, at_level, signatures, deeper, left, begins, no_arguments};
 ghost use Rattle.serde_json_path_functions.specs.Terms.{kind_view};
 ghost use Rattle.serde_json_path_parser.specs.Filters as filters;
 ghost use Rattle.serde_json_path_parser.specs.Operands as operands;

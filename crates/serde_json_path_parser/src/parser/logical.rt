@@ -1,6 +1,7 @@
 //! Logical expressions (RFC 9535, section 2.3.5.1).
 
-ghost use Rattle.serde_json_path_parser.specs.Inside.Words.{◌≡◌, ◌==◌, ◌<◌, drop, length, true, IfOk, calls_in_and, calls_in_basic, IsPart, an_or, an_and, a_basic, paren_at, negated_at, basic_at, and_from, and_at, or_from, or_at, Makes, MakesFrom, IsOperandOf, MovesTo, at_level, signatures, deeper, left, is_at, begins, calls_in_operand, byte_count, past_blanks};
+ghost use Rattle.std.specs.Prelude.{◌≡◌, ◌==◌, ◌<◌, drop, length, true, IfOk};
+ghost use Rattle.serde_json_path_parser.specs.Inside.Words.{calls_in_and, calls_in_basic, IsPart, an_or, an_and, a_basic, paren_at, negated_at, basic_at, and_from, and_at, or_from, or_at, Makes, MakesFrom, IsOperandOf, MovesTo, at_level, signatures, deeper, left, is_at, begins, calls_in_operand, byte_count, past_blanks};
 ghost use Rattle.serde_json_path_syntax.specs.Tree as tree;
 ghost use Rattle.serde_json_path_parser.specs.Filters as filters;
 ghost use Rattle.serde_json_path_parser.specs.Operands as operands;

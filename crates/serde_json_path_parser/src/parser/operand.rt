@@ -1,6 +1,7 @@
 //! Operands: what a filter compares or tests, read before its use is known (RFC 9535, section 2.3.5.1).
 
-ghost use Rattle.serde_json_path_parser.specs.Inside.Words.{◌≡◌, ◌==◌, ◌<◌, ℕ, List, length, true, Option, KeepsParts, SyntaxBuilder, a_query, a_comparable, a_basic, Signature, query_at, operand_at, comparable_at, named_at, test_at, text_at, Makes, MakesOf, MakesOperand, IsOperandOf, IsNear, MovesTo, at_level, signatures, left, begins, is_small_letter, IsQuote, calls_in_operand};
+ghost use Rattle.std.specs.Prelude.{◌≡◌, ◌==◌, ◌<◌, ℕ, List, length, true, Option};
+ghost use Rattle.serde_json_path_parser.specs.Inside.Words.{KeepsParts, SyntaxBuilder, a_query, a_comparable, a_basic, Signature, query_at, operand_at, comparable_at, named_at, test_at, text_at, Makes, MakesOf, MakesOperand, IsOperandOf, IsNear, MovesTo, at_level, signatures, left, begins, is_small_letter, IsQuote, calls_in_operand};
 ghost use Rattle.serde_json_path_syntax.specs.Flat.{kind_view};
 ghost use Rattle.serde_json_path_parser.specs.Operands as operands;
 

@@ -1,6 +1,7 @@
 //! Segments.
 
-ghost use Rattle.serde_json_path_parser.specs.Inside.Words.{◌≡◌, true, ℕ, List, Option, IfErr, false, segment_kind_view, Signature, Makes, MakesSegments, segment_piece, MovesTo, IsRefused, filter_at, signatures, left, begins, opens, bracket_at, after_dot, dotted_at, of_kind, segment_at, segments_at, opens_next};
+ghost use Rattle.std.specs.Prelude.{◌≡◌, true, ℕ, List, Option, IfErr, false};
+ghost use Rattle.serde_json_path_parser.specs.Inside.Words.{segment_kind_view, Signature, Makes, MakesSegments, segment_piece, MovesTo, IsRefused, filter_at, signatures, left, begins, opens, bracket_at, after_dot, dotted_at, of_kind, segment_at, segments_at, opens_next};
 
 use crate::error::{Context, Failure, ParseErrorKind as Kind};
 use crate::parser::Parser;

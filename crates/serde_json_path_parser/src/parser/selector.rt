@@ -1,6 +1,7 @@
 //! Selectors.
 
-ghost use Rattle.serde_json_path_parser.specs.Inside.Words.{◌≡◌, ℕ, List, Option, a_selector, Signature, Makes, MakesSelectors, MovesTo, filter_at, signatures, left, begins, IsQuote, position_at, quoted_at, selector_at, selectors_at};
+ghost use Rattle.std.specs.Prelude.{◌≡◌, ℕ, List, Option};
+ghost use Rattle.serde_json_path_parser.specs.Inside.Words.{a_selector, Signature, Makes, MakesSelectors, MovesTo, filter_at, signatures, left, begins, IsQuote, position_at, quoted_at, selector_at, selectors_at};
 
 use crate::error::Failure;
 use crate::parser::Parser;

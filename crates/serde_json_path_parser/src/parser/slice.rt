@@ -1,6 +1,7 @@
 //! Slices.
 
-ghost use Rattle.serde_json_path_parser.specs.Inside.Words.{IfOk, slice_view, IsOptionalInteger, Gives, MovesTo, left, bound_at, slice_at};
+ghost use Rattle.std.specs.Prelude.{IfOk};
+ghost use Rattle.serde_json_path_parser.specs.Inside.Words.{slice_view, IsOptionalInteger, Gives, MovesTo, left, bound_at, slice_at};
 
 use crate::error::Failure;
 use crate::parser::primitive::int::parse_int;

@@ -1,6 +1,7 @@
 //! Integers.
 
-ghost use Rattle.serde_json_path_parser.specs.Inside.Words.{◌≡◌, ◌≤◌, List, ℕ, length, IfOk, largest, IsInteger, Gives, MovesTo, left, digits_at, int_at};
+ghost use Rattle.std.specs.Prelude.{◌≡◌, ◌≤◌, List, ℕ, length, IfOk};
+ghost use Rattle.serde_json_path_parser.specs.Inside.Words.{largest, IsInteger, Gives, MovesTo, left, digits_at, int_at};
 
 use crate::error::{Context, Failure, ParseErrorKind as Kind};
 use crate::parser::primitive::decimal::parse_decimal;

@@ -1,6 +1,7 @@
 //! Member names.
 
-ghost use Rattle.serde_json_path_parser.specs.Inside.Words.{◌≡◌, string_bytes, Gives, MovesTo, left, name_at};
+ghost use Rattle.std.specs.Prelude.{◌≡◌, string_bytes};
+ghost use Rattle.serde_json_path_parser.specs.Inside.Words.{Gives, MovesTo, left, name_at};
 
 use crate::error::{Context, Failure, ParseErrorKind as Kind};
 use crate::parser::reader::Reader;

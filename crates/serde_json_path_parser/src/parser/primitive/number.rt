@@ -1,6 +1,7 @@
 //! Number literals.
 
-ghost use Rattle.serde_json_path_parser.specs.Inside.Words.{◌≡◌, ◌≤◌, ◌<◌, ℕ, List, length, IfOk, number_amount, Gives, MovesTo, left, whole_at, fraction_at, amount_at, number_at, capped};
+ghost use Rattle.std.specs.Prelude.{◌≡◌, ◌≤◌, ◌<◌, ℕ, List, length, IfOk};
+ghost use Rattle.serde_json_path_parser.specs.Inside.Words.{number_amount, Gives, MovesTo, left, whole_at, fraction_at, amount_at, number_at, capped};
 
 use crate::error::{Failure, ParseErrorKind as Kind};
 use crate::parser::primitive::decimal::parse_decimal;

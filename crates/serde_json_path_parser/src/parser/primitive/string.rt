@@ -1,6 +1,7 @@
 //! String literals.
 
-ghost use Rattle.serde_json_path_parser.specs.Inside.Words.{◌≡◌, ◌==◌, ◌<◌, ◌≤◌, ◌+◌, ◌^◌, ℕ, List, length, true, IfOk, string_bytes, IsScalar, Gives, MovesTo, left, begins, IsQuote, hexadecimal_at, hex4_at, is_high, low_at, unicode_at, piece_at, is_inside, string_at};
+ghost use Rattle.std.specs.Prelude.{◌≡◌, ◌==◌, ◌<◌, ◌≤◌, ◌+◌, ◌^◌, ℕ, List, length, true, IfOk, string_bytes};
+ghost use Rattle.serde_json_path_parser.specs.Inside.Words.{IsScalar, Gives, MovesTo, left, begins, IsQuote, hexadecimal_at, hex4_at, is_high, low_at, unicode_at, piece_at, is_inside, string_at};
 
 use crate::error::{Context, Failure, ParseErrorKind as Kind};
 use crate::parser::reader::Reader;
