@@ -25,7 +25,7 @@ pub use Rattle.std.proofs.lemmas.Bool.Decides.{Decides-and, Decides-int_eq, Deci
 pub use Rattle.std.proofs.lemmas.Cmp.{nat_list_cmp_total, tied_itself}
 pub use Rattle.std.proofs.lemmas.Grind.{common_steps, flat_map-append}
 pub use Rattle.std.proofs.lemmas.Int.{clamps, ints, to_z-of_z}
-pub use Rattle.std.proofs.lemmas.List.{append-nil, drop-drop, drop_all, drop_more, get_or_append_left, get_or_default, length-drop, length-map, length-set, map-append, map-id, set-append_left, take-append-drop, take-set, take_all, take_more, take_more_set}
+pub use Rattle.std.proofs.lemmas.List.{append-nil, drop-drop, drop_all, drop_more, get_or_append_left, get_or_default, length-drop, length-map, length-set, map-append, set-append_left, take-append-drop, take-set, take_all, take_more, take_more_set}
 pub use Rattle.std.proofs.lemmas.List.Folds.{flat_map-map}
 pub use Rattle.std.proofs.lemmas.Map.Text.{is_eq-slice_cmp}
 pub use Rattle.std.proofs.lemmas.Option.{get_or_from_slice_get, none-some, option_and_then_some, same_Some, slice_get_cases, slice_get_past, slice_get_read, slice_get_within}

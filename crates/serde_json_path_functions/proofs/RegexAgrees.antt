@@ -1,5 +1,6 @@
 -- `regex` finds a pattern in a text exactly where its specification, reading the pattern, does.
-use Rattle.std.proofs.Common.{◌≡◌, ℕ, ◌<◌, ◌≤◌, ◌⊎◌, List, length, get_or, true, false, Option, None, Some, IfSome, IsSomeAnd, is_some, option_and_then, inl, inr, refl, arith, nat_le, if◌then◌else◌}
+use Rattle.std.proofs.lemmas.Bool.Decides.{nat_tests}
+use Rattle.std.proofs.Common.{◌≡◌, ℕ, ◌<◌, ◌≤◌, ◌⊎◌, List, length, get_or, true, false, Option, None, Some, IsSomeAnd, is_some, option_and_then, arith, nat_le, if◌then◌else◌}
 use Rattle.std.specs.Str.{chars}
 use Rattle.regex_syntax.specs.Brackets.{Nested}
 use Rattle.regex_syntax.specs.Grammar.{Names, group_count, read}
@@ -9,7 +10,7 @@ use Rattle.regex.specs.Failures.{IsRightKind}
 use Rattle.regex.specs.Patterns.{Re, SameCaptures, Reads, Refuses, default_config, find_str}
 use Rattle.regex.specs.Strings.{regex_pattern, regex_source, regex_config, IsReadFromSource}
 use Rattle.regex.specs.declared.error.Error.{Error}
-use Rattle.regex.specs.declared.error.Error.TheVariants.{Syntax, CompiledTooBig, Internal, OutOfMemory}
+use Rattle.regex.specs.declared.error.Error.TheVariants.{CompiledTooBig, Internal}
 use Rattle.regex.specs.declared.string.regex.Regex.{Regex}
 use Rattle.regex.proofs.ForCallers.{is_match_alike}
 use Rattle.serde_json_path_functions.specs.Patterns.{IsReadable, is_found}
@@ -29,38 +30,14 @@ unfolding Reads
 found_as_read r source text is_source is_default is_read bytes =
     found_alike (read default_config (chars source)) default_config.nest_limit _ _ text bytes (rw (is_source, is_default) at is_read)
 
-none_found : {A : Type 0} (o : Option (Nested Re × Names)) (most : ℕ) (text : List ℕ) →
-    (o ≡ None) ⊎ (A × IfSome o (λ (re, names). most < re.depth)) →
-    false ≡ is_some (option_and_then (λ (re, names). if nat_le re.depth most then find_str re.value text 0 else None) o)
-none_found None most text refused = refl
-none_found (Some found) most text (inl none) = absurd cc
-none_found (Some found) most text (inr deep) =
-    let far : nat_le found.0.depth most ≡ false = (let d = deep.1 in grind (arith, d)) in
-    rw (far) refl
-
 -- a text that the grammar refuses, and not as nested too deep, is found nowhere
 pub refused_is_not_found : (source text : List ℕ) (kind : ErrorKind) → Refuses default_config source kind → (kind ≡ parser.OutOfMemory → ⊥) →
     false ≡ is_found source text
 unfolding Refuses
-refused_is_not_found source text kind (inl memory) other = absurd (other memory)
-refused_is_not_found source text kind (inr refused) other =
-    none_found (read default_config (chars source)) default_config.nest_limit text refused
-
-readable_nested : (o : Option (Nested Re × Names)) (most : ℕ) (a : Re) (names : Names) →
-    IsSomeAnd o (λ (re, found). (re.depth ≤ most) × SameCaptures a re.value × (names ≡ found) × (group_count a ≤ length names)) →
-    IsSomeAnd o (λ (re, names). re.depth ≤ most)
-readable_nested None most a names h = absurd h
-readable_nested (Some found) most a names h = h.0
+refused_is_not_found source text kind h other = grind (arith, nat_tests)
 
 -- a text that `regex` refuses as too big, or by an internal check, is readable
 pub refused_is_readable : (source : List ℕ) (error : Error) → (error ≡ CompiledTooBig) ⊎ (error ≡ Internal) →
     IsRightKind default_config source error → IsReadable source
 unfolding Reads
-refused_is_readable source CompiledTooBig refused (hir, names, is_read) =
-    readable_nested (read default_config (chars source)) default_config.nest_limit _ names is_read
-refused_is_readable source Internal refused (hir, names, is_read) =
-    readable_nested (read default_config (chars source)) default_config.nest_limit _ names is_read
-refused_is_readable source (Syntax e) (inl other) kind = absurd cc
-refused_is_readable source (Syntax e) (inr other) kind = absurd cc
-refused_is_readable source OutOfMemory (inl other) kind = absurd cc
-refused_is_readable source OutOfMemory (inr other) kind = absurd cc
+refused_is_readable source error refused h = grind (arith, nat_tests)

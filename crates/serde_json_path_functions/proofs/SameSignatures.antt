@@ -1,24 +1,18 @@
 -- The test of two signatures decides whether they are equal.
-use Rattle.std.proofs.Common.{◌≡◌, List, [], ◌∷◌, map, Bool, ◌&&◌, true≢false, refl, sym, ap}
+use Rattle.std.proofs.Common.{arith, ◌≡◌, List, [], ◌∷◌, map, Bool, ◌&&◌, true≢false, refl, sym}
 use Rattle.std.specs.Bool.{Decides}
 use Rattle.std.specs.Cmp.Lexicographic.{pointwise}
-use Rattle.std.proofs.lemmas.Bool.Decides.{Decides-and}
+use Rattle.std.proofs.lemmas.Bool.Decides.{nat_tests}
 use Rattle.serde_json_path_functions.specs.Functions.{Kind, Signature}
 use Rattle.serde_json_path_functions.specs.Terms.{kind_view}
 use Rattle.serde_json_path_functions.specs.declared.types.FunctionArgType.{FunctionArgType}
-use Rattle.serde_json_path_functions.specs.declared.types.FunctionArgType.TheVariants as kind
 use Rattle.serde_json_path_functions.specs.contracts.types.FunctionArgTypePartialEq.TheImpl.{eq-value}
 
 pub kinds_decided : (a b : FunctionArgType) → Decides (eq-value.it a b) (kind_view a ≡ kind_view b)
-kinds_decided kind.Value kind.Value = (λ e. refl, λ e. refl)
-kinds_decided kind.Nodelist kind.Nodelist = (λ e. refl, λ e. refl)
-kinds_decided kind.Logical kind.Logical = (λ e. refl, λ e. refl)
-kinds_decided _ _ = (λ e. absurd (true≢false (sym e)), λ e. absurd cc)
+kinds_decided a b = grind (arith, nat_tests)
 
 same_list : (a b : Kind) (xs ys : List Kind) (s r : Bool) → Decides s (a ≡ b) → Decides r (xs ≡ ys) → Decides (s && r) ((a ∷ xs) ≡ (b ∷ ys))
-same_list a b xs ys s r d e =
-    let both = Decides-and s r d e in
-    (λ t i. let h = both.0 t in h.0 i ∷ h.1 i, λ f. both.1 (let g : a ≡ b = cc in g, let g : xs ≡ ys = cc in g))
+same_list a b xs ys s r d e = grind (arith, nat_tests)
 
 pub all_decided : (ks ls : List FunctionArgType) → Decides (pointwise eq-value.it ks ls) (map kind_view ks ≡ map kind_view ls)
 all_decided [] [] = (λ e. refl, λ e. refl)
@@ -28,6 +22,4 @@ all_decided (k ∷ ks) (l ∷ ls) = same_list (kind_view k) (kind_view l) (map k
 
 -- two signatures are equal where their parameters and their results are
 pub signature_decided : (s t : Signature) (p q : Bool) → Decides p (s.params ≡ t.params) → Decides q (s.result ≡ t.result) → Decides (p && q) (s ≡ t)
-signature_decided s t p q d e =
-    let both = Decides-and p q d e in
-    (λ h i. let k = both.0 h in record { params = k.0 i; result = k.1 i }, λ f. both.1 (ap (λ (u : Signature). u.params) f, ap (λ (u : Signature). u.result) f))
+signature_decided s t p q d e = grind (arith, nat_tests)

@@ -1,14 +1,11 @@
 -- The derived `==` of elements answers as `same_step` does of their steps.
-use Rattle.std.proofs.Common.{◌≡◌, ℕ, zero, suc, ◌-◌, Bool, true, false, true≢false, List, [], ◌∷◌, length, map, slice_get, Option, Some, None, Bor, refl, sym, ◌∙◌}
-use Rattle.serde_json_path_nodes.proofs.Words.{and_parts, pointwise, as_long, same_step, same_steps, step_view, PathElement}
+use Rattle.serde_json_path_nodes.proofs.Words.{nat_tests, and_parts, pointwise, as_long, same_step, same_steps, step_view, PathElement}
+use Rattle.std.proofs.Common.{arith, ◌≡◌, ℕ, zero, suc, ◌-◌, Bool, true, false, List, [], ◌∷◌, length, map, slice_get, Option, Bor, refl, ◌∙◌}
 use Rattle.std.specs.Option.{option_eq, option_copied}
-use Rattle.serde_json_path_nodes.specs.declared.path_element.PathElement.TheVariants.{Name, Index}
 use Rattle.serde_json_path_nodes.specs.contracts.path_element.PathElementPartialEq.TheImpl.{eq-value}
 
 eq-value-same_step : (a b : PathElement) → eq-value.it a b ≡ same_step (step_view a) (step_view b)
-eq-value-same_step (Name a) (Name b) = refl
-eq-value-same_step (Index i) (Index j) = refl
-eq-value-same_step _ _ = refl
+eq-value-same_step a b = grind (arith, nat_tests)
 
 pub elements-same_steps : (a b : List PathElement) → pointwise eq-value.it a b ≡ same_steps (map step_view a) (map step_view b)
 elements-same_steps [] [] = refl
@@ -24,14 +21,11 @@ alike-slice_get _ _ n alike = absurd cc
 
 -- the same of references to elements
 option_eq-now : (r s : Option (Bor PathElement)) → option_eq (λ x y. eq-value.it x.now y.now) r s ≡ option_eq eq-value.it (option_copied r) (option_copied s)
-option_eq-now None None = refl
-option_eq-now (Some x) (Some y) = refl
-option_eq-now _ _ = refl
+option_eq-now r s = grind (arith, nat_tests)
 
 -- a test that is never true answers false
 false_unless : (test : Bool) → (test ≡ true → ⊥) → false ≡ test
-false_unless true never = absurd (never refl)
-false_unless false never = refl
+false_unless test never = grind (arith, nat_tests)
 
 -- locations of different lengths differ
 pub lengths_differ : (a b : List PathElement) → (length a ≡ length b → ⊥) → false ≡ same_steps (map step_view a) (map step_view b)
@@ -42,7 +36,4 @@ pub lasts_differ : (a b : List PathElement) (r s : Option (Bor PathElement)) →
     → option_copied r ≡ slice_get a (length a - 1) → option_copied s ≡ slice_get b (length b - 1)
     → option_eq (λ x y. eq-value.it x.now y.now) r s ≡ false
     → false ≡ same_steps (map step_view a) (map step_view b)
-lasts_differ a b r s long last_a last_b differ =
-    let ends : option_eq eq-value.it (slice_get a (length a - 1)) (slice_get b (length a - 1)) ≡ false =
-    rw (← last_a, long, ← last_b, ← option_eq-now) differ in
-    false_unless _ (λ alike. true≢false (sym (alike-slice_get a b (length a - 1) (elements-same_steps a b ∙ alike)) ∙ ends))
+lasts_differ a b r s long last_a last_b differ = grind (arith, nat_tests, slice_get, option_eq-now, false_unless, alike-slice_get, elements-same_steps)

@@ -1,5 +1,5 @@
 -- In a list of numbered nodes, those that no node of a lower number shares its location with are `first_places`.
-use Rattle.std.proofs.Common.{◌≡◌, ℕ, suc, ◌+◌, ◌<◌, ◌≤◌, Bool, true, false, not, cond, if◌then◌else◌, List, [], ◌∷◌, ◌++◌, length, get_or, map, refl, ap, sym, ◌∙◌, arith, append_assoc}
+use Rattle.std.proofs.Common.{◌≡◌, ℕ, suc, ◌+◌, ◌<◌, ◌≤◌, Bool, false, not, cond, if◌then◌else◌, List, [], ◌∷◌, ◌++◌, length, get_or, map, refl, ap, sym, ◌∙◌, arith, append_assoc}
 use Rattle.serde_json_path_nodes.proofs.Words.{All, AllByRecursion, filter, list_any, on, nat_tests, map_push, All-nil, All-push, All-weaker, recursion_from_All, Ordering, is_among, first_places, first_places_after, AreNumbered, location_cmp, located, location_of, LocatedNode}
 use Rattle.std.proofs.lemmas.List.Folds.{list_any-append}
 use Rattle.serde_json_path_nodes.proofs.KeptBySorting.{is_first_among, repeats}
@@ -29,23 +29,18 @@ numbered_from start (node ∷ nodes) numbers = (
 none_later : (node : LocatedNode) (start : ℕ) (nodes : List LocatedNode) → node.number ≤ start → AreNumberedFrom start nodes
     → list_any (repeats by_location number_of node) nodes ≡ false
 none_later node start [] low numbered = refl
-none_later node start (next ∷ nodes) low numbered =
-    let below : node.number ≤ next.number = omega (arith, numbered.0) in
-    grind (arith, nat_tests, below, none_later node (start + 1) nodes (omega arith) numbered.1)
+none_later node start (next ∷ nodes) low numbered = grind (arith, nat_tests, none_later node (start + 1) nodes (omega arith) numbered.1)
 
 -- earlier nodes are, where they have its location
 among_earlier : (node : LocatedNode) (nodes : List LocatedNode) → AllByRecursion (λ before. before.number < node.number) nodes
     → list_any (repeats by_location number_of node) nodes ≡ is_among node.location (map location_of (map located nodes))
 among_earlier node [] earlier = refl
-among_earlier node (before ∷ nodes) earlier =
-    let below : before.number < node.number = earlier.0 in
-    grind (arith, nat_tests, below, location_cmp-ties node.location before.location, among_earlier node nodes earlier.1)
+among_earlier node (before ∷ nodes) earlier = grind (arith, nat_tests, location_cmp-ties, among_earlier node nodes earlier.1)
 
 -- one node first: it is kept unless its location is among the earlier ones
 one_more : (among : Bool) (node : LocatedNode) (nodes : List LocatedNode)
     → map located (cond (not among) (node ∷ nodes) nodes) ≡ (if among then [] else located node ∷ []) ++ map located nodes
-one_more true node nodes = refl
-one_more false node nodes = refl
+one_more among node nodes = grind (arith, nat_tests)
 
 -- the nodes from `start` on, of which the ones before them are `before`
 first_places_from : (all before nodes : List LocatedNode) (start : ℕ) → all ≡ before ++ nodes

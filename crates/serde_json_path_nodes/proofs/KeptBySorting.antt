@@ -1,7 +1,7 @@
 -- Numbered elements are sorted by an order and then by number, those that tie with their neighbour are removed, and the
 -- others are sorted back by number: what is left are the elements that no earlier one ties with, in their order.
-use Rattle.std.proofs.Common.{◌≡◌, ℕ, suc, ◌+◌, ◌<◌, ◌≤◌, Bool, true, false, cond, not, ◌&&◌, ◌||◌, ltb, nat_eq, true≢false, List, [], ◌∷◌, length, get_or, refl, ap, sym, ◌∙◌, arith, inl, inr}
-use Rattle.serde_json_path_nodes.proofs.Words.{Equal-is, IsTotalOrder, unsigned_ties, All, AllByRecursion, IsDistinct, dedup, dedup_from, filter, list_any, sum_by, IsNonDecreasingBy, IsPermutation, IsSortedBy, eq_by_cmp, is_eq, is_gt, is_lt, nat_cmp, on, ordering_reverse, ordering_then, then_cmp, Ordering, Less, Equal, Greater, and_from, and_parts, cases_lt, false_from_ne_true, le-ltb, lt-ltb, ne_eqb, or_left, nat_tests, alike_right, nat_cmp_total, nat_eq_equiv, on_total, ranked, then_total, tied_back, get_or_default, All-filter, All-same, All-tail, filter_agree, All-permutation, IsNonDecreasingBy-drop, list_any-IsPermutation, sum_by-IsPermutation}
+use Rattle.std.proofs.Common.{◌≡◌, ℕ, ◌+◌, ◌<◌, ◌≤◌, Bool, true, false, cond, not, ◌&&◌, ◌||◌, ltb, nat_eq, List, [], ◌∷◌, length, get_or, refl, ap, sym, ◌∙◌, arith, inl, inr}
+use Rattle.serde_json_path_nodes.proofs.Words.{Equal-is, IsTotalOrder, All, AllByRecursion, IsDistinct, dedup, dedup_from, filter, list_any, sum_by, IsNonDecreasingBy, IsPermutation, IsSortedBy, eq_by_cmp, is_eq, is_lt, nat_cmp, on, ordering_reverse, ordering_then, then_cmp, Ordering, Less, and_from, cases_lt, le-ltb, lt-ltb, ne_eqb, or_left, nat_tests, nat_cmp_total, nat_eq_equiv, on_total, ranked, then_total, tied_back, get_or_default, All-filter, All-same, All-tail, filter_agree, All-permutation, IsNonDecreasingBy-drop, list_any-IsPermutation, sum_by-IsPermutation}
 use Rattle.std.specs.List.Sorted.{IsStrictlySortedBy}
 use Rattle.std.proofs.lemmas.List.Kept.{IsNonDecreasingBy-filter}
 use Rattle.std.proofs.lemmas.List.Sums.{sum_by-cons, sum_by-le}
@@ -9,34 +9,20 @@ use Rattle.std.proofs.lemmas.Map.Keys.{sorted_from_all_adjacent, apart_from_dist
 
 -- ---- orderings
 
--- two orders in turn, of which the second decides where the first ties
-not_greater : (first next : Ordering) → ordering_then first next ≡ Less → is_gt first ≡ false
-not_greater Greater next less = cc
-not_greater _ next less = refl
-
 next_less : (first next : Ordering) → ordering_then first next ≡ Less → is_eq first ≡ true → next ≡ Less
-next_less Equal next less tie = less
-next_less _ next less tie = cc
+next_less first next less tie = grind (arith, nat_tests)
 
 -- what is neither less nor a tie the other way round is less
 less_from : (forth back : Ordering) → forth ≡ ordering_reverse back → is_lt back ≡ false → is_eq back ≡ false → forth ≡ Less
-less_from forth Greater reversed not_less no_tie = reversed
-less_from forth _ reversed not_less no_tie = cc
-
--- of two that do not tie, one is greater than the other
-no_cycle : (forth back : Ordering) → forth ≡ ordering_reverse back → is_gt forth ≡ false → is_gt back ≡ false → is_eq back ≡ false → ⊥
-no_cycle forth Less reversed low high no_tie = cc
-no_cycle forth _ reversed low high no_tie = cc
+less_from forth back reversed not_less no_tie = grind (arith, nat_tests)
 
 -- numbers that differ do not tie
 no_tie_by_next : (first : Ordering) (m n : ℕ) → nat_eq m n ≡ false → is_eq (ordering_then first (nat_cmp m n)) ≡ false
-no_tie_by_next Equal m n differ = sym (unsigned_ties m n) ∙ differ
-no_tie_by_next _ m n differ = refl
+no_tie_by_next first m n differ = grind (arith, nat_tests)
 
 -- a test that implies another one adds nothing to it
 absorbed : (first next rest : Bool) → (next ≡ true → first ≡ true) → (first || (next || rest)) ≡ (first || rest)
-absorbed false true rest through = absurd (true≢false (sym (through refl)))
-absorbed _ _ rest through = refl
+absorbed first next rest through = grind (arith, nat_tests)
 
 -- ---- filters and sums
 
@@ -127,27 +113,17 @@ module _ {X : Type 0} (order : X → X → Ordering) (number : X → ℕ) where
   module _ (total : IsTotalOrder order) where
     -- what repeats an element that repeats an earlier one repeats the earlier one
     repeats_through : (x y z : X) → order_then_number x y ≡ Less → is_eq (order y x) ≡ true → repeats z y ≡ true → repeats z x ≡ true
-    repeats_through x y z less tie repeat =
-        let parts = and_parts (is_eq (order z y)) (ltb (number y) (number z)) repeat in
-        let level : order y x ≡ Equal = (Equal-is (order y x)).0 tie in
-        let below : number x < number y = later x y less (ap is_eq (tied_back total y x level)) in
-        grind (arith, nat_tests, alike_right total y x z level, parts)
+    repeats_through x y z less tie repeat = grind (arith, nat_tests)
 
     -- two elements with another between them that does not tie with the first
     apart : (x y z : X) → order_then_number x y ≡ Less → is_eq (order y x) ≡ false → order_then_number y z ≡ Less → is_eq (order z x) ≡ false
-    apart x y z less no_tie less_again = false_from_ne_true (is_eq (order z x)) (λ tie.
-        let same : order y z ≡ order y x = alike_right total z x y ((Equal-is (order z x)).0 tie) in
-        no_cycle (order x y) (order y x) (total.antisymm x y) (not_greater (order x y) (nat_cmp (number x) (number y)) less)
-        (ap is_gt (sym same) ∙ not_greater (order y z) (nat_cmp (number y) (number z)) less_again) no_tie)
+    apart x y z less no_tie less_again = grind (arith, nat_tests)
 
     -- so no element after one that does not tie with the first repeats the first
     repeats_none_before : (x y : X) (all zs : List X) → order_then_number x y ≡ Less → is_eq (order y x) ≡ false
         → AllByRecursion (λ z. order_then_number y z ≡ Less) zs → AllByRecursion (λ z. is_first_among (x ∷ all) z ≡ is_first_among all z) zs
     repeats_none_before x y all [] less no_tie above = tt
-    repeats_none_before x y all (z ∷ zs) less no_tie above = (
-      ap (λ b. not ((b && ltb (number x) (number z)) || list_any (repeats z) all)) (apart x y z less no_tie above.0),
-      repeats_none_before x y all zs less no_tie above.1,
-    )
+    repeats_none_before x y all (z ∷ zs) less no_tie above = grind (arith, nat_tests, apart, repeats_none_before x y all zs less no_tie above.1)
 
     -- in a list that rises strictly, those that differ from their neighbour are those that repeat nothing
     dedup_from_is : (x : X) (xs : List X) → IsStrictlySortedBy order_then_number (x ∷ xs)

@@ -38,8 +38,7 @@ nat_cmp-suc m n = grind (arith, nat_tests)
 
 -- an order that is no tie decides
 then_decided : (first second : Ordering) → (first ≡ Equal → ⊥) → ordering_then first second ≡ first
-then_decided Equal second differ = absurd (differ refl)
-then_decided _ second differ = refl
+then_decided first second differ = grind (arith, nat_tests)
 
 -- of two lists with their first elements, seen by `f`
 module _ {A B : Type 0} (R : A → A → Ordering) (f : B → A) {a b : B} {xs ys rest_x rest_y : List B}

@@ -1,26 +1,12 @@
 -- A text in quotes, written in stretches of characters that print themselves.
-use Rattle.std.proofs.Common.{◌≡◌, ℕ, ◌+◌, ◌<◌, ◌≤◌, Bool, true, false, List, [], ◌∷◌, ◌++◌, length, get_or, Option, Some, None, is_some, take, drop, unwrap_or, encode_utf8, encode_utf8_all, nat_lt, refl, sym, ap, subst, ◌∙◌, append_assoc, arith}
-use Rattle.serde_json_path_nodes.proofs.Words.{flat_map, IsCharBoundary, IsUtf8, NonePass, chars, nat_tests, flat_map-append, take-append-drop, take_more, chars-append, chars_past_char, encode_ascii, encodes-chars, IsUtf8-take, escape_of, in_quotes, is_escaped}
+use Rattle.std.proofs.Common.{◌≡◌, ℕ, ◌+◌, ◌<◌, false, List, [], ◌∷◌, ◌++◌, length, get_or, None, take, drop, unwrap_or, encode_utf8, encode_utf8_all, refl, sym, ap, ◌∙◌, append_assoc, arith}
+use Rattle.serde_json_path_nodes.proofs.Words.{flat_map, IsCharBoundary, IsUtf8, NonePass, chars, nat_tests, common_steps, flat_map-append, take-append-drop, take_more, chars-append, chars_past_char, encodes-chars, IsUtf8-take, escape_of, in_quotes, is_escaped}
 
 -- ---- what prints itself
 
-none_of : {A : Type 0} (o : Option A) → is_some o ≡ false → o ≡ None
-none_of None e = refl
-none_of (Some x) e = absurd cc
-
--- a character beyond U+007F has no escape
-no_escape : (c : ℕ) → 128 ≤ c → escape_of c ≡ None
-no_escape c high = grind (arith, nat_tests)
-
 -- a character whose bytes are plain has no escape
 plain_char : (c : ℕ) (rest : List ℕ) → NonePass is_escaped (encode_utf8 c ++ rest) → escape_of c ≡ None
-plain_char c rest plain = by_test (nat_lt c 128) refl
-  where
-    by_test : (b : Bool) → nat_lt c 128 ≡ b → escape_of c ≡ None
-    by_test true low =
-        let ascii : encode_utf8 c ≡ c ∷ [] = encode_ascii c (grind (arith, nat_tests)) in
-        none_of (escape_of c) (subst (λ bs. NonePass is_escaped (bs ++ rest)) ascii plain).0
-    by_test false high = no_escape c (grind (arith, nat_tests))
+plain_char c rest plain = grind (arith, common_steps)
 
 plain_after : (xs ys : List ℕ) → NonePass is_escaped (xs ++ ys) → NonePass is_escaped ys
 plain_after [] ys h = h
@@ -28,15 +14,11 @@ plain_after (x ∷ xs) ys h = plain_after xs ys h.1
 
 plain_chars : (cs : List ℕ) → NonePass is_escaped (encode_utf8_all cs) → flat_map in_quotes cs ≡ encode_utf8_all cs
 plain_chars [] h = refl
-plain_chars (c ∷ cs) h =
-    ap (λ o. unwrap_or o (encode_utf8 c) ++ flat_map in_quotes cs) (plain_char c (encode_utf8_all cs) h)
-    ∙ ap (λ bs. encode_utf8 c ++ bs) (plain_chars cs (plain_after (encode_utf8 c) (encode_utf8_all cs) h))
+plain_chars (c ∷ cs) h = grind (arith, nat_tests, unwrap_or, plain_char, plain_after, plain_chars cs (plain_after (encode_utf8 c) (encode_utf8_all cs) h))
 
 -- a text whose bytes are plain prints itself
 plain_text : (text : List ℕ) → IsUtf8 text → NonePass is_escaped text → flat_map in_quotes (chars text) ≡ text
-plain_text text utf8 plain =
-    let spelled : encode_utf8_all (chars text) ≡ text = encodes-chars text utf8 in
-    plain_chars (chars text) (subst (NonePass is_escaped) (sym spelled) plain) ∙ spelled
+plain_text text utf8 plain = grind (arith, nat_tests, encodes-chars, plain_chars)
 
 -- one byte more
 none_more : (bs : List ℕ) (b : ℕ) → NonePass is_escaped bs → is_escaped b ≡ false → NonePass is_escaped (bs ++ b ∷ [])
@@ -61,6 +43,4 @@ front_written text front back done whole n utf8 boundary plain is_front is_back 
 -- the character after it
 pub char_written : (text rest done whole : List ℕ) (c : ℕ) → IsUtf8 text → text ≡ encode_utf8 c ++ rest
     → done ++ flat_map in_quotes (chars text) ≡ whole → (done ++ in_quotes c) ++ flat_map in_quotes (chars rest) ≡ whole
-char_written text rest done whole c utf8 step all =
-    append_assoc done (in_quotes c) (flat_map in_quotes (chars rest))
-    ∙ ap (λ cs. done ++ flat_map in_quotes cs) (sym (chars_past_char text rest c utf8 step)) ∙ all
+char_written text rest done whole c utf8 step all = grind (arith, nat_tests, append_assoc, chars_past_char)

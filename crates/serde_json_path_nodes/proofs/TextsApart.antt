@@ -1,6 +1,6 @@
 -- Locations are read back from their normalised paths, since decimals and escapes are.
+use Rattle.serde_json_path_nodes.proofs.Words.{common_steps, decimal, escape_of, in_quotes, normal_step, normal, nat_tests, encode_same, char_from_byte, encodes-chars, append_cancel_left, flat_map, chars, encode_utf8_all, Step, by_name, by_position, IsProper}
 use Rattle.std.proofs.Common.{◌≡◌, ℕ, zero, suc, ◌+◌, ◌-◌, ◌^◌, ◌<◌, List, [], ◌∷◌, map, refl, ap, sym, ◌∙◌, arith, ◌*◌, ◌==◌, nat_lt, Bool, true, false, if◌then◌else◌, ◌++◌, get_or, drop, is_some, encode_utf8, true≢false, ◌≢◌, codes, append_assoc}
-use Rattle.serde_json_path_nodes.proofs.Words.{decimal, escape_of, in_quotes, normal_step, normal, nat_tests, encode_same, char_from_byte, encodes-chars, append_cancel_left, flat_map, chars, encode_utf8_all, Step, by_name, by_position, IsProper}
 use Rattle.std.specs.Int.Digits.{digits_of, number_from_digits, AllBelowBase}
 use Rattle.std.proofs.lemmas.Fmt.{decimal_digit, decimal-digits_of}
 use Rattle.std.proofs.lemmas.Int.Digits.{number_digits_of, all_below_base_digits_of, first_digits_of}
@@ -93,11 +93,7 @@ module _ (c d : ℕ) (r t : List ℕ) where
 
 -- no character is printed as a quote alone
 pub in_quotes-quote : (c : ℕ) (r t : List ℕ) → in_quotes c ++ r ≡ 39 ∷ t → ⊥
-in_quotes-quote c r t same = by (is_some (escape_of c)) refl
-  where
-    by : (b : Bool) → is_some (escape_of c) ≡ b → ⊥
-    by true escaped = omega (arith, ap (λ (l : List ℕ). get_or l 0 0) (sym (begins c r escaped) ∙ same))
-    by false plain = begins_otherwise c plain 39 r t refl (omega arith) same
+in_quotes-quote c r t same = grind (arith, nat_tests, begins, begins_otherwise)
 
 -- ---- names
 
@@ -140,8 +136,7 @@ brackets_apart (a ∷ xs) (b ∷ ys) r t x y same =
 
 -- an index does not begin with a quote
 digits-quote : (digits r t : List ℕ) → 0 < get_or digits 0 0 → map (λ digit. 48 + digit) digits ++ r ≡ 39 ∷ t → ⊥
-digits-quote [] r t some same = omega arith
-digits-quote (d ∷ ds) r t some same = omega (arith, ap (λ (l : List ℕ). get_or l 0 0) same)
+digits-quote digits r t some same = grind (arith, common_steps)
 
 in_decimal-quote : (n : ℕ) (r t : List ℕ) → in_decimal n ++ r ≡ 39 ∷ t → ⊥
 unfolding in_decimal
@@ -157,8 +152,7 @@ position_text : (i : ℕ) (r : List ℕ) → normal_step (by_position i) ++ r �
 position_text i r = simp append_assoc
 
 name_position_apart : (name r t : List ℕ) (i : ℕ) → normal_step (by_name name) ++ r ≡ normal_step (by_position i) ++ t → ⊥
-name_position_apart name r t i same =
-    in_decimal-quote i (93 ∷ t) _ (ap (drop 1) (sym (position_text i t) ∙ sym same ∙ name_text name r))
+name_position_apart name r t i same = grind (arith, nat_tests, in_decimal-quote, position_text, name_text)
 
 -- two texts that begin with steps
 steps_apart : (a b : Step) (r t : List ℕ) → IsProper (a ∷ []) → IsProper (b ∷ [])
@@ -179,12 +173,10 @@ steps_apart (by_position i) (by_name m) r t proper_a proper_b same = absurd (nam
 
 -- what holds of a location holds of its first step and of the others
 proper_parts : (step : Step) (steps : List Step) → IsProper (step ∷ steps) → IsProper (step ∷ []) × IsProper steps
-proper_parts (by_name name) steps proper = ((proper.0, tt), proper.1)
-proper_parts (by_position i) steps proper = (tt, proper)
+proper_parts step steps proper = grind (arith, nat_tests)
 
 normal_step-nil : (step : Step) (r : List ℕ) → normal_step step ++ r ≡ [] → ⊥
-normal_step-nil (by_name name) r same = cc
-normal_step-nil (by_position i) r same = cc
+normal_step-nil step r same = grind (arith, nat_tests)
 
 locations_apart : (a b : List Step) → IsProper a → IsProper b
     → flat_map normal_step a ≡ flat_map normal_step b → a ≡ b

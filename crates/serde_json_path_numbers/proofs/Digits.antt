@@ -1,5 +1,5 @@
 -- Digits written from the last to the first.
-use Rattle.std.proofs.Common.{◌≡◌, ℕ, suc, ◌+◌, ◌*◌, ◌/◌, ◌%◌, ◌^◌, ◌<◌, ◌≤◌, List, [], ◌∷◌, ◌++◌, length, drop, refl, sym, ap, ◌∙◌, arith, drop-cons, get_or-set_same, drop-set-lt, length-set, le-ltb, lt-ltb, length-append, div-add-mod', mod-lt, pow-suc, div-lt_iff_lt-mul, pow-add, mul-one, append-nil, Bool, true, false}
+use Rattle.std.proofs.Common.{◌≡◌, ℕ, suc, ◌+◌, ◌*◌, ◌/◌, ◌%◌, ◌^◌, ◌<◌, ◌≤◌, List, [], ◌∷◌, ◌++◌, length, drop, refl, sym, ap, ◌∙◌, arith, drop-cons, get_or-set_same, drop-set-lt, length-set, le-ltb, lt-ltb, length-append, div-add-mod', mod-lt, pow-suc, div-lt_iff_lt-mul, mul-one, append-nil, Bool, true, false}
 use Rattle.std.specs.Prelude.{slice_set}
 use Rattle.std.specs.Float.Ieee.{Format, round}
 use Rattle.std.specs.Char.{digit_value}
@@ -17,10 +17,6 @@ after_is n (d ∷ ds) = rw (after_is (n * 10 + digit_value d) ds, after_is (0 * 
 
 pub digits_value-cons : (d : ℕ) (ds : List ℕ) → digits_value 10 (d ∷ ds) ≡ digit_value d * 10 ^ length ds + digits_value 10 ds
 digits_value-cons d ds = after_is (0 * 10 + digit_value d) ds ∙ ap (λ k. k * 10 ^ length ds + digits_value 10 ds) (omega arith)
-
-pub digits_value-append : (xs ys : List ℕ) → digits_value 10 (xs ++ ys) ≡ digits_value 10 xs * 10 ^ length ys + digits_value 10 ys
-digits_value-append [] ys = omega arith
-digits_value-append (x ∷ xs) ys = rw (digits_value-cons x (xs ++ ys), digits_value-cons x xs, digits_value-append xs ys, length-append xs ys, pow-add) (omega arith)
 
 -- from the place `at` on, the text has the last digits of the number, and the first are left
 pub record AreWritten (text : List ℕ) (at left number : ℕ) : Type 0 where

@@ -1,39 +1,31 @@
 -- Comparisons of floats as facts, and the laws.
-use Rattle.std.proofs.Common.{◌≡◌, arith, ltb-true, add_comm, Ordering, Less, Equal, Greater, is_eq, is_lt, is_gt, Bool, true, false, T, ◌⊎◌, inl, inr, refl, sym, ◌∙◌, true≢false}
+use Rattle.std.proofs.lemmas.Bool.Decides.{nat_tests}
+use Rattle.std.proofs.Common.{◌≡◌, arith, Ordering, Less, Equal, Greater, is_eq, is_lt, is_gt, Bool, true, false, T, ◌⊎◌, inl, inr, refl, sym}
 use Rattle.std.specs.Float.{NotNan, float_is_finite}
-use Rattle.std.specs.Float.Ieee.{Float, nan, inf, fin, is_nan, lt, eq, neg}
-use Rattle.std.specs.Prelude.{ℤ, pos, negsuc, int_lt, unsigned_abs}
+use Rattle.std.specs.Float.Ieee.{Float, is_nan, lt, eq, neg}
+use Rattle.std.specs.Prelude.{ℤ, pos, int_lt, unsigned_abs}
 use Rattle.std.specs.Ordering.{ordering_reverse}
 use Rattle.serde_json_path_numbers.specs.Inside.{IsOrder}
 use Rattle.serde_json_path_numbers.specs.Numbers.{integer, AreEqualNumbers, IsLessNumber}
 use Rattle.serde_json_path_numbers.specs.Laws.{IsFinite, IsExactlyOne, EqualityIsEquivalence, LessIsStrictOrder}
-use Rattle.std.proofs.lemmas.Float.{T_from_true, T_from_false, le_of_not-lt, le_of_eq, lt_of_le_of_lt, lt_of_lt_of_le, eq_trans, lt-or-eq, eq_flip, eq-not_lt, lt_trans, lt_irrefl}
+use Rattle.std.proofs.lemmas.Float.{T_from_true, le_of_not-lt, le_of_eq, lt_of_le_of_lt, lt_of_lt_of_le, eq_trans, lt-or-eq, eq_flip, eq-not_lt, lt_trans, lt_irrefl}
 
 pub sure : (b : Bool) → T b → b ≡ true
-sure true t = refl
-sure false t = absurd t
+sure b t = grind (arith, nat_tests)
 
 pub never : (b : Bool) → (T b → ⊥) → b ≡ false
-never true f = absurd (f tt)
-never false f = refl
+never b f = grind (arith, nat_tests)
 
 pub number : (x : Float) → float_is_finite x ≡ true → NotNan x
 unfolding float_is_finite is_nan
-number nan h = absurd (true≢false (sym h))
-number (inf s) h = tt
-number (fin s m e) h = tt
+number x h = grind (arith, nat_tests)
 
 -- two numbers of which neither is less are equal
 pub level : (x y : Float) → NotNan x → NotNan y → lt x y ≡ false → lt y x ≡ false → eq x y ≡ true
-level x y p q h k =
-    elim (lt-or-eq x y (le_of_not-lt y x q p (T_from_false (lt y x) k))) [
-      | inl l ↦ absurd (true≢false (sym (sure (lt x y) l) ∙ h))
-      | inr e ↦ sure (eq x y) e
-    ]
+level x y p q h k = grind (arith, nat_tests, lt-or-eq, le_of_not-lt, sure)
 
 pub same : (a b : Bool) → (T a → T b) → (T b → T a) → a ≡ b
-same true b f g = sym (sure b (f tt))
-same false b f g = sym (never b g)
+same a b f g = grind (arith, nat_tests)
 
 pub equal_swapped : (x y : Float) → eq x y ≡ eq y x
 equal_swapped x y = same (eq x y) (eq y x) (eq_flip x y) (eq_flip y x)
@@ -66,20 +58,11 @@ told x y Greater h = let g = T_from_true (lt y x) h in record {
 pub negative_order : (z : ℤ) (x : Float) (o : Ordering) → int_lt z (pos 0) ≡ true → float_is_finite x ≡ true
     → IsOrder (integer (pos (unsigned_abs z))) (neg x) o → IsOrder (integer z) x (ordering_reverse o)
 unfolding float_is_finite neg lt eq
-negative_order (pos n) x o l f h = absurd (omega (arith, ltb-true n 0 l))
-negative_order (negsuc n) (fin true m e) Less l f h = h
-negative_order (negsuc n) (fin true m e) Equal l f h = h
-negative_order (negsuc n) (fin true m e) Greater l f h = h
-negative_order (negsuc n) (fin false m e) Less l f h = h
-negative_order (negsuc n) (fin false m e) Equal l f h = h
-negative_order (negsuc n) (fin false m e) Greater l f h = rw add_comm h
-negative_order (negsuc n) _ o l f h = absurd (true≢false (sym f))
+negative_order z x o l f h = grind (arith, nat_tests)
 
 pub finite_negated : (x : Float) → float_is_finite x ≡ true → float_is_finite (neg x) ≡ true
 unfolding float_is_finite neg
-finite_negated nan h = h
-finite_negated (inf s) h = h
-finite_negated (fin s m e) h = h
+finite_negated x h = grind (arith, nat_tests)
 
 -- ---- the laws
 

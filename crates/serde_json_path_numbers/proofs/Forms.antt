@@ -1,7 +1,7 @@
 -- Numbers by what holds them; integers keep their order.
-use Rattle.std.proofs.Common.{◌≡◌, suc, ◌+◌, ◌*◌, ◌^◌, true, T, arith, refl, sym, ap, ◌∙◌, subst, mul-one, eqb→eq, ltb-true, eq-eqb, lt-ltb, to_z-of_z, to_z, of_z, Ordering}
+use Rattle.std.proofs.Common.{◌≡◌, true, T, arith, sym, ap, ◌∙◌, subst, eqb→eq, eq-eqb, to_z-of_z, to_z, of_z, Ordering}
 use Rattle.std.proofs.lemmas.Bool.Decides.{nat_tests}
-use Rattle.std.specs.Prelude.{ℤ, pos, negsuc, nat_eq, int_lt, FitsSigned}
+use Rattle.std.specs.Prelude.{ℤ, nat_eq, int_lt, FitsSigned}
 use Rattle.std.specs.Int.{w128}
 use Rattle.std.specs.Float.{float_is_finite}
 use Rattle.std.specs.Float.Ieee.{Float, lt, eq}
@@ -13,42 +13,24 @@ use Rattle.serde_json_path_numbers.specs.declared.exact_number.Form.TheVariants.
 use Rattle.serde_json_path_numbers.proofs.Floats.{same, sure, equality, IsTold, told}
 use Rattle.serde_json_path_numbers.specs.Laws.{IntegersKeepTheirOrder}
 use lib.Signed.{lt_z_yes}
-use lib.Ieee.Fits.{and_l}
 
 pub in_range : (z : ℤ) → is_exact (Integer z) ≡ true → FitsSigned w128 z
-in_range (pos n) h = record { sfits = omega (arith, ltb-true n (2 ^ 64) h) }
-in_range (negsuc n) h = record { sfits = omega (arith, ltb-true (suc n) (2 ^ 64) h) }
+in_range z h = grind (arith, nat_tests)
 
 integers_less : (a b : ℤ) → int_lt a b ≡ lt (integer a) (integer b)
 unfolding lt
-integers_less (pos m) (pos n) = simp mul-one
-integers_less (pos m) (negsuc n) = refl
-integers_less (negsuc m) (pos n) = sym (lt-ltb 0 (suc m * 1 * 1 + n * 1 * 1) (omega arith))
-integers_less (negsuc m) (negsuc n) = grind (arith, nat_tests)
+integers_less a b = grind (arith, nat_tests)
 
 integers_equal : (a b : ℤ) → T (eq (integer a) (integer b)) → a ≡ b
 unfolding eq
-integers_equal (pos m) (pos n) h = ap pos (omega (arith, eqb→eq (m * 1 * 1) (n * 1 * 1) (and_l _ true h)))
-integers_equal (pos m) (negsuc n) h = grind (arith, nat_tests)
-integers_equal (negsuc m) (pos n) h = grind (arith, nat_tests)
-integers_equal (negsuc m) (negsuc n) h = ap negsuc (omega (arith, eqb→eq (suc m * 1 * 1) (suc n * 1 * 1) (and_l _ true h)))
+integers_equal a b h = grind (arith, nat_tests)
 
 pub finite_integer : (z : ℤ) → float_is_finite (integer z) ≡ true
 unfolding float_is_finite
-finite_integer (pos n) = refl
-finite_integer (negsuc n) = refl
+finite_integer z = grind (arith, nat_tests)
 
 pub order_kept : IntegersKeepTheirOrder
-order_kept = record {
-  equal = λ a b. (
-    λ h. integers_equal a b (T_from_true _ h),
-    λ e. rw e (equality.reflexive (integer b) (finite_integer b)),
-  );
-  less = λ a b. (
-    λ h. lt_z_yes (T_from_true _ (integers_less a b ∙ h)),
-    λ l. sym (integers_less a b) ∙ sure (int_lt a b) l.lt,
-  );
-}
+order_kept = grind (arith, nat_tests, integers_equal, equality, finite_integer, lt_z_yes, integers_less, sure)
 
 module _ (f g : Form) (a b : ℤ) (at : f ≡ Integer a) (by : g ≡ Integer b) (x : is_exact f ≡ true) (y : is_exact g ≡ true) where
   left : to_z w128 (of_z w128 a) ≡ a

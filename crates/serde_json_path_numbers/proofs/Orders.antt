@@ -1,5 +1,6 @@
 -- An integer and a double, by the double's whole part and fraction.
-use Rattle.std.proofs.Common.{◌≡◌, ℕ, suc, ◌-◌, ◌*◌, ◌/◌, ◌^◌, ◌<◌, ◌≤◌, true, false, T, refl, sym, ap, ◌∙◌, arith, ltb-true, lt-ltb, le-ltb, nat_cmp, Ordering, div-lt_iff_lt-mul, le-div_iff_mul-le, div-mul-le_self, suc-mul, ne_eqb, eq-zero-or-pos, pos_of_ne-zero, inl, inr}
+use Rattle.std.proofs.lemmas.Bool.Decides.{nat_tests}
+use Rattle.std.proofs.Common.{◌≡◌, ℕ, suc, ◌*◌, ◌/◌, ◌^◌, ◌<◌, ◌≤◌, true, false, T, refl, sym, ap, ◌∙◌, arith, ltb-true, lt-ltb, le-ltb, nat_cmp, Ordering, div-lt_iff_lt-mul, le-div_iff_mul-le, div-mul-le_self, suc-mul, ne_eqb, eq-zero-or-pos, pos_of_ne-zero}
 use Rattle.std.specs.Prelude.{pos}
 use Rattle.std.specs.Float.{trunc, float_is_finite, minus_one, two_to}
 use Rattle.std.specs.Float.Ieee.{Float, binary64, fits, lt, le, to_unsigned, of_bits, is_nan}
@@ -65,17 +66,11 @@ by_ratio x a d r b =
 module _ (n : ℕ) (x : Float) (f : float_is_finite x ≡ true) (h : fits binary64 x ≡ true) (k : lt x (of_bits binary64 0) ≡ false) (b : le (of_bits binary64 0x43f0_0000_0000_0000) x ≡ false)
     (w : ℕ) (is_whole : w ≡ to_unsigned 64 x) where
   split : IsSplit x w
-  split =
-      let r = ratio x f (T_from_true _ h) (sym (ap (lt x) zero_is) ∙ k) in
-      rw is_whole (by_ratio x r.0 r.1 r.2 (below_64_bits x f b))
+  split = grind (arith, nat_tests, ratio, zero_is, by_ratio, below_64_bits)
 
   -- the order by whole parts that differ
   pub by_whole : (o : Ordering) → o ≡ nat_cmp n w → (n ≡ w → ⊥) → IsOrder (integer (pos n)) x o
-  by_whole o e apart =
-      rw e (elim (eq-zero-or-pos (w - n)) [
-        | inl z ↦ rw (le-ltb n w (omega arith), ne_eqb n w apart) (split.greater n (omega (arith, pos_of_ne-zero {n = n - w} (λ e. apart (omega arith)))))
-        | inr p ↦ rw (lt-ltb n w (omega arith)) (split.less n (omega arith))
-      ])
+  by_whole o e apart = grind (arith, nat_tests, eq-zero-or-pos, le-ltb, ne_eqb, split, pos_of_ne-zero, lt-ltb)
 
   -- and by the fraction, where they are equal
   module _ (e : n ≡ w) (t : Float) (is_trunc : t ≡ trunc binary64 x) where

@@ -1,5 +1,6 @@
 -- A double that is not below zero, as a ratio beside integers.
-use Rattle.std.proofs.Common.{◌≡◌, ℕ, zero, suc, ◌+◌, ◌-◌, ◌*◌, ◌/◌, ◌^◌, ◌<◌, min, Bool, true, false, T, ltb, refl, sym, ap, ◌∙◌, true≢false, arith, add_comm, mul_assoc, mul-one, zero-mul, div-one, div-le_self, shl_lt, pow-add, pow_pos, zero-le, ltb→lt, ltb-false, le-ltb, mul-pos, leb}
+use Rattle.std.proofs.lemmas.Bool.Decides.{nat_tests}
+use Rattle.std.proofs.Common.{◌≡◌, ℕ, suc, ◌+◌, ◌-◌, ◌*◌, ◌/◌, ◌^◌, ◌<◌, min, Bool, true, false, T, refl, sym, ◌∙◌, true≢false, arith, add_comm, mul_assoc, mul-one, div-one, div-le_self, shl_lt, pow-add, zero-le, ltb-false, le-ltb}
 use Rattle.std.specs.Prelude.{ℤ, pos, negsuc, nat_lt}
 use Rattle.std.specs.Float.{trunc, round_with, float_is_finite}
 use Rattle.std.specs.Float.Ieee.{Float, Format, nan, inf, fin, binary64, up, down, fits, prec, emax, low, round, lt, to_unsigned}
@@ -7,7 +8,7 @@ use Rattle.std.specs.Float.Order.{lt_at}
 use Rattle.serde_json_path_numbers.specs.Numbers.{integer}
 use Rattle.std.proofs.Math.Nat.{zero-div}
 use lib.Ieee.Exact.{HasValue, round_exact}
-use lib.Ieee.Fits.{and_l, and_r, down_pos}
+use lib.Ieee.Fits.{down_pos}
 use lib.Ieee.Back.{round_whole}
 
 -- how the number a / d compares with integers, and its whole part and fraction
@@ -21,11 +22,7 @@ pub record IsRatio (x : Float) (a d : ℕ) : Type 0 where
 -- a format's number has few digits, and is not too large
 bounds : (f : Format) (s : Bool) (m : ℕ) (e : ℤ) → T (fits f (fin s m e)) → (m < 2 ^ prec f) × (m * up e < 2 ^ suc (emax f) * down e)
 unfolding fits
-bounds f s zero e h = (pow_pos (prec f), omega (arith, zero-mul (up e), mul-pos (pow_pos (suc (emax f))) (down_pos e)))
-bounds f s (suc m) e h =
-    let size = and_r _ (ltb (suc m * up e) (2 ^ suc (emax f) * down e)) h in
-    let digits = and_r _ (ltb (suc m) (2 ^ prec f)) (and_l _ (leb (down e) (2 ^ low f)) (and_l _ (ltb (suc m * up e) (2 ^ suc (emax f) * down e)) h)) in
-    (ltb→lt (suc m) (2 ^ prec f) digits, ltb→lt (suc m * up e) (2 ^ suc (emax f) * down e) size)
+bounds f s m e h = grind (arith, nat_tests)
 
 -- the whole part of a format's number, rounded, is the whole part
 whole_rounded : (f : Format) (s : Bool) (m : ℕ) (e : ℤ) → T (fits f (fin s m e)) → HasValue (round f s (m * up e / down e) 1) s (m * up e / down e) 1
@@ -56,26 +53,12 @@ plain m e h =
 -- what rounds from zero is not less than it
 at_zero : (m : ℕ) (e : ℤ) → m * up e ≡ 0 → (t : Float) → HasValue t true (m * up e / down e) 1 → lt t (fin true m e) ≡ false
 unfolding lt
-at_zero m e z nan v = absurd v
-at_zero m e z (inf s) v = absurd v
-at_zero m e z (fin false k g) v = absurd (true≢false (sym v.0))
-at_zero m e z (fin true k g) v =
-    let whole : m * up e / down e ≡ 0 = ap (λ a. a / down e) z ∙ zero-div (down e) in
-    let none : k * up g ≡ 0 = sym (mul-one (k * up g)) ∙ v.1 ∙ ap (λ a. a * down g) whole ∙ zero-mul (down g) in
-    le-ltb (m * up e * down g) (k * up g * down e) (rw none (rw zero-mul zero-le))
+at_zero m e z t v = grind (arith, nat_tests)
 
 -- zero with a sign
 signed_zero : (m : ℕ) (e : ℤ) → T (fits binary64 (fin true m e)) → m * up e ≡ 0 → IsRatio (fin true m e) 0 (down e)
 unfolding to_unsigned round_with lt
-signed_zero m e h z =
-    let d = down_pos e in
-    record {
-      divisor = d;
-      above = λ n. sym (le-ltb (n * down e) 0 (omega arith));
-      below = λ n. ap (ltb 0) (omega (arith, z));
-      whole = rw (zero-div (down e)) refl;
-      fraction = at_zero m e z (round binary64 true (m * up e / down e) 1) (whole_rounded binary64 true m e h) ∙ sym (le-ltb (0 / down e * down e) 0 zero-le);
-    }
+signed_zero m e h z = grind (arith, nat_tests, down_pos, le-ltb, zero-div, at_zero, whole_rounded, zero-le)
 
 -- a finite number that is not below zero
 pub ratio : (x : Float) → float_is_finite x ≡ true → T (fits binary64 x) → lt x (integer (pos 0)) ≡ false → (a d : ℕ) × IsRatio x a d

@@ -5,7 +5,7 @@ unfoldable pub use Rattle.serde_json_path_parser.specs.Numbers.{amount_at, fract
 unfoldable pub use Rattle.serde_json_path_parser.specs.Parsed.{many, many_at}
 unfoldable pub use Rattle.serde_json_path_parser.specs.Parsing.{quoted_at}
 pub use Rattle.std.specs.Prelude.{IsSome, IsTrue, None, Some, bytes_eq, codes, encode_utf8, max, nat_le, nat_lt, negsuc, not, pos, slice_get, string_bytes, ℤ, ◌%◌, ◌&&◌, ◌*ℤ◌, ◌*◌, ◌-ℤ◌, ◌/◌, ◌==◌, ◌^◌, ◌||◌, ◌↔◌}
-pub use Rattle.serde_json_path_parser.specs.Inside.Words.{AllPass, AreAndPartsOf, AreOrPartsOf, ArePartsFor, ArePartsOf, ArePieces, AreSelectorsOf, AreSingular, Argument, Arguments, Basic, Call, Comparable, Deeper, Fails, Fits, Gathered, Gives, Grows, GrowsFrom, IsAhead, IsAmount, IsAscii, IsBlank, IsCharBoundary, IsDecimal, IsFraction, IsFunctionName, IsHex4, IsInt, IsName, IsNumber, IsOperandOf, IsPart, IsPiece, IsQuote, IsRefused, IsScalar, IsSingular, IsSingularSegment, IsString, IsUtf8, IsWithin, Joined, KeepsParts, KeepsTrees, Kind, Literal, LogicalAnd, LogicalOr, LooksOn, MakesArguments, MakesSo, Moves, Operand, Operator, Parsed, Piece, Query, QueryKind, Segment, SegmentKind, Segments, Selector, Selectors, Signature, Slice, StartsWithChar, Stretched, SyntaxBuilder, a_basic, a_call, a_comparable, a_literal, a_selector, after_dot, all_scalars, alone, an_and, an_argument, and, and_at, and_from, and_list, and_pieces, are_at, argument, arguments_at, at_level, basic_at, basic_from, begins, begins_both, begins_call, begins_int, begins_operator, bound_at, bracket_at, byte_count, call, call_argument, call_at, called, calls_from, calls_in, calls_in_and, calls_in_argument, calls_in_arguments, calls_in_basic, calls_in_operand, calls_in_or, calls_in_piece, calls_in_segments, calls_in_selectors, chars, child, comparable_at, current, deeper, descendant, descendant_at, digit_char, digits_after_point_at, digits_at, dot_at, dot_name, dot_wildcard, dotted_at, encode_utf8_all, ended, ends_argument, equal, error_of, escape_at, escaped_by, exist, filter, fits, fraction_of, front, greater, greater_or_equal, greatest_amount, head, hex4_at, hex_escape, hexadecimal_at, hexadecimal_of, hexadecimal_value, index, int_at, is_ascii, is_ascii_name_char, is_ascii_plain, is_at, is_blank, is_control, is_digit, is_exponent, is_first_digit, is_function_char, is_hexadecimal, is_high, is_inside, is_letter_escape, is_low, is_name_char, is_name_first, is_plain, is_result, is_small_letter, is_test, is_utf8, is_value_literal, is_whole, largest, left, less, less_or_equal, letter_escape, letter_value, limit_of, literal, literal_argument, literal_view, literal_word, literal_word_at, logical_argument, long_hand, low_at, name, name_at, name_of, named_at, names_of, negated_at, negated_call_at, negative, next_and_at, next_basic_at, next_segment_at, next_selector_at, no_and, no_arguments, no_or, no_segments, no_selectors, not_equal, not_exist, not_paren, not_test, null, number, number_amount, number_at, of_logical, of_nodes, of_value, opens, opens_after_root, opens_next, operand_at, operator_at, operator_view, or, or_at, or_from, or_list, or_pieces, pair_escape, pair_of, parameters_at, paren, paren_at, parts_in, past, past_blanks, past_word, piece_at, plain, position_at, query, query_argument, query_at, query_kind_view, quote_escape, refusal, refusal_at, relation, relation_at, right_side_at, root, segment, segment_at, segment_kind_view, segment_list, segment_piece, segment_pieces, segments_at, selector, selector_at, selector_list, selector_pieces, selectors_at, signatures, signatures_of, singular, slice, slice_at, step_at, string_at, takes_result, test, test_at, text, tree_of, truth, unicode_at, value_from, whole_at, wildcard, word, ◌>>=◌, ◌∈◌}
+pub use Rattle.serde_json_path_parser.specs.Inside.Words.{AllPass, AreAndPartsOf, AreOrPartsOf, ArePartsFor, ArePartsOf, ArePieces, AreSelectorsOf, AreSingular, Argument, Arguments, Basic, Call, Comparable, Deeper, Fails, Fits, Gathered, Gives, Grows, GrowsFrom, IsAhead, IsAmount, IsAscii, IsBlank, IsCharBoundary, IsDecimal, IsFraction, IsFunctionName, IsHex4, IsInt, IsName, IsNumber, IsOperandOf, IsPart, IsPiece, IsQuote, IsRefused, IsScalar, IsSingular, IsSingularSegment, IsString, IsUtf8, IsWithin, Joined, KeepsParts, KeepsTrees, Kind, Literal, LogicalAnd, LogicalOr, LooksOn, MakesArguments, MakesSo, Moves, Operand, Operator, Parsed, Piece, Query, QueryKind, Segment, SegmentKind, Segments, Selector, Selectors, Signature, Slice, StartsWithChar, Stretched, SyntaxBuilder, a_basic, a_call, a_comparable, a_literal, a_selector, after_dot, all_scalars, alone, an_and, an_argument, and, and_at, and_from, and_list, and_pieces, are_at, argument, arguments_at, at_level, basic_at, basic_from, begins, begins_both, begins_call, begins_int, begins_operator, bound_at, bracket_at, byte_count, call, call_argument, call_at, called, calls_from, calls_in, calls_in_and, calls_in_argument, calls_in_arguments, calls_in_basic, calls_in_operand, calls_in_or, calls_in_piece, calls_in_segments, calls_in_selectors, chars, child, comparable_at, current, deeper, descendant, descendant_at, digit_char, digits_after_point_at, digits_at, dot_at, dot_name, dot_wildcard, dotted_at, encode_utf8_all, ended, ends_argument, equal, error_of, escape_at, escaped_by, exist, filter, fits, fraction_of, front, greater, greater_or_equal, greatest_amount, head, hex4_at, hex_escape, hexadecimal_at, hexadecimal_of, index, int_at, is_ascii, is_ascii_name_char, is_ascii_plain, is_at, is_blank, is_control, is_digit, is_exponent, is_first_digit, is_function_char, is_hexadecimal, is_high, is_inside, is_letter_escape, is_low, is_name_char, is_name_first, is_plain, is_result, is_small_letter, is_test, is_utf8, is_value_literal, is_whole, largest, left, less, less_or_equal, letter_escape, letter_value, limit_of, literal, literal_argument, literal_view, literal_word, literal_word_at, logical_argument, long_hand, low_at, name, name_at, name_of, named_at, names_of, negated_at, negated_call_at, negative, next_and_at, next_basic_at, next_segment_at, next_selector_at, no_and, no_arguments, no_or, no_segments, no_selectors, not_equal, not_exist, not_paren, not_test, null, number, number_amount, number_at, of_logical, of_nodes, of_value, opens, opens_after_root, opens_next, operand_at, operator_at, operator_view, or, or_at, or_from, or_list, or_pieces, pair_escape, pair_of, parameters_at, paren, paren_at, parts_in, past, past_blanks, past_word, piece_at, plain, position_at, query, query_argument, query_at, query_kind_view, quote_escape, refusal, refusal_at, relation, relation_at, right_side_at, root, segment, segment_at, segment_kind_view, segment_list, segment_piece, segment_pieces, segments_at, selector, selector_at, selector_list, selector_pieces, selectors_at, signatures, signatures_of, singular, slice, slice_at, step_at, string_at, takes_result, test, test_at, text, tree_of, truth, unicode_at, value_from, whole_at, wildcard, word, ◌>>=◌, ◌∈◌}
 pub use Rattle.serde_json_path_functions.specs.Terms.{kind_view, signature_view}
 pub use Rattle.serde_json_path_nodes.specs.Text.{escape_of, hexadecimal_escape, in_quotes, quoted}
 pub use Rattle.serde_json_path_parser.specs.Filters.{filter_at}

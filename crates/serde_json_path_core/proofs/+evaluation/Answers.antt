@@ -284,8 +284,7 @@ pub filter::query::first_from-find_next-requires : goal.filter::query::first_fro
 filter::query::first_from-find_next-requires g t c =
     let scope = c.args.scope.now in
     let frames = frames_view c.in_ok-frames.frames.items in
-    let inside : ∥ IsStackIn (top_of scope) frames ∥₁ =
-    ∣ entered-inside (top_of scope) (view c.args.value.now) (stages_at (nodes_of scope) c.args.segments.now) frames c.requires.inside c.in_ok-frames.ensures ∣₁ in
+    let inside : ∥ IsStackIn (top_of scope) frames ∥₁ = ∣ entered-inside _ (view c.args.value.now) _ _ c.requires.inside c.in_ok-frames.ensures ∣₁ in
     search rules
 
 pub filter::query::first_from-returns-in-Some-clause-means : goal.filter::query::first_from-returns-in-Some-clause-means

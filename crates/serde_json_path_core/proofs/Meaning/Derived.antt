@@ -1,5 +1,5 @@
 -- The computed ends are those of the derivations, and the computed tests hold where the defined ones do.
-use Rattle.std.proofs.Common.{◌≡◌, ℕ, zero, suc, ◌+◌, List, [], ◌∷◌, ◌++◌, map, ◌↔◌, inl, inr, Bool, true, false, ◌&&◌, if◌then◌else◌, Option, Some, None, option_and_then, option_to_list, refl, sym, ap, subst, ◌∙◌, arith, true≢false, append_assoc}
+use Rattle.std.proofs.Common.{◌≡◌, ℕ, zero, suc, ◌+◌, List, [], ◌∷◌, ◌++◌, map, ◌↔◌, inl, inr, Bool, true, false, ◌&&◌, Option, Some, None, option_and_then, option_to_list, refl, sym, ap, subst, ◌∙◌, true≢false, append_assoc}
 use Rattle.serde_json_path_core.proofs.Words.{Numbers, value, always, never, Decides, AllZip, Decides-and, Decides-or, Decides-not, same_from_decides, same_Some, none-some, Data, Step, by_name, child_at, at, Located, QueryKind, Query, query, SegmentKind, child, descendant, Segments, no_segments, segment, Segment, dot_name, dot_wildcard, long_hand, Selectors, no_selectors, selector, Selector, name, wildcard, index, slice, filter, LogicalOr, no_or, or, LogicalAnd, no_and, and, Basic, paren, not_paren, relation, exist, not_exist, test, not_test, Operator, Comparable, literal, singular, called, Call, call, Arguments, no_arguments, argument, Argument, literal_argument, query_argument, call_argument, logical_argument, Kind, of_value, of_nodes, of_logical, Term, nodes, logical, FunctionSet, Compared, Compares, literal_compared, value_compared, Triple, location_of, start_of, BelongsTo, Before, IsIn, MayDescend, Derives, AdmitsIn, AdmitsBy, Admits, Holds, HoldsAll, HoldsBasic, Exists, IsResult, IsComparedAs, Answers, AreArguments, IsArgument, AnswersYes, IsTruthOf, first_value, params_of, child_by, itself, children, results, selected, is_true, all_true, basic_true, compare_sides, compared, answer, arguments, argument_as, are_taken, is_answered, is_taken, answer_holds, answer_compared, is_nonempty, in_append, in_map, map_in, in_flat_map, in_keep, in_order-map}
 use Rattle.serde_json_path_core.proofs.Meaning.ChildSteps.{in_children, in_child_by, in_item_at}
 use Rattle.serde_json_path_core.proofs.Meaning.Comparisons.{Decides-compare}
@@ -151,13 +151,9 @@ module _ (F : FunctionSet) (top : Data) where
       back (x ∷ xs) (may, (w, there, admits, (c, leads, rest))) =
           let m : Located = record { location = x.descent; value = w } in
           let here : IsIn {A = Triple × Data} (x, c) (through F top kind seg v) =
-          (in_flat_map (λ (n : Located). picks F top seg n.location n.value) (x, c) (levels kind v)).1
-          (m, (in_levels kind v m).1 (may, there), (are_picks x.descent w (x, c)).1 (refl, admits, leads)) in
-          let later = (are_ends c).1 xs rest in (
-            later.0,
-            (in_flat_map (λ (u : Triple × Data). map (after u) (ends F top more u.1)) (x ∷ xs, later.0) (through F top kind seg v)).1
-                ((x, c), here, map_in (after (x, c)) (xs, later.0) (ends F top more c) later.1),
-          )
+          (in_flat_map _ (x, c) (levels kind v)).1 (m, (in_levels kind v m).1 (may, there), (are_picks x.descent w (x, c)).1 (refl, admits, leads)) in
+          let later = (are_ends c).1 xs rest in
+          (later.0, (in_flat_map _ (x ∷ xs, later.0) (through F top kind seg v)).1 ((x, c), here, map_in (after (x, c)) (xs, later.0) (ends F top more c) later.1))
 
   picks_by_step : (sel : Selector) (more : Selectors) → AreSelected sel → ArePicks (long_hand more) → ArePicks (long_hand (selector sel more))
   picks_by_step sel more are_selected are_picks down v t = (forth, λ h. back t.0.number refl h.0 h.1 h.2)
@@ -172,12 +168,10 @@ module _ (F : FunctionSet) (top : Data) where
 
       back : (m : ℕ) → t.0.number ≡ m → t.0.descent ≡ down → AdmitsBy F top (selector sel more) m v t.0.step → child_at v t.0.step ≡ Some t.1
           → IsIn t (picks_by F top (selector sel more) down v)
-      back zero e d a c =
-          (in_append t (map (triple_at down) (selected F top sel v)) (map later (picks_by F top more down v))).1
-          (inl ((in_triples down (selected F top sel v) t).1 (d, e, (are_selected v (t.0.step, t.1)).1 (a, c))))
+      back zero e d a c = (in_append t _ _).1 (inl ((in_triples down (selected F top sel v) t).1 (d, e, (are_selected v (t.0.step, t.1)).1 (a, c))))
       back (suc m) e d a c =
           let u : Triple × Data = (record { descent = t.0.descent; number = m; step = t.0.step }, t.1) in
-          (in_append t (map (triple_at down) (selected F top sel v)) (map later (picks_by F top more down v))).1
+          (in_append t _ _).1
           (inr ((in_map later t (picks_by F top more down v)).1 (u, (are_picks down v u).1 (d, a, c), λ i. (record { descent = t.0.descent; number = e i; step = t.0.step }, t.1))))
 
   dot_name_step : (k : List ℕ) → ArePicks (dot_name k)

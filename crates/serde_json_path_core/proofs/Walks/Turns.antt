@@ -130,8 +130,7 @@ module _ (F : FunctionSet) (top : Data) (all : List Stage) where
       let m = passed p in
       let q = entered (Some c.0) number (drop number all) c.1 in
       let turn = moved ps p m stage more number c d comes in
-      let place : stack_path [] ((ps ++ m ∷ []) ++ q ∷ []) ≡ stack_path [] (ps ++ p ∷ []) ++ c.0 ∷ [] =
-      rw (stack_path-last [] (ps ++ m ∷ []) q, stack_path-last [] ps m, stack_path-last [] ps p) refl in
+      let place : stack_path [] ((ps ++ m ∷ []) ++ q ∷ []) ≡ stack_path [] (ps ++ p ∷ []) ++ c.0 ∷ [] = rw (stack_path-last, stack_path-last, stack_path-last) refl in
       rw (passes-last ps p) (
         turn.0 ∙ gives (admitted F top) [] (λ n. n ∷ []) all (ps ++ m ∷ []) q ends ∙ ap (λ location. located location c.1 ∷ rest_of F top all (ps ++ m ∷ [])) place,
         (let less = turn.1 in let fewer = work-fewer all (ps ++ m ∷ []) q in omega arith),

@@ -1,5 +1,5 @@
 -- The nodes that remain of a walk, and how a frame moves on.
-use Rattle.std.specs.Prelude.{◌≡◌, ℕ, ◌+◌, ◌-◌, List, [], ◌∷◌, ◌++◌, length, map, take, drop, flat_map, keep, Option, Some, None, option_to_list, Bool, true, false, cond, ◌<◌, ◌≤◌, MatchOption}
+use Rattle.std.specs.Prelude.{◌≡◌, ℕ, ◌+◌, ◌-◌, List, [], ◌∷◌, ◌++◌, length, map, take, drop, flat_map, filter as keep, Option, Some, None, option_to_list, Bool, true, false, cond, ◌<◌, ◌≤◌, MatchOption}
 use Rattle.serde_json_path_core.specs.Imports.{Data, array, object, Step, by_name, child_at, Located, SegmentKind, child, descendant, Selector, name, wildcard, index, slice, filter, Stage, stages, FunctionSet, IsIn}
 use Rattle.serde_json_path_core.specs.PatternCalls.{StandsIn}
 use Rattle.serde_json_path_core.specs.Inside.Computed.{child_by, item_at, children, sliced, reached, placed, is_true}

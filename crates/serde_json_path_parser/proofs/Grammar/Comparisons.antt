@@ -1,5 +1,5 @@
 -- Operands, comparisons and tests, by what holds one level deeper.
-use Rattle.serde_json_path_parser.proofs.Words.{◌==◌, codes, bytes_eq, ℤ, and_parts, ReadSegments, is_digit, is_exponent, nat_le, ◌&&◌, bytes_eq-Decides, QueryKind, root, current, query, Call, Literal, text, number, truth, null, Segments, call, Signature, ExpectedExpression, is_at, begins, is_small_letter, is_function_char, IsFunctionName, IsQuote, AllPass, is_blank, is_name_char, IsNumber, opens, IsLiteral, Reads, ReadsCall, query_sign, Parsed, past_blanks, byte_count, string_at, segment_list, begins_int, opens_next, Operand, a_literal, a_call, Deeper, word, past_word, begins_call, literal_word_at, query_at, named_call_at, text_at, operand_at, ◌>>=◌, Basic, relation, exist, test, Comparable, literal, singular, called, Operator, equal, less, greater, result_kind, IsTestKind, Kind, of_value, of_nodes, of_logical, NonSingularQuery, WrongReturnType, ExpectedComparisonOperator, IsBlank, operator_sign, is_result, operator_at, comparable_at, test_at, right_side_at, relation_at, basic_from, ℕ, ◌<◌, ◌≡◌, inl, inr, true, false, List, [], ◌∷◌, ◌++◌, drop, Option, Ok, refl, sym, ap, ◌∙◌, append_assoc, Bool, arith, cond, Some, None, subst, LongHand, a_query, named_at, or_parts, begins_operator, query_singular}
+use Rattle.serde_json_path_parser.proofs.Words.{◌==◌, codes, bytes_eq, ℤ, and_parts, ReadSegments, is_digit, is_exponent, nat_le, ◌&&◌, bytes_eq-Decides, QueryKind, root, current, query, Call, Literal, text, number, truth, null, Segments, call, Signature, ExpectedExpression, is_at, begins, is_small_letter, is_function_char, IsFunctionName, IsQuote, AllPass, is_blank, is_name_char, IsNumber, opens, IsLiteral, Reads, ReadsCall, query_sign, Parsed, past_blanks, byte_count, string_at, segment_list, begins_int, Operand, a_literal, a_call, Deeper, word, past_word, begins_call, literal_word_at, query_at, named_call_at, text_at, operand_at, ◌>>=◌, Basic, relation, exist, test, Comparable, literal, singular, called, Operator, equal, less, greater, result_kind, IsTestKind, Kind, of_value, of_nodes, of_logical, NonSingularQuery, WrongReturnType, ExpectedComparisonOperator, IsBlank, operator_sign, is_result, operator_at, comparable_at, test_at, right_side_at, relation_at, basic_from, ℕ, ◌<◌, ◌≡◌, inl, inr, true, false, List, [], ◌∷◌, ◌++◌, drop, Option, Ok, refl, sym, ap, ◌∙◌, append_assoc, Bool, arith, cond, Some, None, subst, LongHand, a_query, named_at, or_parts, begins_operator, query_singular}
 use Rattle.serde_json_path_parser.proofs.Grammar.LogicalForms.{IsGoodQuery, IsGoodCall, DeeperLaws, ends_operand, IsCallText, IsOperandText, singular_query, ends_basic, IsBasicText, IsComparableText, begins_operand, operand_begins, as_expression, no_blank_begins}
 use Rattle.serde_json_path_parser.proofs.Grammar.Numbers.{number_outcome, goes_on, number_first, number_again}
 use Rattle.serde_json_path_parser.proofs.Reading.{whole, front_each, front_begins, some_begun, begins_front, begins_where, differs, begins_differs, front_all, past_run, no_blank, blanks_of, begins_not, Spaced, after_one, Read, after_two, made_spaced, read_spaced, guarded, along, choose, inner, past_spaced, remade, Outcome, past_text, read_as, refused, onward, gives, Inner}
@@ -73,9 +73,6 @@ blank_no_name c e = let small : c < 33 = grind (arith, e) in grind (arith, small
 ends_no_name : (c : ℕ) → ends_operand c ≡ true → is_name_char c ≡ false
 ends_no_name c e = let capital : (nat_le 65 c && nat_le c 90) ≡ false = grind (arith, e) in rw (ends_no_letter c e, ends_no_digit c e, capital) (grind (arith, e))
 
-no_segment : (rest : List ℕ) → Follows ends_operand rest → opens_next rest ≡ false
-no_segment rest follows = begins_where ends_operand opens false (past_blanks rest) (λ c e. grind (arith, e)) follows
-
 -- ---- literal words
 
 -- a word is not a call where no `(` follows
@@ -91,7 +88,8 @@ module _ (signature : List ℕ → Option Signature) (n : ℕ) (deeper : Deeper)
   pub query_again : (kind : QueryKind) (sign : ℕ) (a : List ℕ) (segs : Segments) (rest : List ℕ) → IsGoodQuery signature n (query kind segs) → ReadSegments segs a → Follows ends_operand rest
       → query_at signature deeper kind (sign ∷ (a ++ rest)) ≡ Ok (query kind segs, past_blanks rest)
   query_again kind sign a segs rest good reads follows =
-      let read = segments_again signature n deeper laws LongHand a segs rest (good, reads) (none_after is_name_char rest blank_no_name ends_no_name follows) (no_segment rest follows) in
+      let closed = begins_where ends_operand opens false (past_blanks rest) (λ c e. grind (arith, e)) follows in
+      let read = segments_again signature n deeper laws LongHand a segs rest (good, reads) (none_after is_name_char rest blank_no_name ends_no_name follows) closed in
       rw (read, same_segments segs) refl
 
   pub named_call_again : (t : List ℕ) (c : Call) (rest : List ℕ) → IsGoodCall signature n c → ReadsCall c t → (begins_call (t ++ rest) ≡ true) × (named_call_at signature deeper (t ++ rest) ≡ Ok (c, past_blanks rest))
@@ -186,9 +184,6 @@ no_operator (c ∷ cs) e =
 operator_ends : (op : Operator) (rest : List ℕ) → begins ends_operand (operator_sign op ++ rest) ≡ true
 operator_ends equal rest = refl
 operator_ends _ rest = refl
-
-operator_no_blank : (op : Operator) (rest : List ℕ) → begins is_blank (operator_sign op ++ rest) ≡ false
-operator_no_blank op rest = begins_where ends_operand is_blank false (operator_sign op ++ rest) (λ c e. no_blank ends_operand c refl refl refl refl e) (operator_ends op rest)
 
 -- ---- what begins and what ends
 
@@ -293,9 +288,10 @@ module _ (signature : List ℕ → Option Signature) (n : ℕ) (deeper : Deeper)
       let right_good : IsComparableText signature n b right = ((good.0.1, omega (arith, good.1)), is_right) in
       let o = as_operand right b right_good in
       let first = operand_begins (operand_of right) b rest o.1 in
-      let past : past_blanks (j ++ here) ≡ here = past_run is_blank j here before (operator_no_blank op (k ++ (b ++ rest))) in
+      let sign_ends = operator_ends op (k ++ (b ++ rest)) in
+      let past : past_blanks (j ++ here) ≡ here = past_run is_blank j here before (begins_where ends_operand is_blank false here (λ c e. no_blank ends_operand c refl refl refl refl e) sign_ends) in
       let left_read : operand_at signature deeper start ≡ Ok (operand_of left, here) =
-      operand_again signature n deeper laws a (operand_of left) (j ++ here) (as_operand left a left_good) (ap (begins ends_operand) past ∙ operator_ends op (k ++ (b ++ rest)))
+      operand_again signature n deeper laws a (operand_of left) (j ++ here) (as_operand left a left_good) (ap (begins ends_operand) past ∙ sign_ends)
       ∙ ap (λ (l : List ℕ). Ok (operand_of left, l)) past in
       let right_read = operand_again signature n deeper laws b (operand_of right) rest o (basic_ends_operand rest follows) in
       let found = operator_again op (k ++ (b ++ rest)) (no_equals k (b ++ rest) after first) in

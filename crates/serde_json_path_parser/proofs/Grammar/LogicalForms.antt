@@ -34,9 +34,6 @@ ends_operand c = c == 61 || c == 33 || c == 60 || c == 62 || ends_basic c
 -- ---- what is good, at a level where so many filters, parentheses and calls may stand within each other
 
 module _ (signature : List ℕ → Option Signature) (n : ℕ) where
-  abbrev pub IsGoodOr : LogicalOr → Type 0
-  IsGoodOr e = IsTypedOr signature e × (or_depth e ≤ n)
-
   -- in a filter or a parenthesis
   abbrev pub IsGoodInside : LogicalOr → Type 0
   IsGoodInside e = IsTypedOr signature e × (or_depth e + 1 ≤ n)
@@ -75,7 +72,7 @@ module _ (signature : List ℕ → Option Signature) (n : ℕ) where
   IsAndText t e = (IsTypedAnd signature e × (and_depth e ≤ n)) × ReadsAnd e t
 
   abbrev pub IsOrText : List ℕ → LogicalOr → Type 0
-  IsOrText t e = IsGoodOr signature n e × ReadsOr e t
+  IsOrText t e = (IsTypedOr signature e × (or_depth e ≤ n)) × ReadsOr e t
 
   abbrev pub IsSelectorText : List ℕ → Selector → Type 0
   IsSelectorText t sel = (IsTypedSelector signature sel × (selector_depth sel ≤ n)) × ReadsSelector sel t

@@ -158,15 +158,12 @@ module _ (signature : List ℕ → Option Signature) (n : ℕ) (deeper : Deeper)
   abbrev filters : List ℕ → Parsed Selector
   filters cs = filter_at signature deeper cs
 
-  abbrev IsText : List ℕ → Selector → Type 0
-  IsText t sel = IsSelectorText signature n t sel
-
-  quoted_outcome : (quote : ℕ) (cs : List ℕ) → IsQuote quote → begins (λ c. c == quote) cs ≡ true → Outcome (Spaced IsText) (Inner signature) cs (quoted_at quote (drop 1 cs))
+  quoted_outcome : (quote : ℕ) (cs : List ℕ) → IsQuote quote → begins (λ c. c == quote) cs ≡ true → Outcome (Spaced (IsSelectorText signature n)) (Inner signature) cs (quoted_at quote (drop 1 cs))
   unfolding quoted_at
   quoted_outcome quote cs is e =
       inner (along (after_one quote cs e) (made_spaced (λ bytes. name bytes) (λ t bytes h. ((tt, omega arith), h)) (string_outcome quote is (drop 1 cs))))
 
-  pub selector_outcome : (cs : List ℕ) → Outcome (Spaced IsText) (Inner signature) cs (selector_at filters cs)
+  pub selector_outcome : (cs : List ℕ) → Outcome (Spaced (IsSelectorText signature n)) (Inner signature) cs (selector_at filters cs)
   selector_outcome cs =
       choose (quoted_outcome 39 cs (inl refl)) (λ _.
       choose (quoted_outcome 34 cs (inr refl)) (λ _.
@@ -180,7 +177,7 @@ module _ (signature : List ℕ → Option Signature) (n : ℕ) (deeper : Deeper)
   unfolding quoted_at
   quoted_again quote cs bytes rest is e = of_quote (λ q. string_at q cs ≡ Ok (bytes, rest) → selector_at filters (q ∷ cs) ≡ Ok (name bytes, past_blanks rest)) (λ e. rw e refl) (λ e. rw e refl) quote is e
 
-  pub selector_again : (t : List ℕ) (sel : Selector) (rest : List ℕ) → IsText t sel → Follows ends_selector rest → selector_at filters (t ++ rest) ≡ Ok (sel, past_blanks rest)
+  pub selector_again : (t : List ℕ) (sel : Selector) (rest : List ℕ) → IsSelectorText signature n t sel → Follows ends_selector rest → selector_at filters (t ++ rest) ≡ Ok (sel, past_blanks rest)
   selector_again t (name bytes) rest h e =
       let s = string_again t bytes rest h.1 in
       rw s.3 (quoted_again s.0 (s.1 ++ rest) bytes rest s.2 s.4)
@@ -190,7 +187,7 @@ module _ (signature : List ℕ → Option Signature) (n : ℕ) (deeper : Deeper)
   selector_again t (filter f) rest (good, (k, a, blank, is, same)) e =
       ap (λ (l : List ℕ). selector_at filters (l ++ rest)) same ∙ ap (λ (l : List ℕ). filters (l ++ rest)) (sym same) ∙ filter_again signature n deeper laws t f rest (good, (k, a, blank, is, same)) e
 
-  begins_no_blank : (t : List ℕ) (sel : Selector) (rest : List ℕ) → IsText t sel → begins is_blank (t ++ rest) ≡ false
+  begins_no_blank : (t : List ℕ) (sel : Selector) (rest : List ℕ) → IsSelectorText signature n t sel → begins is_blank (t ++ rest) ≡ false
   begins_no_blank t (name bytes) rest h =
       let s = string_again t bytes rest h.1 in
       ap (λ (l : List ℕ). begins is_blank (l ++ rest)) s.3 ∙ of_quote (λ quote. is_blank quote ≡ false) refl refl s.0 s.2
@@ -201,7 +198,7 @@ module _ (signature : List ℕ → Option Signature) (n : ℕ) (deeper : Deeper)
 
   -- ---- the selectors of a bracket
 
-  selector_row : RowLaw signature 44 [] IsText (selector_at filters) ends_selectors
+  selector_row : RowLaw signature 44 [] (IsSelectorText signature n) (selector_at filters) ends_selectors
   selector_row = record { outcome = selector_outcome; again = selector_again; starts = begins_no_blank; sign_no_blank = refl; sign_no_end = refl }
 
   pub next_selector_takes : Takes (is_at ",") (next_selector_at filters)
@@ -210,7 +207,7 @@ module _ (signature : List ℕ → Option Signature) (n : ℕ) (deeper : Deeper)
   abbrev AreTyped : Selectors → Type 0
   AreTyped sels = AreTypedSelectors signature sels × (selectors_depth sels ≤ n)
 
-  more_selectors : (sels : List Selector) (t : List ℕ) → AreRows (codes ",") IsText t sels → AreTyped (selector_list sels) × ReadMoreSelectors (selector_list sels) t
+  more_selectors : (sels : List Selector) (t : List ℕ) → AreRows (codes ",") (IsSelectorText signature n) t sels → AreTyped (selector_list sels) × ReadMoreSelectors (selector_list sels) t
   more_selectors [] t h = ((tt, omega arith), h)
   more_selectors (sel ∷ sels) t (s, a, c, sign, is, rest, e) =
       let more = more_selectors sels c rest in
@@ -222,7 +219,7 @@ module _ (signature : List ℕ → Option Signature) (n : ℕ) (deeper : Deeper)
       let more = more_selectors sels c rows in
       (((is.0.0, more.0.0), omega (arith, is.0.1, more.0.1)), (t, c, is.1, more.1, refl))) (past_blanks cs) s first)
 
-  selector_rows : (sels : Selectors) (t : List ℕ) → AreTyped sels → ReadMoreSelectors sels t → (xs : List Selector) × (selector_list xs ≡ sels) × AreRows (codes ",") IsText t xs
+  selector_rows : (sels : Selectors) (t : List ℕ) → AreTyped sels → ReadMoreSelectors sels t → (xs : List Selector) × (selector_list xs ≡ sels) × AreRows (codes ",") (IsSelectorText signature n) t xs
   selector_rows no_selectors t good h = ([], refl, h)
   selector_rows (selector sel more) t good (s, a, c, sign, is, others, e) =
       let rest = selector_rows more c (good.0.1, omega (arith, good.1)) others in
@@ -260,7 +257,7 @@ module _ (signature : List ℕ → Option Signature) (n : ℕ) (deeper : Deeper)
   bracket_again (selector sel more) j t k rest before (a, c, is, others, e) after good =
       let closing = k ++ (93 ∷ rest) in
       let closed : past_blanks closing ≡ 93 ∷ rest = past_run is_blank k (93 ∷ rest) after refl in
-      let first : IsText a sel = ((good.0.0, omega (arith, good.1)), is) in
+      let first : IsSelectorText signature n a sel = ((good.0.0, omega (arith, good.1)), is) in
       let rows = selector_rows more c (good.0.1, omega (arith, good.1)) others in
       let begun : past_blanks (j ++ (t ++ closing)) ≡ t ++ closing =
       rw (e, append_assoc a c closing) (past_run is_blank j (a ++ (c ++ closing)) before (begins_no_blank a sel (c ++ closing) first)) in
@@ -270,18 +267,14 @@ module _ (signature : List ℕ → Option Signature) (n : ℕ) (deeper : Deeper)
   -- ---- segments that stand here
 
   module _ (here : Context) where
-    -- a good segment of that kind
-    abbrev IsSegment : SegmentKind → List ℕ → Segment → Type 0
-    IsSegment kind t seg = IsSegmentText signature n kind t seg
-
     -- ---- after the dots
 
-    dotted_outcome : (kind : SegmentKind) (at : Context) (cs : List ℕ) → Outcome (IsSegment kind) Plain (dots_before_name kind ++ cs) (dotted_at at cs)
+    dotted_outcome : (kind : SegmentKind) (at : Context) (cs : List ℕ) → Outcome (IsSegmentText signature n kind) Plain (dots_before_name kind ++ cs) (dotted_at at cs)
     dotted_outcome kind at cs =
         past_text (dots_before_name kind) refl
         (choose (λ e. gives (dot_wildcard, drop 1 cs) (record { text = 42 ∷ []; is_so = ((tt, omega arith), refl); split = after_one 42 cs e })) (λ _. made (λ n. dot_name n) (λ t n is. ((tt, omega arith), (t, is, refl))) (name_outcome at cs)))
 
-    descendant_outcome : (cs : List ℕ) → Outcome (IsSegment descendant) (Inner signature) (46 ∷ 46 ∷ cs) (descendant_at filters here cs)
+    descendant_outcome : (cs : List ℕ) → Outcome (IsSegmentText signature n descendant) (Inner signature) (46 ∷ 46 ∷ cs) (descendant_at filters here cs)
     descendant_outcome cs =
         choose (λ e. along (ap (λ (l : List ℕ). 46 ∷ 46 ∷ l) (after_one 91 cs e)) (bracket_outcome descendant (drop 1 cs))) (λ _. inner (dotted_outcome descendant here cs))
 
@@ -289,7 +282,7 @@ module _ (signature : List ℕ → Option Signature) (n : ℕ) (deeper : Deeper)
 
     -- a segment of its kind
     abbrev pub IsItem : List ℕ → (SegmentKind × Segment) → Type 0
-    IsItem t x = IsSegment x.0 t x.1
+    IsItem t x = IsSegmentText signature n x.0 t x.1
 
     dot_outcome : (cs : List ℕ) → Outcome IsItem (Inner signature) (46 ∷ cs) (dot_at filters here cs)
     dot_outcome cs =

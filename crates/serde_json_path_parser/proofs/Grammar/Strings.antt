@@ -1,12 +1,9 @@
 -- String literals: what is read is one, each is read, and where a refusal of one stands.
-use Rattle.serde_json_path_parser.proofs.Words.{cases_lt, nat_le, ◌==◌, not, encode_utf8, encode_utf8_all, eq-eqb, and_parts, eqb_tells, length-append, append-nil, ExpectedEndingQuote, BadEscape, ControlCharacter, ◌∈◌, AllPass, is_at, begins, hexadecimal_of, IsHex4, IsPiece, plain, quote_escape, letter_escape, hex_escape, pair_escape, IsQuote, IsString, Parsed, ◌>>=◌, refusal, many, byte_count, is_hexadecimal, hexadecimal_value, head, hexadecimal_at, hex4_at, is_high, is_low, low_at, unicode_at, is_letter_escape, letter_value, escape_at, is_control, piece_at, is_inside, string_at, is_ascii_plain, Stretched, encode_ascii, Failure, Fails, ◌≡◌, ℕ, ◌≤◌, ◌+◌, ◌*◌, ◌<◌, ◌⊎◌, inl, inr, Bool, true, false, cond, ◌&&◌, List, [], ◌∷◌, ◌++◌, length, drop, Some, Ok, Err, refl, sym, ap, subst, ◌∙◌, append_assoc, arith, LongHand, Memory, Refused, is_plain}
+use Rattle.serde_json_path_parser.proofs.Words.{cases_lt, nat_le, ◌==◌, not, encode_utf8, encode_utf8_all, eq-eqb, and_parts, eqb_tells, length-append, append-nil, ExpectedEndingQuote, BadEscape, ControlCharacter, ◌∈◌, AllPass, is_at, begins, hexadecimal_of, IsHex4, IsPiece, plain, quote_escape, letter_escape, hex_escape, pair_escape, IsQuote, IsString, Parsed, ◌>>=◌, refusal, many, byte_count, is_hexadecimal, head, hexadecimal_at, hex4_at, is_high, is_low, low_at, unicode_at, is_letter_escape, letter_value, escape_at, is_control, piece_at, is_inside, string_at, is_ascii_plain, Stretched, encode_ascii, Failure, Fails, ◌≡◌, ℕ, ◌≤◌, ◌+◌, ◌*◌, ◌<◌, ◌⊎◌, inl, inr, Bool, true, false, cond, ◌&&◌, List, [], ◌∷◌, ◌++◌, length, drop, Some, Ok, Err, refl, sym, ap, subst, ◌∙◌, append_assoc, arith, LongHand, Memory, Refused, is_plain}
 use Rattle.serde_json_path_parser.proofs.Texts.{ascii_that}
 use Rattle.serde_json_path_parser.proofs.Reading.{some_begun, after_one, Again, many_again, Plain, OutcomeIn, Outcome, gives, refused, choose, guarded, past_text, past_in, onward, after, after_in, made, many_outcome, Takes, many_end, many_err, many_more, with_front}
 
 -- ---- what a reading gives: hexadecimal digits
-
-hexadecimal_is : (c : ℕ) → is_hexadecimal c ≡ true → hexadecimal_of c ≡ Some (hexadecimal_value c)
-hexadecimal_is c e = grind (arith, e)
 
 first_is : (p : ℕ → Bool) (cs : List ℕ) → begins p cs ≡ true → (cs ≡ head cs ∷ drop 1 cs) × (p (head cs) ≡ true)
 first_is p [] e = absurd cc
@@ -18,7 +15,7 @@ IsHexDigit t n = (c : ℕ) × (t ≡ c ∷ []) × (hexadecimal_of c ≡ Some n)
 hexadecimal_outcome : (escape cs : List ℕ) → OutcomeIn IsHexDigit Plain escape cs (hexadecimal_at (byte_count escape) cs)
 hexadecimal_outcome escape cs = guarded BadEscape LongHand refl (λ e.
     let first = first_is is_hexadecimal cs e in
-    gives _ (record { text = head cs ∷ []; is_so = (head cs, refl, hexadecimal_is (head cs) first.1); split = first.0 }))
+    gives _ (record { text = head cs ∷ []; is_so = (head cs, refl, let digit = first.1 in grind (arith, digit)); split = first.0 }))
 
 hex4_outcome : (escape cs : List ℕ) → OutcomeIn IsHex4 Plain escape cs (hex4_at (byte_count escape) cs)
 hex4_outcome escape cs =

@@ -8,4 +8,4 @@ pub use Rattle.serde_json_path_parser.specs.Numbers.{amount_at, capped, digits_a
 pub use Rattle.serde_json_path_parser.specs.Operands.{Operand, a_call, a_literal, calls_in_operand, fits, is_result, is_test, is_value_literal, is_whole, takes_result}
 pub use Rattle.serde_json_path_parser.specs.Parsed.{Parsed, byte_count, front, past, past_blanks, refusal, refusal_at, ◌>>=◌}
 pub use Rattle.serde_json_path_parser.specs.Parsing.{after_dot, begins_int, bound_at, bracket_at, descendant_at, digits_at, dot_at, dotted_at, int_at, is_first_digit, name_at, negative, next_segment_at, next_selector_at, of_kind, opens_after_root, opens_next, position_at, quoted_at, segment_at, segment_list, segments_at, selector_at, selector_list, selectors_at, slice_at, step_at}
-pub use Rattle.serde_json_path_parser.specs.Strings.{escape_at, head, hex4_at, hexadecimal_at, hexadecimal_value, is_control, is_hexadecimal, is_high, is_inside, is_letter_escape, is_low, letter_value, low_at, piece_at, string_at, unicode_at}
+pub use Rattle.serde_json_path_parser.specs.Strings.{escape_at, head, hex4_at, hexadecimal_at, is_control, is_hexadecimal, is_high, is_inside, is_letter_escape, is_low, letter_value, low_at, piece_at, string_at, unicode_at}

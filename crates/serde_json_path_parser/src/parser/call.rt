@@ -1,9 +1,8 @@
 //! Calls of functions (RFC 9535, section 2.4).
 
 ghost use Rattle.std.specs.Prelude.{◌≡◌, ◌==◌, ◌<◌, ℕ, List, drop, length, map, true, string_bytes, Option, IfOk};
-ghost use Rattle.serde_json_path_parser.specs.Inside.Words.{KeepsParts, IsPart, an_argument, Signature, argument_at, logical_from, ended, MakesArgument, MakesArguments, MakesCall, IsArgumentOf, Gives, MovesTo, at_level, signatures, deeper, left, begins, no_arguments};
+ghost use Rattle.serde_json_path_parser.specs.Inside.Words.{KeepsParts, IsPart, an_argument, Signature, argument_at, logical_from, ended, MakesArgument, MakesArguments, MakesCall, IsArgumentOf, Gives, MovesTo, at_level, signatures, deeper, left, begins, no_arguments, parameters_at};
 ghost use Rattle.serde_json_path_functions.specs.Terms.{kind_view};
-ghost use Rattle.serde_json_path_parser.specs.Filters as filters;
 ghost use Rattle.serde_json_path_parser.specs.Operands as operands;
 ghost use Rattle.serde_json_path_syntax.specs.Tree as tree;
 
@@ -137,7 +136,7 @@ impl<F: Functions> Parser<'_, F> {
         ensures moves { MovesTo result reader.old reader.new }
         ensures gives { MakesArguments (signatures F.set self.now) builder.old builder.new
             parts.old.items parts.new.items result reader.new
-            (at_level F.set self.now filters.parameters_at place (map kind_view types.now)
+            (at_level F.set self.now parameters_at place (map kind_view types.now)
             (left reader.old)) }
     {
         if reader.sees(b')') {

@@ -1,9 +1,7 @@
 //! Logical expressions (RFC 9535, section 2.3.5.1).
 
 ghost use Rattle.std.specs.Prelude.{◌≡◌, ◌==◌, ◌<◌, drop, length, true, IfOk};
-ghost use Rattle.serde_json_path_parser.specs.Inside.Words.{calls_in_and, calls_in_basic, IsPart, an_or, an_and, a_basic, paren_at, negated_at, basic_at, and_from, and_at, or_from, or_at, Makes, MakesFrom, IsOperandOf, MovesTo, at_level, signatures, deeper, left, is_at, begins, calls_in_operand, byte_count, past_blanks};
-ghost use Rattle.serde_json_path_syntax.specs.Tree as tree;
-ghost use Rattle.serde_json_path_parser.specs.Filters as filters;
+ghost use Rattle.serde_json_path_parser.specs.Inside.Words.{calls_in_and, calls_in_basic, IsPart, an_or, an_and, a_basic, paren_at, negated_at, basic_at, and_from, and_at, or_from, or_at, Makes, MakesFrom, IsOperandOf, MovesTo, at_level, signatures, deeper, left, is_at, begins, calls_in_operand, byte_count, past_blanks, basic_from, LogicalAnd, Basic};
 ghost use Rattle.serde_json_path_parser.specs.Operands as operands;
 
 use crate::error::{Context, Failure, ParseErrorKind as Kind};
@@ -63,9 +61,9 @@ impl<F: Functions> Parser<'_, F> {
         reader: &mut Reader<'_, S>,
         first: Part,
     ) -> Result<Part, Failure>
-        requires { (a : tree.LogicalAnd) × IsPart builder.old first (an_and a) }
+        requires { (a : LogicalAnd) × IsPart builder.old first (an_and a) }
         ensures moves { MovesTo result reader.old reader.new }
-        ensures gives { (a : tree.LogicalAnd) → IsPart builder.old first (an_and a)
+        ensures gives { (a : LogicalAnd) → IsPart builder.old first (an_and a)
             → MakesFrom (signatures F.set self.now) (calls_in_and a) an_or
             builder.old builder.new result reader.new
             (at_level F.set self.now or_from a (left reader.old)) }
@@ -105,11 +103,11 @@ impl<F: Functions> Parser<'_, F> {
         reader: &mut Reader<'_, S>,
         first: Part,
     ) -> Result<Part, Failure>
-        requires { (b : tree.Basic) × IsPart builder.old first (a_basic b) }
+        requires { (b : Basic) × IsPart builder.old first (a_basic b) }
         ensures moves { MovesTo result reader.old reader.new }
         ensures made { IfOk result (λ part.
-            (a : tree.LogicalAnd) × IsPart builder.new part (an_and a)) }
-        ensures gives { (b : tree.Basic) → IsPart builder.old first (a_basic b)
+            (a : LogicalAnd) × IsPart builder.new part (an_and a)) }
+        ensures gives { (b : Basic) → IsPart builder.old first (a_basic b)
             → MakesFrom (signatures F.set self.now) (calls_in_basic b) an_and
             builder.old builder.new result reader.new
             (at_level F.set self.now and_from b (left reader.old)) }
@@ -164,12 +162,12 @@ impl<F: Functions> Parser<'_, F> {
             × IsOperandOf (signatures F.set self.now) builder.old operand x }
         ensures moves { MovesTo result reader.old reader.new }
         ensures made { IfOk result (λ part.
-            (b : tree.Basic) × IsPart builder.new part (a_basic b)) }
+            (b : Basic) × IsPart builder.new part (a_basic b)) }
         ensures gives { (x : operands.Operand)
             → IsOperandOf (signatures F.set self.now) builder.old operand x
             → MakesFrom (signatures F.set self.now) (calls_in_operand x) a_basic
             builder.old builder.new result reader.new
-            (at_level F.set self.now filters.basic_from place x (left reader.old)) }
+            (at_level F.set self.now basic_from place x (left reader.old)) }
     {
         let Some(operator) = parse_operator(reader) else {
             return self.as_test(builder, reader, place, operand);

@@ -23,8 +23,13 @@ fn finds_the_root_again(rt: HostRuntime) -> Result<(), Fail> {
 #[test]
 fn finds_an_item_again(rt: HostRuntime) -> Result<(), Fail> {
     let alloc = rt.alloc();
-    let document = Value::Array(vec![in alloc; Value::Null, Value::Bool(true)]?);
-    let location = NormalizedPath::from_steps(vec![in alloc; PathElement::Index(1)]?);
+    let mut items = Vec::new(alloc);
+    items.push(Value::Null)?;
+    items.push(Value::Bool(true))?;
+    let document = Value::Array(items);
+    let mut steps = Vec::new(alloc);
+    steps.push(PathElement::Index(1))?;
+    let location = NormalizedPath::from_steps(steps);
     let nodes = find_again(alloc, &location, &document, &Builtin)?;
     let mut table = Table::new(&rt);
     let row = ("[null,true]", "the second item", "$[1] ~ true");

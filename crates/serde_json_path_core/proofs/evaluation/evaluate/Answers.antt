@@ -1,5 +1,5 @@
 use Rattle.std.proofs.Common.{sym, ap, ◌∙◌}
-use Rattle.serde_json_path_core.proofs.Words.{view, start_of, segments_at, nodes_in, signatures_of, tree_of, results}
+use Rattle.serde_json_path_core.proofs.Words.{view, start_of, signatures_of, tree_of, results}
 use Rattle.serde_json_path_core.proofs.Meaning.Derived.{computed_result}
 use Rattle.serde_json_path_core.proofs.Sound.{sound-segments, whole-sound}
 use Rattle.serde_json_path_core.proofs.Walks.Chains.{root_stands}
@@ -10,7 +10,7 @@ pub all_from-requires-clause-sound : goal.all_from-requires-clause-sound
 all_from-requires-clause-sound g c =
     let F = g.F.Functions.set c.args.functions in
     let q = c.args.query.now in
-    sound-segments F (tree_of q) (tree_of q) (segments_at (nodes_in q) c.segments.result.now) c.segments.ensures.tree (whole-sound F (signatures_of q) (tree_of q) ∣ c.requires ∣₁ q.typed)
+    sound-segments F (tree_of q) _ _ c.segments.ensures.tree (whole-sound F (signatures_of q) (tree_of q) ∣ c.requires ∣₁ q.typed)
 
 pub all_from-requires-clause-inside : goal.all_from-requires-clause-inside
 all_from-requires-clause-inside g c = root_stands (view c.args.document.now)
@@ -19,7 +19,6 @@ pub returns-clause-selects : goal.returns-clause-selects
 returns-clause-selects g c =
     let F = g.F.Functions.set c.args.functions in
     let q = c.args.query.now in
-    let tree = tree_of q in
     let top = view c.args.document.now in
-    let values = values-query F top tree top top (segments_at (nodes_in q) c.segments.result.now) c.segments.ensures.tree (sym (ap (λ kind. start_of kind top top) q.rooted)) in
-    (results F top tree top, computed_result F top tree top, c.from.ensures ∙ c.in_ok-found.ensures.means ∙ sym values)
+    let values = values-query F top (tree_of q) top top _ c.segments.ensures.tree (sym (ap (λ kind. start_of kind top top) q.rooted)) in
+    (results F top (tree_of q) top, computed_result F top (tree_of q) top, c.from.ensures ∙ c.in_ok-found.ensures.means ∙ sym values)

@@ -1,5 +1,5 @@
 use Rattle.std.proofs.Common.{sym, subst, ap, ◌∙◌}
-use Rattle.serde_json_path_core.proofs.Words.{view, start_of, segments_at, nodes_in, signatures_of, tree_of, frames_view, rest_of, stages, stages_at, IsResult}
+use Rattle.serde_json_path_core.proofs.Words.{view, start_of, nodes_in, signatures_of, tree_of, frames_view, rest_of, stages, stages_at, IsResult}
 use Rattle.serde_json_path_core.proofs.Walks.Chains.{stack-started}
 use Rattle.serde_json_path_core.proofs.Meaning.Derived.{computed_result}
 use Rattle.serde_json_path_core.proofs.Sound.{sound-segments, whole-sound}
@@ -16,8 +16,7 @@ returns-clause-selects g c =
     let tree = tree_of q in
     let top = view c.args.document.now in
     let frames = frames_view c.in_ok-frames.frames.items in
-    let begun = begun-results F top tree top top (segments_at (nodes_in q) c.segments.result.now) frames c.segments.ensures.tree
-    (sym (ap (λ kind. start_of kind top top) q.rooted)) c.in_ok-frames.ensures in
+    let begun = begun-results F top tree top top _ frames c.segments.ensures.tree (sym (ap (λ kind. start_of kind top top) q.rooted)) c.in_ok-frames.ensures in
     subst (IsResult F top tree top) (sym begun ∙ ap (λ segs. rest_of F top (stages segs) frames) c.segments.ensures.tree)
     (computed_result F top tree top)
 
@@ -25,5 +24,4 @@ pub started-requires-clause-typed : goal.started-requires-clause-typed
 started-requires-clause-typed g c =
     let F = g.F.Functions.set c.args.functions in
     let q = c.args.query.now in
-    let whole = whole-sound F (signatures_of q) (tree_of q) ∣ c.requires ∣₁ q.typed in
-    (F.signature, (sound-segments F (tree_of q) (tree_of q) (segments_at (nodes_in q) c.segments.result.now) c.segments.ensures.tree whole).0)
+    (F.signature, (sound-segments F (tree_of q) _ _ c.segments.ensures.tree (whole-sound F (signatures_of q) (tree_of q) ∣ c.requires ∣₁ q.typed)).0)

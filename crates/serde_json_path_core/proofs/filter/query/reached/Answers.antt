@@ -1,5 +1,5 @@
 use Rattle.std.proofs.Common.{ap, ◌∙◌, arith, subst, sym}
-use Rattle.serde_json_path_core.proofs.Words.{view, part_query, pieces, segments_at, StandsIn, start_of, nodes_of, top_of, query_of, set_of}
+use Rattle.serde_json_path_core.proofs.Words.{view, pieces, StandsIn, start_of, nodes_of, top_of, query_of, set_of}
 use Rattle.serde_json_path_syntax.specs.Flat.{kind_view}
 use Rattle.serde_json_path_core.proofs.Sound.{bound-ends, sound-ends, sound-segments}
 use Rattle.serde_json_path_core.proofs.Walks.Chains.{start_stands}
@@ -9,19 +9,15 @@ use Rattle.serde_json_path_core.proofs.filter.query.reached.Goals as goal
 pub go_down-requires-clause-typed : goal.go_down-requires-clause-typed
 go_down-requires-clause-typed g c =
     let scope = c.args.scope.now in
-    let nodes = nodes_of scope in
-    let sound = sound-segments (set_of scope) (query_of scope) (part_query nodes c.args.query) (segments_at nodes c.part_segments.result.now) c.part_segments.ensures.tree c.requires.sound in
-    ((set_of scope).signature, sound.0)
+    ((set_of scope).signature, (sound-segments (set_of scope) (query_of scope) _ _ c.part_segments.ensures.tree c.requires.sound).0)
 
 pub returns-clause-selects : goal.returns-clause-selects
 returns-clause-selects g c =
-    let scope = c.args.scope.now in
-    let nodes = nodes_of scope in
-    let top = top_of scope in
+    let top = top_of c.args.scope.now in
     let here = view c.args.current.now in
-    values-query (set_of scope) top (part_query nodes c.args.query) here (view c.start-start.result.now) (segments_at nodes c.part_segments.result.now) c.part_segments.ensures.tree
+    values-query (set_of c.args.scope.now) top _ here (view c.start-start.result.now) _ c.part_segments.ensures.tree
     (c.start-start.ensures ∙ ap (λ kind. start_of kind top here) c.part_kind.ensures)
-    ∙ c.go_down.ensures.selects (set_of scope) top
+    ∙ c.go_down.ensures.selects (set_of c.args.scope.now) top
 
 pub returns-clause-below : goal.returns-clause-below
 returns-clause-below g c =
@@ -32,9 +28,8 @@ returns-clause-below g c =
 pub returns-clause-sound : goal.returns-clause-sound
 returns-clause-sound g c =
     let scope = c.args.scope.now in
-    let nodes = nodes_of scope in
-    sound-ends (set_of scope) (query_of scope) (pieces nodes) c.part_segments.result.now c.go_down.result.segments.now c.go_down.ensures.ends
-    (sound-segments (set_of scope) (query_of scope) (part_query nodes c.args.query) (segments_at nodes c.part_segments.result.now) c.part_segments.ensures.tree c.requires.sound)
+    sound-ends (set_of scope) (query_of scope) (pieces (nodes_of scope)) c.part_segments.result.now c.go_down.result.segments.now c.go_down.ensures.ends
+    (sound-segments (set_of scope) (query_of scope) _ _ c.part_segments.ensures.tree c.requires.sound)
 
 pub returns-clause-inside : goal.returns-clause-inside
 returns-clause-inside g c =

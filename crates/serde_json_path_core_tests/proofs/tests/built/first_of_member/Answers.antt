@@ -1,34 +1,27 @@
 use Rattle.std.proofs.Common.{refl, ◌∙◌, pos, arith, string_bytes}
+use Rattle.std.proofs.lemmas.Grind.{common_steps}
 use Rattle.serde_json_path_syntax.specs.Tree as tree
 use Rattle.serde_json_path_syntax.specs.Piece.{a_segment}
 use Rattle.serde_json_path_syntax.specs.Parts.{calls_in}
-use Rattle.serde_json_path_core_tests.proofs.Trees.{one_selector, two_segments, finished_without_calls}
+use Rattle.serde_json_path_core_tests.proofs.Trees.{finished_without_calls}
 use Rattle.serde_json_path_core_tests.proofs.tests.built.first_of_member.Goals as goal
 
 pub long_hand-requires : goal.long_hand-requires
-long_hand-requires c =
-    (tree.selector (tree.index (pos 0)) tree.no_selectors, one_selector c.index.new.self _ c.in_ok-index.index (tree.index (pos 0)) (c.from-selectors.ensures ∙ c.in_ok-vec.ensures.items) c.in_ok-index.ensures.made)
+long_hand-requires c = (tree.selector (tree.index (pos 0)) tree.no_selectors, grind (arith, common_steps))
 
 pub query-requires : goal.query-requires
 query-requires c =
     let member = tree.dot_name (string_bytes c.in_ok-from_str.field-0) in
     let sels = tree.selector (tree.index (pos 0)) tree.no_selectors in
-    let selectors = one_selector c.index.new.self _ c.in_ok-index.index (tree.index (pos 0)) (c.from-selectors.ensures ∙ c.in_ok-vec.ensures.items) c.in_ok-index.ensures.made in
-    let bracket = c.in_ok-bracket.ensures.made sels selectors in
-    let named = c.long_hand.ensures.keeps.trees c.in_ok-member.member (a_segment tree.child member) (c.index.ensures.keeps.trees c.in_ok-member.member (a_segment tree.child member) c.in_ok-member.ensures.made) in (
-      tree.segment tree.child member (tree.segment tree.child (tree.long_hand sels) tree.no_segments),
-      two_segments c.long_hand.new.self _ c.in_ok-member.member c.in_ok-bracket.bracket tree.child member (tree.long_hand sels) (c.from-segments.ensures ∙ c.in_ok-vec-2.ensures.items) named bracket,
-    )
+    let kept = c.long_hand.ensures.keeps.trees c.in_ok-member.member (a_segment tree.child member) in
+    (tree.segment tree.child member (tree.segment tree.child (tree.long_hand sels) tree.no_segments), grind (arith, common_steps, kept, c.index.ensures.keeps.trees c.in_ok-member.member (a_segment tree.child member), c.in_ok-bracket.ensures.made sels))
 
 pub finish-requires : goal.finish-requires
 finish-requires c =
     let member = tree.dot_name (string_bytes c.in_ok-from_str.field-0) in
     let sels = tree.selector (tree.index (pos 0)) tree.no_selectors in
-    let selectors = one_selector c.index.new.self _ c.in_ok-index.index (tree.index (pos 0)) (c.from-selectors.ensures ∙ c.in_ok-vec.ensures.items) c.in_ok-index.ensures.made in
-    let bracket = c.in_ok-bracket.ensures.made sels selectors in
-    let named = c.long_hand.ensures.keeps.trees c.in_ok-member.member (a_segment tree.child member) (c.index.ensures.keeps.trees c.in_ok-member.member (a_segment tree.child member) c.in_ok-member.ensures.made) in
     let segs = tree.segment tree.child member (tree.segment tree.child (tree.long_hand sels) tree.no_segments) in (
       tree.query tree.root segs,
-      c.in_ok-query.ensures.made segs (two_segments c.long_hand.new.self _ c.in_ok-member.member c.in_ok-bracket.bracket tree.child member (tree.long_hand sels) (c.from-segments.ensures ∙ c.in_ok-vec-2.ensures.items) named bracket),
+      grind (arith, common_steps, c.in_ok-query.ensures.made segs, c.long_hand.ensures.keeps.trees c.in_ok-member.member (a_segment tree.child member), c.index.ensures.keeps.trees c.in_ok-member.member (a_segment tree.child member), c.in_ok-bracket.ensures.made sels),
       finished_without_calls (calls_in c.query.new.self) segs (c.query.ensures.keeps.calls ∙ c.long_hand.ensures.keeps.calls ∙ c.index.ensures.keeps.calls ∙ c.dot_name.ensures.keeps.calls ∙ c.new-builder.ensures.silent) (λ s. (tt, ((tt, tt), tt))) refl (omega arith),
     )

@@ -1,10 +1,10 @@
+use Rattle.std.proofs.Common.{arith}
+use Rattle.std.proofs.lemmas.Grind.{common_steps}
 use Rattle.serde_json_path_syntax.specs.Tree as tree
-use Rattle.serde_json_path_core_tests.proofs.Trees.{no_segments}
 use Rattle.serde_json_path_core_tests.proofs.tests.built.tells_a_singular_query.Goals as goal
 
 pub query-requires : goal.query-requires
-query-requires g c = (tree.no_segments, no_segments c.new-builder.result _ c.new.ensures.items)
+query-requires g c = (tree.no_segments, grind (arith, common_steps))
 
 pub is_singular-requires : goal.is_singular-requires
-is_singular-requires g c =
-    (tree.query tree.root tree.no_segments, c.in_ok-query.ensures.made tree.no_segments (no_segments c.new-builder.result _ c.new.ensures.items))
+is_singular-requires g c = (tree.query tree.root tree.no_segments, grind (arith, common_steps, c.in_ok-query.ensures.made tree.no_segments))

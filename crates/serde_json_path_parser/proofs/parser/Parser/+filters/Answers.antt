@@ -138,13 +138,9 @@ parse_basic_from-returns-clause-gives g t c = λ x is.
 
 pub parse_bracket-returns-clause-gives : goal.parse_bracket-returns-clause-gives
 parse_bracket-returns-clause-gives g t c =
-    let kind = segment_kind_view c.args.kind in
-    let read = c.in_ok-selectors.ensures.gives in (
-      (kind, tree.long_hand (selector_list read.0)),
-      c.in_ok-long_hand.ensures.made (selector_list read.0) read.1,
-      grind (arith, common_steps),
-      grows_kept read.3 c.long_hand.ensures.keeps,
-    )
+    let read = c.in_ok-selectors.ensures.gives in
+    let sels = selector_list read.0 in
+    ((segment_kind_view c.args.kind, tree.long_hand sels), c.in_ok-long_hand.ensures.made sels read.1, grind (arith, common_steps), grows_kept read.3 c.long_hand.ensures.keeps)
 
 pub parse_call-returns-in_default-clause-gives : goal.parse_call-returns-in_default-clause-gives
 parse_call-returns-in_default-clause-gives g t c =
@@ -292,13 +288,9 @@ parse_or_from-returns-clause-gives g t c = λ x is.
 
 pub parse_query-returns-clause-gives : goal.parse_query-returns-clause-gives
 parse_query-returns-clause-gives g t c =
-    let kind = query_kind_view c.args.kind in
-    let read = c.in_ok-parts.ensures.gives in (
-      tree.query kind (segment_list read.0),
-      c.in_ok-query.ensures.made (segment_list read.0) read.2,
-      grind (arith, common_steps),
-      grows_kept read.6 c.query.ensures.keeps,
-    )
+    let read = c.in_ok-parts.ensures.gives in
+    let segs = segment_list read.0 in
+    (tree.query (query_kind_view c.args.kind) segs, c.in_ok-query.ensures.made segs read.2, grind (arith, common_steps), grows_kept read.6 c.query.ensures.keeps)
 
 pub parse_segments-segments-init : goal.parse_segments-segments-init
 parse_segments-segments-init g t c = record {

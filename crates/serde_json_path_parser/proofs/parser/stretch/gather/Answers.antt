@@ -7,17 +7,16 @@ loop-at-preserved g c =
     let text = (g.S.PathSource.told c.loop-at.source).text in
     let at = c.loop-at.at in
     let kept = c.loop-at.invariant in
-    let below : c.loop-at.at < length text =
-    let w = c.requires.within in let t = c.loop-at-test.true in let same = ap length c.loop-at.invariant.looks.same_text in omega (arith, w, t, same) in
+    let below : c.loop-at.at < length text = omega (arith, c.requires.within, c.loop-at-test.true, ap length kept.looks.same_text) in
     let is : slice_get text at ≡ Some c.byte-next.result = slice_get-get_or text at 0 below ∙ ap Some (sym c.byte-next.ensures.value) in
     let fits = sym c.holds.ensures ∙ c.if-not-holds.false in
-    let one : (c.loop-at.at - (c.args.index + 1)) + 1 ≡ (c.loop-at.at + 1) - (c.args.index + 1) = let some = c.loop-at.invariant.some in omega (arith, some) in
+    let one : (c.loop-at.at - (c.args.index + 1)) + 1 ≡ (c.loop-at.at + 1) - (c.args.index + 1) = omega (arith, kept.some) in
     record {
-      some = let some = c.loop-at.invariant.some in omega (arith, some);
-      most = let t = c.loop-at-test.true in omega (arith, t);
+      some = omega (arith, kept.some);
+      most = omega (arith, c.loop-at-test.true);
       long = length-set c.loop-at.part (c.loop-at.at - c.args.index) c.byte-next.result ∙ kept.long;
       gathered = subst (λ (t : List ℕ). Gathered (g.C.Class.holds c.args.class.now) t c.args.index (c.loop-at.at + 1) (set c.loop-at.part (c.loop-at.at - c.args.index) c.byte-next.result)) (sym (ap (λ (t : Told). t.text) c.byte-next.ensures.look))
-          (more_gathered (g.C.Class.holds c.args.class.now) text c.args.index at c.byte-next.result c.loop-at.part (c.requires.ascii c.byte-next.result fits) (let some = c.loop-at.invariant.some in omega (arith, some))
-          (let some = c.loop-at.invariant.some in let t = c.loop-at-test.true in let m = c.requires.most in let l = c.loop-at.invariant.long in omega (arith, some, t, m, l)) is fits kept.gathered);
+          (more_gathered (g.C.Class.holds c.args.class.now) text c.args.index at c.byte-next.result c.loop-at.part (c.requires.ascii c.byte-next.result fits) (omega (arith, kept.some))
+          (omega (arith, kept.some, c.loop-at-test.true, c.requires.most, kept.long)) is fits kept.gathered);
       looks = rw (sym one) (looked_on _ _ _ (c.loop-at.at - (c.args.index + 1)) at at kept.looks c.byte-next.ensures.look (omega arith));
     }

@@ -9,8 +9,8 @@ use Rattle.serde_json_path_core.proofs.evaluation.walks.Walk.next_into.Goals as 
 pub find_next-requires : goal.find_next-requires
 find_next-requires g c =
     let w = c.args.self.now in
-    let sound = sound-segments (set_of w) (query_of w) (query_of w) (segments_at (nodes_in w.scope.query.now) c.segments-segments.result.now) c.segments-segments.ensures.tree
-    (whole-sound (set_of w) (signatures_of w.scope.query.now) (query_of w) w.scope.fits w.scope.query.now.typed) in
+    let whole = whole-sound (set_of w) (signatures_of w.scope.query.now) (query_of w) w.scope.fits w.scope.query.now.typed in
+    let sound = sound-segments (set_of w) (query_of w) (query_of w) (segments_at (nodes_in w.scope.query.now) c.segments-segments.result.now) c.segments-segments.ensures.tree whole in
     let inside : ∥ IsStackIn (document_of w) (frames_view w.frames.items) ∥₁ = ∥∥₁_map w.stack (λ h. (document_of w, root_stands (document_of w), h)) in
     search rules
 
