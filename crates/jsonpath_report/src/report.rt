@@ -76,6 +76,7 @@ fn push_printed(alloc: Global, text: &mut String, value: &Value) -> Result<(), A
     ensures { OnOk result
         (EndsLine (view value.now) (string_bytes text.old) (string_bytes text.new)) }
 {
+    // `serde_json` states what `to_string` gives, and nothing of its Display.
     let json = value.to_string(alloc)?;
     text.push_str(json.as_str())?;
     text.push('\n')

@@ -69,7 +69,7 @@ fn tell_path<E: Write>(alloc: Global, e: &ParseError, err: &mut E)
     };
 }
 
-/// The line of a refused document.
+/// The line of a refused document, which takes no memory, unlike its Display.
 fn document_line(e: &DocumentError) -> &'static str
     ensures { result.now ≡ line_of (ReportError.Document e.now) }
 {
@@ -79,7 +79,7 @@ fn document_line(e: &DocumentError) -> &'static str
     }
 }
 
-/// The line of a refused query.
+/// The line of a refused query, which takes no memory, unlike its Display.
 fn query_line(e: &QueryError) -> &'static str
     ensures { result.now ≡ line_of (ReportError.Query e.now) }
 {

@@ -31,8 +31,8 @@
 //! # Limits
 //!
 //! Filters, parentheses and calls may be nested 128 deep. Indexes go up to 2^53 - 1. Number literals have at most nine digits
-//! of a fraction and no exponent. Everything is computed in whole numbers: a number of a document that is not held as an
-//! integer equals nothing and is not ordered.
+//! of a fraction and no exponent. A number of a document that is not held as an integer equals nothing and is not ordered,
+//! unless the function set says otherwise, as [`functions::AllNumbers`] does.
 //!
 //! # Untrusted input
 //!

@@ -15,7 +15,7 @@ use serde_json::Value;
 use serde_json_path_core::functions::{Both, Builtin, CachedPatterns, Functions, PatternStore};
 use serde_json_path_core::{Checked, QueryError, Walk, evaluate, evaluate_located, walk};
 use serde_json_path_nodes::{LocatedNodeList, NodeList};
-use serde_json_path_parser::{ParseError, TextSource, parse};
+use serde_json_path_parser::{ParseError, TextSource};
 use std::alloc::{AllocError, Global};
 
 /// A JSONPath (RFC 9535).
@@ -59,9 +59,7 @@ impl JsonPath {
         ensures reported { ReportsFirst path_view builtin_functions.signature path_str.now result }
         ensures fits { IfOk result (λ path. Fits builtin_functions (path_signatures path)) }
     {
-        let mut source = TextSource::new(path_str);
-        let checked = parse(alloc, &mut source, &Builtin)?;
-        Ok(JsonPath { checked })
+        JsonPath::parse_with(alloc, path_str, &Builtin)
     }
 
     /// Parses a path, as `parse` does. This is not `std::str::FromStr`, because it takes an allocator.

@@ -20,7 +20,7 @@ ghost use Rattle.serde_json_path_core.specs.Walks.{rest, query_of, set_of, docum
 ghost use Rattle.serde_json_path_syntax.specs.Parts.{signatures_of, tree_of};
 ghost use Rattle.serde_json_path_functions.specs.declared.error.QueryError.TheVariants.{Memory};
 
-use crate::evaluation::frame::started;
+use crate::evaluation::frame::first_frames;
 use crate::evaluation::scope::Scope;
 use crate::evaluation::walks::Walk;
 use crate::filter::query::all_from;
@@ -67,7 +67,7 @@ pub fn walk<'q, 'b, F: Functions + Drop>(
     ensures document { IfOk result (λ walk. document_of walk ≡ view document.now) }
     ensures refused { IfErr result (λ e. e ≡ Memory) }
 {
-    let frames = started(alloc, query, query.segments(), document)?;
+    let frames = first_frames(alloc, query, query.segments(), document)?;
     let scope = Scope {
         alloc,
         query,

@@ -1,5 +1,5 @@
 -- Steps of the code: rows of items that a loop reads, how the builder grows by them, arguments, and what stands in filters.
-use Rattle.serde_json_path_parser.proofs.Words.{◌↔◌, append-nil, map-append, name_of, names_of, calls_in_segments, calls_from, calls_in_arguments, KeepsParts, KeepsTrees, calls_in, AreDeclared, MayFinish, deepest, names_in, IsTyped, depth, Part, query, root, Segments, Call, call, Arguments, SyntaxBuilder, Signature, Grows, Parsed, Failure, Reader, Ghosts, SegmentKind, Segment, ArePartsOf, segment_list, length-append, Piece, IsPart, ArePartsFor, parts_for_kept, Fails, GrowsFrom, ◌>>=◌, many, Selector, LogicalOr, LogicalAnd, Basic, Deeper, a_selector, an_and, a_basic, segment_piece, segment_pieces, selector_pieces, or_pieces, and_pieces, calls_in_selectors, calls_in_or, calls_in_and, selector_list, or_list, and_list, past_blanks, is_at, are_at, begins, opens, opens_next, level, segment_at, selector_at, and_at, basic_at, no_arguments, argument, Argument, Kind, ExpectedClosingParenthesis, calls_in_argument, an_argument, Gives, MakesArguments, refusal, ends_argument, argument_at, arguments_at, nat_tests, Literal, ExpectedExpression, Operand, a_literal, word, past_word, literal_word_at, literal_word, of_value, kind_view, is_result, ◌==◌, filter, byte_count, or_at, call_at, IsTrue, calls_in_operand, alone, is_singular, is_whole, is_value_literal, number, IsValueLiteral, Query, IsSingular, cases_Bool, not_test, result_kind, WrongReturnType, begins_call, named_call_at, named_at, negated_at, a_call, cond, ◌||◌, ◌≡◌, ◌≤◌, ℕ, List, [], ◌∷◌, ◌++◌, inl, inr, Some, Option, Result, Ok, Err, refl, sym, ap, subst, ◌∙◌, append_assoc, ◌<◌, Bool, true, false, length, arith, drop, None, zero, suc, ◌-◌, Memory, Refused, Context, filter_at, LongHand, MakesSo, IsOperandOf, calls_in_piece, same_from_decides, query_singular}
+use Rattle.serde_json_path_parser.proofs.Words.{◌↔◌, append-nil, map-append, name_of, names_of, calls_in_segments, calls_from, calls_in_arguments, KeepsParts, KeepsTrees, calls_in, AreDeclared, MayFinish, deepest, names_in, IsTyped, depth, Part, query, root, Segments, Call, call, Arguments, SyntaxBuilder, Signature, Grows, Parsed, Failure, Reader, Ghosts, SegmentKind, Segment, ArePartsOf, segment_list, length-append, Piece, IsPart, ArePartsFor, parts_for_kept, Fails, GrowsFrom, ◌>>=◌, many, Selector, LogicalOr, LogicalAnd, Basic, Deeper, a_selector, an_and, a_basic, segment_piece, segment_pieces, selector_pieces, or_pieces, and_pieces, calls_in_selectors, calls_in_or, calls_in_and, selector_list, or_list, and_list, past_blanks, is_at, is_small_letter, are_at, begins, opens, opens_next, level, segment_at, selector_at, and_at, basic_at, no_arguments, argument, Argument, Kind, ExpectedClosingParenthesis, calls_in_argument, an_argument, Gives, MakesArguments, refusal, ends_argument, argument_at, arguments_at, nat_tests, Literal, ExpectedExpression, Operand, a_literal, word, past_word, literal_word_at, literal_word, of_value, kind_view, is_result, ◌==◌, filter, byte_count, or_at, call_at, IsTrue, calls_in_operand, alone, is_singular, is_whole, is_value_literal, number, IsValueLiteral, Query, IsSingular, cases_Bool, not_test, result_kind, WrongReturnType, begins_call, named_call_at, named_at, negated_at, a_call, cond, ◌≡◌, ◌≤◌, ℕ, List, [], ◌∷◌, ◌++◌, inl, inr, Some, Option, Result, Ok, Err, refl, sym, ap, subst, ◌∙◌, append_assoc, ◌<◌, Bool, true, false, length, arith, drop, None, zero, suc, ◌-◌, Memory, Refused, Context, filter_at, LongHand, MakesSo, IsOperandOf, calls_in_piece, same_from_decides, query_singular}
 use Rattle.serde_json_path_syntax.proofs.Names.Finishing.{may_finish}
 use Rattle.serde_json_path_syntax.proofs.Lists.{in_append}
 use Rattle.serde_json_path_parser.proofs.Grammar.Calls.{level_laws, amount_whole, whole_amount}
@@ -375,8 +375,8 @@ module _ (signature : List ℕ → Option Signature) (cs : List ℕ) where
   no_call builder (the_operands.Call part kind) x rest other h = absurd (other part kind refl)
 
   module _ (deeper : Deeper) where
-    pub negated_named : is_at "(" cs ≡ false → is_at "@" cs ≡ false → is_at "$" cs ≡ false → negated_at signature deeper cs ≡ (named_at signature deeper cs >>= λ o. negated o.0 o.1)
-    negated_named no_parenthesis no_current no_root = rw (no_parenthesis, no_current, no_root) (elim (cases_Bool (begins_call cs)) [
+    pub negated_named : begins is_small_letter cs ≡ true → negated_at signature deeper cs ≡ (named_at signature deeper cs >>= λ o. negated o.0 o.1)
+    negated_named letter = rw (begins_differs is_small_letter 40 cs refl letter, begins_differs is_small_letter 64 cs refl letter, begins_differs is_small_letter 36 cs refl letter) (elim (cases_Bool (begins_call cs)) [
       | inl e ↦ rw e (by_call (named_call_at signature deeper cs))
       | inr e ↦ rw (e, literal_word_reads cs) (by_word (literal_word (word cs)))
     ])

@@ -1,5 +1,5 @@
 -- Bytes and the characters that they encode: the character at a place, by its first byte, and ASCII characters that are taken many at a time.
-use Rattle.serde_json_path_parser.proofs.Words.{slice_get, IsUtf8, encode_utf8_all, StartsWithChar, get_or-drop, slice_get_within, slice_get-get_or, same_Some, none-some, length-drop, cases_lt, ◌==◌, is_utf8, chars, eqb-true, drop-drop, drop_all, IsUtf8-from_is_utf8, is_utf8-from_IsUtf8, chars-nil, chars_past_char, byte_from_char, char_from_byte, is_ascii, IsAhead, begins, nat_le, nat_lt, ◌^◌, max, IsAscii, and_parts, cases_Bool, length-take-le, take_more_set, encodes-append, encodes-IsAscii, AllPass, is_name_char, front, past, Told, one_more, looked, LooksOn, is_ascii_name_char, Gathered, Stretched, IsSome, ◌≡◌, ℕ, ◌+◌, ◌*◌, ◌%◌, ◌<◌, ◌≤◌, inl, inr, true, List, [], ◌∷◌, length, get_or, drop, Some, refl, sym, ap, subst, ◌∙◌, arith, true≢false, Option, None, zero, suc, ◌-◌, Bool, ◌++◌, take, set, if◌then◌else◌, append_assoc, ◌&&◌, IsScalar}
+use Rattle.serde_json_path_parser.proofs.Words.{slice_get, IsUtf8, encode_utf8_all, StartsWithChar, get_or-drop, slice_get_within, slice_get-get_or, same_Some, none-some, length-drop, cases_lt, ◌==◌, is_utf8, chars, eqb-true, drop-drop, drop_all, IsUtf8-from_is_utf8, is_utf8-from_IsUtf8, chars-nil, chars_past_char, byte_from_char, char_from_byte, is_ascii, IsAhead, begins, nat_le, nat_lt, ◌^◌, max, IsAscii, and_parts, cases_Bool, length-take-le, take_more_set, encodes-append, encodes-IsAscii, AllPass, is_name_char, front, past, Told, one_more, looked, LooksOn, is_ascii_name_char, Gathered, Stretched, IsSome, ◌≡◌, ℕ, ◌+◌, ◌*◌, ◌%◌, ◌<◌, ◌≤◌, inl, inr, true, List, [], ◌∷◌, length, get_or, drop, Some, refl, sym, ap, subst, ◌∙◌, arith, true≢false, Option, None, zero, suc, ◌-◌, Bool, ◌++◌, take, set, if◌then◌else◌, append_assoc, ◌&&◌, IsScalar, false, false_from_ne_true}
 use Rattle.std.proofs.iter.FirstChar.{wide, in_one, in_two, in_three, in_four}
 use Rattle.serde_json_path_parser.proofs.Reading.{past_through, front_through}
 
@@ -130,11 +130,19 @@ name_begun first cs a low e =
     let in_it : is_name_char a.0 ≡ true = sym (ap (begins is_name_char) a.1) ∙ e in
     ap (begins is_ascii_name_char) a.1 ∙ rw (small, in_it) refl
 
--- where the first character is of a class, so is its first byte
-pub first_fits : (p : ℕ → Bool) → ((c : ℕ) → p c ≡ true → c < 128) → (b : ℕ) (cs : List ℕ) → IsAhead (Some b) cs → begins p cs ≡ true → p b ≡ true
-first_fits p ascii b cs a e =
-    let first : p a.0 ≡ true = sym (ap (begins p) a.1) ∙ e in
-    elim (cases_lt b 128) [ inl k ↦ ap p (sym (a.2 k)) ∙ first | inr k ↦ absurd (omega (arith, a.3 k, ascii a.0 first)) ]
+-- whether what is next passes a test for ASCII characters is told by the byte ahead
+pub begins_ahead : (p : ℕ → Bool) → ((c : ℕ) → p c ≡ true → c < 128) → (b : ℕ) (cs : List ℕ) → IsAhead (Some b) cs → begins p cs ≡ p b
+begins_ahead p ascii b cs a = ap (begins p) a.1 ∙ elim (cases_lt b 128) [
+  | inl low ↦ ap p (a.2 low)
+  | inr high ↦ fails a.0 (a.3 high) ∙ sym (fails b high)
+]
+  where
+    fails : (c : ℕ) → 128 ≤ c → p c ≡ false
+    fails c high = false_from_ne_true (p c) (λ e. absurd (omega (arith, high, ascii c e)))
+
+-- an ASCII byte ahead is the first character
+pub is_ahead : (k b : ℕ) (cs : List ℕ) → k < 128 → IsAhead (Some b) cs → b ≡ k → cs ≡ k ∷ drop 1 cs
+is_ahead k b cs low a is = a.1 ∙ ap (λ c. c ∷ drop 1 cs) (a.2 (omega (arith, low, is)) ∙ is)
 
 -- ---- looks
 

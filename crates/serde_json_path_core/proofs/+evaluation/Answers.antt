@@ -272,12 +272,12 @@ evaluation::stack::find_next-loop-last-preserved g t c =
 
 -- ---- queries in expressions
 
-pub filter::query::first_from-started-requires-clause-typed : goal.filter::query::first_from-started-requires-clause-typed
-filter::query::first_from-started-requires-clause-typed g t c =
+pub filter::query::first_from-first_frames-requires-clause-typed : goal.filter::query::first_from-first_frames-requires-clause-typed
+filter::query::first_from-first_frames-requires-clause-typed g t c =
     ((set_of c.args.scope.now).signature, c.requires.sound.0)
 
-pub filter::query::all_from-started-requires-clause-typed : goal.filter::query::all_from-started-requires-clause-typed
-filter::query::all_from-started-requires-clause-typed g t c =
+pub filter::query::all_from-first_frames-requires-clause-typed : goal.filter::query::all_from-first_frames-requires-clause-typed
+filter::query::all_from-first_frames-requires-clause-typed g t c =
     ((set_of c.args.scope.now).signature, c.requires.sound.0)
 
 pub filter::query::first_from-find_next-requires : goal.filter::query::first_from-find_next-requires

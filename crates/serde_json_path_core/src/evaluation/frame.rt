@@ -118,6 +118,7 @@ impl<'b> Frame<'b> {
             IsAtTask scope.now segment (frame_view self.new) (option_map task_view found)) }
         ensures refused { IfErr result (λ e. e ≡ Pattern → MayRefuse scope.now) }
     {
+        // Looked up at each node: a frame that keeps it costs more than this look.
         while let Some(selector_ref) = scope.query.selector_ref(segment, self.selector) {
             match next_admitted(scope, selector_ref, &mut self.cursor)? {
                 Some(child) => {
@@ -154,7 +155,7 @@ impl<'b> Frame<'b> {
 
 /// The frames with which a walk begins: one, where the first of the segments is applied at the value.
 #[inline(always)]
-pub(crate) fn started<'b>(
+pub(crate) fn first_frames<'b>(
     alloc: Global,
     query: &Checked,
     segments: &[Part],
@@ -217,6 +218,7 @@ fn next_passing<'b, F: Functions>(
     };
     while let Some(child) = cursor.peek() {
         if compares(scope, &comparison, child.value)? {
+            // Looked at again, so that the comparison need not keep the child's step.
             return Ok(cursor.peek());
         }
         cursor.pass();

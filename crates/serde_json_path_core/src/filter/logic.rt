@@ -147,7 +147,8 @@ fn call_holds<'b, F: Functions>(
     Ok(answer_holds(&answer))
 }
 
-/// Whether a comparison of two comparables holds. The form of each is found where it is wanted.
+/// Whether a comparison of two comparables holds, as one of several in an expression. The form of each is found where it is
+/// wanted: forms that were kept over the other side's search would cost more than they spare.
 #[cycle(evaluation)]
 #[inline(always)]
 fn relation_holds<'b, F: Functions>(
@@ -177,7 +178,8 @@ fn relation_holds<'b, F: Functions>(
     }
 }
 
-/// Whether a comparison holds whose forms are found. Without a call it takes no memory.
+/// Whether a comparison holds that is a filter by itself, so that its forms were found before the nodes. Without a call it
+/// takes no memory.
 #[cycle(evaluation)]
 #[inline(always)]
 pub(crate) fn compares<'b, F: Functions>(

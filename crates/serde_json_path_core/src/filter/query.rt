@@ -4,7 +4,7 @@ ghost use Rattle.std.specs.Prelude.{◌≡◌, ◌<◌, ◌≤◌, IfOk, IfErr, 
 ghost use Rattle.serde_json_path_core.specs.Inside.Words.{view, node_value, SoundQuery, SoundSegments, results_at, values_at, values_of_segments, StandsIn, first_value, parts_bound, values_reached, MayRefuse, nodes_of, set_of, top_of, Pattern};
 
 use crate::evaluation::child_values::child_values;
-use crate::evaluation::frame::started;
+use crate::evaluation::frame::first_frames;
 use crate::evaluation::scope::Scope;
 use crate::evaluation::single_children::{Reached, go_down, is_wildcard};
 use crate::evaluation::stack::{find_next, pass_found};
@@ -47,7 +47,7 @@ fn first_from<'b, F: Functions>(
         ≡ slice_get (values_of_segments scope.now segments.now (view value.now)) 0) }
     ensures refused { IfErr result (λ e. e ≡ Pattern → MayRefuse scope.now) }
 {
-    let mut frames = started(scope.alloc, scope.query, segments, value)?;
+    let mut frames = first_frames(scope.alloc, scope.query, segments, value)?;
     match find_next(scope, segments, &mut frames)? {
         Some(found) => Ok(Some(found.value)),
         None => Ok(None),
@@ -95,7 +95,7 @@ pub(crate) fn all_from<'x, 'b: 'x, F: Functions>(
         ≡ values_of_segments scope.now segments.now (view value.now)) }
     ensures refused { IfErr result (λ e. e ≡ Pattern → MayRefuse scope.now) }
 {
-    let mut frames = started(scope.alloc, scope.query, segments, value)?;
+    let mut frames = first_frames(scope.alloc, scope.query, segments, value)?;
     let mut found: Vec<&'x Value> = Vec::new(scope.alloc);
     'values: while let Some(node) = find_next(scope, segments, &mut frames)? {
         pass_found(&mut frames, node);

@@ -1,7 +1,7 @@
 //! Logical expressions (RFC 9535, section 2.3.5.1).
 
 ghost use Rattle.std.specs.Prelude.{◌≡◌, ◌==◌, ◌<◌, drop, length, true, IfOk};
-ghost use Rattle.serde_json_path_parser.specs.Inside.Words.{calls_in_and, calls_in_basic, IsPart, an_or, an_and, a_basic, paren_at, negated_at, basic_at, and_from, and_at, or_from, or_at, Makes, MakesFrom, IsOperandOf, MovesTo, at_level, signatures, deeper, left, is_at, begins, calls_in_operand, byte_count, past_blanks, basic_from, LogicalAnd, Basic};
+ghost use Rattle.serde_json_path_parser.specs.Inside.Words.{calls_in_and, calls_in_basic, IsPart, an_or, an_and, a_basic, paren_at, negated_at, basic_at, and_from, and_at, or_from, or_at, Makes, MakesFrom, IsOperandOf, MovesTo, at_level, signatures, deeper, left, is_at, begins, calls_in_operand, byte_count, past_blanks, basic_from, LogicalAnd, Basic, is_small_letter};
 ghost use Rattle.serde_json_path_parser.specs.Operands as operands;
 
 use crate::error::{Context, Failure, ParseErrorKind as Kind};
@@ -135,18 +135,22 @@ impl<F: Functions> Parser<'_, F> {
             result reader.new
             (at_level F.set self.now basic_at (left reader.old)) }
     {
-        if reader.sees(b'(') {
-            let inner = self.parse_paren(builder, reader)?;
-            return Ok(builder.paren(inner)?);
+        match reader.peek() {
+            Some(b'(') => {
+                let inner = self.parse_paren(builder, reader)?;
+                Ok(builder.paren(inner)?)
+            }
+            Some(b'!') => {
+                reader.take_char();
+                reader.skip_blanks();
+                self.parse_negated(builder, reader)
+            }
+            _ => {
+                let place = reader.bytes_left();
+                let operand = self.parse_operand(builder, reader)?;
+                self.parse_basic_from(builder, reader, place, operand)
+            }
         }
-        if reader.sees(b'!') {
-            reader.take_char();
-            reader.skip_blanks();
-            return self.parse_negated(builder, reader);
-        }
-        let place = reader.bytes_left();
-        let operand = self.parse_operand(builder, reader)?;
-        self.parse_basic_from(builder, reader, place, operand)
     }
 
     /// Parses a comparison or a test after its first operand. `place` bytes are left where that operand begins.
@@ -216,21 +220,37 @@ impl<F: Functions> Parser<'_, F> {
             result reader.new
             (at_level F.set self.now negated_at (left reader.old)) }
     {
-        if reader.sees(b'(') {
-            let inner = self.parse_paren(builder, reader)?;
-            return Ok(builder.not_paren(inner)?);
+        match reader.peek() {
+            Some(b'(') => {
+                let inner = self.parse_paren(builder, reader)?;
+                Ok(builder.not_paren(inner)?)
+            }
+            Some(b'@') => {
+                let query = self.parse_query(builder, reader, QueryKind::Current)?;
+                Ok(builder.not_exist(query)?)
+            }
+            Some(b'$') => {
+                let query = self.parse_query(builder, reader, QueryKind::Root)?;
+                Ok(builder.not_exist(query)?)
+            }
+            Some(b'a'..=b'z') => self.parse_negated_call(builder, reader),
+            _ => Err(reader.refuse(Kind::ExpectedExpression, Context::LongHand)),
         }
-        if reader.sees(b'@') {
-            let query = self.parse_query(builder, reader, QueryKind::Current)?;
-            return Ok(builder.not_exist(query)?);
-        }
-        if reader.sees(b'$') {
-            let query = self.parse_query(builder, reader, QueryKind::Root)?;
-            return Ok(builder.not_exist(query)?);
-        }
-        if !reader.sees_small_letter() {
-            return Err(reader.refuse(Kind::ExpectedExpression, Context::LongHand));
-        }
+    }
+
+    /// Parses a call that is negated, from its name on, and the blanks after it.
+    #[cycle(filters)]
+    fn parse_negated_call<S: PathSource>(
+        &self,
+        builder: &mut SyntaxBuilder,
+        reader: &mut Reader<'_, S>,
+    ) -> Result<Part, Failure>
+        requires { begins is_small_letter (left reader.old) ≡ true }
+        ensures moves { MovesTo result reader.old reader.new }
+        ensures gives { Makes (signatures F.set self.now) a_basic builder.old builder.new
+            result reader.new
+            (at_level F.set self.now negated_at (left reader.old)) }
+    {
         let place = reader.bytes_left();
         let Operand::Call(call, result) = self.parse_named(builder, reader)? else {
             return Err(Failure::in_long_hand(Kind::ExpectedExpression, place));

@@ -108,26 +108,24 @@ impl<F: Functions> Parser<'_, F> {
             result reader.new
             (at_level F.set self.now operand_at (left reader.old)) }
     {
-        if reader.sees(b'\'') {
-            return parse_text(self.alloc, reader, b'\'');
+        match reader.peek() {
+            Some(b'\'') => parse_text(self.alloc, reader, b'\''),
+            Some(b'"') => parse_text(self.alloc, reader, b'"'),
+            Some(b'@') => {
+                let query = self.parse_query(builder, reader, QueryKind::Current)?;
+                Ok(Operand::Query(query))
+            }
+            Some(b'$') => {
+                let query = self.parse_query(builder, reader, QueryKind::Root)?;
+                Ok(Operand::Query(query))
+            }
+            Some(b'a'..=b'z') => self.parse_named(builder, reader),
+            _ => {
+                let number = parse_number(reader)?;
+                reader.skip_blanks();
+                Ok(Operand::Literal(Literal::Number(number)))
+            }
         }
-        if reader.sees(b'"') {
-            return parse_text(self.alloc, reader, b'"');
-        }
-        if reader.sees(b'@') {
-            let query = self.parse_query(builder, reader, QueryKind::Current)?;
-            return Ok(Operand::Query(query));
-        }
-        if reader.sees(b'$') {
-            let query = self.parse_query(builder, reader, QueryKind::Root)?;
-            return Ok(Operand::Query(query));
-        }
-        if reader.sees_small_letter() {
-            return self.parse_named(builder, reader);
-        }
-        let number = parse_number(reader)?;
-        reader.skip_blanks();
-        Ok(Operand::Literal(Literal::Number(number)))
     }
 
     /// The operand as a side of a comparison. `place` bytes are left where it begins.

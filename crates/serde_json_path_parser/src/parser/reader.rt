@@ -55,7 +55,7 @@ impl<'s, S: PathSource> Reader<'s, S> {
 
     /// The byte that is next.
     #[tactic(auto, using(crate::proofs::Texts::ahead))]
-    fn peek(&self) -> Option<u8>
+    pub(crate) fn peek(&self) -> Option<u8>
         ensures { IsAhead result (left self.now) }
     {
         self.next
@@ -95,6 +95,7 @@ impl<'s, S: PathSource> Reader<'s, S> {
     }
 
     /// Takes the next two characters.
+    #[inline(always)]
     pub(crate) fn take_two(&mut self)
         requires { 1 < length (left self.old) }
         ensures moves { Moves self.old self.new }

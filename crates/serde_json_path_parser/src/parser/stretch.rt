@@ -127,6 +127,7 @@ pub(crate) fn push_stretch<S: PathSource, C: Class>(
     ensures less { length (chars (drop result.0 (S.told source.old).text))
         < length (chars (drop index (S.told source.old).text)) }
 {
+    // 128 at a time: many for one append, few for the stack.
     let most = index + (source.len() - index).min(128);
     let mut part = [first; 128];
     let (end, next) = gather(source, index, most, class, &mut part);

@@ -20,8 +20,8 @@ returns-clause-selects g c =
     subst (IsResult F top tree top) (sym begun ∙ ap (λ segs. rest_of F top (stages segs) frames) c.segments.ensures.tree)
     (computed_result F top tree top)
 
-pub started-requires-clause-typed : goal.started-requires-clause-typed
-started-requires-clause-typed g c =
+pub first_frames-requires-clause-typed : goal.first_frames-requires-clause-typed
+first_frames-requires-clause-typed g c =
     let F = g.F.Functions.set c.args.functions in
     let q = c.args.query.now in
     (F.signature, (sound-segments F (tree_of q) _ _ c.segments.ensures.tree (whole-sound F (signatures_of q) (tree_of q) ∣ c.requires ∣₁ q.typed)).0)

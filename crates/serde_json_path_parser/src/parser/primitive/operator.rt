@@ -17,13 +17,13 @@ pub(crate) fn parse_operator<S: PathSource>(
     ensures value { operator_at (left reader.old)
         ≡ option_map (λ op. (operator_view op, left reader.new)) result }
 {
-    if reader.sees_both(b'=', b'=') {
-        reader.take_two();
-        return Some(ComparisonOperator::EqualTo);
-    }
     // After a test there is none, which one look tells.
     if !reader.sees_operator() {
         return None;
+    }
+    if reader.sees_both(b'=', b'=') {
+        reader.take_two();
+        return Some(ComparisonOperator::EqualTo);
     }
     if reader.sees_both(b'!', b'=') {
         reader.take_two();

@@ -23,6 +23,9 @@ decreases-parse_named g l = 512 * l.self.now.depth + 32
 abbrev pub decreases-parse_selectors : goal.decreases-parse_selectors
 decreases-parse_selectors g l = 512 * l.self.now.depth + 32
 
+abbrev pub decreases-parse_negated_call : goal.decreases-parse_negated_call
+decreases-parse_negated_call g l = 512 * l.self.now.depth + 48
+
 abbrev pub decreases-parse_bracket : goal.decreases-parse_bracket
 decreases-parse_bracket g l = 512 * l.self.now.depth + 48
 

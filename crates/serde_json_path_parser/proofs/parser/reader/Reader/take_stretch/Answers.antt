@@ -1,5 +1,5 @@
 use Rattle.serde_json_path_parser.proofs.Words.{◌∙◌, sym, Some}
-use Rattle.serde_json_path_parser.proofs.Texts.{ahead, some_next, first_fits}
+use Rattle.serde_json_path_parser.proofs.Texts.{ahead, some_next, begins_ahead}
 use Rattle.serde_json_path_parser.proofs.Reading.{some_begun}
 use Rattle.serde_json_path_parser.proofs.parser.reader.Reader.take_stretch.Goals as goal
 
@@ -12,4 +12,4 @@ pub push_stretch-index-requires-clause-fits : goal.push_stretch-index-requires-c
 push_stretch-index-requires-clause-fits g c =
     let r = c.args.self.now in
     let text = (g.S.PathSource.told r.source.now).text in
-    first_fits (g.C.Class.holds c.args.class.now) c.requires.ascii c.unwrap-first.result _ (ahead text r.index (Some c.unwrap-first.result) r.utf8 (sym c.unwrap-first.ensures ∙ r.next_is)) c.requires.begun
+    sym (begins_ahead (g.C.Class.holds c.args.class.now) c.requires.ascii c.unwrap-first.result _ (ahead text r.index (Some c.unwrap-first.result) r.utf8 (sym c.unwrap-first.ensures ∙ r.next_is))) ∙ c.requires.begun
