@@ -1,10 +1,14 @@
 SOURCES := $(shell find crates -path '*/out' -prune -o -type f -print)
 
-# The program, proved and built.
-bin/jsonpath: $(SOURCES)
-	cd crates/jsonpath && printf null | rt run -- '$$' > /dev/null
-	mkdir -p bin
-	cp crates/jsonpath/out/jsonpath bin/jsonpath
+# The programs, proved and built, crates side by side.
+programs: bin/jsonpath bin/jpq
+
+bin/jsonpath bin/jpq &: $(SOURCES)
+	tools/build_programs jsonpath jpq
+
+# A first result without any proof: the books that cost less than 10.
+demo:
+	cd crates/jpq && rt try -- '$$..book[?@.price < 10].title' < ../../examples/bookstore.json
 
 # The static library for programs in C, proved and built, and the toolchain's C library beside it.
 bindings/lib/libjsonpath_c.a: $(SOURCES)
@@ -12,9 +16,9 @@ bindings/lib/libjsonpath_c.a: $(SOURCES)
 	mkdir -p bindings/lib
 	cp "$$(dirname "$$(rt doc)")/c/liblibc_c.a" crates/jsonpath_c/out/libjsonpath_c.a bindings/lib/
 
-.PHONY: bindings test-bindings check test documents trusted refused-memory clean
+.PHONY: programs demo bindings test-bindings check test documents manual trusted refused-memory install install-c clean
 
-# The static library and what is made of it: the Rust crate, the programs in C, and a shared library for Python.
+# The static library and what is made of it: the Rust crate, the programs in C, and the shared library.
 bindings: bindings/lib/libjsonpath_c.a
 	bindings/build
 
@@ -29,20 +33,27 @@ check:
 	rt all check
 
 # The whole gate: each proof from nothing, each test, and each edit that must be refused; then the programs that must not
-# compile and refused memory, over the libraries and the tests that the gate has left; the documents, by the program that it
-# has built, and the list of what must be believed; and the bindings.
+# compile and refused memory, over the libraries and the tests that the gate has left; the documents and the published cases,
+# by the programs that it has built, the list of what must be believed, the drawing of the measures, and the manual page; and
+# the bindings.
 test:
 	RT_JOBS="$$(tools/lanes)" rt ci
 	tools/must_not_compile
 	tools/refuse_memory --built
 	tools/check_documents
+	tools/conformance
 	tools/trusted --check docs/TRUSTED.md
 	tools/plot_ratios --check
+	tools/manual --check
 	$(MAKE) test-bindings
 
 # Runs each command that the documents show, and looks for each of their snippets in the code.
-documents: bin/jsonpath
+documents: bin/jsonpath bin/jpq
 	tools/check_documents
+
+# Writes the manual page and the completions of jpq anew, by its table of options.
+manual:
+	tools/manual --write
 
 # Writes the lists of what must be believed anew.
 trusted:
@@ -52,6 +63,20 @@ trusted:
 refused-memory:
 	tools/refuse_memory
 
-# Removes the program, the bindings, and what checks kept.
+# Puts the programs, the manual page and the completions of jpq below PREFIX. What is put in place is put below DESTDIR, as
+# packages want it.
+PREFIX ?= /usr/local
+install: bin/jsonpath bin/jpq
+	install -d '$(DESTDIR)$(PREFIX)/bin' '$(DESTDIR)$(PREFIX)/share/man/man1'
+	install -d '$(DESTDIR)$(PREFIX)/share/bash-completion/completions'
+	install -m 755 bin/jsonpath bin/jpq '$(DESTDIR)$(PREFIX)/bin'
+	install -m 644 packaging/jpq.1 '$(DESTDIR)$(PREFIX)/share/man/man1/jpq.1'
+	install -m 644 packaging/jpq.bash '$(DESTDIR)$(PREFIX)/share/bash-completion/completions/jpq'
+
+# Puts the header, the archives, the shared library and jsonpath.pc below PREFIX, and DESTDIR, in the same way.
+install-c: bindings
+	bindings/install '$(DESTDIR)' '$(PREFIX)'
+
+# Removes the programs, the bindings, and what checks kept.
 clean:
 	rm -rf bin bindings/lib bindings/rust/target bindings/c/build crates/*/out

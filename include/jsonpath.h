@@ -15,7 +15,8 @@
  *   - No call is made from a signal handler, nor in the child of a fork of a process with threads. malloc, realloc and free
  *     are those of one allocator, and align blocks as the C standard asks.
  *
- * Build: link libjsonpath_c.a, and then liblibc_c.a of the toolchain. */
+ * Build: link libjsonpath_c.a, and then liblibc_c.a of the toolchain; or, once it is installed, the shared library, by
+ * `pkg-config --cflags --libs jsonpath`. */
 #ifndef JSONPATH_H
 #define JSONPATH_H
 
@@ -73,6 +74,11 @@ uint8_t jsonpath_check(const uint8_t *path, size_t path_length, struct jsonpath_
 /* The message of a path's refusal, as `text after the path`, without an end: DONE, NO_ROOM, NO_MEMORY or NOT_UTF8. Of a text
  * that is a path it is empty; no message is longer than 100 bytes. `out` and `*length` are written as by jsonpath_report. */
 uint8_t jsonpath_message(const uint8_t *path, size_t path_length, uint8_t *out, size_t out_length, size_t *length);
+
+/* What was probably meant by a path that is refused, as `no blank at the end`, without an end: DONE, NO_ROOM, NO_MEMORY or
+ * NOT_UTF8. It is empty where the refusal shows no known slip, and of a text that is a path; no hint is longer than 100
+ * bytes. `out` and `*length` are written as by jsonpath_report. */
+uint8_t jsonpath_hint(const uint8_t *path, size_t path_length, uint8_t *out, size_t out_length, size_t *length);
 
 /* For each node of the document that the path selects, in order, a line: its normalised path, a tab, the node as compact JSON,
  * and a line feed.

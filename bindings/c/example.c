@@ -30,9 +30,12 @@ int main(int count, char **words) {
     if (status == JSONPATH_DONE) {
         fwrite(lines, 1, length, stdout);
     } else if (status == JSONPATH_PATH_REFUSED) {
-        uint8_t message[128];
-        jsonpath_message(path, path_length, message, sizeof message, &length);
-        fprintf(stderr, "at position %zu, %.*s\n", refusal.position, (int)length, (char *)message);
+        uint8_t text[128];
+        jsonpath_message(path, path_length, text, sizeof text, &length);
+        fprintf(stderr, "at position %zu, %.*s\n", refusal.position, (int)length, (char *)text);
+        if (jsonpath_hint(path, path_length, text, sizeof text, &length) == JSONPATH_DONE && length) {
+            fprintf(stderr, "probably meant: %.*s\n", (int)length, (char *)text);
+        }
     } else {
         fprintf(stderr, "no answer: status %u\n", status);
     }

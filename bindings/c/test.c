@@ -130,6 +130,22 @@ static void refuses(const char *path, uint32_t kind, size_t position, const char
     free(answer.out);
 }
 
+/* Holds the hint of a path to what is wanted, with room to spare, with just enough and with a byte too little. */
+static void hints(const char *path, const char *hint) {
+    const uint8_t *bytes = (const uint8_t *)path;
+    size_t length = strlen(hint), rooms[] = {ROOM, length, length - 1};
+    for (int at = 0; at < (length ? 3 : 2); at++) {
+        struct answer answer = lent(rooms[at]);
+        int fits = length <= rooms[at];
+        uint8_t status = jsonpath_hint(bytes, strlen(path), answer.out, rooms[at], &answer.length);
+        holds(status == (fits ? JSONPATH_DONE : JSONPATH_NO_ROOM), "status of a hint", path);
+        holds(answer.length == length, "length of a hint", path);
+        holds(!fits || !memcmp(answer.out, hint, length), "hint", path);
+        holds(is_untouched(answer.out + (fits ? length : 0), rooms[at] - (fits ? length : 0)), "hint is too long", path);
+        free(answer.out);
+    }
+}
+
 /* Refuses memory from the first request on, from the second, and so on, until a call has enough. */
 static void runs_out(lines_call *call, const char *path, const char *document) {
     uint8_t status = JSONPATH_NO_MEMORY;
@@ -156,6 +172,13 @@ static void texts(void) {
     length = 7;
     holds(jsonpath_message((const uint8_t *)"\xff", 1, out, 1, &length) == JSONPATH_NOT_UTF8, "message", "\\xff");
     holds(length == 7 && out[0] == UNTOUCHED, "message is written", "\\xff");
+    holds(jsonpath_hint((const uint8_t *)"\xff", 1, out, 1, &length) == JSONPATH_NOT_UTF8, "hint", "\\xff");
+    holds(length == 7 && out[0] == UNTOUCHED, "hint is written", "\\xff");
+    granted = 0;
+    uint8_t status = jsonpath_hint((const uint8_t *)"$..a", 4, out, 1, &length);
+    granted = SIZE_MAX;
+    holds(status == JSONPATH_NO_MEMORY, "hint without memory", "$..a");
+    holds(length == 7 && out[0] == UNTOUCHED, "hint is written without memory", "$..a");
     holds(jsonpath_check((const uint8_t *)"$\0", 2, &refusal) == JSONPATH_PATH_REFUSED, "NUL", "$\\0");
     holds(refusal.kind == JSONPATH_TEXT_AFTER_PATH && refusal.position == 2, "refusal of NUL", "$\\0");
     holds(jsonpath_version() == 702, "version", "0.7.2");
@@ -174,6 +197,11 @@ int main(void) {
     refuses("$.a ", JSONPATH_TEXT_AFTER_PATH, 4, "text after the path");
     refuses("$['a'", JSONPATH_EXPECTED_CLOSING_BRACKET, 6, "in long-hand segment, expected closing ']'");
     refuses("$[?@ == 0.0000000001]", JSONPATH_FRACTION_TOO_LONG, 9, "in long-hand segment, fraction of more than 9 digits");
+    hints("$.a b", "`$['a b']`: such a name is quoted in brackets");
+    hints("$[?@.a = 1]", "`==`: there is no assignment");
+    hints("#.a", "");
+    hints("$.a", "");
+    hints("", "`$` for the whole document");
     answers(JSONPATH_DOCUMENT_REFUSED, "$", "", 0);
     answers(JSONPATH_DOCUMENT_REFUSED, "$", "{", 1);
     answers(JSONPATH_DOCUMENT_REFUSED, "$", "null\0", 5);

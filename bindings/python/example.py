@@ -13,6 +13,8 @@ class Refusal(ctypes.Structure):
 
 
 TEXT, LENGTH, REFUSAL = [ctypes.c_char_p, ctypes.c_size_t], ctypes.POINTER(ctypes.c_size_t), ctypes.POINTER(Refusal)
+for call in LIBRARY.jsonpath_message, LIBRARY.jsonpath_hint:
+    call.restype, call.argtypes = ctypes.c_uint8, [*TEXT, *TEXT, LENGTH]
 for call in LIBRARY.jsonpath_report, LIBRARY.jsonpath_values, LIBRARY.jsonpath_locations:
     call.restype, call.argtypes = ctypes.c_uint8, [*TEXT, *TEXT, *TEXT, LENGTH, REFUSAL]
 
@@ -24,7 +26,18 @@ def lines(call, path, document, room=4096):
     return lines(call, path, document, length.value) if status == NO_ROOM else (status, out[: length.value], refusal)
 
 
+def words(call, path, room=128):
+    """The status of a call for a path's message or hint, and its text, which is empty where there is none."""
+    out, length = ctypes.create_string_buffer(room), ctypes.c_size_t()
+    status = call(path, len(path), out, room, length)
+    return words(call, path, length.value) if status == NO_ROOM else (status, out.raw[: length.value])
+
+
 if __name__ == "__main__":
-    status, text, refusal = lines(LIBRARY.jsonpath_report, os.fsencode(sys.argv[1]), sys.stdin.buffer.read())
+    path = os.fsencode(sys.argv[1])
+    status, text, refusal = lines(LIBRARY.jsonpath_report, path, sys.stdin.buffer.read())
     sys.stdout.buffer.write(text)
-    sys.exit(f"refused at position {refusal.position}" if status == PATH_REFUSED else status)
+    if status == PATH_REFUSED:
+        hint = words(LIBRARY.jsonpath_hint, path)[1].decode()
+        sys.exit(f"refused at position {refusal.position}" + (f"\nprobably meant: {hint}" if hint else ""))
+    sys.exit(status)

@@ -3,10 +3,9 @@ import ctypes
 import unittest
 from concurrent.futures import ThreadPoolExecutor
 
-from example import DONE, LENGTH, LIBRARY, NO_ROOM, PATH_REFUSED, REFUSAL, TEXT, Refusal, lines
+from example import DONE, LIBRARY, NO_ROOM, PATH_REFUSED, REFUSAL, TEXT, Refusal, lines, words
 
 LIBRARY.jsonpath_check.restype, LIBRARY.jsonpath_check.argtypes = ctypes.c_uint8, [*TEXT, REFUSAL]
-LIBRARY.jsonpath_message.restype, LIBRARY.jsonpath_message.argtypes = ctypes.c_uint8, [*TEXT, *TEXT, LENGTH]
 DOCUMENT_REFUSED, QUERY_REFUSED, NOT_UTF8 = 2, 3, 6
 
 # A path, a document, and its report.
@@ -28,6 +27,14 @@ REFUSALS = [
     (b"$.a ", 20, 4, b"text after the path"),
     (b"$.a\0", 20, 4, b"text after the path"),
 ]
+# A path, and what was probably meant by it.
+HINTS = [
+    (b"", b"`$` for the whole document"),
+    (b"$.a b", b"`$['a b']`: such a name is quoted in brackets"),
+    (b"$[?@.a = 1]", b"`==`: there is no assignment"),
+    (b"#.a", b""),
+    (b"$.a", b""),
+]
 # A path, a document, and the status.
 STATUSES = [
     (b"$", b"", DOCUMENT_REFUSED),
@@ -45,9 +52,7 @@ def report(path, document):
 
 def message(path):
     """The message of a path's refusal."""
-    out, length = ctypes.create_string_buffer(128), ctypes.c_size_t()
-    status = LIBRARY.jsonpath_message(path, len(path), out, 128, length)
-    return status, out.raw[: length.value]
+    return words(LIBRARY.jsonpath_message, path)
 
 
 class Calls(unittest.TestCase):
@@ -68,6 +73,12 @@ class Calls(unittest.TestCase):
             self.assertEqual(LIBRARY.jsonpath_check(path, len(path), checked), PATH_REFUSED)
             self.assertEqual((checked.kind, checked.position), (kind, position))
             self.assertEqual(message(path), (DONE, text))
+
+    def test_hints(self):
+        for path, hint in HINTS:
+            self.assertEqual(words(LIBRARY.jsonpath_hint, path), (DONE, hint))
+            self.assertEqual(words(LIBRARY.jsonpath_hint, path, 1), (DONE, hint))
+        self.assertEqual(words(LIBRARY.jsonpath_hint, b"$\xff"), (NOT_UTF8, b""))
 
     def test_statuses(self):
         for path, document, status in STATUSES:

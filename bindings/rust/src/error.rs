@@ -106,24 +106,35 @@ pub struct ParseError {
     kind: ParseErrorKind,
     position: usize,
     message: String,
+    hint: Option<String>,
+}
+
+/// The text that a call writes of a path, or `None` if memory is refused.
+fn text_of(call: fn(&str, &mut [u8]) -> Answer, path: &str) -> Option<String> {
+    let mut out = vec![0; 128];
+    let mut answer = call(path, &mut out);
+    if let Answer::NoRoom(length) = answer {
+        out.resize(length, 0);
+        answer = call(path, &mut out);
+    }
+    let Answer::Done(length) = answer else {
+        return None;
+    };
+    Some(String::from_utf8_lossy(&out[..length]).into_owned())
 }
 
 impl ParseError {
     /// The error of a path that is refused so.
     pub(crate) fn of(path: &str, refusal: Refusal) -> ParseError {
-        let mut out = vec![0; 128];
-        let mut answer = ffi::message(path, &mut out);
-        if let Answer::NoRoom(length) = answer {
-            out.resize(length, 0);
-            answer = ffi::message(path, &mut out);
-        }
-        let Answer::Done(length) = answer else {
+        let (Some(message), Some(hint)) = (text_of(ffi::message, path), text_of(ffi::hint, path))
+        else {
             return ParseError::no_memory();
         };
         ParseError {
             kind: ParseErrorKind::of(refusal.kind),
             position: refusal.position,
-            message: String::from_utf8_lossy(&out[..length]).into_owned(),
+            message,
+            hint: Some(hint).filter(|hint| !hint.is_empty()),
         }
     }
 
@@ -133,6 +144,7 @@ impl ParseError {
             kind: ParseErrorKind::NoMemory,
             position: 1,
             message: "no memory".to_string(),
+            hint: None,
         }
     }
 
@@ -149,6 +161,18 @@ impl ParseError {
     /// What is wrong, in words.
     pub fn message(&self) -> &str {
         &self.message
+    }
+
+    /// What was probably meant, in a few words, or `None` where the path shows no known slip.
+    ///
+    /// ```
+    /// use jsonpath::JsonPath;
+    ///
+    /// let error = JsonPath::parse("$.a b").unwrap_err();
+    /// assert_eq!(error.hint(), Some("`$['a b']`: such a name is quoted in brackets"));
+    /// ```
+    pub fn hint(&self) -> Option<&str> {
+        self.hint.as_deref()
     }
 }
 

@@ -34,6 +34,8 @@ pub(crate) enum Form {
     LocationAndValue,
 }
 
+type Words = unsafe extern "C" fn(*const c_uchar, usize, *mut c_uchar, usize, *mut usize) -> u8;
+
 type Lines = unsafe extern "C" fn(
     *const c_uchar,
     usize,
@@ -48,6 +50,13 @@ type Lines = unsafe extern "C" fn(
 extern "C" {
     fn jsonpath_check(path: *const c_uchar, path_length: usize, refusal: *mut Refusal) -> u8;
     fn jsonpath_message(
+        path: *const c_uchar,
+        path_length: usize,
+        out: *mut c_uchar,
+        out_length: usize,
+        length: *mut usize,
+    ) -> u8;
+    fn jsonpath_hint(
         path: *const c_uchar,
         path_length: usize,
         out: *mut c_uchar,
@@ -116,11 +125,21 @@ pub(crate) fn check(path: &str) -> Answer {
 
 /// Writes the message of a path's refusal.
 pub(crate) fn message(path: &str, out: &mut [u8]) -> Answer {
+    words(jsonpath_message, path, out)
+}
+
+/// Writes what was probably meant by a path that is refused, or nothing.
+pub(crate) fn hint(path: &str, out: &mut [u8]) -> Answer {
+    words(jsonpath_hint, path, out)
+}
+
+/// Writes what a call says of a path.
+fn words(call: Words, path: &str, out: &mut [u8]) -> Answer {
     let mut length = 0;
     // SAFETY: The pointers of text and buffer are not null and valid for their lengths. The buffer is borrowed by this call
     // alone, and `length` is a variable of it, so neither overlaps anything.
     let status = unsafe {
-        jsonpath_message(
+        call(
             path.as_ptr(),
             path.len(),
             out.as_mut_ptr(),

@@ -1,1 +1,1 @@
--- The folder has the proof of a function.
+-- The folders have the proofs of functions.

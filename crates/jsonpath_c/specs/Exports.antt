@@ -1,5 +1,6 @@
 -- What the exports answer, and what they write.
-use Rattle.std.specs.Prelude.{◌≡◌, ◌≢◌, ◌<◌, ◌≤◌, ◌⊎◌, ◌↔◌, ℕ, List, ◌++◌, drop, length, Err}
+use Rattle.std.specs.Prelude.{◌≡◌, ◌≢◌, ◌<◌, ◌≤◌, ◌⊎◌, ◌↔◌, ℕ, List, [], ◌++◌, drop, length, Err}
+use Rattle.std.specs.Option.{unwrap_or}
 use Rattle.std.specs.Str.{IsUtf8}
 use Rattle.serde_json.specs.Data.{Data}
 use Rattle.serde_json_path.specs.Paths.{path_view}
@@ -10,6 +11,7 @@ use Rattle.serde_json_path_parser.specs.Reported.{ReportsFirst}
 use Rattle.serde_json_path_parser.specs.declared.error.ParseError.{ParseError}
 use Rattle.serde_json_path_parser.specs.declared.error.ParseErrorKind.{ParseErrorKind}
 use Rattle.serde_json_path_parser.specs.declared.error.ParseErrorKind.TheVariants.{ExpectedRoot, BadMemberName, ExpectedClosingBracket, ExpectedEndingQuote, BadEscape, ControlCharacter, ExpectedSelector, IntegerOutOfRange, ExponentOrEmptyFraction, NumberOutOfRange, ExpectedExpression, ExpectedClosingParenthesis, ExpectedComparisonOperator, NonSingularQuery, UndefinedFunction, WrongNumberOfArguments, WrongArgumentType, WrongReturnType, NestedTooDeep, TextAfterPath, FractionTooLong, NoMemory}
+use Rattle.serde_json_path_hints.specs.Hints.{hint_of}
 use Rattle.jsonpath_report.specs.Report.{ReadsAs, IsNoPath, CallsByPatternOn, IsReportIn}
 use Rattle.jsonpath_report.specs.declared.report.LineForm.{LineForm}
 use Rattle.jsonpath_c.specs.declared.refusal.Refusal.{Refusal}
@@ -54,6 +56,10 @@ IsRefusedWith path e = IsParseOf path_view builtin_functions.signature path (Err
 -- and is the refusal that the parse reports
 abbrev pub IsReportedWith : List ℕ → ParseError → Type 0
 IsReportedWith path e = IsRefusedWith path e × ReportsFirst path_view builtin_functions.signature path (Err e)
+
+-- what was probably meant by a text that is refused so, or an empty text where no slip is known
+abbrev pub hint_text : List ℕ → ParseError → List ℕ
+hint_text path e = unwrap_or (hint_of (kind_of e) (position_of e) path) []
 
 -- a text is refused as a path with the kind and the position of an error
 abbrev pub IsRefusalBy : (List ℕ → ParseError → Type 0) → List ℕ → Refusal → Type 0

@@ -19,7 +19,7 @@ mod status;
 
 ghost use Rattle.std.specs.Prelude.{◌≡◌};
 
-pub use check::{jsonpath_check, jsonpath_message};
+pub use check::{jsonpath_check, jsonpath_hint, jsonpath_message};
 pub use lines::{jsonpath_locations, jsonpath_report, jsonpath_values};
 pub use refusal::Refusal;
 

@@ -113,6 +113,8 @@ fn push_value(alloc: Global, text: &mut String, value: &Value) -> Result<(), All
 }
 
 /// Appends a node's line.
+// Inlined, so that its form is known where it is called.
+#[inline(always)]
 fn push_line(
     alloc: Global,
     text: &mut String,
@@ -148,8 +150,14 @@ fn room(alloc: Global) -> String
     }
 }
 
-/// One line for each node that remains of a walk, in order, in a text that is empty before.
-fn lines<F: Functions + Drop>(
+/// One line for each node that remains of a walk, in order, in a text that is empty before, whose room is used.
+///
+/// The error is `Memory` or, as that of `Walk::next`, `Pattern`.
+///
+/// ```text
+/// lines(alloc, LineForm::Location, String::new(alloc), path.walk(alloc, &document, &Builtin)?)?
+/// ```
+pub fn lines<F: Functions + Drop>(
     alloc: Global,
     form: LineForm,
     mut text: String,

@@ -1,4 +1,4 @@
-//! What paths select, how texts that are none are refused, and the pieces of a path's text.
+//! What paths select, how texts that are none are refused and what was meant by them, and the pieces of a path's text.
 
 mod all_numbers;
 mod blanks;
@@ -13,6 +13,7 @@ mod filter_refusals;
 mod filters;
 mod fitting;
 mod headline;
+mod hints;
 mod json_form;
 mod lists;
 mod literals;

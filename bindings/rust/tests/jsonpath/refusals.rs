@@ -132,6 +132,22 @@ const REFUSALS: &[(&str, ParseErrorKind, usize, &str)] = &[
     ),
 ];
 
+/// A path that is refused, and what was probably meant.
+const HINTS: &[(&str, Option<&str>)] = &[
+    ("", Some("`$` for the whole document")),
+    ("#.a", None),
+    ("$.a ", Some("no blank at the end")),
+    (
+        "$.a b",
+        Some("`$['a b']`: such a name is quoted in brackets"),
+    ),
+    (
+        "$.é-b",
+        Some("`$['a-b']`: such a name is quoted in brackets"),
+    ),
+    ("$[?@.a = 1]", Some("`==`: there is no assignment")),
+];
+
 /// Holds the refusal of a path to its row.
 fn refuses(path: &str, kind: ParseErrorKind, position: usize, message: &str) {
     let error = JsonPath::parse(path).unwrap_err();
@@ -147,6 +163,9 @@ fn refuses(path: &str, kind: ParseErrorKind, position: usize, message: &str) {
 
 /// Each row, and a path that is nested too deep.
 pub fn all() {
+    for (path, hint) in HINTS {
+        assert_eq!(JsonPath::parse(path).unwrap_err().hint(), *hint, "{path}");
+    }
     for (path, kind, position, message) in REFUSALS {
         refuses(path, *kind, *position, message);
     }

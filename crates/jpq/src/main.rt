@@ -1,0 +1,77 @@
+//! `jpq [OPTIONS] PATH [FILE]...` prints the nodes of JSON documents that a JSONPath (RFC 9535) selects:
+//!
+//! ```text
+//! $ printf '{"foo":{"bar":["baz",42]}}' | jpq '$.foo.bar[0]'
+//! $['foo']['bar'][0]<tab>"baz"
+//! ```
+//!
+//! `run` of `jsonpath_query` is the program over any inputs and writers; `main` hands in the words, the files and the standard
+//! streams.
+#![tactic(auto)]
+
+use jsonpath_query::inputs::Inputs;
+use jsonpath_query::run::run;
+use std::fs::File;
+use std::io::{IsTerminal, Read, Stdin};
+use std::process::ExitCode;
+use std::{env, io};
+
+/// An input of the program.
+#[derive(Drop)]
+enum Input {
+    Standard(Stdin),
+    File(File),
+}
+
+impl Read for Input {
+    fn read(&mut self, buf: &mut [u8]) -> io::Result<usize> {
+        match self {
+            Input::Standard(input) => input.read(buf),
+            Input::File(input) => input.read(buf),
+        }
+    }
+}
+
+/// The files of the machine, and standard input.
+#[derive(Drop)]
+struct MachineInputs<'a> {
+    rt: &'a HostRuntime,
+}
+
+impl Inputs for MachineInputs<'_> {
+    type Input = Input;
+
+    fn open(&mut self, name: &str) -> io::Result<Input> {
+        if name == "-" {
+            return Ok(Input::Standard(self.rt.stdin()));
+        }
+        Ok(Input::File(File::open(self.rt, name)?))
+    }
+}
+
+/// The words of the command line, the program's name first, or none if they cannot be read.
+fn words(rt: &HostRuntime) -> Vec<String> {
+    match env::args(rt) {
+        Ok(args) => args
+            .collect(rt.alloc())
+            .unwrap_or_else(|_| Vec::new(rt.alloc())),
+        Err(_) => Vec::new(rt.alloc()),
+    }
+}
+
+fn main(rt: HostRuntime) -> ExitCode {
+    let words = words(&rt);
+    let mut inputs = MachineInputs { rt: &rt };
+    let mut out = rt.stdout();
+    let mut err = rt.stderr();
+    let terminal = out.is_terminal();
+    let status = run(
+        rt.alloc(),
+        &words,
+        terminal,
+        &mut inputs,
+        &mut out,
+        &mut err,
+    );
+    ExitCode::from(status)
+}

@@ -1,0 +1,139 @@
+//! Documents that are refused: where, and why.
+
+use jsonpath_input::document::read_document;
+use serde_json_path_core_tests::rows::Table;
+use serde_json_path_core_tests::texts::long;
+use std::alloc::Global;
+use std::test::Fail;
+
+/// Bytes that are no document, and what is told of them.
+const REFUSED: &[(&[u8], &str)] = &[
+    (
+        b"\xef\xbb\xbf{}",
+        "line 1, column 1: a byte order mark, which JSON does not begin with",
+    ),
+    (
+        b"{\n  // first\n}",
+        "line 2, column 3: a comment, which JSON does not have",
+    ),
+    (
+        b"[1, /* one */ 2]",
+        "line 1, column 5: a comment, which JSON does not have",
+    ),
+    (
+        b"# first\n{}",
+        "line 1, column 1: a comment, which JSON does not have",
+    ),
+    (
+        b"{}\n// last",
+        "line 2, column 1: a comment, which JSON does not have",
+    ),
+    (
+        b"{\"a\":1}\n{\"a\":2}\n",
+        "line 2, column 1: a second document (is it NDJSON? use -L)",
+    ),
+    (
+        b"1 2",
+        "line 1, column 3: a second document (is it NDJSON? use -L)",
+    ),
+    (
+        b"\"[\" \"a\"",
+        "line 1, column 5: a second document (is it NDJSON? use -L)",
+    ),
+    (b"", "line 1, column 1: no document, the input is empty"),
+    (
+        b" \t\r\n ",
+        "line 2, column 2: no document, the input is empty",
+    ),
+    (
+        b"[\"\xc3\xa9\",\n\"\xc3\xa9\xff\"]",
+        "line 2, column 3: a byte that is not UTF-8",
+    ),
+    (
+        b"\xff\xfe{\x00}\x00",
+        "line 1, column 1: a byte that is not UTF-8",
+    ),
+    (
+        b"{'a':1}",
+        "line 1, column 2: a single quote, where JSON has double quotes",
+    ),
+    (
+        b"{\"\xc3\xa9\":'x'}",
+        "line 1, column 6: a single quote, where JSON has double quotes",
+    ),
+    (
+        b"[NaN]",
+        "line 1, column 2: NaN or Infinity, which JSON does not have",
+    ),
+    (
+        b"{\"a\": -Infinity}",
+        "line 1, column 7: NaN or Infinity, which JSON does not have",
+    ),
+    (b"[1,]", "line 1, column 3: a comma with nothing after it"),
+    (
+        b"{\"a\":1,\n}",
+        "line 1, column 7: a comma with nothing after it",
+    ),
+    (b"1e400", "line 1, column 1: a number that is too large"),
+    (
+        b"[1, -1e400]",
+        "line 1, column 5: a number that is too large",
+    ),
+    (
+        b"{\"a\": [1, 2",
+        "line 1, column 12: the document ends too soon",
+    ),
+    (
+        b"[\"abc\",\n",
+        "line 2, column 1: the document ends too soon",
+    ),
+    (b"[\"abc", "line 1, column 6: the document ends too soon"),
+    (b"[\"a\nb\"]", "line 1, column 2: not JSON"),
+    (b"{\"a\":1}}", "line 1, column 8: not JSON"),
+    (b"[01]", "line 1, column 2: not JSON"),
+    (b"{a:1}", "line 1, column 2: not JSON"),
+    (b"[\"\\x\"]", "line 1, column 2: not JSON"),
+    (b"[1 2]", "line 1, column 4: not JSON"),
+    (b"[,]", "line 1, column 2: not JSON"),
+];
+
+/// What is told of bytes, or the JSON of the document that they are.
+fn told(alloc: Global, bytes: &[u8]) -> Result<String, Fail> {
+    Ok(match read_document(alloc, bytes) {
+        Ok(value) => value.to_string(alloc)?,
+        Err(e) => format!(in alloc; "{e}")?,
+    })
+}
+
+/// Whether an array of a text with brackets and of arrays within each other is read, or what is told of it.
+fn nested(alloc: Global, levels: usize) -> Result<String, Fail> {
+    let text = long(alloc, "[\"]\\\"{\",\n", "[", levels.saturating_sub(1), "0")?;
+    let text = long(alloc, text.as_str(), "]", levels, "")?;
+    Ok(match read_document(alloc, text.as_bytes()) {
+        Ok(_) => String::from_str(alloc, "read")?,
+        Err(e) => format!(in alloc; "{e}")?,
+    })
+}
+
+#[test]
+fn takes_127_levels(rt: HostRuntime) -> Result<(), Fail> {
+    let deep = "line 2, column 127: more than 127 levels of arrays and objects";
+    let mut table = Table::new(&rt);
+    table.hold(("documents", "127 levels", "read"), nested(rt.alloc(), 127));
+    table.hold(("documents", "128 levels", deep), nested(rt.alloc(), 128));
+    table.hold(("documents", "1000 levels", deep), nested(rt.alloc(), 1000));
+    table.end()
+}
+
+#[test]
+fn tells_what_is_no_document(rt: HostRuntime) -> Result<(), Fail> {
+    let mut table = Table::new(&rt);
+    for &(bytes, wanted) in REFUSED {
+        let given = format!(in rt.alloc(); "{bytes:?}")?;
+        table.hold(
+            ("documents", given.as_str(), wanted),
+            told(rt.alloc(), bytes),
+        );
+    }
+    table.end()
+}

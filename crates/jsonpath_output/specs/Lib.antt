@@ -1,0 +1,7 @@
+-- What contracts cite:
+-- Output: which nodes are shown, and what is shown of them in each form.
+-- Plain: a line without its colours.
+-- Inside: what contracts of private functions cite alone.
+pub mod Output
+pub mod Plain
+pub mod Inside

@@ -1,0 +1,5 @@
+//! Forms of output and coloured lines on worked rows.
+
+mod colours;
+mod forms;
+mod nodes;

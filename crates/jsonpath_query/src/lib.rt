@@ -1,0 +1,20 @@
+//! The program `jpq` over any inputs and writers: JSONPath (RFC 9535) on the command line.
+//!
+//! [`run::run`] reads the words, the paths and the documents, writes what is selected, tells what is refused, and answers the
+//! exit status. [`answers::push_answer`] is what it shows of a document, for a path. Files are opened by [`inputs::Inputs`], so
+//! that a test may hand in its own.
+#![tactic(auto)]
+
+pub mod answers;
+mod colours;
+mod documents;
+mod floats;
+mod found;
+pub mod inputs;
+mod nothing;
+mod paths;
+mod place;
+mod refusal;
+mod ruled;
+pub mod run;
+mod streams;

@@ -1,0 +1,123 @@
+//! A path's text with a caret under a place.
+
+use std::alloc::AllocError;
+use unicode_segmentation::UnicodeSegmentation;
+use unicode_width::UnicodeWidthStr;
+
+/// How many bytes before a place are shown at most; what is cut off counts as three dots.
+const BEFORE: usize = 60;
+
+/// How many bytes from a place on are shown at most.
+const AFTER: usize = 40;
+
+/// A text that is cut round a place.
+#[derive(Drop)]
+struct Window<'a> {
+    /// Whether text before it is left out.
+    begins_late: bool,
+    /// What is shown before the place.
+    before: &'a str,
+    /// What is shown from the place on.
+    after: &'a str,
+    /// Whether text after it is left out.
+    ends_early: bool,
+}
+
+/// A text before a byte, or before the character that the byte is in, and the text from there on.
+fn split(text: &str, index: usize) -> (&str, &str) {
+    text.split_at(text.floor_char_boundary(index))
+}
+
+impl<'a> Window<'a> {
+    /// The text round a place, which is the number of a byte from 1.
+    fn new(text: &'a str, place: usize) -> Window<'a> {
+        let (before, after) = split(text, place.saturating_sub(1));
+        let (earlier, before) = split(before, before.len().saturating_sub(BEFORE));
+        let (after, later) = split(after, AFTER);
+        Window {
+            begins_late: !earlier.is_empty(),
+            before,
+            after,
+            ends_early: !later.is_empty(),
+        }
+    }
+
+    /// Appends the text, with control characters as escapes.
+    fn push_text(&self, to: &mut String) -> Result<(), AllocError> {
+        if self.begins_late {
+            to.push_str("...")?;
+        }
+        push_shown(to, self.before)?;
+        push_shown(to, self.after)?;
+        if self.ends_early {
+            to.push_str("...")?;
+        }
+        Ok(())
+    }
+
+    /// Appends a caret under the place. A tab stands for a tab, whatever its width.
+    fn push_caret(&self, to: &mut String) -> Result<(), AllocError> {
+        if self.begins_late {
+            to.push_str("   ")?;
+        }
+        for cluster in self.before.graphemes(true) {
+            push_columns(to, cluster)?;
+        }
+        to.push('^')
+    }
+}
+
+/// Appends a text, with its control characters but the tab as they are escaped in a path.
+fn push_shown(to: &mut String, text: &str) -> Result<(), AllocError> {
+    for c in text.chars() {
+        push_char(to, c)?;
+    }
+    Ok(())
+}
+
+/// Appends a character; a control character but the tab as an escape.
+fn push_char(to: &mut String, c: char) -> Result<(), AllocError> {
+    match c {
+        '\n' => to.push_str("\\n"),
+        '\r' => to.push_str("\\r"),
+        '\t' => to.push('\t'),
+        c if c.is_control() => write!(to, "\\u{:04x}", c as u32),
+        c => to.push(c),
+    }
+}
+
+/// Appends as many spaces as a cluster of characters takes columns, or a tab for a tab.
+fn push_columns(to: &mut String, cluster: &str) -> Result<(), AllocError> {
+    if cluster == "\t" {
+        return to.push('\t');
+    }
+    let columns = if cluster.chars().any(char::is_control) {
+        escaped_columns(cluster)
+    } else {
+        cluster.width()
+    };
+    for _ in 0..columns {
+        to.push(' ')?;
+    }
+    Ok(())
+}
+
+/// How many columns the escapes of control characters take.
+fn escaped_columns(cluster: &str) -> usize {
+    let mut columns = 0usize;
+    for c in cluster.chars() {
+        columns = columns.saturating_add(if c == '\n' || c == '\r' { 2 } else { 6 });
+    }
+    columns
+}
+
+/// Appends a text in a line that is indented by two spaces, cut round a place, and below it a caret under that place, the number
+/// of a byte from 1.
+pub(crate) fn push_place(to: &mut String, text: &str, place: usize) -> Result<(), AllocError> {
+    let window = Window::new(text, place);
+    to.push_str("  ")?;
+    window.push_text(to)?;
+    to.push_str("\n  ")?;
+    window.push_caret(to)?;
+    to.push('\n')
+}

@@ -1,0 +1,84 @@
+-- What is said of the text on one side of a place.
+use Rattle.std.specs.Prelude.{ℕ, ◌-◌, ◌==◌, ◌&&◌, ◌||◌, Bool, true, false, List, [], ◌∷◌, Option, Some, None, length, drop, take_while, slice_get, nat_eq, nat_le, bytes_eq, codes}
+use Rattle.std.specs.List.{list_any, starts_with, ends_with}
+use Rattle.std.specs.Str.{str_eq_ignore_ascii_case}
+use Rattle.std.specs.Char.{is_ascii_alphabetic, is_ascii_digit}
+
+-- ---- bytes and words
+
+-- a member name may start with the byte: a letter, `_`, or a byte of a character beyond ASCII
+abbrev pub is_name_start : ℕ → Bool
+is_name_start byte = is_ascii_alphabetic byte || byte == 95 || nat_le 128 byte
+
+-- the byte may be in a member name
+abbrev pub is_name_byte : ℕ → Bool
+is_name_byte byte = is_name_start byte || is_ascii_digit byte
+
+-- the word that a text starts with, which may be empty
+abbrev pub word_of : List ℕ → List ℕ
+word_of text = take_while is_name_byte text
+
+-- the part is somewhere in the text: at its start, or in what is left without its first byte; in an empty text nothing is
+abbrev pub holds : List ℕ → List ℕ → Bool
+holds [] part = false
+holds (x ∷ xs) part = starts_with nat_eq (x ∷ xs) part || holds xs part
+
+-- the first text is the second with its first two letters swapped
+abbrev pub is_swapped : List ℕ → List ℕ → Bool
+is_swapped (a ∷ b ∷ xs) (c ∷ d ∷ ys) = a == d && b == c && bytes_eq xs ys
+is_swapped _ _ = false
+
+-- The word is the name itself, or the name with one letter replaced, left out or put in, or with two neighbours swapped: after
+-- the letters that they share, the rest of the word is that of the name, or is so without the first letter of both, of the
+-- name or of the word, or with its first two swapped.
+abbrev pub is_one_letter_away : List ℕ → List ℕ → Bool
+is_one_letter_away (x ∷ xs) (y ∷ ys) =
+    x == y && is_one_letter_away xs ys || bytes_eq xs ys || bytes_eq (x ∷ xs) ys || bytes_eq xs (y ∷ ys)
+    || is_swapped (x ∷ xs) (y ∷ ys)
+is_one_letter_away (x ∷ xs) [] = length xs == 0
+is_one_letter_away [] (y ∷ ys) = length ys == 0
+is_one_letter_away [] [] = true
+
+-- ---- conditions
+
+pub data Condition : Type 0 where
+  Any : Condition
+  Empty : Condition
+  Starts : List (List ℕ) → Condition
+  Ends : List (List ℕ) → Condition
+  Holds : List (List ℕ) → Condition
+  Word : List (List ℕ) → Condition
+  Near : List ℕ → Condition
+  Name : Condition
+  Dashed : Condition
+  Digit : Condition
+  EndsInName : Condition
+  EndsInLetter : Condition
+  EndsInDigit : Condition
+
+-- there is a byte, and it passes the test
+abbrev pub passes : (ℕ → Bool) → Option ℕ → Bool
+passes test None = false
+passes test (Some byte) = test byte
+
+abbrev pub first_passes : (ℕ → Bool) → List ℕ → Bool
+first_passes test text = passes test (slice_get text 0)
+
+abbrev pub last_passes : (ℕ → Bool) → List ℕ → Bool
+last_passes test text = passes test (slice_get text (length text - 1))
+
+-- the text is as the condition says
+abbrev pub is_met : Condition → List ℕ → Bool
+is_met Any text = true
+is_met Empty text = length text == 0
+is_met (Starts starts) text = list_any (λ start. starts_with nat_eq text start) starts
+is_met (Ends ends) text = list_any (λ end. ends_with nat_eq text end) ends
+is_met (Holds parts) text = list_any (λ part. holds text part) parts
+is_met (Word words) text = list_any (λ word. str_eq_ignore_ascii_case (word_of text) word) words
+is_met (Near name) text = is_one_letter_away (word_of text) name
+is_met Name text = first_passes is_name_start text
+is_met Dashed text = starts_with nat_eq text (codes "-") && first_passes is_name_start (drop 1 text)
+is_met Digit text = first_passes is_ascii_digit text
+is_met EndsInName text = last_passes is_name_byte text
+is_met EndsInLetter text = last_passes is_name_start text
+is_met EndsInDigit text = last_passes is_ascii_digit text

@@ -1,0 +1,2 @@
+-- Declared: what the types of `src/` stand for.
+pub mod Declared

@@ -1,0 +1,7 @@
+-- What contracts cite:
+-- Hints: the table of slips, and which of them is told.
+-- Conditions: what is said of the text on one side of a place.
+-- Inside: what only private functions cite.
+pub mod Conditions
+pub mod Hints
+pub mod Inside

@@ -1,0 +1,21 @@
+//! What was probably meant where a text is refused as a path.
+//!
+//! [`hint`] names the slip that the kind of a refusal and the text around its place show. It takes no memory.
+//!
+//! ```text
+//! let text = "$[?@.a = 1]";
+//! let e = parse(alloc, &mut TextSource::new(text), &Builtin).unwrap_err();
+//! assert_eq!(rt; hint(text, &e), Some("equality is written =="));
+//! ```
+//!
+//! Definitions are in `specs/`: `Hints` has the slips as a table and says which of them is told, `Conditions` what is said of
+//! the text on either side of a place.
+#![tactic(auto)]
+
+mod condition;
+mod hints;
+mod near;
+mod slip;
+mod slips;
+
+pub use hints::hint;

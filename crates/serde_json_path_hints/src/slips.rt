@@ -1,0 +1,48 @@
+//! The table of slips, by the kind of refusal. Of two slips that are both there, the first is told.
+
+mod calls;
+mod expressions;
+mod operands;
+mod paths;
+mod selectors;
+mod texts;
+
+ghost use Rattle.std.specs.Prelude.{◌≡◌, ◌++◌, map};
+ghost use Rattle.serde_json_path_hints.specs.Inside.Declared.{slip_of};
+ghost use Rattle.serde_json_path_hints.specs.Hints.{slips_of};
+
+use crate::slip::Slip;
+use serde_json_path_parser::ParseErrorKind;
+
+/// The slips of a kind of refusal: its own, and after them those that it shares with other kinds.
+pub(crate) fn slips_of(kind: ParseErrorKind) -> (&'static [Slip], &'static [Slip])
+    ensures { map slip_of result.0.now ++ map slip_of result.1.now ≡ slips_of kind }
+{
+    use ParseErrorKind as Kind;
+    match kind {
+        Kind::ExpectedRoot => (paths::ROOT, &[]),
+        Kind::BadMemberName => (paths::MEMBER_NAME, &[]),
+        Kind::TextAfterPath => (paths::AFTER_PATH, &[]),
+        Kind::ExpectedSelector => (selectors::SELECTOR, &[]),
+        Kind::ExpectedClosingBracket => (selectors::CLOSING_BRACKET, operands::AFTER_OPERAND),
+        Kind::IntegerOutOfRange => (selectors::INTEGER, &[]),
+        Kind::ExpectedClosingParenthesis => {
+            (operands::CLOSING_PARENTHESIS, operands::AFTER_OPERAND)
+        }
+        Kind::ExpectedComparisonOperator => (operands::AFTER_LITERAL, operands::AFTER_OPERAND),
+        Kind::ExpectedExpression => (expressions::EXPRESSION, &[]),
+        Kind::NonSingularQuery => (expressions::COMPARED_QUERY, &[]),
+        Kind::NestedTooDeep => (expressions::NESTING, &[]),
+        Kind::UndefinedFunction => (calls::FUNCTION, &[]),
+        Kind::WrongNumberOfArguments => (calls::NUMBER_OF_ARGUMENTS, &[]),
+        Kind::WrongArgumentType => (calls::ARGUMENT, &[]),
+        Kind::WrongReturnType => (calls::RESULT, &[]),
+        Kind::ExpectedEndingQuote => (texts::ENDING_QUOTE, &[]),
+        Kind::BadEscape => (texts::ESCAPE, &[]),
+        Kind::ControlCharacter => (texts::CONTROL_CHARACTER, &[]),
+        Kind::ExponentOrEmptyFraction => (texts::EXPONENT, &[]),
+        Kind::FractionTooLong => (texts::FRACTION, &[]),
+        Kind::NumberOutOfRange => (texts::NUMBER, &[]),
+        Kind::NoMemory => (&[], &[]),
+    }
+}
