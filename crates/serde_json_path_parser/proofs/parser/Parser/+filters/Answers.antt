@@ -1,6 +1,6 @@
 use Rattle.serde_json_path_parser.proofs.Reading.{first_fails, no_longer, with_none}
 use Rattle.serde_json_path_parser.proofs.Texts.{is_ahead}
-use Rattle.serde_json_path_parser.proofs.Words.{drop, false, ◌≡◌, ◌∙◌, [], Some, Err, refl, sym, ap, option_map, arith, true≢false, past_blanks, string_bytes, nil_from_length, err_from_is_err_and, literal_view, operator_view, a_comparable, logical_argument, call, signature_view, alone, and_list, or_list, signatures, deeper, begins, is_at, opens, a_literal, a_call, left, common_steps, selector_list, segments_at, segment_list, named_call_at, calls_in_operand, a_query, AreAndPartsOf, AreOrPartsOf, AreSelectorsOf, map, kind_view, argument_at, segment_kind_view, query_kind_view}
+use Rattle.serde_json_path_parser.proofs.Words.{drop, ◌∙◌, [], Some, Err, refl, sym, ap, option_map, arith, true≢false, past_blanks, string_bytes, nil_from_length, err_from_is_err_and, literal_view, operator_view, a_comparable, logical_argument, call, signature_view, alone, and_list, or_list, signatures, deeper, begins, is_at, opens, a_literal, a_call, left, common_steps, selector_list, segments_at, segment_list, named_call_at, calls_in_operand, a_query, AreAndPartsOf, AreOrPartsOf, AreSelectorsOf, map, kind_view, argument_at, segment_kind_view, query_kind_view}
 use Rattle.serde_json_path_parser.specs.Inside.Giving.{filter_at}
 use Rattle.serde_json_path_parser.proofs.Steps.{none_made, one_more, first_refused, first_open, alone_calls, literal_word_reads, level_down, at_mark, value_kind, negated_named, no_call, grows_none, grows_kept, grows_same, grows_then, grows_call, grown_so, begins_row, row_fails, row_shorter, row_goes_on, row_done, segments_stand, selectors_stand, ors_stand, ands_stand, segment_shorter, some_parts}
 use Rattle.serde_json_path_parser.proofs.parser.Parser.+filters.Goals as goal
@@ -108,19 +108,10 @@ parse_arguments-returns-then-not-sees-clause-gives g t c =
     (one_more a.0 c.arguments.invariant.so_far c.in_ok-push.ensures.items (c.in_ok-part.ensures.made _ a.0 a.1) (grows_kept a.3 c.part.ensures.keeps) (grind (arith, common_steps, a.2, fits))).made _ _ _ c.parse_end-then-not-sees.result
     (none_made _ c.part.new.builder c.push.new.self.items _ _ _ c.parse_end-then-not-sees.ensures.gives)
 
-pub parse_basic-returns-in_ok-paren-in-Some-eq40-clause-gives : goal.parse_basic-returns-in_ok-paren-in-Some-eq40-clause-gives
-parse_basic-returns-in_ok-paren-in-Some-eq40-clause-gives g t c =
-    let inner = c.in_ok-inner-in-Some-eq40.ensures.gives in
-    let begun = is_ahead 40 _ _ (omega arith) c.in-Some-eq40.ensures (grind (arith, common_steps)) in
-    (tree.paren inner.0, c.in_ok-paren-in-Some-eq40.ensures.made inner.0 inner.1, rw (ap (is_at "(") begun, inner.2) refl, grows_kept inner.3 c.paren.ensures.keeps)
-
-pub parse_basic-returns-in_ok-operand-in_default-clause-gives : goal.parse_basic-returns-in_ok-operand-in_default-clause-gives
-parse_basic-returns-in_ok-operand-in_default-clause-gives g t c =
-    let o = c.in_ok-operand-in_default.ensures.gives in
-    let made = rw c.bytes_left-place.ensures.value at (c.parse_basic_from.ensures.gives o.0 o.1) in
-    let no_parenthesis : is_at "(" (left c.args.reader.now) ≡ false = grind (arith, common_steps) in
-    let no_negation : is_at "!" (left c.args.reader.now) ≡ false = grind (arith, common_steps) in
-    rw (no_parenthesis, no_negation, o.2) (grown_so _ _ _ _ _ c.parse_basic_from.result made (λ b grown. grown c.args.builder.now o.3))
+pub parse_basic-returns-then-sees-clause-gives : goal.parse_basic-returns-then-sees-clause-gives
+parse_basic-returns-then-sees-clause-gives g t c =
+    let inner = c.in_ok-inner.ensures.gives in
+    (tree.paren inner.0, c.in_ok-paren.ensures.made inner.0 inner.1, grind (arith, common_steps), grows_kept inner.3 c.paren.ensures.keeps)
 
 pub parse_basic_from-returns-in_default-clause-gives : goal.parse_basic_from-returns-in_default-clause-gives
 parse_basic_from-returns-in_default-clause-gives g t c = λ x is.
@@ -356,11 +347,15 @@ parse_segments-returns-clause-gives g t c =
     let row = so_far.3 in
     (row.items, so_far.0, row.are, so_far.1, so_far.2, row_done (segments_stand _ _ _) row (grind (arith, common_steps)) refl, row.grown c.args.builder.now (grows_none c.args.builder.now))
 
-pub parse_selector-returns-in_ok-filter-in-Some-eq63-clause-gives : goal.parse_selector-returns-in_ok-filter-in-Some-eq63-clause-gives
-parse_selector-returns-in_ok-filter-in-Some-eq63-clause-gives g t c =
-    let read = c.in_ok-test-in-Some-eq63.ensures.gives in
-    let begun = is_ahead 63 _ _ (omega arith) c.in-Some-eq63.ensures (grind (arith, common_steps)) in
-    (tree.filter read.0, c.in_ok-filter-in-Some-eq63.ensures.made read.0 read.1, rw (at_mark (signatures g.F.Functions.set c.args.self.now) (deeper g.F.Functions.set c.args.self.now) (left c.args.reader.now) (ap (is_at "?") begun), read.2) refl, grows_kept read.3 c.filter.ensures.keeps)
+pub parse_selector-returns-in_err-test-clause-gives : goal.parse_selector-returns-in_err-test-clause-gives
+parse_selector-returns-in_err-test-clause-gives g t c =
+    let p = err_from_is_err_and c.from_residual.result c.from_residual.ensures.1 in
+    rw (p.1, p.2, at_mark (signatures g.F.Functions.set c.args.self.now) (deeper g.F.Functions.set c.args.self.now) (left c.args.reader.now) (sym c.sees.ensures ∙ c.if-sees.true)) (first_fails c.in_err-test.field-0.0 _ _ c.in_err-test.ensures.gives)
+
+pub parse_selector-returns-then-sees-clause-gives : goal.parse_selector-returns-then-sees-clause-gives
+parse_selector-returns-then-sees-clause-gives g t c =
+    let read = c.in_ok-test.ensures.gives in
+    (tree.filter read.0, c.in_ok-filter.ensures.made read.0 read.1, rw (at_mark (signatures g.F.Functions.set c.args.self.now) (deeper g.F.Functions.set c.args.self.now) (left c.args.reader.now) (sym c.sees.ensures ∙ c.if-sees.true), read.2) refl, grows_kept read.3 c.filter.ensures.keeps)
 
 pub parse_selectors-selectors-init : goal.parse_selectors-selectors-init
 parse_selectors-selectors-init g t c =
@@ -409,3 +404,10 @@ pub parse_logical_and-returns-clause-gives : goal.parse_logical_and-returns-clau
 parse_logical_and-returns-clause-gives g t c =
     let one = c.in_ok-first.ensures.gives in
     rw one.2 (grown_so _ _ _ _ _ c.parse_and_from.result (c.parse_and_from.ensures.gives one.0 one.1) (λ e grown. grown c.args.builder.now one.3))
+
+pub parse_basic-returns-clause-gives : goal.parse_basic-returns-clause-gives
+parse_basic-returns-clause-gives g t c =
+    let o = c.in_ok-operand.ensures.gives in
+    let made = rw c.bytes_left-place.ensures.value at (c.parse_basic_from.ensures.gives o.0 o.1) in
+    rw (sym c.sees.ensures ∙ c.if-sees.false, sym c.sees-2.ensures ∙ c.if-sees-2.false, o.2)
+    (grown_so _ _ _ _ _ c.parse_basic_from.result made (λ b grown. grown c.args.builder.now o.3))
