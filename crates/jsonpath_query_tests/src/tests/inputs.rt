@@ -108,8 +108,9 @@ pub(crate) fn run_line(alloc: Global, line: &str, standard: &str) -> Result<Ran,
         standard,
         fails_at: usize::MAX,
     };
-    let mut out: Vec<u8> = Vec::new(alloc);
-    let mut err: Vec<u8> = Vec::new(alloc);
+    // With room for all that is written, so that each request of the run is one of the program.
+    let mut out: Vec<u8> = Vec::with_capacity(alloc, 16_384)?;
+    let mut err: Vec<u8> = Vec::with_capacity(alloc, 16_384)?;
     let status = run(alloc, &words, false, &mut inputs, &mut out, &mut err);
     Ok(Ran {
         status,
