@@ -198,7 +198,7 @@ int main(void) {
     refuses("$['a'", JSONPATH_EXPECTED_CLOSING_BRACKET, 6, "in long-hand segment, expected closing ']'");
     refuses("$[?@ == 0.0000000001]", JSONPATH_FRACTION_TOO_LONG, 9, "in long-hand segment, fraction of more than 9 digits");
     hints("$.a b", "`$['a b']`: such a name is quoted in brackets");
-    hints("$[?@.a = 1]", "`==`: there is no assignment");
+    hints("$[?@.a = 1]", "equality is written ==");
     hints("#.a", "");
     hints("$.a", "");
     hints("", "`$` for the whole document");

@@ -31,7 +31,7 @@ REFUSALS = [
 HINTS = [
     (b"", b"`$` for the whole document"),
     (b"$.a b", b"`$['a b']`: such a name is quoted in brackets"),
-    (b"$[?@.a = 1]", b"`==`: there is no assignment"),
+    (b"$[?@.a = 1]", b"equality is written =="),
     (b"#.a", b""),
     (b"$.a", b""),
 ]

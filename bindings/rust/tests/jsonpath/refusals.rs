@@ -145,7 +145,7 @@ const HINTS: &[(&str, Option<&str>)] = &[
         "$.é-b",
         Some("`$['a-b']`: such a name is quoted in brackets"),
     ),
-    ("$[?@.a = 1]", Some("`==`: there is no assignment")),
+    ("$[?@.a = 1]", Some("equality is written ==")),
 ];
 
 /// Holds the refusal of a path to its row.
