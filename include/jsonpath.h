@@ -5,12 +5,17 @@
  * 1e2) is found and printed, but equals nothing and is neither less nor greater than anything. Filters have the functions of
  * RFC 9535, and no others.
  *
- * Every call works on what it is handed, keeps nothing, and may run beside any other. A text is bytes and a length in
- * bytes, and needs no NUL at its end.
+ * A call with two texts reads both each time. A program that asks many paths, or many documents, compiles a path once and reads
+ * a document once, and keeps each in a handle: `jsonpath_path *`, `jsonpath_document *`, and `jsonpath_nodes *` for a list of
+ * nodes. A handle begins as NULL, which is empty; a call that fills or empties it is handed its address. Every call works on
+ * what it is handed and keeps nothing else. A text is bytes and a length in bytes, and needs no NUL at its end.
  *
  * What the caller must keep to; nothing checks it:
  *   - A pointer is not null, also where its length is 0, and the memory behind it is valid for that length. What a call may
  *     write (`out`, `length`, `refusal`) overlaps nothing else that the call is handed, and no other thread uses it meanwhile.
+ *   - A variable of a handle is NULL at first, is changed by these calls alone, and is not copied: what two variables hold would
+ *     be freed twice. A call uses a handle as if it wrote it: no other thread uses it meanwhile, and one call is not handed the
+ *     same variable twice. Between calls a handle may go from one thread to another, with what orders their memory.
  *   - The stack has 1 MB left. A call uses what the depth of the path and of the document takes, 128 levels of each at most.
  *   - No call is made from a signal handler, nor in the child of a fork of a process with threads. malloc, realloc and free
  *     are those of one allocator, and align blocks as the C standard asks.
@@ -37,6 +42,10 @@ extern "C" {
 #define JSONPATH_NO_MEMORY 4        /* Memory was refused. */
 #define JSONPATH_NO_ROOM 5          /* `out` is too small; `*length` says how many bytes are needed. */
 #define JSONPATH_NOT_UTF8 6         /* The path is not UTF-8. */
+#define JSONPATH_EMPTY_HANDLE 7     /* A handle that the call needs is empty. */
+#define JSONPATH_CUT_SHORT 8        /* There is more than the limits allow; what comes before is answered. */
+#define JSONPATH_DOCUMENT_TOO_DEEP 9 /* The document nests deeper than 127 levels (of `jsonpath_document_new`). */
+#define JSONPATH_NO_SUCH_NODE 10    /* The list has no node of that index, or it is not what is asked for. */
 
 /* Kinds of refusals of a path. */
 #define JSONPATH_EXPECTED_ROOT 1                 /* There is no `$` at the start. */
@@ -96,6 +105,116 @@ uint8_t jsonpath_values(const uint8_t *path, size_t path_length, const uint8_t *
 /* As jsonpath_report, with the normalised path alone in each line, and a line feed. */
 uint8_t jsonpath_locations(const uint8_t *path, size_t path_length, const uint8_t *document, size_t document_length,
                            uint8_t *out, size_t out_length, size_t *length, struct jsonpath_refusal *refusal);
+
+/* ---- Paths, documents and nodes that a program keeps. With a status of refusal a call leaves what it is handed as it was. */
+
+typedef struct jsonpath_path jsonpath_path;
+typedef struct jsonpath_document jsonpath_document;
+typedef struct jsonpath_nodes jsonpath_nodes;
+
+/* How the comparisons of a path take the numbers of documents. */
+#define JSONPATH_WHOLE_NUMBERS 0 /* Those that are held as 64-bit integers; any other equals nothing. */
+#define JSONPATH_ALL_NUMBERS 1   /* All, by their exact value, as RFC 9535 compares them. */
+
+/* Compiles a path under the built-in functions: DONE, PATH_REFUSED, NO_MEMORY or NOT_UTF8. The path is in `*path` then, and what
+ * was there is freed. `numbers` is one of the two above (any but 0 is the second). `*refusal` is written with PATH_REFUSED
+ * alone. */
+uint8_t jsonpath_path_new(const uint8_t *text, size_t text_length, uint8_t numbers, jsonpath_path **path,
+                          struct jsonpath_refusal *refusal);
+
+/* Frees a path and makes the variable NULL. Of NULL it does nothing. */
+void jsonpath_path_free(jsonpath_path **path);
+
+/* A path's text, as it is printed: DONE, NO_MEMORY, NO_ROOM or EMPTY_HANDLE. `out` and `*length` are written as by
+ * jsonpath_report. */
+uint8_t jsonpath_path_text(jsonpath_path **path, uint8_t *out, size_t out_length, size_t *length);
+
+/* Whether two paths have the same tree, whatever they do with numbers: DONE with 1 or 0 in `*equal`, or EMPTY_HANDLE. */
+uint8_t jsonpath_path_equals(jsonpath_path **path, jsonpath_path **other, uint8_t *equal);
+
+/* Reads a document: DONE, DOCUMENT_REFUSED, DOCUMENT_TOO_DEEP or NO_MEMORY. The document is in `*document` then, and what was
+ * there is freed. With one of the two refusals `*position` is the byte, from 1, where it shows. */
+uint8_t jsonpath_document_new(const uint8_t *bytes, size_t bytes_length, jsonpath_document **document, size_t *position);
+
+/* Frees a document and makes the variable NULL. Of NULL it does nothing. */
+void jsonpath_document_free(jsonpath_document **document);
+
+/* What lines have of a node. */
+#define JSONPATH_LINES 0     /* Its normalised path, a tab, and its compact JSON. */
+#define JSONPATH_VALUES 1    /* Its compact JSON. */
+#define JSONPATH_LOCATIONS 2 /* Its normalised path. */
+
+/* How much a call may answer; SIZE_MAX for no limit. */
+struct jsonpath_limits {
+    size_t nodes; /* How many nodes. */
+    size_t bytes; /* How many bytes of lines. */
+};
+
+/* A line for each node of the document that the path selects, in order, in a form (any but 1 and 2 is JSONPATH_LINES): DONE,
+ * CUT_SHORT, QUERY_REFUSED, NO_MEMORY, NO_ROOM or EMPTY_HANDLE. With DONE and CUT_SHORT the lines are the first `*length` bytes
+ * of `out`; with CUT_SHORT they are those before the first node that would go beyond the limits, and the query stops there.
+ * With NO_ROOM `*length` is how many bytes they are. */
+uint8_t jsonpath_lines(jsonpath_path **path, jsonpath_document **document, uint8_t form, const struct jsonpath_limits *limits,
+                       uint8_t *out, size_t out_length, size_t *length);
+
+/* How many nodes a path selects: DONE, QUERY_REFUSED, NO_MEMORY or EMPTY_HANDLE. */
+uint8_t jsonpath_count(jsonpath_path **path, jsonpath_document **document, size_t *count);
+
+/* Whether a path selects a node, 1 or 0 in `*exists`; it stops at the first: statuses as of jsonpath_count. */
+uint8_t jsonpath_exists(jsonpath_path **path, jsonpath_document **document, uint8_t *exists);
+
+/* A list of the nodes that a path selects, at most so many, in order: DONE, CUT_SHORT, QUERY_REFUSED, NO_MEMORY or EMPTY_HANDLE.
+ * With `unique` other than 0 each location comes once, where it comes first; all nodes are held for it meanwhile. The list is in
+ * `*nodes` with DONE and, if there are more nodes, with CUT_SHORT; what was there is freed. It has a node's location, kind and
+ * number, and outlives the document; strings and JSON are in the document. */
+uint8_t jsonpath_select(jsonpath_path **path, jsonpath_document **document, uint8_t unique, size_t most,
+                        jsonpath_nodes **nodes);
+
+/* Frees a list and makes the variable NULL. Of NULL it does nothing. */
+void jsonpath_nodes_free(jsonpath_nodes **nodes);
+
+/* How many nodes a list has: DONE or EMPTY_HANDLE. */
+uint8_t jsonpath_nodes_length(jsonpath_nodes **nodes, size_t *length);
+
+/* Kinds of nodes. A number is of the first of its three kinds that holds it. */
+#define JSONPATH_NULL 0
+#define JSONPATH_FALSE 1
+#define JSONPATH_TRUE 2
+#define JSONPATH_INTEGER 3  /* An int64_t. */
+#define JSONPATH_UNSIGNED 4 /* A uint64_t that is no int64_t. */
+#define JSONPATH_DOUBLE 5
+#define JSONPATH_STRING 6
+#define JSONPATH_ARRAY 7
+#define JSONPATH_OBJECT 8
+
+/* What is known of a node. What its kind does not have is 0. */
+struct jsonpath_node {
+    uint32_t kind;           /* One of the kinds above. */
+    size_t length;           /* The bytes of a string, the items of an array, the members of an object. */
+    int64_t integer;         /* Of JSONPATH_INTEGER. */
+    uint64_t unsigned_value; /* Of JSONPATH_UNSIGNED. */
+    double number;           /* Of JSONPATH_DOUBLE. */
+};
+
+/* What is known of the node at an index, from 0: DONE, EMPTY_HANDLE or NO_SUCH_NODE. */
+uint8_t jsonpath_node(jsonpath_nodes **nodes, size_t index, struct jsonpath_node *node);
+
+/* The normalised path of the node at an index: DONE, NO_MEMORY, NO_ROOM, EMPTY_HANDLE or NO_SUCH_NODE. `out` and `*length` are
+ * written as by jsonpath_report, here and below. */
+uint8_t jsonpath_node_location(jsonpath_nodes **nodes, size_t index, uint8_t *out, size_t out_length, size_t *length);
+
+/* The JSON pointer (RFC 6901) of the node at an index, likewise. */
+uint8_t jsonpath_node_pointer(jsonpath_nodes **nodes, size_t index, uint8_t *out, size_t out_length, size_t *length);
+
+/* The bytes of the string at an index, as the document has it at that node's location: DONE, NO_ROOM, EMPTY_HANDLE or
+ * NO_SUCH_NODE, also where no string is there. */
+uint8_t jsonpath_node_text(jsonpath_nodes **nodes, jsonpath_document **document, size_t index, uint8_t *out,
+                           size_t out_length, size_t *length);
+
+/* The compact JSON of what the document has at the location of the node at an index: DONE, NO_MEMORY, NO_ROOM, EMPTY_HANDLE or
+ * NO_SUCH_NODE, also where nothing is there. */
+uint8_t jsonpath_node_json(jsonpath_nodes **nodes, jsonpath_document **document, size_t index, uint8_t *out,
+                           size_t out_length, size_t *length);
 
 /* The library's version: major * 10000 + minor * 100 + patch. */
 uint32_t jsonpath_version(void);

@@ -95,12 +95,6 @@ static void gives(lines_call *call, const char *path, const char *document, cons
     }
 }
 
-static void selects(const char *path, const char *document, const char *report, const char *values, const char *locations) {
-    gives(jsonpath_report, path, document, report);
-    gives(jsonpath_values, path, document, values);
-    gives(jsonpath_locations, path, document, locations);
-}
-
 /* Holds the status of each call for lines. */
 static void answers(uint8_t status, const char *path, const char *document, size_t document_length) {
     lines_call *calls[] = {jsonpath_report, jsonpath_values, jsonpath_locations};
@@ -184,6 +178,553 @@ static void texts(void) {
     holds(jsonpath_version() == 702, "version", "0.7.2");
 }
 
+/* ---- Handles. */
+
+/* What a call is asked with. */
+struct asked_with {
+    jsonpath_path *path;
+    jsonpath_document *document;
+    jsonpath_nodes *nodes;
+    size_t index; /* Of a node. */
+    uint8_t form; /* Of lines, as `limits`. */
+    struct jsonpath_limits limits;
+};
+
+static const struct jsonpath_limits NO_LIMITS = {SIZE_MAX, SIZE_MAX};
+
+/* A call that writes a text. */
+typedef uint8_t text_call(struct asked_with *, uint8_t *out, size_t out_length, size_t *length);
+
+static uint8_t path_text(struct asked_with *with, uint8_t *out, size_t out_length, size_t *length) {
+    return jsonpath_path_text(&with->path, out, out_length, length);
+}
+static uint8_t lines(struct asked_with *with, uint8_t *out, size_t out_length, size_t *length) {
+    return jsonpath_lines(&with->path, &with->document, with->form, &with->limits, out, out_length, length);
+}
+static uint8_t location(struct asked_with *with, uint8_t *out, size_t out_length, size_t *length) {
+    return jsonpath_node_location(&with->nodes, with->index, out, out_length, length);
+}
+static uint8_t pointer(struct asked_with *with, uint8_t *out, size_t out_length, size_t *length) {
+    return jsonpath_node_pointer(&with->nodes, with->index, out, out_length, length);
+}
+static uint8_t text(struct asked_with *with, uint8_t *out, size_t out_length, size_t *length) {
+    return jsonpath_node_text(&with->nodes, &with->document, with->index, out, out_length, length);
+}
+static uint8_t json(struct asked_with *with, uint8_t *out, size_t out_length, size_t *length) {
+    return jsonpath_node_json(&with->nodes, &with->document, with->index, out, out_length, length);
+}
+
+/* Compiles a path that is one, in a handle that may be filled. */
+static void compile(jsonpath_path **path, const char *text, uint8_t numbers) {
+    struct jsonpath_refusal refusal;
+    uint8_t *copy = copied(text, strlen(text));
+    memset(&refusal, UNTOUCHED, sizeof refusal);
+    holds(jsonpath_path_new(copy, strlen(text), numbers, path, &refusal) == JSONPATH_DONE, "compiled", text);
+    holds(*path != NULL && is_untouched(&refusal, sizeof refusal), "compiled to a handle", text);
+    free(copy);
+}
+
+/* Reads a document that is one, in a handle that may be filled. */
+static void read_to(jsonpath_document **document, const char *text) {
+    size_t position = 7;
+    uint8_t *copy = copied(text, strlen(text));
+    holds(jsonpath_document_new(copy, strlen(text), document, &position) == JSONPATH_DONE, "read", text);
+    holds(*document != NULL && position == 7, "read to a handle", text);
+    free(copy);
+}
+
+/* A path, a document, and the list of the nodes that it selects. */
+static struct asked_with asked_of(const char *path, uint8_t numbers, const char *document) {
+    struct asked_with with = {NULL, NULL, NULL, 0, JSONPATH_VALUES, NO_LIMITS};
+    compile(&with.path, path, numbers);
+    read_to(&with.document, document);
+    uint8_t status = jsonpath_select(&with.path, &with.document, 0, SIZE_MAX, &with.nodes);
+    holds(status == JSONPATH_DONE && with.nodes != NULL, "selected", path);
+    return with;
+}
+
+/* Frees each handle, and once more, which does nothing. */
+static void emptied(struct asked_with *with) {
+    for (int times = 0; times < 2; times++) {
+        jsonpath_path_free(&with->path);
+        jsonpath_document_free(&with->document);
+        jsonpath_nodes_free(&with->nodes);
+        holds(!with->path && !with->document && !with->nodes, "a handle that is freed", "NULL");
+    }
+}
+
+/* Holds a call's text to what is wanted, with room to spare, with just enough, with a byte too little and with none. */
+static void writes(text_call *call, struct asked_with *with, uint8_t status, const char *wanted, const char *what) {
+    size_t length = strlen(wanted), rooms[] = {ROOM, length, length - 1, 0};
+    for (int at = 0; at < (length ? 4 : 2); at++) {
+        struct answer answer = lent(rooms[at]);
+        int fits = length <= rooms[at];
+        answer.status = call(with, answer.out, rooms[at], &answer.length);
+        holds(answer.status == (fits ? status : JSONPATH_NO_ROOM), "status of a text", what);
+        holds(answer.length == length, "length of a text", what);
+        holds(!fits || !memcmp(answer.out, wanted, length), "text", what);
+        holds(is_untouched(answer.out + (fits ? length : 0), rooms[at] - (fits ? length : 0)), "text is too long", what);
+        free(answer.out);
+    }
+}
+
+/* Holds a call for a text to a status with which nothing is written. */
+static void writes_nothing(text_call *call, struct asked_with *with, uint8_t status, const char *what) {
+    struct answer answer = lent(ROOM);
+    answer.status = call(with, answer.out, ROOM, &answer.length);
+    holds(answer.status == status, "status without a text", what);
+    holds(is_untouched(answer.out, ROOM), "out is written without a text", what);
+    holds(is_untouched(&answer.length, sizeof answer.length), "length is written without a text", what);
+    free(answer.out);
+}
+
+/* Holds what compiled paths select to what the calls with two texts give. */
+static void selects_compiled(const char *path, const char *document, const char *report, const char *values,
+                             const char *locations) {
+    const char *wanted[] = {report, values, locations, report, report};
+    uint8_t forms[] = {JSONPATH_LINES, JSONPATH_VALUES, JSONPATH_LOCATIONS, 3, 255}, exists = 7;
+    struct asked_with with = asked_of(path, JSONPATH_WHOLE_NUMBERS, document);
+    for (int at = 0; at < 5; at++) {
+        with.form = forms[at];
+        writes(lines, &with, JSONPATH_DONE, wanted[at], path);
+    }
+    size_t count = 7, length = 7, nodes = 0;
+    for (const char *at = values; (at = strchr(at, '\n')); at++) nodes++;
+    holds(jsonpath_count(&with.path, &with.document, &count) == JSONPATH_DONE && count == nodes, "count", path);
+    holds(jsonpath_exists(&with.path, &with.document, &exists) == JSONPATH_DONE && exists == !!nodes, "exists", path);
+    holds(jsonpath_nodes_length(&with.nodes, &length) == JSONPATH_DONE && length == nodes, "length of a list", path);
+    for (; with.index < nodes; with.index++) {
+        char value[ROOM], place[ROOM];
+        sscanf(values, "%[^\n]", value), values += strlen(value) + 1;
+        sscanf(locations, "%[^\n]", place), locations += strlen(place) + 1;
+        writes(json, &with, JSONPATH_DONE, value, path);
+        writes(location, &with, JSONPATH_DONE, place, path);
+    }
+    emptied(&with);
+}
+
+/* Holds what a path selects to lines of each form. */
+static void selects(const char *path, const char *document, const char *report, const char *values, const char *locations) {
+    gives(jsonpath_report, path, document, report);
+    gives(jsonpath_values, path, document, values);
+    gives(jsonpath_locations, path, document, locations);
+    selects_compiled(path, document, report, values, locations);
+}
+
+/* Paths: what is printed, what is equal, and refusals, which leave a handle as it was. */
+static void compiled_paths(void) {
+    struct asked_with with = asked_of("$[ \"a\",0 ] .b", JSONPATH_WHOLE_NUMBERS, "{}");
+    const char *printed = "$['a', 0].b";
+    writes(path_text, &with, JSONPATH_DONE, printed, printed);
+    jsonpath_path *other = NULL;
+    uint8_t equal = 7;
+    compile(&other, printed, JSONPATH_ALL_NUMBERS);
+    holds(jsonpath_path_equals(&with.path, &other, &equal) == JSONPATH_DONE && equal == 1, "equal", printed);
+    compile(&other, "$", 255); /* What was there is freed. */
+    holds(jsonpath_path_equals(&other, &with.path, &equal) == JSONPATH_DONE && equal == 0, "not equal", printed);
+
+    struct jsonpath_refusal refusal;
+    uint8_t status = jsonpath_path_new((const uint8_t *)"$.a ", 4, 0, &with.path, &refusal);
+    holds(status == JSONPATH_PATH_REFUSED, "refused to a handle", "$.a ");
+    holds(refusal.kind == JSONPATH_TEXT_AFTER_PATH && refusal.position == 4, "refusal to a handle", "$.a ");
+    memset(&refusal, UNTOUCHED, sizeof refusal);
+    status = jsonpath_path_new((const uint8_t *)"$\xff", 2, 0, &with.path, &refusal);
+    holds(status == JSONPATH_NOT_UTF8, "not UTF-8 to a handle", "$\\xff");
+    holds(is_untouched(&refusal, sizeof refusal), "refusal is written with a handle", "$\\xff");
+    writes(path_text, &with, JSONPATH_DONE, printed, "path after refusals");
+    jsonpath_path *none = NULL;
+    holds(jsonpath_path_new((const uint8_t *)"", 0, 0, &none, &refusal) == JSONPATH_PATH_REFUSED, "refused", "");
+    holds(none == NULL, "a path that is refused fills a handle", "");
+    jsonpath_path_free(&other), emptied(&with);
+}
+
+/* How many nodes a path selects by each rule for numbers. */
+static void compares(const char *path, const char *document, size_t whole, size_t all) {
+    uint8_t rules[] = {JSONPATH_WHOLE_NUMBERS, JSONPATH_ALL_NUMBERS, 2, 255};
+    for (int at = 0; at < 4; at++) {
+        struct asked_with with = asked_of(path, rules[at], document);
+        size_t count = SIZE_MAX;
+        holds(jsonpath_count(&with.path, &with.document, &count) == JSONPATH_DONE, "status by a rule", path);
+        holds(count == (at ? all : whole), "count by a rule", path);
+        emptied(&with);
+    }
+}
+
+/* Holds the status and the byte of a document that is refused, in an empty handle and in one that is filled. */
+static void refuses_document(const char *bytes, size_t length, uint8_t wanted, size_t byte) {
+    struct asked_with with = asked_of("$", JSONPATH_WHOLE_NUMBERS, "[1]");
+    jsonpath_document *none = NULL;
+    size_t position = 0;
+    uint8_t *copy = copied(bytes, length);
+    holds(jsonpath_document_new(copy, length, &none, &position) == wanted, "status of a document", bytes);
+    holds(none == NULL && position == byte, "byte of a document", bytes);
+    holds(jsonpath_document_new(copy, length, &with.document, &position) == wanted, "status over a document", bytes);
+    writes(lines, &with, JSONPATH_DONE, "[1]\n", "document after a refusal");
+    free(copy), emptied(&with);
+}
+
+/* Arrays that nest so deep. */
+static char *nested(size_t depth) {
+    char *text = malloc(2 * depth + 1);
+    memset(text, '[', depth), memset(text + depth, ']', depth);
+    text[2 * depth] = 0;
+    return text;
+}
+
+/* Documents that nest 127 and 128 deep, and bytes that are none. */
+static void documents(void) {
+    char *most = nested(127), *deeper = nested(128);
+    struct asked_with with = asked_of("$..*", JSONPATH_WHOLE_NUMBERS, most);
+    size_t count = 0;
+    holds(jsonpath_count(&with.path, &with.document, &count) == JSONPATH_DONE && count == 126, "count", "127 deep");
+    read_to(&with.document, "[[], 1]"); /* What was there is freed. */
+    holds(jsonpath_count(&with.path, &with.document, &count) == JSONPATH_DONE && count == 2, "count", "read anew");
+    emptied(&with);
+    refuses_document(deeper, 256, JSONPATH_DOCUMENT_TOO_DEEP, 128);
+    refuses_document("", 0, JSONPATH_DOCUMENT_REFUSED, 1);
+    refuses_document("{", 1, JSONPATH_DOCUMENT_REFUSED, 2);
+    refuses_document("[1,]", 4, JSONPATH_DOCUMENT_REFUSED, 3);
+    refuses_document("[1,1e400]", 9, JSONPATH_DOCUMENT_REFUSED, 4);
+    refuses_document("[]\0", 3, JSONPATH_DOCUMENT_REFUSED, 3);
+    refuses_document("1 2", 3, JSONPATH_DOCUMENT_REFUSED, 3);
+    refuses_document("\"\xff\"", 3, JSONPATH_DOCUMENT_REFUSED, 2);
+    free(most), free(deeper);
+}
+
+/* Lines of three nodes, of 3, 4 and 2 bytes, within limits. */
+static void limits(void) {
+    struct {
+        struct jsonpath_limits limits;
+        const char *lines;
+    } rows[] = {
+        {{SIZE_MAX, SIZE_MAX}, "10\n200\n3\n"}, {{3, 9}, "10\n200\n3\n"}, {{4, 10}, "10\n200\n3\n"},
+        {{2, SIZE_MAX}, "10\n200\n"}, {{1, SIZE_MAX}, "10\n"}, {{0, SIZE_MAX}, ""}, {{SIZE_MAX, 8}, "10\n200\n"},
+        {{SIZE_MAX, 7}, "10\n200\n"}, {{SIZE_MAX, 6}, "10\n"}, {{1, 2}, ""}, {{SIZE_MAX, 0}, ""}, {{0, 0}, ""},
+    };
+    struct asked_with with = asked_of("$[*]", JSONPATH_WHOLE_NUMBERS, "[10,200,3]");
+    for (size_t at = 0; at < sizeof rows / sizeof *rows; at++) {
+        with.limits = rows[at].limits;
+        uint8_t status = strlen(rows[at].lines) == 9 ? JSONPATH_DONE : JSONPATH_CUT_SHORT;
+        writes(lines, &with, status, rows[at].lines, "lines within limits");
+    }
+    compile(&with.path, "$.a", JSONPATH_WHOLE_NUMBERS);
+    with.limits = (struct jsonpath_limits){0, 0};
+    writes(lines, &with, JSONPATH_DONE, "", "no lines within limits of 0");
+    emptied(&with);
+}
+
+/* Holds a list, in a handle that is filled before, to its locations, each ended by a blank. */
+static void lists(const char *path, uint8_t unique, size_t most, uint8_t wanted, const char *locations) {
+    struct asked_with with = asked_of("$..*", JSONPATH_WHOLE_NUMBERS, "{\"a\":1,\"b\":[2]}");
+    compile(&with.path, path, JSONPATH_WHOLE_NUMBERS);
+    uint8_t status = jsonpath_select(&with.path, &with.document, unique, most, &with.nodes);
+    holds(status == wanted, "status of a list", path);
+    char place[ROOM];
+    for (int taken; sscanf(locations, "%s %n", place, &taken) == 1; locations += taken, with.index++) {
+        writes(location, &with, JSONPATH_DONE, place, path);
+    }
+    size_t length = SIZE_MAX;
+    holds(jsonpath_nodes_length(&with.nodes, &length) == JSONPATH_DONE && length == with.index, "nodes of a list", path);
+    writes_nothing(location, &with, JSONPATH_NO_SUCH_NODE, path);
+    emptied(&with);
+}
+
+/* Lists of so many nodes, and of each location once. */
+static void selected(void) {
+    lists("$.*", 0, SIZE_MAX, JSONPATH_DONE, "$['a'] $['b'] ");
+    lists("$.*", 0, 2, JSONPATH_DONE, "$['a'] $['b'] ");
+    lists("$.*", 0, 1, JSONPATH_CUT_SHORT, "$['a'] ");
+    lists("$.*", 0, 0, JSONPATH_CUT_SHORT, "");
+    lists("$.x", 0, 0, JSONPATH_DONE, "");
+    lists("$['b','a','b']", 0, 3, JSONPATH_DONE, "$['b'] $['a'] $['b'] ");
+    lists("$['b','a','b']", 0, 2, JSONPATH_CUT_SHORT, "$['b'] $['a'] ");
+    lists("$['b','a','b']", 1, SIZE_MAX, JSONPATH_DONE, "$['b'] $['a'] ");
+    lists("$['b','a','b']", 255, 2, JSONPATH_DONE, "$['b'] $['a'] ");
+    lists("$['b','a','b']", 1, 1, JSONPATH_CUT_SHORT, "$['b'] ");
+    lists("$['b','a','b']", 1, 0, JSONPATH_CUT_SHORT, "");
+}
+
+/* Holds what is known of a document's root to what is wanted. */
+static void knows(const char *document, struct jsonpath_node wanted) {
+    struct asked_with with = asked_of("$", JSONPATH_WHOLE_NUMBERS, document);
+    struct jsonpath_node node;
+    memset(&node, UNTOUCHED, sizeof node);
+    holds(jsonpath_node(&with.nodes, 0, &node) == JSONPATH_DONE, "status of a node", document);
+    holds(node.kind == wanted.kind && node.length == wanted.length, "kind or length", document);
+    holds(node.integer == wanted.integer && node.unsigned_value == wanted.unsigned_value, "integer", document);
+    holds(node.number == wanted.number, "double", document);
+    memset(&node, UNTOUCHED, sizeof node);
+    holds(jsonpath_node(&with.nodes, 1, &node) == JSONPATH_NO_SUCH_NODE, "past the last node", document);
+    holds(jsonpath_node(&with.nodes, SIZE_MAX, &node) == JSONPATH_NO_SUCH_NODE, "far past the last node", document);
+    holds(is_untouched(&node, sizeof node), "node is written", document);
+    emptied(&with);
+}
+
+/* Nodes of each kind. */
+static void kinds(void) {
+    knows("null", (struct jsonpath_node){.kind = JSONPATH_NULL});
+    knows("false", (struct jsonpath_node){.kind = JSONPATH_FALSE});
+    knows("true", (struct jsonpath_node){.kind = JSONPATH_TRUE});
+    knows("0", (struct jsonpath_node){.kind = JSONPATH_INTEGER});
+    knows("9223372036854775807", (struct jsonpath_node){.kind = JSONPATH_INTEGER, .integer = INT64_MAX});
+    knows("-9223372036854775808", (struct jsonpath_node){.kind = JSONPATH_INTEGER, .integer = INT64_MIN});
+    knows("9223372036854775808",
+          (struct jsonpath_node){.kind = JSONPATH_UNSIGNED, .unsigned_value = (uint64_t)INT64_MAX + 1});
+    knows("18446744073709551615", (struct jsonpath_node){.kind = JSONPATH_UNSIGNED, .unsigned_value = UINT64_MAX});
+    knows("18446744073709551616", (struct jsonpath_node){.kind = JSONPATH_DOUBLE, .number = 18446744073709551616.0});
+    knows("8.95", (struct jsonpath_node){.kind = JSONPATH_DOUBLE, .number = 8.95});
+    knows("-1e2", (struct jsonpath_node){.kind = JSONPATH_DOUBLE, .number = -100.0});
+    knows("\"\"", (struct jsonpath_node){.kind = JSONPATH_STRING});
+    knows("\"\\u00e9b\"", (struct jsonpath_node){.kind = JSONPATH_STRING, .length = 3});
+    knows("[1,[2,3]]", (struct jsonpath_node){.kind = JSONPATH_ARRAY, .length = 2});
+    knows("[]", (struct jsonpath_node){.kind = JSONPATH_ARRAY});
+    knows("{\"a\":1,\"a\":2,\"b\":3}", (struct jsonpath_node){.kind = JSONPATH_OBJECT, .length = 2});
+}
+
+static const char *const NAMED = "{\"a/b\":[\"\\u00e9\\n\",{\"~\":[ ]}]}";
+
+/* The texts of nodes, in their document and in another one. */
+static void node_texts(void) {
+    struct asked_with with = asked_of("$['a/b'][*]", JSONPATH_WHOLE_NUMBERS, NAMED);
+    writes(location, &with, JSONPATH_DONE, "$['a/b'][0]", "location");
+    writes(pointer, &with, JSONPATH_DONE, "/a~1b/0", "pointer");
+    writes(text, &with, JSONPATH_DONE, "\xc3\xa9\n", "text");
+    writes(json, &with, JSONPATH_DONE, "\"\xc3\xa9\\n\"", "JSON");
+    with.index = 1;
+    writes(pointer, &with, JSONPATH_DONE, "/a~1b/1", "pointer of an object");
+    writes_nothing(text, &with, JSONPATH_NO_SUCH_NODE, "text of an object");
+    writes(json, &with, JSONPATH_DONE, "{\"~\":[]}", "JSON of an object");
+
+    read_to(&with.document, "{\"a/b\":[7,\"\"]}");
+    writes(text, &with, JSONPATH_DONE, "", "text in another document");
+    writes(json, &with, JSONPATH_DONE, "\"\"", "JSON in another document");
+    with.index = 0;
+    writes_nothing(text, &with, JSONPATH_NO_SUCH_NODE, "text of a number in another document");
+    writes(json, &with, JSONPATH_DONE, "7", "JSON of a number in another document");
+    read_to(&with.document, "{\"a/b\":{\"0\":\"a\"}}");
+    writes_nothing(text, &with, JSONPATH_NO_SUCH_NODE, "text where nothing is");
+    writes_nothing(json, &with, JSONPATH_NO_SUCH_NODE, "JSON where nothing is");
+    emptied(&with);
+}
+
+/* A list that outlives its path and its document, and what is past its last node. */
+static void lists_alone(void) {
+    struct asked_with with = asked_of("$['a/b'][*]", JSONPATH_WHOLE_NUMBERS, NAMED);
+    jsonpath_document_free(&with.document), jsonpath_path_free(&with.path);
+    struct jsonpath_node node;
+    holds(jsonpath_node(&with.nodes, 0, &node) == JSONPATH_DONE, "a node without its document", "list");
+    holds(node.kind == JSONPATH_STRING && node.length == 3, "kind without its document", "list");
+    writes(location, &with, JSONPATH_DONE, "$['a/b'][0]", "location without its document");
+    writes(pointer, &with, JSONPATH_DONE, "/a~1b/0", "pointer without its document");
+    writes_nothing(text, &with, JSONPATH_EMPTY_HANDLE, "text without a document");
+    writes_nothing(json, &with, JSONPATH_EMPTY_HANDLE, "JSON without a document");
+    read_to(&with.document, NAMED);
+    writes(text, &with, JSONPATH_DONE, "\xc3\xa9\n", "text in the document, read anew");
+    size_t past[] = {2, SIZE_MAX};
+    for (int at = 0; at < 2; at++) {
+        with.index = past[at];
+        writes_nothing(location, &with, JSONPATH_NO_SUCH_NODE, "location past the last node");
+        writes_nothing(pointer, &with, JSONPATH_NO_SUCH_NODE, "pointer past the last node");
+        writes_nothing(text, &with, JSONPATH_NO_SUCH_NODE, "text past the last node");
+        writes_nothing(json, &with, JSONPATH_NO_SUCH_NODE, "JSON past the last node");
+    }
+    emptied(&with);
+}
+
+/* Holds each call that needs one of the handles that are empty. */
+static void finds_empty(struct asked_with *with, const char *what) {
+    int cannot_query = !with->path || !with->document, cannot_read = !with->nodes || !with->document;
+    size_t count = 7, length = 7;
+    uint8_t exists = 7, equal = 7, empty = JSONPATH_EMPTY_HANDLE;
+    jsonpath_path *other = NULL;
+    jsonpath_nodes *kept = with->nodes;
+    struct jsonpath_node node;
+    memset(&node, UNTOUCHED, sizeof node);
+    compile(&other, "$", JSONPATH_WHOLE_NUMBERS);
+    if (!with->path) {
+        writes_nothing(path_text, with, empty, what);
+        holds(jsonpath_path_equals(&with->path, &other, &equal) == empty && equal == 7, "equals", what);
+        holds(jsonpath_path_equals(&other, &with->path, &equal) == empty && equal == 7, "is equal", what);
+    }
+    if (cannot_query) {
+        writes_nothing(lines, with, empty, what);
+        holds(jsonpath_count(&with->path, &with->document, &count) == empty && count == 7, "count", what);
+        holds(jsonpath_exists(&with->path, &with->document, &exists) == empty && exists == 7, "exists", what);
+        holds(jsonpath_select(&with->path, &with->document, 0, 9, &with->nodes) == empty, "select", what);
+        holds(with->nodes == kept, "a list is written", what);
+    }
+    if (!with->nodes) {
+        writes_nothing(location, with, empty, what);
+        writes_nothing(pointer, with, empty, what);
+        holds(jsonpath_nodes_length(&with->nodes, &length) == empty && length == 7, "length of a list", what);
+        holds(jsonpath_node(&with->nodes, 0, &node) == empty && is_untouched(&node, sizeof node), "node", what);
+    }
+    if (cannot_read) {
+        writes_nothing(text, with, empty, what);
+        writes_nothing(json, with, empty, what);
+    }
+    jsonpath_path_free(&other);
+}
+
+/* Handles that are empty, one by one and all, and what is in the others stays. */
+static void empty_handles(void) {
+    for (int empty = 1; empty < 8; empty++) {
+        struct asked_with with = asked_of("$[0]", JSONPATH_WHOLE_NUMBERS, "[\"a\"]");
+        if (empty & 1) jsonpath_path_free(&with.path);
+        if (empty & 2) jsonpath_document_free(&with.document);
+        if (empty & 4) jsonpath_nodes_free(&with.nodes);
+        finds_empty(&with, "an empty handle");
+        holds((with.path == NULL) == !!(empty & 1), "path is kept", "an empty handle");
+        holds((with.document == NULL) == !!(empty & 2), "document is kept", "an empty handle");
+        holds((with.nodes == NULL) == !!(empty & 4), "list is kept", "an empty handle");
+        if (with.path) writes(path_text, &with, JSONPATH_DONE, "$[0]", "path beside an empty handle");
+        if (with.nodes) writes(location, &with, JSONPATH_DONE, "$[0]", "list beside an empty handle");
+        if (with.path && with.document) writes(lines, &with, JSONPATH_DONE, "\"a\"\n", "lines beside an empty handle");
+        emptied(&with);
+    }
+}
+
+/* A pattern that is too large once built: each call that asks is refused, and writes nothing. */
+static void refused_queries(void) {
+    struct asked_with with = asked_of("$[0]", JSONPATH_WHOLE_NUMBERS, "[\"a\"]");
+    size_t count = 7;
+    uint8_t exists = 7, refused = JSONPATH_QUERY_REFUSED;
+    const char *path = "$[?match(@, '\\\\w{1000}{10}')]";
+    compile(&with.path, path, JSONPATH_WHOLE_NUMBERS);
+    writes_nothing(lines, &with, refused, path);
+    holds(jsonpath_count(&with.path, &with.document, &count) == refused && count == 7, "count", path);
+    holds(jsonpath_exists(&with.path, &with.document, &exists) == refused && exists == 7, "exists", path);
+    for (uint8_t unique = 0; unique < 2; unique++) {
+        holds(jsonpath_select(&with.path, &with.document, unique, 0, &with.nodes) == refused, "select", path);
+    }
+    writes(location, &with, JSONPATH_DONE, "$[0]", "list after a refusal");
+    emptied(&with);
+}
+
+/* ---- Handles, where memory is refused. */
+
+/* A call that may be refused memory, on filled handles. */
+typedef uint8_t handle_call(struct asked_with *);
+
+static const char *const READY_PATH = "$..[?match(@.a, 'b*')]";
+static uint8_t room_for_text[ROOM];
+static size_t text_length;
+
+static uint8_t compiles(struct asked_with *with) {
+    struct jsonpath_refusal refusal;
+    return jsonpath_path_new((const uint8_t *)READY_PATH, strlen(READY_PATH), 0, &with->path, &refusal);
+}
+static uint8_t reads(struct asked_with *with) {
+    size_t position;
+    return jsonpath_document_new((const uint8_t *)"[{\"a\":\"bb\"},[1,2,3]]", 20, &with->document, &position);
+}
+static uint8_t selects_all(struct asked_with *with) {
+    return jsonpath_select(&with->path, &with->document, 0, SIZE_MAX, &with->nodes);
+}
+static uint8_t selects_each_once(struct asked_with *with) {
+    return jsonpath_select(&with->path, &with->document, 1, SIZE_MAX, &with->nodes);
+}
+static uint8_t counts(struct asked_with *with) {
+    size_t count;
+    return jsonpath_count(&with->path, &with->document, &count);
+}
+static uint8_t finds(struct asked_with *with) {
+    uint8_t exists;
+    return jsonpath_exists(&with->path, &with->document, &exists);
+}
+static uint8_t writes_lines(struct asked_with *with) {
+    return lines(with, room_for_text, ROOM, &text_length);
+}
+static uint8_t writes_path(struct asked_with *with) {
+    return path_text(with, room_for_text, ROOM, &text_length);
+}
+static uint8_t writes_location(struct asked_with *with) {
+    return location(with, room_for_text, ROOM, &text_length);
+}
+static uint8_t writes_pointer(struct asked_with *with) {
+    return pointer(with, room_for_text, ROOM, &text_length);
+}
+static uint8_t writes_json(struct asked_with *with) {
+    return json(with, room_for_text, ROOM, &text_length);
+}
+
+/* Holds filled handles to what they answer. */
+static void is_ready(struct asked_with *with, const char *what) {
+    size_t length = 0;
+    writes(path_text, with, JSONPATH_DONE, READY_PATH, what);
+    writes(lines, with, JSONPATH_DONE, "{\"a\":\"bb\"}\n", what);
+    holds(jsonpath_nodes_length(&with->nodes, &length) == JSONPATH_DONE && length == 1, "list that is ready", what);
+    writes(location, with, JSONPATH_DONE, "$[0]", what);
+}
+
+/* Refuses memory as `runs_out` does, and holds the handles to what they were. */
+static void runs_out_on_handles(handle_call *call, const char *what) {
+    struct asked_with with = asked_of(READY_PATH, JSONPATH_WHOLE_NUMBERS, "[{\"a\":\"bb\"},[1,2,3]]");
+    uint8_t status = JSONPATH_NO_MEMORY;
+    size_t requests = 0;
+    for (; status == JSONPATH_NO_MEMORY && requests < 1000; requests++) {
+        struct asked_with before = with;
+        memset(room_for_text, UNTOUCHED, ROOM), memset(&text_length, UNTOUCHED, sizeof text_length);
+        granted = requests;
+        status = call(&with);
+        granted = SIZE_MAX;
+        if (status == JSONPATH_NO_MEMORY) {
+            holds(before.path == with.path && before.document == with.document && before.nodes == with.nodes,
+                  "handle is written without memory", what);
+            holds(is_untouched(room_for_text, ROOM) && is_untouched(&text_length, sizeof text_length),
+                  "text is written without memory", what);
+        }
+        is_ready(&with, what);
+    }
+    holds(status == JSONPATH_DONE && requests > 1, "status on handles without memory", what);
+    emptied(&with);
+}
+
+/* Each call on handles that takes memory; the others need none. */
+static void refused_memory(void) {
+    runs_out_on_handles(compiles, "jsonpath_path_new");
+    runs_out_on_handles(reads, "jsonpath_document_new");
+    runs_out_on_handles(selects_all, "jsonpath_select");
+    runs_out_on_handles(selects_each_once, "jsonpath_select, each location once");
+    runs_out_on_handles(counts, "jsonpath_count");
+    runs_out_on_handles(finds, "jsonpath_exists");
+    runs_out_on_handles(writes_lines, "jsonpath_lines");
+    runs_out_on_handles(writes_path, "jsonpath_path_text");
+    runs_out_on_handles(writes_location, "jsonpath_node_location");
+    runs_out_on_handles(writes_pointer, "jsonpath_node_pointer");
+    runs_out_on_handles(writes_json, "jsonpath_node_json");
+
+    struct asked_with with = asked_of("$", JSONPATH_WHOLE_NUMBERS, "\"a\"");
+    jsonpath_path *other = NULL;
+    compile(&other, "$", JSONPATH_WHOLE_NUMBERS);
+    uint8_t equal = 0;
+    size_t length = 0;
+    struct jsonpath_node node;
+    granted = 0;
+    uint8_t statuses = jsonpath_path_equals(&with.path, &other, &equal) | jsonpath_nodes_length(&with.nodes, &length)
+                       | jsonpath_node(&with.nodes, 0, &node) | text(&with, room_for_text, ROOM, &text_length);
+    granted = SIZE_MAX;
+    holds(statuses == JSONPATH_DONE && equal && length == 1 && text_length == 1, "without memory", "calls that take none");
+    jsonpath_path_free(&other), emptied(&with);
+}
+
+/* What is said of handles. */
+static void handles(void) {
+    compiled_paths();
+    compares("$[?@ == 4]", "[4,4.0,0.4e1]", 1, 3);
+    compares("$[?@ < 9]", "[8,8.95,1e1]", 1, 2);
+    compares("$[?@ >= 8.95]", "[8,8.95,9]", 1, 2);
+    documents();
+    limits();
+    selected();
+    kinds();
+    node_texts();
+    lists_alone();
+    empty_handles();
+    refused_queries();
+    refused_memory();
+}
+
 int main(void) {
     selects("$", "null", "$\tnull\n", "null\n", "$\n");
     selects("$['a','a']", "{\"a\":[1]}", "$['a']\t[1]\n$['a']\t[1]\n", "[1]\n[1]\n", "$['a']\n$['a']\n");
@@ -212,6 +753,7 @@ int main(void) {
     runs_out(jsonpath_values, "$[?@.a > 1.5, 'b']", "{\"b\":{\"a\":2}}");
     runs_out(jsonpath_locations, "$..*", "{\"b\":{\"a\":2}}");
     texts();
+    handles();
     printf(failures ? "%d failed\n" : "all hold\n", failures);
     return failures != 0;
 }

@@ -1,6 +1,7 @@
-//! Why a path or a query is refused.
+//! Why a path, a document or a query is refused.
 
-use crate::ffi::{self, Answer, Refusal};
+use crate::ffi::{self, Refusal, Status};
+use crate::text::written;
 use std::error::Error;
 use std::fmt;
 
@@ -109,25 +110,15 @@ pub struct ParseError {
     hint: Option<String>,
 }
 
-/// The text that a call writes of a path, or `None` if memory is refused.
-fn text_of(call: fn(&str, &mut [u8]) -> Answer, path: &str) -> Option<String> {
-    let mut out = vec![0; 128];
-    let mut answer = call(path, &mut out);
-    if let Answer::NoRoom(length) = answer {
-        out.resize(length, 0);
-        answer = call(path, &mut out);
-    }
-    let Answer::Done(length) = answer else {
-        return None;
-    };
-    Some(String::from_utf8_lossy(&out[..length]).into_owned())
-}
+/// How many bytes a message or a hint has at most.
+const LONGEST_WORDS: usize = 100;
 
 impl ParseError {
     /// The error of a path that is refused so.
     pub(crate) fn of(path: &str, refusal: Refusal) -> ParseError {
-        let (Some(message), Some(hint)) = (text_of(ffi::message, path), text_of(ffi::hint, path))
-        else {
+        let message = written(LONGEST_WORDS, |out| ffi::message(path, out));
+        let hint = written(LONGEST_WORDS, |out| ffi::hint(path, out));
+        let (Ok((message, _)), Ok((hint, _))) = (message, hint) else {
             return ParseError::no_memory();
         };
         ParseError {
@@ -184,34 +175,124 @@ impl fmt::Display for ParseError {
 
 impl Error for ParseError {}
 
+/// Why bytes are not taken as a document.
+///
+/// ```
+/// use jsonpath::{Document, DocumentError};
+///
+/// let error = Document::parse(b"[1, 2").unwrap_err();
+/// assert_eq!(error, DocumentError::NotJson { position: 6 });
+/// assert_eq!(error.to_string(), "at position 6, not JSON");
+/// ```
+#[derive(Clone, Copy, Debug, PartialEq, Eq, Hash)]
+#[non_exhaustive]
+pub enum DocumentError {
+    /// The bytes are not a JSON text, or have a number beyond those of 64-bit floats, as `1e400`.
+    NotJson {
+        /// The byte where that shows, from 1; one past the last byte where the text ends too early.
+        position: usize,
+    },
+    /// The document nests deeper than 127 levels.
+    TooDeep {
+        /// The byte where that shows, from 1.
+        position: usize,
+    },
+    /// Memory was refused.
+    NoMemory,
+}
+
+impl DocumentError {
+    /// The error of a document that is refused so, at a byte.
+    pub(crate) fn of(status: Status, position: usize) -> DocumentError {
+        match status {
+            Status::DocumentRefused => DocumentError::NotJson { position },
+            Status::DocumentTooDeep => DocumentError::TooDeep { position },
+            Status::NoMemory => DocumentError::NoMemory,
+            _ => unreachable!("a document has no other refusals"),
+        }
+    }
+
+    /// The byte at which the document is refused, from 1, or `None` where memory was.
+    ///
+    /// ```
+    /// use jsonpath::Document;
+    ///
+    /// assert_eq!(Document::parse(b"[1,]").unwrap_err().position(), Some(3));
+    /// ```
+    pub fn position(&self) -> Option<usize> {
+        match self {
+            DocumentError::NotJson { position } | DocumentError::TooDeep { position } => {
+                Some(*position)
+            }
+            DocumentError::NoMemory => None,
+        }
+    }
+}
+
+impl fmt::Display for DocumentError {
+    fn fmt(&self, f: &mut fmt::Formatter<'_>) -> fmt::Result {
+        match self {
+            DocumentError::NotJson { position } => write!(f, "at position {position}, not JSON"),
+            DocumentError::TooDeep { position } => {
+                write!(f, "at position {position}, nested more than 127 deep")
+            }
+            DocumentError::NoMemory => f.write_str("no memory"),
+        }
+    }
+}
+
+impl Error for DocumentError {}
+
 /// Why a query has no answer.
 ///
 /// ```
-/// use jsonpath::{JsonPath, QueryError};
+/// use jsonpath::{Document, JsonPath, QueryError};
 ///
-/// let path = JsonPath::parse("$.a")?;
-/// assert_eq!(path.query(b"{").unwrap_err(), QueryError::Document);
-/// assert_eq!(QueryError::Document.to_string(), "not JSON");
-/// # Ok::<(), jsonpath::ParseError>(())
+/// let path = JsonPath::parse(r#"$[?match(@, "\\w{1000}{10}")]"#)?;
+/// let document = Document::parse(br#"["a"]"#)?;
+/// assert_eq!(path.query(&document).unwrap_err(), QueryError::Pattern);
+/// assert_eq!(QueryError::Pattern.to_string(), "pattern refused");
+/// # Ok::<(), Box<dyn std::error::Error>>(())
 /// ```
 #[derive(Clone, Copy, Debug, PartialEq, Eq, Hash)]
 #[non_exhaustive]
 pub enum QueryError {
-    /// The document is not JSON, or nests deeper than 127 levels, or has a number beyond those of 64-bit floats, as `1e400`.
-    Document,
+    /// The bytes are not taken as a document: only of the calls that read them, as
+    /// [`query_bytes`](crate::JsonPath::query_bytes).
+    Document(DocumentError),
     /// A pattern of `match` or `search`, which `regex` reads, is too large once built.
     Pattern,
     /// Memory was refused.
     NoMemory,
 }
 
+impl QueryError {
+    /// The error of a query that is refused so.
+    pub(crate) fn of(status: Status) -> QueryError {
+        match status {
+            Status::QueryRefused => QueryError::Pattern,
+            Status::NoMemory => QueryError::NoMemory,
+            _ => unreachable!("a query has no other refusals"),
+        }
+    }
+}
+
+impl From<DocumentError> for QueryError {
+    fn from(error: DocumentError) -> QueryError {
+        match error {
+            DocumentError::NoMemory => QueryError::NoMemory,
+            error => QueryError::Document(error),
+        }
+    }
+}
+
 impl fmt::Display for QueryError {
     fn fmt(&self, f: &mut fmt::Formatter<'_>) -> fmt::Result {
-        f.write_str(match self {
-            QueryError::Document => "not JSON",
-            QueryError::Pattern => "pattern refused",
-            QueryError::NoMemory => "no memory",
-        })
+        match self {
+            QueryError::Document(error) => error.fmt(f),
+            QueryError::Pattern => f.write_str("pattern refused"),
+            QueryError::NoMemory => f.write_str("no memory"),
+        }
     }
 }
 

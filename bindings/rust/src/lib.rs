@@ -1,32 +1,59 @@
 //! JSONPath (RFC 9535) over JSON texts, by the proved engine `serde_json_path`.
 //!
-//! A path is parsed once and asked of any number of documents. A document is the bytes of a JSON text, and what comes back
-//! is JSON text too, in the order of the RFC.
+//! A path is compiled once, a document is read once, and a query gives the nodes in the order of the RFC.
+//!
+//! ```
+//! use jsonpath::{Document, JsonPath};
+//!
+//! let path = JsonPath::parse("$.items[?@.price < 10].name")?;
+//! let document = Document::parse(br#"{"items":[{"name":"pen","price":2},{"name":"desk","price":90}]}"#)?;
+//! for node in &path.query(&document)? {
+//!     assert_eq!(node.as_str(), Some("pen"));
+//!     assert_eq!(node.location()?, "$['items'][0]['name']");
+//! }
+//! # Ok::<(), Box<dyn std::error::Error>>(())
+//! ```
+//!
+//! A document that is asked once may be bytes: [`query_bytes`](JsonPath::query_bytes) gives its nodes as JSON texts.
 //!
 //! ```
 //! use jsonpath::JsonPath;
 //!
-//! let path = JsonPath::parse("$.items[?@.price < 10].name")?;
-//! let document = br#"{"items":[{"name":"pen","price":2},{"name":"desk","price":90}]}"#;
-//! let nodes = path.query(document)?;
-//! assert_eq!(nodes.iter().collect::<Vec<_>>(), [r#""pen""#]);
+//! let values = JsonPath::parse("$..name")?.query_bytes(br#"[{"name":"pen"},{"name":"desk"}]"#)?;
+//! assert_eq!(values.iter().collect::<Vec<_>>(), [r#""pen""#, r#""desk""#]);
 //! # Ok::<(), Box<dyn std::error::Error>>(())
 //! ```
 //!
-//! Numbers of a document that are not held as integers are found and printed, but compare with nothing.
+//! Numbers of a document that are not held as integers are found and printed, but compare with nothing, unless a path is
+//! compiled [with all numbers](Numbers::All).
 //!
-//! Every call may be made from any thread. It uses as much of the stack as the path and the document nest, so the thread needs
-//! 1 MB of it left; a thread of the standard library has 2 MB unless it asks for less.
+//! # Threads
+//!
+//! Paths and documents are `Send` and not `Sync`. The library takes what is in a handle out for each call, also where it
+//! only reads, so two threads may not use one at a time; what they use apart shares nothing. Give each thread a clone of a
+//! path, or put what they share in a `Mutex`.
+//!
+//! A call uses as much of the stack as the path and the document nest, so its thread needs 1 MB of it left; a thread of the
+//! standard library has 2 MB unless it asks for less. No call may be made from a signal handler, nor in the child of a fork
+//! of a process with threads.
 #![warn(missing_docs)]
 
+mod document;
 mod error;
 mod ffi;
+mod lines;
+mod node;
 mod nodes;
 mod path;
+mod text;
 
-pub use error::{ParseError, ParseErrorKind, QueryError};
-pub use nodes::{LinesIter, LocatedNode, LocatedNodes, LocatedNodesIter, Locations, Nodes};
-pub use path::JsonPath;
+pub use document::Document;
+pub use error::{DocumentError, ParseError, ParseErrorKind, QueryError};
+pub use ffi::Limits;
+pub use lines::{LineForm, Lines, LinesIter, LocatedValue, LocatedValues, LocatedValuesIter};
+pub use node::{Node, NodeKind};
+pub use nodes::{Nodes, NodesIter};
+pub use path::{JsonPath, Numbers};
 
 /// The version of the library that is linked: major, minor and patch.
 ///

@@ -1,242 +1,186 @@
-//! What a path selects.
+//! The nodes that a path selects from a document.
 
+use crate::document::Document;
+use crate::ffi::NodesHandle;
+use crate::node::Node;
+use std::fmt;
 use std::iter::FusedIterator;
-use std::str::SplitTerminator;
+use std::ops::Range;
 
-/// Texts, each ended by a line feed, and how many there are.
-#[derive(Clone, Debug, PartialEq, Eq)]
-struct Lines {
-    text: String,
-    count: usize,
-}
-
-impl Lines {
-    fn of(text: String) -> Lines {
-        let count = text.bytes().filter(|&byte| byte == b'\n').count();
-        Lines { text, count }
-    }
-
-    fn iter(&self) -> LinesIter<'_> {
-        LinesIter {
-            lines: self.text.split_terminator('\n'),
-            left: self.count,
-        }
-    }
-}
-
-/// Goes over [`Nodes`] or [`Locations`].
-#[derive(Clone, Debug)]
-pub struct LinesIter<'a> {
-    lines: SplitTerminator<'a, char>,
-    left: usize,
-}
-
-impl<'a> Iterator for LinesIter<'a> {
-    type Item = &'a str;
-
-    fn next(&mut self) -> Option<&'a str> {
-        let line = self.lines.next()?;
-        self.left -= 1;
-        Some(line)
-    }
-
-    fn size_hint(&self) -> (usize, Option<usize>) {
-        (self.left, Some(self.left))
-    }
-}
-
-impl ExactSizeIterator for LinesIter<'_> {}
-
-impl FusedIterator for LinesIter<'_> {}
-
-/// The nodes that a path selects from a document, each as compact JSON.
+/// The nodes that a path selects from a document, in the order of the RFC. The list borrows the document, where their texts
+/// are.
+///
+/// It stays in the thread that asked, since each call takes the list and its document for itself.
 ///
 /// ```
-/// use jsonpath::JsonPath;
+/// use jsonpath::{Document, JsonPath};
 ///
-/// let nodes = JsonPath::parse("$[*]")?.query(b"[1, {}]")?;
+/// let document = Document::parse(br#"{"a": [1, "b"]}"#)?;
+/// let nodes = JsonPath::parse("$.a[*]")?.query(&document)?;
 /// assert_eq!(nodes.len(), 2);
-/// for json in &nodes {
-///     println!("{json}");
-/// }
-/// # Ok::<(), Box<dyn std::error::Error>>(())
-/// ```
-#[derive(Clone, Debug, PartialEq, Eq)]
-pub struct Nodes {
-    lines: Lines,
-}
-
-impl Nodes {
-    /// The nodes that lines are.
-    pub(crate) fn of(text: String) -> Nodes {
-        Nodes {
-            lines: Lines::of(text),
-        }
-    }
-
-    /// How many nodes there are.
-    pub fn len(&self) -> usize {
-        self.lines.count
-    }
-
-    /// Whether there is none.
-    pub fn is_empty(&self) -> bool {
-        self.lines.count == 0
-    }
-
-    /// Goes over the nodes, in order.
-    pub fn iter(&self) -> LinesIter<'_> {
-        self.lines.iter()
-    }
-}
-
-impl<'a> IntoIterator for &'a Nodes {
-    type Item = &'a str;
-    type IntoIter = LinesIter<'a>;
-
-    fn into_iter(self) -> LinesIter<'a> {
-        self.iter()
-    }
-}
-
-/// Where the nodes are that a path selects from a document: the normalised path of each, which selects it alone.
-///
-/// ```
-/// use jsonpath::JsonPath;
-///
-/// let locations = JsonPath::parse("$..a")?.locations(br#"{"a":{"a":1}}"#)?;
-/// assert_eq!(locations.iter().collect::<Vec<_>>(), ["$['a']", "$['a']['a']"]);
-/// # Ok::<(), Box<dyn std::error::Error>>(())
-/// ```
-#[derive(Clone, Debug, PartialEq, Eq)]
-pub struct Locations {
-    lines: Lines,
-}
-
-impl Locations {
-    /// The locations that lines are.
-    pub(crate) fn of(text: String) -> Locations {
-        Locations {
-            lines: Lines::of(text),
-        }
-    }
-
-    /// How many locations there are.
-    pub fn len(&self) -> usize {
-        self.lines.count
-    }
-
-    /// Whether there is none.
-    pub fn is_empty(&self) -> bool {
-        self.lines.count == 0
-    }
-
-    /// Goes over the locations, in order.
-    pub fn iter(&self) -> LinesIter<'_> {
-        self.lines.iter()
-    }
-}
-
-impl<'a> IntoIterator for &'a Locations {
-    type Item = &'a str;
-    type IntoIter = LinesIter<'a>;
-
-    fn into_iter(self) -> LinesIter<'a> {
-        self.iter()
-    }
-}
-
-/// A node and where it is.
-///
-/// ```
-/// use jsonpath::JsonPath;
-///
-/// let nodes = JsonPath::parse("$.a[0]")?.query_located(br#"{"a":["b"]}"#)?;
 /// for node in &nodes {
-///     assert_eq!(node.location, "$['a'][0]");
-///     assert_eq!(node.json, r#""b""#);
+///     println!("{} is {}", node.location()?, node.json()?);
 /// }
 /// # Ok::<(), Box<dyn std::error::Error>>(())
 /// ```
-#[derive(Clone, Copy, Debug, PartialEq, Eq, Hash)]
-pub struct LocatedNode<'a> {
-    /// The node's normalised path, which selects it alone.
-    pub location: &'a str,
-    /// The node as compact JSON.
-    pub json: &'a str,
+///
+/// ```compile_fail
+/// fn needs_send<T: Send>() {}
+/// needs_send::<jsonpath::Nodes>();
+/// ```
+pub struct Nodes<'d> {
+    handle: NodesHandle,
+    document: &'d Document,
+    length: usize,
+    is_cut_short: bool,
 }
 
-/// The nodes that a path selects from a document, each with its location.
-///
-/// ```
-/// use jsonpath::JsonPath;
-///
-/// let nodes = JsonPath::parse("$[-1]")?.query_located(b"[1, 2]")?;
-/// let locations: Vec<&str> = nodes.iter().map(|node| node.location).collect();
-/// assert_eq!(locations, ["$[1]"]);
-/// # Ok::<(), Box<dyn std::error::Error>>(())
-/// ```
-#[derive(Clone, Debug, PartialEq, Eq)]
-pub struct LocatedNodes {
-    lines: Lines,
-}
-
-impl LocatedNodes {
-    /// The nodes that the lines of a report are.
-    pub(crate) fn of(report: String) -> LocatedNodes {
-        LocatedNodes {
-            lines: Lines::of(report),
+impl<'d> Nodes<'d> {
+    /// The nodes of a list that was selected from a document.
+    pub(crate) fn of(
+        (handle, is_cut_short): (NodesHandle, bool),
+        document: &'d Document,
+    ) -> Nodes<'d> {
+        let length = handle.length();
+        Nodes {
+            handle,
+            document,
+            length,
+            is_cut_short,
         }
+    }
+
+    /// The list's handle.
+    pub(crate) fn handle(&self) -> &NodesHandle {
+        &self.handle
+    }
+
+    /// The document that the nodes are of.
+    ///
+    /// ```
+    /// # use jsonpath::{Document, JsonPath};
+    /// let document = Document::parse(b"[1]")?;
+    /// let nodes = JsonPath::parse("$[0]")?.query(&document)?;
+    /// assert_eq!(JsonPath::parse("$..*")?.count(nodes.document())?, 1);
+    /// # Ok::<(), Box<dyn std::error::Error>>(())
+    /// ```
+    pub fn document(&self) -> &'d Document {
+        self.document
     }
 
     /// How many nodes there are.
+    ///
+    /// ```
+    /// # use jsonpath::{Document, JsonPath};
+    /// let document = Document::parse(b"[1, 2]")?;
+    /// assert_eq!(JsonPath::parse("$[0,0]")?.query(&document)?.len(), 2);
+    /// # Ok::<(), Box<dyn std::error::Error>>(())
+    /// ```
     pub fn len(&self) -> usize {
-        self.lines.count
+        self.length
     }
 
     /// Whether there is none.
+    ///
+    /// ```
+    /// # use jsonpath::{Document, JsonPath};
+    /// let document = Document::parse(b"[1, 2]")?;
+    /// assert!(JsonPath::parse("$.a")?.query(&document)?.is_empty());
+    /// # Ok::<(), Box<dyn std::error::Error>>(())
+    /// ```
     pub fn is_empty(&self) -> bool {
-        self.lines.count == 0
+        self.length == 0
+    }
+
+    /// Whether the path selects more nodes than were asked for.
+    ///
+    /// ```
+    /// # use jsonpath::{Document, JsonPath};
+    /// let document = Document::parse(b"[1, 2]")?;
+    /// let path = JsonPath::parse("$[*]")?;
+    /// assert!(path.query_first(&document, 1)?.is_cut_short());
+    /// assert!(!path.query_first(&document, 2)?.is_cut_short());
+    /// # Ok::<(), Box<dyn std::error::Error>>(())
+    /// ```
+    pub fn is_cut_short(&self) -> bool {
+        self.is_cut_short
+    }
+
+    /// The node at an index, from 0, or `None` past the last.
+    ///
+    /// ```
+    /// # use jsonpath::{Document, JsonPath};
+    /// let document = Document::parse(b"[1, 2]")?;
+    /// let nodes = JsonPath::parse("$[*]")?.query(&document)?;
+    /// assert_eq!(nodes.get(1).and_then(|node| node.as_i64()), Some(2));
+    /// assert!(nodes.get(2).is_none());
+    /// # Ok::<(), Box<dyn std::error::Error>>(())
+    /// ```
+    pub fn get(&self, index: usize) -> Option<Node<'_>> {
+        Node::of(self, index)
     }
 
     /// Goes over the nodes, in order.
-    pub fn iter(&self) -> LocatedNodesIter<'_> {
-        LocatedNodesIter {
-            lines: self.lines.iter(),
+    ///
+    /// ```
+    /// # use jsonpath::{Document, JsonPath};
+    /// let document = Document::parse(b"[1, 2]")?;
+    /// let nodes = JsonPath::parse("$[*]")?.query(&document)?;
+    /// assert_eq!(nodes.iter().filter_map(|node| node.as_i64()).sum::<i64>(), 3);
+    /// # Ok::<(), Box<dyn std::error::Error>>(())
+    /// ```
+    pub fn iter(&self) -> NodesIter<'_> {
+        NodesIter {
+            nodes: self,
+            left: 0..self.length,
         }
     }
 }
 
-/// Goes over [`LocatedNodes`].
-#[derive(Clone, Debug)]
-pub struct LocatedNodesIter<'a> {
-    lines: LinesIter<'a>,
+impl fmt::Debug for Nodes<'_> {
+    fn fmt(&self, f: &mut fmt::Formatter<'_>) -> fmt::Result {
+        f.debug_list().entries(self).finish()
+    }
 }
 
-impl<'a> Iterator for LocatedNodesIter<'a> {
-    type Item = LocatedNode<'a>;
+impl<'n> IntoIterator for &'n Nodes<'_> {
+    type Item = Node<'n>;
+    type IntoIter = NodesIter<'n>;
 
-    fn next(&mut self) -> Option<LocatedNode<'a>> {
-        let line = self.lines.next()?;
-        // Neither a location nor compact JSON has a tab or a line feed of its own: both are escaped.
-        let (location, json) = line.split_once('\t').expect("a line of a report has a tab");
-        Some(LocatedNode { location, json })
+    fn into_iter(self) -> NodesIter<'n> {
+        self.iter()
+    }
+}
+
+/// Goes over [`Nodes`].
+#[derive(Clone, Debug)]
+pub struct NodesIter<'n> {
+    nodes: &'n Nodes<'n>,
+    left: Range<usize>,
+}
+
+impl<'n> Iterator for NodesIter<'n> {
+    type Item = Node<'n>;
+
+    fn next(&mut self) -> Option<Node<'n>> {
+        self.nodes.get(self.left.next()?)
+    }
+
+    fn nth(&mut self, skipped: usize) -> Option<Node<'n>> {
+        self.nodes.get(self.left.nth(skipped)?)
     }
 
     fn size_hint(&self) -> (usize, Option<usize>) {
-        self.lines.size_hint()
+        self.left.size_hint()
     }
 }
 
-impl ExactSizeIterator for LocatedNodesIter<'_> {}
-
-impl FusedIterator for LocatedNodesIter<'_> {}
-
-impl<'a> IntoIterator for &'a LocatedNodes {
-    type Item = LocatedNode<'a>;
-    type IntoIter = LocatedNodesIter<'a>;
-
-    fn into_iter(self) -> LocatedNodesIter<'a> {
-        self.iter()
+impl<'n> DoubleEndedIterator for NodesIter<'n> {
+    fn next_back(&mut self) -> Option<Node<'n>> {
+        self.nodes.get(self.left.next_back()?)
     }
 }
+
+impl ExactSizeIterator for NodesIter<'_> {}
+
+impl FusedIterator for NodesIter<'_> {}

@@ -1,28 +1,68 @@
 //! Paths, and what they select.
 
+use crate::document::Document;
 use crate::error::{ParseError, QueryError};
-use crate::ffi::{self, Answer, Form};
-use crate::nodes::{LocatedNodes, Locations, Nodes};
+use crate::ffi::{Limits, PathHandle, Status};
+use crate::lines::{LineForm, Lines, LocatedValues};
+use crate::nodes::Nodes;
+use crate::text::written;
 use std::fmt;
+use std::hash::{Hash, Hasher};
 use std::str::FromStr;
 
-/// A path under the built-in functions. Two are equal if their texts are.
+/// How the comparisons of a path take the numbers of documents.
+///
+/// ```
+/// use jsonpath::{Document, JsonPath, Numbers};
+///
+/// let document = Document::parse(b"[8, 8.95, 1e1]")?;
+/// let whole = JsonPath::parse("$[?@ < 9]")?;
+/// let all = JsonPath::parse_with("$[?@ < 9]", Numbers::All)?;
+/// assert_eq!((whole.count(&document)?, all.count(&document)?), (1, 2));
+/// # Ok::<(), Box<dyn std::error::Error>>(())
+/// ```
+#[derive(Clone, Copy, Debug, Default, PartialEq, Eq, Hash)]
+pub enum Numbers {
+    /// Those that are held as 64-bit integers; any other (8.95, 4.0) equals nothing, and is neither less nor greater.
+    #[default]
+    Whole = 0,
+    /// All, by their exact value, as the RFC compares them.
+    All = 1,
+}
+
+/// A path under the built-in functions, compiled once and asked of any number of documents.
+///
+/// Two are equal if they have the same tree, whatever they do with numbers. A clone is compiled anew, and panics where
+/// memory is refused for it.
+///
+/// It is `Send` and not `Sync`: a thread may hand it to another, but each call takes it for itself. To ask one path in
+/// several threads, give each a clone.
 ///
 /// ```
 /// use jsonpath::JsonPath;
 ///
 /// let path: JsonPath = "$..name".parse()?;
-/// assert_eq!(path.as_str(), "$..name");
-/// assert_eq!(path, JsonPath::parse("$..name")?);
+/// assert_eq!(path, JsonPath::parse("$ ..name")?);
+/// let clone = path.clone();
+/// std::thread::spawn(move || assert!(clone.query_bytes(b"{}").unwrap().is_empty()));
 /// # Ok::<(), jsonpath::ParseError>(())
 /// ```
-#[derive(Clone, Debug, PartialEq, Eq, Hash)]
+///
+/// ```compile_fail
+/// fn needs_sync<T: Sync>() {}
+/// needs_sync::<jsonpath::JsonPath>();
+/// ```
 pub struct JsonPath {
+    handle: PathHandle,
+    /// The text that was parsed.
     text: String,
+    /// The text that the tree prints.
+    printed: String,
+    numbers: Numbers,
 }
 
 impl JsonPath {
-    /// Takes a text as a path, or says why it is none.
+    /// Compiles a path, or says why a text is none. Its comparisons take whole numbers.
     ///
     /// ```
     /// use jsonpath::JsonPath;
@@ -32,114 +72,260 @@ impl JsonPath {
     /// assert_eq!(error.to_string(), "at position 4, in long-hand segment, expected closing ']'");
     /// ```
     pub fn parse(text: &str) -> Result<JsonPath, ParseError> {
-        match ffi::check(text) {
-            Answer::Done(_) => Ok(JsonPath {
-                text: text.to_string(),
-            }),
-            Answer::PathRefused(refusal) => Err(ParseError::of(text, refusal)),
-            _ => Err(ParseError::no_memory()),
-        }
+        JsonPath::parse_with(text, Numbers::Whole)
     }
 
-    /// The text that was parsed.
+    /// Compiles a path whose comparisons take numbers so.
+    ///
+    /// ```
+    /// use jsonpath::{JsonPath, Numbers};
+    ///
+    /// let cheap = JsonPath::parse_with("$[?@.price < 10]", Numbers::All)?;
+    /// assert_eq!(cheap.query_bytes(br#"[{"price": 8.95}]"#)?.len(), 1);
+    /// # Ok::<(), Box<dyn std::error::Error>>(())
+    /// ```
+    pub fn parse_with(text: &str, numbers: Numbers) -> Result<JsonPath, ParseError> {
+        let handle =
+            PathHandle::compile(text, numbers as u8).map_err(|(status, refusal)| match status {
+                Status::PathRefused => ParseError::of(text, refusal),
+                _ => ParseError::no_memory(),
+            })?;
+        let (printed, _) =
+            written(2 * text.len(), |out| handle.text(out)).map_err(|_| ParseError::no_memory())?;
+        Ok(JsonPath {
+            handle,
+            text: text.to_string(),
+            printed,
+            numbers,
+        })
+    }
+
+    /// The text that was parsed. [`Display`](fmt::Display) prints the path in one form for each tree.
     ///
     /// ```
     /// # use jsonpath::JsonPath;
-    /// assert_eq!(JsonPath::parse("$[ 'a' ]")?.as_str(), "$[ 'a' ]");
+    /// let path = JsonPath::parse("$[ 'a' ]")?;
+    /// assert_eq!(path.as_str(), "$[ 'a' ]");
+    /// assert_eq!(path.to_string(), "$['a']");
     /// # Ok::<(), jsonpath::ParseError>(())
     /// ```
     pub fn as_str(&self) -> &str {
         &self.text
     }
 
+    /// How the comparisons take numbers.
+    ///
+    /// ```
+    /// # use jsonpath::{JsonPath, Numbers};
+    /// assert_eq!(JsonPath::parse("$")?.numbers(), Numbers::Whole);
+    /// # Ok::<(), jsonpath::ParseError>(())
+    /// ```
+    pub fn numbers(&self) -> Numbers {
+        self.numbers
+    }
+
     /// The nodes that the path selects from a document, in order; a node that is selected twice is there twice.
     ///
     /// ```
-    /// # use jsonpath::JsonPath;
-    /// let nodes = JsonPath::parse("$[1:]")?.query(b"[1, [2, 3], null]")?;
-    /// assert_eq!(nodes.iter().collect::<Vec<_>>(), ["[2,3]", "null"]);
+    /// # use jsonpath::{Document, JsonPath};
+    /// let document = Document::parse(b"[1, [2, 3], null]")?;
+    /// let nodes = JsonPath::parse("$[1:]")?.query(&document)?;
+    /// assert_eq!(nodes.get(0).unwrap().len(), Some(2));
+    /// assert_eq!(nodes.get(1).unwrap().location()?, "$[2]");
     /// # Ok::<(), Box<dyn std::error::Error>>(())
     /// ```
-    pub fn query(&self, document: &[u8]) -> Result<Nodes, QueryError> {
-        self.lines(Form::Value, document).map(Nodes::of)
+    pub fn query<'d>(&self, document: &'d Document) -> Result<Nodes<'d>, QueryError> {
+        self.query_first(document, usize::MAX)
     }
 
-    /// As [`query`](JsonPath::query), each node with its location.
+    /// The first nodes that the path selects, at most so many. The query goes one node further, to see whether
+    /// [there are more](Nodes::is_cut_short).
+    ///
+    /// ```
+    /// # use jsonpath::{Document, JsonPath};
+    /// let document = Document::parse(b"[[1], [2], [3]]")?;
+    /// let nodes = JsonPath::parse("$..*")?.query_first(&document, 2)?;
+    /// assert_eq!(nodes.len(), 2);
+    /// assert!(nodes.is_cut_short());
+    /// # Ok::<(), Box<dyn std::error::Error>>(())
+    /// ```
+    pub fn query_first<'d>(
+        &self,
+        document: &'d Document,
+        most: usize,
+    ) -> Result<Nodes<'d>, QueryError> {
+        self.select(document, false, most)
+    }
+
+    /// As [`query`](JsonPath::query), with each location once, where it comes first.
+    ///
+    /// ```
+    /// # use jsonpath::{Document, JsonPath};
+    /// let document = Document::parse(b"[1, 2]")?;
+    /// let nodes = JsonPath::parse("$[1, 0, -1]")?.query_unique(&document)?;
+    /// assert_eq!(nodes.iter().filter_map(|node| node.as_i64()).collect::<Vec<_>>(), [2, 1]);
+    /// # Ok::<(), Box<dyn std::error::Error>>(())
+    /// ```
+    pub fn query_unique<'d>(&self, document: &'d Document) -> Result<Nodes<'d>, QueryError> {
+        self.select(document, true, usize::MAX)
+    }
+
+    /// The list of what the path selects.
+    fn select<'d>(
+        &self,
+        document: &'d Document,
+        unique: bool,
+        most: usize,
+    ) -> Result<Nodes<'d>, QueryError> {
+        let list = self.handle.select(document.handle(), unique, most);
+        Ok(Nodes::of(list.map_err(QueryError::of)?, document))
+    }
+
+    /// How many nodes the path selects from a document. No list of them is made.
+    ///
+    /// ```
+    /// # use jsonpath::{Document, JsonPath};
+    /// let document = Document::parse(b"[1, [2, 3]]")?;
+    /// assert_eq!(JsonPath::parse("$..*")?.count(&document)?, 4);
+    /// # Ok::<(), Box<dyn std::error::Error>>(())
+    /// ```
+    pub fn count(&self, document: &Document) -> Result<usize, QueryError> {
+        self.handle.count(document.handle()).map_err(QueryError::of)
+    }
+
+    /// Whether the path selects a node from a document. The query stops at the first.
+    ///
+    /// ```
+    /// # use jsonpath::{Document, JsonPath};
+    /// let document = Document::parse(br#"{"a": null}"#)?;
+    /// assert!(JsonPath::parse("$.a")?.exists(&document)?);
+    /// assert!(!JsonPath::parse("$.b")?.exists(&document)?);
+    /// # Ok::<(), Box<dyn std::error::Error>>(())
+    /// ```
+    pub fn exists(&self, document: &Document) -> Result<bool, QueryError> {
+        self.handle
+            .exists(document.handle())
+            .map_err(QueryError::of)
+    }
+
+    /// A line for each node that the path selects from a document, in order, as many as the limits allow. The query stops
+    /// at the first line that would go beyond them.
+    ///
+    /// ```
+    /// # use jsonpath::{Document, JsonPath, Limits, LineForm};
+    /// let document = Document::parse(b"[10, 200, 3]")?;
+    /// let limits = Limits { bytes: 7, ..Limits::NONE };
+    /// let lines = JsonPath::parse("$[*]")?.lines(&document, LineForm::Value, limits)?;
+    /// assert_eq!(lines.as_str(), "10\n200\n");
+    /// assert!(lines.is_cut_short());
+    /// # Ok::<(), Box<dyn std::error::Error>>(())
+    /// ```
+    pub fn lines(
+        &self,
+        document: &Document,
+        form: LineForm,
+        limits: Limits,
+    ) -> Result<Lines, QueryError> {
+        // Most answers have room in some more than the document; else the query runs twice.
+        let room = limits.bytes.min(document.length().saturating_add(4096));
+        let (text, is_cut_short) = written(room, |out| {
+            self.handle
+                .lines(document.handle(), form as u8, &limits, out)
+        })
+        .map_err(QueryError::of)?;
+        Ok(Lines::of(text, is_cut_short))
+    }
+
+    /// The lines of a document that is read for them.
+    fn lines_bytes(&self, form: LineForm, document: &[u8]) -> Result<Lines, QueryError> {
+        self.lines(&Document::parse(document)?, form, Limits::NONE)
+    }
+
+    /// The nodes that the path selects from a document that is read for this call, each as a line of compact JSON.
     ///
     /// ```
     /// # use jsonpath::JsonPath;
-    /// let nodes = JsonPath::parse("$..b")?.query_located(br#"{"a":{"b":true}}"#)?;
-    /// let node = nodes.iter().next().unwrap();
-    /// assert_eq!((node.location, node.json), ("$['a']['b']", "true"));
+    /// let values = JsonPath::parse("$[1:]")?.query_bytes(b"[1, [2, 3], null]")?;
+    /// assert_eq!(values.iter().collect::<Vec<_>>(), ["[2,3]", "null"]);
     /// # Ok::<(), Box<dyn std::error::Error>>(())
     /// ```
-    pub fn query_located(&self, document: &[u8]) -> Result<LocatedNodes, QueryError> {
-        self.report(document).map(LocatedNodes::of)
+    pub fn query_bytes(&self, document: &[u8]) -> Result<Lines, QueryError> {
+        self.lines_bytes(LineForm::Value, document)
     }
 
-    /// Where the nodes are that the path selects from a document, in order, without the nodes.
+    /// As [`query_bytes`](JsonPath::query_bytes), each node with its location.
     ///
     /// ```
     /// # use jsonpath::JsonPath;
-    /// let locations = JsonPath::parse("$[?@ > 1]")?.locations(b"[3, 1, 2]")?;
+    /// let values = JsonPath::parse("$..b")?.query_located_bytes(br#"{"a":{"b":true}}"#)?;
+    /// let value = values.iter().next().unwrap();
+    /// assert_eq!((value.location, value.json), ("$['a']['b']", "true"));
+    /// # Ok::<(), Box<dyn std::error::Error>>(())
+    /// ```
+    pub fn query_located_bytes(&self, document: &[u8]) -> Result<LocatedValues, QueryError> {
+        let lines = self.lines_bytes(LineForm::LocationAndValue, document)?;
+        Ok(LocatedValues::of(lines))
+    }
+
+    /// As [`query_bytes`](JsonPath::query_bytes), with the location of each node in the place of its JSON.
+    ///
+    /// ```
+    /// # use jsonpath::JsonPath;
+    /// let locations = JsonPath::parse("$[?@ > 1]")?.locations_bytes(b"[3, 1, 2]")?;
     /// assert_eq!(locations.iter().collect::<Vec<_>>(), ["$[0]", "$[2]"]);
     /// # Ok::<(), Box<dyn std::error::Error>>(())
     /// ```
-    pub fn locations(&self, document: &[u8]) -> Result<Locations, QueryError> {
-        self.lines(Form::Location, document).map(Locations::of)
+    pub fn locations_bytes(&self, document: &[u8]) -> Result<Lines, QueryError> {
+        self.lines_bytes(LineForm::Location, document)
     }
 
     /// A line for each node, as the program `jsonpath` prints them: its location, a tab, the node, and a line feed.
     ///
     /// ```
     /// # use jsonpath::JsonPath;
-    /// let report = JsonPath::parse("$.*")?.report(br#"{"a": 1, "b": []}"#)?;
+    /// let report = JsonPath::parse("$.*")?.report_bytes(br#"{"a": 1, "b": []}"#)?;
     /// assert_eq!(report, "$['a']\t1\n$['b']\t[]\n");
     /// # Ok::<(), Box<dyn std::error::Error>>(())
     /// ```
-    pub fn report(&self, document: &[u8]) -> Result<String, QueryError> {
-        self.lines(Form::LocationAndValue, document)
-    }
-
-    /// The lines in a form. The first call has room for more than the document; a second one for what the first says it needs.
-    fn lines(&self, form: Form, document: &[u8]) -> Result<String, QueryError> {
-        let mut out = room(document.len() + 4096)?;
-        let mut answer = ffi::lines(form, &self.text, document, &mut out);
-        if let Answer::NoRoom(length) = answer {
-            out = room(length)?;
-            answer = ffi::lines(form, &self.text, document, &mut out);
-        }
-        out.truncate(written(answer)?);
-        out.shrink_to_fit();
-        Ok(String::from_utf8(out).expect("the engine writes UTF-8"))
+    pub fn report_bytes(&self, document: &[u8]) -> Result<String, QueryError> {
+        let lines = self.lines_bytes(LineForm::LocationAndValue, document)?;
+        Ok(lines.into_string())
     }
 }
 
-/// A buffer of so many bytes, if there is memory.
-fn room(length: usize) -> Result<Vec<u8>, QueryError> {
-    let mut out = Vec::new();
-    out.try_reserve_exact(length)
-        .map_err(|_| QueryError::NoMemory)?;
-    out.resize(length, 0);
-    Ok(out)
+impl Clone for JsonPath {
+    fn clone(&self) -> JsonPath {
+        JsonPath::parse_with(&self.text, self.numbers).expect("a path is refused only memory")
+    }
 }
 
-/// How many bytes a call wrote, or why none.
-fn written(answer: Answer) -> Result<usize, QueryError> {
-    match answer {
-        Answer::Done(length) => Ok(length),
-        Answer::DocumentRefused => Err(QueryError::Document),
-        Answer::QueryRefused => Err(QueryError::Pattern),
-        Answer::NoMemory => Err(QueryError::NoMemory),
-        Answer::PathRefused(_) | Answer::NoRoom(_) => {
-            unreachable!("the path was accepted, and the same call needs the same room")
-        }
+impl PartialEq for JsonPath {
+    fn eq(&self, other: &JsonPath) -> bool {
+        self.handle.equals(&other.handle)
+    }
+}
+
+impl Eq for JsonPath {}
+
+impl Hash for JsonPath {
+    fn hash<H: Hasher>(&self, state: &mut H) {
+        // Of the same tree the same text is printed.
+        self.printed.hash(state);
+    }
+}
+
+impl fmt::Debug for JsonPath {
+    fn fmt(&self, f: &mut fmt::Formatter<'_>) -> fmt::Result {
+        f.debug_struct("JsonPath")
+            .field("text", &self.text)
+            .field("numbers", &self.numbers)
+            .finish_non_exhaustive()
     }
 }
 
 impl fmt::Display for JsonPath {
     fn fmt(&self, f: &mut fmt::Formatter<'_>) -> fmt::Result {
-        f.write_str(&self.text)
+        f.write_str(&self.printed)
     }
 }
 

@@ -1,3 +1,5 @@
 -- What contracts cite:
--- Exports: what the exports answer, and what they write.
+-- Exports: what the exports answer that keep nothing, and what they write.
+-- Handles: what handles hold, and what calls answer of it.
 pub mod Exports
+pub mod Handles

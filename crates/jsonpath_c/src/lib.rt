@@ -1,8 +1,8 @@
 //! The engine for programs in C, and in languages that call C: the exports of `include/jsonpath.h`.
 //!
-//! Each call takes texts as a pointer and a length, keeps nothing between calls, and answers a status. It writes its text to
-//! what the caller lends, or says how much it needs. What is proved holds where the caller keeps to what the header says of
-//! memory, threads and the stack.
+//! Each call takes texts as a pointer and a length, and answers a status. It writes its text to what the caller lends, or says
+//! how much it needs. Some read a path and a document each time; others take them from handles, where a program keeps what was
+//! compiled and read once. What is proved holds where the caller keeps to what the header says of memory, threads and the stack.
 //!
 //! ```text
 //! size_t length;
@@ -11,16 +11,43 @@
 //! ```
 #![tactic(auto)]
 
+mod answers;
+mod bounded;
 mod check;
+mod compiled;
+mod counted;
+mod documents;
+mod handle;
+mod lent;
+mod limits;
 mod lines;
+mod node;
+mod node_texts;
+mod nodes;
+mod paths;
 mod put;
 mod refusal;
+mod selected;
 mod status;
+mod walks;
 
 ghost use Rattle.std.specs.Prelude.{◌≡◌};
 
+pub use answers::{jsonpath_count, jsonpath_exists, jsonpath_lines};
 pub use check::{jsonpath_check, jsonpath_hint, jsonpath_message};
+pub use compiled::Compiled;
+pub use documents::{jsonpath_document_free, jsonpath_document_new};
+pub use handle::document::{Document, DocumentHandle};
+pub use handle::nodes::{Nodes, NodesHandle};
+pub use handle::path::PathHandle;
+pub use limits::Limits;
 pub use lines::{jsonpath_locations, jsonpath_report, jsonpath_values};
+pub use node::Node;
+pub use node_texts::{
+    jsonpath_node_json, jsonpath_node_location, jsonpath_node_pointer, jsonpath_node_text,
+};
+pub use nodes::{jsonpath_node, jsonpath_nodes_free, jsonpath_nodes_length, jsonpath_select};
+pub use paths::{jsonpath_path_equals, jsonpath_path_free, jsonpath_path_new, jsonpath_path_text};
 pub use refusal::Refusal;
 
 /// The version, of 0.7.2.

@@ -1,11 +1,9 @@
 -- Lemmas; the folders have the proofs of functions.
 -- Answered: what is answered, by what was found or by what `clap` says.
 -- Commands: what `clap` reads of a command as it is built.
--- Ends: texts without what they end by.
 -- Found: what the getters of `clap` give, by rows.
 -- Returns: a line without the carriage return at its end.
 pub mod Answered
 pub mod Commands
-pub mod Ends
 pub mod Found
 pub mod Returns

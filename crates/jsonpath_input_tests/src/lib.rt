@@ -1,4 +1,4 @@
-//! The tests of the crate `jsonpath_input`, by its public calls.
+//! The tests of the crates `jsonpath_input` and `jsonpath_document`, by their public calls.
 #![tactic(auto)]
 
 #[cfg(test)]

@@ -1,7 +1,7 @@
 //! What is shown of the nodes of a walk.
 
 ghost use Rattle.std.specs.Prelude.{◌≡◌, ◌++◌, ℕ, List, map, IfOk, IfErr, OnOk, string_bytes};
-ghost use Rattle.serde_json_path_nodes.specs.Views.{located, located_nodes};
+ghost use Rattle.serde_json_path_nodes.specs.Views.{located};
 ghost use Rattle.serde_json_path_nodes.specs.Lists.{first_places};
 ghost use Rattle.serde_json_path_core.specs.Selects.{OnlyMemoryOrPattern};
 ghost use Rattle.serde_json_path_core.specs.Walks.{rest, query_of, set_of, document_of};
@@ -10,8 +10,9 @@ ghost use Rattle.jsonpath_output.specs.Inside.{Appends, ArePieces, Pushes, asked
 
 use crate::forms::Output;
 use crate::showing::Showing;
+use jsonpath_report::nodes::nodes_of;
 use serde_json_path::functions::Functions;
-use serde_json_path::{LocatedNode, LocatedNodeList, QueryError, Walk};
+use serde_json_path::{LocatedNode, QueryError, Walk};
 use std::alloc::Global;
 
 /// Whether a limit, if there is one, is reached.
@@ -49,22 +50,6 @@ fn push_walk<F: Functions + Drop>(
         steps = node.into_steps();
     }
     Ok(count)
-}
-
-/// All nodes of a walk.
-fn nodes_of<'b, F: Functions + Drop>(
-    alloc: Global,
-    mut walk: Walk<'_, 'b, F>,
-) -> Result<LocatedNodeList<'b>, QueryError>
-    ensures nodes { IfOk result (λ nodes. located_nodes nodes ≡ rest walk.entry) }
-    ensures refused { OnlyMemoryOrPattern (set_of walk.entry) (query_of walk.entry)
-        (document_of walk.entry) result }
-{
-    let mut nodes = Vec::new(alloc);
-    'nodes: while let Some(node) = walk.next()? {
-        nodes.push(node)?;
-    }
-    Ok(LocatedNodeList::from(nodes))
 }
 
 /// Appends what is shown of each of some nodes.

@@ -1,16 +1,14 @@
 //! The documents, and what is shown and told of each.
 
 ghost use Rattle.serde_json_path_functions.specs.Functions.{FunctionSet};
-ghost use Rattle.jsonpath_query.specs.Query.{TakesBuiltinPaths};
-ghost use Rattle.jsonpath_query.specs.Props.{TakesBuiltinPaths-prop};
+ghost use Rattle.serde_json_path.specs.Fitting.{TakesBuiltin, TakesBuiltin-prop};
 
 use crate::answers::push_answer;
 use crate::colours::push_colored;
-use crate::floats::count_floats;
 use crate::inputs::Inputs;
 use crate::paths::AskedPath;
 use crate::streams::{Stop, Streams};
-use jsonpath_input::document::{DocumentError, read_document};
+use jsonpath_document::{DocumentError, read_document};
 use jsonpath_output::{Form, Output};
 use serde_json::Value;
 use serde_json_path::QueryError;
@@ -34,9 +32,7 @@ pub(crate) struct Job<'a, F: Functions> {
     pub(crate) strict: bool,
     /// Whether lines have colours.
     pub(crate) colored: bool,
-    /// Whether numbers that are not held as integers are counted.
-    pub(crate) counts_floats: bool,
-    ghost takes: { TakesBuiltinPaths (F.set functions.now) } by { TakesBuiltinPaths-prop (F.set functions.now) },
+    ghost takes: { TakesBuiltin (F.set functions.now) } by { TakesBuiltin-prop (F.set functions.now) },
 }
 
 /// The name of an input as it is told, and as lines begin with it.
@@ -59,7 +55,7 @@ impl<F: Functions> Job<'_, F> {
     }
 
     /// Appends the answer of a path, and returns whether a node was chosen.
-    fn push_plain(
+    fn push_uncolored(
         &self,
         path: &AskedPath,
         head: &str,
@@ -86,10 +82,10 @@ impl<F: Functions> Job<'_, F> {
         text: &mut String,
     ) -> Result<bool, QueryError> {
         if !self.colored {
-            return self.push_plain(path, head, document, text);
+            return self.push_uncolored(path, head, document, text);
         }
         let mut plain = String::new(self.alloc);
-        let selected = self.push_plain(path, head, document, &mut plain)?;
+        let selected = self.push_uncolored(path, head, document, &mut plain)?;
         push_colored(self.alloc, text, plain.as_str(), head, self.output.form)?;
         Ok(selected)
     }
@@ -114,10 +110,6 @@ impl<F: Functions> Job<'_, F> {
             }
         }
         streams.write(text.as_str())?;
-        if self.counts_floats {
-            let floats = count_floats(self.alloc, self.functions, document)?;
-            streams.outcome.floats = streams.outcome.floats.saturating_add(floats);
-        }
         if self.output.form == Form::Nothing && streams.outcome.selected {
             return Err(Stop::Found);
         }

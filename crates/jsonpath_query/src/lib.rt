@@ -7,14 +7,13 @@
 
 pub mod answers;
 mod colours;
+mod counted;
 mod documents;
-mod floats;
 mod found;
 pub mod inputs;
 mod nothing;
 mod paths;
 mod place;
 mod refusal;
-mod ruled;
 pub mod run;
 mod streams;

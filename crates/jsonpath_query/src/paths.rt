@@ -1,9 +1,7 @@
 //! The paths that a command line asks for.
 
-ghost use Rattle.serde_json_path_functions.specs.Functions.{Fits};
-ghost use Rattle.serde_json_path_functions.specs.Patterns.{builtin_functions};
 ghost use Rattle.serde_json_path.specs.Paths.{path_signatures};
-ghost use Rattle.jsonpath_query.specs.Props.{Fits-prop};
+ghost use Rattle.serde_json_path.specs.Fitting.{FitsBuiltin, FitsBuiltin-prop};
 
 use crate::inputs::Inputs;
 use crate::refusal::push_refusal;
@@ -18,7 +16,7 @@ use std::io::{Read, Write};
 #[derive(Drop)]
 pub(crate) struct AskedPath {
     pub(crate) path: JsonPath,
-    ghost fits: { Fits builtin_functions (path_signatures path) } by { Fits-prop builtin_functions (path_signatures path) },
+    ghost fits: { FitsBuiltin (path_signatures path) } by { FitsBuiltin-prop (path_signatures path) },
 }
 
 /// How paths are read.

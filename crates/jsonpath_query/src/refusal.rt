@@ -5,54 +5,54 @@ use crate::place::push_place;
 use serde_json_path::{ParseError, ParseErrorKind};
 use std::alloc::AllocError;
 
-/// What is wrong, in words, and whether what stands at the place is told after them.
-fn words(kind: ParseErrorKind) -> (&'static str, bool) {
+/// What is wrong, in words.
+fn words(kind: ParseErrorKind) -> &'static str {
     use ParseErrorKind as Kind;
     match kind {
-        Kind::ExpectedRoot => ("a path begins with '$'", true),
-        Kind::BadMemberName => ("expected a name or '*' after the dot", true),
-        Kind::ExpectedClosingBracket => ("expected closing ']'", true),
-        Kind::ExpectedEndingQuote => ("the string that begins here has no ending quote", false),
-        Kind::BadEscape => ("bad escape", false),
-        Kind::ControlCharacter => (
-            "a control character in a string is written as an escape",
-            false,
-        ),
+        Kind::ExpectedRoot => "a path begins with '$'",
+        Kind::BadMemberName => "expected a name or '*' after the dot",
+        Kind::ExpectedClosingBracket => "expected closing ']'",
+        Kind::ExpectedEndingQuote => "the string that begins here has no ending quote",
+        Kind::BadEscape => "bad escape",
+        Kind::ControlCharacter => "a control character in a string is written as an escape",
         Kind::ExpectedSelector => {
-            (
-                "expected a selector (a name in quotes, an index, a slice, '*' or '?')",
-                true,
-            )
+            "expected a selector (a name in quotes, an index, a slice, '*' or '?')"
         }
-        Kind::IntegerOutOfRange => ("integers go from -(2^53 - 1) to 2^53 - 1", false),
-        Kind::ExponentOrEmptyFraction => (
-            "a number has no exponent, and digits after its point",
-            false,
-        ),
-        Kind::NumberOutOfRange => ("numbers go from -2^63 to 2^64 - 1", false),
-        Kind::FractionTooLong => ("a number has at most 9 digits after its point", false),
+        Kind::IntegerOutOfRange => "integers go from -(2^53 - 1) to 2^53 - 1",
+        Kind::ExponentOrEmptyFraction => "a number has no exponent, and digits after its point",
+        Kind::NumberOutOfRange => "numbers go from -2^63 to 2^64 - 1",
+        Kind::FractionTooLong => "a number has at most 9 digits after its point",
         Kind::ExpectedExpression => {
-            (
-                "expected a path, a number, a string, true, false, null or a call",
-                true,
-            )
+            "expected a path, a number, a string, true, false, null or a call"
         }
-        Kind::ExpectedClosingParenthesis => ("expected closing ')'", true),
-        Kind::ExpectedComparisonOperator => {
-            ("expected ==, !=, <, <=, > or >= after a literal", true)
-        }
-        Kind::NonSingularQuery => (
-            "this path may select several nodes, so it can't be compared",
-            false,
-        ),
-        Kind::UndefinedFunction => ("no such function", true),
-        Kind::WrongNumberOfArguments => ("wrong number of arguments", false),
-        Kind::WrongArgumentType => ("an argument of the wrong type", false),
-        Kind::WrongReturnType => ("the function's result doesn't fit here", false),
-        Kind::NestedTooDeep => ("nested more than 128 deep", false),
-        Kind::TextAfterPath => ("the path ends before this", true),
-        Kind::NoMemory => ("no memory", false),
+        Kind::ExpectedClosingParenthesis => "expected closing ')'",
+        Kind::ExpectedComparisonOperator => "expected ==, !=, <, <=, > or >= after a literal",
+        Kind::NonSingularQuery => "this path may select several nodes, so it can't be compared",
+        Kind::UndefinedFunction => "no such function",
+        Kind::WrongNumberOfArguments => "wrong number of arguments",
+        Kind::WrongArgumentType => "an argument of the wrong type",
+        Kind::WrongReturnType => "the function's result doesn't fit here",
+        Kind::NestedTooDeep => "nested more than 128 deep",
+        Kind::TextAfterPath => "the path ends before this",
+        Kind::NoMemory => "no memory",
     }
+}
+
+/// Whether what stands at the place is told after the words: where something else was expected, or the name says it.
+fn tells_found(kind: ParseErrorKind) -> bool {
+    use ParseErrorKind as Kind;
+    matches!(
+        kind,
+        Kind::ExpectedRoot
+            | Kind::BadMemberName
+            | Kind::ExpectedClosingBracket
+            | Kind::ExpectedSelector
+            | Kind::ExpectedExpression
+            | Kind::ExpectedClosingParenthesis
+            | Kind::ExpectedComparisonOperator
+            | Kind::UndefinedFunction
+            | Kind::TextAfterPath
+    )
 }
 
 /// Where a refusal is shown: at its place, or where a string begins that is never closed.
@@ -83,9 +83,9 @@ pub(crate) fn push_refusal(
     hint: Option<&str>,
 ) -> Result<(), AllocError> {
     let place = place_of(text, e);
-    let (words, tells_found) = words(e.kind());
+    let words = words(e.kind());
     write!(to, "jpq: {name} is refused at byte {place}: {words}")?;
-    if tells_found {
+    if tells_found(e.kind()) {
         push_found(to, text, place)?;
     }
     to.push('\n')?;

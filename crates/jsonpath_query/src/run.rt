@@ -1,19 +1,24 @@
 //! The program over its inputs and two writers.
 
+ghost use Rattle.std.specs.Prelude.{◌≡◌, ◌≤◌, ◌⊎◌, Err, map, string_bytes};
 ghost use Rattle.serde_json_path_functions.specs.Functions.{FunctionSet};
-ghost use Rattle.jsonpath_query.specs.Query.{IsStatus, TakesBuiltinPaths};
+ghost use Rattle.jsonpath_input.specs.Options.{AsksFor};
+ghost use Rattle.jsonpath_input.specs.declared.options.Asked as input;
+ghost use Rattle.serde_json_path.specs.Fitting.{TakesBuiltin};
+ghost use Rattle.jsonpath_query.specs.Query.{IsStatus, IsStatusOf};
 
+use crate::counted::Counted;
 use crate::documents::Job;
-use crate::floats::may_compare;
 use crate::inputs::Inputs;
 use crate::nothing::reason_of;
 use crate::paths::{AskedPath, asked_paths};
-use crate::ruled::Ruled;
 use crate::streams::{OUTPUT_FAILED, REFUSED, SELECTED, Stop, Streams, WRONG_USE};
 use jsonpath_input::options::{Asked, Color, Options, read};
 use jsonpath_output::Output;
+use jsonpath_report::ruled::Ruled;
 use serde_json_path::functions::{CachedPatterns, Functions, Numbers, PatternStore};
-use std::alloc::{AllocError, Global};
+use std::alloc::Global;
+use std::cell::Cell;
 use std::io::Write;
 
 /// Writes each path in its canonical form.
@@ -45,28 +50,19 @@ fn hint_at_nothing<W: Write, E: Write>(
     Ok(())
 }
 
-/// Whether one of some paths may have a comparison.
-fn may_compare_in(alloc: Global, paths: &[AskedPath]) -> Result<bool, AllocError> {
-    for path in paths {
-        if may_compare(path.path.to_string(alloc)?.as_str()) {
-            return Ok(true);
-        }
-    }
-    Ok(false)
-}
-
-/// Tells how many numbers were not held as integers, if there were any.
+/// Tells how many times a comparison met a number that is not held as an integer, if any did.
 fn tell_floats<W: Write, E: Write>(
     alloc: Global,
+    floats: usize,
     streams: &mut Streams<'_, W, E>,
 ) -> Result<(), Stop> {
-    let told = match streams.outcome.floats {
+    let told = match floats {
         0 => return Ok(()),
         1 => format!(in alloc;
-            "jpq: 1 number is not held as an integer: it equals nothing and is not ordered\n"
+            "jpq: 1 number that was compared is not held as an integer: it equals nothing and is not ordered\n"
         )?,
         n => format!(in alloc;
-            "jpq: {n} numbers are not held as integers: they equal nothing and are not ordered\n"
+            "jpq: {n} numbers that were compared are not held as integers: they equal nothing and are not ordered\n"
         )?,
     };
     streams.tell(told.as_str());
@@ -120,7 +116,7 @@ impl Setting {
         inputs: &mut I,
         streams: &mut Streams<'_, W, E>,
     ) -> Result<(), Stop>
-        requires { TakesBuiltinPaths (F.set functions.now) }
+        requires { TakesBuiltin (F.set functions.now) }
     {
         let job = Job {
             alloc: self.alloc,
@@ -131,9 +127,6 @@ impl Setting {
             lines: options.lines,
             strict: options.strict,
             colored: self.is_colored(options),
-            counts_floats: options.whole_numbers
-                && !options.silent
-                && may_compare_in(self.alloc, paths)?,
         };
         if options.files.is_empty() {
             return job.answer_all(&["-"], inputs, streams);
@@ -141,20 +134,26 @@ impl Setting {
         job.answer_all(&options.files, inputs, streams)
     }
 
-    /// Answers all documents by the rule for numbers that is asked for.
+    /// Answers all documents by the rule for numbers that is asked for, and returns how many times a comparison met a number that
+    /// is not held as an integer.
     fn answer_documents<I: Inputs, W: Write, E: Write>(
         self,
         options: &Options<'_>,
         paths: &[AskedPath],
         inputs: &mut I,
         streams: &mut Streams<'_, W, E>,
-    ) -> Result<(), Stop> {
+    ) -> Result<usize, Stop> {
         let store = PatternStore::new();
-        let functions = Ruled {
+        let ruled = Ruled {
             functions: CachedPatterns::new(self.alloc, &store),
             numbers: numbers_of(options),
         };
-        self.answer_under(options, paths, &functions, inputs, streams)
+        let functions = Counted {
+            functions: ruled,
+            floats: Cell::new(0),
+        };
+        self.answer_under(options, paths, &functions, inputs, streams)?;
+        Ok(functions.floats.get())
     }
 
     /// Runs with options: reads the paths, then checks them or answers the documents.
@@ -168,8 +167,10 @@ impl Setting {
         if options.check {
             return check(self.alloc, &paths, streams);
         }
-        self.answer_documents(options, &paths, inputs, streams)?;
-        tell_floats(self.alloc, streams)?;
+        let floats = self.answer_documents(options, &paths, inputs, streams)?;
+        if options.whole_numbers && !options.silent {
+            tell_floats(self.alloc, floats, streams)?;
+        }
         if streams.outcome.selected || streams.outcome.refused || options.silent {
             return Ok(());
         }
@@ -179,7 +180,8 @@ impl Setting {
 
 /// The exit status of a run that ended so; tells what ended it.
 fn status_of<W: Write, E: Write>(ended: Result<(), Stop>, streams: &mut Streams<'_, W, E>) -> u8
-    ensures { IsStatus result }
+    ensures few { result ≤ 3 }
+    ensures memory { ended ≡ Err Stop.Memory → result ≡ 2 }
 {
     match ended {
         Ok(()) | Err(Stop::ReaderGone) => streams.outcome.status(),
@@ -216,7 +218,9 @@ pub fn run<I: Inputs, W: Write, E: Write>(
     out: &mut W,
     err: &mut E,
 ) -> u8
-    ensures { IsStatus result }
+    ensures one_of { IsStatus result }
+    ensures status { ((asked : input.Asked) × AsksFor (map string_bytes words.now) asked
+        × IsStatusOf asked result) ⊎ (result ≡ 2) }
 {
     let mut streams = Streams::new(out, err);
     let ended = match read(alloc, words) {

@@ -1,6 +1,6 @@
 //! What is written, what is told on standard error, and what comes of a run.
 
-ghost use Rattle.jsonpath_query.specs.Query.{IsStatus};
+ghost use Rattle.std.specs.Prelude.{◌≤◌};
 
 use serde_json_path::QueryError;
 use std::alloc::{AllocError, AllocFailed};
@@ -25,14 +25,12 @@ pub(crate) struct Outcome {
     pub(crate) selected: bool,
     /// Whether something was refused.
     pub(crate) refused: bool,
-    /// How many numbers were not held as integers, where these are counted.
-    pub(crate) floats: usize,
 }
 
 impl Outcome {
     /// The exit status.
     pub(crate) fn status(self) -> u8
-        ensures { IsStatus result }
+        ensures { result ≤ 2 }
     {
         match self {
             Outcome { refused: true, .. } => REFUSED,
@@ -89,7 +87,6 @@ impl<'a, W: Write, E: Write> Streams<'a, W, E> {
         let outcome = Outcome {
             selected: false,
             refused: false,
-            floats: 0,
         };
         Streams { out, err, outcome }
     }

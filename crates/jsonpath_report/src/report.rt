@@ -112,10 +112,10 @@ fn push_value(alloc: Global, text: &mut String, value: &Value) -> Result<(), All
     }
 }
 
-/// Appends a node's line.
+/// Appends a node's line in a form, with the line feed at its end. It fails where memory is refused.
 // Inlined, so that its form is known where it is called.
 #[inline(always)]
-fn push_line(
+pub fn push_line(
     alloc: Global,
     text: &mut String,
     form: LineForm,

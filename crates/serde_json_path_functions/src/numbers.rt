@@ -4,6 +4,7 @@ use crate::error::QueryError;
 use crate::set::Functions;
 use crate::signature::Signature;
 use crate::types::FunctionValue;
+use serde_json::Value;
 use std::alloc::Global;
 
 /// How comparisons take the numbers of documents.
@@ -42,6 +43,10 @@ impl<F: Functions> Functions for AllNumbers<F> {
 
     fn numbers(&self) -> Numbers {
         Numbers::All
+    }
+
+    fn compared(&self, value: &Value) {
+        self.0.compared(value)
     }
 
     fn call<'b>(

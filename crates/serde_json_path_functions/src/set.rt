@@ -10,6 +10,7 @@ use crate::error::QueryError;
 use crate::numbers::Numbers;
 use crate::signature::Signature;
 use crate::types::FunctionValue;
+use serde_json::Value;
 use std::alloc::Global;
 
 /// A set of functions, which filters call by name (RFC 9535, section 2.4).
@@ -40,6 +41,10 @@ pub trait Functions {
     /// How comparisons take the numbers of documents. With the built-in functions alone it is `Numbers::Whole`.
     fn numbers(&self) -> Numbers
         ensures { numbers_view result ≡ (set self.now).numbers };
+
+    /// Told of each value that a comparison takes for one of its sides, each time. A number of the path is not told. It does
+    /// nothing, unless a set counts or records what is compared.
+    fn compared(&self, _value: &Value) {}
 
     /// The answer of a declared name to arguments of the declared types.
     ///
@@ -77,6 +82,10 @@ impl<F: Functions> Functions for &F {
 
     fn numbers(&self) -> Numbers {
         (**self).numbers()
+    }
+
+    fn compared(&self, value: &Value) {
+        (**self).compared(value)
     }
 
     fn call<'b>(

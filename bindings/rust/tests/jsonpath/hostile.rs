@@ -1,26 +1,37 @@
 //! Paths and documents from strangers.
 
-use jsonpath::{JsonPath, ParseErrorKind, QueryError};
+use jsonpath::{Document, DocumentError, JsonPath, ParseErrorKind, QueryError};
 
-/// Bytes that are no JSON text.
-const NO_JSON: &[&[u8]] = &[
-    b"",
-    b" ",
-    b"\xef\xbb\xbf1",
-    b"\xff",
-    b"\"\xc3\"",
-    b"\"\xed\xa0\x80\"",
+/// Bytes that are no JSON text, and the byte where that shows.
+const NO_JSON: &[(&[u8], usize)] = &[
+    (b"", 1),
+    (b" ", 2),
+    (b"\xef\xbb\xbf1", 1),
+    (b"\xff", 1),
+    (b"\"\xc3\"", 2),
+    (b"\"\xed\xa0\x80\"", 2),
+    (b"NaN", 1),
+    (b"1e400", 1),
+    (b"[1,1e400]", 4),
+    (b"[1,]", 3),
+    (b"nul", 4),
+    (b"{", 2),
+    (b"1 2", 3),
+    (b"{}{}", 3),
+    (b"[]\0", 3),
+    (b"\0", 1),
+];
+
+/// Bytes with a word that is broken somewhere, which shows at one of its bytes.
+const BROKEN_WORDS: &[&[u8]] = &[
     b"\"\\ud800\"",
     b"\"\n\"",
-    b"NaN",
-    b"1e400",
+    b"\"\\x\"",
     b"01",
-    b"[1,]",
-    b"nul",
-    b"1 2",
-    b"{}{}",
+    b"nil",
     b"null\0",
-    b"\0",
+    b"[1 2]",
+    b"{\"a\" 1}",
 ];
 
 fn path(text: &str) -> JsonPath {
@@ -28,13 +39,22 @@ fn path(text: &str) -> JsonPath {
 }
 
 fn documents_that_are_no_json() {
-    for document in NO_JSON {
-        let error = path("$").query(document).unwrap_err();
-        assert_eq!(error, QueryError::Document, "{document:?}");
+    for &(bytes, position) in NO_JSON {
+        let error = Document::parse(bytes).unwrap_err();
+        assert_eq!(error, DocumentError::NotJson { position }, "{bytes:?}");
+        assert_eq!(error.position(), Some(position), "{bytes:?}");
+        let refused = path("$").query_bytes(bytes).unwrap_err();
+        assert_eq!(refused, QueryError::Document(error), "{bytes:?}");
         assert_eq!(
-            path("$").report(document).unwrap_err().to_string(),
-            "not JSON"
+            path("$").report_bytes(bytes).unwrap_err().to_string(),
+            format!("at position {position}, not JSON")
         );
+    }
+    for bytes in BROKEN_WORDS {
+        let error = Document::parse(bytes).unwrap_err();
+        assert!(matches!(error, DocumentError::NotJson { .. }), "{bytes:?}");
+        let position = error.position().unwrap();
+        assert!((1..=bytes.len() + 1).contains(&position), "{bytes:?}");
     }
 }
 
@@ -42,23 +62,40 @@ fn documents_that_nest() {
     let nested = |depth: usize| "[".repeat(depth) + &"]".repeat(depth);
     let most = nested(127);
     assert_eq!(
-        path("$").report(most.as_bytes()).unwrap(),
+        path("$").report_bytes(most.as_bytes()).unwrap(),
         format!("$\t{most}\n")
     );
-    assert_eq!(path("$..*").query(most.as_bytes()).unwrap().len(), 126);
-    let error = path("$").query_located(nested(128).as_bytes()).unwrap_err();
-    assert_eq!(error, QueryError::Document);
+    let document = Document::parse(most.as_bytes()).unwrap();
+    assert_eq!(path("$..*").query(&document).unwrap().len(), 126);
+    assert_eq!(
+        path("$..*").query_bytes(most.as_bytes()).unwrap().len(),
+        126
+    );
+    let too_deep = DocumentError::TooDeep { position: 128 };
+    let deeper = nested(128);
+    assert_eq!(Document::parse(deeper.as_bytes()).unwrap_err(), too_deep);
+    assert_eq!(
+        too_deep.to_string(),
+        "at position 128, nested more than 127 deep"
+    );
+    let error = path("$")
+        .query_located_bytes(deeper.as_bytes())
+        .unwrap_err();
+    assert_eq!(error, QueryError::Document(too_deep));
 }
 
 fn paths_that_nest() {
     let nested = |depth: usize| format!("${}{}", "[?@".repeat(depth), "]".repeat(depth));
     let arrays = "[".repeat(127) + &"]".repeat(127);
     assert!(path(&nested(128))
-        .query(arrays.as_bytes())
+        .query_bytes(arrays.as_bytes())
         .unwrap()
         .is_empty());
     assert_eq!(
-        path(&nested(126)).query(arrays.as_bytes()).unwrap().len(),
+        path(&nested(126))
+            .query_bytes(arrays.as_bytes())
+            .unwrap()
+            .len(),
         1
     );
     let error = JsonPath::parse(&nested(129)).unwrap_err();
@@ -72,7 +109,10 @@ pub fn deepest() {
     let filters = ("[?@".repeat(126), "]".repeat(126));
     let deep = format!("${}[?search(@, '{pattern}')]{}", filters.0, filters.1);
     let document = "[".repeat(127) + "\"a\"" + &"]".repeat(127);
-    assert_eq!(path(&deep).query(document.as_bytes()).unwrap().len(), 1);
+    assert_eq!(
+        path(&deep).query_bytes(document.as_bytes()).unwrap().len(),
+        1
+    );
 }
 
 fn paths_with_nul() {
@@ -96,20 +136,28 @@ fn paths_with_nul() {
 fn large_documents() {
     let text = format!("\"{}\"", "x".repeat(1_000_000));
     assert_eq!(
-        path("$").query(text.as_bytes()).unwrap().iter().next(),
+        path("$")
+            .query_bytes(text.as_bytes())
+            .unwrap()
+            .iter()
+            .next(),
         Some(&text[..])
     );
     let array = format!("[{}0]", "0,".repeat(499_999));
     assert_eq!(
-        path("$[?@ == 0]").query(array.as_bytes()).unwrap().len(),
+        path("$[?@ == 0]")
+            .query_bytes(array.as_bytes())
+            .unwrap()
+            .len(),
         500_000
     );
-    let located = path("$[-1]").query_located(array.as_bytes()).unwrap();
+    let located = path("$[-1]").query_located_bytes(array.as_bytes()).unwrap();
     assert_eq!(located.iter().next().unwrap().location, "$[499999]");
     let error = path("$")
-        .query(&array.as_bytes()[..array.len() - 1])
+        .query_bytes(&array.as_bytes()[..array.len() - 1])
         .unwrap_err();
-    assert_eq!(error, QueryError::Document);
+    let position = array.len();
+    assert_eq!(error, DocumentError::NotJson { position }.into());
 }
 
 /// Answers about as long as the room of the first call.
@@ -117,28 +165,34 @@ fn answers_of_the_first_room() {
     for length in 4080..4110 {
         let text = format!("\"{}\"", "x".repeat(length));
         let document = format!("[{text}]");
-        let nodes = path("$[0,0]").query(document.as_bytes()).unwrap();
+        let nodes = path("$[0,0]").query_bytes(document.as_bytes()).unwrap();
         assert_eq!(nodes.iter().collect::<Vec<_>>(), [&text, &text]);
-        let report = path("$[0,0]").report(document.as_bytes()).unwrap();
+        let report = path("$[0,0]").report_bytes(document.as_bytes()).unwrap();
         assert_eq!(report, format!("$[0]\t{text}\n").repeat(2));
     }
 }
 
 fn patterns() {
     let large = path(r#"$[?match(@, "\\w{1000}{10}")]"#);
-    assert_eq!(large.query(br#"["a"]"#).unwrap_err(), QueryError::Pattern);
+    let document = Document::parse(br#"["a"]"#).unwrap();
+    assert_eq!(large.query(&document).unwrap_err(), QueryError::Pattern);
     assert_eq!(
-        large.report(br#"["a"]"#).unwrap_err().to_string(),
+        large.query_first(&document, 0).unwrap_err(),
+        QueryError::Pattern
+    );
+    assert_eq!(
+        large.query_unique(&document).unwrap_err(),
+        QueryError::Pattern
+    );
+    assert_eq!(large.count(&document), Err(QueryError::Pattern));
+    assert_eq!(large.exists(&document), Err(QueryError::Pattern));
+    assert_eq!(
+        large.report_bytes(br#"["a"]"#).unwrap_err().to_string(),
         "pattern refused"
     );
-    assert!(large.query(b"[1]").unwrap().is_empty());
-    assert_eq!(
-        path("$[?!match(@, '(')]")
-            .query(br#"["a",5]"#)
-            .unwrap()
-            .len(),
-        2
-    );
+    assert!(large.query_bytes(b"[1]").unwrap().is_empty());
+    let broken = path("$[?!match(@, '(')]");
+    assert_eq!(broken.query_bytes(br#"["a",5]"#).unwrap().len(), 2);
 }
 
 /// Each of these.

@@ -1,6 +1,8 @@
 //! What the crate answers, row by row, alone and from several threads at once.
 
+mod documents;
 mod hostile;
+mod paths;
 mod refusals;
 mod rows;
 

@@ -1,6 +1,6 @@
 //! Lines of paths and documents.
 
-use jsonpath::JsonPath;
+use jsonpath::{Document, JsonPath};
 
 /// The bookstore of RFC 9535, section 1.5.
 pub const BOOKSTORE: &str = include_str!("../../../../examples/bookstore.json");
@@ -106,37 +106,58 @@ const ROWS: &[(&str, &str, &str)] = &[
     ),
 ];
 
+/// Holds the one-shot forms of an answer to its lines.
+fn selects_from_bytes(path: &JsonPath, document: &str, lines: &str, wanted: &[(&str, &str)]) {
+    let document = document.as_bytes();
+    assert_eq!(path.report_bytes(document).unwrap(), lines, "{path}");
+    let located = path.query_located_bytes(document).unwrap();
+    let pairs: Vec<(&str, &str)> = located
+        .iter()
+        .map(|value| (value.location, value.json))
+        .collect();
+    assert_eq!(pairs, wanted, "{path}");
+    let values = path.query_bytes(document).unwrap();
+    let locations = path.locations_bytes(document).unwrap();
+    let pairs: Vec<(&str, &str)> = locations.iter().zip(&values).collect();
+    assert_eq!(pairs, wanted, "{path}");
+    let lengths = [values.len(), located.len(), locations.len()];
+    assert_eq!(lengths, [wanted.len(); 3], "{path}");
+    let empty = [values.is_empty(), located.is_empty(), locations.is_empty()];
+    assert_eq!(empty, [wanted.is_empty(); 3], "{path}");
+}
+
+/// Holds what a path selects from a document that was read to the same lines.
+fn selects_from_document(path: &JsonPath, document: &Document, wanted: &[(&str, &str)]) {
+    let nodes = path.query(document).unwrap();
+    let pairs: Vec<(String, String)> = nodes
+        .iter()
+        .map(|node| (node.location().unwrap(), node.json().unwrap()))
+        .collect();
+    let borrowed: Vec<(&str, &str)> = pairs
+        .iter()
+        .map(|(location, json)| (location.as_str(), json.as_str()))
+        .collect();
+    assert_eq!(borrowed, wanted, "{path}");
+    assert_eq!(nodes.len(), wanted.len(), "{path}");
+    assert_eq!(nodes.is_empty(), wanted.is_empty(), "{path}");
+    assert!(!nodes.is_cut_short(), "{path}");
+    assert_eq!(path.count(document), Ok(wanted.len()), "{path}");
+    assert_eq!(path.exists(document), Ok(!wanted.is_empty()), "{path}");
+}
+
 /// Holds the forms of an answer to its lines.
 fn selects(path: &str, document: &str, lines: &str) {
     let parsed = JsonPath::parse(path).unwrap();
-    assert_eq!(parsed.report(document.as_bytes()).unwrap(), lines, "{path}");
     let wanted: Vec<(&str, &str)> = lines
         .lines()
         .map(|line| line.split_once('\t').unwrap())
         .collect();
-    let located = parsed.query_located(document.as_bytes()).unwrap();
-    let pairs: Vec<(&str, &str)> = located
-        .iter()
-        .map(|node| (node.location, node.json))
-        .collect();
-    assert_eq!(pairs, wanted, "{path}");
-    let nodes = parsed.query(document.as_bytes()).unwrap();
-    let values: Vec<&str> = nodes.iter().collect();
-    assert_eq!(
-        values,
-        wanted.iter().map(|pair| pair.1).collect::<Vec<_>>(),
-        "{path}"
-    );
-    let locations = parsed.locations(document.as_bytes()).unwrap();
-    assert_eq!(
-        locations.iter().collect::<Vec<_>>(),
-        wanted.iter().map(|pair| pair.0).collect::<Vec<_>>(),
-        "{path}"
-    );
-    let lengths = [nodes.len(), located.len(), locations.len()];
-    assert_eq!(lengths, [wanted.len(); 3], "{path}");
-    let empty = [nodes.is_empty(), located.is_empty(), locations.is_empty()];
-    assert_eq!(empty, [wanted.is_empty(); 3], "{path}");
+    selects_from_bytes(&parsed, document, lines, &wanted);
+    let document = Document::parse(document.as_bytes()).unwrap();
+    selects_from_document(&parsed, &document, &wanted);
+    let printed = JsonPath::parse(&parsed.to_string()).unwrap();
+    assert_eq!(printed, parsed, "{path}");
+    selects_from_document(&printed, &document, &wanted);
 }
 
 /// Each row.
@@ -154,15 +175,15 @@ fn rows() {
 #[test]
 fn iterators_know_their_length() {
     let path = JsonPath::parse("$[*]").unwrap();
-    let nodes = path.query(b"[1,2,3]").unwrap();
-    let mut iter = nodes.iter();
+    let values = path.query_bytes(b"[1,2,3]").unwrap();
+    let mut iter = values.iter();
     iter.next();
     assert_eq!(iter.len(), 2);
-    assert_eq!((&nodes).into_iter().count(), 3);
-    let located = path.query_located(b"[1,2,3]").unwrap();
+    assert_eq!((&values).into_iter().count(), 3);
+    let located = path.query_located_bytes(b"[1,2,3]").unwrap();
     assert_eq!(located.iter().len(), 3);
     assert_eq!((&located).into_iter().last().unwrap().location, "$[2]");
-    let locations = path.locations(b"[1,2,3]").unwrap();
+    let locations = path.locations_bytes(b"[1,2,3]").unwrap();
     assert_eq!(locations.iter().len(), 3);
     assert_eq!((&locations).into_iter().last(), Some("$[2]"));
 }
@@ -174,13 +195,4 @@ fn the_library_has_the_version_of_the_crate() {
         format!("{major}.{minor}.{patch}"),
         env!("CARGO_PKG_VERSION")
     );
-}
-
-#[test]
-fn a_path_keeps_its_text() {
-    let path: JsonPath = "$[ 'a' ]".parse().unwrap();
-    assert_eq!(path.as_str(), "$[ 'a' ]");
-    assert_eq!(path.to_string(), "$[ 'a' ]");
-    assert_eq!(path, path.clone());
-    assert_ne!(path, JsonPath::parse("$['a']").unwrap());
 }

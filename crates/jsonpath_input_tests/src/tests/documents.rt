@@ -1,6 +1,6 @@
 //! Documents that are refused: where, and why.
 
-use jsonpath_input::document::read_document;
+use jsonpath_document::read_document;
 use serde_json_path_core_tests::rows::Table;
 use serde_json_path_core_tests::texts::long;
 use std::alloc::Global;
@@ -113,6 +113,31 @@ fn nested(alloc: Global, levels: usize) -> Result<String, Fail> {
         Ok(_) => String::from_str(alloc, "read")?,
         Err(e) => format!(in alloc; "{e}")?,
     })
+}
+
+/// Bytes that are no document, and the number of the byte where that shows.
+const POSITIONS: &[(&str, &str)] = &[
+    ("", "1"),
+    ("[1,2", "5"),
+    ("{\"\u{e9}\":1,\n'a'}", "10"),
+    ("[\"\u{1f600}\",\n // x\n1]", "11"),
+];
+
+/// The number of the byte where bytes turn out to be no document.
+fn position(alloc: Global, text: &str) -> Result<String, Fail> {
+    Ok(match read_document(alloc, text.as_bytes()) {
+        Ok(value) => value.to_string(alloc)?,
+        Err(e) => e.position.to_string(alloc)?,
+    })
+}
+
+#[test]
+fn tells_the_byte(rt: HostRuntime) -> Result<(), Fail> {
+    let mut table = Table::new(&rt);
+    for &(text, wanted) in POSITIONS {
+        table.hold(("positions", text, wanted), position(rt.alloc(), text));
+    }
+    table.end()
 }
 
 #[test]

@@ -4,7 +4,7 @@
 //! A call that answers no memory is made again, and then answers as its row says.
 
 use crate::tests::options::{of_asked, words_of};
-use jsonpath_input::document::{DocumentFault, read_document};
+use jsonpath_document::{DocumentFault, read_document};
 use jsonpath_input::options::{command, paths_in, read};
 use serde_json_path_core_tests::rows::hold_answers;
 use std::alloc::Global;

@@ -49,6 +49,6 @@ fn run_of_a_refused_path(rt: HostRuntime) -> Result<(), Fail> {
 #[test]
 fn run_of_counted_numbers(rt: HostRuntime) -> Result<(), Fail> {
     let row =
-        "-c  --whole-numbers  $[?@ == 1] ~ [1,1.5] -> 0: 1\njpq: 1 number is not held as an integer: it equals nothing and is not ordered\n";
+        "-c  --whole-numbers  $[?@ == 1] ~ [1,1.5] -> 0: 1\njpq: 1 number that was compared is not held as an integer: it equals nothing and is not ordered\n";
     hold_answers(&rt, &[row], answered)
 }

@@ -183,9 +183,38 @@ const TOLD: &[(&str, &str, (u8, &str, &str))] = &[
         (
             1,
             "",
-            "jpq: 3 numbers are not held as integers: they equal nothing and are not ordered\n",
+            "jpq: 3 numbers that were compared are not held as integers: they equal nothing and are not ordered\n",
         ),
     ),
+    (
+        "--whole-numbers  -c  -e  $[?@ == 1 || @ == 2]  -e  $[?1 != @]  -e  $[*]  -",
+        "[1,1.5,\"a\",[2.5]]",
+        (
+            0,
+            "1\t1\n2\t3\n3\t4\n",
+            "jpq: 3 numbers that were compared are not held as integers: they equal nothing and are not ordered\n",
+        ),
+    ),
+    (
+        "--whole-numbers  -c  $[?@[0] == @[1]]",
+        "[[1,1],[1.5,1.5],[1]]",
+        (
+            0,
+            "1\n",
+            "jpq: 2 numbers that were compared are not held as integers: they equal nothing and are not ordered\n",
+        ),
+    ),
+    (
+        "--whole-numbers  -c  $[?@ == 1]",
+        "[1,{\"a\":1.5}]",
+        (0, "1\n", ""),
+    ),
+    (
+        "-s  --whole-numbers  -c  $[?@ == 1]",
+        "[1,1.5]",
+        (0, "1\n", ""),
+    ),
+    ("-c  $[?@ == 1]", "[1,1.5]", (0, "1\n", "")),
     ("-s  -v  $.items.length", "{\"items\":[1]}", (1, "", "")),
 ];
 

@@ -1,7 +1,8 @@
 //! The lines of reports, and refusals of paths and documents.
 
 use jsonpath_report::report::{LineForm, report, report_in};
-use serde_json_path::functions::{Builtin, Functions};
+use jsonpath_report::ruled::Ruled;
+use serde_json_path::functions::{Builtin, Functions, Numbers};
 use serde_json_path_core_tests::rows::{Table, fields, hold_rows};
 use serde_json_path_core_tests::texts::{BOOKSTORE, long};
 use std::alloc::{AllocError, Global};
@@ -97,6 +98,29 @@ fn halves(alloc: Global, given: &str) -> Result<String, Fail> {
 #[test]
 fn locations_alone_and_values_alone(rt: HostRuntime) -> Result<(), Fail> {
     hold_rows(&rt, HALVES, halves)
+}
+
+/// A path, a document, and the lines of their report where comparisons take whole numbers, and where they take all.
+const RULES: &[&str] = &[
+    "$[?@ == 1.5] ~ [1.5,1] ->  ~ $[0]\t1.5\n",
+    "$[?@ < 2] ~ [1.5,1] -> $[1]\t1\n ~ $[0]\t1.5\n$[1]\t1\n",
+    "$[?length(@) == 1] ~ [[1.5],1] -> $[0]\t[1.5]\n ~ $[0]\t[1.5]\n",
+];
+
+/// The report of a path and a document under each rule for numbers.
+fn by_rules(alloc: Global, given: &str) -> Result<String, Fail> {
+    let [whole, all] = [Numbers::Whole, Numbers::All].map(|numbers| Ruled {
+        functions: Builtin,
+        numbers,
+    });
+    let whole = of_row(alloc, &whole, given)?;
+    let all = of_row(alloc, &all, given)?;
+    Ok(format!(in alloc; "{whole} ~ {all}")?)
+}
+
+#[test]
+fn lines_by_each_rule_for_numbers(rt: HostRuntime) -> Result<(), Fail> {
+    hold_rows(&rt, RULES, by_rules)
 }
 
 /// A path, a document, and the text of the refusal.

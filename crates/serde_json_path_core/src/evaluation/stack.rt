@@ -21,6 +21,7 @@ pub(crate) struct Found<'b> {
 }
 
 /// The node that a walk has come to, with its location in the memory of a vector, whose steps are lost.
+#[inline(always)]
 pub(crate) fn located_at<'b>(
     mut steps: Vec<PathElement<'b>>,
     frames: &[Frame<'b>],

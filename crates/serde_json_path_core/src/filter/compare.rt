@@ -7,9 +7,20 @@ ghost use Rattle.serde_json_path_core.specs.Inside.Computed.{compare as comparis
 use crate::filter::equality::{same_amounts, same_values};
 use crate::filter::side::{Side, amount_of, exact_of};
 use serde_json::Value;
-use serde_json_path_functions::Numbers;
+use serde_json_path_functions::{Functions, Numbers};
 use serde_json_path_numbers::ExactNumber;
 use serde_json_path_syntax::ComparisonOperator;
+
+/// Tells a set the values that two sides stand for.
+#[inline(always)]
+pub(crate) fn tell_sides<F: Functions>(functions: &F, left: Side, right: Side) {
+    if let Side::Value(value) = left {
+        functions.compared(value);
+    }
+    if let Side::Value(value) = right {
+        functions.compared(value);
+    }
+}
 
 /// Whether a comparison of two sides holds.
 #[inline(always)]
@@ -59,6 +70,7 @@ fn equal_numbers(numbers: Numbers, left: Side, right: Side) -> bool
 }
 
 /// Whether two numbers are there, and equal.
+#[inline(always)]
 fn equal_exactly(left: Option<ExactNumber>, right: Option<ExactNumber>) -> bool
     ensures { result ≡ of_both eq (option_map exact_view left) (option_map exact_view right) }
 {
@@ -106,6 +118,7 @@ fn rising_amounts(left: Option<i128>, right: Option<i128>) -> bool
 }
 
 /// Whether two numbers are there, and the first is less.
+#[inline(always)]
 fn rising_exactly(left: Option<ExactNumber>, right: Option<ExactNumber>) -> bool
     ensures { result ≡ of_both lt (option_map exact_view left) (option_map exact_view right) }
 {

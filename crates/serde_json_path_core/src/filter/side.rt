@@ -86,6 +86,7 @@ pub(crate) fn amount_of(side: Side) -> Option<i128>
 }
 
 /// The exact number of what is a number.
+#[inline(always)]
 pub(crate) fn exact_of(side: Side) -> Option<ExactNumber>
     ensures { option_map exact_view result ≡ exact_of (side_view side.entry) }
 {

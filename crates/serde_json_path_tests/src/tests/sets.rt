@@ -9,10 +9,11 @@ use crate::tests::walks::of_walk;
 use serde_json::Value;
 use serde_json_path::functions::FunctionArgType::{Logical, Nodelist};
 use serde_json_path::functions::{
-    Builtin, FunctionArgType, FunctionValue, Functions, LogicalType, Numbers, Signature, ValueType,
+    AllNumbers, Both, Builtin, FunctionArgType, FunctionValue, Functions, LogicalType, Numbers,
+    Signature, ValueType,
 };
 use serde_json_path::{JsonPath, QueryError};
-use serde_json_path_core_tests::rows::{Table, hold_rows};
+use serde_json_path_core_tests::rows::{Table, fields, hold_rows};
 use std::alloc::Global;
 use std::cell::Cell;
 use std::process::Abort;
@@ -129,6 +130,76 @@ impl Functions for Odd {
             _ => unreachable!(),
         }
     }
+}
+
+/// The functions of a set, and how many values it was told that are compared.
+#[derive(Drop)]
+struct Told<F> {
+    functions: F,
+    values: Cell<usize>,
+}
+
+impl<F: Functions> Functions for Told<F> {
+    ghost set = { λ told. F.set told.functions };
+
+    ghost typed = { λ told. F.typed told.functions };
+
+    ghost patterned = { λ told. F.patterned told.functions };
+
+    fn signature(&self, name: &str) -> Option<Signature> {
+        self.functions.signature(name)
+    }
+
+    fn numbers(&self) -> Numbers {
+        self.functions.numbers()
+    }
+
+    fn compared(&self, _value: &Value) {
+        self.values.set(self.values.get().saturating_add(1));
+    }
+
+    fn call<'b>(
+        &self,
+        alloc: Global,
+        name: &str,
+        args: Vec<FunctionValue<'b>>,
+    ) -> Result<FunctionValue<'b>, QueryError> {
+        self.functions.call(alloc, name, args)
+    }
+}
+
+/// A path, a document, and how many values a set is told of the path's query there.
+const COMPARED: &[&str] = &[
+    "$[?@ == 1] ~ [1,2.5] -> 2",
+    "$[?@ == 'a'] ~ [1] -> 2",
+    "$[?@ < $[0]] ~ [1,2] -> 4",
+    "$[?@ == 1 || @ == 2] ~ [1,2] -> 3",
+    r#"$[?@.a == @.b] ~ [{"a":1},{}] -> 1"#,
+    r#"$[?length(@) == value(@.*)] ~ ["a",[5]] -> 3"#,
+    "$[?@.a] ~ [1,2] -> 0",
+    "$[?1 == 2] ~ [1] -> 0",
+    "$[?@ == 1] ~ [[1,2]] -> 1",
+];
+
+/// How many values a set is told of a path's query on a document, through sets that are made of it.
+fn of_told(alloc: Global, given: &str) -> Result<String, Fail> {
+    let (path, document) = fields(given)?;
+    let told = Told {
+        functions: Builtin,
+        values: Cell::new(0),
+    };
+    let functions = AllNumbers(Both(&told, Builtin));
+    let path = JsonPath::parse(alloc, path)?;
+    let document = Value::from_str(alloc, document)?;
+    path.query_with(alloc, &document, &functions)?;
+    Ok(told.values.get().to_string(alloc)?)
+}
+
+#[test]
+fn tells_sets_what_is_compared(rt: HostRuntime) -> Result<(), Fail> {
+    let mut table = Table::new(&rt);
+    table.hold_each("compared values", COMPARED, of_told);
+    table.end()
 }
 
 /// A path, a document, and the locations and the values of what the path selects there.

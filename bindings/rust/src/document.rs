@@ -1,0 +1,73 @@
+//! Documents that are read once.
+
+use crate::error::DocumentError;
+use crate::ffi::DocumentHandle;
+use std::fmt;
+
+/// A JSON document, which is read once and asked any number of paths.
+///
+/// It is `Send` and not `Sync`: a thread may hand it to another, but each call takes it for itself. To ask one document from
+/// several threads, put it in a `Mutex`, or let each thread read its own.
+///
+/// ```
+/// use jsonpath::{Document, JsonPath};
+///
+/// let document = Document::parse(br#"{"user": {"name": "Ada", "age": 36}}"#)?;
+/// assert!(JsonPath::parse("$.user.name")?.exists(&document)?);
+/// assert_eq!(JsonPath::parse("$.user.*")?.count(&document)?, 2);
+///
+/// let moved = std::thread::spawn(move || JsonPath::parse("$..*").unwrap().count(&document));
+/// assert_eq!(moved.join().unwrap(), Ok(3));
+/// # Ok::<(), Box<dyn std::error::Error>>(())
+/// ```
+///
+/// ```compile_fail
+/// fn needs_sync<T: Sync>() {}
+/// needs_sync::<jsonpath::Document>();
+/// ```
+pub struct Document {
+    handle: DocumentHandle,
+    /// How many bytes were read.
+    length: usize,
+}
+
+impl Document {
+    /// Reads the bytes of a JSON text: of members of one name the last one counts.
+    ///
+    /// ```
+    /// use jsonpath::{Document, DocumentError};
+    ///
+    /// assert!(Document::parse(b" [1, 2] ").is_ok());
+    /// let deep = "[".repeat(128) + &"]".repeat(128);
+    /// assert_eq!(
+    ///     Document::parse(deep.as_bytes()).unwrap_err(),
+    ///     DocumentError::TooDeep { position: 128 },
+    /// );
+    /// ```
+    pub fn parse(bytes: &[u8]) -> Result<Document, DocumentError> {
+        let handle = DocumentHandle::read(bytes)
+            .map_err(|(status, position)| DocumentError::of(status, position))?;
+        Ok(Document {
+            handle,
+            length: bytes.len(),
+        })
+    }
+
+    /// The document's handle.
+    pub(crate) fn handle(&self) -> &DocumentHandle {
+        &self.handle
+    }
+
+    /// How many bytes were read.
+    pub(crate) fn length(&self) -> usize {
+        self.length
+    }
+}
+
+impl fmt::Debug for Document {
+    fn fmt(&self, f: &mut fmt::Formatter<'_>) -> fmt::Result {
+        f.debug_struct("Document")
+            .field("length", &self.length)
+            .finish_non_exhaustive()
+    }
+}

@@ -1,0 +1,148 @@
+-- What handles hold, and what calls answer of it.
+use Rattle.std.specs.Prelude.{◌≡◌, ◌≢◌, ◌==◌, ◌≤◌, ◌<◌, ◌+◌, ◌++◌, ◌⊎◌, if◌then◌else◌, ℕ, Bool, true, false, List, [], ◌∷◌, Option, length, map, slice_get}
+use Rattle.std.specs.Option.{MatchOption}
+use Rattle.std.specs.Str.{chars}
+use Rattle.serde_json.specs.Data.{Data}
+use Rattle.serde_json.specs.View.{view}
+use Rattle.serde_json_path.specs.Paths.{path_tree}
+use Rattle.serde_json_path_core.specs.PatternCalls.{CallsByPattern}
+use Rattle.serde_json_path_core.specs.Selects.{Selects}
+use Rattle.serde_json_path_functions.specs.Functions.{FunctionSet, Numbers, whole_numbers, all_numbers}
+use Rattle.serde_json_path_functions.specs.Patterns.{builtin_functions}
+use Rattle.serde_json_path_functions.specs.Terms.{numbers_view}
+use Rattle.serde_json_path_nodes.specs.Lists.{first_places}
+use Rattle.serde_json_path_nodes.specs.Location.{Located, Step, at}
+use Rattle.serde_json_path_nodes.specs.Text.{normal, pointer}
+use Rattle.jsonpath_nodes.specs.Kept.{KeptNode, kept, location_of}
+use Rattle.jsonpath_nodes.specs.declared.node_info.NodeInfo.{NodeInfo}
+use Rattle.jsonpath_nodes.specs.declared.node_info.NodeInfo.TheVariants.{Null, False, True, Integer, Unsigned, Double, String, Array, Object}
+use Rattle.serde_json_path_parser.specs.Accepted.{IsAccepted}
+use Rattle.jsonpath_report.specs.Report.{AreLinesIn, IsLineIn}
+use Rattle.jsonpath_report.specs.Ruled.{with_rule}
+use Rattle.jsonpath_report.specs.declared.report.LineForm.{LineForm}
+use Rattle.jsonpath_report.specs.declared.report.LineForm.TheVariants.{LocationAndValue, Location, Value}
+use Rattle.jsonpath_c.specs.Exports.{IsPut, FindsNoRoom}
+use Rattle.jsonpath_c.specs.declared.compiled.Compiled.{Compiled}
+use Rattle.jsonpath_c.specs.declared.handle.document.Document.{Document}
+use Rattle.jsonpath_c.specs.declared.handle.nodes.Nodes.{Nodes}
+use Rattle.jsonpath_c.specs.declared.limits.Limits.{Limits}
+use Rattle.jsonpath_c.specs.declared.node.Node.{Node}
+use Rattle.jsonpath_c.specs.declared.node_texts.LocationForm.{LocationForm}
+use Rattle.jsonpath_c.specs.declared.node_texts.LocationForm.TheVariants.{Path, Pointer}
+
+-- ---- texts
+
+-- What a call for a text answers, with what it was lent before and after: `out` and `size`.
+pub record AnswersText (Is : List ℕ → Type 0) (old_out new_out : List ℕ) (old_size new_size status : ℕ) : Type 0 where
+  pub done : status ≡ 0 → (text : List ℕ) × Is text × IsPut text old_out new_out new_size
+  pub no_room : status ≡ 5 → (text : List ℕ) × Is text × FindsNoRoom text old_out new_size
+  pub kept_out : status ≢ 0 → new_out ≡ old_out
+  pub kept_size : status ≢ 0 → status ≢ 5 → new_size ≡ old_size
+
+-- ---- paths
+
+-- the rule for numbers that a number names: 0 is whole numbers
+abbrev pub rule_of : ℕ → Numbers
+rule_of number = if number == 0 then whole_numbers else all_numbers
+
+-- the functions under which a compiled path runs
+abbrev pub functions_of : Compiled → FunctionSet
+functions_of c = with_rule (numbers_view c.numbers) builtin_functions
+
+-- a path's handle holds the path that a text is, by the rule that a number names
+abbrev pub HoldsPathOf : List ℕ → ℕ → Option Compiled → Type 0
+HoldsPathOf text numbers handle = MatchOption handle ⊥ (λ c.
+    IsAccepted builtin_functions.signature (chars text) (path_tree c.path) × (numbers_view c.numbers ≡ rule_of numbers))
+
+-- ---- paths and documents
+
+-- two handles hold two things of which this holds
+abbrev pub BothHold : {A B : Type 0} → Option A → Option B → (A → B → Type 0) → Type 0
+BothHold a b Says = MatchOption a ⊥ (λ x. MatchOption b ⊥ (λ y. Says x y))
+
+-- the path selects these nodes from the document, in order
+abbrev pub SelectsFrom : Compiled → Document → List Located → Type 0
+SelectsFrom c d nodes = Selects (functions_of c) (path_tree c.path) (view d.value) nodes
+
+-- some call of the path goes by a pattern that `regex` reads, on the document
+abbrev pub CallsByPatternFrom : Compiled → Document → Type 0
+CallsByPatternFrom c d = CallsByPattern (functions_of c) (view d.value) (path_tree c.path)
+
+-- ---- lists of nodes
+
+-- the nodes that a call asks for: each location once, where a number other than 0 says so
+abbrev pub asked_of : ℕ → List Located → List Located
+asked_of unique nodes = if unique == 0 then nodes else first_places nodes
+
+-- What is kept is the first of some nodes, at most so many: of all, or of as many as there may be.
+pub record AreFirstNodes (most : ℕ) (nodes : List Located) (list : List KeptNode) (all : Bool) : Type 0 where
+  pub shown : List Located
+  pub more : List Located
+  pub first : nodes ≡ shown ++ more
+  pub kept : list ≡ map kept shown
+  pub few : length shown ≤ most
+  pub complete : all ≡ true → more ≡ []
+  pub cut : all ≡ false → (length shown ≡ most) × (more ≢ [])
+
+-- C is told this of a node: its kind, and the number or the length that its kind has
+abbrev pub IsToldOf : NodeInfo → Node → Type 0
+IsToldOf Null told = told.kind ≡ 0
+IsToldOf False told = told.kind ≡ 1
+IsToldOf True told = told.kind ≡ 2
+IsToldOf (Integer n) told = (told.kind ≡ 3) × (told.integer ≡ n)
+IsToldOf (Unsigned n) told = (told.kind ≡ 4) × (told.unsigned ≡ n)
+IsToldOf (Double x) told = (told.kind ≡ 5) × (told.number ≡ x)
+IsToldOf (String bytes) told = (told.kind ≡ 6) × (told.length ≡ bytes)
+IsToldOf (Array items) told = (told.kind ≡ 7) × (told.length ≡ items)
+IsToldOf (Object members) told = (told.kind ≡ 8) × (told.length ≡ members)
+
+-- a list's handle holds a node at an index, from 0, of which this holds
+abbrev pub HasNode : Option Nodes → ℕ → (KeptNode → Type 0) → Type 0
+HasNode handle index Says = MatchOption handle ⊥ (λ list. MatchOption (slice_get list.nodes index) ⊥ Says)
+
+-- a value of which this holds stands in a document where a list's node at an index was
+abbrev pub StandsIn : Nodes → ℕ → Document → (Data → Type 0) → Type 0
+StandsIn list index d Says = MatchOption (slice_get list.nodes index) ⊥ (λ node.
+    MatchOption (at (view d.value) (location_of node)) ⊥ Says)
+
+-- the same of two handles
+abbrev pub StandsAt : Option Nodes → ℕ → Option Document → (Data → Type 0) → Type 0
+StandsAt list index document Says = BothHold list document (λ list d. StandsIn list index d Says)
+
+-- how a location is written
+abbrev pub location_text : LocationForm → List Step → List ℕ
+location_text Path location = normal location
+location_text Pointer location = pointer location
+
+-- ---- lines
+
+-- the form of lines that a number names: 1 is values alone, 2 locations alone
+abbrev pub form_of : ℕ → LineForm
+form_of number = if number == 1 then Value else if number == 2 then Location else LocationAndValue
+
+-- one line more would go beyond the limits: there are as many nodes as there may be, or the text would be too long
+abbrev pub IsBeyond : LineForm → Limits → List Located → List ℕ → Located → Type 0
+IsBeyond form limits shown text next =
+    (limits.nodes ≤ length shown) ⊎ ((line : List ℕ) × IsLineIn form next line × (limits.bytes < length text + length line))
+
+-- The text is the lines of the first of some nodes, as many as the limits allow: of all, or of those before one that would go
+-- beyond.
+pub record AreFirstLines (form : LineForm) (limits : Limits) (nodes : List Located) (text : List ℕ) (all : Bool) : Type 0 where
+  pub shown : List Located
+  pub more : List Located
+  pub first : nodes ≡ shown ++ more
+  pub lines : AreLinesIn form shown text
+  pub few : length shown ≤ limits.nodes
+  pub short : length text ≤ limits.bytes
+  pub complete : all ≡ true → more ≡ []
+  pub cut : all ≡ false → (next : Located) × (later : List Located) × (more ≡ next ∷ later) × IsBeyond form limits shown text next
+
+-- What a call for lines answers of a path and a document, with what it was lent before and after: `out` and `size`.
+pub record AnswersLinesOf (form : LineForm) (limits : Limits) (c : Compiled) (d : Document) (old_out new_out : List ℕ) (old_size new_size status : ℕ) : Type 0 where
+  pub statuses : (status ≡ 0) ⊎ (status ≡ 3) ⊎ (status ≡ 4) ⊎ (status ≡ 5) ⊎ (status ≡ 8)
+  pub done : status ≡ 0 → (nodes : List Located) × (text : List ℕ) × SelectsFrom c d nodes × AreFirstLines form limits nodes text true × IsPut text old_out new_out new_size
+  pub cut : status ≡ 8 → (nodes : List Located) × (text : List ℕ) × SelectsFrom c d nodes × AreFirstLines form limits nodes text false × IsPut text old_out new_out new_size
+  pub no_room : status ≡ 5 → (nodes : List Located) × (text : List ℕ) × (all : Bool) × SelectsFrom c d nodes × AreFirstLines form limits nodes text all × FindsNoRoom text old_out new_size
+  pub pattern_refused : status ≡ 3 → CallsByPatternFrom c d
+  pub kept_out : status ≢ 0 → status ≢ 8 → new_out ≡ old_out
+  pub kept_size : status ≢ 0 → status ≢ 5 → status ≢ 8 → new_size ≡ old_size

@@ -1,0 +1,188 @@
+//! What compiled paths select from documents that are read: lines, how many nodes, whether there is one.
+
+ghost use Rattle.std.specs.Prelude.{◌≡◌, ◌≢◌, ◌⊎◌, ◌↔◌, [], Err, IfOk, List, None, false, length};
+ghost use Rattle.serde_json_path_nodes.specs.Location.{Located};
+ghost use Rattle.jsonpath_c.specs.Handles.{AnswersLinesOf, BothHold, CallsByPatternFrom, SelectsFrom, form_of};
+
+use crate::bounded::first_lines;
+use crate::compiled::Compiled;
+use crate::counted::count_of;
+use crate::handle::document::{Document, DocumentHandle};
+use crate::handle::path::PathHandle;
+use crate::lent::Lent;
+use crate::limits::Limits;
+use crate::put::put;
+use crate::status::{CUT_SHORT, DONE, EMPTY_HANDLE, NO_MEMORY, QUERY_REFUSED};
+use crate::walks::walk;
+use jsonpath_report::report::LineForm;
+use serde_json_path::QueryError;
+use serde_json_path::functions::PatternStore;
+use std::alloc::Global;
+
+/// The status of a refused query.
+pub(crate) fn status_of(e: QueryError) -> u8
+    ensures pattern { e ≡ QueryError.Pattern → result ≡ 3 }
+    ensures memory { e ≡ QueryError.Memory → result ≡ 4 }
+{
+    match e {
+        QueryError::Pattern => QUERY_REFUSED,
+        QueryError::Memory => NO_MEMORY,
+    }
+}
+
+/// The form of lines that a number names.
+fn form_named(form: u8) -> LineForm
+    ensures { result ≡ form_of form }
+{
+    match form {
+        1 => LineForm::Value,
+        2 => LineForm::Location,
+        _ => LineForm::LocationAndValue,
+    }
+}
+
+/// Puts the lines of what a path selects from a document, as many as the limits allow.
+fn put_lines(
+    alloc: Global,
+    form: LineForm,
+    limits: &Limits,
+    path: &Compiled,
+    document: &Document,
+    out: &mut [u8],
+    size: &mut usize,
+) -> u8
+    ensures { AnswersLinesOf form limits.now path.now document.now out.old out.new
+        size.old size.new result }
+{
+    let store = PatternStore::new();
+    let nodes = match walk(alloc, path, document, &store) {
+        Ok(nodes) => nodes,
+        Err(e) => return status_of(e),
+    };
+    match first_lines(alloc, form, limits, nodes) {
+        Err(e) => status_of(e),
+        Ok(lines) => match put(lines.text.as_str(), out, size) {
+            DONE if !lines.all => CUT_SHORT,
+            status => status,
+        },
+    }
+}
+
+/// Puts a line for each node that a path selects from a document, in order: 0. The form is 1 for values alone, 2 for locations
+/// alone, and else both. 8 where the limits cut the lines short, which are put then too; 5 where those lines find no room;
+/// 3 where the query is refused for a pattern; 4 without memory; 7 where a handle is empty.
+#[unsafe(no_mangle)]
+pub extern "C" fn jsonpath_lines(
+    alloc: Global,
+    path: &mut PathHandle,
+    document: &mut DocumentHandle,
+    form: u8,
+    limits: &Limits,
+    out: &mut [u8],
+    size: &mut usize,
+) -> u8
+    ensures answers { result ≢ 7 → BothHold path.old.value document.old.value (λ c d.
+        AnswersLinesOf (form_of form) limits.now c d out.old out.new size.old size.new result) }
+    ensures empty { (result ≡ 7) ↔ ((path.old.value ≡ None) ⊎ (document.old.value ≡ None)) }
+    ensures kept_path { path.new.value ≡ path.old.value }
+    ensures kept_document { document.new.value ≡ document.old.value }
+    ensures kept_out { result ≡ 7 → out.new ≡ out.old }
+    ensures kept_size { result ≡ 7 → size.new ≡ size.old }
+{
+    let Some(lent) = Lent::take(alloc, path, document) else {
+        return EMPTY_HANDLE;
+    };
+    let form = form_named(form);
+    let status = put_lines(alloc, form, limits, &lent.path, &lent.document, out, size);
+    lent.put_back(alloc, path, document);
+    status
+}
+
+/// How many nodes a path selects from a document.
+fn counted(alloc: Global, path: &Compiled, document: &Document) -> Result<usize, QueryError>
+    ensures count { IfOk result (λ count. (nodes : List Located)
+        × SelectsFrom path.now document.now nodes × (count ≡ length nodes)) }
+    ensures refused { result ≡ Err QueryError.Pattern → CallsByPatternFrom path.now document.now }
+{
+    let store = PatternStore::new();
+    let nodes = walk(alloc, path, document, &store)?;
+    count_of(alloc, nodes)
+}
+
+/// Counts the nodes that a path selects from a document: 0; 3 where the query is refused for a pattern; 4 without memory; 7
+/// where a handle is empty.
+#[unsafe(no_mangle)]
+pub extern "C" fn jsonpath_count(
+    alloc: Global,
+    path: &mut PathHandle,
+    document: &mut DocumentHandle,
+    count: &mut usize,
+) -> u8
+    ensures statuses { (result ≡ 0) ⊎ (result ≡ 3) ⊎ (result ≡ 4) ⊎ (result ≡ 7) }
+    ensures done { result ≡ 0 → BothHold path.old.value document.old.value (λ c d.
+        (nodes : List Located) × SelectsFrom c d nodes × (count.new ≡ length nodes)) }
+    ensures pattern_refused { result ≡ 3
+        → BothHold path.old.value document.old.value CallsByPatternFrom }
+    ensures empty { (result ≡ 7) ↔ ((path.old.value ≡ None) ⊎ (document.old.value ≡ None)) }
+    ensures kept_path { path.new.value ≡ path.old.value }
+    ensures kept_document { document.new.value ≡ document.old.value }
+    ensures kept_count { result ≢ 0 → count.new ≡ count.old }
+{
+    let Some(lent) = Lent::take(alloc, path, document) else {
+        return EMPTY_HANDLE;
+    };
+    let found = counted(alloc, &lent.path, &lent.document);
+    lent.put_back(alloc, path, document);
+    match found {
+        Ok(found) => {
+            *count = found;
+            DONE
+        }
+        Err(e) => status_of(e),
+    }
+}
+
+/// Whether a path selects a node from a document. It stops at the first.
+fn selects_some(alloc: Global, path: &Compiled, document: &Document) -> Result<bool, QueryError>
+    ensures some { IfOk result (λ some. (nodes : List Located)
+        × SelectsFrom path.now document.now nodes × ((some ≡ false) ↔ (nodes ≡ []))) }
+    ensures refused { result ≡ Err QueryError.Pattern → CallsByPatternFrom path.now document.now }
+{
+    let store = PatternStore::new();
+    let mut nodes = walk(alloc, path, document, &store)?;
+    Ok(nodes.next()?.is_some())
+}
+
+/// Tells whether a path selects a node from a document, and stops at the first: 0 with 1 or 0 in `exists`; 3 where the query is
+/// refused for a pattern; 4 without memory; 7 where a handle is empty.
+#[unsafe(no_mangle)]
+pub extern "C" fn jsonpath_exists(
+    alloc: Global,
+    path: &mut PathHandle,
+    document: &mut DocumentHandle,
+    exists: &mut u8,
+) -> u8
+    ensures statuses { (result ≡ 0) ⊎ (result ≡ 3) ⊎ (result ≡ 4) ⊎ (result ≡ 7) }
+    ensures done { result ≡ 0 → BothHold path.old.value document.old.value (λ c d.
+        (nodes : List Located) × SelectsFrom c d nodes
+        × (((exists.new ≡ 1) × (nodes ≢ [])) ⊎ ((exists.new ≡ 0) × (nodes ≡ [])))) }
+    ensures pattern_refused { result ≡ 3
+        → BothHold path.old.value document.old.value CallsByPatternFrom }
+    ensures empty { (result ≡ 7) ↔ ((path.old.value ≡ None) ⊎ (document.old.value ≡ None)) }
+    ensures kept_path { path.new.value ≡ path.old.value }
+    ensures kept_document { document.new.value ≡ document.old.value }
+    ensures kept_exists { result ≢ 0 → exists.new ≡ exists.old }
+{
+    let Some(lent) = Lent::take(alloc, path, document) else {
+        return EMPTY_HANDLE;
+    };
+    let found = selects_some(alloc, &lent.path, &lent.document);
+    lent.put_back(alloc, path, document);
+    match found {
+        Ok(found) => {
+            *exists = u8::from(found);
+            DONE
+        }
+        Err(e) => status_of(e),
+    }
+}

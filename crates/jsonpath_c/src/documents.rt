@@ -1,0 +1,70 @@
+//! Documents that are read once.
+
+ghost use Rattle.std.specs.Prelude.{◌≡◌, ◌≢◌, ◌≤◌, ◌⊎◌, ◌↔◌, ◌+◌, None, length};
+ghost use Rattle.std.specs.Option.{MatchOption};
+ghost use Rattle.serde_json.specs.Data.{Data};
+ghost use Rattle.serde_json.specs.View.{view};
+ghost use Rattle.jsonpath_report.specs.Report.{ReadsAs};
+
+use crate::handle::document::{Document, DocumentHandle};
+use crate::status::{DOCUMENT_REFUSED, DOCUMENT_TOO_DEEP, DONE, NO_MEMORY};
+use jsonpath_document::{DocumentFault, read_document};
+use std::alloc::Global;
+
+/// The status of a fault.
+fn status_of(fault: DocumentFault) -> u8
+    ensures memory { (result ≡ 4) ↔ (fault ≡ DocumentFault.Memory) }
+    ensures statuses { (result ≡ 2) ⊎ (result ≡ 4) ⊎ (result ≡ 9) }
+    ensures too_deep { (result ≡ 9) → fault ≡ DocumentFault.TooDeep }
+{
+    match fault {
+        DocumentFault::Memory => NO_MEMORY,
+        DocumentFault::TooDeep => DOCUMENT_TOO_DEEP,
+        _ => DOCUMENT_REFUSED,
+    }
+}
+
+/// Reads a document: 0 with the document in its handle, in the place of what was there; 2 where it is not JSON and 9 where it
+/// nests too deep, with the byte, from 1, where that shows; 4 without memory.
+#[unsafe(no_mangle)]
+pub extern "C" fn jsonpath_document_new(
+    alloc: Global,
+    bytes: &[u8],
+    document: &mut DocumentHandle,
+    position: &mut usize,
+) -> u8
+    ensures statuses { (result ≡ 0) ⊎ (result ≡ 2) ⊎ (result ≡ 4) ⊎ (result ≡ 9) }
+    ensures done { result ≡ 0 → MatchOption document.new.value ⊥ (λ d.
+        ReadsAs bytes.now (view d.value)) }
+    ensures refused { (result ≡ 2) ⊎ (result ≡ 9) → (d : Data) → ReadsAs bytes.now d → ⊥ }
+    ensures position { (result ≡ 2) ⊎ (result ≡ 9) →
+        (1 ≤ position.new) × (position.new ≤ length bytes.now + 1) }
+    ensures kept { result ≢ 0 → document.new.value ≡ document.old.value }
+    ensures kept_position { (result ≡ 0) ⊎ (result ≡ 4) → position.new ≡ position.old }
+{
+    let value = match read_document(alloc, bytes) {
+        Ok(value) => value,
+        Err(e) => {
+            let status = status_of(e.fault);
+            if status != NO_MEMORY {
+                *position = e.position;
+            }
+            return status;
+        }
+    };
+    match Box::new(alloc, Document { value }) {
+        Ok(read) => {
+            document.put(alloc, read);
+            DONE
+        }
+        Err(_) => NO_MEMORY,
+    }
+}
+
+/// Frees a document and empties its handle. Of an empty handle it does nothing.
+#[unsafe(no_mangle)]
+pub extern "C" fn jsonpath_document_free(alloc: Global, document: &mut DocumentHandle)
+    ensures { document.new.value ≡ None }
+{
+    drop(document.take(alloc));
+}

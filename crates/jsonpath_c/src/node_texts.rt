@@ -1,0 +1,218 @@
+//! The texts of selected nodes: their locations, and what stands there in a document.
+
+ghost use Rattle.std.specs.Prelude.{◌≡◌, ◌⊎◌, ◌↔◌, None, IfOk, slice_get, string_bytes};
+ghost use Rattle.std.specs.Option.{MatchOption};
+ghost use Rattle.serde_json.specs.Data.{string};
+ghost use Rattle.serde_json_path_nodes.specs.Text.{normal, pointer};
+ghost use Rattle.jsonpath_nodes.specs.Kept.{location_of};
+ghost use Rattle.jsonpath_report.specs.Report.{IsJsonOf};
+ghost use Rattle.jsonpath_c.specs.Handles.{AnswersText, HasNode, StandsAt, StandsIn, location_text};
+
+use crate::handle::document::{Document, DocumentHandle};
+use crate::handle::nodes::{Nodes, NodesHandle};
+use crate::put::put;
+use crate::status::{EMPTY_HANDLE, NO_MEMORY, NO_SUCH_NODE};
+use serde_json::Value;
+use serde_json_path::NormalizedPath;
+use std::alloc::{AllocError, Global};
+
+/// How a location is written.
+#[derive(Clone, Copy)]
+pub enum LocationForm {
+    /// As a normalised path.
+    Path,
+    /// As a JSON pointer.
+    Pointer,
+}
+
+/// The text of a location.
+fn printed(
+    alloc: Global,
+    location: &NormalizedPath<'_>,
+    form: LocationForm,
+) -> Result<String, AllocError>
+    ensures { IfOk result (λ text. string_bytes text ≡ location_text form location.now) }
+{
+    match form {
+        LocationForm::Path => location.to_text(alloc),
+        LocationForm::Pointer => location.to_json_pointer(alloc),
+    }
+}
+
+/// Puts the location of a node.
+fn put_location(
+    alloc: Global,
+    list: &Nodes,
+    index: usize,
+    form: LocationForm,
+    out: &mut [u8],
+    size: &mut usize,
+) -> u8
+    ensures text { AnswersText (λ text. MatchOption (slice_get list.now.nodes index) ⊥ (λ node.
+        text ≡ location_text form (location_of node))) out.old out.new size.old size.new result }
+    ensures statuses { (result ≡ 0) ⊎ (result ≡ 4) ⊎ (result ≡ 5) ⊎ (result ≡ 10) }
+    ensures past { result ≡ 10 → slice_get list.now.nodes index ≡ None }
+{
+    let location = match list.nodes.location(alloc, index) {
+        Ok(Some(location)) => location,
+        Ok(None) => return NO_SUCH_NODE,
+        Err(_) => return NO_MEMORY,
+    };
+    match printed(alloc, &location, form) {
+        Ok(text) => put(text.as_str(), out, size),
+        Err(_) => NO_MEMORY,
+    }
+}
+
+/// Puts the location of a node of a handle.
+fn put_location_of(
+    alloc: Global,
+    nodes: &mut NodesHandle,
+    index: usize,
+    form: LocationForm,
+    out: &mut [u8],
+    size: &mut usize,
+) -> u8
+    ensures text { AnswersText (λ text. HasNode nodes.old.value index (λ node.
+        text ≡ location_text form (location_of node))) out.old out.new size.old size.new result }
+    ensures statuses { (result ≡ 0) ⊎ (result ≡ 4) ⊎ (result ≡ 5) ⊎ (result ≡ 7) ⊎ (result ≡ 10) }
+    ensures past { result ≡ 10 → MatchOption nodes.old.value ⊥ (λ list.
+        slice_get list.nodes index ≡ None) }
+    ensures empty { (result ≡ 7) ↔ (nodes.old.value ≡ None) }
+    ensures kept { nodes.new.value ≡ nodes.old.value }
+{
+    let Some(list) = nodes.take(alloc) else {
+        return EMPTY_HANDLE;
+    };
+    let status = put_location(alloc, &list, index, form, out, size);
+    nodes.put(alloc, list);
+    status
+}
+
+/// Puts the normalised path of the node at an index, from 0: 0; 4 without memory; 5 where it finds no room; 7 of an empty
+/// handle; 10 past the last node.
+#[unsafe(no_mangle)]
+pub extern "C" fn jsonpath_node_location(
+    alloc: Global,
+    nodes: &mut NodesHandle,
+    index: usize,
+    out: &mut [u8],
+    size: &mut usize,
+) -> u8
+    ensures text { AnswersText (λ text. HasNode nodes.old.value index (λ node.
+        text ≡ normal (location_of node))) out.old out.new size.old size.new result }
+    ensures statuses { (result ≡ 0) ⊎ (result ≡ 4) ⊎ (result ≡ 5) ⊎ (result ≡ 7) ⊎ (result ≡ 10) }
+    ensures past { result ≡ 10 → MatchOption nodes.old.value ⊥ (λ list.
+        slice_get list.nodes index ≡ None) }
+    ensures empty { (result ≡ 7) ↔ (nodes.old.value ≡ None) }
+    ensures kept { nodes.new.value ≡ nodes.old.value }
+{
+    put_location_of(alloc, nodes, index, LocationForm::Path, out, size)
+}
+
+/// The same with the JSON pointer of the node (RFC 6901).
+#[unsafe(no_mangle)]
+pub extern "C" fn jsonpath_node_pointer(
+    alloc: Global,
+    nodes: &mut NodesHandle,
+    index: usize,
+    out: &mut [u8],
+    size: &mut usize,
+) -> u8
+    ensures text { AnswersText (λ text. HasNode nodes.old.value index (λ node.
+        text ≡ pointer (location_of node))) out.old out.new size.old size.new result }
+    ensures statuses { (result ≡ 0) ⊎ (result ≡ 4) ⊎ (result ≡ 5) ⊎ (result ≡ 7) ⊎ (result ≡ 10) }
+    ensures past { result ≡ 10 → MatchOption nodes.old.value ⊥ (λ list.
+        slice_get list.nodes index ≡ None) }
+    ensures empty { (result ≡ 7) ↔ (nodes.old.value ≡ None) }
+    ensures kept { nodes.new.value ≡ nodes.old.value }
+{
+    put_location_of(alloc, nodes, index, LocationForm::Pointer, out, size)
+}
+
+/// Puts the bytes of the string that stands in a document where the node at an index was, from 0: 0; 5 where they find no
+/// room; 7 where a handle is empty; 10 past the last node, and where no string stands there.
+#[unsafe(no_mangle)]
+pub extern "C" fn jsonpath_node_text(
+    alloc: Global,
+    nodes: &mut NodesHandle,
+    document: &mut DocumentHandle,
+    index: usize,
+    out: &mut [u8],
+    size: &mut usize,
+) -> u8
+    ensures text { AnswersText (λ text. StandsAt nodes.old.value index document.old.value (λ v.
+        v ≡ string text)) out.old out.new size.old size.new result }
+    ensures statuses { (result ≡ 0) ⊎ (result ≡ 5) ⊎ (result ≡ 7) ⊎ (result ≡ 10) }
+    ensures empty { (result ≡ 7) ↔ ((nodes.old.value ≡ None) ⊎ (document.old.value ≡ None)) }
+    ensures kept { nodes.new.value ≡ nodes.old.value }
+    ensures kept_document { document.new.value ≡ document.old.value }
+{
+    let Some(list) = nodes.take(alloc) else {
+        return EMPTY_HANDLE;
+    };
+    let Some(read) = document.take(alloc) else {
+        nodes.put(alloc, list);
+        return EMPTY_HANDLE;
+    };
+    let status = match list.nodes.value_in(index, &read.value) {
+        Some(Value::String(text)) => put(text.as_str(), out, size),
+        _ => NO_SUCH_NODE,
+    };
+    nodes.put(alloc, list);
+    document.put(alloc, read);
+    status
+}
+
+/// Puts the compact JSON of the value that stands in a document where the node at an index was, from 0.
+fn put_json(
+    alloc: Global,
+    list: &Nodes,
+    document: &Document,
+    index: usize,
+    out: &mut [u8],
+    size: &mut usize,
+) -> u8
+    ensures text { AnswersText (λ text. StandsIn list.now index document.now (λ v.
+        IsJsonOf v text)) out.old out.new size.old size.new result }
+    ensures statuses { (result ≡ 0) ⊎ (result ≡ 4) ⊎ (result ≡ 5) ⊎ (result ≡ 10) }
+{
+    let Some(value) = list.nodes.value_in(index, &document.value) else {
+        return NO_SUCH_NODE;
+    };
+    match value.to_string(alloc) {
+        Ok(json) => put(json.as_str(), out, size),
+        Err(_) => NO_MEMORY,
+    }
+}
+
+/// Puts the compact JSON of the value that stands in a document where the node at an index was, from 0: 0; 4 without memory; 5
+/// where it finds no room; 7 where a handle is empty; 10 past the last node, and where nothing stands there.
+#[unsafe(no_mangle)]
+pub extern "C" fn jsonpath_node_json(
+    alloc: Global,
+    nodes: &mut NodesHandle,
+    document: &mut DocumentHandle,
+    index: usize,
+    out: &mut [u8],
+    size: &mut usize,
+) -> u8
+    ensures text { AnswersText (λ text. StandsAt nodes.old.value index document.old.value (λ v.
+        IsJsonOf v text)) out.old out.new size.old size.new result }
+    ensures statuses { (result ≡ 0) ⊎ (result ≡ 4) ⊎ (result ≡ 5) ⊎ (result ≡ 7) ⊎ (result ≡ 10) }
+    ensures empty { (result ≡ 7) ↔ ((nodes.old.value ≡ None) ⊎ (document.old.value ≡ None)) }
+    ensures kept { nodes.new.value ≡ nodes.old.value }
+    ensures kept_document { document.new.value ≡ document.old.value }
+{
+    let Some(list) = nodes.take(alloc) else {
+        return EMPTY_HANDLE;
+    };
+    let Some(read) = document.take(alloc) else {
+        nodes.put(alloc, list);
+        return EMPTY_HANDLE;
+    };
+    let status = put_json(alloc, &list, &read, index, out, size);
+    nodes.put(alloc, list);
+    document.put(alloc, read);
+    status
+}

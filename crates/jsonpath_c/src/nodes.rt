@@ -1,0 +1,147 @@
+//! Lists of selected nodes.
+
+ghost use Rattle.std.specs.Prelude.{◌≡◌, ◌≢◌, ◌⊎◌, ◌↔◌, List, None, Err, IfOk, length, slice_get, true, false};
+ghost use Rattle.std.specs.Option.{MatchOption};
+ghost use Rattle.serde_json_path_nodes.specs.Location.{Located};
+ghost use Rattle.jsonpath_nodes.specs.Kept.{known_of};
+ghost use Rattle.jsonpath_c.specs.Handles.{AreFirstNodes, BothHold, CallsByPatternFrom, HasNode, IsToldOf, SelectsFrom, asked_of};
+
+use crate::answers::status_of;
+use crate::compiled::Compiled;
+use crate::handle::document::{Document, DocumentHandle};
+use crate::handle::nodes::{Nodes, NodesHandle};
+use crate::handle::path::PathHandle;
+use crate::lent::Lent;
+use crate::node::Node;
+use crate::put::put;
+use crate::selected::{FirstNodes, first_nodes, first_unique_nodes};
+use crate::status::{CUT_SHORT, DONE, EMPTY_HANDLE, NO_MEMORY, NO_SUCH_NODE};
+use crate::walks::walk;
+use serde_json_path::QueryError;
+use serde_json_path::functions::PatternStore;
+use std::alloc::Global;
+
+/// The first nodes that a path selects from a document, at most so many; each location once, where `unique` is not 0.
+fn selected(
+    alloc: Global,
+    path: &Compiled,
+    document: &Document,
+    unique: u8,
+    most: usize,
+) -> Result<FirstNodes, QueryError>
+    ensures nodes { IfOk result (λ first. (nodes : List Located)
+        × SelectsFrom path.now document.now nodes
+        × AreFirstNodes most (asked_of unique nodes) first.nodes first.all) }
+    ensures refused { result ≡ Err QueryError.Pattern → CallsByPatternFrom path.now document.now }
+{
+    let store = PatternStore::new();
+    let nodes = walk(alloc, path, document, &store)?;
+    match unique {
+        0 => first_nodes(alloc, most, nodes),
+        _ => first_unique_nodes(alloc, most, nodes),
+    }
+}
+
+/// Lists the nodes that a path selects from a document, at most so many, in order; each location once, where `unique` is not
+/// 0: 0 with the list in its handle, in the place of what was there; 8 with the first nodes there, where there are more; 3
+/// where the query is refused for a pattern; 4 without memory; 7 where a handle is empty.
+#[unsafe(no_mangle)]
+pub extern "C" fn jsonpath_select(
+    alloc: Global,
+    path: &mut PathHandle,
+    document: &mut DocumentHandle,
+    unique: u8,
+    most: usize,
+    nodes: &mut NodesHandle,
+) -> u8
+    ensures statuses { (result ≡ 0) ⊎ (result ≡ 3) ⊎ (result ≡ 4) ⊎ (result ≡ 7) ⊎ (result ≡ 8) }
+    ensures done { result ≡ 0 → BothHold path.old.value document.old.value (λ c d.
+        MatchOption nodes.new.value ⊥ (λ list. (found : List Located) × SelectsFrom c d found
+        × AreFirstNodes most (asked_of unique found) list.nodes true)) }
+    ensures cut { result ≡ 8 → BothHold path.old.value document.old.value (λ c d.
+        MatchOption nodes.new.value ⊥ (λ list. (found : List Located) × SelectsFrom c d found
+        × AreFirstNodes most (asked_of unique found) list.nodes false)) }
+    ensures pattern_refused { result ≡ 3
+        → BothHold path.old.value document.old.value CallsByPatternFrom }
+    ensures empty { (result ≡ 7) ↔ ((path.old.value ≡ None) ⊎ (document.old.value ≡ None)) }
+    ensures kept_path { path.new.value ≡ path.old.value }
+    ensures kept_document { document.new.value ≡ document.old.value }
+    ensures kept { result ≢ 0 → result ≢ 8 → nodes.new.value ≡ nodes.old.value }
+{
+    let Some(lent) = Lent::take(alloc, path, document) else {
+        return EMPTY_HANDLE;
+    };
+    let found = selected(alloc, &lent.path, &lent.document, unique, most);
+    lent.put_back(alloc, path, document);
+    let first = match found {
+        Ok(first) => first,
+        Err(e) => return status_of(e),
+    };
+    let status = if first.all { DONE } else { CUT_SHORT };
+    match Box::new(alloc, Nodes { nodes: first.nodes }) {
+        Ok(list) => {
+            nodes.put(alloc, list);
+            status
+        }
+        Err(_) => NO_MEMORY,
+    }
+}
+
+/// Frees a list and empties its handle. Of an empty handle it does nothing.
+#[unsafe(no_mangle)]
+pub extern "C" fn jsonpath_nodes_free(alloc: Global, nodes: &mut NodesHandle)
+    ensures { nodes.new.value ≡ None }
+{
+    drop(nodes.take(alloc));
+}
+
+/// Tells how many nodes a list has: 0, or 7 of an empty handle.
+#[unsafe(no_mangle)]
+pub extern "C" fn jsonpath_nodes_length(
+    alloc: Global,
+    nodes: &mut NodesHandle,
+    size: &mut usize,
+) -> u8
+    ensures statuses { (result ≡ 0) ⊎ (result ≡ 7) }
+    ensures done { result ≡ 0 → MatchOption nodes.old.value ⊥ (λ list.
+        size.new ≡ length list.nodes) }
+    ensures empty { (result ≡ 7) ↔ (nodes.old.value ≡ None) }
+    ensures kept { nodes.new.value ≡ nodes.old.value }
+    ensures kept_size { result ≢ 0 → size.new ≡ size.old }
+{
+    let Some(list) = nodes.take(alloc) else {
+        return EMPTY_HANDLE;
+    };
+    *size = list.nodes.len();
+    nodes.put(alloc, list);
+    DONE
+}
+
+/// Tells what is known of the node at an index, from 0, without its document: 0; 7 of an empty handle; 10 past the last node.
+#[unsafe(no_mangle)]
+pub extern "C" fn jsonpath_node(
+    alloc: Global,
+    nodes: &mut NodesHandle,
+    index: usize,
+    node: &mut Node,
+) -> u8
+    ensures statuses { (result ≡ 0) ⊎ (result ≡ 7) ⊎ (result ≡ 10) }
+    ensures done { result ≡ 0 → HasNode nodes.old.value index (λ known. IsToldOf (known_of known) node.new) }
+    ensures past { result ≡ 10 → MatchOption nodes.old.value ⊥ (λ list. slice_get list.nodes index ≡ None) }
+    ensures empty { (result ≡ 7) ↔ (nodes.old.value ≡ None) }
+    ensures kept { nodes.new.value ≡ nodes.old.value }
+    ensures kept_node { result ≢ 0 → node.new ≡ node.old }
+{
+    let Some(list) = nodes.take(alloc) else {
+        return EMPTY_HANDLE;
+    };
+    let info = list.nodes.get(index);
+    nodes.put(alloc, list);
+    match info {
+        Some(info) => {
+            *node = Node::of(info);
+            DONE
+        }
+        None => NO_SUCH_NODE,
+    }
+}

@@ -1,0 +1,126 @@
+//! Paths that are compiled once.
+
+ghost use Rattle.std.specs.Prelude.{◌≡◌, ◌≢◌, ◌⊎◌, ◌↔◌, None};
+ghost use Rattle.std.specs.Option.{MatchOption};
+ghost use Rattle.std.specs.Str.{IsUtf8};
+ghost use Rattle.serde_json_path.specs.Paths.{path_tree};
+ghost use Rattle.serde_json_path_functions.specs.Terms.{numbers_view};
+ghost use Rattle.serde_json_path_syntax.specs.Text.{query_text};
+ghost use Rattle.jsonpath_c.specs.Exports.{IsRefusalOf, IsReportedRefusalOf};
+ghost use Rattle.jsonpath_c.specs.Handles.{AnswersText, BothHold, HoldsPathOf, rule_of};
+
+use crate::compiled::Compiled;
+use crate::handle::path::PathHandle;
+use crate::put::put;
+use crate::refusal::{Refusal, refuse};
+use crate::status::{DONE, EMPTY_HANDLE, NO_MEMORY, NOT_UTF8};
+use serde_json_path::JsonPath;
+use serde_json_path::functions::Numbers;
+use std::alloc::Global;
+
+/// The rule for numbers that a number names.
+fn rule(numbers: u8) -> Numbers
+    ensures { numbers_view result ≡ rule_of numbers }
+{
+    match numbers {
+        0 => Numbers::Whole,
+        _ => Numbers::All,
+    }
+}
+
+/// Compiles a path under the built-in functions, whose comparisons take whole numbers where `numbers` is 0, and else all: 0 with
+/// the path in its handle, in the place of what was there; 1 with the refusal, 4 without memory, 6 where it is not UTF-8.
+#[unsafe(no_mangle)]
+pub extern "C" fn jsonpath_path_new(
+    alloc: Global,
+    text: &[u8],
+    numbers: u8,
+    path: &mut PathHandle,
+    refusal: &mut Refusal,
+) -> u8
+    ensures statuses { (result ≡ 0) ⊎ (result ≡ 1) ⊎ (result ≡ 4) ⊎ (result ≡ 6) }
+    ensures done { result ≡ 0 → HoldsPathOf text.now numbers path.new.value }
+    ensures refused { result ≡ 1 → IsRefusalOf text.now refusal.new }
+    ensures reported { result ≡ 1 → IsReportedRefusalOf text.now refusal.new }
+    ensures not_utf8 { (result ≡ 6) ↔ (IsUtf8 text.now → ⊥) }
+    ensures kept { result ≢ 0 → path.new.value ≡ path.old.value }
+    ensures kept_refusal { result ≢ 1 → refusal.new ≡ refusal.old }
+{
+    let Ok(text) = str::from_utf8(text) else {
+        return NOT_UTF8;
+    };
+    let parsed = match JsonPath::parse(alloc, text) {
+        Ok(parsed) => parsed,
+        Err(e) => return refuse(&e, refusal),
+    };
+    match Box::new(alloc, Compiled::new(parsed, rule(numbers))) {
+        Ok(compiled) => {
+            path.put(alloc, compiled);
+            DONE
+        }
+        Err(_) => NO_MEMORY,
+    }
+}
+
+/// Frees a path and empties its handle. Of an empty handle it does nothing.
+#[unsafe(no_mangle)]
+pub extern "C" fn jsonpath_path_free(alloc: Global, path: &mut PathHandle)
+    ensures { path.new.value ≡ None }
+{
+    drop(path.take(alloc));
+}
+
+/// Puts what a path prints: 0, 4 without memory, 5 where it finds no room, 7 of an empty handle.
+#[unsafe(no_mangle)]
+pub extern "C" fn jsonpath_path_text(
+    alloc: Global,
+    path: &mut PathHandle,
+    out: &mut [u8],
+    size: &mut usize,
+) -> u8
+    ensures statuses { (result ≡ 0) ⊎ (result ≡ 4) ⊎ (result ≡ 5) ⊎ (result ≡ 7) }
+    ensures text { AnswersText (λ text. MatchOption path.old.value ⊥ (λ c.
+        text ≡ query_text (path_tree c.path))) out.old out.new size.old size.new result }
+    ensures empty { (result ≡ 7) ↔ (path.old.value ≡ None) }
+    ensures kept { path.new.value ≡ path.old.value }
+{
+    let Some(compiled) = path.take(alloc) else {
+        return EMPTY_HANDLE;
+    };
+    let text = compiled.path.to_text(alloc);
+    path.put(alloc, compiled);
+    match text {
+        Ok(text) => put(text.as_str(), out, size),
+        Err(_) => NO_MEMORY,
+    }
+}
+
+/// Tells whether two paths have the same tree: 0 with 1 or 0 in `equal`; 7 where a handle is empty.
+#[unsafe(no_mangle)]
+pub extern "C" fn jsonpath_path_equals(
+    alloc: Global,
+    path: &mut PathHandle,
+    other: &mut PathHandle,
+    equal: &mut u8,
+) -> u8
+    ensures statuses { (result ≡ 0) ⊎ (result ≡ 7) }
+    ensures done { result ≡ 0 → BothHold path.old.value other.old.value (λ c d.
+        ((equal.new ≡ 1) × (path_tree c.path ≡ path_tree d.path))
+        ⊎ ((equal.new ≡ 0) × (path_tree c.path ≢ path_tree d.path))) }
+    ensures empty { (result ≡ 7) ↔ ((path.old.value ≡ None) ⊎ (other.old.value ≡ None)) }
+    ensures kept { path.new.value ≡ path.old.value }
+    ensures kept_other { other.new.value ≡ other.old.value }
+    ensures kept_equal { result ≢ 0 → equal.new ≡ equal.old }
+{
+    let Some(compiled) = path.take(alloc) else {
+        return EMPTY_HANDLE;
+    };
+    let Some(against) = other.take(alloc) else {
+        path.put(alloc, compiled);
+        return EMPTY_HANDLE;
+    };
+    *equal = u8::from(compiled.path == against.path);
+    path.put(alloc, compiled);
+    other.put(alloc, against);
+    DONE
+}

@@ -1,0 +1,35 @@
+//! Walks over what compiled paths select.
+
+ghost use Rattle.std.specs.Prelude.{◌≡◌, IfErr, IfOk};
+ghost use Rattle.serde_json.specs.View.{view};
+ghost use Rattle.serde_json_path_core.specs.Walks.{document_of, query_of, rest, set_of};
+ghost use Rattle.serde_json_path_functions.specs.declared.error.QueryError.TheVariants.{Memory};
+ghost use Rattle.serde_json_path.specs.Paths.{path_tree};
+ghost use Rattle.jsonpath_c.specs.Handles.{SelectsFrom, functions_of};
+
+use crate::compiled::Compiled;
+use crate::handle::document::Document;
+use jsonpath_report::ruled::Ruled;
+use serde_json_path::functions::{CachedPatterns, PatternStore};
+use serde_json_path::{QueryError, Walk};
+use std::alloc::Global;
+
+/// A walk over the nodes that a path selects from a document. Patterns are kept in the store.
+pub(crate) fn walk<'a>(
+    alloc: Global,
+    path: &'a Compiled,
+    document: &'a Document,
+    store: &'a PatternStore,
+) -> Result<Walk<'a, 'a, Ruled<CachedPatterns<'a>>>, QueryError>
+    ensures selects { IfOk result (λ walk. SelectsFrom path.now document.now (rest walk)) }
+    ensures query { IfOk result (λ walk. query_of walk ≡ path_tree path.now.path) }
+    ensures set { IfOk result (λ walk. set_of walk ≡ functions_of path.now) }
+    ensures document { IfOk result (λ walk. document_of walk ≡ view document.now.value) }
+    ensures refused { IfErr result (λ e. e ≡ Memory) }
+{
+    let functions = Ruled {
+        functions: CachedPatterns::new(alloc, store),
+        numbers: path.numbers,
+    };
+    path.path.walk_under(alloc, &document.value, functions)
+}

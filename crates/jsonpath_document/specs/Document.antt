@@ -1,0 +1,56 @@
+-- Documents from bytes, and places in them.
+use Rattle.std.specs.Prelude.{◌≡◌, ◌==◌, ◌+◌, ◌++◌, ◌&&◌, ◌||◌, ℕ, Bool, true, false, List, [], ◌∷◌}
+use Rattle.std.specs.Prelude.{fold, length, codes, nat_eq, nat_le, nat_lt, if◌then◌else◌}
+use Rattle.std.specs.List.{starts_with}
+use Rattle.jsonpath_document.specs.declared.document.DocumentError.{DocumentError}
+use Rattle.jsonpath_document.specs.declared.document.DocumentFault.{DocumentFault}
+use Rattle.jsonpath_document.specs.declared.document.DocumentFault.TheVariants.{ByteOrderMark, Empty, CutShort, Comment}
+use Rattle.jsonpath_document.specs.declared.document.DocumentFault.TheVariants.{SingleQuote, NotFinite, TrailingComma}
+use Rattle.jsonpath_document.specs.declared.document.DocumentFault.TheVariants.{Memory}
+
+-- the byte goes on with a character of UTF-8 that has begun
+abbrev pub is_continuation : ℕ → Bool
+is_continuation byte = nat_le 128 byte && nat_lt byte 192
+
+-- a line and a column, and those of what follows a byte there: a line feed (10) ends its line
+abbrev pub place_past : ℕ × ℕ → ℕ → ℕ × ℕ
+place_past place byte = if byte == 10 then (place.0 + 1, 1)
+    else if is_continuation byte then place else (place.0, place.1 + 1)
+
+-- the line and the column, both from 1, of what follows a text
+abbrev pub place_after : List ℕ → ℕ × ℕ
+place_after text = fold place_past (1, 1) text
+
+-- ---- what stands at a place
+
+-- the text begins so
+abbrev pub begins : List ℕ → List ℕ → Bool
+begins text front = starts_with nat_eq text front
+
+abbrev pub begins_comment : List ℕ → Bool
+begins_comment text =
+    begins text (codes "//") || (begins text (codes "/*") || begins text (codes "#"))
+
+abbrev pub begins_not_finite : List ℕ → Bool
+begins_not_finite text = begins text (codes "NaN") || (begins text (codes "Infinity")
+    || (begins text (codes "-Infinity") || (begins text (codes "-NaN")
+    || (begins text (codes "+Infinity") || begins text (codes "+NaN")))))
+
+-- The fault may be told of what a text has from a place on. A byte order mark is 239, 187, 191, and a
+-- single quote is 39.
+abbrev pub stands : DocumentFault → List ℕ → Bool
+stands ByteOrderMark text = begins text (239 ∷ 187 ∷ 191 ∷ [])
+stands Empty text = length text == 0
+stands CutShort text = length text == 0
+stands Comment text = begins_comment text
+stands SingleQuote text = begins text (39 ∷ [])
+stands NotFinite text = begins_not_finite text
+stands TrailingComma text = begins text (codes ",")
+stands Memory text = false
+stands _ text = true
+
+-- the fault stands in the text: at the line, the column and the byte of what follows some text before it
+abbrev pub StandsIn : List ℕ → DocumentError → Type 0
+StandsIn text e = (before after : List ℕ) × (text ≡ before ++ after)
+    × ((e.line, e.column) ≡ place_after before) × (e.position ≡ length before + 1)
+    × (stands e.fault after ≡ true)

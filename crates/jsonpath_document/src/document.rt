@@ -1,0 +1,345 @@
+//! Documents from bytes, and what stands where bytes are no document.
+
+ghost use Rattle.std.specs.Prelude.{◌≡◌, ◌≢◌, ◌+◌, ◌++◌, ◌<◌, ℕ, List, [], ◌∷◌, IfErr, IfOk, IfSome};
+ghost use Rattle.std.specs.Prelude.{length, true};
+ghost use Rattle.std.specs.Str.{IsUtf8};
+ghost use Rattle.serde_json.specs.Data.{Data};
+ghost use Rattle.serde_json.specs.View.{view};
+ghost use Rattle.jsonpath_report.specs.Report.{ReadsAs};
+ghost use Rattle.jsonpath_document.specs.Document.{StandsIn, begins, begins_comment};
+ghost use Rattle.jsonpath_document.specs.Document.{begins_not_finite, is_continuation, place_after};
+ghost use Rattle.jsonpath_document.specs.Document.{stands};
+
+use serde_json::{Error, Value};
+use std::alloc::Global;
+use std::fmt;
+use std::str::from_utf8;
+
+/// What is met where a document is refused.
+#[derive(Clone, Copy, Debug, PartialEq, Eq)]
+pub enum DocumentFault {
+    /// A byte order mark before the document.
+    ByteOrderMark,
+    /// A byte that is no part of a character of UTF-8.
+    NotUtf8,
+    /// The end of an input that has blanks alone, or nothing.
+    Empty,
+    /// The end, before the document is complete.
+    CutShort,
+    /// A comment, by `//`, `/*` or `#`.
+    Comment,
+    /// A single quote where a value or a name may begin.
+    SingleQuote,
+    /// `NaN` or `Infinity`, with or without a sign.
+    NotFinite,
+    /// A comma before the end of an array or an object.
+    TrailingComma,
+    /// A bracket or a brace within 127 others.
+    TooDeep,
+    /// A number beyond those of floats.
+    NumberOutOfRange,
+    /// A second document after the first.
+    SecondDocument,
+    /// Anything else that is no JSON.
+    NotJson,
+    /// Nothing: memory was refused.
+    Memory,
+}
+
+/// Where and why a document is refused.
+#[derive(Clone, Copy, Debug, PartialEq, Eq)]
+pub struct DocumentError {
+    /// The line, from 1. Lines end by line feeds.
+    pub line: usize,
+    /// The number of the character in the line, from 1.
+    pub column: usize,
+    /// The number of the byte, from 1.
+    pub position: usize,
+    /// What is met there.
+    pub fault: DocumentFault,
+}
+
+impl fmt::Display for DocumentFault {
+    fn fmt<W: fmt::Write>(&self, f: &mut fmt::Formatter<W>) -> fmt::Result {
+        f.write_str(match self {
+            DocumentFault::ByteOrderMark => "a byte order mark, which JSON does not begin with",
+            DocumentFault::NotUtf8 => "a byte that is not UTF-8",
+            DocumentFault::Empty => "no document, the input is empty",
+            DocumentFault::CutShort => "the document ends too soon",
+            DocumentFault::Comment => "a comment, which JSON does not have",
+            DocumentFault::SingleQuote => "a single quote, where JSON has double quotes",
+            DocumentFault::NotFinite => "NaN or Infinity, which JSON does not have",
+            DocumentFault::TrailingComma => "a comma with nothing after it",
+            DocumentFault::TooDeep => "more than 127 levels of arrays and objects",
+            DocumentFault::NumberOutOfRange => "a number that is too large",
+            DocumentFault::SecondDocument => "a second document (is it NDJSON? use -L)",
+            DocumentFault::NotJson => "not JSON",
+            DocumentFault::Memory => "no memory",
+        })
+    }
+}
+
+impl fmt::Display for DocumentError {
+    fn fmt<W: fmt::Write>(&self, f: &mut fmt::Formatter<W>) -> fmt::Result {
+        if self.fault != DocumentFault::Memory {
+            write!(f, "line {}, column {}: ", self.line, self.column)?;
+        }
+        write!(f, "{}", self.fault)
+    }
+}
+
+impl DocumentError {
+    /// A fault that stands after a text.
+    fn after(before: &str, fault: DocumentFault) -> DocumentError
+        ensures fault { result.fault ≡ fault }
+        ensures place { (result.line, result.column) ≡ place_after before.now }
+        ensures position { result.position ≡ length before.now + 1 }
+    {
+        let mut line = 1usize;
+        let mut column = 1usize;
+        for byte in before.as_bytes() {
+            if *byte == b'\n' {
+                line += 1;
+                column = 1;
+            } else if !is_continuation(*byte) {
+                column += 1;
+            }
+        }
+        DocumentError {
+            line,
+            column,
+            position: before.len() + 1,
+            fault,
+        }
+    }
+}
+
+/// Whether a byte of UTF-8 goes on with a character that has begun.
+fn is_continuation(byte: u8) -> bool
+    ensures { result ≡ is_continuation byte }
+{
+    128 <= byte && byte < 192
+}
+
+/// How many arrays and objects `serde_json` takes within each other.
+const MOST_LEVELS: usize = 127;
+
+/// Whether a text begins as a comment does.
+fn begins_comment(text: &str) -> bool
+    ensures { result ≡ begins_comment text.now }
+{
+    let text = text.as_bytes();
+    text.starts_with(b"//") || text.starts_with(b"/*") || text.starts_with(b"#")
+}
+
+/// Whether a text begins by a number that JSON does not have.
+fn begins_not_finite(text: &str) -> bool
+    ensures { result ≡ begins_not_finite text.now }
+{
+    let text = text.as_bytes();
+    text.starts_with(b"NaN")
+        || text.starts_with(b"Infinity")
+        || text.starts_with(b"-Infinity")
+        || text.starts_with(b"-NaN")
+        || text.starts_with(b"+Infinity")
+        || text.starts_with(b"+NaN")
+}
+
+/// Whether a text begins by a byte.
+fn begins_by(text: &str, byte: u8) -> bool
+    ensures { result ≡ begins text.now (byte ∷ []) }
+{
+    text.as_bytes().starts_with(&[byte])
+}
+
+/// Whether a character may stand in a number.
+fn is_of_number(c: char) -> bool {
+    matches!(c, '0'..='9' | '+' | '-' | '.' | 'e' | 'E')
+}
+
+/// Whether a text begins as a value does.
+fn begins_value(text: &str) -> bool {
+    text.starts_with(|c| matches!(c, '{' | '[' | '"' | '-' | '0'..='9' | 't' | 'f' | 'n'))
+}
+
+/// How many bytes stand before a line, which is numbered from 1.
+fn line_start(text: &str, line: usize) -> usize {
+    let mut at = 1usize;
+    for (index, byte) in text.as_bytes().iter().enumerate() {
+        if at >= line {
+            return index;
+        }
+        if *byte == b'\n' {
+            at = at.saturating_add(1);
+        }
+    }
+    text.len()
+}
+
+/// The text before the place of an error, and the text from there on.
+fn split_at_error<'t>(text: &'t str, error: &Error) -> (&'t str, &'t str)
+    ensures { text.now ≡ result.0.now ++ result.1.now }
+{
+    let offset = line_start(text, error.line()).saturating_add(error.column().saturating_sub(1));
+    match text.split_at_checked(offset) {
+        Some(parts) => parts,
+        None => (text, ""),
+    }
+}
+
+/// How many arrays and objects are open at the end of a text of tokens.
+fn open_levels(text: &str) -> usize {
+    let mut levels = 0usize;
+    let mut in_string = false;
+    let mut is_escaped = false;
+    for byte in text.as_bytes() {
+        match *byte {
+            _ if is_escaped => is_escaped = false,
+            b'\\' => is_escaped = in_string,
+            b'"' => in_string = !in_string,
+            b'[' | b'{' if !in_string => levels = levels.saturating_add(1),
+            b']' | b'}' if !in_string => levels = levels.saturating_sub(1),
+            _ => {}
+        }
+    }
+    levels
+}
+
+/// The text before a number that is too large, where one stands around the end of the text before a place, or ends there.
+fn before_large_number<'t>(text: &'t str, before: &'t str) -> Option<&'t str>
+    ensures { IfSome result (λ start. (after : List ℕ) × (text.now ≡ start.now ++ after)) }
+{
+    let start = before.trim_end_matches(is_of_number);
+    let number = text.strip_prefix(start)?;
+    let end = number.find(|c| !is_of_number(c)).unwrap_or(number.len());
+    let value: f64 = number.get(..end)?.parse().ok()?;
+    if value.is_infinite() {
+        Some(start)
+    } else {
+        None
+    }
+}
+
+/// The text before a comma, where a text ends by one and blanks.
+fn before_comma(text: &str) -> Option<&str>
+    ensures { IfSome result (λ front. (blanks : List ℕ) × (text.now ≡ front.now ++ (44 ∷ blanks))) }
+{
+    text.trim_end().strip_suffix(',')
+}
+
+/// The text before the bracket or the brace that it ends by.
+fn before_bracket(text: &str) -> &str
+    ensures { (after : List ℕ) × (text.now ≡ result.now ++ after) }
+{
+    text.strip_suffix(['[', '{']).unwrap_or(text)
+}
+
+/// What is told of a place in a text, by what stands before it and from there on, and the text before what is told.
+fn met<'t>(text: &'t str, before: &'t str, rest: &str) -> (&'t str, DocumentFault)
+    requires { text.now ≡ before.now ++ rest.now }
+    ensures stands { (after : List ℕ) × (text.now ≡ result.0.now ++ after)
+        × (stands result.1 after ≡ true) }
+    ensures utf8 { result.1 ≢ DocumentFault.NotUtf8 }
+{
+    if begins_comment(rest) {
+        return (before, DocumentFault::Comment);
+    }
+    if begins_by(rest, b'\'') {
+        return (before, DocumentFault::SingleQuote);
+    }
+    if begins_not_finite(rest) {
+        return (before, DocumentFault::NotFinite);
+    }
+    if begins_by(rest, b']') || begins_by(rest, b'}') {
+        if let Some(before) = before_comma(before) {
+            return (before, DocumentFault::TrailingComma);
+        }
+    }
+    if let Some(before) = before_large_number(text, before) {
+        return (before, DocumentFault::NumberOutOfRange);
+    }
+    match open_levels(before) {
+        0 if begins_value(rest) && !before.trim().is_empty() => {
+            (before, DocumentFault::SecondDocument)
+        }
+        levels if levels > MOST_LEVELS => (before_bracket(before), DocumentFault::TooDeep),
+        _ => (before, DocumentFault::NotJson),
+    }
+}
+
+/// Why a text is refused, where `serde_json` refuses it by an error.
+fn refusal(text: &str, error: &Error) -> DocumentError
+    ensures stands { StandsIn text.now result }
+    ensures utf8 { result.fault ≢ DocumentFault.NotUtf8 }
+{
+    if text.as_bytes().starts_with(b"\xef\xbb\xbf") {
+        return DocumentError::after("", DocumentFault::ByteOrderMark);
+    }
+    if text.trim().is_empty() {
+        return DocumentError::after(text, DocumentFault::Empty);
+    }
+    if error.is_eof() {
+        return DocumentError::after(text, DocumentFault::CutShort);
+    }
+    let (before, rest) = split_at_error(text, error);
+    let (before, fault) = met(text, before, rest);
+    DocumentError::after(before, fault)
+}
+
+/// The text of the first bytes, or none where they are no text.
+fn text_of_first(bytes: &[u8], count: usize) -> &str
+    ensures { (after : List ℕ) × (bytes.now ≡ result.now ++ after) }
+{
+    let Some(first) = bytes.get(..count) else {
+        return "";
+    };
+    match from_utf8(first) {
+        Ok(text) => text,
+        Err(_) => "",
+    }
+}
+
+/// Why bytes are refused, where `serde_json` refuses them by an error.
+fn refused(bytes: &[u8], error: &Error) -> DocumentError
+    ensures stands { StandsIn bytes.now result }
+    ensures not_utf8 { result.fault ≡ DocumentFault.NotUtf8 → IsUtf8 bytes.now → ⊥ }
+{
+    match from_utf8(bytes) {
+        Ok(text) => refusal(text, error),
+        Err(e) => {
+            DocumentError::after(
+                text_of_first(bytes, e.valid_up_to()),
+                DocumentFault::NotUtf8,
+            )
+        }
+    }
+}
+
+/// Reads a document from its bytes, as `serde_json` does: it takes 127 levels of arrays and objects, no number beyond those
+/// of floats, and of a name that an object has twice the last value.
+///
+/// It fails where the bytes are no such document, with the place of the fault and what is met there. It fails with
+/// [`DocumentFault::Memory`], told at the first character, where memory is refused.
+///
+/// ```text
+/// read_document(alloc, b"{\"a\": 1,\n}")
+/// gives line 1, column 8: a comma with nothing after it
+/// ```
+pub fn read_document(alloc: Global, bytes: &[u8]) -> Result<Value, DocumentError>
+    ensures ok { IfOk result (λ value. ReadsAs bytes.now (view value)) }
+    ensures refused { IfErr result (λ e. e.fault ≢ DocumentFault.Memory
+        → (d : Data) → ReadsAs bytes.now d → ⊥) }
+    ensures stands { IfErr result (λ e. e.fault ≢ DocumentFault.Memory → StandsIn bytes.now e) }
+    ensures not_utf8 { IfErr result (λ e. e.fault ≡ DocumentFault.NotUtf8 → IsUtf8 bytes.now → ⊥) }
+    ensures memory { IfErr result (λ e. e.fault ≡ DocumentFault.Memory → 0 < length bytes.now) }
+{
+    match Value::from_slice(alloc, bytes) {
+        Ok(value) => Ok(value),
+        Err(error) => {
+            if error.is_memory() {
+                return Err(DocumentError::after("", DocumentFault::Memory));
+            }
+            Err(refused(bytes, &error))
+        }
+    }
+}

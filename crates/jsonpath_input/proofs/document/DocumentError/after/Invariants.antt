@@ -1,6 +1,0 @@
-use Rattle.std.proofs.Common.{◌≡◌, ◌≤◌, ◌+◌, take}
-use Rattle.jsonpath_input.specs.Document.{place_after}
-use Rattle.jsonpath_input.proofs.document.DocumentError.after.Given as goal
-
-abbrev pub invariant-loop-byte : goal.invariant-loop-byte
-invariant-loop-byte l = ((l.line, l.column) ≡ place_after (take l.byte-index l.before)) × (l.line ≤ l.byte-index + 1) × (l.column ≤ l.byte-index + 1)

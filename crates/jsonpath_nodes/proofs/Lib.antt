@@ -1,0 +1,7 @@
+-- Lemmas; the folders have the proofs of functions.
+-- Cuts: lists that stand one after the other, each up to its end.
+-- Kept: what a list keeps of its nodes, read from its parts.
+-- Names: names in a text that all of them share, and that grows.
+mod Cuts
+mod Kept
+mod Names
