@@ -79,4 +79,4 @@ install-c: bindings
 
 # Removes the programs, the bindings, and what checks kept.
 clean:
-	rm -rf bin bindings/lib bindings/rust/target bindings/c/build crates/*/out
+	rm -rf bin bindings/lib bindings/rust/target bindings/c/build bindings/python/vozgumb/libjsonpath.so crates/*/out
