@@ -189,7 +189,7 @@ fn of_told(alloc: Global, given: &str) -> Result<String, Fail> {
         values: Cell::new(0),
     };
     let functions = AllNumbers(Both(&told, Builtin));
-    let path = JsonPath::parse(alloc, path)?;
+    let path = JsonPath::parse_with(alloc, path, &functions)?;
     let document = Value::from_str(alloc, document)?;
     path.query_with(alloc, &document, &functions)?;
     Ok(told.values.get().to_string(alloc)?)
