@@ -37,6 +37,7 @@ check:
 # by the programs that it has built, the list of what must be believed, the drawing of the measures, and the manual page; and
 # the bindings.
 test:
+	bindings/lacking --install || true
 	RT_JOBS="$$(tools/lanes)" rt ci
 	tools/must_not_compile
 	tools/refuse_memory --built
