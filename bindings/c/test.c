@@ -1,4 +1,6 @@
-/* What the calls of jsonpath.h answer, what they write, and what they leave alone. */
+/* What the calls of jsonpath.h answer, what they write, and what they leave alone: test [FILE].., where the files have cases in
+ * the form of conformance/README.md. */
+#include <pthread.h>
 #include <stdio.h>
 #include <stdlib.h>
 #include <string.h>
@@ -11,10 +13,10 @@
 typedef uint8_t lines_call(const uint8_t *, size_t, const uint8_t *, size_t, uint8_t *, size_t, size_t *,
                            struct jsonpath_refusal *);
 
-static int failures;
+static _Atomic int failures;
 
-/* How many requests for memory are granted. The linker puts these in the place of malloc and realloc (--wrap). */
-static size_t granted = SIZE_MAX;
+/* How many requests of a thread for memory are granted. The linker puts these in the place of malloc and realloc (--wrap). */
+static _Thread_local size_t granted = SIZE_MAX;
 void *__real_malloc(size_t), *__real_realloc(void *, size_t);
 void *__wrap_malloc(size_t length) {
     return granted && granted-- ? __real_malloc(length) : NULL;
@@ -279,11 +281,11 @@ static void writes_nothing(text_call *call, struct asked_with *with, uint8_t sta
 }
 
 /* Holds what compiled paths select to what the calls with two texts give. */
-static void selects_compiled(const char *path, const char *document, const char *report, const char *values,
-                             const char *locations) {
+static void selects_compiled(const char *path, uint8_t numbers, const char *document, const char *report,
+                             const char *values, const char *locations) {
     const char *wanted[] = {report, values, locations, report, report};
     uint8_t forms[] = {JSONPATH_LINES, JSONPATH_VALUES, JSONPATH_LOCATIONS, 3, 255}, exists = 7;
-    struct asked_with with = asked_of(path, JSONPATH_WHOLE_NUMBERS, document);
+    struct asked_with with = asked_of(path, numbers, document);
     for (int at = 0; at < 5; at++) {
         with.form = forms[at];
         writes(lines, &with, JSONPATH_DONE, wanted[at], path);
@@ -303,12 +305,26 @@ static void selects_compiled(const char *path, const char *document, const char 
     emptied(&with);
 }
 
-/* Holds what a path selects to lines of each form. */
-static void selects(const char *path, const char *document, const char *report, const char *values, const char *locations) {
-    gives(jsonpath_report, path, document, report);
-    gives(jsonpath_values, path, document, values);
-    gives(jsonpath_locations, path, document, locations);
-    selects_compiled(path, document, report, values, locations);
+/* What each line of a report has after its tab, and before it. */
+static void halves(const char *report, char *values, char *locations) {
+    for (int is_value = 0; *report; report++) {
+        if (*report == '\n') *values++ = *locations++ = '\n';
+        else if (*report != '\t') *(is_value ? values++ : locations++) = *report;
+        is_value = *report == '\t' || (is_value && *report != '\n');
+    }
+    *values = *locations = 0;
+}
+
+/* Holds what a path selects to lines of each form. The calls with two texts take whole numbers. */
+static void selects(const char *path, uint8_t numbers, const char *document, const char *report) {
+    char values[ROOM], locations[ROOM];
+    halves(report, values, locations);
+    if (numbers == JSONPATH_WHOLE_NUMBERS) {
+        gives(jsonpath_report, path, document, report);
+        gives(jsonpath_values, path, document, values);
+        gives(jsonpath_locations, path, document, locations);
+    }
+    selects_compiled(path, numbers, document, report, values, locations);
 }
 
 /* Paths: what is printed, what is equal, and refusals, which leave a handle as it was. */
@@ -725,14 +741,79 @@ static void handles(void) {
     refused_memory();
 }
 
-int main(void) {
-    selects("$", "null", "$\tnull\n", "null\n", "$\n");
-    selects("$['a','a']", "{\"a\":[1]}", "$['a']\t[1]\n$['a']\t[1]\n", "[1]\n[1]\n", "$['a']\n$['a']\n");
-    selects("$..b", "{\"b\":1,\"a\":{\"b\":[]}}", "$['b']\t1\n$['a']['b']\t[]\n", "1\n[]\n", "$['b']\n$['a']['b']\n");
-    selects("$.*", "{\"\\t\\n\":\"\\n\"}", "$['\\t\\n']\t\"\\n\"\n", "\"\\n\"\n", "$['\\t\\n']\n");
-    selects("$[?@ < 1.5]", "[1,1.5]", "$[0]\t1\n", "1\n", "$[0]\n");
-    selects("$[?match(@, '.b')]", "[\"ab\",\"xab\"]", "$[0]\t\"ab\"\n", "\"ab\"\n", "$[0]\n");
-    selects("$.x", "{}", "", "", "");
+/* ---- Cases of files, in two threads with handles of their own. */
+
+static const char *const CASE = "$['path','document','stdout','stderr','status','numbers']";
+
+/* The string at an index of a case, ended by a NUL. */
+static char *field(struct asked_with *with, size_t index, size_t *length) {
+    uint8_t none;
+    jsonpath_node_text(&with->nodes, &with->document, index, &none, 0, length);
+    char *string = malloc(*length + 1);
+    uint8_t status = jsonpath_node_text(&with->nodes, &with->document, index, (uint8_t *)string, *length, length);
+    holds(status == JSONPATH_DONE, "field", "case");
+    string[*length] = 0;
+    return string;
+}
+
+/* Holds the refusal of a path or a document to a status, and that of a path to the line that `jsonpath` prints. */
+static void is_refused(const char *path, const char *document, size_t length, uint8_t wanted, const char *line) {
+    struct asked_with with = {NULL, NULL, NULL, 0, JSONPATH_LINES, NO_LIMITS};
+    struct jsonpath_refusal refusal;
+    size_t position;
+    uint8_t status = jsonpath_path_new((const uint8_t *)path, strlen(path), 0, &with.path, &refusal);
+    if (status == JSONPATH_DONE) {
+        status = jsonpath_document_new((const uint8_t *)document, length, &with.document, &position);
+    } else {
+        char message[ROOM] = "", printed[2 * ROOM];
+        jsonpath_message((const uint8_t *)path, strlen(path), (uint8_t *)message, ROOM, &position);
+        snprintf(printed, sizeof printed, "jsonpath: path: at position %zu, %s\n", refusal.position, message);
+        holds(!strcmp(printed, line), "line of a refusal", path);
+    }
+    holds(status == wanted, "status of a case", path);
+    answers(wanted, path, document, length);
+    emptied(&with);
+}
+
+/* Holds the case that is read to its answer. Statuses of cases are those of calls. */
+static void is_answered(struct asked_with *with) {
+    size_t count = 0, lengths[4];
+    char *texts[4];
+    struct jsonpath_node status = {0};
+    for (size_t at = 0; at < 4; at++) texts[at] = field(with, at, &lengths[at]);
+    holds(jsonpath_node(&with->nodes, 4, &status) == JSONPATH_DONE, "status of a case", texts[0]);
+    jsonpath_nodes_length(&with->nodes, &count);
+    uint8_t numbers = count == 6 ? JSONPATH_ALL_NUMBERS : JSONPATH_WHOLE_NUMBERS;
+    if (status.integer) is_refused(texts[0], texts[1], lengths[1], status.integer, texts[3]);
+    else selects(texts[0], numbers, texts[1], texts[2]);
+    for (size_t at = 0; at < 4; at++) free(texts[at]);
+}
+
+/* Holds each case of a file to its answer. */
+static void *are_answered(void *name) {
+    char line[ROOM];
+    struct asked_with with = asked_of(CASE, JSONPATH_WHOLE_NUMBERS, "null");
+    size_t count = 0;
+    FILE *file = fopen(name, "r");
+    for (; file && fgets(line, ROOM, file); count++) {
+        read_to(&with.document, line);
+        holds(jsonpath_select(&with.path, &with.document, 0, SIZE_MAX, &with.nodes) == JSONPATH_DONE, "case", line);
+        is_answered(&with);
+    }
+    holds(count > 0, "no cases", name);
+    if (file) fclose(file);
+    emptied(&with);
+    return NULL;
+}
+
+/* Two threads at once, each over all cases of a file. */
+static void cases(char *name) {
+    pthread_t threads[2];
+    for (int at = 0; at < 2; at++) holds(!pthread_create(&threads[at], NULL, are_answered, name), "thread", name);
+    for (int at = 0; at < 2; at++) pthread_join(threads[at], NULL);
+}
+
+int main(int count, char **words) {
     refuses("x", JSONPATH_EXPECTED_ROOT, 1, "expected '$'");
     refuses("", JSONPATH_EXPECTED_ROOT, 1, "expected '$'");
     refuses("$.a ", JSONPATH_TEXT_AFTER_PATH, 4, "text after the path");
@@ -754,6 +835,7 @@ int main(void) {
     runs_out(jsonpath_locations, "$..*", "{\"b\":{\"a\":2}}");
     texts();
     handles();
+    for (int at = 1; at < count; at++) cases(words[at]);
     printf(failures ? "%d failed\n" : "all hold\n", failures);
     return failures != 0;
 }

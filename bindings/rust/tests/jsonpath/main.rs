@@ -1,5 +1,6 @@
 //! What the crate answers, row by row, alone and from several threads at once.
 
+mod conformance;
 mod documents;
 mod hostile;
 mod paths;

@@ -127,7 +127,7 @@ fn selects_from_bytes(path: &JsonPath, document: &str, lines: &str, wanted: &[(&
 }
 
 /// Holds what a path selects from a document that was read to the same lines.
-fn selects_from_document(path: &JsonPath, document: &Document, wanted: &[(&str, &str)]) {
+pub fn selects_from_document(path: &JsonPath, document: &Document, wanted: &[(&str, &str)]) {
     let nodes = path.query(document).unwrap();
     let pairs: Vec<(String, String)> = nodes
         .iter()
@@ -145,13 +145,18 @@ fn selects_from_document(path: &JsonPath, document: &Document, wanted: &[(&str, 
     assert_eq!(path.exists(document), Ok(!wanted.is_empty()), "{path}");
 }
 
+/// The location and the value of each line.
+pub fn pairs_of(lines: &str) -> Vec<(&str, &str)> {
+    lines
+        .lines()
+        .map(|line| line.split_once('\t').unwrap())
+        .collect()
+}
+
 /// Holds the forms of an answer to its lines.
 fn selects(path: &str, document: &str, lines: &str) {
     let parsed = JsonPath::parse(path).unwrap();
-    let wanted: Vec<(&str, &str)> = lines
-        .lines()
-        .map(|line| line.split_once('\t').unwrap())
-        .collect();
+    let wanted = pairs_of(lines);
     selects_from_bytes(&parsed, document, lines, &wanted);
     let document = Document::parse(document.as_bytes()).unwrap();
     selects_from_document(&parsed, &document, &wanted);
