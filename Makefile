@@ -16,7 +16,7 @@ bindings/lib/libjsonpath_c.a: $(SOURCES)
 	mkdir -p bindings/lib
 	cp "$$(dirname "$$(rt doc)")/c/liblibc_c.a" crates/jsonpath_c/out/libjsonpath_c.a bindings/lib/
 
-.PHONY: programs demo bindings test-bindings check test documents manual trusted refused-memory install install-c clean
+.PHONY: programs demo bindings test-bindings fuzz check test documents manual trusted refused-memory install install-c clean
 
 # The static library and what is made of it: the Rust crate, the programs in C, and the shared library.
 bindings: bindings/lib/libjsonpath_c.a
@@ -27,6 +27,11 @@ test-bindings:
 	bindings/lacking
 	$(MAKE) bindings
 	bindings/test
+
+# Looks for inputs on which the calls of the library disagree, for FUZZ_SECONDS. It needs clang with libFuzzer.
+FUZZ_SECONDS ?= 3600
+fuzz: bindings/lib/libjsonpath_c.a
+	bindings/fuzz/run $(FUZZ_SECONDS)
 
 # Proves each crate, lowest first, over what earlier checks kept.
 check:
