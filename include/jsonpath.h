@@ -2,7 +2,8 @@
  *
  * Nodes come in the order of RFC 9535, arrays by index and objects by the bytes of their names; a node that is selected
  * twice comes twice. Of members of one name the last one counts. A number that is not held as a 64-bit integer (8.95, 4.0,
- * 1e2) is found and printed, but equals nothing and is neither less nor greater than anything. Filters have the functions of
+ * 1e2) is found and printed, but equals nothing and is neither less nor greater than anything, unless the path was compiled
+ * with JSONPATH_ALL_NUMBERS. Filters have the functions of
  * RFC 9535, and no others.
  *
  * A call with two texts reads both each time. A program that asks many paths, or many documents, compiles a path once and reads
