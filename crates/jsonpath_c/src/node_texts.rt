@@ -1,6 +1,6 @@
 //! The texts of selected nodes: their locations, and what stands there in a document.
 
-ghost use Rattle.std.specs.Prelude.{◌≡◌, ◌⊎◌, ◌↔◌, None, IfOk, slice_get, string_bytes};
+ghost use Rattle.std.specs.Prelude.{◌≡◌, ◌⊎◌, ◌↔◌, ℕ, List, None, IfOk, slice_get, string_bytes, ⊤};
 ghost use Rattle.std.specs.Option.{MatchOption};
 ghost use Rattle.serde_json.specs.Data.{string};
 ghost use Rattle.serde_json_path_nodes.specs.Text.{normal, pointer};
@@ -144,6 +144,8 @@ pub extern "C" fn jsonpath_node_text(
     ensures text { AnswersText (λ text. StandsAt nodes.old.value index document.old.value (λ v.
         v ≡ string text)) out.old out.new size.old size.new result }
     ensures statuses { (result ≡ 0) ⊎ (result ≡ 5) ⊎ (result ≡ 7) ⊎ (result ≡ 10) }
+    ensures absent { result ≡ 10 → StandsAt nodes.old.value index document.old.value
+        (λ v. (text : List ℕ) × (v ≡ string text)) → ⊥ }
     ensures empty { (result ≡ 7) ↔ ((nodes.old.value ≡ None) ⊎ (document.old.value ≡ None)) }
     ensures kept { nodes.new.value ≡ nodes.old.value }
     ensures kept_document { document.new.value ≡ document.old.value }
@@ -176,6 +178,7 @@ fn put_json(
     ensures text { AnswersText (λ text. StandsIn list.now index document.now (λ v.
         IsJsonOf v text)) out.old out.new size.old size.new result }
     ensures statuses { (result ≡ 0) ⊎ (result ≡ 4) ⊎ (result ≡ 5) ⊎ (result ≡ 10) }
+    ensures absent { result ≡ 10 → StandsIn list.now index document.now (λ v. ⊤) → ⊥ }
 {
     let Some(value) = list.nodes.value_in(index, &document.value) else {
         return NO_SUCH_NODE;
@@ -200,6 +203,8 @@ pub extern "C" fn jsonpath_node_json(
     ensures text { AnswersText (λ text. StandsAt nodes.old.value index document.old.value (λ v.
         IsJsonOf v text)) out.old out.new size.old size.new result }
     ensures statuses { (result ≡ 0) ⊎ (result ≡ 4) ⊎ (result ≡ 5) ⊎ (result ≡ 7) ⊎ (result ≡ 10) }
+    ensures absent { result ≡ 10 → StandsAt nodes.old.value index document.old.value
+        (λ v. ⊤) → ⊥ }
     ensures empty { (result ≡ 7) ↔ ((nodes.old.value ≡ None) ⊎ (document.old.value ≡ None)) }
     ensures kept { nodes.new.value ≡ nodes.old.value }
     ensures kept_document { document.new.value ≡ document.old.value }
