@@ -83,11 +83,17 @@ class Answers(unittest.TestCase):
         self.assertEqual((len(long["nodes"]), long["more"]), (2, True))
 
 
+def _heeds_interrupts():
+    """Has a process heed interrupts, which a shell has those ignore that it runs in the background, and theirs too."""
+    signal.signal(signal.SIGINT, signal.SIG_DFL)
+
+
 class Command(unittest.TestCase):
     def start(self, file):
         """Serves a file by a process of its own."""
         pipes = {"stdout": subprocess.PIPE, "stderr": subprocess.PIPE, "text": True}
-        process = subprocess.Popen([sys.executable, "-m", "vozgumb.explore", file], cwd=HERE, **pipes)
+        words = [sys.executable, "-m", "vozgumb.explore", file]
+        process = subprocess.Popen(words, cwd=HERE, preexec_fn=_heeds_interrupts, **pipes)
         self.addCleanup(process.communicate)
         self.addCleanup(process.kill)
         return process
