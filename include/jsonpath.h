@@ -148,7 +148,7 @@ void jsonpath_document_free(jsonpath_document **document);
 /* How much a call may answer; SIZE_MAX for no limit. */
 struct jsonpath_limits {
     size_t nodes; /* How many nodes. */
-    size_t bytes; /* How many bytes of lines. */
+    size_t bytes; /* How many bytes: of lines all, of a list the names in its locations. */
 };
 
 /* A line for each node of the document that the path selects, in order, in a form (any but 1 and 2 is JSONPATH_LINES): DONE,
@@ -164,12 +164,13 @@ uint8_t jsonpath_count(jsonpath_path **path, jsonpath_document **document, size_
 /* Whether a path selects a node, 1 or 0 in `*exists`; it stops at the first: statuses as of jsonpath_count. */
 uint8_t jsonpath_exists(jsonpath_path **path, jsonpath_document **document, uint8_t *exists);
 
-/* A list of the nodes that a path selects, at most so many, in order: DONE, CUT_SHORT, QUERY_REFUSED, NO_MEMORY or EMPTY_HANDLE.
- * With `unique` other than 0 each location comes once, where it comes first; all nodes are held for it meanwhile. The list is in
- * `*nodes` with DONE and, if there are more nodes, with CUT_SHORT; what was there is freed. It has a node's location, kind and
- * number, and outlives the document; strings and JSON are in the document. */
-uint8_t jsonpath_select(jsonpath_path **path, jsonpath_document **document, uint8_t unique, size_t most,
-                        jsonpath_nodes **nodes);
+/* A list of the nodes that a path selects, in order: DONE, CUT_SHORT, QUERY_REFUSED, NO_MEMORY or EMPTY_HANDLE. With `unique`
+ * other than 0 each location comes once, where it comes first; at most 64 nodes, or four times as many as differ in their
+ * locations, are held for it meanwhile. With DONE the list is in `*nodes`; with CUT_SHORT too, and has the nodes before the first
+ * that would go beyond the limits. What was there is freed. It has a node's location, kind and number, and outlives the document;
+ * strings and JSON are in the document. */
+uint8_t jsonpath_select(jsonpath_path **path, jsonpath_document **document, uint8_t unique,
+                        const struct jsonpath_limits *limits, jsonpath_nodes **nodes);
 
 /* Frees a list and makes the variable NULL. Of NULL it does nothing. */
 void jsonpath_nodes_free(jsonpath_nodes **nodes);

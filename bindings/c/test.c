@@ -240,7 +240,7 @@ static struct asked_with asked_of(const char *path, uint8_t numbers, const char 
     struct asked_with with = {NULL, NULL, NULL, 0, JSONPATH_VALUES, NO_LIMITS};
     compile(&with.path, path, numbers);
     read_to(&with.document, document);
-    uint8_t status = jsonpath_select(&with.path, &with.document, 0, SIZE_MAX, &with.nodes);
+    uint8_t status = jsonpath_select(&with.path, &with.document, 0, &NO_LIMITS, &with.nodes);
     holds(status == JSONPATH_DONE && with.nodes != NULL, "selected", path);
     return with;
 }
@@ -387,16 +387,32 @@ static char *nested(size_t depth) {
     return text;
 }
 
+/* Documents that nest too deep: at the bracket or the brace that does, whatever comes after it. Strings do not nest. */
+static void too_deep(void) {
+    char *deeper = nested(128), objects[5 * 128 + 1] = "";
+    refuses_document(deeper, 256, JSONPATH_DOCUMENT_TOO_DEEP, 128);
+    deeper[128] = '\'';
+    refuses_document(deeper, 256, JSONPATH_DOCUMENT_TOO_DEEP, 128);
+    deeper[127] = 'x';
+    refuses_document(deeper, 256, JSONPATH_DOCUMENT_REFUSED, 128);
+    deeper[1] = deeper[127] = '"';
+    refuses_document(deeper, 256, JSONPATH_DOCUMENT_REFUSED, 129);
+    for (int at = 0; at < 128; at++) strcat(objects, "{\"a\":");
+    refuses_document(objects, 5 * 128, JSONPATH_DOCUMENT_TOO_DEEP, 5 * 127 + 1);
+    refuses_document(objects, 5 * 127, JSONPATH_DOCUMENT_REFUSED, 5 * 127 + 1);
+    free(deeper);
+}
+
 /* Documents that nest 127 and 128 deep, and bytes that are none. */
 static void documents(void) {
-    char *most = nested(127), *deeper = nested(128);
+    char *most = nested(127);
     struct asked_with with = asked_of("$..*", JSONPATH_WHOLE_NUMBERS, most);
     size_t count = 0;
     holds(jsonpath_count(&with.path, &with.document, &count) == JSONPATH_DONE && count == 126, "count", "127 deep");
     read_to(&with.document, "[[], 1]"); /* What was there is freed. */
     holds(jsonpath_count(&with.path, &with.document, &count) == JSONPATH_DONE && count == 2, "count", "read anew");
     emptied(&with);
-    refuses_document(deeper, 256, JSONPATH_DOCUMENT_TOO_DEEP, 128);
+    too_deep();
     refuses_document("", 0, JSONPATH_DOCUMENT_REFUSED, 1);
     refuses_document("{", 1, JSONPATH_DOCUMENT_REFUSED, 2);
     refuses_document("[1,]", 4, JSONPATH_DOCUMENT_REFUSED, 3);
@@ -404,7 +420,7 @@ static void documents(void) {
     refuses_document("[]\0", 3, JSONPATH_DOCUMENT_REFUSED, 3);
     refuses_document("1 2", 3, JSONPATH_DOCUMENT_REFUSED, 3);
     refuses_document("\"\xff\"", 3, JSONPATH_DOCUMENT_REFUSED, 2);
-    free(most), free(deeper);
+    free(most);
 }
 
 /* Lines of three nodes, of 3, 4 and 2 bytes, within limits. */
@@ -429,11 +445,12 @@ static void limits(void) {
     emptied(&with);
 }
 
-/* Holds a list, in a handle that is filled before, to its locations, each ended by a blank. */
-static void lists(const char *path, uint8_t unique, size_t most, uint8_t wanted, const char *locations) {
+/* Holds a list within limits, in a handle that is filled before, to its locations, each ended by a blank. */
+static void lists_within(struct jsonpath_limits limits, const char *path, uint8_t unique, uint8_t wanted,
+                         const char *locations) {
     struct asked_with with = asked_of("$..*", JSONPATH_WHOLE_NUMBERS, "{\"a\":1,\"b\":[2]}");
     compile(&with.path, path, JSONPATH_WHOLE_NUMBERS);
-    uint8_t status = jsonpath_select(&with.path, &with.document, unique, most, &with.nodes);
+    uint8_t status = jsonpath_select(&with.path, &with.document, unique, &limits, &with.nodes);
     holds(status == wanted, "status of a list", path);
     char place[ROOM];
     for (int taken; sscanf(locations, "%s %n", place, &taken) == 1; locations += taken, with.index++) {
@@ -443,6 +460,33 @@ static void lists(const char *path, uint8_t unique, size_t most, uint8_t wanted,
     holds(jsonpath_nodes_length(&with.nodes, &length) == JSONPATH_DONE && length == with.index, "nodes of a list", path);
     writes_nothing(location, &with, JSONPATH_NO_SUCH_NODE, path);
     emptied(&with);
+}
+
+/* The same of so many nodes. */
+static void lists(const char *path, uint8_t unique, size_t most, uint8_t wanted, const char *locations) {
+    lists_within((struct jsonpath_limits){most, SIZE_MAX}, path, unique, wanted, locations);
+}
+
+/* The same of locations whose names have so many bytes. */
+static void lists_names(const char *path, uint8_t unique, size_t bytes, uint8_t wanted, const char *locations) {
+    lists_within((struct jsonpath_limits){SIZE_MAX, bytes}, path, unique, wanted, locations);
+}
+
+/* Lists of locations that come often: a path of 300 selectors, which go to two nodes in turn, and at its end to a third. */
+static void selected_often(void) {
+    char path[ROOM] = "$[";
+    for (int at = 0; at < 150; at++) strcat(path, "'b','a',");
+    strcat(path, "'b']['b',0]");
+    lists(path, 1, SIZE_MAX, JSONPATH_DONE, "$['b'][0] ");
+    lists(path, 1, 1, JSONPATH_DONE, "$['b'][0] ");
+    lists(path, 1, 0, JSONPATH_CUT_SHORT, "");
+    strcpy(strstr(path, "]['b'"), "]");
+    lists(path, 1, 3, JSONPATH_DONE, "$['b'] $['a'] ");
+    lists(path, 1, 2, JSONPATH_DONE, "$['b'] $['a'] ");
+    lists(path, 1, 1, JSONPATH_CUT_SHORT, "$['b'] ");
+    lists_names(path, 1, 2, JSONPATH_DONE, "$['b'] $['a'] ");
+    lists_names(path, 1, 1, JSONPATH_CUT_SHORT, "$['b'] ");
+    lists_names(path, 0, 3, JSONPATH_CUT_SHORT, "$['b'] $['a'] $['b'] ");
 }
 
 /* Lists of so many nodes, and of each location once. */
@@ -458,6 +502,13 @@ static void selected(void) {
     lists("$['b','a','b']", 255, 2, JSONPATH_DONE, "$['b'] $['a'] ");
     lists("$['b','a','b']", 1, 1, JSONPATH_CUT_SHORT, "$['b'] ");
     lists("$['b','a','b']", 1, 0, JSONPATH_CUT_SHORT, "");
+    lists_names("$..*", 0, 3, JSONPATH_DONE, "$['a'] $['b'] $['b'][0] ");
+    lists_names("$..*", 0, 2, JSONPATH_CUT_SHORT, "$['a'] $['b'] ");
+    lists_names("$..*", 1, 1, JSONPATH_CUT_SHORT, "$['a'] ");
+    lists_names("$..*", 0, 0, JSONPATH_CUT_SHORT, "");
+    lists_names("$", 0, 0, JSONPATH_DONE, "$ ");
+    lists_within((struct jsonpath_limits){1, 3}, "$..*", 0, JSONPATH_CUT_SHORT, "$['a'] ");
+    selected_often();
 }
 
 /* Holds what is known of a document's root to what is wanted. */
@@ -566,7 +617,7 @@ static void finds_empty(struct asked_with *with, const char *what) {
         writes_nothing(lines, with, empty, what);
         holds(jsonpath_count(&with->path, &with->document, &count) == empty && count == 7, "count", what);
         holds(jsonpath_exists(&with->path, &with->document, &exists) == empty && exists == 7, "exists", what);
-        holds(jsonpath_select(&with->path, &with->document, 0, 9, &with->nodes) == empty, "select", what);
+        holds(jsonpath_select(&with->path, &with->document, 0, &NO_LIMITS, &with->nodes) == empty, "select", what);
         holds(with->nodes == kept, "a list is written", what);
     }
     if (!with->nodes) {
@@ -611,7 +662,7 @@ static void refused_queries(void) {
     holds(jsonpath_count(&with.path, &with.document, &count) == refused && count == 7, "count", path);
     holds(jsonpath_exists(&with.path, &with.document, &exists) == refused && exists == 7, "exists", path);
     for (uint8_t unique = 0; unique < 2; unique++) {
-        holds(jsonpath_select(&with.path, &with.document, unique, 0, &with.nodes) == refused, "select", path);
+        holds(jsonpath_select(&with.path, &with.document, unique, &with.limits, &with.nodes) == refused, "select", path);
     }
     writes(location, &with, JSONPATH_DONE, "$[0]", "list after a refusal");
     emptied(&with);
@@ -635,10 +686,10 @@ static uint8_t reads(struct asked_with *with) {
     return jsonpath_document_new((const uint8_t *)"[{\"a\":\"bb\"},[1,2,3]]", 20, &with->document, &position);
 }
 static uint8_t selects_all(struct asked_with *with) {
-    return jsonpath_select(&with->path, &with->document, 0, SIZE_MAX, &with->nodes);
+    return jsonpath_select(&with->path, &with->document, 0, &with->limits, &with->nodes);
 }
 static uint8_t selects_each_once(struct asked_with *with) {
-    return jsonpath_select(&with->path, &with->document, 1, SIZE_MAX, &with->nodes);
+    return jsonpath_select(&with->path, &with->document, 1, &with->limits, &with->nodes);
 }
 static uint8_t counts(struct asked_with *with) {
     size_t count;
@@ -797,7 +848,7 @@ static void *are_answered(void *name) {
     FILE *file = fopen(name, "r");
     for (; file && fgets(line, ROOM, file); count++) {
         read_to(&with.document, line);
-        holds(jsonpath_select(&with.path, &with.document, 0, SIZE_MAX, &with.nodes) == JSONPATH_DONE, "case", line);
+        holds(jsonpath_select(&with.path, &with.document, 0, &NO_LIMITS, &with.nodes) == JSONPATH_DONE, "case", line);
         is_answered(&with);
     }
     holds(count > 0, "no cases", name);

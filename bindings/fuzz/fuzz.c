@@ -26,6 +26,8 @@ static void broken(const char *fact, int line) {
     abort();
 }
 
+static const struct jsonpath_limits NO_LIMITS = {SIZE_MAX, SIZE_MAX};
+
 /* ---- What the fuzzer is told. The library counts no branches, so the harness says which inputs show something new. */
 
 #define TOKENS "$@.*[]?(),:!&|=<>-'\"lcvmstfn"
@@ -310,10 +312,11 @@ static void check_printed(jsonpath_path **path) {
 /* ---- Nodes. */
 
 /* A list of the nodes of a question's path, of each location once where it is `unique`. */
-static uint8_t choose(const struct question *asked, uint8_t unique, size_t most, jsonpath_nodes **nodes, size_t *count) {
-    uint8_t status = jsonpath_select(asked->path, asked->document, unique, most, nodes);
+static uint8_t choose(const struct question *asked, uint8_t unique, struct jsonpath_limits limits, jsonpath_nodes **nodes,
+                      size_t *count) {
+    uint8_t status = jsonpath_select(asked->path, asked->document, unique, &limits, nodes);
     HOLD(status == JSONPATH_DONE || status == JSONPATH_CUT_SHORT);
-    HOLD(jsonpath_nodes_length(nodes, count) == JSONPATH_DONE && *count <= most);
+    HOLD(jsonpath_nodes_length(nodes, count) == JSONPATH_DONE && *count <= limits.nodes);
     return status;
 }
 
@@ -335,7 +338,7 @@ static void check_alone(const struct question *asked, struct text location, stru
     jsonpath_nodes *nodes = NULL;
     size_t count;
     struct question alone = {.path = &path, .document = asked->document, .nodes = &nodes};
-    HOLD(choose(&alone, 0, SIZE_MAX, &nodes, &count) == JSONPATH_DONE && count == 1);
+    HOLD(choose(&alone, 0, NO_LIMITS, &nodes, &count) == JSONPATH_DONE && count == 1);
     struct text its_location = answer_of(write_location, &alone), its_json = answer_of(write_json, &alone);
     HOLD(same(its_location, location) && same(its_json, json));
     struct jsonpath_node wanted = node_of(asked), found = node_of(&alone);
@@ -355,7 +358,7 @@ static void check_json(struct text json) {
     size_t position;
     HOLD(jsonpath_document_new(json.bytes, json.length, &document, &position) == JSONPATH_DONE);
     struct question asked = {
-        .path = &root, .document = &document, .form = JSONPATH_VALUES, .limits = {SIZE_MAX, SIZE_MAX}};
+        .path = &root, .document = &document, .form = JSONPATH_VALUES, .limits = NO_LIMITS};
     struct text values = answer_of(write_lines, &asked), left = values;
     take_with(&left, json, '\n');
     HOLD(left.length == 0);
@@ -409,27 +412,11 @@ static void check_nodes(struct question asked, const struct text lines[3], size_
     struct text left[3] = {lines[0], lines[1], lines[2]};
     jsonpath_nodes *nodes = NULL;
     size_t listed;
-    HOLD(choose(&asked, 0, SIZE_MAX, &nodes, &listed) == JSONPATH_DONE && listed == count);
+    HOLD(choose(&asked, 0, NO_LIMITS, &nodes, &listed) == JSONPATH_DONE && listed == count);
     asked.nodes = &nodes;
     for (asked.index = 0; asked.index < count; asked.index++) check_node(&asked, left);
     HOLD(left[0].length == 0 && left[1].length == 0 && left[2].length == 0);
     check_no_node(asked, count);
-    jsonpath_nodes_free(&nodes);
-}
-
-/* A list of at most so many nodes has the first ones, and says whether there are more. */
-static void check_most(struct question asked, struct text locations, size_t count, size_t most) {
-    jsonpath_nodes *nodes = NULL;
-    size_t listed;
-    uint8_t status = choose(&asked, 0, most, &nodes, &listed);
-    HOLD(status == (most < count ? JSONPATH_CUT_SHORT : JSONPATH_DONE));
-    HOLD(listed == (most < count ? most : count));
-    asked.nodes = &nodes;
-    for (asked.index = 0; asked.index < listed; asked.index++) {
-        struct text location = answer_of(write_location, &asked);
-        take_with(&locations, location, '\n');
-        free(location.bytes);
-    }
     jsonpath_nodes_free(&nodes);
 }
 
@@ -443,27 +430,53 @@ static int comes_before(struct text before, const uint8_t *line, size_t length) 
     return 0;
 }
 
-/* A list without repetitions has each location where it comes first. */
-static void check_unique(struct question asked, struct text locations) {
+/* How many bytes the names in a location's line have. Each escape stands for one byte. */
+static size_t name_bytes(const uint8_t *line, size_t length) {
+    size_t bytes = 0;
+    for (size_t at = 0, is_name = 0; at < length; at++) {
+        if (line[at] == '\'') {
+            is_name = !is_name;
+        } else if (is_name) {
+            bytes++;
+            if (line[at] == '\\') at += line[at + 1] == 'u' ? 5 : 1;
+        }
+    }
+    return bytes;
+}
+
+/* A list has the first nodes, as many as the limits allow, and where it is `unique` each location where it comes first. */
+static void check_list(struct question asked, struct text locations, uint8_t unique, struct jsonpath_limits limits) {
     jsonpath_nodes *nodes = NULL;
     size_t listed;
     struct text left = locations;
-    HOLD(choose(&asked, 1, SIZE_MAX, &nodes, &listed) == JSONPATH_DONE);
+    uint8_t status = choose(&asked, unique, limits, &nodes, &listed);
     asked.nodes = &nodes;
     while (left.length > 0) {
         struct text before = {locations.bytes, (size_t)(left.bytes - locations.bytes)};
-        size_t length = line_length(left);
-        if (comes_before(before, left.bytes, length)) {
+        size_t length = line_length(left), names = name_bytes(left.bytes, length);
+        if (unique && comes_before(before, left.bytes, length)) {
             take(&left, left.bytes, length);
-        } else {
-            struct text location = answer_of(write_location, &asked);
-            take_with(&left, location, '\n');
-            free(location.bytes);
-            asked.index++;
+            continue;
         }
+        if (limits.nodes == 0 || limits.bytes < names) break;
+        struct text location = answer_of(write_location, &asked);
+        take_with(&left, location, '\n');
+        free(location.bytes);
+        limits.nodes--, limits.bytes -= names, asked.index++;
     }
     HOLD(asked.index == listed);
+    HOLD(status == (left.length > 0 ? JSONPATH_CUT_SHORT : JSONPATH_DONE));
     jsonpath_nodes_free(&nodes);
+}
+
+/* Lists with limits and without them. */
+static void check_lists(struct question asked, struct text locations, size_t count) {
+    check_list(asked, locations, 0, (struct jsonpath_limits){count / 2, SIZE_MAX});
+    check_list(asked, locations, 0, (struct jsonpath_limits){count, locations.length});
+    check_list(asked, locations, 0, (struct jsonpath_limits){SIZE_MAX, locations.length / 4});
+    check_list(asked, locations, 1, NO_LIMITS);
+    check_list(asked, locations, 1, (struct jsonpath_limits){count / 4, SIZE_MAX});
+    check_list(asked, locations, 1, (struct jsonpath_limits){SIZE_MAX, locations.length / 8});
 }
 
 /* ---- Lines. */
@@ -526,14 +539,12 @@ static void check_query(struct question asked, uint8_t numbers) {
     HOLD(jsonpath_count(asked.path, asked.document, &count) == JSONPATH_DONE && count <= MOST_NODES);
     HOLD(jsonpath_exists(asked.path, asked.document, &exists) == JSONPATH_DONE && exists == (count > 0));
     show(COUNTS + bits(count));
-    asked.limits = (struct jsonpath_limits){SIZE_MAX, SIZE_MAX};
+    asked.limits = NO_LIMITS;
     struct text lines[3] = {check_form(asked, JSONPATH_LINES, numbers, count),
                             check_form(asked, JSONPATH_VALUES, numbers, count),
                             check_form(asked, JSONPATH_LOCATIONS, numbers, count)};
     check_nodes(asked, lines, count);
-    check_most(asked, lines[JSONPATH_LOCATIONS], count, count / 2);
-    check_most(asked, lines[JSONPATH_LOCATIONS], count, count);
-    check_unique(asked, lines[JSONPATH_LOCATIONS]);
+    check_lists(asked, lines[JSONPATH_LOCATIONS], count);
     free(lines[JSONPATH_LINES].bytes);
     free(lines[JSONPATH_VALUES].bytes);
     free(lines[JSONPATH_LOCATIONS].bytes);
@@ -564,7 +575,7 @@ static void check_no_document(struct question asked) {
     hold_refused(write_lines, &asked, JSONPATH_EMPTY_HANDLE);
     HOLD(jsonpath_count(asked.path, asked.document, &count) == JSONPATH_EMPTY_HANDLE);
     HOLD(jsonpath_exists(asked.path, asked.document, &exists) == JSONPATH_EMPTY_HANDLE);
-    HOLD(jsonpath_select(asked.path, asked.document, 0, SIZE_MAX, &nodes) == JSONPATH_EMPTY_HANDLE);
+    HOLD(jsonpath_select(asked.path, asked.document, 0, &NO_LIMITS, &nodes) == JSONPATH_EMPTY_HANDLE);
     HOLD(nodes == NULL);
 }
 

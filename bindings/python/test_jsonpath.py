@@ -109,8 +109,15 @@ class Paths(unittest.TestCase):
         for most, unique in found:
             every = ["/0", "/1", "/2"] if unique else ["/0", "/1", "/0", "/2"]
             self.assertEqual(found[most, unique], every[:most] if most is None or most < 9 else every)
+        names = {"a": 1, "bé": [2]}
+        for most, wanted in ((None, 3), (7, 3), (6, 2), (3, 1), (0, 0)):
+            for unique in (False, True):
+                nodes = JsonPath("$..*").find(names, unique=unique, most_name_bytes=most)
+                self.assertEqual([node.pointer for node in nodes], ["/a", "/bé", "/bé/0"][:wanted])
         with self.assertRaises(ValueError):
             path.find(LETTERS, most=-1)
+        with self.assertRaises(ValueError):
+            path.find(LETTERS, most_name_bytes=-1)
 
     def test_pointers(self):
         nodes = JsonPath("$['a/b~'][0]").find({"a/b~": ["x"]})

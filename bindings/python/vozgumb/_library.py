@@ -51,7 +51,7 @@ PARAMETERS: dict[str, tuple[Any, ...]] = {
     "lines": (HANDLE, HANDLE, c_uint8, POINTER(Limits), *OUT),
     "count": (HANDLE, HANDLE, POINTER(c_size_t)),
     "exists": (HANDLE, HANDLE, POINTER(c_uint8)),
-    "select": (HANDLE, HANDLE, c_uint8, c_size_t, HANDLE),
+    "select": (HANDLE, HANDLE, c_uint8, POINTER(Limits), HANDLE),
     "nodes_length": (HANDLE, POINTER(c_size_t)),
     "node": (HANDLE, c_size_t, POINTER(NodeFields)),
     "node_location": (HANDLE, c_size_t, *OUT),

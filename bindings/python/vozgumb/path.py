@@ -90,10 +90,16 @@ class JsonPath:
         """Which numbers comparisons take: "all" or "whole"."""
         return self._numbers
 
-    def find(self, document: Any, most: Optional[int] = None, unique: bool = False) -> list[Node]:
-        """The nodes that the path selects, at most so many; with `unique` each location once, where it comes first."""
+    def find(
+        self, document: Any, most: Optional[int] = None, unique: bool = False, *, most_name_bytes: Optional[int] = None
+    ) -> list[Node]:
+        """The nodes that the path selects, at most so many; with `unique` each location once, where it comes first.
+
+        The names in their locations have at most `most_name_bytes` together, in UTF-8.
+        """
         asked, nodes, length = document_of(document), Handle(LIBRARY.jsonpath_nodes_free), c_size_t()
-        check(self._ask(LIBRARY.jsonpath_select, asked, unique, _limit(most), nodes.pointer))
+        limits = Limits(_limit(most, "nodes"), _limit(most_name_bytes, "bytes of names"))
+        check(self._ask(LIBRARY.jsonpath_select, asked, unique, limits, nodes.pointer))
         check(LIBRARY.jsonpath_nodes_length(nodes.pointer, length))
         out = Out(asked._room)
         return [_node(nodes, asked, index, out) for index in range(length.value)]
@@ -180,12 +186,12 @@ def _refuse(text: str, data: bytes, refusal: Refusal) -> NoReturn:
     raise PathError(text, refusal.kind, refusal.position, message.text(), hint.text() or None)
 
 
-def _limit(most: Optional[int]) -> int:
-    """A number of nodes as the library takes it."""
+def _limit(most: Optional[int], what: str) -> int:
+    """A greatest number as the library takes it."""
     if most is None:
         return NO_LIMIT
     if most < 0:
-        raise ValueError(f"at most {most} nodes")
+        raise ValueError(f"at most {most} {what}")
     return min(most, NO_LIMIT)
 
 

@@ -16,7 +16,7 @@ pub(crate) struct Refusal {
     pub(crate) position: usize,
 }
 
-/// How many nodes lines may be of, and how many bytes they may have together: `struct jsonpath_limits`.
+/// How much lines or a list of nodes may have: `struct jsonpath_limits`.
 ///
 /// ```
 /// use jsonpath::Limits;
@@ -29,7 +29,7 @@ pub(crate) struct Refusal {
 pub struct Limits {
     /// The greatest number of nodes.
     pub nodes: usize,
-    /// The greatest number of bytes.
+    /// The greatest number of bytes: of lines all, of a list the names in the locations of its nodes.
     pub bytes: usize,
 }
 
@@ -228,7 +228,7 @@ extern "C" {
         path: *mut *mut RawPath,
         document: *mut *mut RawDocument,
         unique: u8,
-        most: usize,
+        limits: *const Limits,
         nodes: *mut *mut RawNodes,
     ) -> u8;
     fn jsonpath_nodes_free(nodes: *mut *mut RawNodes);
@@ -375,21 +375,21 @@ impl PathHandle {
         Status::of(status).done(exists == 1)
     }
 
-    /// The list of the nodes that the path selects, at most so many, and whether it is cut short.
+    /// The list of the nodes that the path selects, as many as the limits allow, and whether it is cut short.
     pub(crate) fn select(
         &self,
         document: &DocumentHandle,
         unique: bool,
-        most: usize,
+        limits: &Limits,
     ) -> Result<(NodesHandle, bool), Status> {
         let nodes = Handle::empty();
-        // SAFETY: The three variables are written.
+        // SAFETY: `limits` is read, and the three variables are written.
         let status = unsafe {
             jsonpath_select(
                 self.variable(),
                 document.variable(),
                 u8::from(unique),
-                most,
+                limits,
                 nodes.variable(),
             )
         };

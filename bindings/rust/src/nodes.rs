@@ -92,7 +92,7 @@ impl<'d> Nodes<'d> {
         self.length == 0
     }
 
-    /// Whether the path selects more nodes than were asked for.
+    /// Whether the path selects more nodes than were asked for, or than the limits allow.
     ///
     /// ```
     /// # use jsonpath::{Document, JsonPath};

@@ -135,7 +135,7 @@ impl JsonPath {
     /// # Ok::<(), Box<dyn std::error::Error>>(())
     /// ```
     pub fn query<'d>(&self, document: &'d Document) -> Result<Nodes<'d>, QueryError> {
-        self.query_first(document, usize::MAX)
+        self.query_within(document, Limits::NONE)
     }
 
     /// The first nodes that the path selects, at most so many. The query goes one node further, to see whether
@@ -154,7 +154,31 @@ impl JsonPath {
         document: &'d Document,
         most: usize,
     ) -> Result<Nodes<'d>, QueryError> {
-        self.select(document, false, most)
+        let limits = Limits {
+            nodes: most,
+            ..Limits::NONE
+        };
+        self.query_within(document, limits)
+    }
+
+    /// The first nodes that the path selects, as many as the limits allow. The query stops at the first node that would go
+    /// beyond them.
+    ///
+    /// ```
+    /// # use jsonpath::{Document, JsonPath, Limits};
+    /// let document = Document::parse(br#"{"a": 1, "long name": 2}"#)?;
+    /// let limits = Limits { bytes: 8, ..Limits::NONE };
+    /// let nodes = JsonPath::parse("$.*")?.query_within(&document, limits)?;
+    /// assert_eq!(nodes.len(), 1);
+    /// assert!(nodes.is_cut_short());
+    /// # Ok::<(), Box<dyn std::error::Error>>(())
+    /// ```
+    pub fn query_within<'d>(
+        &self,
+        document: &'d Document,
+        limits: Limits,
+    ) -> Result<Nodes<'d>, QueryError> {
+        self.select(document, false, limits)
     }
 
     /// As [`query`](JsonPath::query), with each location once, where it comes first.
@@ -167,7 +191,26 @@ impl JsonPath {
     /// # Ok::<(), Box<dyn std::error::Error>>(())
     /// ```
     pub fn query_unique<'d>(&self, document: &'d Document) -> Result<Nodes<'d>, QueryError> {
-        self.select(document, true, usize::MAX)
+        self.query_unique_within(document, Limits::NONE)
+    }
+
+    /// As [`query_within`](JsonPath::query_within), with each location once, where it comes first.
+    ///
+    /// ```
+    /// # use jsonpath::{Document, JsonPath, Limits};
+    /// let document = Document::parse(b"[1, 2]")?;
+    /// let limits = Limits { nodes: 1, ..Limits::NONE };
+    /// let path = JsonPath::parse("$[1, 1]")?;
+    /// assert!(path.query_within(&document, limits)?.is_cut_short());
+    /// assert!(!path.query_unique_within(&document, limits)?.is_cut_short());
+    /// # Ok::<(), Box<dyn std::error::Error>>(())
+    /// ```
+    pub fn query_unique_within<'d>(
+        &self,
+        document: &'d Document,
+        limits: Limits,
+    ) -> Result<Nodes<'d>, QueryError> {
+        self.select(document, true, limits)
     }
 
     /// The list of what the path selects.
@@ -175,9 +218,9 @@ impl JsonPath {
         &self,
         document: &'d Document,
         unique: bool,
-        most: usize,
+        limits: Limits,
     ) -> Result<Nodes<'d>, QueryError> {
-        let list = self.handle.select(document.handle(), unique, most);
+        let list = self.handle.select(document.handle(), unique, &limits);
         Ok(Nodes::of(list.map_err(QueryError::of)?, document))
     }
 

@@ -1,9 +1,12 @@
 -- The first of some nodes, with another after them.
-use Rattle.std.proofs.Common.{◌≡◌, ◌≢◌, ◌≤◌, ◌<◌, ◌+◌, ◌∙◌, ℕ, List, [], ◌∷◌, ◌++◌, length, map, take, drop, false, sym, ap, arith, append_assoc, length-append}
-use Rattle.std.proofs.lemmas.List.{length-map, length-take-le, map_push, take-append-drop}
+use Rattle.std.proofs.Common.{◌≡◌, ◌≤◌, ◌<◌, ◌+◌, ◌∙◌, ◌⊎◌, inl, inr, ℕ, Bool, true, false, List, [], ◌∷◌, ◌++◌, length, map, refl, sym, ap, subst, arith, append_assoc, append-nil, length-append}
+use Rattle.std.proofs.lemmas.List.{length_push, map_push}
+use Rattle.std.proofs.lemmas.List.Sums.{sum_by_push}
 use Rattle.serde_json_path_nodes.specs.Location.{Located}
 use Rattle.jsonpath_nodes.specs.Kept.{KeptNode, kept}
-use Rattle.jsonpath_c.specs.Handles.{AreFirstNodes}
+use Rattle.jsonpath_c.specs.Handles.{AreFirstNodes, IsNodeBeyond, all_name_bytes, name_bytes}
+use Rattle.jsonpath_c.specs.Inside.{AreEnough, HasNoRoomFor, IsLeftAfter}
+use Rattle.jsonpath_c.specs.declared.limits.Limits.{Limits}
 
 -- what is kept of one node more
 pub kept_further : (list longer : List KeptNode) (done : List Located) (n : Located) → list ≡ map kept done → longer ≡ list ++ kept n ∷ [] → longer ≡ map kept (done ++ n ∷ [])
@@ -19,19 +22,80 @@ within before after text position is at =
     let longer : length text ≡ length before + length after = ap length is ∙ length-append before after in
     (omega arith, omega arith)
 
--- as many nodes as there may be are kept, and there is one more
-pub stopped : (most : ℕ) (nodes : List Located) (index : ℕ) (next : Located) (list : List KeptNode) → index < length nodes → list ≡ map kept (take index nodes) → length list ≤ most → most ≤ length list
-    → AreFirstNodes most nodes list false
-stopped most nodes index next list inside is few full =
-    let many : length list ≡ length (take index nodes) = ap length is ∙ length-map (take index nodes) kept in
-    let left : drop index nodes ≢ [] = λ none. let short : length nodes ≡ length (take index nodes) + 0 = ap length (sym (take-append-drop index nodes)) ∙ length-append (take index nodes) (drop index nodes) ∙ ap (λ l. length (take index nodes) + length l) none in
-    let taken = length-take-le index nodes (omega arith) in omega arith in
+-- ---- lists within limits
+
+-- a list has these nodes, and the limits leave so much for more
+pub record AreWithin (limits left : Limits) (shown : List Located) (list : List KeptNode) : Type 0 where
+  pub same : list ≡ map kept shown
+  pub nodes : left.nodes + length shown ≡ limits.nodes
+  pub bytes : left.bytes + all_name_bytes shown ≡ limits.bytes
+
+-- one node more, for which there was room
+pub one_within : (limits left less : Limits) (shown : List Located) (next : Located) (list longer : List KeptNode) → AreWithin limits left shown list
+    → longer ≡ list ++ kept next ∷ [] → IsLeftAfter next left less
+    → AreWithin limits less (shown ++ next ∷ []) longer
+one_within limits left less shown next list longer are pushed after =
+    let count : length (shown ++ next ∷ []) ≡ length shown + 1 = length_push shown next in
+    let names : all_name_bytes (shown ++ next ∷ []) ≡ all_name_bytes shown + name_bytes next.location = sum_by_push (λ node. name_bytes node.location) shown next in
     record {
-      shown = take index nodes;
-      more = drop index nodes;
-      first = sym (take-append-drop index nodes);
-      kept = is;
-      few = omega arith;
-      complete = λ e. cc;
-      cut = λ _. (omega arith, left);
+      same = kept_further list longer shown next are.same pushed;
+      nodes = omega (arith, are.nodes, after.0, count);
+      bytes = omega (arith, are.bytes, after.1, names);
     }
+
+-- there is no other node
+pub all_within : (limits left : Limits) (shown all : List Located) (list : List KeptNode) → AreWithin limits left shown list → all ≡ shown → AreFirstNodes limits all list true
+all_within limits left shown all list are is = record {
+  shown = shown;
+  more = [];
+  first = is ∙ sym (append-nil shown);
+  kept = are.same;
+  few = omega (arith, are.nodes);
+  short = omega (arith, are.bytes);
+  complete = λ _. refl;
+  cut = λ e. cc;
+}
+
+beyond : (limits left : Limits) (shown : List Located) (next : Located) (list : List KeptNode) → AreWithin limits left shown list
+    → HasNoRoomFor next left → IsNodeBeyond limits shown next
+beyond limits left shown next list are (inl none) = inl (omega (arith, are.nodes, none))
+beyond limits left shown next list are (inr short) = inr (omega (arith, are.bytes, short))
+
+-- there is another, for which there is no room
+pub cut_within : (limits left : Limits) (shown : List Located) (next : Located) (later all : List Located) (list : List KeptNode) → AreWithin limits left shown list
+    → all ≡ shown ++ (next ∷ later) → HasNoRoomFor next left → AreFirstNodes limits all list false
+cut_within limits left shown next later all list are is full = record {
+  shown = shown;
+  more = next ∷ later;
+  first = is;
+  kept = are.same;
+  few = omega (arith, are.nodes);
+  short = omega (arith, are.bytes);
+  complete = λ e. cc;
+  cut = λ _. (next, later, refl, beyond limits left shown next list are full);
+}
+
+-- ---- the first of some nodes, by those of their beginning
+
+first_with : (limits : Limits) (nodes found later : List Located) (list : List KeptNode) (all : Bool) → nodes ≡ found ++ later → AreFirstNodes limits found list all
+    → (later ≡ []) ⊎ (limits.nodes < length found) → AreFirstNodes limits nodes list all
+first_with limits nodes found later list all is are (inl none) =
+    let same : nodes ≡ found = is ∙ ap (λ (l : List Located). found ++ l) none ∙ append-nil found in
+    subst (λ (n : List Located). AreFirstNodes limits n list all) (sym same) are
+first_with limits nodes found later list all is are (inr many) =
+    let longer : length found ≡ length are.shown + length are.more = ap length are.first ∙ length-append are.shown are.more in
+    record {
+      shown = are.shown;
+      more = are.more ++ later;
+      first = is ∙ ap (λ (l : List Located). l ++ later) are.first ∙ append_assoc are.shown are.more later;
+      kept = are.kept;
+      few = are.few;
+      short = are.short;
+      complete = λ e. let none : length are.more ≡ 0 = ap length (are.complete e) in let few = are.few in absurd (omega arith);
+      cut = λ e. let (next, rest, more, full) = are.cut e in (next, rest ++ later, ap (λ (l : List Located). l ++ later) more, full);
+    }
+
+-- the first of enough nodes are the first of all
+pub first_of_enough : (limits : Limits) (nodes found : List Located) (list : List KeptNode) (all : Bool) → AreEnough limits.nodes nodes found → AreFirstNodes limits found list all
+    → AreFirstNodes limits nodes list all
+first_of_enough limits nodes found list all enough are = first_with limits nodes found enough.0 list all enough.1 are enough.2

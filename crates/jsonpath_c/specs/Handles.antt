@@ -1,5 +1,7 @@
 -- What handles hold, and what calls answer of it.
-use Rattle.std.specs.Prelude.{◌≡◌, ◌≢◌, ◌==◌, ◌≤◌, ◌<◌, ◌+◌, ◌++◌, ◌⊎◌, if◌then◌else◌, ℕ, Bool, true, false, List, [], ◌∷◌, Option, length, map, slice_get}
+use Rattle.std.specs.Prelude.{◌≡◌, ◌≢◌, ◌==◌, ◌≤◌, ◌<◌, ◌+◌, ◌++◌, ◌⊎◌, if◌then◌else◌, ℕ, pos, Bool, true, false, List, [], ◌∷◌, Option, length, map, slice_get}
+use Rattle.std.specs.Float.{float_zero}
+use Rattle.std.specs.List.{sum_by}
 use Rattle.std.specs.Option.{MatchOption}
 use Rattle.std.specs.Str.{chars}
 use Rattle.serde_json.specs.Data.{Data}
@@ -11,7 +13,7 @@ use Rattle.serde_json_path_functions.specs.Functions.{FunctionSet, Numbers, whol
 use Rattle.serde_json_path_functions.specs.Patterns.{builtin_functions}
 use Rattle.serde_json_path_functions.specs.Terms.{numbers_view}
 use Rattle.serde_json_path_nodes.specs.Lists.{first_places}
-use Rattle.serde_json_path_nodes.specs.Location.{Located, Step, at}
+use Rattle.serde_json_path_nodes.specs.Location.{Located, Step, by_name, by_position, at}
 use Rattle.serde_json_path_nodes.specs.Text.{normal, pointer}
 use Rattle.jsonpath_nodes.specs.Kept.{KeptNode, kept, location_of}
 use Rattle.jsonpath_nodes.specs.declared.node_info.NodeInfo.{NodeInfo}
@@ -74,27 +76,49 @@ CallsByPatternFrom c d = CallsByPattern (functions_of c) (view d.value) (path_tr
 abbrev pub asked_of : ℕ → List Located → List Located
 asked_of unique nodes = if unique == 0 then nodes else first_places nodes
 
--- What is kept is the first of some nodes, at most so many: of all, or of as many as there may be.
-pub record AreFirstNodes (most : ℕ) (nodes : List Located) (list : List KeptNode) (all : Bool) : Type 0 where
+-- how many bytes the name of a step has; an index has no name
+abbrev pub name_length : Step → ℕ
+name_length (by_name name) = length name
+name_length (by_position index) = 0
+
+-- how many bytes the names of a location have together
+abbrev pub name_bytes : List Step → ℕ
+name_bytes location = sum_by name_length location
+
+-- the same of the locations of some nodes
+abbrev pub all_name_bytes : List Located → ℕ
+all_name_bytes nodes = sum_by (λ node. name_bytes node.location) nodes
+
+-- one node more would go beyond the limits: there are as many as there may be, or its names would be too long beside theirs
+abbrev pub IsNodeBeyond : Limits → List Located → Located → Type 0
+IsNodeBeyond limits shown next =
+    (limits.nodes ≤ length shown) ⊎ (limits.bytes < all_name_bytes shown + name_bytes next.location)
+
+-- What is kept is the first of some nodes, as many as the limits allow: of all, or of those before one that would go beyond.
+pub record AreFirstNodes (limits : Limits) (nodes : List Located) (list : List KeptNode) (all : Bool) : Type 0 where
   pub shown : List Located
   pub more : List Located
   pub first : nodes ≡ shown ++ more
   pub kept : list ≡ map kept shown
-  pub few : length shown ≤ most
+  pub few : length shown ≤ limits.nodes
+  pub short : all_name_bytes shown ≤ limits.bytes
   pub complete : all ≡ true → more ≡ []
-  pub cut : all ≡ false → (length shown ≡ most) × (more ≢ [])
+  pub cut : all ≡ false → (next : Located) × (later : List Located) × (more ≡ next ∷ later) × IsNodeBeyond limits shown next
 
--- C is told this of a node: its kind, and the number or the length that its kind has
-abbrev pub IsToldOf : NodeInfo → Node → Type 0
-IsToldOf Null told = told.kind ≡ 0
-IsToldOf False told = told.kind ≡ 1
-IsToldOf True told = told.kind ≡ 2
-IsToldOf (Integer n) told = (told.kind ≡ 3) × (told.integer ≡ n)
-IsToldOf (Unsigned n) told = (told.kind ≡ 4) × (told.unsigned ≡ n)
-IsToldOf (Double x) told = (told.kind ≡ 5) × (told.number ≡ x)
-IsToldOf (String bytes) told = (told.kind ≡ 6) × (told.length ≡ bytes)
-IsToldOf (Array items) told = (told.kind ≡ 7) × (told.length ≡ items)
-IsToldOf (Object members) told = (told.kind ≡ 8) × (told.length ≡ members)
+-- What C is told of a node: its kind, and the number or the length that its kind has. What it does not have is 0.
+abbrev pub told_of_kind : ℕ → Node
+told_of_kind kind = record { kind = kind; length = 0; integer = pos 0; unsigned = 0; number = float_zero }
+
+abbrev pub told_of : NodeInfo → Node
+told_of Null = told_of_kind 0
+told_of False = told_of_kind 1
+told_of True = told_of_kind 2
+told_of (Integer n) = record (told_of_kind 3) { integer = n }
+told_of (Unsigned n) = record (told_of_kind 4) { unsigned = n }
+told_of (Double x) = record (told_of_kind 5) { number = x }
+told_of (String bytes) = record (told_of_kind 6) { length = bytes }
+told_of (Array items) = record (told_of_kind 7) { length = items }
+told_of (Object members) = record (told_of_kind 8) { length = members }
 
 -- a list's handle holds a node at an index, from 0, of which this holds
 abbrev pub HasNode : Option Nodes → ℕ → (KeptNode → Type 0) → Type 0

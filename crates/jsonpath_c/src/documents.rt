@@ -1,9 +1,11 @@
 //! Documents that are read once.
 
-ghost use Rattle.std.specs.Prelude.{◌≡◌, ◌≢◌, ◌≤◌, ◌⊎◌, ◌↔◌, ◌+◌, None, length};
+ghost use Rattle.std.specs.Prelude.{◌≡◌, ◌≢◌, ◌≤◌, ◌⊎◌, ◌↔◌, ◌+◌, None, false, length, true};
 ghost use Rattle.std.specs.Option.{MatchOption};
+ghost use Rattle.std.specs.Str.{IsUtf8};
 ghost use Rattle.serde_json.specs.Data.{Data};
 ghost use Rattle.serde_json.specs.View.{view};
+ghost use Rattle.jsonpath_document.specs.Document.{is_too_deep_at};
 ghost use Rattle.jsonpath_report.specs.Report.{ReadsAs};
 
 use crate::handle::document::{Document, DocumentHandle};
@@ -15,7 +17,7 @@ use std::alloc::Global;
 fn status_of(fault: DocumentFault) -> u8
     ensures memory { (result ≡ 4) ↔ (fault ≡ DocumentFault.Memory) }
     ensures statuses { (result ≡ 2) ⊎ (result ≡ 4) ⊎ (result ≡ 9) }
-    ensures too_deep { (result ≡ 9) → fault ≡ DocumentFault.TooDeep }
+    ensures too_deep { (result ≡ 9) ↔ (fault ≡ DocumentFault.TooDeep) }
 {
     match fault {
         DocumentFault::Memory => NO_MEMORY,
@@ -24,8 +26,8 @@ fn status_of(fault: DocumentFault) -> u8
     }
 }
 
-/// Reads a document: 0 with the document in its handle, in the place of what was there; 2 where it is not JSON and 9 where it
-/// nests too deep, with the byte, from 1, where that shows; 4 without memory.
+/// Reads a document: 0 with the document in its handle, in the place of what was there; 2 where it is not JSON and 9 where an
+/// array or an object begins within 127 others, with the byte, from 1, where that shows; 4 without memory.
 #[unsafe(no_mangle)]
 pub extern "C" fn jsonpath_document_new(
     alloc: Global,
@@ -37,6 +39,9 @@ pub extern "C" fn jsonpath_document_new(
     ensures done { result ≡ 0 → MatchOption document.new.value ⊥ (λ d.
         ReadsAs bytes.now (view d.value)) }
     ensures refused { (result ≡ 2) ⊎ (result ≡ 9) → (d : Data) → ReadsAs bytes.now d → ⊥ }
+    ensures too_deep { result ≡ 9 → is_too_deep_at bytes.now position.new ≡ true }
+    ensures not_too_deep { result ≡ 2 → IsUtf8 bytes.now
+        → is_too_deep_at bytes.now position.new ≡ false }
     ensures position { (result ≡ 2) ⊎ (result ≡ 9) →
         (1 ≤ position.new) × (position.new ≤ length bytes.now + 1) }
     ensures kept { result ≢ 0 → document.new.value ≡ document.old.value }

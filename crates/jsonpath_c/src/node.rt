@@ -1,7 +1,7 @@
 //! A selected node, as C sees it.
 
 ghost use Rattle.std.specs.Prelude.{◌≡◌};
-ghost use Rattle.jsonpath_c.specs.Handles.{IsToldOf};
+ghost use Rattle.jsonpath_c.specs.Handles.{told_of, told_of_kind};
 
 use jsonpath_nodes::NodeInfo;
 
@@ -24,7 +24,7 @@ pub struct Node {
 impl Node {
     /// A node of a kind without a number and without a length.
     fn of_kind(kind: u32) -> Node
-        ensures { result.kind ≡ kind }
+        ensures { result ≡ told_of_kind kind }
     {
         Node {
             kind,
@@ -37,8 +37,7 @@ impl Node {
 
     /// A node of a kind that has a length.
     fn of_length(kind: u32, length: usize) -> Node
-        ensures kind { result.kind ≡ kind }
-        ensures length { result.length ≡ length }
+        ensures { result ≡ record (told_of_kind kind) { length = length } }
     {
         Node {
             length,
@@ -48,7 +47,7 @@ impl Node {
 
     /// What C is told.
     pub(crate) fn of(info: NodeInfo) -> Node
-        ensures { IsToldOf info result }
+        ensures { result ≡ told_of info }
     {
         match info {
             NodeInfo::Null => Node::of_kind(0),

@@ -4,7 +4,7 @@ ghost use Rattle.std.specs.Prelude.{◌≡◌, ◌≢◌, ◌⊎◌, ◌↔◌, 
 ghost use Rattle.std.specs.Option.{MatchOption};
 ghost use Rattle.serde_json_path_nodes.specs.Location.{Located};
 ghost use Rattle.jsonpath_nodes.specs.Kept.{known_of};
-ghost use Rattle.jsonpath_c.specs.Handles.{AreFirstNodes, BothHold, CallsByPatternFrom, HasNode, IsToldOf, SelectsFrom, asked_of};
+ghost use Rattle.jsonpath_c.specs.Handles.{AreFirstNodes, BothHold, CallsByPatternFrom, HasNode, SelectsFrom, asked_of, told_of};
 
 use crate::answers::status_of;
 use crate::compiled::Compiled;
@@ -12,6 +12,7 @@ use crate::handle::document::{Document, DocumentHandle};
 use crate::handle::nodes::{Nodes, NodesHandle};
 use crate::handle::path::PathHandle;
 use crate::lent::Lent;
+use crate::limits::Limits;
 use crate::node::Node;
 use crate::put::put;
 use crate::selected::{FirstNodes, first_nodes, first_unique_nodes};
@@ -21,46 +22,47 @@ use serde_json_path::QueryError;
 use serde_json_path::functions::PatternStore;
 use std::alloc::Global;
 
-/// The first nodes that a path selects from a document, at most so many; each location once, where `unique` is not 0.
+/// The first nodes that a path selects from a document, as many as the limits allow; each location once, where `unique` is not
+/// 0.
 fn selected(
     alloc: Global,
     path: &Compiled,
     document: &Document,
     unique: u8,
-    most: usize,
+    limits: &Limits,
 ) -> Result<FirstNodes, QueryError>
     ensures nodes { IfOk result (λ first. (nodes : List Located)
         × SelectsFrom path.now document.now nodes
-        × AreFirstNodes most (asked_of unique nodes) first.nodes first.all) }
+        × AreFirstNodes limits.now (asked_of unique nodes) first.nodes first.all) }
     ensures refused { result ≡ Err QueryError.Pattern → CallsByPatternFrom path.now document.now }
 {
     let store = PatternStore::new();
     let nodes = walk(alloc, path, document, &store)?;
     match unique {
-        0 => first_nodes(alloc, most, nodes),
-        _ => first_unique_nodes(alloc, most, nodes),
+        0 => first_nodes(alloc, limits, nodes),
+        _ => first_unique_nodes(alloc, limits, nodes),
     }
 }
 
-/// Lists the nodes that a path selects from a document, at most so many, in order; each location once, where `unique` is not
-/// 0: 0 with the list in its handle, in the place of what was there; 8 with the first nodes there, where there are more; 3
-/// where the query is refused for a pattern; 4 without memory; 7 where a handle is empty.
+/// Lists the nodes that a path selects from a document, in order; each location once, where `unique` is not 0: 0 with the list
+/// in its handle, in the place of what was there; 8 with the first nodes there, where the limits cut the list short; 3 where
+/// the query is refused for a pattern; 4 without memory; 7 where a handle is empty.
 #[unsafe(no_mangle)]
 pub extern "C" fn jsonpath_select(
     alloc: Global,
     path: &mut PathHandle,
     document: &mut DocumentHandle,
     unique: u8,
-    most: usize,
+    limits: &Limits,
     nodes: &mut NodesHandle,
 ) -> u8
     ensures statuses { (result ≡ 0) ⊎ (result ≡ 3) ⊎ (result ≡ 4) ⊎ (result ≡ 7) ⊎ (result ≡ 8) }
     ensures done { result ≡ 0 → BothHold path.old.value document.old.value (λ c d.
         MatchOption nodes.new.value ⊥ (λ list. (found : List Located) × SelectsFrom c d found
-        × AreFirstNodes most (asked_of unique found) list.nodes true)) }
+        × AreFirstNodes limits.now (asked_of unique found) list.nodes true)) }
     ensures cut { result ≡ 8 → BothHold path.old.value document.old.value (λ c d.
         MatchOption nodes.new.value ⊥ (λ list. (found : List Located) × SelectsFrom c d found
-        × AreFirstNodes most (asked_of unique found) list.nodes false)) }
+        × AreFirstNodes limits.now (asked_of unique found) list.nodes false)) }
     ensures pattern_refused { result ≡ 3
         → BothHold path.old.value document.old.value CallsByPatternFrom }
     ensures empty { (result ≡ 7) ↔ ((path.old.value ≡ None) ⊎ (document.old.value ≡ None)) }
@@ -71,7 +73,7 @@ pub extern "C" fn jsonpath_select(
     let Some(lent) = Lent::take(alloc, path, document) else {
         return EMPTY_HANDLE;
     };
-    let found = selected(alloc, &lent.path, &lent.document, unique, most);
+    let found = selected(alloc, &lent.path, &lent.document, unique, limits);
     lent.put_back(alloc, path, document);
     let first = match found {
         Ok(first) => first,
@@ -126,8 +128,10 @@ pub extern "C" fn jsonpath_node(
     node: &mut Node,
 ) -> u8
     ensures statuses { (result ≡ 0) ⊎ (result ≡ 7) ⊎ (result ≡ 10) }
-    ensures done { result ≡ 0 → HasNode nodes.old.value index (λ known. IsToldOf (known_of known) node.new) }
-    ensures past { result ≡ 10 → MatchOption nodes.old.value ⊥ (λ list. slice_get list.nodes index ≡ None) }
+    ensures done { result ≡ 0 → HasNode nodes.old.value index
+        (λ known. node.new ≡ told_of (known_of known)) }
+    ensures past { result ≡ 10 → MatchOption nodes.old.value ⊥ (λ list.
+        slice_get list.nodes index ≡ None) }
     ensures empty { (result ≡ 7) ↔ (nodes.old.value ≡ None) }
     ensures kept { nodes.new.value ≡ nodes.old.value }
     ensures kept_node { result ≢ 0 → node.new ≡ node.old }

@@ -1,6 +1,6 @@
 -- Documents from bytes, and places in them.
-use Rattle.std.specs.Prelude.{◌≡◌, ◌==◌, ◌+◌, ◌++◌, ◌&&◌, ◌||◌, ℕ, Bool, true, false, List, [], ◌∷◌}
-use Rattle.std.specs.Prelude.{fold, length, codes, nat_eq, nat_le, nat_lt, if◌then◌else◌}
+use Rattle.std.specs.Prelude.{◌≡◌, ◌==◌, ◌+◌, ◌-◌, ◌++◌, ◌&&◌, ◌||◌, not, ℕ, Bool, true, false, List, [], ◌∷◌}
+use Rattle.std.specs.Prelude.{fold, length, take, drop, codes, nat_eq, nat_le, nat_lt, if◌then◌else◌}
 use Rattle.std.specs.List.{starts_with}
 use Rattle.jsonpath_document.specs.declared.document.DocumentError.{DocumentError}
 use Rattle.jsonpath_document.specs.declared.document.DocumentFault.{DocumentFault}
@@ -48,6 +48,35 @@ stands NotFinite text = begins_not_finite text
 stands TrailingComma text = begins text (codes ",")
 stands Memory text = false
 stands _ text = true
+
+-- ---- how deep a place is
+
+-- What is open after some bytes of JSON: how many arrays and objects, whether a string is, and whether the next byte is escaped
+-- in it. A backslash is 92, a quote 34, brackets are 91 and 93, braces 123 and 125.
+abbrev pub open_past : ℕ × Bool × Bool → ℕ → ℕ × Bool × Bool
+open_past opened byte = if opened.2 then (opened.0, opened.1, false)
+    else if byte == 92 then (opened.0, opened.1, opened.1)
+    else if byte == 34 then (opened.0, not opened.1, false)
+    else if opened.1 then opened
+    else if byte == 91 || byte == 123 then (opened.0 + 1, false, false)
+    else if byte == 93 || byte == 125 then (opened.0 - 1, false, false)
+    else opened
+
+-- how many arrays and objects are open after some bytes
+abbrev pub levels_after : List ℕ → ℕ
+levels_after bytes = (fold open_past (0, false, false) bytes).0
+
+-- another array or object begins after so many bytes of a text, within 127 that are open
+abbrev pub is_too_deep_after : List ℕ → ℕ → Bool
+is_too_deep_after text count =
+    (begins (drop count text) (codes "[") || begins (drop count text) (codes "{"))
+    && nat_le 127 (levels_after (take count text))
+
+-- the same at a byte of a text, from 1
+abbrev pub is_too_deep_at : List ℕ → ℕ → Bool
+is_too_deep_at text position = is_too_deep_after text (position - 1)
+
+-- ---- where a fault is
 
 -- the fault stands in the text: at the line, the column and the byte of what follows some text before it
 abbrev pub StandsIn : List ℕ → DocumentError → Type 0

@@ -1,14 +1,14 @@
 //! Documents from bytes, and what stands where bytes are no document.
 
-ghost use Rattle.std.specs.Prelude.{◌≡◌, ◌≢◌, ◌+◌, ◌++◌, ◌<◌, ℕ, List, [], ◌∷◌, IfErr, IfOk, IfSome};
-ghost use Rattle.std.specs.Prelude.{length, true};
+ghost use Rattle.std.specs.Prelude.{◌≡◌, ◌≢◌, ◌+◌, ◌^◌, ◌++◌, ◌<◌, ◌≤◌, ◌↔◌, ℕ, List, [], ◌∷◌, IfErr, IfOk, IfSome};
+ghost use Rattle.std.specs.Prelude.{false, length, true};
 ghost use Rattle.std.specs.Str.{IsUtf8};
 ghost use Rattle.serde_json.specs.Data.{Data};
 ghost use Rattle.serde_json.specs.View.{view};
 ghost use Rattle.jsonpath_report.specs.Report.{ReadsAs};
 ghost use Rattle.jsonpath_document.specs.Document.{StandsIn, begins, begins_comment};
-ghost use Rattle.jsonpath_document.specs.Document.{begins_not_finite, is_continuation, place_after};
-ghost use Rattle.jsonpath_document.specs.Document.{stands};
+ghost use Rattle.jsonpath_document.specs.Document.{begins_not_finite, is_continuation, is_too_deep_after};
+ghost use Rattle.jsonpath_document.specs.Document.{is_too_deep_at, levels_after, open_past, place_after, stands};
 
 use serde_json::{Error, Value};
 use std::alloc::Global;
@@ -187,22 +187,41 @@ fn split_at_error<'t>(text: &'t str, error: &Error) -> (&'t str, &'t str)
     }
 }
 
-/// How many arrays and objects are open at the end of a text of tokens.
-fn open_levels(text: &str) -> usize {
-    let mut levels = 0usize;
-    let mut in_string = false;
-    let mut is_escaped = false;
-    for byte in text.as_bytes() {
-        match *byte {
-            _ if is_escaped => is_escaped = false,
-            b'\\' => is_escaped = in_string,
-            b'"' => in_string = !in_string,
-            b'[' | b'{' if !in_string => levels = levels.saturating_add(1),
-            b']' | b'}' if !in_string => levels = levels.saturating_sub(1),
-            _ => {}
-        }
+/// What is open after a byte more: how many arrays and objects, whether a string is, and whether the next byte is escaped in it.
+fn open_past(opened: (usize, bool, bool), byte: u8) -> (usize, bool, bool)
+    requires { opened.0 + 1 < 2 ^ 64 }
+    ensures { result ≡ open_past opened byte }
+{
+    let (levels, in_string, is_escaped) = opened;
+    match byte {
+        _ if is_escaped => (levels, in_string, false),
+        b'\\' => (levels, in_string, in_string),
+        b'"' => (levels, !in_string, false),
+        _ if in_string => opened,
+        b'[' | b'{' => (levels + 1, false, false),
+        b']' | b'}' => (levels.saturating_sub(1), false, false),
+        _ => opened,
     }
-    levels
+}
+
+/// How many arrays and objects are open after some bytes of JSON.
+fn open_levels(bytes: &[u8]) -> usize
+    ensures { result ≡ levels_after bytes.now }
+{
+    let mut opened = (0usize, false, false);
+    for byte in bytes {
+        opened = open_past(opened, *byte);
+    }
+    opened.0
+}
+
+/// Whether another array or object begins after so many bytes of a text, within as many as `serde_json` takes.
+fn is_too_deep(text: &str, count: usize) -> bool
+    requires { count ≤ length text.now }
+    ensures { result ≡ is_too_deep_after text.now count }
+{
+    let (before, after) = text.as_bytes().split_at(count);
+    (after.starts_with(b"[") || after.starts_with(b"{")) && open_levels(before) >= MOST_LEVELS
 }
 
 /// The text before a number that is too large, where one stands around the end of the text before a place, or ends there.
@@ -234,12 +253,14 @@ fn before_bracket(text: &str) -> &str
     text.strip_suffix(['[', '{']).unwrap_or(text)
 }
 
-/// What is told of a place in a text, by what stands before it and from there on, and the text before what is told.
+/// What is told of a place in a text, by what stands before it and from there on, and the text before what is told. How deep
+/// the place is, is not looked at.
 fn met<'t>(text: &'t str, before: &'t str, rest: &str) -> (&'t str, DocumentFault)
     requires { text.now ≡ before.now ++ rest.now }
     ensures stands { (after : List ℕ) × (text.now ≡ result.0.now ++ after)
         × (stands result.1 after ≡ true) }
     ensures utf8 { result.1 ≢ DocumentFault.NotUtf8 }
+    ensures depth { result.1 ≢ DocumentFault.TooDeep }
 {
     if begins_comment(rest) {
         return (before, DocumentFault::Comment);
@@ -258,12 +279,29 @@ fn met<'t>(text: &'t str, before: &'t str, rest: &str) -> (&'t str, DocumentFaul
     if let Some(before) = before_large_number(text, before) {
         return (before, DocumentFault::NumberOutOfRange);
     }
-    match open_levels(before) {
-        0 if begins_value(rest) && !before.trim().is_empty() => {
-            (before, DocumentFault::SecondDocument)
+    if open_levels(before.as_bytes()) == 0 && begins_value(rest) && !before.trim().is_empty() {
+        return (before, DocumentFault::SecondDocument);
+    }
+    (before, DocumentFault::NotJson)
+}
+
+/// Why a text is refused at a place that `serde_json` tells.
+fn refusal_at(text: &str, error: &Error) -> DocumentError
+    ensures stands { StandsIn text.now result }
+    ensures utf8 { result.fault ≢ DocumentFault.NotUtf8 }
+    ensures depth { (result.fault ≡ DocumentFault.TooDeep)
+        ↔ (is_too_deep_at text.now result.position ≡ true) }
+{
+    let (before, rest) = split_at_error(text, error);
+    let start = before_bracket(before);
+    if is_too_deep(text, start.len()) {
+        return DocumentError::after(start, DocumentFault::TooDeep);
+    }
+    match met(text, before, rest) {
+        (before, _) if is_too_deep(text, before.len()) => {
+            DocumentError::after(before, DocumentFault::TooDeep)
         }
-        levels if levels > MOST_LEVELS => (before_bracket(before), DocumentFault::TooDeep),
-        _ => (before, DocumentFault::NotJson),
+        (before, fault) => DocumentError::after(before, fault),
     }
 }
 
@@ -271,6 +309,8 @@ fn met<'t>(text: &'t str, before: &'t str, rest: &str) -> (&'t str, DocumentFaul
 fn refusal(text: &str, error: &Error) -> DocumentError
     ensures stands { StandsIn text.now result }
     ensures utf8 { result.fault ≢ DocumentFault.NotUtf8 }
+    ensures depth { (result.fault ≡ DocumentFault.TooDeep)
+        ↔ (is_too_deep_at text.now result.position ≡ true) }
 {
     if text.as_bytes().starts_with(b"\xef\xbb\xbf") {
         return DocumentError::after("", DocumentFault::ByteOrderMark);
@@ -281,9 +321,7 @@ fn refusal(text: &str, error: &Error) -> DocumentError
     if error.is_eof() {
         return DocumentError::after(text, DocumentFault::CutShort);
     }
-    let (before, rest) = split_at_error(text, error);
-    let (before, fault) = met(text, before, rest);
-    DocumentError::after(before, fault)
+    refusal_at(text, error)
 }
 
 /// The text of the first bytes, or none where they are no text.
@@ -303,6 +341,10 @@ fn text_of_first(bytes: &[u8], count: usize) -> &str
 fn refused(bytes: &[u8], error: &Error) -> DocumentError
     ensures stands { StandsIn bytes.now result }
     ensures not_utf8 { result.fault ≡ DocumentFault.NotUtf8 → IsUtf8 bytes.now → ⊥ }
+    ensures too_deep { result.fault ≡ DocumentFault.TooDeep
+        → is_too_deep_at bytes.now result.position ≡ true }
+    ensures not_too_deep { IsUtf8 bytes.now → result.fault ≢ DocumentFault.TooDeep
+        → is_too_deep_at bytes.now result.position ≡ false }
 {
     match from_utf8(bytes) {
         Ok(text) => refusal(text, error),
@@ -331,6 +373,10 @@ pub fn read_document(alloc: Global, bytes: &[u8]) -> Result<Value, DocumentError
         → (d : Data) → ReadsAs bytes.now d → ⊥) }
     ensures stands { IfErr result (λ e. e.fault ≢ DocumentFault.Memory → StandsIn bytes.now e) }
     ensures not_utf8 { IfErr result (λ e. e.fault ≡ DocumentFault.NotUtf8 → IsUtf8 bytes.now → ⊥) }
+    ensures too_deep { IfErr result (λ e. e.fault ≡ DocumentFault.TooDeep
+        → is_too_deep_at bytes.now e.position ≡ true) }
+    ensures not_too_deep { IfErr result (λ e. IsUtf8 bytes.now → e.fault ≢ DocumentFault.Memory
+        → e.fault ≢ DocumentFault.TooDeep → is_too_deep_at bytes.now e.position ≡ false) }
     ensures memory { IfErr result (λ e. e.fault ≡ DocumentFault.Memory → 0 < length bytes.now) }
 {
     match Value::from_slice(alloc, bytes) {

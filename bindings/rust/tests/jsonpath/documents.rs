@@ -166,6 +166,55 @@ fn lists_have_as_many_nodes_as_are_asked_for() {
 }
 
 #[test]
+fn lists_keep_to_limits() {
+    let document = document(r#"{"a": 1, "bé": [2, {"c": 3}]}"#);
+    let path = path("$..*");
+    let all = [
+        "$['a']",
+        "$['bé']",
+        "$['bé'][0]",
+        "$['bé'][1]",
+        "$['bé'][1]['c']",
+    ];
+    let rows = [
+        (usize::MAX, usize::MAX, 5),
+        (5, 14, 5),
+        (usize::MAX, 13, 4),
+        (usize::MAX, 6, 2),
+        (3, 13, 3),
+        (usize::MAX, 0, 0),
+    ];
+    for (nodes, bytes, wanted) in rows {
+        let limits = Limits { nodes, bytes };
+        for nodes in [
+            path.query_within(&document, limits).unwrap(),
+            path.query_unique_within(&document, limits).unwrap(),
+        ] {
+            let locations: Vec<_> = nodes.iter().map(|node| node.location().unwrap()).collect();
+            assert_eq!(locations, all[..wanted], "{limits:?}");
+            assert_eq!(nodes.is_cut_short(), wanted < 5, "{limits:?}");
+        }
+    }
+}
+
+/// A path gives one node a million times, of which a list of each once holds a few at a time.
+#[test]
+fn lists_of_locations_that_come_often() {
+    let document = document(&format!("{}1{}", "[".repeat(20), "]".repeat(20)));
+    let path = path(&format!("${}", "[0,0]".repeat(20)));
+    assert_eq!(path.count(&document), Ok(1 << 20));
+    for (most, wanted, is_cut_short) in [(usize::MAX, 1, false), (1, 1, false), (0, 0, true)] {
+        let limits = Limits {
+            nodes: most,
+            ..Limits::NONE
+        };
+        let nodes = path.query_unique_within(&document, limits).unwrap();
+        assert_eq!(nodes.len(), wanted, "{most}");
+        assert_eq!(nodes.is_cut_short(), is_cut_short, "{most}");
+    }
+}
+
+#[test]
 fn lists_are_gone_over_from_both_ends() {
     let document = document("[1, 2, 3, 4]");
     let nodes = path("$[*]").query(&document).unwrap();

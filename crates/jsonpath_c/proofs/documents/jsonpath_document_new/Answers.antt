@@ -1,5 +1,3 @@
-use Rattle.std.proofs.Common.{◌≢◌}
-use Rattle.jsonpath_document.specs.declared.document.DocumentFault.TheVariants.{Memory}
 use Rattle.jsonpath_c.proofs.Firsts.{within}
 use Rattle.jsonpath_c.proofs.documents.jsonpath_document_new.Goals as goal
 

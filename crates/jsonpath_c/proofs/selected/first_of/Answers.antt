@@ -1,14 +1,22 @@
-use Rattle.std.proofs.Common.{◌∙◌, map, sym, ap, arith}
-use Rattle.std.proofs.lemmas.List.{length-map, take-map}
+use Rattle.std.proofs.Common.{◌≡◌, ◌+◌, ◌∙◌, ◌∷◌, ◌++◌, List, Ok, false, map, take, drop, sym, ap, subst, arith, rules}
+use Rattle.std.proofs.lemmas.List.{drop_more, map-append, take-append-drop}
 use Rattle.serde_json_path_nodes.specs.Views.{located}
-use Rattle.jsonpath_nodes.specs.Kept.{kept}
-use Rattle.jsonpath_c.proofs.Firsts.{stopped}
+use Rattle.jsonpath_nodes.specs.Kept.{KeptNode}
+use Rattle.jsonpath_c.specs.Handles.{AreFirstNodes}
+use Rattle.jsonpath_c.proofs.Firsts.{cut_within}
 use Rattle.jsonpath_c.proofs.selected.first_of.Goals as goal
 
-pub returns-then-len-most : goal.returns-then-len-most
-returns-then-len-most c =
+pub returns-then-not-branch : goal.returns-then-not-branch
+returns-then-not-branch c =
     let found = c.args.found.now in
     let index = c.loop-node.node-index in
-    let many = length-map found located in
-    stopped c.args.most (map located found) index (located c.node-item.result) c.loop-node.nodes (omega arith)
-    (c.loop-node.invariant.1 ∙ ap (map kept) (sym (take-map located index found))) (omega arith) (omega arith)
+    let node = c.node-item.result in
+    let limits = c.args.limits.now in
+    let later = drop (index + 1) found in
+    let refused : c.push.result ≡ Ok false = search rules in
+    let full = c.push.ensures.full refused in
+    let next : drop index found ≡ node ∷ later = drop_more found index node (omega arith) ∙ ap (λ n. n ∷ later) (sym c.node-item.is) in
+    let all : map located found ≡ map located (take index found) ++ (located node ∷ map located later) =
+    ap (map located) (sym (take-append-drop index found) ∙ ap (λ l. take index found ++ l) next) ∙ map-append located (take index found) (node ∷ later) in
+    subst (λ (list : List KeptNode). AreFirstNodes limits (map located found) list false) (sym full.1)
+    (cut_within limits c.loop-node.filling.left (map located (take index found)) (located node) (map located later) (map located found) c.loop-node.filling.nodes c.loop-node.invariant all full.0)
