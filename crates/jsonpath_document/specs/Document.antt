@@ -1,12 +1,14 @@
 -- Documents from bytes, and places in them.
 use Rattle.std.specs.Prelude.{◌≡◌, ◌==◌, ◌+◌, ◌-◌, ◌++◌, ◌&&◌, ◌||◌, not, ℕ, Bool, true, false, List, [], ◌∷◌}
 use Rattle.std.specs.Prelude.{fold, length, take, drop, codes, nat_eq, nat_le, nat_lt, if◌then◌else◌}
+use Rattle.std.specs.Fmt.{decimal}
 use Rattle.std.specs.List.{starts_with}
 use Rattle.jsonpath_document.specs.declared.document.DocumentError.{DocumentError}
 use Rattle.jsonpath_document.specs.declared.document.DocumentFault.{DocumentFault}
 use Rattle.jsonpath_document.specs.declared.document.DocumentFault.TheVariants.{ByteOrderMark, Empty, CutShort, Comment}
 use Rattle.jsonpath_document.specs.declared.document.DocumentFault.TheVariants.{SingleQuote, NotFinite, TrailingComma}
-use Rattle.jsonpath_document.specs.declared.document.DocumentFault.TheVariants.{Memory}
+use Rattle.jsonpath_document.specs.declared.document.DocumentFault.TheVariants.{NotUtf8, TooDeep, NumberOutOfRange}
+use Rattle.jsonpath_document.specs.declared.document.DocumentFault.TheVariants.{SecondDocument, NotJson, Memory}
 
 -- the byte goes on with a character of UTF-8 that has begun
 abbrev pub is_continuation : ℕ → Bool
@@ -48,6 +50,33 @@ stands NotFinite text = begins_not_finite text
 stands TrailingComma text = begins text (codes ",")
 stands Memory text = false
 stands _ text = true
+
+-- ---- what is told
+
+-- what is met, in words
+abbrev pub message_of : DocumentFault → List ℕ
+message_of ByteOrderMark = codes "a byte order mark, which JSON does not begin with"
+message_of NotUtf8 = codes "a byte that is not UTF-8"
+message_of Empty = codes "no document, the input is empty"
+message_of CutShort = codes "the document ends too soon"
+message_of Comment = codes "a comment, which JSON does not have"
+message_of SingleQuote = codes "a single quote, where JSON has double quotes"
+message_of NotFinite = codes "NaN or Infinity, which JSON does not have"
+message_of TrailingComma = codes "a comma with nothing after it"
+message_of TooDeep = codes "more than 127 levels of arrays and objects"
+message_of NumberOutOfRange = codes "a number that is too large"
+message_of SecondDocument = codes "a second document (is it NDJSON? use -L)"
+message_of NotJson = codes "not JSON"
+message_of Memory = codes "no memory"
+
+-- where a fault is, which refused memory is not told with
+abbrev pub place_of : DocumentFault → ℕ → ℕ → List ℕ
+place_of Memory line column = []
+place_of _ line column = codes "line " ++ (decimal line ++ (codes ", column " ++ (decimal column ++ codes ": ")))
+
+-- where and what, as it is displayed
+abbrev pub error_text : DocumentError → List ℕ
+error_text e = place_of e.fault e.line e.column ++ message_of e.fault
 
 -- ---- how deep a place is
 

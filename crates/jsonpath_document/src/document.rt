@@ -8,7 +8,8 @@ ghost use Rattle.serde_json.specs.View.{view};
 ghost use Rattle.jsonpath_report.specs.Report.{ReadsAs};
 ghost use Rattle.jsonpath_document.specs.Document.{StandsIn, begins, begins_comment};
 ghost use Rattle.jsonpath_document.specs.Document.{begins_not_finite, is_continuation, is_too_deep_after};
-ghost use Rattle.jsonpath_document.specs.Document.{is_too_deep_at, levels_after, open_past, place_after, stands};
+ghost use Rattle.jsonpath_document.specs.Document.{is_too_deep_at, levels_after, message_of, open_past};
+ghost use Rattle.jsonpath_document.specs.Document.{place_after, stands};
 
 use serde_json::{Error, Value};
 use std::alloc::Global;
@@ -59,9 +60,12 @@ pub struct DocumentError {
     pub fault: DocumentFault,
 }
 
-impl fmt::Display for DocumentFault {
-    fn fmt<W: fmt::Write>(&self, f: &mut fmt::Formatter<W>) -> fmt::Result {
-        f.write_str(match self {
+impl DocumentFault {
+    /// The fault in words.
+    fn message(&self) -> &'static str
+        ensures { result.now ≡ message_of self.now }
+    {
+        match self {
             DocumentFault::ByteOrderMark => "a byte order mark, which JSON does not begin with",
             DocumentFault::NotUtf8 => "a byte that is not UTF-8",
             DocumentFault::Empty => "no document, the input is empty",
@@ -75,11 +79,27 @@ impl fmt::Display for DocumentFault {
             DocumentFault::SecondDocument => "a second document (is it NDJSON? use -L)",
             DocumentFault::NotJson => "not JSON",
             DocumentFault::Memory => "no memory",
-        })
+        }
+    }
+}
+
+impl fmt::Display for DocumentFault {
+    ghost use Rattle.std.specs.Prelude.{Some};
+    ghost use Rattle.jsonpath_document.specs.Document.{message_of};
+
+    ghost output = { λ fault. Some (message_of fault) };
+
+    fn fmt<W: fmt::Write>(&self, f: &mut fmt::Formatter<W>) -> fmt::Result {
+        f.write_str(self.message())
     }
 }
 
 impl fmt::Display for DocumentError {
+    ghost use Rattle.std.specs.Prelude.{Some};
+    ghost use Rattle.jsonpath_document.specs.Document.{error_text};
+
+    ghost output = { λ e. Some (error_text e) };
+
     fn fmt<W: fmt::Write>(&self, f: &mut fmt::Formatter<W>) -> fmt::Result {
         if self.fault != DocumentFault::Memory {
             write!(f, "line {}, column {}: ", self.line, self.column)?;
@@ -293,6 +313,7 @@ fn refusal_at(text: &str, error: &Error) -> DocumentError
         ↔ (is_too_deep_at text.now result.position ≡ true) }
 {
     let (before, rest) = split_at_error(text, error);
+    // Of a bracket that goes too deep `serde_json` tells the place right after it.
     let start = before_bracket(before);
     if is_too_deep(text, start.len()) {
         return DocumentError::after(start, DocumentFault::TooDeep);
