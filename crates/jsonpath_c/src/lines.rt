@@ -49,8 +49,8 @@ pub extern "C" fn jsonpath_report(
     size: &mut usize,
     refusal: &mut Refusal,
 ) -> u8
-    ensures { AnswersLines LineForm.LocationAndValue path.now document.now out.old out.new size.old size.new
-        refusal.old refusal.new result }
+    ensures { AnswersLines LineForm.LocationAndValue path.now document.now out.old out.new
+        size.old size.new refusal.old refusal.new result }
 {
     lines(
         alloc,

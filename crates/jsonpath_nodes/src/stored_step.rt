@@ -31,7 +31,8 @@ pub(crate) fn element_of(names: &str, step: StoredStep) -> PathElement<'_>
 pub(crate) fn store(names: &mut String, element: PathElement<'_>) -> Result<StoredStep, AllocError>
     ensures grown { BeginsWith (string_bytes names.new) (string_bytes names.old) }
     ensures stored { IfOk result (IsStored (string_bytes names.new)) }
-    ensures step { IfOk result (λ step. step_in (string_bytes names.new) step ≡ step_view element.entry) }
+    ensures step { IfOk result (λ step.
+        step_in (string_bytes names.new) step ≡ step_view element.entry) }
 {
     match element {
         PathElement::Name(name) => {
