@@ -194,7 +194,8 @@ impl JsonPath {
         self.query_unique_within(document, Limits::NONE)
     }
 
-    /// As [`query_within`](JsonPath::query_within), with each location once, where it comes first.
+    /// As [`query_within`](JsonPath::query_within), with each location once, where it comes first. The query stops soon after
+    /// more nodes differ than the limits allow; the limit of bytes does not stop it.
     ///
     /// ```
     /// # use jsonpath::{Document, JsonPath, Limits};

@@ -1,5 +1,5 @@
 -- The first of some nodes, with another after them.
-use Rattle.std.proofs.Common.{◌≡◌, ◌≤◌, ◌<◌, ◌+◌, ◌∙◌, ◌⊎◌, inl, inr, ℕ, Bool, true, false, List, [], ◌∷◌, ◌++◌, length, map, refl, sym, ap, subst, arith, append_assoc, append-nil, length-append}
+use Rattle.std.proofs.Common.{◌≡◌, ◌≤◌, ◌<◌, ◌+◌, ◌∙◌, ◌⊎◌, inl, inr, ℕ, Bool, false, List, [], ◌∷◌, ◌++◌, length, map, refl, sym, ap, subst, arith, append_assoc, append-nil, length-append}
 use Rattle.std.proofs.lemmas.List.{length_push, map_push}
 use Rattle.std.proofs.lemmas.List.Sums.{sum_by_push}
 use Rattle.serde_json_path_nodes.specs.Location.{Located}
@@ -42,19 +42,6 @@ one_within limits left less shown next list longer are pushed after =
       nodes = omega (arith, are.nodes, after.0, count);
       bytes = omega (arith, are.bytes, after.1, names);
     }
-
--- there is no other node
-pub all_within : (limits left : Limits) (shown all : List Located) (list : List KeptNode) → AreWithin limits left shown list → all ≡ shown → AreFirstNodes limits all list true
-all_within limits left shown all list are is = record {
-  shown = shown;
-  more = [];
-  first = is ∙ sym (append-nil shown);
-  kept = are.same;
-  few = omega (arith, are.nodes);
-  short = omega (arith, are.bytes);
-  complete = λ _. refl;
-  cut = λ e. cc;
-}
 
 beyond : (limits left : Limits) (shown : List Located) (next : Located) (list : List KeptNode) → AreWithin limits left shown list
     → HasNoRoomFor next left → IsNodeBeyond limits shown next

@@ -2,7 +2,6 @@
 
 ghost use Rattle.std.specs.Prelude.{◌≤◌};
 
-use serde_json_path::QueryError;
 use std::alloc::{AllocError, AllocFailed};
 use std::io;
 use std::io::Write;
@@ -62,17 +61,6 @@ impl From<AllocError> for Stop {
     ghost from_gives = { λ _ stop. stop ≡ Memory };
 
     fn from(_e: AllocError) -> Stop {
-        Stop::Memory
-    }
-}
-
-impl From<QueryError> for Stop {
-    ghost use Rattle.std.specs.Prelude.{◌≡◌};
-    ghost use Rattle.jsonpath_query.specs.declared.streams.Stop.TheVariants.{Memory};
-
-    ghost from_gives = { λ _ stop. stop ≡ Memory };
-
-    fn from(_e: QueryError) -> Stop {
         Stop::Memory
     }
 }
