@@ -5,12 +5,12 @@
 //! $['foo']['bar'][0]<tab>"baz"
 //! ```
 //!
-//! `run` of `jsonpath_query` is the program over any inputs and writers; `main` hands in the words, the files and the standard
+//! `run` of `jpq_program` is the program over any inputs and writers; `main` hands in the words, the files and the standard
 //! streams.
 #![tactic(auto)]
 
-use jsonpath_query::inputs::Inputs;
-use jsonpath_query::run::run;
+use jpq_program::inputs::Inputs;
+use jpq_program::run::run;
 use std::fs::File;
 use std::io::{IsTerminal, Read, Stdin};
 use std::process::ExitCode;

@@ -5,11 +5,11 @@
 //! $['foo']['bar'][0]<tab>"baz"
 //! ```
 //!
-//! `run` of `jsonpath_report` is the program over any streams; `main` hands in the words and the standard streams.
+//! `run` of `jsonpath_program` is the program over any streams; `main` hands in the words and the standard streams.
 #![tactic(auto)]
 
-use jsonpath_report::arguments::words_after_first;
-use jsonpath_report::run::run;
+use jsonpath_program::arguments::words_after_first;
+use jsonpath_program::run::run;
 use std::env;
 use std::process::ExitCode;
 

@@ -3,7 +3,7 @@ use Rattle.std.proofs.Common.{◌≡◌, ◌≤◌, ◌<◌, ◌+◌, ◌∙◌,
 use Rattle.std.proofs.lemmas.List.{length_push, map_push}
 use Rattle.std.proofs.lemmas.List.Sums.{sum_by_push}
 use Rattle.serde_json_path_nodes.specs.Location.{Located}
-use Rattle.jsonpath_nodes.specs.Kept.{KeptNode, kept}
+use Rattle.jsonpath_owned_nodes.specs.Kept.{KeptNode, kept}
 use Rattle.jsonpath_c.specs.Handles.{AreFirstNodes, IsNodeBeyond, all_name_bytes, name_bytes}
 use Rattle.jsonpath_c.specs.Inside.{AreEnough, HasNoRoomFor, IsLeftAfter}
 use Rattle.jsonpath_c.specs.declared.limits.Limits.{Limits}

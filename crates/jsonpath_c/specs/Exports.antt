@@ -12,8 +12,8 @@ use Rattle.serde_json_path_parser.specs.declared.error.ParseError.{ParseError}
 use Rattle.serde_json_path_parser.specs.declared.error.ParseErrorKind.{ParseErrorKind}
 use Rattle.serde_json_path_parser.specs.declared.error.ParseErrorKind.TheVariants.{ExpectedRoot, BadMemberName, ExpectedClosingBracket, ExpectedEndingQuote, BadEscape, ControlCharacter, ExpectedSelector, IntegerOutOfRange, ExponentOrEmptyFraction, NumberOutOfRange, ExpectedExpression, ExpectedClosingParenthesis, ExpectedComparisonOperator, NonSingularQuery, UndefinedFunction, WrongNumberOfArguments, WrongArgumentType, WrongReturnType, NestedTooDeep, TextAfterPath, FractionTooLong, NoMemory}
 use Rattle.serde_json_path_hints.specs.Hints.{hint_of}
-use Rattle.jsonpath_report.specs.Report.{ReadsAs, IsNoPath, CallsByPatternOn, IsReportIn}
-use Rattle.jsonpath_report.specs.declared.report.LineForm.{LineForm}
+use Rattle.jsonpath_program.specs.Report.{ReadsAs, IsNoPath, CallsByPatternOn, IsReportIn}
+use Rattle.jsonpath_program.specs.declared.report.LineForm.{LineForm}
 use Rattle.jsonpath_c.specs.declared.refusal.Refusal.{Refusal}
 
 -- A text is put: it is the first bytes of what is there then, the others are as before, and the size is its own.

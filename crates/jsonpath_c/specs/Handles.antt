@@ -15,14 +15,14 @@ use Rattle.serde_json_path_functions.specs.Terms.{numbers_view}
 use Rattle.serde_json_path_nodes.specs.Lists.{first_places}
 use Rattle.serde_json_path_nodes.specs.Location.{Located, Step, by_name, by_position, at}
 use Rattle.serde_json_path_nodes.specs.Text.{normal, pointer}
-use Rattle.jsonpath_nodes.specs.Kept.{KeptNode, kept, location_of}
-use Rattle.jsonpath_nodes.specs.declared.node_info.NodeInfo.{NodeInfo}
-use Rattle.jsonpath_nodes.specs.declared.node_info.NodeInfo.TheVariants.{Null, False, True, Integer, Unsigned, Double, String, Array, Object}
+use Rattle.jsonpath_owned_nodes.specs.Kept.{KeptNode, kept, location_of}
+use Rattle.jsonpath_owned_nodes.specs.declared.node_info.NodeInfo.{NodeInfo}
+use Rattle.jsonpath_owned_nodes.specs.declared.node_info.NodeInfo.TheVariants.{Null, False, True, Integer, Unsigned, Double, String, Array, Object}
 use Rattle.serde_json_path_parser.specs.Accepted.{IsAccepted}
-use Rattle.jsonpath_report.specs.Report.{AreLinesIn, IsLineIn}
-use Rattle.jsonpath_report.specs.Ruled.{with_rule}
-use Rattle.jsonpath_report.specs.declared.report.LineForm.{LineForm}
-use Rattle.jsonpath_report.specs.declared.report.LineForm.TheVariants.{LocationAndValue, Location, Value}
+use Rattle.jsonpath_program.specs.Report.{AreLinesIn, IsLineIn}
+use Rattle.jsonpath_program.specs.Ruled.{with_rule}
+use Rattle.jsonpath_program.specs.declared.report.LineForm.{LineForm}
+use Rattle.jsonpath_program.specs.declared.report.LineForm.TheVariants.{LocationAndValue, Location, Value}
 use Rattle.jsonpath_c.specs.Exports.{IsPut, FindsNoRoom}
 use Rattle.jsonpath_c.specs.declared.compiled.Compiled.{Compiled}
 use Rattle.jsonpath_c.specs.declared.handle.document.Document.{Document}

@@ -14,7 +14,7 @@ use crate::limits::Limits;
 use crate::put::put;
 use crate::status::{CUT_SHORT, DONE, EMPTY_HANDLE, NO_MEMORY, QUERY_REFUSED};
 use crate::walks::walk;
-use jsonpath_report::report::LineForm;
+use jsonpath_program::report::LineForm;
 use serde_json_path::QueryError;
 use serde_json_path::functions::PatternStore;
 use std::alloc::Global;

@@ -6,7 +6,7 @@ ghost use Rattle.serde_json_path_core.specs.Walks.{document_of, query_of, rest, 
 ghost use Rattle.jsonpath_c.specs.Handles.{AreFirstLines};
 
 use crate::limits::Limits;
-use jsonpath_report::report::{LineForm, push_line};
+use jsonpath_program::report::{LineForm, push_line};
 use serde_json_path::functions::Functions;
 use serde_json_path::{QueryError, Walk};
 use std::alloc::Global;

@@ -3,12 +3,12 @@
 ghost use Rattle.std.specs.Prelude.{◌≡◌, ◌<◌, ◌+◌, ◌++◌, ◌∷◌, [], Ok, true, false};
 ghost use Rattle.std.specs.Option.{MatchOption};
 ghost use Rattle.serde_json_path_nodes.specs.Views.{located};
-ghost use Rattle.jsonpath_nodes.specs.Kept.{kept};
+ghost use Rattle.jsonpath_owned_nodes.specs.Kept.{kept};
 ghost use Rattle.jsonpath_c.specs.Handles.{name_bytes};
 ghost use Rattle.jsonpath_c.specs.Inside.{HasNoRoomFor, IsLeftAfter};
 
 use crate::limits::Limits;
-use jsonpath_nodes::OwnedNodes;
+use jsonpath_owned_nodes::OwnedNodes;
 use serde_json_path::{LocatedNode, NormalizedPath, PathElement};
 use std::alloc::{AllocError, Global};
 

@@ -5,7 +5,7 @@ ghost use Rattle.jsonpath_c.specs.Exports.{AnswersLines};
 use crate::put::put;
 use crate::refusal::{Refusal, refuse};
 use crate::status::{DOCUMENT_REFUSED, NO_MEMORY, NOT_UTF8, QUERY_REFUSED};
-use jsonpath_report::report::{DocumentError, LineForm, ReportError, report_in};
+use jsonpath_program::report::{DocumentError, LineForm, ReportError, report_in};
 use serde_json_path::QueryError;
 use serde_json_path::functions::{CachedPatterns, PatternStore};
 use std::alloc::Global;

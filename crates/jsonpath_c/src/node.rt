@@ -3,7 +3,7 @@
 ghost use Rattle.std.specs.Prelude.{◌≡◌};
 ghost use Rattle.jsonpath_c.specs.Handles.{told_of, told_of_kind};
 
-use jsonpath_nodes::NodeInfo;
+use jsonpath_owned_nodes::NodeInfo;
 
 /// What is known of a node without its document: `struct jsonpath_node`. What its kind does not have is 0.
 #[repr(C)]

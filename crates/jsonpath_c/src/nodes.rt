@@ -3,7 +3,7 @@
 ghost use Rattle.std.specs.Prelude.{◌≡◌, ◌≢◌, ◌⊎◌, ◌↔◌, List, None, Err, IfOk, length, slice_get, true, false};
 ghost use Rattle.std.specs.Option.{MatchOption};
 ghost use Rattle.serde_json_path_nodes.specs.Location.{Located};
-ghost use Rattle.jsonpath_nodes.specs.Kept.{known_of};
+ghost use Rattle.jsonpath_owned_nodes.specs.Kept.{known_of};
 ghost use Rattle.jsonpath_c.specs.Handles.{AreFirstNodes, BothHold, CallsByPatternFrom, HasNode, SelectsFrom, asked_of, told_of};
 
 use crate::answers::status_of;

@@ -10,7 +10,7 @@ ghost use Rattle.jsonpath_c.specs.Handles.{AreFirstNodes};
 use crate::distinct::distinct_nodes;
 use crate::filling::Filling;
 use crate::limits::Limits;
-use jsonpath_nodes::OwnedNodes;
+use jsonpath_owned_nodes::OwnedNodes;
 use serde_json_path::functions::Functions;
 use serde_json_path::{LocatedNode, QueryError, Walk};
 use std::alloc::{AllocError, Global};

@@ -5,7 +5,7 @@ ghost use Rattle.std.specs.Prelude.{false, length, true};
 ghost use Rattle.std.specs.Str.{IsUtf8};
 ghost use Rattle.serde_json.specs.Data.{Data};
 ghost use Rattle.serde_json.specs.View.{view};
-ghost use Rattle.jsonpath_report.specs.Report.{ReadsAs};
+ghost use Rattle.jsonpath_program.specs.Report.{ReadsAs};
 ghost use Rattle.jsonpath_document.specs.Document.{StandsIn, begins, begins_comment};
 ghost use Rattle.jsonpath_document.specs.Document.{begins_not_finite, is_continuation, is_too_deep_after};
 ghost use Rattle.jsonpath_document.specs.Document.{is_too_deep_at, levels_after, message_of, open_past};

@@ -3,11 +3,11 @@
 ghost use Rattle.std.specs.Prelude.{◌≡◌, Option, Some, None};
 ghost use Rattle.std.specs.Coded.{coded_option};
 ghost use Rattle.std.specs.Option.{MatchOption};
-ghost use Rattle.loose_box.specs.Held.{held};
+ghost use Rattle.nullable_box.specs.Held.{held};
 ghost use Rattle.jsonpath_c.specs.contracts.handle.document.Document.{the_row};
 ghost use Rattle.jsonpath_c.specs.declared.handle.document.Document.{Document};
 
-use loose_box::NullableBox;
+use nullable_box::NullableBox;
 use serde_json::Value;
 use std::alloc::Global;
 use std::marker::Model;

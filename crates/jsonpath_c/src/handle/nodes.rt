@@ -3,12 +3,12 @@
 ghost use Rattle.std.specs.Prelude.{◌≡◌, Option, Some, None};
 ghost use Rattle.std.specs.Coded.{coded_option};
 ghost use Rattle.std.specs.Option.{MatchOption};
-ghost use Rattle.loose_box.specs.Held.{held};
+ghost use Rattle.nullable_box.specs.Held.{held};
 ghost use Rattle.jsonpath_c.specs.contracts.handle.nodes.Nodes.{the_row};
 ghost use Rattle.jsonpath_c.specs.declared.handle.nodes.Nodes.{Nodes};
 
-use jsonpath_nodes::OwnedNodes;
-use loose_box::NullableBox;
+use jsonpath_owned_nodes::OwnedNodes;
+use nullable_box::NullableBox;
 use std::alloc::Global;
 use std::marker::Model;
 use std::mem::replace;

@@ -3,12 +3,12 @@
 ghost use Rattle.std.specs.Prelude.{◌≡◌, Option, Some, None};
 ghost use Rattle.std.specs.Coded.{coded_option};
 ghost use Rattle.std.specs.Option.{MatchOption};
-ghost use Rattle.loose_box.specs.Held.{held};
+ghost use Rattle.nullable_box.specs.Held.{held};
 ghost use Rattle.jsonpath_c.specs.contracts.compiled.Compiled.{the_row};
 ghost use Rattle.jsonpath_c.specs.declared.compiled.Compiled.{Compiled};
 
 use crate::compiled::Compiled;
-use loose_box::NullableBox;
+use nullable_box::NullableBox;
 use std::alloc::Global;
 use std::marker::Model;
 use std::mem::replace;

@@ -2,8 +2,8 @@ use Rattle.std.proofs.Common.{◌≡◌, ◌+◌, ◌∙◌, [], ◌∷◌, ◌+
 use Rattle.std.proofs.lemmas.List.{length_push}
 use Rattle.serde_json_path_nodes.specs.Views.{located}
 use Rattle.serde_json_path_core.specs.Walks.{rest}
-use Rattle.jsonpath_report.specs.Report.{AreLinesIn}
-use Rattle.jsonpath_report.proofs.Lines.{lines_pushed}
+use Rattle.jsonpath_program.specs.Report.{AreLinesIn}
+use Rattle.jsonpath_program.proofs.Lines.{lines_pushed}
 use Rattle.jsonpath_c.proofs.Firsts.{given_further}
 use Rattle.jsonpath_c.proofs.bounded.first_lines.Goals as goal
 

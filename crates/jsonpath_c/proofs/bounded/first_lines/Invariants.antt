@@ -1,7 +1,7 @@
 use Rattle.std.proofs.Common.{◌≡◌, ◌≤◌, List, ◌++◌, length, string_bytes}
 use Rattle.serde_json_path_nodes.specs.Location.{Located}
 use Rattle.serde_json_path_core.specs.Walks.{document_of, query_of, rest, set_of, steps_of}
-use Rattle.jsonpath_report.specs.Report.{AreLinesIn}
+use Rattle.jsonpath_program.specs.Report.{AreLinesIn}
 use Rattle.jsonpath_c.proofs.bounded.first_lines.Given as goal
 
 abbrev pub invariant-nodes : goal.invariant-nodes

@@ -2,9 +2,9 @@ use Rattle.std.proofs.Common.{◌≡◌, ◌⊎◌, ℕ, Err, rules, sym, ◌∙
 use Rattle.std.specs.Str.{IsUtf8}
 use Rattle.serde_json_path_functions.specs.Patterns.{builtin_functions}
 use Rattle.serde_json_path_functions.specs.declared.error.QueryError.TheVariants.{Pattern}
-use Rattle.jsonpath_report.specs.Report.{CallsByPatternOn, IsNoPath, IsReportIn}
-use Rattle.jsonpath_report.specs.declared.report.DocumentError.TheVariants.{NotJson}
-use Rattle.jsonpath_report.specs.declared.report.ReportError.TheVariants.{Path, Document, Query}
+use Rattle.jsonpath_program.specs.Report.{CallsByPatternOn, IsNoPath, IsReportIn}
+use Rattle.jsonpath_program.specs.declared.report.DocumentError.TheVariants.{NotJson}
+use Rattle.jsonpath_program.specs.declared.report.ReportError.TheVariants.{Path, Document, Query}
 use Rattle.jsonpath_c.specs.Exports.{IsReportedWith}
 use Rattle.serde_json_path_functions.proofs.Sets.{before_itself}
 use Rattle.jsonpath_c.proofs.lines.lines.Goals as goal

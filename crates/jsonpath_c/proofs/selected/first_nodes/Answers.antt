@@ -1,7 +1,7 @@
 use Rattle.std.proofs.Common.{◌≡◌, ◌∙◌, List, [], ◌∷◌, ◌++◌, Ok, true, false, sym, ap, subst, rules}
 use Rattle.serde_json_path_nodes.specs.Views.{located}
 use Rattle.serde_json_path_core.specs.Walks.{rest}
-use Rattle.jsonpath_nodes.specs.Kept.{KeptNode}
+use Rattle.jsonpath_owned_nodes.specs.Kept.{KeptNode}
 use Rattle.jsonpath_c.specs.Handles.{AreFirstNodes}
 use Rattle.jsonpath_c.proofs.Firsts.{cut_within, given_further, one_within}
 use Rattle.jsonpath_c.proofs.selected.first_nodes.Goals as goal

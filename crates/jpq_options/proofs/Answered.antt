@@ -1,0 +1,96 @@
+-- What is answered, by what was found or by what `clap` says.
+use Rattle.std.proofs.Common.{◌≡◌, ◌∙◌, ◌⊎◌, ◌&&◌, inl, inr, Bool, true, false, not, cond, List, [], ◌∷◌, map, Option, Some, None, is_some, option_map, refl, sym, ap, ap₂, subst}
+use Rattle.std.proofs.Common.{Result, Ok, Err, IfOk, IsErr}
+use Rattle.std.specs.declared.alloc.AllocError.{AllocError}
+use Rattle.std.specs.List.{filter}
+use Rattle.std.specs.Borrow.{Bor}
+use Rattle.std.proofs.lemmas.List.{length-map}
+use Rattle.clap.specs.Walk.{is_empty}
+use Rattle.clap.specs.Words.{App, IsAmong, Kinds, Row, Text, fault_of, is_simple, is_simple_and_free, matches_of}
+use Rattle.clap.specs.declared.builder.value_parser.ValueParser.{ValueParser}
+use Rattle.clap.specs.declared.error.kind.ErrorKind.{ErrorKind}
+use Rattle.clap.specs.declared.error.kind.ErrorKind.TheVariants.{ArgumentConflict, OutOfMemory}
+use Rattle.clap.proofs.OnLiterals.{clap_on_literals}
+use Rattle.jpq_options.specs.Table.{jpq}
+use Rattle.jpq_options.specs.Options.{Answers, AreOptions, IsRefusal, IsTold, checks_file, form_of_row, forms, given_forms, has_two, is_given}
+use Rattle.jpq_options.specs.Options.{is_request, lacks_lines, lacks_path, misuse_by, misuse_in, texts}
+use Rattle.jsonpath_lines.specs.declared.forms.Form.{Form}
+use Rattle.jpq_options.specs.declared.options.Options.{Options}
+use Rattle.jpq_options.specs.declared.options.Asked.{Asked}
+use Rattle.jpq_options.specs.declared.options.Asked.TheVariants.{Run, Print, WrongUse}
+
+-- ---- forms
+
+map-filter : {X Y : Type 0} (h : X → Y) (q : Y → Bool) (xs : List X) → map h (filter (λ x. q (h x)) xs) ≡ filter q (map h xs)
+map-filter h q [] = refl
+map-filter h q (x ∷ xs) = go (q (h x)) (map-filter h q xs)
+  where
+    go : (b : Bool) → map h (filter (λ y. q (h y)) xs) ≡ filter q (map h xs)
+        → map h (cond b (x ∷ filter (λ y. q (h y)) xs) (filter (λ y. q (h y)) xs)) ≡ cond b (h x ∷ filter q (map h xs)) (filter q (map h xs))
+    go true e = ap (λ ys. h x ∷ ys) e
+    go false e = e
+
+pub given_are : (rows : List Row) (all given : List (Bor Text × Form)) → given ≡ filter (λ f. is_given f.0.now rows) all → map form_of_row all ≡ forms
+    → map form_of_row given ≡ given_forms forms rows
+given_are rows all given is are =
+    ap (map form_of_row) is ∙ map-filter form_of_row (λ f. is_given f.0 rows) all ∙ ap (λ fs. given_forms fs rows) are
+
+-- ---- misuse
+
+empty_texts : (xs : List (Bor Text)) → is_empty xs ≡ is_empty (texts xs)
+empty_texts xs = simp length-map
+
+some_text : (o : Option (Bor Text)) → is_some o ≡ is_some (option_map (λ s. s.now) o)
+some_text None = refl
+some_text (Some s) = refl
+
+pub misuse_is : (rows : List Row) (shown : Form) (o : Options) → AreOptions rows shown o → has_two (given_forms forms rows) ≡ false
+    → misuse_by (is_empty o.paths.items && not (is_some o.paths_file)) (o.check && not (is_empty o.files.items)) (o.strict && not o.lines) ≡ misuse_in rows
+misuse_is rows shown o are one =
+    let path : (is_empty o.paths.items && not (is_some o.paths_file)) ≡ lacks_path rows =
+    ap₂ (λ a b. a && not b) (empty_texts o.paths.items ∙ ap is_empty are.paths) (some_text o.paths_file ∙ ap is_some are.paths_file) in
+    let file : (o.check && not (is_empty o.files.items)) ≡ checks_file rows =
+    ap₂ (λ a b. a && not b) are.check (empty_texts o.files.items ∙ ap is_empty are.files) in
+    let lines : (o.strict && not o.lines) ≡ lacks_lines rows = ap₂ (λ a b. a && not b) are.strict are.lines in
+    ap₂ (λ a b. misuse_by a b (o.strict && not o.lines)) path file ∙ ap (misuse_by (lacks_path rows) (checks_file rows)) lines
+    ∙ sym (ap (λ b. cond b (Some ArgumentConflict) (misuse_by (lacks_path rows) (checks_file rows) (lacks_lines rows))) one)
+
+pub two_forms : (rows : List Row) → has_two (given_forms forms rows) ≡ true → Some ArgumentConflict ≡ misuse_in rows
+two_forms rows two = sym (ap (λ b. cond b (Some ArgumentConflict) (misuse_by (lacks_path rows) (checks_file rows) (lacks_lines rows))) two)
+
+pub refusal : (rows : List Row) (kind : ErrorKind) (a : Asked) → Some kind ≡ misuse_in rows → IsRefusal kind a → Answers [] rows a
+refusal rows kind (Run o) is r = absurd r
+refusal rows kind (Print text) is r = absurd r
+refusal rows kind (WrongUse told text) is r = inr (refl, sym is ∙ ap Some (sym r))
+
+-- ---- what `clap` says
+
+told_one : (kind : ErrorKind) (faults : Kinds) (rows : List Row) (a : Asked) → IsAmong kind faults → IsTold kind a → Answers faults rows a
+told_one kind faults rows (Run o) among told = absurd told
+told_one kind faults rows (Print text) among told = (kind, among, told)
+told_one kind faults rows (WrongUse k text) among told =
+    inl (subst (λ (x : ErrorKind). IsAmong x faults) (sym told.0) among, subst (λ (x : ErrorKind). is_request x ≡ false) (sym told.0) told.1)
+
+pub told_answers : (kind : ErrorKind) (faults : Kinds) (rows : List Row) (r : Result Asked AllocError) → (kind ≡ OutOfMemory) ⊎ IsAmong kind faults
+    → (kind ≡ OutOfMemory → IsErr r) → IfOk r (IsTold kind) → IfOk r (Answers faults rows)
+told_answers kind faults rows (Err e) by memory told = tt
+told_answers kind faults rows (Ok a) (inl out) memory told = let no = memory out in absurd cc
+told_answers kind faults rows (Ok a) (inr among) memory told = told_one kind faults rows a among told
+
+-- ---- the command
+
+jpq_is_simple : (colors : ValueParser) → is_simple (jpq colors) ≡ true
+unfolding clap_on_literals
+jpq_is_simple colors = refl
+
+pub jpq_is_free : (colors : ValueParser) → is_simple_and_free (jpq colors) ≡ true
+unfolding clap_on_literals
+jpq_is_free colors = refl
+
+pub found_answers : (colors : ValueParser) (app : App) (words : List Text) (rows : List Row) (a : Asked) → app ≡ jpq colors
+    → (is_simple app ≡ true → rows ≡ matches_of app words) → (is_simple_and_free app ≡ true → fault_of app words ≡ []) → Answers [] rows a
+    → Answers (fault_of (jpq colors) words) (matches_of (jpq colors) words) a
+found_answers colors app words rows a is simple free answers =
+    let rows_are : rows ≡ matches_of (jpq colors) words = simple (ap is_simple is ∙ jpq_is_simple colors) ∙ ap (λ (x : App). matches_of x words) is in
+    let faults_are : [] ≡ fault_of (jpq colors) words = sym (free (ap is_simple_and_free is ∙ jpq_is_free colors)) ∙ ap (λ (x : App). fault_of x words) is in
+    subst (λ (f : Kinds). Answers f (matches_of (jpq colors) words) a) faults_are (subst (λ (rs : List Row). Answers [] rs a) rows_are answers)

@@ -1,0 +1,35 @@
+-- What `clap` reads of a command as it is built.
+use Rattle.std.proofs.Common.{◌≡◌, ◌∙◌, ◌<◌, true, codes, refl, ◌+◌, ℕ, List, [], ◌∷◌, map, fold, take, length, get_or, ap, sym}
+use Rattle.std.proofs.Common.{ap₂}
+use Rattle.std.proofs.lemmas.List.{map_more}
+use Rattle.std.proofs.lemmas.List.Sums.{fold-append}
+use Rattle.clap.specs.Words.{App, Rule, new_app, with_rule}
+use Rattle.clap.specs.Simple.{on_top}
+use Rattle.clap.specs.declared.builder.value_parser.ValueParser.{ValueParser}
+use Rattle.jpq_options.specs.Table.{file_rule, jpq, path_rule, rule_of_setting, setting_of, settings}
+use Rattle.jpq_options.specs.declared.options.OptionRow.{OptionRow}
+
+abbrev pub rule_of_row : ValueParser → OptionRow → Rule
+rule_of_row colors row = rule_of_setting colors (setting_of row)
+
+-- one more option
+pub options_more : (colors : ValueParser) (app now new : App) (rows : List OptionRow) (i : ℕ) (d : OptionRow) (r : Rule) → i < length rows
+    → now ≡ fold with_rule app (map (rule_of_row colors) (take i rows)) → r ≡ rule_of_row colors (get_or rows i d) → new ≡ with_rule now r
+    → new ≡ fold with_rule app (map (rule_of_row colors) (take (i + 1) rows))
+options_more colors app now new rows i d r lt before rule shape =
+    shape ∙ ap₂ with_rule before rule
+    ∙ sym (ap (fold with_rule app) (map_more (rule_of_row colors) rows i d lt)
+    ∙ fold-append with_rule app (map (rule_of_row colors) (take i rows)) (rule_of_row colors (get_or rows i d) ∷ []))
+
+-- the command before its arguments
+abbrev pub base : App
+base = on_top (λ s. record s { has_version = true }) (new_app (codes "jpq"))
+
+map-rows : (colors : ValueParser) (rows : List OptionRow) → map (rule_of_row colors) rows ≡ map (rule_of_setting colors) (map setting_of rows)
+map-rows colors [] = refl
+map-rows colors (r ∷ rs) = ap (λ rules. rule_of_row colors r ∷ rules) (map-rows colors rs)
+
+pub whole_table : (colors : ValueParser) (app : App) (rows : List OptionRow) → app ≡ with_rule (with_rule base path_rule) file_rule → map setting_of rows ≡ settings
+    → fold with_rule app (map (rule_of_row colors) rows) ≡ jpq colors
+whole_table colors app rows app_is rows_are =
+    ap₂ (fold with_rule) app_is (map-rows colors rows ∙ ap (map (rule_of_setting colors)) rows_are)

@@ -1,0 +1,16 @@
+use Rattle.std.proofs.Common.{arith, rules, tests}
+use Rattle.std.proofs.lemmas.Iterator.{YieldsList-from_map_by}
+use Rattle.std.proofs.lemmas.Iterator.Consumers.{YieldsList-at, YieldsList-from_filter, map_from_collect}
+use Rattle.std.proofs.lemmas.Iterator.Splits.{YieldsList-from_str_split}
+use Rattle.std.specs.Str.Lines.{strip_carriage_return}
+use Rattle.jpq_options.specs.Paths.{is_path_line}
+use Rattle.jpq_options.proofs.options.paths_in.Goals as goal
+
+pub returns : goal.returns
+returns c = map_from_collect _ c.collect.ensures.ran
+    (YieldsList-from_filter _ is_path_line
+    (YieldsList-at c.filter.ensures.source
+    (YieldsList-from_map_by _ (λ s. s.now) strip_carriage_return
+    (YieldsList-at c.map.ensures.source (YieldsList-from_str_split 10 c.args.text.now (omega arith) c.split.ensures.text c.split.ensures.has_more c.split.ensures.pattern))
+    c.map.ensures.closure (λ x r q k. search (rules, tests))))
+    c.filter.ensures.closure (λ x b q k. search (rules, tests)))

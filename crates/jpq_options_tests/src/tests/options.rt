@@ -1,0 +1,235 @@
+//! Command lines, and what they ask for.
+
+use jpq_options::options::{Asked, Color, Options, command, read};
+use jsonpath_lines::{Form, Layout, LineEnd};
+use serde_json_path_core_tests::rows::{Table, hold_rows};
+use std::alloc::{AllocError, Global};
+use std::test::Fail;
+
+/// The words after the program's name, and the paths, files and settings that they ask for.
+const ASKED: &[&str] = &[
+    "$.a -> $.a",
+    "$.a x.json - y.json -> $.a, of x.json, of -, of y.json",
+    "-v $.a -> $.a, Value",
+    "--values $.a -> $.a, Value",
+    "-r $.a -> $.a, Raw",
+    "--raw $.a -> $.a, Raw",
+    "-l $.a -> $.a, Location",
+    "--locations $.a -> $.a, Location",
+    "-p $.a -> $.a, Pointer",
+    "--pointers $.a -> $.a, Pointer",
+    "-j $.a -> $.a, Json",
+    "--json $.a -> $.a, Json",
+    "-c $.a -> $.a, Count",
+    "--count $.a -> $.a, Count",
+    "-q $.a -> $.a, Nothing",
+    "--quiet $.a -> $.a, Nothing",
+    "--pretty $.a -> $.a, pretty",
+    "-0 $.a -> $.a, NUL",
+    "--null $.a -> $.a, NUL",
+    "-n 3 $.a -> $.a, most 3",
+    "-n3 $.a -> $.a, most 3",
+    "--max=0 $.a -> $.a, most 0",
+    "--max 18446744073709551615 $.a -> $.a, most 18446744073709551615",
+    "-u $.a -> $.a, unique",
+    "--unique $.a -> $.a, unique",
+    "-L $.a -> $.a, lines",
+    "--lines --strict $.a -> $.a, lines, strict",
+    "--check $.a -> $.a, check",
+    "--whole-numbers $.a -> $.a, whole numbers",
+    "-s $.a -> $.a, silent",
+    "--silent $.a -> $.a, silent",
+    "--color=auto $.a -> $.a",
+    "--color=always $.a -> $.a, colors Always",
+    "--color never $.a -> $.a, colors Never",
+    "-e $.a -> $.a",
+    "-e $.a -e $.b x.json y.json -> $.a, $.b, of x.json, of y.json",
+    "--expression=$.a --expression $.b -> $.a, $.b",
+    "-f paths -> , from paths",
+    "--from-file=paths x.json -> , from paths, of x.json",
+    "-e $.a -f paths x.json -> $.a, from paths, of x.json",
+    "-vun2 $.a x.json -> $.a, of x.json, Value, most 2, unique",
+    "$.a x.json -Lv0 -> $.a, of x.json, Value, NUL, lines",
+    "-- -a -b -> -a, of -b",
+    "-e $.a --check -> $.a, check",
+];
+
+/// The words after the program's name, and the fault that is told of them.
+const WRONG: &[&str] = &[
+    "-v -l $.a -> ArgumentConflict: error: the argument '--values' cannot be used with '--locations'",
+    "-lv $.a -> ArgumentConflict: error: the argument '--values' cannot be used with '--locations'",
+    "-q -c -j $.a -> ArgumentConflict: error: the argument '--json' cannot be used with '--count'",
+    "-v -v $.a -> ArgumentConflict: error: the argument '--values' cannot be used multiple times",
+    "-n 1 -n 2 $.a -> ArgumentConflict: error: the argument '--max <N>' cannot be used multiple times",
+    "--strict $.a -> MissingRequiredArgument: error: the following required arguments were not provided:\n  --lines",
+    "--check $.a x.json -> ArgumentConflict: error: the argument '--check' cannot be used with '[FILE]...'",
+    "--check -e $.a x.json -> ArgumentConflict: error: the argument '--check' cannot be used with '[FILE]...'",
+    "-v -> MissingRequiredArgument: error: the following required arguments were not provided:\n  <PATH>",
+    "-n x $.a -> ValueValidation: error: invalid value 'x' for '--max <N>': invalid digit found in string",
+    "-n=-1 $.a -> ValueValidation: error: invalid value '-1' for '--max <N>': invalid digit found in string",
+    "-n 18446744073709551616 $.a -> ValueValidation: error: invalid value '18446744073709551616' for '--max <N>': number too large to fit in target type",
+    "--color=blue $.a -> InvalidValue: error: invalid value 'blue' for '--color <WHEN>'\n  [possible values: auto, always, never]",
+    "--colour $.a -> UnknownArgument: error: unexpected argument '--colour' found",
+    "-x $.a -> UnknownArgument: error: unexpected argument '-x' found",
+    "$.a -n -> InvalidValue: error: a value is required for '--max <N>' but none was supplied",
+    "--values=1 $.a -> TooManyValues: error: unexpected value '1' for '--values' found; no more were expected",
+];
+
+/// The text that `--help` prints.
+const HELP: &str = concat!(
+    "Prints the nodes of JSON documents that a JSONPath (RFC 9535) selects\n",
+    "\n",
+    "Usage: jpq [OPTIONS] PATH [FILE]...\n",
+    "\n",
+    "Arguments:\n",
+    "  [PATH]     The path; a file of documents where -e or -f is used\n",
+    "  [FILE]...  Files of documents; standard input where there is none, and for -\n",
+    "\n",
+    "Options:\n",
+    "  -v, --values             Print values alone\n",
+    "  -r, --raw                Print values alone, and strings without quotes\n",
+    "  -l, --locations          Print normalised paths alone\n",
+    "  -p, --pointers           Print JSON pointers (RFC 6901) alone\n",
+    "  -j, --json               Print one JSON array of objects with a path and a value\n",
+    "  -c, --count              Print how many nodes are selected\n",
+    "  -q, --quiet              Print nothing\n",
+    "      --pretty             Indent values\n",
+    "  -0, --null               End lines by a NUL in place of a line feed\n",
+    "  -n, --max <N>            Print at most N nodes of a document for each path\n",
+    "  -u, --unique             Print each location once\n",
+    "  -L, --lines              Read each line as a document (NDJSON)\n",
+    "      --strict             With --lines, stop at a line that is not JSON\n",
+    "      --check              Read no document, and print each path in its canonical form\n",
+    "      --whole-numbers      Let a number that is not held as an integer equal nothing\n",
+    "  -s, --silent             Give no hints\n",
+    "      --color <WHEN>       When to use colours [default: auto] [possible values: auto, always, never]\n",
+    "  -e, --expression <PATH>  Select by this path; may be used several times\n",
+    "  -f, --from-file <FILE>   Select by the paths of a file, one on each line; '#' begins a comment\n",
+    "  -h, --help               Print help\n",
+    "  -V, --version            Print version\n",
+    "\n",
+    "Exit status: 0 something was selected, 1 nothing was selected, 2 a path, a document, a file or a query\n",
+    "was refused, 3 the output failed, 64 wrong use\n"
+);
+
+/// Appends a text where it holds.
+fn push_where(text: &mut String, is_so: bool, what: &str) -> Result<(), AllocError> {
+    if is_so {
+        text.push_str(what)?;
+    }
+    Ok(())
+}
+
+/// Some words, each after a title but for the first word, which may be without.
+fn joined(alloc: Global, first: &str, title: &str, words: &[&str]) -> Result<String, AllocError> {
+    let mut text = String::new(alloc);
+    for (index, word) in words.iter().enumerate() {
+        let before = if index == 0 { first } else { title };
+        write!(&mut text, "{before}{word}")?;
+    }
+    Ok(text)
+}
+
+/// The settings that are not those of a command line without options.
+fn settings(alloc: Global, options: &Options<'_>) -> Result<String, AllocError> {
+    let mut text = String::new(alloc);
+    if options.form != Form::LocationAndValue {
+        write!(&mut text, ", {:?}", options.form)?;
+    }
+    if let Some(most) = options.most {
+        write!(&mut text, ", most {most}")?;
+    }
+    if options.color != Color::Auto {
+        write!(&mut text, ", colors {:?}", options.color)?;
+    }
+    push_where(&mut text, options.layout == Layout::Pretty, ", pretty")?;
+    push_where(&mut text, options.end == LineEnd::Nul, ", NUL")?;
+    push_where(&mut text, options.unique, ", unique")?;
+    push_where(&mut text, options.lines, ", lines")?;
+    push_where(&mut text, options.strict, ", strict")?;
+    push_where(&mut text, options.check, ", check")?;
+    push_where(&mut text, options.whole_numbers, ", whole numbers")?;
+    push_where(&mut text, options.silent, ", silent")?;
+    Ok(text)
+}
+
+/// The paths, the files and the settings of options.
+fn of_options(alloc: Global, options: &Options<'_>) -> Result<String, AllocError> {
+    let mut text = joined(alloc, "", ", ", options.paths.as_slice())?;
+    if let Some(file) = options.paths_file {
+        write!(&mut text, ", from {file}")?;
+    }
+    let files = joined(alloc, ", of ", ", of ", options.files.as_slice())?;
+    write!(&mut text, "{files}{}", settings(alloc, options)?)?;
+    Ok(text)
+}
+
+/// What is asked for: options, a text, or the kind and the fault that is told.
+pub(crate) fn of_asked(alloc: Global, asked: Asked<'_>) -> Result<String, AllocError> {
+    match asked {
+        Asked::Run(options) => of_options(alloc, &options),
+        Asked::Print(text) => Ok(text),
+        Asked::WrongUse(kind, text) => {
+            let fault = text.split("\n\n").next().unwrap_or("");
+            format!(in alloc; "{kind:?}: {fault}")
+        }
+    }
+}
+
+/// The program's name, and the words of a row.
+pub(crate) fn words_of(alloc: Global, given: &str) -> Result<Vec<&str>, Fail> {
+    let mut words: Vec<&str> = Vec::new(alloc);
+    words.push("jpq")?;
+    words.extend(given.split(' '))?;
+    Ok(words)
+}
+
+/// What words ask for.
+fn of_words(alloc: Global, words: &[&str]) -> Result<String, Fail> {
+    Ok(of_asked(alloc, read(alloc, words)?)?)
+}
+
+/// What the words of a row ask for.
+fn asked(alloc: Global, given: &str) -> Result<String, Fail> {
+    of_words(alloc, words_of(alloc, given)?.as_slice())
+}
+
+#[test]
+fn asks_for_options(rt: HostRuntime) -> Result<(), Fail> {
+    hold_rows(&rt, ASKED, asked)
+}
+
+#[test]
+fn tells_wrong_use(rt: HostRuntime) -> Result<(), Fail> {
+    hold_rows(&rt, WRONG, asked)
+}
+
+#[test]
+fn has_help(rt: HostRuntime) -> Result<(), Fail> {
+    let mut table = Table::new(&rt);
+    let mut command = command(rt.alloc())?;
+    table.hold(("jpq", "its help", HELP), Ok(command.render_help()?));
+    table.end()
+}
+
+#[test]
+fn prints_help(rt: HostRuntime) -> Result<(), Fail> {
+    let mut table = Table::new(&rt);
+    table.hold(
+        ("jpq", "--help", HELP),
+        of_words(rt.alloc(), &["jpq", "--help"]),
+    );
+    table.hold(
+        ("jpq", "-h", HELP),
+        of_words(rt.alloc(), &["/usr/bin/jpq", "-h"]),
+    );
+    table.hold(
+        ("jpq", "-V", "jpq 0.7.2\n"),
+        of_words(rt.alloc(), &["jpq", "-V"]),
+    );
+    table.hold(
+        ("jpq", "--version", "jpq 0.7.2\n"),
+        of_words(rt.alloc(), &["jpq", "--version"]),
+    );
+    table.end()
+}

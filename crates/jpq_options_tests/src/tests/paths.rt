@@ -1,0 +1,34 @@
+//! The paths in a file's text.
+
+use jpq_options::options::paths_in;
+use serde_json_path_core_tests::rows::hold_rows;
+use std::alloc::Global;
+use std::test::Fail;
+
+/// A file's text, and the paths in it, each in angle brackets.
+const PATHS: &[&str] = &[
+    " -> ",
+    "\n -> ",
+    "$.a -> <$.a>",
+    "$.a\n -> <$.a>",
+    "$.a\n$.b -> <$.a><$.b>",
+    "# books\n$.a\n\n#\n$.b\n\n -> <$.a><$.b>",
+    "$.a\r\n\r\n# none\r\n$.b\r -> <$.a><$.b>",
+    "$.a\r\r\n -> <$.a\r>",
+    "$.a # b\n #c -> <$.a # b>< #c>",
+    "$['\u{e9}#']\n -> <$['\u{e9}#']>",
+];
+
+/// The paths in a text.
+fn found(alloc: Global, given: &str) -> Result<String, Fail> {
+    let mut text = String::new(alloc);
+    for path in &paths_in(alloc, given)? {
+        write!(&mut text, "<{path}>")?;
+    }
+    Ok(text)
+}
+
+#[test]
+fn finds_paths(rt: HostRuntime) -> Result<(), Fail> {
+    hold_rows(&rt, PATHS, found)
+}

@@ -1,0 +1,77 @@
+//! Words, files of paths and documents, where a request for memory is refused. `tools/refuse_memory` refuses each request of
+//! each of these tests in turn, and reads how the test ends.
+//!
+//! A call that answers no memory is made again, and then answers as its row says.
+
+use crate::tests::options::{of_asked, words_of};
+use jsonpath_document::{DocumentFault, read_document};
+use jpq_options::options::{command, paths_in, read};
+use serde_json_path_core_tests::rows::hold_answers;
+use std::alloc::Global;
+use std::test::Fail;
+
+/// The words after the program's name, and what they ask for.
+const WORDS: &[&str] = &["-v -n 3 $.a x.json y.json -> $.a, of x.json, of y.json, Value, most 3"];
+
+/// The same of wrong use.
+const WRONG: &[&str] = &[
+    "-v -l $.a -> ArgumentConflict: error: the argument '--values' cannot be used with '--locations'",
+];
+
+/// What the words of a row ask for, or nothing where memory is refused.
+fn asked(alloc: Global, given: &str) -> Result<Option<String>, Fail> {
+    let words = words_of(alloc, given)?;
+    match read(alloc, words.as_slice()) {
+        Ok(asked) => Ok(Some(of_asked(alloc, asked)?)),
+        Err(_) => Ok(None),
+    }
+}
+
+#[test]
+fn read_words(rt: HostRuntime) -> Result<(), Fail> {
+    hold_answers(&rt, WORDS, asked)
+}
+
+#[test]
+fn read_wrong_use(rt: HostRuntime) -> Result<(), Fail> {
+    hold_answers(&rt, WRONG, asked)
+}
+
+/// The version that the command prints.
+const VERSION: &[&str] = &["--version -> jpq 0.7.2\n"];
+
+#[test]
+fn command_of_words(rt: HostRuntime) -> Result<(), Fail> {
+    hold_answers(&rt, VERSION, |alloc, _| match command(alloc) {
+        Ok(command) => Ok(Some(command.render_version()?)),
+        Err(_) => Ok(None),
+    })
+}
+
+/// A file's text, and the paths in it, joined.
+const PATHS: &[&str] = &["$.a\n# none\n$.b\n -> $.a$.b"];
+
+#[test]
+fn paths_in_a_file(rt: HostRuntime) -> Result<(), Fail> {
+    hold_answers(&rt, PATHS, |alloc, given| match paths_in(alloc, given) {
+        Ok(paths) => Ok(Some(paths.as_slice().concat(alloc)?)),
+        Err(_) => Ok(None),
+    })
+}
+
+/// A document's text, and its JSON or what is told of it.
+const DOCUMENTS: &[&str] = &[
+    "{\"a\": [1, \"b\"]} -> {\"a\":[1,\"b\"]}",
+    "[1,] -> line 1, column 3: a comma with nothing after it",
+];
+
+#[test]
+fn read_documents(rt: HostRuntime) -> Result<(), Fail> {
+    hold_answers(&rt, DOCUMENTS, |alloc, given| {
+        match read_document(alloc, given.as_bytes()) {
+            Ok(value) => Ok(Some(value.to_string(alloc)?)),
+            Err(e) if e.fault == DocumentFault::Memory => Ok(None),
+            Err(e) => Ok(Some(format!(in alloc; "{e}")?)),
+        }
+    })
+}

@@ -1,0 +1,224 @@
+//! The documents, and what is shown and told of each.
+
+ghost use Rattle.serde_json_path_functions.specs.Functions.{FunctionSet};
+ghost use Rattle.serde_json_path.specs.Fitting.{TakesBuiltin, TakesBuiltin-prop};
+
+use crate::answers::push_answer;
+use crate::colours::push_colored;
+use crate::inputs::Inputs;
+use crate::paths::AskedPath;
+use crate::streams::{Stop, Streams};
+use jsonpath_document::{DocumentError, read_document};
+use jsonpath_lines::{Form, Output};
+use serde_json::Value;
+use serde_json_path::QueryError;
+use serde_json_path::functions::Functions;
+use std::alloc::{AllocError, Global};
+use std::io;
+use std::io::{BufRead, BufReader, Read, Write};
+
+/// What is asked of each document.
+#[derive(Drop)]
+pub(crate) struct Job<'a, F: Functions> {
+    pub(crate) alloc: Global,
+    pub(crate) paths: &'a [AskedPath],
+    pub(crate) functions: &'a F,
+    pub(crate) output: Output,
+    /// Whether lines begin with the file's name.
+    pub(crate) names_files: bool,
+    /// Whether each line of an input is a document.
+    pub(crate) lines: bool,
+    /// Whether a document that is refused ends the run.
+    pub(crate) strict: bool,
+    /// Whether lines have colours.
+    pub(crate) colored: bool,
+    ghost takes: { TakesBuiltin (F.set functions.now) } by { TakesBuiltin-prop (F.set functions.now) },
+}
+
+/// The name of an input as it is told, and as lines begin with it.
+fn told_name(name: &str) -> &str {
+    if name == "-" { "standard input" } else { name }
+}
+
+impl<F: Functions> Job<'_, F> {
+    /// What each line of a path's answer begins with: the file's name if there are several, then the path's number if there
+    /// are several, and a tab after each.
+    fn head(&self, name: &str, number: usize) -> Result<String, AllocError> {
+        let mut head = String::new(self.alloc);
+        if self.names_files {
+            write!(head, "{}\t", told_name(name))?;
+        }
+        if self.paths.len() > 1 {
+            write!(head, "{number}\t")?;
+        }
+        Ok(head)
+    }
+
+    /// Appends the answer of a path, and returns whether a node was chosen.
+    fn push_uncolored(
+        &self,
+        path: &AskedPath,
+        head: &str,
+        document: &Value,
+        text: &mut String,
+    ) -> Result<bool, QueryError> {
+        push_answer(
+            self.alloc,
+            &self.output,
+            head,
+            &path.path,
+            self.functions,
+            document,
+            text,
+        )
+    }
+
+    /// Appends the answer of a path, in colours where they are wanted, and returns whether a node was chosen.
+    fn push_path(
+        &self,
+        path: &AskedPath,
+        head: &str,
+        document: &Value,
+        text: &mut String,
+    ) -> Result<bool, QueryError> {
+        if !self.colored {
+            return self.push_uncolored(path, head, document, text);
+        }
+        let mut plain = String::new(self.alloc);
+        let selected = self.push_uncolored(path, head, document, &mut plain)?;
+        push_colored(self.alloc, text, plain.as_str(), head, self.output.form)?;
+        Ok(selected)
+    }
+
+    /// Answers a document: writes what each path selects, and tells what is refused.
+    fn answer<W: Write, E: Write>(
+        &self,
+        name: &str,
+        document: &Value,
+        streams: &mut Streams<'_, W, E>,
+    ) -> Result<(), Stop> {
+        let mut text = String::new(self.alloc);
+        for (index, path) in self.paths.iter().enumerate() {
+            let head = self.head(name, index.saturating_add(1))?;
+            match self.push_path(path, head.as_str(), document, &mut text) {
+                Ok(selected) => streams.outcome.selected = streams.outcome.selected || selected,
+                Err(e) => {
+                    let name = told_name(name);
+                    let told = format!(in self.alloc; "jpq: {name}: the query is refused: {e}\n")?;
+                    streams.refuse(told.as_str());
+                }
+            }
+        }
+        streams.write(text.as_str())?;
+        if self.output.form == Form::Nothing && streams.outcome.selected {
+            return Err(Stop::Found);
+        }
+        Ok(())
+    }
+
+    /// Answers the document of some bytes, or tells why they are none. `line` is the number of their first line in the input,
+    /// from 1.
+    fn answer_bytes<W: Write, E: Write>(
+        &self,
+        name: &str,
+        line: usize,
+        bytes: &[u8],
+        streams: &mut Streams<'_, W, E>,
+    ) -> Result<(), Stop> {
+        let e = match read_document(self.alloc, bytes) {
+            Ok(document) => return self.answer(name, &document, streams),
+            Err(e) => e,
+        };
+        let e = DocumentError {
+            line: e.line.saturating_add(line.saturating_sub(1)),
+            ..e
+        };
+        let name = told_name(name);
+        streams.refuse(format!(in self.alloc; "jpq: {name}: {e}\n")?.as_str());
+        if self.strict {
+            Err(Stop::Refused)
+        } else {
+            Ok(())
+        }
+    }
+
+    /// Tells that an input can't be opened or read.
+    fn refuse_input<W: Write, E: Write>(
+        &self,
+        name: &str,
+        e: &io::Error,
+        streams: &mut Streams<'_, W, E>,
+    ) -> Result<(), Stop> {
+        let name = told_name(name);
+        streams.refuse(format!(in self.alloc; "jpq: {name}: cannot be read: {e}\n")?.as_str());
+        Ok(())
+    }
+
+    /// Answers an input that is one document.
+    fn answer_whole<I: Read + Drop, W: Write, E: Write>(
+        &self,
+        name: &str,
+        mut input: I,
+        streams: &mut Streams<'_, W, E>,
+    ) -> Result<(), Stop> {
+        let mut bytes = Vec::new(self.alloc);
+        match input.read_to_end(&mut bytes) {
+            Ok(_) => self.answer_bytes(name, 1, &bytes, streams),
+            Err(e) => self.refuse_input(name, &e, streams),
+        }
+    }
+
+    /// Answers a line of an input, or passes over it if it is blank.
+    fn answer_line<W: Write, E: Write>(
+        &self,
+        name: &str,
+        number: usize,
+        line: &[u8],
+        streams: &mut Streams<'_, W, E>,
+    ) -> Result<(), Stop> {
+        if line.trim_ascii().is_empty() {
+            return Ok(());
+        }
+        let document = line.strip_suffix(b"\n").unwrap_or(line);
+        self.answer_bytes(name, number, document, streams)
+    }
+
+    /// Answers an input of which each line is a document. One line is held at a time.
+    fn answer_lines<I: Read + Drop, W: Write, E: Write>(
+        &self,
+        name: &str,
+        input: I,
+        streams: &mut Streams<'_, W, E>,
+    ) -> Result<(), Stop> {
+        let Ok(mut reader) = BufReader::new(self.alloc, input) else {
+            return Err(Stop::Memory);
+        };
+        let mut line = Vec::new(self.alloc);
+        for number in 1..usize::MAX {
+            line.clear();
+            match reader.read_until(b'\n', &mut line) {
+                Ok(0) => return Ok(()),
+                Ok(_) => self.answer_line(name, number, &line, streams)?,
+                Err(e) => return self.refuse_input(name, &e, streams),
+            }
+        }
+        Ok(())
+    }
+
+    /// Answers all inputs, in order.
+    pub(crate) fn answer_all<I: Inputs, W: Write, E: Write>(
+        &self,
+        names: &[&str],
+        inputs: &mut I,
+        streams: &mut Streams<'_, W, E>,
+    ) -> Result<(), Stop> {
+        for name in names {
+            match inputs.open(*name) {
+                Ok(input) if self.lines => self.answer_lines(*name, input, streams)?,
+                Ok(input) => self.answer_whole(*name, input, streams)?,
+                Err(e) => self.refuse_input(*name, &e, streams)?,
+            }
+        }
+        Ok(())
+    }
+}

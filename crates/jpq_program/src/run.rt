@@ -1,0 +1,243 @@
+//! The program over its inputs and two writers.
+
+ghost use Rattle.std.specs.Prelude.{◌≡◌, ◌≤◌, ◌⊎◌, Err, map, string_bytes};
+ghost use Rattle.serde_json_path_functions.specs.Functions.{FunctionSet};
+ghost use Rattle.jpq_options.specs.Options.{AsksFor};
+ghost use Rattle.jpq_options.specs.declared.options.Asked as input;
+ghost use Rattle.serde_json_path.specs.Fitting.{TakesBuiltin};
+ghost use Rattle.jpq_program.specs.Query.{IsStatus, IsStatusOf};
+
+use crate::counted::Counted;
+use crate::documents::Job;
+use crate::inputs::Inputs;
+use crate::nothing::reason_of;
+use crate::paths::{AskedPath, asked_paths};
+use crate::streams::{OUTPUT_FAILED, REFUSED, SELECTED, Stop, Streams, WRONG_USE};
+use jpq_options::options::{Asked, Color, Options, read};
+use jsonpath_lines::Output;
+use jsonpath_program::ruled::Ruled;
+use serde_json_path::functions::{CachedPatterns, Functions, Numbers, PatternStore};
+use std::alloc::Global;
+use std::cell::Cell;
+use std::io::Write;
+
+/// Writes each path in its canonical form.
+fn check<W: Write, E: Write>(
+    alloc: Global,
+    paths: &[AskedPath],
+    streams: &mut Streams<'_, W, E>,
+) -> Result<(), Stop> {
+    let mut text = String::new(alloc);
+    for path in paths {
+        write!(text, "{}\n", path.path)?;
+    }
+    streams.outcome.selected = true;
+    streams.write(text.as_str())
+}
+
+/// Tells why nothing may have been selected, where a path shows it.
+fn hint_at_nothing<W: Write, E: Write>(
+    alloc: Global,
+    paths: &[AskedPath],
+    streams: &mut Streams<'_, W, E>,
+) -> Result<(), Stop> {
+    for path in paths {
+        if let Some(reason) = reason_of(path.path.to_string(alloc)?.as_str()) {
+            streams.tell(format!(in alloc; "jpq: nothing was selected: {reason}\n")?.as_str());
+            return Ok(());
+        }
+    }
+    Ok(())
+}
+
+/// Tells how many times a comparison met a number that is not held as an integer, if any did.
+fn tell_floats<W: Write, E: Write>(
+    alloc: Global,
+    floats: usize,
+    streams: &mut Streams<'_, W, E>,
+) -> Result<(), Stop> {
+    let told = match floats {
+        0 => return Ok(()),
+        1 => format!(in alloc;
+            "jpq: 1 number that was compared is not held as an integer: it equals nothing and is not ordered\n"
+        )?,
+        n => format!(in alloc;
+            "jpq: {n} numbers that were compared are not held as integers: they equal nothing and are not ordered\n"
+        )?,
+    };
+    streams.tell(told.as_str());
+    Ok(())
+}
+
+/// What is shown, and how, as the options say.
+fn output_of(options: &Options<'_>) -> Output {
+    Output {
+        form: options.form,
+        layout: options.layout,
+        end: options.end,
+        unique: options.unique,
+        most: options.most,
+    }
+}
+
+/// How comparisons take numbers, as the options say.
+fn numbers_of(options: &Options<'_>) -> Numbers {
+    if options.whole_numbers {
+        Numbers::Whole
+    } else {
+        Numbers::All
+    }
+}
+
+/// What a run is given besides its words.
+#[derive(Clone, Copy, Drop)]
+struct Setting {
+    alloc: Global,
+    /// Whether the output is a terminal.
+    terminal: bool,
+}
+
+impl Setting {
+    /// Whether lines have colours.
+    fn is_colored(self, options: &Options<'_>) -> bool {
+        match options.color {
+            Color::Always => true,
+            Color::Never => false,
+            Color::Auto => self.terminal,
+        }
+    }
+
+    /// Answers all documents under a function set.
+    fn answer_under<'x, F: Functions, I: Inputs, W: Write, E: Write>(
+        self,
+        options: &Options<'_>,
+        paths: &'x [AskedPath],
+        functions: &'x F,
+        inputs: &mut I,
+        streams: &mut Streams<'_, W, E>,
+    ) -> Result<(), Stop>
+        requires { TakesBuiltin (F.set functions.now) }
+    {
+        let job = Job {
+            alloc: self.alloc,
+            paths,
+            functions,
+            output: output_of(options),
+            names_files: options.files.len() > 1,
+            lines: options.lines,
+            strict: options.strict,
+            colored: self.is_colored(options),
+        };
+        if options.files.is_empty() {
+            return job.answer_all(&["-"], inputs, streams);
+        }
+        job.answer_all(&options.files, inputs, streams)
+    }
+
+    /// Answers all documents by the rule for numbers that is asked for, and returns how many times a comparison met a number that
+    /// is not held as an integer.
+    fn answer_documents<I: Inputs, W: Write, E: Write>(
+        self,
+        options: &Options<'_>,
+        paths: &[AskedPath],
+        inputs: &mut I,
+        streams: &mut Streams<'_, W, E>,
+    ) -> Result<usize, Stop> {
+        let store = PatternStore::new();
+        let ruled = Ruled {
+            functions: CachedPatterns::new(self.alloc, &store),
+            numbers: numbers_of(options),
+        };
+        let functions = Counted {
+            functions: ruled,
+            floats: Cell::new(0),
+        };
+        self.answer_under(options, paths, &functions, inputs, streams)?;
+        Ok(functions.floats.get())
+    }
+
+    /// Runs with options: reads the paths, then checks them or answers the documents.
+    fn run_with<I: Inputs, W: Write, E: Write>(
+        self,
+        options: &Options<'_>,
+        inputs: &mut I,
+        streams: &mut Streams<'_, W, E>,
+    ) -> Result<(), Stop> {
+        let paths = asked_paths(self.alloc, options, inputs, streams)?;
+        if options.check {
+            return check(self.alloc, &paths, streams);
+        }
+        let floats = self.answer_documents(options, &paths, inputs, streams)?;
+        if options.whole_numbers && !options.silent {
+            tell_floats(self.alloc, floats, streams)?;
+        }
+        if streams.outcome.selected || streams.outcome.refused || options.silent {
+            return Ok(());
+        }
+        hint_at_nothing(self.alloc, &paths, streams)
+    }
+}
+
+/// The exit status of a run that ended so; tells what ended it.
+fn status_of<W: Write, E: Write>(ended: Result<(), Stop>, streams: &mut Streams<'_, W, E>) -> u8
+    ensures few { result ≤ 3 }
+    ensures memory { ended ≡ Err Stop.Memory → result ≡ 2 }
+{
+    match ended {
+        Ok(()) | Err(Stop::ReaderGone) => streams.outcome.status(),
+        Err(Stop::Found) => SELECTED,
+        Err(Stop::Refused) => REFUSED,
+        Err(Stop::Memory) => {
+            streams.tell("jpq: no memory\n");
+            REFUSED
+        }
+        Err(Stop::OutputFailed) => {
+            streams.tell("jpq: the output failed\n");
+            OUTPUT_FAILED
+        }
+    }
+}
+
+/// The program: `jpq [OPTIONS] PATH [FILE]...`. The first word is the program's name; `terminal` says whether the output is a
+/// terminal. Returns the exit status:
+///
+/// | Status | When |
+/// |---|---|
+/// | 0 | something was selected; help, or a version; with `--check`, all paths are right |
+/// | 1 | nothing was selected |
+/// | 2 | a path, a document, a file or a query was refused |
+/// | 3 | the output failed |
+/// | 64 | the words were used wrongly |
+///
+/// Lines of a document are written when all of them are made. A reader that goes away ends the run without a message.
+pub fn run<I: Inputs, W: Write, E: Write>(
+    alloc: Global,
+    words: &[String],
+    terminal: bool,
+    inputs: &mut I,
+    out: &mut W,
+    err: &mut E,
+) -> u8
+    ensures one_of { IsStatus result }
+    ensures status { ((asked : input.Asked) × AsksFor (map string_bytes words.now) asked
+        × IsStatusOf asked result) ⊎ (result ≡ 2) }
+{
+    let mut streams = Streams::new(out, err);
+    let ended = match read(alloc, words) {
+        Ok(Asked::Run(options)) => Setting { alloc, terminal }.run_with(
+            &options,
+            inputs,
+            &mut streams,
+        ),
+        Ok(Asked::Print(text)) => {
+            streams.outcome.selected = true;
+            streams.write(text.as_str())
+        }
+        Ok(Asked::WrongUse(_, text)) => {
+            streams.tell(text.as_str());
+            return WRONG_USE;
+        }
+        Err(_) => Err(Stop::Memory),
+    };
+    status_of(ended, &mut streams)
+}

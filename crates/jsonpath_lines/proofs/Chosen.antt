@@ -1,0 +1,100 @@
+-- The nodes that a walk is asked for.
+use Rattle.std.proofs.Common.{◌≡◌, ◌↔◌, ℕ, zero, suc, ◌+◌, ◌≤◌, Bool, true, false, List, [], ◌∷◌, ◌++◌, length, take, codes, Option, Some, None, refl, sym, ap, subst, ◌∙◌, append-nil, arith}
+use Rattle.std.proofs.lemmas.List.{length-take, take_all, take-append-le}
+use Rattle.json.specs.Lex.{tokens}
+use Rattle.json.specs.Print.{ArePrintable}
+use Rattle.serde_json_path_nodes.specs.Location.{Located}
+use Rattle.serde_json_path_nodes.specs.Lists.{first_places_after}
+use Rattle.jsonpath_lines.specs.Output.{AreLines, AreLinesIn, IsCount, IsCountIn, up_to}
+use Rattle.jsonpath_lines.specs.Inside.{Appends, ArePieces, ArePiecesIn, IsClosedIn, Pushes, asked, is_reached, leaves_out_in, limit_in, once, opening}
+use Rattle.jsonpath_lines.specs.declared.forms.Form.{Form}
+use Rattle.jsonpath_lines.specs.declared.forms.Form.TheVariants.{LocationAndValue, Value, Raw, Location, Pointer, Json, Count, Nothing}
+use Rattle.jsonpath_lines.specs.declared.forms.Output.{Output}
+use Rattle.jsonpath_lines.proofs.Arrays.{array_printable}
+use Rattle.jsonpath_lines.proofs.Pieces.{lines_written}
+
+-- ---- a limit
+
+-- so many are no more than the limit
+abbrev pub IsWithin : Option ℕ → ℕ → Type 0
+IsWithin None count = Unit {0}
+IsWithin (Some most) count = count ≤ most
+
+pub within_first : (limit : Option ℕ) → IsWithin limit 0
+within_first None = tt
+within_first (Some most) = omega arith
+
+pub within_further : (limit : Option ℕ) (count : ℕ) → is_reached limit count ≡ false → IsWithin limit (count + 1)
+within_further None count not_yet = tt
+within_further (Some most) count not_yet = grind arith
+
+-- where the limit is reached, no further nodes are asked for
+pub reached : (limit : Option ℕ) (done left all : List Located) (count : ℕ) → count ≡ length done → IsWithin limit count → is_reached limit count ≡ true → all ≡ done ++ left → done ≡ up_to limit all
+reached None done left all count same within full is = absurd cc
+reached (Some most) done left all count same within full is =
+    let exactly : most ≡ length done = grind arith in
+    sym (ap (λ (ns : List Located). take most ns) is ∙ take-append-le most done left (omega (arith, exactly)) ∙ take_all most done (omega (arith, exactly)))
+
+-- where no node is left, all are within the limit
+pub ended : (limit : Option ℕ) (done left all : List Located) (count : ℕ) → count ≡ length done → IsWithin limit count → left ≡ [] → all ≡ done ++ left → done ≡ up_to limit all
+ended None done left all count same within none is = sym (is ∙ ap (λ (ns : List Located). done ++ ns) none ∙ append-nil done)
+ended (Some most) done left all count same within none is =
+    let whole : all ≡ done = is ∙ ap (λ (ns : List Located). done ++ ns) none ∙ append-nil done in
+    sym (ap (λ (ns : List Located). take most ns) whole ∙ take_all most done (omega (arith, same, within)))
+
+-- what is appended for these nodes, which are those that are asked for
+pub pushed_so_far : (output : Output) (head : List ℕ) (limit : Option ℕ) (all done : List Located) (old new : List ℕ) (count : ℕ) → limit ≡ limit_in output.form output.most → done ≡ up_to limit all
+    → Appends (ArePieces output head done) old new → count ≡ length done → Pushes output head all old new count
+pushed_so_far output head limit all done old new count is these appended same =
+    let asked : done ≡ up_to (limit_in output.form output.most) all = these ∙ ap (λ limit. up_to limit all) is in
+    (subst (λ ns. Appends (ArePieces output head ns) old new) asked appended, same ∙ ap (λ (ns : List Located). length ns) asked)
+
+-- ---- what is shown of the chosen nodes, by what a walk is asked for
+
+-- whether there is a node, as one node tells
+one_tells : (most : Option ℕ) (n m : Located) (ns ms : List Located) (count : ℕ) → count ≡ length (up_to (limit_in Nothing most) (n ∷ ns)) → (count ≤ 1) × ((count ≡ 0) ↔ (up_to most (m ∷ ms) ≡ []))
+one_tells None n m ns ms count same = (grind (arith, length-take), (λ none. absurd (grind (arith, length-take)), λ none. absurd cc))
+one_tells (Some zero) n m ns ms count same = (grind (arith, length-take), (λ _. refl, λ _. grind (arith, length-take)))
+one_tells (Some (suc most)) n m ns ms count same = (grind (arith, length-take), (λ none. absurd (grind (arith, length-take)), λ none. absurd cc))
+
+none_tells : (most : Option ℕ) (count : ℕ) → count ≡ length (up_to (limit_in Nothing most) []) → (count ≤ 1) × ((count ≡ 0) ↔ (up_to most [] ≡ []))
+none_tells None count same = (grind arith, (λ _. refl, λ _. same))
+none_tells (Some zero) count same = (grind (arith, length-take), (λ _. refl, λ _. grind (arith, length-take)))
+none_tells (Some (suc most)) count same = (grind (arith, length-take), (λ _. refl, λ _. grind (arith, length-take)))
+
+nothing_counted : (most : Option ℕ) (unique : Bool) (nodes : List Located) (count : ℕ) → count ≡ length (up_to (limit_in Nothing most) nodes)
+    → (count ≤ 1) × ((count ≡ 0) ↔ (up_to most (once unique nodes) ≡ []))
+nothing_counted most true [] count same = none_tells most count same
+nothing_counted most false [] count same = none_tells most count same
+nothing_counted most true (n ∷ ns) count same = one_tells most n n ns (first_places_after (n.location ∷ []) ns) count same
+nothing_counted most false (n ∷ ns) count same = one_tells most n n ns ns count same
+
+-- the lines and the count of the chosen nodes, in a form
+shown_in : (form : Form) (output : Output) (head : List ℕ) (most : Option ℕ) (unique : Bool) (nodes : List Located) (pieces written shown : List ℕ) (count : ℕ)
+    → count ≡ length (up_to (limit_in form most) (once (leaves_out_in form unique) nodes)) → ArePiecesIn form output head false (up_to (limit_in form most) (once (leaves_out_in form unique) nodes)) pieces
+    → written ≡ opening form ++ pieces → IsClosedIn form output head count written shown
+    → AreLinesIn form output head (up_to most (once unique nodes)) shown × IsCountIn form (up_to most (once unique nodes)) count
+shown_in Nothing output head most unique nodes pieces written shown count same h is closed =
+    (lines_written Nothing output head (up_to (limit_in Nothing most) nodes) pieces written shown count same h is closed, nothing_counted most unique nodes count same)
+shown_in LocationAndValue output head most unique nodes pieces written shown count same h is closed = (lines_written LocationAndValue output head (up_to most (once unique nodes)) pieces written shown count same h is closed, same)
+shown_in Value output head most unique nodes pieces written shown count same h is closed = (lines_written Value output head (up_to most (once unique nodes)) pieces written shown count same h is closed, same)
+shown_in Raw output head most unique nodes pieces written shown count same h is closed = (lines_written Raw output head (up_to most (once unique nodes)) pieces written shown count same h is closed, same)
+shown_in Location output head most unique nodes pieces written shown count same h is closed = (lines_written Location output head (up_to most (once unique nodes)) pieces written shown count same h is closed, same)
+shown_in Pointer output head most unique nodes pieces written shown count same h is closed = (lines_written Pointer output head (up_to most (once unique nodes)) pieces written shown count same h is closed, same)
+shown_in Json output head most unique nodes pieces written shown count same h is closed = (lines_written Json output head (up_to most (once unique nodes)) pieces written shown count same h is closed, same)
+shown_in Count output head most unique nodes pieces written shown count same h is closed = (lines_written Count output head (up_to most (once unique nodes)) pieces written shown count same h is closed, same)
+
+-- the lines and the count of the chosen nodes, by what is written before and of them, and what is made of it
+pub chosen_shown : (output : Output) (head : List ℕ) (nodes : List Located) (opened written shown : List ℕ) (count : ℕ) → opened ≡ opening output.form
+    → Pushes output head (asked output nodes) opened written count → IsClosedIn output.form output head count written shown → AreLines output head nodes shown × IsCount output nodes count
+chosen_shown output head nodes opened written shown count begun pushed closed =
+    let all : written ≡ opening output.form ++ pushed.0.0 = pushed.0.2 ∙ ap (λ (t : List ℕ). t ++ pushed.0.0) begun in
+    shown_in output.form output head output.most output.unique nodes pushed.0.0 written shown count pushed.1 pushed.0.1 all closed
+
+-- an array of which all but the end is written can be laid out
+pub array_begun : (output : Output) (head : List ℕ) (nodes : List Located) (opened written : List ℕ) (count : ℕ) → opened ≡ opening output.form → Pushes output head nodes opened written count
+    → output.form ≡ Json → ArePrintable (tokens (written ++ codes "]"))
+array_begun output head nodes opened written count begun pushed is =
+    let shown = up_to (limit_in output.form output.most) nodes in
+    let all : written ≡ codes "[" ++ pushed.0.0 = pushed.0.2 ∙ ap (λ (t : List ℕ). t ++ pushed.0.0) (begun ∙ ap opening is) in
+    array_printable output head shown pushed.0.0 (written ++ codes "]") (subst (λ form. ArePiecesIn form output head false shown pushed.0.0) is pushed.0.1) (ap (λ (t : List ℕ). t ++ codes "]") all)

@@ -1,0 +1,7 @@
+use Rattle.std.proofs.Common.{string_bytes}
+use Rattle.std.specs.Str.Iter.{chars_rest}
+use Rattle.jsonpath_lines.proofs.Seen.{IsSeenUpTo}
+use Rattle.jsonpath_lines.proofs.colours.colored.Given as goal
+
+abbrev pub invariant-loop-c : goal.invariant-loop-c
+invariant-loop-c l = IsSeenUpTo l.fn.line (string_bytes l.text) (chars_rest l.c-iterator)

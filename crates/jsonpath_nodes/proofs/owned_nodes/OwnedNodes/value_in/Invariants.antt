@@ -1,9 +1,0 @@
-use Rattle.std.proofs.Common.{◌≡◌, map, drop}
-use Rattle.serde_json.specs.View.{view}
-use Rattle.serde_json_path_nodes.specs.Location.{at}
-use Rattle.jsonpath_nodes.specs.Inside.Stored.{step_in}
-use Rattle.jsonpath_nodes.proofs.owned_nodes.OwnedNodes.value_in.Given as goal
-
--- the steps that are left lead from the value where all of them lead from the document
-abbrev pub invariant-loop-step : goal.invariant-loop-step
-invariant-loop-step l = at (view l.value) (map (step_in l.names) (drop l.step-index l.steps)) ≡ at (view l.fn.document) (map (step_in l.names) l.steps)

@@ -1,0 +1,76 @@
+-- Names in a text that all of them share, and that grows.
+use Rattle.std.proofs.Common.{◌≡◌, ℕ, String, string_bytes, ◌<◌, ◌≤◌, List, [], ◌∷◌, ◌++◌, length, take, get_or, map, refl, sym, ap, subst, ◌∙◌, arith, length-append, ⊎_elim}
+use Rattle.std.proofs.lemmas.Bool.{cases_lt}
+use Rattle.std.proofs.lemmas.List.{take_at, get_or_append_left, append_assoc}
+use Rattle.std.proofs.lemmas.List.Elements.{All-head, All-tail, All-weaker}
+use Rattle.std.proofs.lemmas.Str.{IsCharBoundary-end, IsCharBoundary-from_take, IsUtf8-string_bytes}
+use Rattle.std.specs.List.{All}
+use Rattle.std.specs.Str.{IsUtf8, IsCharBoundary}
+use Rattle.serde_json_path_nodes.specs.Location.{by_name}
+use Rattle.jsonpath_owned_nodes.specs.Inside.Stored.{step_in, IsStored, BeginsWith}
+use Rattle.jsonpath_owned_nodes.specs.declared.stored_step.StoredStep.{StoredStep}
+use Rattle.jsonpath_owned_nodes.specs.declared.stored_step.StoredStep.TheVariants.{Name, Index}
+use Rattle.jsonpath_owned_nodes.proofs.Cuts.{slice_range-more}
+
+-- a text that went on after another
+pub record Grew (old new : List ℕ) : Type 0 where
+  pub was_text : IsUtf8 old
+  pub is_text : IsUtf8 new
+  pub begins : BeginsWith new old
+
+-- a `String` is text before and after
+pub text_grew : {Z : Type 0} (old new : String Z) → BeginsWith (string_bytes new) (string_bytes old) → Grew (string_bytes old) (string_bytes new)
+text_grew old new begins = record { was_text = IsUtf8-string_bytes old; is_text = IsUtf8-string_bytes new; begins = begins }
+
+-- a text that goes on twice goes on
+pub goes_on : (first second third : List ℕ) → BeginsWith second first → BeginsWith third second → BeginsWith third first
+goes_on first second third a b = (a.0 ++ b.0, b.1 ∙ ap (λ text. text ++ b.0) a.1 ∙ append_assoc first a.0 b.0)
+
+-- where the old text ends, the new one may be cut
+pub seam : (old new : List ℕ) → Grew old new → IsCharBoundary new (length old)
+seam old new grew =
+    let whole = grew.begins.1 in
+    let front : take (length old) new ≡ old = rw whole (take_at old grew.begins.0 (length old) refl) in
+    let shorter : length old ≤ length new = omega (arith, ap length whole ∙ length-append old grew.begins.0) in
+    IsCharBoundary-from_take new (length old) grew.is_text shorter (subst IsUtf8 (sym front) grew.was_text)
+
+-- what was appended stands in the new text
+pub name_stored : (old new : List ℕ) → Grew old new → IsStored new (Name (length old) (length new))
+name_stored old new grew =
+    let at = seam old new grew in
+    (at.0, at, IsCharBoundary-end new)
+
+-- where the old text may be cut, the new one may be
+boundary_kept : (old new : List ℕ) (i : ℕ) → Grew old new → IsCharBoundary old i → IsCharBoundary new i
+boundary_kept old new i grew may =
+    let more = grew.begins.0 in
+    let whole = grew.begins.1 in
+    let shorter : length old ≤ length new = omega (arith, ap length whole ∙ length-append old more) in
+    ⊎_elim
+    (λ (inside : i < length old).
+    let same : get_or new i 0 ≡ get_or old i 0 = rw whole (get_or_append_left old more 0 i inside) in
+    let lead = may.1 inside in
+    (omega arith, λ _. rw same lead))
+    (λ (past : length old ≤ i).
+    let at : i ≡ length old = omega (arith, may.0) in
+    subst (IsCharBoundary new) (sym at) (seam old new grew))
+    (cases_lt i (length old))
+
+-- a step that is stored stays so, and stays the same step
+stored_kept : (old new : List ℕ) → Grew old new → (step : StoredStep) → IsStored old step → IsStored new step
+stored_kept old new grew (Name start end) is = (is.0, boundary_kept old new start grew is.1, boundary_kept old new end grew is.2)
+stored_kept old new grew (Index index) is = tt
+
+step_kept : (old new : List ℕ) → Grew old new → (step : StoredStep) → IsStored old step → step_in new step ≡ step_in old step
+step_kept old new grew (Name start end) is =
+    ap by_name (rw grew.begins.1 (slice_range-more old grew.begins.0 start end is.0 is.2.0))
+step_kept old new grew (Index index) is = refl
+
+pub steps_kept : (old new : List ℕ) → Grew old new → (run : List StoredStep) → All (IsStored old) run → map (step_in new) run ≡ map (step_in old) run
+steps_kept old new grew [] are = refl
+steps_kept old new grew (step ∷ run) are =
+    let first = step_kept old new grew step (All-head (IsStored old) step run are) in
+    let rest = steps_kept old new grew run (All-tail (IsStored old) step run are) in cc
+
+pub all_kept : (old new : List ℕ) → Grew old new → (run : List StoredStep) → All (IsStored old) run → All (IsStored new) run
+all_kept old new grew run are = All-weaker (IsStored old) (IsStored new) (stored_kept old new grew) run are

@@ -1,0 +1,8 @@
+use Rattle.std.proofs.Common.{◌≡◌, map, take}
+use Rattle.serde_json_path_nodes.specs.Views.{step_view}
+use Rattle.jsonpath_owned_nodes.specs.Inside.Stored.{step_in}
+use Rattle.jsonpath_owned_nodes.proofs.owned_nodes.OwnedNodes.location.Given as goal
+
+-- the elements are the steps that were passed
+abbrev pub invariant-loop-step : goal.invariant-loop-step
+invariant-loop-step l = map step_view l.elements.items ≡ map (step_in l.names) (take l.step-index l.steps)

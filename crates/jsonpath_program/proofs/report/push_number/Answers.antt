@@ -1,0 +1,21 @@
+use Rattle.std.proofs.Common.{◌≡◌, ap, arith, int_lt, of_z, pos, rules, SFits, subst, sym, to_z, to_z-of_z, w64, ◌∙◌}
+use Rattle.std.proofs.lemmas.Result.{on_ok_weaker}
+use Rattle.std.specs.Fmt.{signed_decimal}
+use Rattle.serde_json.specs.View.{view}
+use Rattle.jsonpath_program.specs.Report.{IsJsonOf}
+use Rattle.jsonpath_program.proofs.Scalars.{json_of_u64, json_of_i64}
+use Rattle.jsonpath_program.proofs.report.push_number.Goals as goal
+
+pub returns-in-Some : goal.returns-in-Some
+returns-in-Some c =
+    let json = json_of_u64 (view c.args.value.now) c.in-Some.n (omega arith) (sym c.as_u64.ensures ∙ c.in-Some.is) in
+    on_ok_weaker c.write.result (λ e. (_, json, e)) c.write.ensures.bytes
+
+pub returns-then-n-lt0 : goal.returns-then-n-lt0
+returns-then-n-lt0 c =
+    let n = c.in-Some-as_i64.n in
+    let fits : SFits w64 n = search rules in
+    let held : n ≡ to_z w64 (of_z w64 n) = sym (to_z-of_z fits) in
+    let json = json_of_i64 (view c.args.value.now) n fits (ap (λ z. int_lt z (pos 0)) held ∙ c.if-n-lt0.true) (sym c.as_i64.ensures ∙ c.in-Some-as_i64.is) in
+    on_ok_weaker c.write-then-n-lt0.result (λ e. (_, subst (IsJsonOf (view c.args.value.now)) (ap signed_decimal held) json, e))
+    c.write-then-n-lt0.ensures.bytes

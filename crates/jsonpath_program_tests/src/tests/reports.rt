@@ -1,0 +1,168 @@
+//! The lines of reports, and refusals of paths and documents.
+
+use jsonpath_program::report::{LineForm, report, report_in};
+use jsonpath_program::ruled::Ruled;
+use serde_json_path::functions::{Builtin, Functions, Numbers};
+use serde_json_path_core_tests::rows::{Table, fields, hold_rows};
+use serde_json_path_core_tests::texts::{BOOKSTORE, long};
+use std::alloc::{AllocError, Global};
+use std::test::Fail;
+
+/// Readings with messages, and a threshold.
+pub(crate) const READINGS: &str = concat!(
+    r#"{"threshold":40,"readings":[{"val":35,"msg":"foo"},{"val":40,"msg":"bar"},"#,
+    r#"{"val":42,"msg":"biz"},{"val":48,"msg":"bop"}]}"#
+);
+
+/// A path, a document, and the lines of their report.
+const LINES: &[&str] = &[
+    "$ ~ null -> $\tnull\n",
+    "$ ~ {\"b\":1,\"a\":[true]} -> $\t{\"a\":[true],\"b\":1}\n",
+    "$[0] ~ [1.5] -> $[0]\t1.5\n",
+    "$[9007199254740991] ~ [1] -> ",
+    "$[*] ~ [false,-7,18446744073709551615,-9223372036854775808] -> $[0]\tfalse\n$[1]\t-7\n$[2]\t18446744073709551615\n$[3]\t-9223372036854775808\n",
+    "$.é ~ {\"é\":1} -> $['é']\t1\n",
+    "$.foo.bar[0] ~ {\"foo\":{\"bar\":[\"baz\",42]}} -> $['foo']['bar'][0]\t\"baz\"\n",
+    "$['a','a'] ~ {\"a\":[1]} -> $['a']\t[1]\n$['a']\t[1]\n",
+    "$[1][0] ~ [0,[true]] -> $[1][0]\ttrue\n",
+    "$..baz ~ {\"foo\":{\"bar\":{\"baz\":1},\"baz\":2},\"baz\":3} -> $['baz']\t3\n$['foo']['baz']\t2\n$['foo']['bar']['baz']\t1\n",
+    "$[?@.a == @.b] ~ [{},{\"a\":1},{\"a\":1,\"b\":1}] -> $[0]\t{}\n$[2]\t{\"a\":1,\"b\":1}\n",
+    "$[?@.a[?@ > $.min]] ~ {\"min\":3,\"x\":{\"a\":[1,5]},\"y\":{\"a\":[2]}} -> $['x']\t{\"a\":[1,5]}\n",
+];
+
+/// A path, and the lines of its report of [`READINGS`].
+const OF_READINGS: &[&str] = &[
+    "$.readings[? @.val > $.threshold ].msg -> $['readings'][2]['msg']\t\"biz\"\n$['readings'][3]['msg']\t\"bop\"\n",
+];
+
+/// A path, and the lines of its report of [`BOOKSTORE`].
+const OF_BOOKSTORE: &[&str] = &[
+    "$..[?@.price < 399.5] -> $['store']['bicycle']\t{\"color\":\"red\",\"price\":399}\n",
+    "$.store.book[?@.price < 399.5 && match(@.author, '.*e.*')].title -> ",
+    "$.store.book[?@.category == 'fiction' && match(@.author, '.*Mel.*')].title -> $['store']['book'][2]['title']\t\"Moby Dick\"\n",
+];
+
+/// The report of a path and a document under a set.
+pub(crate) fn reported<F: Functions>(
+    alloc: Global,
+    functions: &F,
+    path: &str,
+    document: &str,
+) -> Result<String, Fail> {
+    Ok(report(alloc, path, document.as_bytes(), functions)?)
+}
+
+/// The same of a path and a document, the two fields of a row.
+pub(crate) fn of_row<F: Functions>(
+    alloc: Global,
+    functions: &F,
+    given: &str,
+) -> Result<String, Fail> {
+    let (path, document) = fields(given)?;
+    reported(alloc, functions, path, document)
+}
+
+#[test]
+fn lines_of_paths(rt: HostRuntime) -> Result<(), Fail> {
+    let mut table = Table::new(&rt);
+    table.hold_each(
+        "built-in functions",
+        LINES,
+        |alloc, row| of_row(alloc, &Builtin, row),
+    );
+    for (document, rows) in [(READINGS, OF_READINGS), (BOOKSTORE, OF_BOOKSTORE)] {
+        table.hold_each(document, rows, |alloc, path| {
+            reported(alloc, &Builtin, path, document)
+        });
+    }
+    table.end()
+}
+
+/// A path, a document, the lines of its locations, and those of its values.
+const HALVES: &[&str] = &[
+    "$ ~ null -> $\n ~ null\n",
+    "$.a ~ [] ->  ~ ",
+    "$[*] ~ [false,-7,2.5] -> $[0]\n$[1]\n$[2]\n ~ false\n-7\n2.5\n",
+    "$['a','a'] ~ {\"a\":[\"\\t\"]} -> $['a']\n$['a']\n ~ [\"\\t\"]\n[\"\\t\"]\n",
+];
+
+/// The report of a path and a document in each of the two forms.
+fn halves(alloc: Global, given: &str) -> Result<String, Fail> {
+    let (path, document) = fields(given)?;
+    let document = document.as_bytes();
+    let locations = report_in(alloc, LineForm::Location, path, document, &Builtin)?;
+    let values = report_in(alloc, LineForm::Value, path, document, &Builtin)?;
+    Ok(format!(in alloc; "{locations} ~ {values}")?)
+}
+
+#[test]
+fn locations_alone_and_values_alone(rt: HostRuntime) -> Result<(), Fail> {
+    hold_rows(&rt, HALVES, halves)
+}
+
+/// A path, a document, and the lines of their report where comparisons take whole numbers, and where they take all.
+const RULES: &[&str] = &[
+    "$[?@ == 1.5] ~ [1.5,1] ->  ~ $[0]\t1.5\n",
+    "$[?@ < 2] ~ [1.5,1] -> $[1]\t1\n ~ $[0]\t1.5\n$[1]\t1\n",
+    "$[?length(@) == 1] ~ [[1.5],1] -> $[0]\t[1.5]\n ~ $[0]\t[1.5]\n",
+];
+
+/// The report of a path and a document under each rule for numbers.
+fn by_rules(alloc: Global, given: &str) -> Result<String, Fail> {
+    let [whole, all] = [Numbers::Whole, Numbers::All].map(|numbers| Ruled {
+        functions: Builtin,
+        numbers,
+    });
+    let whole = of_row(alloc, &whole, given)?;
+    let all = of_row(alloc, &all, given)?;
+    Ok(format!(in alloc; "{whole} ~ {all}")?)
+}
+
+#[test]
+fn lines_by_each_rule_for_numbers(rt: HostRuntime) -> Result<(), Fail> {
+    hold_rows(&rt, RULES, by_rules)
+}
+
+/// A path, a document, and the text of the refusal.
+const REFUSED: &[&str] = &[
+    "x ~ { -> at position 1, expected '$'",
+    "$.a  ~ null -> at position 4, text after the path",
+    "$ ~ 1 2 -> not JSON",
+    "$.a ~ { -> not JSON",
+    "$[?length(@.author)] ~ { -> at position 4, in long-hand segment, function with incorrect return type used",
+    "$[?first(@.*) == 4] ~ { -> at position 4, in long-hand segment, undefined function",
+];
+
+/// Why the report of a path and a document is refused, or `accepted`.
+pub(crate) fn refusal(alloc: Global, path: &str, document: &[u8]) -> Result<String, Fail> {
+    match report(alloc, path, document, &Builtin) {
+        Ok(_) => Ok(String::from_str(alloc, "accepted")?),
+        Err(e) => Ok(e.to_string(alloc)?),
+    }
+}
+
+#[test]
+fn refusals_of_paths_and_documents(rt: HostRuntime) -> Result<(), Fail> {
+    hold_rows(&rt, REFUSED, |alloc, given| {
+        let (path, document) = fields(given)?;
+        refusal(alloc, path, document.as_bytes())
+    })
+}
+
+/// So many empty arrays within each other.
+fn nested(alloc: Global, depth: usize) -> Result<String, AllocError> {
+    let opened = long(alloc, "", "[", depth, "")?;
+    long(alloc, opened.as_str(), "]", depth, "")
+}
+
+#[test]
+fn nested_arrays(rt: HostRuntime) -> Result<(), Fail> {
+    let alloc = rt.alloc();
+    let most = nested(alloc, 127)?;
+    let lines = report(alloc, "$", most.as_str().as_bytes(), &Builtin)?;
+    assert!(rt; lines.len() == 2 + 2 * 127 + 1);
+    let more = nested(alloc, 128)?;
+    let refused = refusal(alloc, "$", more.as_str().as_bytes())?;
+    assert!(rt; refused.as_str() == "not JSON");
+    Ok(())
+}

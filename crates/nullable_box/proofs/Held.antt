@@ -1,0 +1,44 @@
+-- What the pointer of a nullable box owns is nothing or a box's. Assumes `Logic`.
+use Rattle.std.proofs.Common.{◌≡◌, ℕ, List, ◌∷◌, refl}
+use seplogic.Ra.Ura.{Ura}
+use base.Fml.{ftrue, ffalse}
+use base.Logic.{ent, guard, guard_i, via, snd∗, never_e}
+use types.Logic.{Logic, sem}
+use types.Kit.{Item, Goal, Seq, given, ‵, ◌$◌, drop, use1, learn}
+use contract.Monad.{fact_use}
+use denote.Memory.{lone}
+use denote.RattleType.{RattleType}
+use denote.RawPtr.{Ptr, block_ptr, null_ptr, Testable}
+use mir.Raw.{raw as bare}
+use Rattle.std.specs.Prelude.{Option, None, Some}
+use Rattle.std.specs.Box.Ownership.{box_owns}
+use Rattle.std.specs.Ptr.{points_to}
+use Rattle.std.specs.contracts.impls.GlobalAllocator.TheImpl.{ghosts}
+use Rattle.std.specs.declared.alloc.Global.{Global}
+use Rattle.std.proofs.GlobalToken.{dealloc_token-Testable}
+use Rattle.nullable_box.specs.Held.{held}
+
+module _ (R : RattleType) {M : Type 1} {𝓤 : Ura M} where
+  -- a box's pointer may be compared with null
+  testable : (𝓛 : Logic 𝓤) (a : Global) (p : Ptr) (x : R.Denot) → ent 𝓤 (sem 𝓛 (box_owns (ghosts.dealloc_token a) R p x)) (guard 𝓤 (Testable p) (sem 𝓛 (box_owns (ghosts.dealloc_token a) R p x)))
+  testable 𝓛 a p x =
+      let token = ghosts.dealloc_token a (bare (lone R.mir)) p in
+      fact_use 𝓤 (Testable p)
+      (via 𝓤 (sem 𝓛 token) (snd∗ 𝓤 (sem 𝓛 (points_to R p x)) (sem 𝓛 token)) (dealloc_token-Testable 𝓛 a (bare (lone R.mir)) p))
+      (guard_i 𝓤 (Testable p) _)
+
+  module _ {𝓛 : Logic 𝓤} {K : Type 0} {Γ : List (Item 𝓤)} {G : Goal 𝓤 𝓛.H} where
+    impossible : K → Seq K 𝓛 (‵ ffalse ∷ Γ) G
+    impossible t = use1 𝓛 (given ⊥ (‵ ftrue)) (never_e 𝓤 _) $ learn t (λ absurdity. absurd absurdity)
+
+    -- nothing, at null, or a box, at a pointer that may be compared with null
+    pub either_held : K → (p : Ptr) (v : Option R.Denot)
+        → (p ≡ null_ptr → v ≡ None → Seq K 𝓛 Γ G)
+        → ((b o : ℕ) (x : R.Denot) → p ≡ block_ptr b o → v ≡ Some x → Testable (block_ptr b o) → Seq K 𝓛 (‵ (held R (block_ptr b o) (Some x)) ∷ Γ) G)
+        → Seq K 𝓛 (‵ (held R p v) ∷ Γ) G
+    either_held t null_ptr None empty box = drop t $ empty refl refl
+    either_held t null_ptr (Some x) empty box = impossible t
+    either_held t (block_ptr b o) None empty box = impossible t
+    either_held t (block_ptr b o) (Some x) empty box =
+        let owned = held R (block_ptr b o) (Some x) in
+        use1 𝓛 (given (Testable (block_ptr b o)) (‵ owned)) (testable 𝓛 _ (block_ptr b o) x) $ learn t (λ can. box b o x refl refl can)

@@ -1,0 +1,124 @@
+-- A function that moves what one pointer owns from a struct into another is proved once, for all structs. Assumes `Logic`.
+use Rattle.std.proofs.Common.{◌≡◌, List, [], ◌∷◌, ◌++◌, refl, sym, subst, lit<}
+use lib.Dec.{T}
+use mathlib.Core.Bool.{true, ◌&&◌}
+use seplogic.Ra.Ura.{Ura}
+use mir.Syntax.{Sym, Fn, Callee, Ty, copy, place, field, local, value_local, assign, rv_opd, aggregate, seq, return, ty_ptr, ty_struct, tcons, tnil}
+use mir.Val.{Val, has_ty, WT}
+use base.Logic.{SProp, emp, ent, id⊢}
+use base.Fml.{Fml, ftrue, fsep}
+use prog.Model.{Model}
+use prog.Wp.{WpFn, Closed}
+use types.Logic.{Logic}
+use types.Kit.{‵, raw, ◌⊛◌, ◌$◌, ◌∵◌, !, qed, by, keep, drop, split, fsplit, fjoin, rewrite, suffices, use0}
+use types.Run.{stop, fld, of_opd, no_more, and_then, returns, enter}
+use types.ByLocal.{alloc_all, pass_all, free_all, look_at, get, get_in, sets}
+use types.Part.{agg, sub, whole}
+use contract.Monad.{fact, fact_i}
+use contract.Running.{Running, MachineTables, tables}
+use denote.Exit.{yes, Last, left, rest}
+use denote.RattleType.{RattleType, owns}
+use denote.RawPtr.{Ptr, block_ptr, null_ptr, ptr_val}
+use denote.Signature.{Signature, types_at, plain}
+use denote.Steps.{nothing}
+use denote.Triple.Clauses.{Ended, Clauses, closing}
+use denote.Triple.Spec.{Meets}
+use denote.Triple.Walked.{Stays, stay_dropped, walk_of, Goes-dropped}
+use Rattle.std.proofs.raw_atomic.Walks.{proved_at, leaves}
+use Rattle.std.specs.Prelude.{Option}
+use Rattle.nullable_box.specs.Held.{held}
+use Rattle.nullable_box.specs.contracts.nullable_box.NullableBox as nullable
+use Rattle.nullable_box.proofs.Owners.{single, OnePtr, owner_in, owner_out}
+
+-- A struct of one pointer that owns an R, or nothing. Of a struct that is written out each equation is `refl`.
+pub record Owner (R : RattleType) : Type 1 where
+  pub name : Sym
+  pub row : RattleType
+  pub at : row.Denot → Ptr
+  pub value : row.Denot → Option R.Denot
+  pub make : Ptr → Option R.Denot → row.Denot
+  pub owned : (d : row.Denot) (vs : List Val) → row.own_val d vs ≡ fsep (OnePtr.own_val (at d, tt) vs) (held R (at d) (value d))
+  pub made : (p : Ptr) (v : Option R.Denot) (vs : List Val) → row.own_val (make p v) vs ≡ fsep (OnePtr.own_val (p, tt) vs) (held R p v)
+  pub valued : (p : Ptr) (v : Option R.Denot) → value (make p v) ≡ v
+  pub silent : (d : row.Denot) (f : Last (row.exit yes) d) → left (row.exit yes) d f ≡ ftrue
+
+abbrev pub nullable_box : (R : RattleType) → Owner R
+nullable_box R = record {
+  name = (nullable.the_type R).name;
+  row = nullable.the_row R;
+  at = λ d. d.at;
+  value = λ d. d.value;
+  make = λ p v. record { at = p; value = v };
+  owned = λ d vs. refl;
+  made = λ p v vs. refl;
+  valued = λ p v. refl;
+  silent = λ d f. refl;
+}
+
+module _ (name name' : Sym) where
+  abbrev struct_of : Sym → Ty
+  struct_of n = ty_struct n (tcons ty_ptr tnil)
+
+  -- the pointer is taken out of the one struct, and put into the other
+  abbrev pub moving : Fn
+  moving = record {
+    lifetimes = 0;
+    outlives = [];
+    ty_params = [];
+    givens = 0;
+    params = 1;
+    locals = local (struct_of name') value_local ∷ local (struct_of name) value_local ∷ local ty_ptr value_local ∷ local ty_ptr value_local ∷ [];
+    body = seq (assign (place 2 []) (rv_opd (copy (place 1 (field 0 ∷ []))))) (seq (assign (place 3 []) (rv_opd (copy (place 2 []))))
+        (seq (assign (place 0 []) (aggregate (copy (place 3 []) ∷ []))) return));
+  }
+
+pointer_good : (p : Ptr) → T (has_ty ty_ptr (ptr_val p)) × WT (ptr_val p)
+pointer_good (block_ptr b o) = (tt, tt)
+pointer_good null_ptr = (tt, record { fits = lit< tt })
+
+single_good : (p : Ptr) → T (has_ty ty_ptr (ptr_val p) && true) × WT (single (ptr_val p))
+single_good (block_ptr b o) = (tt, (tt, tt))
+single_good null_ptr = (tt, (record { fits = lit< tt }, tt))
+
+module _ {R : RattleType} (P Q : Owner R) where
+  abbrev signature : Signature
+  signature = record { lifetimes = 0; outlives = []; params = plain (λ _. P.row) ∷ []; result = plain (λ _. Q.row) }
+
+  abbrev ended : Ended
+  ended = record { signature = signature; kept = (yes, tt) }
+
+  abbrev stays : Stays signature.params ended.kept
+  stays = (stay_dropped (plain (λ _. P.row)) yes, tt)
+
+  module _ {M : Type 1} (𝓤 : Ura M) where
+    -- the value is the same
+    abbrev clauses : Clauses 𝓤 ended
+    clauses κs a = record { ghost = Unit {0}; requires = λ _. emp 𝓤; ensures = λ _ r _. fact 𝓤 (Q.value r ≡ P.value a.0) }
+
+    module _ (𝓛 : Logic 𝓤) (𝓜 : Model 𝓤 𝓛.H) (𝓡 : Running 𝓤 𝓛.H 𝓜) where
+      abbrev 𝓣 : MachineTables 𝓤 𝓛.H 𝓜
+      𝓣 = tables 𝓤 𝓛.H 𝓜 𝓡 𝓡.env
+
+      pub moved : (key : Callee) → Closed 𝓤 𝓛.H 𝓣.C 𝓣.Λ key (moving P.name Q.name) → Meets 𝓛 signature (𝓣.C key) (closing 𝓛 ended clauses)
+      moved key closed =
+          let H = 𝓛.H in
+          let fn = moving P.name Q.name in
+          proved_at 𝓛 ended stays clauses 𝓜 𝓡 (Goes-dropped 𝓛 0 (plain (λ _. P.row)) yes (λ κs d f. P.silent d f), tt) key fn closed (λ z are.
+          let d = z.0.3.0 in
+          let p = P.at d in
+          let v = P.value d in
+          let w : Val = single (ptr_val p) in
+          let Post : Val → SProp 𝓤 = (walk_of 𝓛 ended stays clauses).post z in
+          let Run : List Val → SProp 𝓤 = λ ws. WpFn 𝓤 H 𝓣.C 𝓣.Λ fn ws Post in
+          qed 𝓛 ((‵ ftrue ⊛ ‵ (owns (types_at signature.params tt) z.0.3 z.0.4)) ∷ raw (emp 𝓤) ∷ []) ∵ split ! $ drop ! $ fsplit ! $
+          rewrite ! 0 (λ (F : Fml). ‵ F) (P.owned d z.0.4.0) refl $ owner_out ! p (held R p v) z.0.4.0 (λ word.
+          suffices ! (Run (w ∷ [])) (subst (λ (us : List Val). ent 𝓤 (Run (w ∷ [])) (Run us)) (sym (λ i. word i ++ [])) (id⊢ 𝓤 (Run (w ∷ [])))) $
+          enter ! 𝓣.C 𝓣.Λ fn (w ∷ []) Post $ alloc_all ! (λ l. pass_all ! refl (single_good p, tt) $
+          sets ! (of_opd ! (get_in ! (fld ! refl (stop !)) (sub ! 0 refl (whole !)))) refl (pointer_good p) $
+          sets ! (of_opd ! (get ! refl)) refl (pointer_good p) $
+          sets ! (agg ! (and_then ! (get ! refl) (no_more !))) refl (single_good p) $
+          owner_in ! p (held R p v) $ rewrite ! 0 (λ (F : Fml). ‵ F) (sym (Q.made p v (w ∷ []))) refl $
+          use0 𝓛 (raw (fact 𝓤 (Q.value (Q.make p v) ≡ v))) (fact_i 𝓤 (Q.value (Q.make p v) ≡ v) (emp 𝓤) (Q.valued p v)) $
+          nothing ! $ nothing ! $ fjoin ! $ nothing ! $
+          returns ! (look_at ! 0 refl) $ free_all ! refl $ keep ! (0 ∷ 1 ∷ 3 ∷ 2 ∷ []) $
+          by ! (leaves 𝓛 ended stays clauses z w (Q.make p v) (rest (P.row.exit yes) d, tt) (tt, tt)))))
