@@ -3,7 +3,7 @@
 ghost use Rattle.serde_json_path_functions.specs.Functions.{FunctionSet};
 ghost use Rattle.serde_json_path.specs.Fitting.{TakesBuiltin, TakesBuiltin-prop};
 
-use crate::answers::push_answer;
+use crate::answers::{join, push_answer};
 use crate::colours::push_colored;
 use crate::inputs::Inputs;
 use crate::paths::AskedPath;
@@ -54,25 +54,6 @@ impl<F: Functions> Job<'_, F> {
         Ok(head)
     }
 
-    /// Appends the answer of a path, and returns whether a node was chosen.
-    fn push_uncolored(
-        &self,
-        path: &AskedPath,
-        head: &str,
-        document: &Value,
-        text: &mut String,
-    ) -> Result<bool, QueryError> {
-        push_answer(
-            self.alloc,
-            &self.output,
-            head,
-            &path.path,
-            self.functions,
-            document,
-            text,
-        )
-    }
-
     /// Appends the answer of a path, in colours where they are wanted, and returns whether a node was chosen.
     fn push_path(
         &self,
@@ -81,12 +62,21 @@ impl<F: Functions> Job<'_, F> {
         document: &Value,
         text: &mut String,
     ) -> Result<bool, QueryError> {
-        if !self.colored {
-            return self.push_uncolored(path, head, document, text);
-        }
         let mut plain = String::new(self.alloc);
-        let selected = self.push_uncolored(path, head, document, &mut plain)?;
-        push_colored(self.alloc, text, plain.as_str(), head, self.output.form)?;
+        let selected = push_answer(
+            self.alloc,
+            &self.output,
+            head,
+            &path.path,
+            self.functions,
+            document,
+            &mut plain,
+        )?;
+        if self.colored {
+            push_colored(self.alloc, text, plain.as_str(), head, self.output.form)?;
+        } else {
+            join(text, plain)?;
+        }
         Ok(selected)
     }
 

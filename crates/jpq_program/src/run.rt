@@ -15,8 +15,7 @@ use crate::paths::{AskedPath, asked_paths};
 use crate::streams::{OUTPUT_FAILED, REFUSED, SELECTED, Stop, Streams, WRONG_USE};
 use jpq_options::options::{Asked, Color, Options, read};
 use jsonpath_lines::Output;
-use jsonpath_program::ruled::Ruled;
-use serde_json_path::functions::{CachedPatterns, Functions, Numbers, PatternStore};
+use serde_json_path::functions::{CachedPatterns, Functions, Numbers, PatternStore, Ruled};
 use std::alloc::Global;
 use std::cell::Cell;
 use std::io::Write;
@@ -89,93 +88,86 @@ fn numbers_of(options: &Options<'_>) -> Numbers {
     }
 }
 
-/// What a run is given besides its words.
-#[derive(Clone, Copy, Drop)]
-struct Setting {
-    alloc: Global,
-    /// Whether the output is a terminal.
-    terminal: bool,
+/// Whether lines have colours, as the options say.
+fn is_colored(options: &Options<'_>, is_terminal: bool) -> bool {
+    match options.color {
+        Color::Always => true,
+        Color::Never => false,
+        Color::Auto => is_terminal,
+    }
 }
 
-impl Setting {
-    /// Whether lines have colours.
-    fn is_colored(self, options: &Options<'_>) -> bool {
-        match options.color {
-            Color::Always => true,
-            Color::Never => false,
-            Color::Auto => self.terminal,
-        }
+/// Answers all documents under a function set.
+fn answer_under<'x, F: Functions, I: Inputs, W: Write, E: Write>(
+    alloc: Global,
+    options: &Options<'_>,
+    colored: bool,
+    paths: &'x [AskedPath],
+    functions: &'x F,
+    inputs: &mut I,
+    streams: &mut Streams<'_, W, E>,
+) -> Result<(), Stop>
+    requires { TakesBuiltin (F.set functions.now) }
+{
+    let job = Job {
+        alloc,
+        paths,
+        functions,
+        output: output_of(options),
+        names_files: options.files.len() > 1,
+        lines: options.lines,
+        strict: options.strict,
+        colored,
+    };
+    if options.files.is_empty() {
+        return job.answer_all(&["-"], inputs, streams);
     }
+    job.answer_all(&options.files, inputs, streams)
+}
 
-    /// Answers all documents under a function set.
-    fn answer_under<'x, F: Functions, I: Inputs, W: Write, E: Write>(
-        self,
-        options: &Options<'_>,
-        paths: &'x [AskedPath],
-        functions: &'x F,
-        inputs: &mut I,
-        streams: &mut Streams<'_, W, E>,
-    ) -> Result<(), Stop>
-        requires { TakesBuiltin (F.set functions.now) }
-    {
-        let job = Job {
-            alloc: self.alloc,
-            paths,
-            functions,
-            output: output_of(options),
-            names_files: options.files.len() > 1,
-            lines: options.lines,
-            strict: options.strict,
-            colored: self.is_colored(options),
-        };
-        if options.files.is_empty() {
-            return job.answer_all(&["-"], inputs, streams);
-        }
-        job.answer_all(&options.files, inputs, streams)
-    }
+/// Answers all documents by the rule for numbers that is asked for, and returns how many times a comparison met a number that
+/// is not held as an integer.
+fn answer_documents<I: Inputs, W: Write, E: Write>(
+    alloc: Global,
+    options: &Options<'_>,
+    colored: bool,
+    paths: &[AskedPath],
+    inputs: &mut I,
+    streams: &mut Streams<'_, W, E>,
+) -> Result<usize, Stop> {
+    let store = PatternStore::new();
+    let ruled = Ruled {
+        functions: CachedPatterns::new(alloc, &store),
+        numbers: numbers_of(options),
+    };
+    let functions = Counted {
+        functions: ruled,
+        floats: Cell::new(0),
+    };
+    answer_under(alloc, options, colored, paths, &functions, inputs, streams)?;
+    Ok(functions.floats.get())
+}
 
-    /// Answers all documents by the rule for numbers that is asked for, and returns how many times a comparison met a number that
-    /// is not held as an integer.
-    fn answer_documents<I: Inputs, W: Write, E: Write>(
-        self,
-        options: &Options<'_>,
-        paths: &[AskedPath],
-        inputs: &mut I,
-        streams: &mut Streams<'_, W, E>,
-    ) -> Result<usize, Stop> {
-        let store = PatternStore::new();
-        let ruled = Ruled {
-            functions: CachedPatterns::new(self.alloc, &store),
-            numbers: numbers_of(options),
-        };
-        let functions = Counted {
-            functions: ruled,
-            floats: Cell::new(0),
-        };
-        self.answer_under(options, paths, &functions, inputs, streams)?;
-        Ok(functions.floats.get())
+/// Runs with options: reads the paths, then checks them or answers the documents.
+fn run_with<I: Inputs, W: Write, E: Write>(
+    alloc: Global,
+    options: &Options<'_>,
+    colored: bool,
+    inputs: &mut I,
+    streams: &mut Streams<'_, W, E>,
+) -> Result<(), Stop> {
+    let paths = asked_paths(alloc, options, inputs, streams)?;
+    if options.check {
+        return check(alloc, &paths, streams);
     }
-
-    /// Runs with options: reads the paths, then checks them or answers the documents.
-    fn run_with<I: Inputs, W: Write, E: Write>(
-        self,
-        options: &Options<'_>,
-        inputs: &mut I,
-        streams: &mut Streams<'_, W, E>,
-    ) -> Result<(), Stop> {
-        let paths = asked_paths(self.alloc, options, inputs, streams)?;
-        if options.check {
-            return check(self.alloc, &paths, streams);
-        }
-        let floats = self.answer_documents(options, &paths, inputs, streams)?;
-        if options.whole_numbers && !options.silent {
-            tell_floats(self.alloc, floats, streams)?;
-        }
-        if streams.outcome.selected || streams.outcome.refused || options.silent {
-            return Ok(());
-        }
-        hint_at_nothing(self.alloc, &paths, streams)
+    let floats = answer_documents(alloc, options, colored, &paths, inputs, streams)?;
+    if options.whole_numbers && !options.silent {
+        tell_floats(alloc, floats, streams)?;
     }
+    if streams.outcome.selected || streams.outcome.refused || options.silent {
+        return Ok(());
+    }
+    hint_at_nothing(alloc, &paths, streams)
 }
 
 /// The exit status of a run that ended so; tells what ended it.
@@ -224,11 +216,10 @@ pub fn run<I: Inputs, W: Write, E: Write>(
 {
     let mut streams = Streams::new(out, err);
     let ended = match read(alloc, words) {
-        Ok(Asked::Run(options)) => Setting { alloc, terminal }.run_with(
-            &options,
-            inputs,
-            &mut streams,
-        ),
+        Ok(Asked::Run(options)) => {
+            let colored = is_colored(&options, terminal);
+            run_with(alloc, &options, colored, inputs, &mut streams)
+        }
         Ok(Asked::Print(text)) => {
             streams.outcome.selected = true;
             streams.write(text.as_str())

@@ -5,7 +5,8 @@ use Rattle.std.proofs.lemmas.List.Sums.{sum_by_push}
 use Rattle.serde_json_path_nodes.specs.Location.{Located}
 use Rattle.jsonpath_owned_nodes.specs.Kept.{KeptNode, kept}
 use Rattle.jsonpath_c.specs.Handles.{AreFirstNodes, IsNodeBeyond, all_name_bytes, name_bytes}
-use Rattle.jsonpath_c.specs.Inside.{AreEnough, HasNoRoomFor, IsLeftAfter}
+use Rattle.jsonpath_lines.specs.Distinct.{AreEnough}
+use Rattle.jsonpath_c.specs.Inside.{AreWithin, HasNoRoomFor, IsLeftAfter}
 use Rattle.jsonpath_c.specs.declared.limits.Limits.{Limits}
 
 -- what is kept of one node more
@@ -23,12 +24,6 @@ within before after text position is at =
     (omega arith, omega arith)
 
 -- ---- lists within limits
-
--- a list has these nodes, and the limits leave so much for more
-pub record AreWithin (limits left : Limits) (shown : List Located) (list : List KeptNode) : Type 0 where
-  pub same : list ≡ map kept shown
-  pub nodes : left.nodes + length shown ≡ limits.nodes
-  pub bytes : left.bytes + all_name_bytes shown ≡ limits.bytes
 
 -- one node more, for which there was room
 pub one_within : (limits left less : Limits) (shown : List Located) (next : Located) (list longer : List KeptNode) → AreWithin limits left shown list

@@ -14,7 +14,7 @@ use crate::limits::Limits;
 use crate::put::put;
 use crate::status::{CUT_SHORT, DONE, EMPTY_HANDLE, NO_MEMORY, QUERY_REFUSED};
 use crate::walks::walk;
-use jsonpath_program::report::LineForm;
+use jsonpath_lines::Form;
 use serde_json_path::QueryError;
 use serde_json_path::functions::PatternStore;
 use std::alloc::Global;
@@ -31,20 +31,20 @@ pub(crate) fn status_of(e: QueryError) -> u8
 }
 
 /// The form of lines that a number names.
-fn form_named(form: u8) -> LineForm
+fn form_named(form: u8) -> Form
     ensures { result ≡ form_of form }
 {
     match form {
-        1 => LineForm::Value,
-        2 => LineForm::Location,
-        _ => LineForm::LocationAndValue,
+        1 => Form::Value,
+        2 => Form::Location,
+        _ => Form::LocationAndValue,
     }
 }
 
 /// Puts the lines of what a path selects from a document, as many as the limits allow.
 fn put_lines(
     alloc: Global,
-    form: LineForm,
+    form: Form,
     limits: &Limits,
     path: &Compiled,
     document: &Document,
@@ -106,7 +106,7 @@ fn counted(alloc: Global, path: &Compiled, document: &Document) -> Result<usize,
 {
     let store = PatternStore::new();
     let nodes = walk(alloc, path, document, &store)?;
-    count_of(alloc, nodes)
+    count_of(nodes)
 }
 
 /// Counts the nodes that a path selects from a document: 0; 3 where the query is refused for a pattern; 4 without memory; 7

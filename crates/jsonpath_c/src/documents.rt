@@ -5,8 +5,7 @@ ghost use Rattle.std.specs.Option.{MatchOption};
 ghost use Rattle.std.specs.Str.{IsUtf8};
 ghost use Rattle.serde_json.specs.Data.{Data};
 ghost use Rattle.serde_json.specs.View.{view};
-ghost use Rattle.jsonpath_document.specs.Document.{is_too_deep_at};
-ghost use Rattle.jsonpath_program.specs.Report.{ReadsAs};
+ghost use Rattle.jsonpath_document.specs.Document.{ReadsAs, is_too_deep_at};
 
 use crate::handle::document::{Document, DocumentHandle};
 use crate::status::{DOCUMENT_REFUSED, DOCUMENT_TOO_DEEP, DONE, NO_MEMORY};

@@ -9,7 +9,7 @@ ghost use Rattle.jsonpath_c.specs.Inside.{HasNoRoomFor, IsLeftAfter};
 
 use crate::limits::Limits;
 use jsonpath_owned_nodes::OwnedNodes;
-use serde_json_path::{LocatedNode, NormalizedPath, PathElement};
+use serde_json_path::{LocatedNode, NormalizedPath, PathElement, QueryError, Sink, Taken};
 use std::alloc::{AllocError, Global};
 
 /// What is left of so many bytes after the names of a location have taken theirs, or `None` where these are too few.
@@ -64,5 +64,22 @@ impl Filling {
         self.nodes.push(node)?;
         self.left = Limits { nodes, bytes };
         Ok(true)
+    }
+}
+
+impl<'b> Sink<'b> for Filling {
+    ghost use Rattle.jsonpath_c.specs.Inside.{FilledList, TookList};
+
+    ghost took = { TookList };
+
+    ghost filled = { FilledList };
+
+    #[inline(always)]
+    fn take(&mut self, node: LocatedNode<'b>) -> Result<Taken<'b>, QueryError> {
+        if self.push(&node)? {
+            Ok(Taken::More(node.into_steps()))
+        } else {
+            Ok(Taken::Enough)
+        }
     }
 }

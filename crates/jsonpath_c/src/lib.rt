@@ -16,7 +16,6 @@ mod bounded;
 mod check;
 mod compiled;
 mod counted;
-mod distinct;
 mod documents;
 mod filling;
 mod handle;

@@ -7,9 +7,9 @@ ghost use Rattle.serde_json_path_core.specs.Walks.{document_of, query_of, rest, 
 ghost use Rattle.serde_json_path_nodes.specs.Lists.{first_places};
 ghost use Rattle.jsonpath_c.specs.Handles.{AreFirstNodes};
 
-use crate::distinct::distinct_nodes;
 use crate::filling::Filling;
 use crate::limits::Limits;
+use jsonpath_lines::distinct_nodes;
 use jsonpath_owned_nodes::OwnedNodes;
 use serde_json_path::functions::Functions;
 use serde_json_path::{LocatedNode, QueryError, Walk};
@@ -28,7 +28,7 @@ pub(crate) struct FirstNodes {
 pub(crate) fn first_nodes<F: Functions + Drop>(
     alloc: Global,
     limits: &Limits,
-    mut walk: Walk<'_, '_, F>,
+    walk: Walk<'_, '_, F>,
 ) -> Result<FirstNodes, QueryError>
     ensures nodes { IfOk result (λ first.
         AreFirstNodes limits.now (rest walk.entry) first.nodes first.all) }
@@ -36,19 +36,10 @@ pub(crate) fn first_nodes<F: Functions + Drop>(
         (document_of walk.entry) result }
 {
     let mut filling = Filling::new(alloc, limits);
-    let mut steps = Vec::new(alloc);
-    'nodes: while let Some(node) = walk.next_into(steps)? {
-        if !filling.push(&node)? {
-            return Ok(FirstNodes {
-                nodes: filling.nodes,
-                all: false,
-            });
-        }
-        steps = node.into_steps();
-    }
+    let all = walk.feed(&mut filling)?;
     Ok(FirstNodes {
         nodes: filling.nodes,
-        all: true,
+        all,
     })
 }
 

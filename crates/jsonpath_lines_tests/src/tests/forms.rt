@@ -1,6 +1,6 @@
 //! What is shown in each form and layout.
 
-use jsonpath_lines::{Form, Layout, LineEnd, Output, append};
+use jsonpath_lines::{Form, Layout, LineEnd, Output, write_nodes};
 use serde_json::Value;
 use serde_json_path::JsonPath;
 use serde_json_path::functions::Builtin;
@@ -19,7 +19,7 @@ pub(crate) const fn output(form: Form, layout: Layout) -> Output {
     }
 }
 
-/// How many nodes of a path and a document are chosen, and what is appended to a text for them, after a head.
+/// How many nodes of a path and a document are chosen, and what is written of them, each line after a head.
 pub(crate) fn shown(
     alloc: Global,
     output: &Output,
@@ -30,9 +30,8 @@ pub(crate) fn shown(
     let path = JsonPath::parse_with(alloc, path, &Builtin)?;
     let document = Value::from_str(alloc, document)?;
     let walk = path.walk(alloc, &document, &Builtin)?;
-    let mut text = String::from_str(alloc, "|")?;
-    let count = append(alloc, output, head, &mut text, walk)?;
-    Ok(format!(in alloc; "{count} {text}")?)
+    let written = write_nodes(alloc, output, head, String::new(alloc), walk)?;
+    Ok(format!(in alloc; "{} |{}", written.count, written.text)?)
 }
 
 /// A path, a document, how many nodes are chosen, and their lines, by form.

@@ -1,7 +1,7 @@
 //! Which nodes are chosen.
 
 use crate::tests::forms::{output, shown};
-use jsonpath_lines::{Form, Layout, Output, append};
+use jsonpath_lines::{Form, Layout, Output, write_nodes};
 use serde_json::Value;
 use serde_json_path::JsonPath;
 use serde_json_path::functions::Builtin;
@@ -104,25 +104,24 @@ fn no_node_beyond_the_last_is_asked_for(rt: HostRuntime) -> Result<(), Fail> {
     table.end()
 }
 
-/// Why a path and a document are refused, and the text after that.
+/// Why the query of a path on a document is refused.
 fn refusal(alloc: Global, given: &str) -> Result<String, Fail> {
     let (path, document) = fields(given)?;
     let path = JsonPath::parse_with(alloc, path, &Builtin)?;
     let document = Value::from_str(alloc, document)?;
     let walk = path.walk(alloc, &document, &Builtin)?;
     let output = output(Form::Location, Layout::Compact);
-    let mut text = String::from_str(alloc, "|")?;
-    match append(alloc, &output, "", &mut text, walk) {
-        Ok(count) => Ok(format!(in alloc; "{count} {text}")?),
-        Err(e) => Ok(format!(in alloc; "{e} {text}")?),
+    match write_nodes(alloc, &output, "", String::new(alloc), walk) {
+        Ok(written) => Ok(written.text),
+        Err(e) => Ok(format!(in alloc; "{e}")?),
     }
 }
 
 #[test]
-fn a_refusal_appends_nothing(rt: HostRuntime) -> Result<(), Fail> {
+fn a_refused_query_is_told(rt: HostRuntime) -> Result<(), Fail> {
     let mut table = Table::new(&rt);
     table.hold(
-        ("all nodes", REFUSED_LATER, "pattern refused |"),
+        ("all nodes", REFUSED_LATER, "pattern refused"),
         refusal(rt.alloc(), REFUSED_LATER),
     );
     table.end()

@@ -16,7 +16,7 @@ use Rattle.serde_json.specs.declared.value.Value as value
 use Rattle.serde_json.specs.Written.{outline, compact_text, has_float}
 use Rattle.serde_json.proofs.Numbers.{number_of-decimal, number_of-negative}
 use Rattle.serde_json.proofs.Texts.{print-outline}
-use Rattle.jsonpath_program.specs.Report.{IsJsonOf}
+use Rattle.jsonpath_lines.specs.Output.{IsJsonOf}
 
 abbrev whole : Option (json.Json × List Token) → Option Data
 whole o = option_and_then of_json (option_and_then (λ p. json.if_last p.0 p.1) o)

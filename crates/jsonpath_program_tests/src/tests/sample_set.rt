@@ -1,4 +1,4 @@
-//! A function set as an example.
+//! A function set for rows.
 
 use serde_json_path::QueryError;
 use serde_json_path::functions::FunctionArgType::{Logical, Nodelist};
@@ -15,10 +15,10 @@ use std::alloc::Global;
 /// let nodes = path.query_located_with(alloc, &document, &Samples)?;
 /// ```
 #[derive(Clone, Copy, Debug)]
-pub struct Samples;
+pub(crate) struct Samples;
 
 impl Functions for Samples {
-    ghost use Rattle.jsonpath_program.specs.Samples.{samples, samples_keep_types, samples_keep_patterns};
+    ghost use Rattle.jsonpath_program_tests.specs.Samples.{samples, samples_keep_types, samples_keep_patterns};
 
     ghost set = { λ _. samples };
 

@@ -1,4 +1,4 @@
-//! What is shown of nodes, one after the other.
+//! The lines of nodes, one after the other.
 
 ghost use Rattle.std.specs.Prelude.{◌≡◌, ◌++◌, codes, IfOk, OnOk, string_bytes};
 ghost use Rattle.json.specs.Lex.{tokens};
@@ -13,9 +13,9 @@ use crate::values::{indented, push_item, push_json, push_raw};
 use serde_json_path::LocatedNode;
 use std::alloc::{AllocError, Global};
 
-/// How nodes are shown.
-#[derive(Drop)]
-pub(crate) struct Showing<'a> {
+/// How nodes are written: in which form, and what each line begins with.
+#[derive(Clone, Copy, Drop)]
+pub(crate) struct LineWriter<'a> {
     pub(crate) alloc: Global,
     pub(crate) output: &'a Output,
     pub(crate) head: &'a str,
@@ -32,17 +32,16 @@ fn push_comma(text: &mut String, is_later: bool) -> Result<(), AllocError>
     Ok(())
 }
 
-impl<'a> Showing<'a> {
-    /// What is written before all nodes.
-    pub(crate) fn opened(&self) -> Result<String, AllocError>
-        ensures { IfOk result (λ text.
-            string_bytes text ≡ opening self.now.output.now.form) }
+impl LineWriter<'_> {
+    /// Appends what is written before all nodes.
+    pub(crate) fn open(&self, text: &mut String) -> Result<(), AllocError>
+        ensures { OnOk result
+            (string_bytes text.new ≡ string_bytes text.old ++ opening self.now.output.now.form) }
     {
-        let mut text = String::new(self.alloc);
         if self.output.form == Form::Json {
-            text.push('[')?;
+            return text.push('[');
         }
-        Ok(text)
+        Ok(())
     }
 
     /// Appends a node's text in its form.
@@ -82,7 +81,7 @@ impl<'a> Showing<'a> {
         text.push_str(self.output.end.as_str())
     }
 
-    /// Appends what is shown of a node, which may be later than the first.
+    /// Appends what is written of a node, which may be later than the first.
     #[inline(always)]
     pub(crate) fn push_node(
         &self,
@@ -128,7 +127,7 @@ impl<'a> Showing<'a> {
         format!(in self.alloc; "{head}{json}{end}")
     }
 
-    /// What is shown of so many nodes, of what is written for them.
+    /// The text of so many nodes, of what is written of them.
     pub(crate) fn closed(&self, text: String, count: u64) -> Result<String, AllocError>
         requires { self.now.output.now.form ≡ Form.Json
             → ArePrintable (tokens (string_bytes text ++ codes "]")) }
@@ -142,4 +141,28 @@ impl<'a> Showing<'a> {
             _ => Ok(text),
         }
     }
+}
+
+/// Appends a node's line: the head, the node in the output's form, and the end of the line. It fails where memory is refused.
+///
+/// ```text
+/// push_line(alloc, &Output::compact_lines(Form::Location), "", &mut text, &node)?
+/// ```
+#[inline(always)]
+pub fn push_line(
+    alloc: Global,
+    output: &Output,
+    head: &str,
+    text: &mut String,
+    node: &LocatedNode<'_>,
+) -> Result<(), AllocError>
+    ensures { OnOk result (Appends (IsLine output.now head.now (located node.now))
+        (string_bytes text.old) (string_bytes text.new)) }
+{
+    let writer = LineWriter {
+        alloc,
+        output,
+        head,
+    };
+    writer.push_line(text, node)
 }
