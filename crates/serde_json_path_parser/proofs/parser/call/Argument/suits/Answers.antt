@@ -2,7 +2,7 @@ use Rattle.std.proofs.Common.{sym, ap, ◌∙◌}
 use Rattle.serde_json_path_parser.proofs.Words.{literal_view}
 use Rattle.serde_json_path_parser.specs.declared.parser.call.Argument.TheVariants as the_arguments
 use Rattle.serde_json_path_parser.proofs.Steps.{value_by, singular_by}
-use Rattle.serde_json_path_parser.proofs.parser.call.Argument.fits.Goals as goal
+use Rattle.serde_json_path_parser.proofs.parser.call.Argument.suits.Goals as goal
 
 pub returns-in-Value : goal.returns-in-Value
 returns-in-Value c = λ signature x h.
