@@ -78,6 +78,6 @@ pub(crate) fn first_unique_nodes<F: Functions + Drop>(
     ensures refused { OnlyMemoryOrPattern (set_of walk.entry) (query_of walk.entry)
         (document_of walk.entry) result }
 {
-    let found = distinct_nodes(alloc, limits.nodes, walk)?;
+    let found = distinct_nodes(alloc, Some(limits.nodes as u64), walk)?;
     Ok(first_of(alloc, limits, found.as_slice())?)
 }

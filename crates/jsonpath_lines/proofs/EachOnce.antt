@@ -1,11 +1,17 @@
 -- Nodes of which each location is taken once: of their beginning, of one node more, and of those that were taken so before.
-use Rattle.std.proofs.Common.{◌≡◌, Bool, true, false, ◌||◌, if◌then◌else◌, List, [], ◌∷◌, ◌++◌, map, refl, sym, ap, ◌∙◌, append_assoc, append-nil, arith}
+use Rattle.std.proofs.Common.{◌≡◌, ◌⊎◌, inl, inr, ℕ, Bool, true, false, ◌||◌, if◌then◌else◌, List, [], ◌∷◌, ◌++◌, Option, Some, None, length, map, take, refl, sym, ap, subst, ◌∙◌, append_assoc, append-nil, arith}
 use Rattle.std.proofs.lemmas.Bool.Decides.{nat_tests}
+use Rattle.std.proofs.lemmas.List.{take-append-le}
 use Rattle.std.proofs.lemmas.List.Folds.{list_any-append}
 use Rattle.serde_json_path_nodes.specs.Lists.{first_places, first_places_after, is_among}
 use Rattle.serde_json_path_nodes.specs.Location.{Located, Step}
 use Rattle.serde_json_path_nodes.specs.Same.{same_steps, same_steps_decides}
-use Rattle.serde_json_path_nodes.specs.Views.{location_of}
+use Rattle.serde_json_path_nodes.specs.Views.{located, location_of}
+use Rattle.serde_json_path_nodes.specs.declared.located_node.LocatedNode.{LocatedNode}
+use Rattle.jsonpath_lines.specs.Distinct.{AreEnough, IsExceeded}
+use Rattle.jsonpath_lines.specs.Inside.{FilledDistinct, TookDistinct}
+use Rattle.jsonpath_lines.specs.Output.{up_to}
+use Rattle.jsonpath_lines.specs.declared.distinct.DistinctNodes.{DistinctNodes}
 
 -- nodes that follow others
 after_append : (earlier : List (List Step)) (nodes later : List Located)
@@ -114,3 +120,42 @@ distinct_push some others next same =
     ∙ ap (λ b. first_places some ++ ((if b then [] else next ∷ []) ++ [])) among
     ∙ ap (λ l. l ++ ((if is_among next.location (map location_of others) then [] else next ∷ []) ++ [])) same
     ∙ sym (after_append [] others (next ∷ []))
+
+-- ---- a sink of nodes that differ in their locations
+
+-- none were taken yet
+pub none_met : (found : DistinctNodes) → found.nodes.items ≡ [] → TookDistinct found [] found
+none_met found none = record { limit = refl; met = ap (λ (nodes : List LocatedNode). first_places (map located nodes)) none; }
+
+-- another is met
+pub one_met : (before old now : DistinctNodes) (nodes : List Located) (n : Located) (held : List Located) → TookDistinct before nodes old
+    → now.limit ≡ old.limit → first_places held ≡ first_places (map located old.nodes.items) → map located now.nodes.items ≡ held ++ n ∷ [] → TookDistinct before (nodes ++ n ∷ []) now
+one_met before old now nodes n held took limit same pushed = record {
+  limit = limit ∙ took.limit;
+  met = ap first_places pushed ∙ distinct_push held nodes n (same ∙ took.met);
+}
+
+-- those that are left are enough
+pub enough_met : (before old now : DistinctNodes) (nodes later : List Located) → TookDistinct before nodes old
+    → map located now.nodes.items ≡ first_places (map located old.nodes.items) → IsExceeded old.limit (length (map located now.nodes.items)) → FilledDistinct before (nodes ++ later) now
+enough_met before old now nodes later took left many =
+    let same : first_places nodes ≡ map located now.nodes.items = sym took.met ∙ sym left in
+    let beginning = distinct_beginning nodes later in
+    (
+      beginning.0,
+      beginning.1 ∙ ap (λ (l : List Located). l ++ beginning.0) same,
+      inr (subst (λ limit. IsExceeded limit (length (map located now.nodes.items))) took.limit many),
+    )
+
+-- what is left of all is enough
+pub all_met : (before now : DistinctNodes) (nodes left : List Located) → TookDistinct before nodes now → left ≡ first_places (map located now.nodes.items) → AreEnough before.limit (first_places nodes) left
+all_met before now nodes left took is = ([], sym (append-nil (first_places nodes)) ∙ ap (λ (l : List Located). l ++ []) (sym (is ∙ took.met)), inl refl)
+
+-- the first of enough nodes, up to a limit, are the first of all
+pub first_of_enough : (limit : Option ℕ) (nodes found : List Located) → AreEnough limit nodes found → up_to limit found ≡ up_to limit nodes
+first_of_enough limit nodes found enough = by_rest limit nodes found enough.0 enough.1 enough.2
+  where
+    by_rest : (limit : Option ℕ) (nodes found later : List Located) → nodes ≡ found ++ later → (later ≡ []) ⊎ IsExceeded limit (length found) → up_to limit found ≡ up_to limit nodes
+    by_rest limit nodes found later is (inl none) = ap (up_to limit) (sym (is ∙ ap (λ (l : List Located). found ++ l) none ∙ append-nil found))
+    by_rest None nodes found later is (inr more) = absurd more
+    by_rest (Some most) nodes found later is (inr more) = sym (ap (λ (ns : List Located). take most ns) is ∙ take-append-le most found later (omega (arith, more)))

@@ -1,5 +1,5 @@
 -- What contracts of private functions cite alone.
-use Rattle.std.specs.Prelude.{◌≡◌, ◌≤◌, ℕ, min, Bool, true, false, List, [], ◌∷◌, ◌++◌, length, map, Option, Some, None, IfSome, string_bytes, unwrap_or, nat_le, if◌then◌else◌, codes}
+use Rattle.std.specs.Prelude.{◌≡◌, ◌≤◌, ℕ, min, Bool, true, false, List, [], ◌∷◌, ◌++◌, length, map, Option, Some, None, string_bytes, unwrap_or, nat_le, if◌then◌else◌, codes}
 use Rattle.std.specs.Fmt.{decimal}
 use Rattle.json.specs.Lex.{tokens}
 use Rattle.json.specs.Layout.{pretty}
@@ -116,18 +116,14 @@ FilledLines before nodes now =
     let shown = up_to before.limit nodes in
     Appends (ArePieces before.writer.output.now before.writer.head.now shown) (string_bytes before.text) (string_bytes now.text) × (now.count ≡ length shown)
 
--- so many are all that a limit allows
-abbrev pub IsWanted : Option ℕ → ℕ → Type 0
-IsWanted limit most = IfSome limit (λ wanted. most ≡ wanted)
-
 -- the nodes that differ in their locations are those of these nodes, where there was none before
 pub record TookDistinct (before : DistinctNodes) (nodes : List Located) (now : DistinctNodes) : Type 0 where
-  pub most : now.most ≡ before.most
+  pub limit : now.limit ≡ before.limit
   pub met : first_places (map located now.nodes.items) ≡ first_places nodes
 
 -- what differs is enough to have as many as are wanted
 abbrev pub FilledDistinct : DistinctNodes → List Located → DistinctNodes → Type 0
-FilledDistinct before nodes now = AreEnough before.most (first_places nodes) (map located now.nodes.items)
+FilledDistinct before nodes now = AreEnough before.limit (first_places nodes) (map located now.nodes.items)
 
 -- ---- the whole text
 

@@ -6,7 +6,7 @@ ghost use Rattle.serde_json_path_nodes.specs.Lists.{first_places};
 ghost use Rattle.serde_json_path_core.specs.Selects.{OnlyMemoryOrPattern};
 ghost use Rattle.serde_json_path_core.specs.Walks.{rest, query_of, set_of, document_of};
 ghost use Rattle.jsonpath_lines.specs.Output.{AreLines, IsCount, up_to};
-ghost use Rattle.jsonpath_lines.specs.Inside.{Appends, ArePieces, IsWanted, Pushes, asked, is_reached};
+ghost use Rattle.jsonpath_lines.specs.Inside.{Appends, ArePieces, Pushes, asked, is_reached};
 
 use crate::distinct::distinct_nodes;
 use crate::forms::Output;
@@ -122,16 +122,6 @@ fn first_nodes<'b>(limit: Option<u64>, mut nodes: Vec<LocatedNode<'b>>) -> Vec<L
     }
 }
 
-/// How many nodes are wanted at most, where there is a limit; otherwise more than there can be.
-fn most_wanted(limit: Option<u64>) -> usize
-    ensures { IsWanted limit result }
-{
-    match limit {
-        Some(most) => most as usize,
-        None => usize::MAX,
-    }
-}
-
 /// Appends what is written of the nodes of a walk up to the limit, each location once, and tells how many these are.
 fn push_unique<F: Functions + Drop>(
     writer: LineWriter<'_>,
@@ -145,7 +135,7 @@ fn push_unique<F: Functions + Drop>(
         (document_of walk.entry) result }
 {
     let limit = writer.output.limit();
-    let nodes = distinct_nodes(writer.alloc, most_wanted(limit), walk)?;
+    let nodes = distinct_nodes(writer.alloc, limit, walk)?;
     let nodes = first_nodes(limit, nodes);
     push_nodes(writer, &mut text, nodes.as_slice())?;
     Ok(Written {

@@ -6,18 +6,17 @@ use Rattle.jsonpath_lines.proofs.nodes.write_nodes.Goals as goal
 
 pub closed-requires : goal.closed-requires
 closed-requires g c =
-    let output = c.args.writer.output.now in
-    array_begun output c.args.writer.head.now (asked output (rest c.args.walk)) (string_bytes c.in_ok-text.text) (string_bytes c.push_chosen.new.text)
-    c.in_ok-count.count c.in_ok-text.ensures c.in_ok-count.ensures.pushed
+    array_begun c.args.output.now c.args.head.now (asked c.args.output.now (rest c.args.walk)) (string_bytes c.open.new.text) (string_bytes c.in_ok-written.written.text)
+    c.in_ok-written.written.count c.in_ok-open.ensures c.in_ok-written.ensures.pushed
 
 pub returns-clause-lines : goal.returns-clause-lines
 returns-clause-lines g c =
-    let shown = chosen_shown c.args.writer.output.now c.args.writer.head.now (rest c.args.walk) (string_bytes c.in_ok-text.text) (string_bytes c.push_chosen.new.text)
-    (string_bytes c.in_ok-text-2.text) c.in_ok-count.count c.in_ok-text.ensures c.in_ok-count.ensures.pushed c.in_ok-text-2.ensures in
+    let shown = chosen_shown c.args.output.now c.args.head.now (rest c.args.walk) (string_bytes c.open.new.text) (string_bytes c.in_ok-written.written.text)
+    (string_bytes c.in_ok-text.text) c.in_ok-written.written.count c.in_ok-open.ensures c.in_ok-written.ensures.pushed c.in_ok-text.ensures in
     shown.0
 
 pub returns-clause-count : goal.returns-clause-count
 returns-clause-count g c =
-    let shown = chosen_shown c.args.writer.output.now c.args.writer.head.now (rest c.args.walk) (string_bytes c.in_ok-text.text) (string_bytes c.push_chosen.new.text)
-    (string_bytes c.in_ok-text-2.text) c.in_ok-count.count c.in_ok-text.ensures c.in_ok-count.ensures.pushed c.in_ok-text-2.ensures in
+    let shown = chosen_shown c.args.output.now c.args.head.now (rest c.args.walk) (string_bytes c.open.new.text) (string_bytes c.in_ok-written.written.text)
+    (string_bytes c.in_ok-text.text) c.in_ok-written.written.count c.in_ok-open.ensures c.in_ok-written.ensures.pushed c.in_ok-text.ensures in
     shown.1
