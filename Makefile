@@ -46,6 +46,7 @@ test:
 	RT_JOBS="$$(tools/lanes)" rt ci
 	tools/must_not_compile
 	tools/refuse_memory --built
+	tools/edits > /dev/null
 	tools/check_documents
 	tools/conformance
 	tools/trusted --check docs/TRUSTED.md
