@@ -49,7 +49,7 @@ test:
 	tools/edits > /dev/null
 	tools/check_documents
 	tools/conformance
-	tools/trusted --check docs/TRUSTED.md
+	tools/trusted --check docs/TRUSTED_LISTS.md
 	tools/plot_ratios --check
 	tools/manual --check
 	$(MAKE) test-bindings
@@ -64,7 +64,7 @@ manual:
 
 # Writes the lists of what must be believed anew.
 trusted:
-	tools/trusted --write docs/TRUSTED.md
+	tools/trusted --write docs/TRUSTED_LISTS.md
 
 # Refuses each request for memory in turn, in tests that it proves and builds first, and prints what came of it.
 refused-memory:
