@@ -38,9 +38,9 @@ check:
 	rt all check
 
 # The whole gate: each proof from nothing, each test, and each edit that must be refused; then the programs that must not
-# compile and refused memory, over the libraries and the tests that the gate has left; the documents and the published cases,
-# by the programs that it has built, the list of what must be believed, the drawing of the measures, and the manual page; and
-# the bindings.
+# compile and refused memory, over the libraries and the tests that the gate has left; whether each edit still fits its file; the
+# documents and the published cases, by the programs that it has built, the list of what must be believed, the drawing of the
+# measures, and the manual page; and the bindings.
 test:
 	bindings/lacking --install || true
 	RT_JOBS="$$(tools/lanes)" rt ci
@@ -54,7 +54,7 @@ test:
 	tools/manual --check
 	$(MAKE) test-bindings
 
-# Runs each command that the documents show, and looks for each of their snippets in the code.
+# Runs each command that the documents show, and looks up each of their snippets, files and links.
 documents: bin/jsonpath bin/jpq
 	tools/check_documents
 
