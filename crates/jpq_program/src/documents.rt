@@ -19,7 +19,7 @@ use std::io::{BufRead, BufReader, Read, Write};
 
 /// What is asked of each document.
 #[derive(Drop)]
-pub(crate) struct Job<'a, F: Functions> {
+pub(crate) struct Answering<'a, F: Functions> {
     pub(crate) alloc: Global,
     pub(crate) paths: &'a [AskedPath],
     pub(crate) functions: &'a F,
@@ -40,7 +40,7 @@ fn told_name(name: &str) -> &str {
     if name == "-" { "standard input" } else { name }
 }
 
-impl<F: Functions> Job<'_, F> {
+impl<F: Functions> Answering<'_, F> {
     /// What each line of a path's answer begins with: the file's name if there are several, then the path's number if there
     /// are several, and a tab after each.
     fn head(&self, name: &str, number: usize) -> Result<String, AllocError> {
@@ -95,7 +95,7 @@ impl<F: Functions> Job<'_, F> {
                 Err(e) => {
                     let name = told_name(name);
                     let told = format!(in self.alloc; "jpq: {name}: the query is refused: {e}\n")?;
-                    streams.refuse(told.as_str());
+                    streams.tell_refusal(told.as_str());
                 }
             }
         }
@@ -124,7 +124,7 @@ impl<F: Functions> Job<'_, F> {
             ..e
         };
         let name = told_name(name);
-        streams.refuse(format!(in self.alloc; "jpq: {name}: {e}\n")?.as_str());
+        streams.tell_refusal(format!(in self.alloc; "jpq: {name}: {e}\n")?.as_str());
         if self.strict {
             Err(Stop::Refused)
         } else {
@@ -140,7 +140,7 @@ impl<F: Functions> Job<'_, F> {
         streams: &mut Streams<'_, W, E>,
     ) -> Result<(), Stop> {
         let name = told_name(name);
-        streams.refuse(format!(in self.alloc; "jpq: {name}: cannot be read: {e}\n")?.as_str());
+        streams.tell_refusal(format!(in self.alloc; "jpq: {name}: cannot be read: {e}\n")?.as_str());
         Ok(())
     }
 

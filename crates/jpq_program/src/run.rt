@@ -3,17 +3,17 @@
 ghost use Rattle.std.specs.Prelude.{◌≡◌, ◌≤◌, ◌⊎◌, Err, map, string_bytes};
 ghost use Rattle.serde_json_path_functions.specs.Functions.{FunctionSet};
 ghost use Rattle.jpq_options.specs.Options.{AsksFor};
-ghost use Rattle.jpq_options.specs.declared.options.Asked as input;
+ghost use Rattle.jpq_options.specs.declared.options.Request as input;
 ghost use Rattle.serde_json_path.specs.Fitting.{TakesBuiltin};
 ghost use Rattle.jpq_program.specs.Query.{IsStatus, IsStatusOf};
 
 use crate::counted::Counted;
-use crate::documents::Job;
+use crate::documents::Answering;
 use crate::inputs::Inputs;
 use crate::nothing::reason_of;
 use crate::paths::{AskedPath, asked_paths};
 use crate::streams::{OUTPUT_FAILED, REFUSED, SELECTED, Stop, Streams, WRONG_USE};
-use jpq_options::options::{Asked, Color, Options, read};
+use jpq_options::options::{Request, Color, Options, read};
 use jsonpath_lines::Output;
 use serde_json_path::functions::{CachedPatterns, Functions, Numbers, PatternStore, Ruled};
 use std::alloc::Global;
@@ -109,7 +109,7 @@ fn answer_under<'x, F: Functions, I: Inputs, W: Write, E: Write>(
 ) -> Result<(), Stop>
     requires { TakesBuiltin (F.set functions.now) }
 {
-    let job = Job {
+    let answering = Answering {
         alloc,
         paths,
         functions,
@@ -120,9 +120,9 @@ fn answer_under<'x, F: Functions, I: Inputs, W: Write, E: Write>(
         colored,
     };
     if options.files.is_empty() {
-        return job.answer_all(&["-"], inputs, streams);
+        return answering.answer_all(&["-"], inputs, streams);
     }
-    job.answer_all(&options.files, inputs, streams)
+    answering.answer_all(&options.files, inputs, streams)
 }
 
 /// Answers all documents by the rule for numbers that is asked for, and returns how many times a comparison met a number that
@@ -171,7 +171,7 @@ fn run_with<I: Inputs, W: Write, E: Write>(
 }
 
 /// The exit status of a run that ended so; tells what ended it.
-fn status_of<W: Write, E: Write>(ended: Result<(), Stop>, streams: &mut Streams<'_, W, E>) -> u8
+fn exit_status<W: Write, E: Write>(ended: Result<(), Stop>, streams: &mut Streams<'_, W, E>) -> u8
     ensures few { result ≤ 3 }
     ensures memory { ended ≡ Err Stop.Memory → result ≡ 2 }
 {
@@ -211,24 +211,24 @@ pub fn run<I: Inputs, W: Write, E: Write>(
     err: &mut E,
 ) -> u8
     ensures one_of { IsStatus result }
-    ensures status { ((asked : input.Asked) × AsksFor (map string_bytes words.now) asked
+    ensures status { ((asked : input.Request) × AsksFor (map string_bytes words.now) asked
         × IsStatusOf asked result) ⊎ (result ≡ 2) }
 {
     let mut streams = Streams::new(out, err);
     let ended = match read(alloc, words) {
-        Ok(Asked::Run(options)) => {
+        Ok(Request::Run(options)) => {
             let colored = is_colored(&options, terminal);
             run_with(alloc, &options, colored, inputs, &mut streams)
         }
-        Ok(Asked::Print(text)) => {
+        Ok(Request::Print(text)) => {
             streams.outcome.selected = true;
             streams.write(text.as_str())
         }
-        Ok(Asked::WrongUse(_, text)) => {
+        Ok(Request::WrongUse(_, text)) => {
             streams.tell(text.as_str());
             return WRONG_USE;
         }
         Err(_) => Err(Stop::Memory),
     };
-    status_of(ended, &mut streams)
+    exit_status(ended, &mut streams)
 }

@@ -124,13 +124,13 @@ abbrev pub HasNode : Option Nodes → ℕ → (KeptNode → Type 0) → Type 0
 HasNode handle index Says = MatchOption handle ⊥ (λ list. MatchOption (slice_get list.nodes index) ⊥ Says)
 
 -- a value of which this holds stands in a document where a list's node at an index was
-abbrev pub StandsIn : Nodes → ℕ → Document → (Data → Type 0) → Type 0
-StandsIn list index d Says = MatchOption (slice_get list.nodes index) ⊥ (λ node.
+abbrev pub HasValueAt : Nodes → ℕ → Document → (Data → Type 0) → Type 0
+HasValueAt list index d Says = MatchOption (slice_get list.nodes index) ⊥ (λ node.
     MatchOption (at (view d.value) (location_of node)) ⊥ Says)
 
 -- the same of two handles
 abbrev pub StandsAt : Option Nodes → ℕ → Option Document → (Data → Type 0) → Type 0
-StandsAt list index document Says = BothHold list document (λ list d. StandsIn list index d Says)
+StandsAt list index document Says = BothHold list document (λ list d. HasValueAt list index d Says)
 
 -- how a location is written
 abbrev pub location_text : LocationForm → List Step → List ℕ

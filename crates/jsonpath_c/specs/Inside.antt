@@ -5,7 +5,7 @@ use Rattle.jsonpath_lines.specs.Output.{IsLineOfEach, compact_lines}
 use Rattle.jsonpath_owned_nodes.specs.Kept.{KeptNode, kept}
 use Rattle.jsonpath_c.specs.Handles.{AreFirstLines, AreFirstNodes, all_name_bytes, name_bytes}
 use Rattle.jsonpath_c.specs.declared.bounded.BoundedLines.{BoundedLines}
-use Rattle.jsonpath_c.specs.declared.filling.Filling.{Filling}
+use Rattle.jsonpath_c.specs.declared.bounded_list.BoundedList.{BoundedList}
 use Rattle.jsonpath_c.specs.declared.limits.Limits.{Limits}
 
 -- what is left of limits has room for a node, and this is what is left after it
@@ -38,9 +38,9 @@ pub record AreWithin (limits left : Limits) (shown : List Located) (list : List 
   pub bytes : left.bytes + all_name_bytes shown ≡ limits.bytes
 
 -- these nodes were taken, where there were none before
-abbrev pub TookList : Filling → List Located → Filling → Type 0
+abbrev pub TookList : BoundedList → List Located → BoundedList → Type 0
 TookList before nodes now = (before.nodes ≡ []) × AreWithin before.left now.left nodes now.nodes
 
 -- the first of these nodes were taken, before one for which there was no room
-abbrev pub FilledList : Filling → List Located → Filling → Type 0
+abbrev pub FilledList : BoundedList → List Located → BoundedList → Type 0
 FilledList before nodes now = AreFirstNodes before.left nodes now.nodes false

@@ -2,8 +2,8 @@
 
 ghost use Rattle.jsonpath_c.specs.Exports.{AnswersLines};
 
-use crate::put::put;
-use crate::refusal::{Refusal, refuse};
+use crate::output::put;
+use crate::refusal::{Refusal, put_refusal};
 use crate::status::{DOCUMENT_REFUSED, NO_MEMORY, NOT_UTF8, QUERY_REFUSED};
 use jsonpath_lines::Form;
 use jsonpath_program::report::{DocumentError, ReportError, report_in};
@@ -31,7 +31,7 @@ fn lines(
     let functions = CachedPatterns::new(alloc, &store);
     match report_in(alloc, form, path, document, &functions) {
         Ok(text) => put(text.as_str(), out, size),
-        Err(ReportError::Path(e)) => refuse(&e, refusal),
+        Err(ReportError::Path(e)) => put_refusal(&e, refusal),
         Err(ReportError::Document(DocumentError::NotJson)) => DOCUMENT_REFUSED,
         Err(ReportError::Query(QueryError::Pattern)) => QUERY_REFUSED,
         Err(

@@ -7,7 +7,7 @@ ghost use Rattle.serde_json_path_core.specs.Walks.{document_of, query_of, rest, 
 ghost use Rattle.serde_json_path_nodes.specs.Lists.{first_places};
 ghost use Rattle.jsonpath_c.specs.Handles.{AreFirstNodes};
 
-use crate::filling::Filling;
+use crate::bounded_list::BoundedList;
 use crate::limits::Limits;
 use jsonpath_lines::distinct_nodes;
 use jsonpath_owned_nodes::OwnedNodes;
@@ -35,10 +35,10 @@ pub(crate) fn first_nodes<F: Functions + Drop>(
     ensures refused { OnlyMemoryOrPattern (set_of walk.entry) (query_of walk.entry)
         (document_of walk.entry) result }
 {
-    let mut filling = Filling::new(alloc, limits);
-    let all = walk.feed(&mut filling)?;
+    let mut bounded_list = BoundedList::new(alloc, limits);
+    let all = walk.feed(&mut bounded_list)?;
     Ok(FirstNodes {
-        nodes: filling.nodes,
+        nodes: bounded_list.nodes,
         all,
     })
 }
@@ -52,17 +52,17 @@ fn first_of(
     ensures { IfOk result (λ first.
         AreFirstNodes limits.now (map located found.now) first.nodes first.all) }
 {
-    let mut filling = Filling::new(alloc, limits);
+    let mut bounded_list = BoundedList::new(alloc, limits);
     for node in found {
-        if !filling.push(node)? {
+        if !bounded_list.push(node)? {
             return Ok(FirstNodes {
-                nodes: filling.nodes,
+                nodes: bounded_list.nodes,
                 all: false,
             });
         }
     }
     Ok(FirstNodes {
-        nodes: filling.nodes,
+        nodes: bounded_list.nodes,
         all: true,
     })
 }

@@ -117,7 +117,7 @@ is_too_deep_at text position = is_too_deep_after text (position - 1)
 -- ---- where a fault is
 
 -- the fault stands in the text: at the line, the column and the byte of what follows some text before it
-abbrev pub StandsIn : List ℕ → DocumentError → Type 0
-StandsIn text e = (before after : List ℕ) × (text ≡ before ++ after)
+abbrev pub IsFaultIn : List ℕ → DocumentError → Type 0
+IsFaultIn text e = (before after : List ℕ) × (text ≡ before ++ after)
     × ((e.line, e.column) ≡ place_after before) × (e.position ≡ length before + 1)
     × (stands e.fault after ≡ true)

@@ -9,7 +9,7 @@ use Rattle.serde_json_path_nodes.specs.Same.{same_steps, same_steps_decides}
 use Rattle.serde_json_path_nodes.specs.Views.{located, location_of}
 use Rattle.serde_json_path_nodes.specs.declared.located_node.LocatedNode.{LocatedNode}
 use Rattle.jsonpath_lines.specs.Distinct.{AreEnough, IsExceeded}
-use Rattle.jsonpath_lines.specs.Inside.{FilledDistinct, TookDistinct}
+use Rattle.jsonpath_lines.specs.Inside.{TookDistinct}
 use Rattle.jsonpath_lines.specs.Output.{up_to}
 use Rattle.jsonpath_lines.specs.declared.distinct.DistinctNodes.{DistinctNodes}
 
@@ -125,26 +125,17 @@ distinct_push some others next same =
 
 -- none were taken yet
 pub none_met : (found : DistinctNodes) → found.nodes.items ≡ [] → TookDistinct found [] found
-none_met found none = record { limit = refl; met = ap (λ (nodes : List LocatedNode). first_places (map located nodes)) none; }
-
--- another is met
-pub one_met : (before old now : DistinctNodes) (nodes : List Located) (n : Located) (held : List Located) → TookDistinct before nodes old
-    → now.limit ≡ old.limit → first_places held ≡ first_places (map located old.nodes.items) → map located now.nodes.items ≡ held ++ n ∷ [] → TookDistinct before (nodes ++ n ∷ []) now
-one_met before old now nodes n held took limit same pushed = record {
-  limit = limit ∙ took.limit;
-  met = ap first_places pushed ∙ distinct_push held nodes n (same ∙ took.met);
-}
+none_met found none = record { limit = refl; met = ap (λ (nodes : List LocatedNode). first_places (map located nodes)) none }
 
 -- those that are left are enough
-pub enough_met : (before old now : DistinctNodes) (nodes later : List Located) → TookDistinct before nodes old
-    → map located now.nodes.items ≡ first_places (map located old.nodes.items) → IsExceeded old.limit (length (map located now.nodes.items)) → FilledDistinct before (nodes ++ later) now
-enough_met before old now nodes later took left many =
-    let same : first_places nodes ≡ map located now.nodes.items = sym took.met ∙ sym left in
-    let beginning = distinct_beginning nodes later in
-    (
+pub enough_met : (before old : DistinctNodes) (nodes later found : List Located) → TookDistinct before nodes old
+    → found ≡ first_places (map located old.nodes.items) → IsExceeded old.limit (length found) → AreEnough before.limit (first_places (nodes ++ later)) found
+enough_met before old nodes later found took left many =
+    let same : first_places nodes ≡ found = sym took.met ∙ sym left in
+    let beginning = distinct_beginning nodes later in (
       beginning.0,
       beginning.1 ∙ ap (λ (l : List Located). l ++ beginning.0) same,
-      inr (subst (λ limit. IsExceeded limit (length (map located now.nodes.items))) took.limit many),
+      inr (subst (λ limit. IsExceeded limit (length found)) took.limit many),
     )
 
 -- what is left of all is enough

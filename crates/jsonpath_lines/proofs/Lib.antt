@@ -6,7 +6,7 @@
 -- Compact: the texts of null, truth values and integers are their compact JSON, and read back.
 -- Scalars: the same in each layout.
 -- Arrays: the array of nodes, written item by item, is its JSON.
--- Written: what writes leave, one after the other.
+-- Appended: what writes leave, one after the other.
 pub mod Pieces
 pub mod Chosen
 pub mod EachOnce
@@ -14,4 +14,4 @@ pub mod Seen
 pub mod Compact
 pub mod Scalars
 pub mod Arrays
-pub mod Written
+pub mod Appended

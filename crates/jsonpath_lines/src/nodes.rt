@@ -53,7 +53,8 @@ impl<'a, 'b> Sink<'b> for Lines<'a> {
     // Inlined, as what it calls: each node passes here.
     #[inline(always)]
     fn take(&mut self, node: LocatedNode<'b>) -> Result<Taken<'b>, QueryError> {
-        self.writer.push_node(&mut self.text, self.count > 0, &node)?;
+        self.writer
+            .push_node(&mut self.text, self.count > 0, &node)?;
         // A walk that gave one node in each nanosecond would take 584 years to come to the error.
         self.count = self.count.checked_add(1).ok_or(QueryError::Memory)?;
         if is_reached(self.limit, self.count) {
@@ -70,7 +71,7 @@ fn push_walk<F: Functions + Drop>(
     walk: Walk<'_, '_, F>,
 ) -> Result<Written, QueryError>
     ensures pushed { IfOk result (λ written.
-        Pushes writer.output.now writer.head.now (rest walk.entry)
+        Pushes writer.entry.output.now writer.entry.head.now (rest walk.entry)
         (string_bytes text) (string_bytes written.text) written.count) }
     ensures refused { OnlyMemoryOrPattern (set_of walk.entry) (query_of walk.entry)
         (document_of walk.entry) result }
@@ -99,7 +100,7 @@ fn push_nodes(
     nodes: &[LocatedNode<'_>],
 ) -> Result<(), QueryError>
     ensures pushed { OnOk result (Appends
-        (ArePieces writer.output.now writer.head.now (map located nodes.now))
+        (ArePieces writer.entry.output.now writer.entry.head.now (map located nodes.now))
         (string_bytes text.old) (string_bytes text.new)) }
     ensures refused { IfErr result (λ e. e ≡ QueryError.Memory) }
 {
@@ -129,7 +130,7 @@ fn push_unique<F: Functions + Drop>(
     walk: Walk<'_, '_, F>,
 ) -> Result<Written, QueryError>
     ensures pushed { IfOk result (λ written.
-        Pushes writer.output.now writer.head.now (first_places (rest walk.entry))
+        Pushes writer.entry.output.now writer.entry.head.now (first_places (rest walk.entry))
         (string_bytes text) (string_bytes written.text) written.count) }
     ensures refused { OnlyMemoryOrPattern (set_of walk.entry) (query_of walk.entry)
         (document_of walk.entry) result }
@@ -151,7 +152,7 @@ fn push_chosen<F: Functions + Drop>(
     walk: Walk<'_, '_, F>,
 ) -> Result<Written, QueryError>
     ensures pushed { IfOk result (λ written.
-        Pushes writer.output.now writer.head.now (asked writer.output.now (rest walk.entry))
+        Pushes writer.entry.output.now writer.entry.head.now (asked writer.entry.output.now (rest walk.entry))
         (string_bytes text) (string_bytes written.text) written.count) }
     ensures refused { OnlyMemoryOrPattern (set_of walk.entry) (query_of walk.entry)
         (document_of walk.entry) result }

@@ -28,20 +28,20 @@ fn without_names(bytes: usize, location: &NormalizedPath<'_>) -> Option<usize>
 
 /// A list of nodes, and what limits leave for more.
 #[derive(Drop)]
-pub(crate) struct Filling {
+pub(crate) struct BoundedList {
     /// The nodes.
     pub(crate) nodes: OwnedNodes,
     /// How many nodes, and bytes of names, there is room for.
     pub(crate) left: Limits,
 }
 
-impl Filling {
+impl BoundedList {
     /// A list of no nodes within limits. Takes no memory.
-    pub(crate) fn new(alloc: Global, limits: &Limits) -> Filling
+    pub(crate) fn new(alloc: Global, limits: &Limits) -> BoundedList
         ensures nodes { result.nodes ≡ [] }
         ensures left { result.left ≡ limits.now }
     {
-        Filling {
+        BoundedList {
             nodes: OwnedNodes::new(alloc),
             left: *limits,
         }
@@ -67,7 +67,7 @@ impl Filling {
     }
 }
 
-impl<'b> Sink<'b> for Filling {
+impl<'b> Sink<'b> for BoundedList {
     ghost use Rattle.jsonpath_c.specs.Inside.{FilledList, TookList};
 
     ghost took = { TookList };

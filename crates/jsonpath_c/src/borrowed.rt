@@ -10,20 +10,20 @@ use std::alloc::Global;
 
 /// A path and a document, taken out of their handles.
 #[derive(Drop)]
-pub(crate) struct Lent {
+pub(crate) struct Borrowed {
     /// The path.
     pub(crate) path: Box<Compiled, Global>,
     /// The document.
     pub(crate) document: Box<Document, Global>,
 }
 
-impl Lent {
+impl Borrowed {
     /// Takes both out of their handles, or nothing where one is empty.
     pub(crate) fn take(
         alloc: Global,
         path: &mut PathHandle,
         document: &mut DocumentHandle,
-    ) -> Option<Lent>
+    ) -> Option<Borrowed>
         ensures { MatchOption result
             (((path.old.value ≡ None) ⊎ (document.old.value ≡ None))
             × (path.new.value ≡ path.old.value) × (document.new.value ≡ document.old.value))
@@ -32,7 +32,7 @@ impl Lent {
     {
         let compiled = path.take(alloc)?;
         match document.take(alloc) {
-            Some(taken) => Some(Lent {
+            Some(taken) => Some(Borrowed {
                 path: compiled,
                 document: taken,
             }),
