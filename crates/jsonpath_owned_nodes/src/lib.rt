@@ -21,6 +21,6 @@ mod runs;
 mod stored_location;
 mod stored_step;
 
-pub use node_info::{NodeInfo, NodeKind};
+pub use node_info::NodeInfo;
 pub use owned_nodes::OwnedNodes;
 pub use runs::Runs;

@@ -2,32 +2,9 @@
 
 ghost use Rattle.std.specs.Prelude.{◌≡◌};
 ghost use Rattle.serde_json.specs.View.{view, number_view};
-ghost use Rattle.jsonpath_owned_nodes.specs.Info.{info_of, info_of_number, kind_of, length_of};
+ghost use Rattle.jsonpath_owned_nodes.specs.Info.{info_of, info_of_number};
 
 use serde_json::{Number, Value};
-
-/// The kind of a node. A number is of the first of its three kinds that holds it.
-#[derive(Clone, Copy, Debug, PartialEq, Eq)]
-pub enum NodeKind {
-    /// `null`.
-    Null,
-    /// `false`.
-    False,
-    /// `true`.
-    True,
-    /// An integer that an `i64` holds.
-    Integer,
-    /// An integer that a `u64` holds.
-    Unsigned,
-    /// A double.
-    Double,
-    /// A string.
-    String,
-    /// An array.
-    Array,
-    /// An object.
-    Object,
-}
 
 /// The kind of a node with its number or its length.
 #[derive(Clone, Copy, Debug, PartialEq)]
@@ -53,35 +30,6 @@ pub enum NodeInfo {
 }
 
 impl NodeInfo {
-    /// The kind alone.
-    pub fn kind(&self) -> NodeKind
-        ensures { result ≡ kind_of self.now }
-    {
-        match self {
-            NodeInfo::Null => NodeKind::Null,
-            NodeInfo::False => NodeKind::False,
-            NodeInfo::True => NodeKind::True,
-            NodeInfo::Integer(_) => NodeKind::Integer,
-            NodeInfo::Unsigned(_) => NodeKind::Unsigned,
-            NodeInfo::Double(_) => NodeKind::Double,
-            NodeInfo::String(_) => NodeKind::String,
-            NodeInfo::Array(_) => NodeKind::Array,
-            NodeInfo::Object(_) => NodeKind::Object,
-        }
-    }
-
-    /// The number of bytes of a string, items of an array or members of an object; `None` for a node of another kind.
-    pub fn length(&self) -> Option<usize>
-        ensures { result ≡ length_of self.now }
-    {
-        match *self {
-            NodeInfo::String(length) | NodeInfo::Array(length) | NodeInfo::Object(length) => {
-                Some(length)
-            }
-            _ => None,
-        }
-    }
-
     /// What is known of a node with this value.
     pub fn of(value: &Value) -> NodeInfo
         ensures { result ≡ info_of (view value.now) }
