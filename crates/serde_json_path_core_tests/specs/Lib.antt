@@ -1,2 +1,2 @@
--- Samples: the function sets of the tests.
-pub mod Samples
+-- The function sets of the tests.
+pub mod TestSets

@@ -5,8 +5,7 @@ use Rattle.serde_json_path_parser.specs.Grammar.{Reads}
 
 -- The text, a list of characters, reads as the tree of a query from the root, well-typed under
 -- these signatures and no deeper than the limit.
-pub record IsAccepted (signature : List ℕ → Option Signature) (text : List ℕ) (q : Query)
-    : Type 0 where
+pub record IsAccepted (signature : List ℕ → Option Signature) (text : List ℕ) (q : Query) : Type 0 where
   pub reads : Reads q text
   pub from_root : query_kind q ≡ root
   pub typed : IsTyped signature q

@@ -25,8 +25,7 @@ pub record ParsedQuery : Type 0 where
   pub signatures : List (List ℕ × Signature)
 
 -- What a parse answers of a text, which is given by the bytes of its UTF-8.
-pub record IsParse (signature : List ℕ → Option Signature) (text : List ℕ)
-    (answer : Result ParsedQuery ParseError) : Type 0 where
+pub record IsParse (signature : List ℕ → Option Signature) (text : List ℕ) (answer : Result ParsedQuery ParseError) : Type 0 where
   -- what is accepted is in the typed grammar, with this tree
   pub accepted : IfOk answer (λ read. IsAccepted signature (chars text) read.tree)
   -- it keeps the names that it calls, each once, and no other

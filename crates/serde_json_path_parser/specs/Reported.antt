@@ -33,8 +33,7 @@ IsUndeclared signature rest =
     × (signature f ≡ None)
 
 -- What a refusal, if that is the answer, says of a text, which is given by the bytes of its UTF-8.
-pub record Reports (signature : List ℕ → Option Signature) (text : List ℕ)
-    (answer : Result ParsedQuery ParseError) : Type 0 where
+pub record Reports (signature : List ℕ → Option Signature) (text : List ℕ) (answer : Result ParsedQuery ParseError) : Type 0 where
   -- it is the one that is met first, unless memory was refused
   pub first : IfErr answer (λ e. kind_of e ≢ NoMemory → first_refusal signature text ≡ Some e)
   -- a missing root is reported exactly where a text whose end has a position does not begin with

@@ -1,7 +1,7 @@
--- The function sets of the tests: what their names mean, and that they keep types and patterns.
-use Rattle.std.proofs.Common.{◌≡◌, ◌+◌, ◌&&◌, ◌||◌, ℕ, List, [], ◌∷◌, length, Bool, true, false, Option, Some, None, bytes_eq, codes, if◌then◌else◌, refl, arith}
+-- A function set of the tests: what its names mean, and that it keeps types and patterns.
+use Rattle.std.proofs.Common.{◌≡◌, ◌&&◌, ◌||◌, ℕ, List, [], ◌∷◌, Bool, true, false, Option, Some, None, bytes_eq, codes, if◌then◌else◌, refl, arith}
 use Rattle.serde_json_path_functions.specs.OwnSets.{Keeps, declared_keeps}
-use Rattle.serde_json_path_functions.specs.Functions.{of_value, of_nodes, of_logical, Signature, Term, value, nodes, logical, counted, kind_of_term, FunctionSet, KeepsTypes, whole_numbers}
+use Rattle.serde_json_path_functions.specs.Functions.{of_value, of_nodes, of_logical, Signature, Term, value, nodes, logical, kind_of_term, FunctionSet, KeepsTypes, whole_numbers}
 use Rattle.serde_json_path_functions.specs.Patterns.{KeepsPatterns, keeps_no_patterns}
 
 -- ---- `kids` gives its nodes back, `both` whether both are true, `none` Nothing; the others are true
@@ -65,29 +65,3 @@ own_keeps_types name s e =
 
 pub own_keeps_patterns : KeepsPatterns own_functions
 own_keeps_patterns = keeps_no_patterns own_functions (λ name. refl)
-
--- ---- `length` takes nodes, and gives one more than there are
-
-abbrev pub odd_meaning : List Term → Term
-odd_meaning (nodes ds ∷ []) = value (counted (length ds + 1))
-odd_meaning _ = value None
-
-abbrev pub odd_signature : List ℕ → Option Signature
-odd_signature name = if bytes_eq name (codes "length") then Some (record { params = of_nodes ∷ []; result = of_value }) else None
-
-abbrev pub odd_functions : FunctionSet
-odd_functions = record { signature = odd_signature; meaning = λ name ts. odd_meaning ts; by_regex = λ name. None; numbers = whole_numbers }
-
-odd_typed : (ts : List Term) → kind_of_term (odd_meaning ts) ≡ of_value
-odd_typed (nodes ds ∷ []) = refl
-odd_typed _ = refl
-
-odd_by_name : (a : Bool) → Keeps (if a then Some (record { params = of_nodes ∷ []; result = of_value }) else None) odd_meaning
-odd_by_name true = declared_keeps _ odd_meaning (omega arith) odd_typed
-odd_by_name false = λ s e. absurd cc
-
-pub odd_keeps_types : KeepsTypes odd_functions
-odd_keeps_types name s e = odd_by_name (bytes_eq name (codes "length")) s e
-
-pub odd_keeps_patterns : KeepsPatterns odd_functions
-odd_keeps_patterns = keeps_no_patterns odd_functions (λ name. refl)

@@ -50,28 +50,20 @@ pub(crate) fn wrote(rt: &impl Abort, written: &[u8], wanted: &str) {
 /// The words, the input, and the status and the texts on the output and on the output of errors.
 const RUNS: &[(&[&str], &str, &str)] = &[
     (&["$.a"], r#"{"a":[1]}"#, "0, $['a']\t[1]\n, "),
-    (
-        &["$['a','a']"],
-        r#"{"a":[1]}"#,
-        "0, $['a']\t[1]\n$['a']\t[1]\n, ",
-    ),
+    (&["$['a','a']"], r#"{"a":[1]}"#, TWICE),
     (&["$.b"], r#"{"a":[1]}"#, "0, , "),
     (&["$"], "null", "0, $\tnull\n, "),
     (&["$.a"], "{", "2, , jsonpath: document: not JSON\n"),
     (&["$"], "1 2", "2, , jsonpath: document: not JSON\n"),
-    (
-        &["x"],
-        "{",
-        "1, , jsonpath: path: at position 1, expected '$'\n",
-    ),
-    (
-        &[""],
-        "null",
-        "1, , jsonpath: path: at position 1, expected '$'\n",
-    ),
+    (&["x"], "{", NO_ROOT),
+    (&[""], "null", NO_ROOT),
     (&[], "null", "64, , usage: jsonpath PATH\n"),
     (&["$", "$"], "null", "64, , usage: jsonpath PATH\n"),
 ];
+
+const TWICE: &str = "0, $['a']\t[1]\n$['a']\t[1]\n, ";
+
+const NO_ROOT: &str = "1, , jsonpath: path: at position 1, expected '$'\n";
 
 /// The status and the texts of a run. Fails where it reads its input and words are wrong, or does not and they are right.
 fn ran(alloc: Global, words: &[String], document: &str) -> Result<String, Fail> {

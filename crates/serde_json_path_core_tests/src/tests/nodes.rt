@@ -76,16 +76,14 @@ const POINTED: &[(&[PathElement<'static>], &str)] = &[
     (&[], "$ ~  ~ None"),
     (&[Name("a/~")], "$['a/~'] ~ /a~1~0 ~ None"),
     (&[Name("a/~"), Index(0)], "$['a/~'][0] ~ /a~1~0/0 ~ Some(1)"),
-    (
-        &[Name("a'b\\\u{b}")],
-        "$['a\\'b\\\\\\u000b'] ~ /a'b\\\u{b} ~ Some(2)",
-    ),
+    (&[Name("a'b\\\u{b}")], ESCAPED),
     (&[Name("é"), Name("")], "$['é'][''] ~ /é/ ~ Some(3)"),
-    (
-        &[Name("plain é'\n😀 text\\")],
-        "$['plain é\\'\\n😀 text\\\\'] ~ /plain é'\n😀 text\\ ~ Some(4)",
-    ),
+    (&[Name("plain é'\n😀 text\\")], PARTLY_ESCAPED),
 ];
+
+const ESCAPED: &str = "$['a\\'b\\\\\\u000b'] ~ /a'b\\\u{b} ~ Some(2)";
+
+const PARTLY_ESCAPED: &str = "$['plain é\\'\\n😀 text\\\\'] ~ /plain é'\n😀 text\\ ~ Some(4)";
 
 // The normalised path and the JSON pointer of a location, and the number there, if it is one.
 fn pointed(alloc: Global, location: &NormalizedPath<'_>, document: &Value) -> Result<String, Fail> {
@@ -213,11 +211,10 @@ fn answered(alloc: Global, list: NodeList<'_>, count: usize) -> Result<String, F
 const COUNTED: &[(usize, &str)] = &[
     (0, "none; one node expected, found none"),
     (1, "one; one"),
-    (
-        2,
-        "at most one node expected, found 2; one node expected, found 2",
-    ),
+    (2, TWO_FOUND),
 ];
+
+const TWO_FOUND: &str = "at most one node expected, found 2; one node expected, found 2";
 
 #[test]
 fn lists_answer_by_their_length(rt: HostRuntime) -> Result<(), Fail> {

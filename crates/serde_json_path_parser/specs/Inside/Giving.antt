@@ -91,8 +91,7 @@ IsAsRead view (Err e) reader read = Fails e read
 
 -- The builder has grown by parts that make these calls: each earlier part stays good, with its
 -- tree, and the calls that were made since are these, each with the signature that its name has.
-pub record Grows (signature : List ℕ → Option Signature) (old new : SyntaxBuilder)
-    (calls : List Call) : Type 0 where
+pub record Grows (signature : List ℕ → Option Signature) (old new : SyntaxBuilder) (calls : List Call) : Type 0 where
   pub trees : KeepsTrees old new
   pub names : names_in (calls_in new) ≡ names_in (calls_in old) ++ names_of calls
   pub declared : AreDeclared signature (calls_in old) → AreDeclared signature (calls_in new)
@@ -162,8 +161,7 @@ IsArgumentOf signature builder (the_arguments.Operand o) x =
 IsArgumentOf signature builder (the_arguments.Logical part) x =
     (e : LogicalOr) × (x ≡ logical_argument e) × IsPart builder part (piece.an_or e)
 
-module _ {S : Type 0} {g : Ghosts S} (signature : List ℕ → Option Signature)
-    (old new : SyntaxBuilder) where
+module _ {S : Type 0} {g : Ghosts S} (signature : List ℕ → Option Signature) (old new : SyntaxBuilder) where
   -- The parts that were made stand for the selectors that reading gives.
   abbrev pub MakesSelectors : Result Parts Failure → Reader S g → Parsed (List Selector) → Type 0
   MakesSelectors =
@@ -223,8 +221,7 @@ IsNear (Err e) reader = StopsNear e reader
 
 -- The reader moved on, and where it stopped with such a refusal no byte was seen beyond the one
 -- after its place.
-pub record MovesTo {X S : Type 0} {g : Ghosts S} (result : Result X Failure) (old new : Reader S g)
-    : Type 0 where
+pub record MovesTo {X S : Type 0} {g : Ghosts S} (result : Result X Failure) (old new : Reader S g) : Type 0 where
   pub moves : Moves old new
   pub near : IsNear result new
 

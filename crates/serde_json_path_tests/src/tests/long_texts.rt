@@ -16,16 +16,15 @@ pub(crate) const CUT: &[(Nesting<'static>, usize, &str)] = &[
     (("$", " ", "x", "", ""), 10_000, "TextAfterPath 2"),
 ];
 
+/// Digits after a point.
+const FRACTION: Nesting<'static> = ("$[?@ == 0.", "0", "]", "", "");
+
 /// Calls, one after the other.
 const SEVERAL: Nesting<'static> = ("$[?count(@) == 1", " || count(@) == 1", "]", "", "");
 
 /// The same, of texts of which the nesting of the last three ends and is not counted.
 const LONG: &[(Nesting<'static>, usize, &str)] = &[
-    (
-        ("$[?@ == 0.", "0", "]", "", ""),
-        10_000,
-        "FractionTooLong 9",
-    ),
+    (FRACTION, 10_000, "FractionTooLong 9"),
     (("$[?(@)", " && (@)", "]", "", ""), 200, "accepted"),
     (SEVERAL, 200, "accepted"),
     (("$", "[?@]", "", "", ""), 200, "accepted"),

@@ -1,6 +1,6 @@
 //! Paths whose filters call functions of other sets.
 
-ghost use Rattle.serde_json_path_tests.specs.TestSets.{own_functions, odd_functions};
+ghost use Rattle.serde_json_path_tests.specs.TestSets.{own_functions};
 
 use crate::tests::nesting::nested;
 use crate::tests::rows::told;
@@ -14,6 +14,7 @@ use serde_json_path::functions::{
 };
 use serde_json_path::{JsonPath, QueryError};
 use serde_json_path_core_tests::rows::{Table, fields, hold_rows};
+use serde_json_path_core_tests::sets::Overriding;
 use std::alloc::Global;
 use std::cell::Cell;
 use std::process::Abort;
@@ -88,46 +89,6 @@ impl Functions for Own {
             "none" => Ok(FunctionValue::Value(ValueType::Nothing)),
             "refuse" => Err(QueryError::Memory),
             _ => Ok(FunctionValue::Logical(LogicalType::True)),
-        }
-    }
-}
-
-/// `length` takes nodes, and gives one more than there are.
-#[derive(Clone, Copy)]
-struct Odd;
-
-impl Functions for Odd {
-    ghost use Rattle.serde_json_path_tests.specs.TestSets.{odd_keeps_types, odd_keeps_patterns};
-
-    ghost set = { λ _. odd_functions };
-
-    ghost typed = { λ _. odd_keeps_types };
-
-    ghost patterned = { λ _. odd_keeps_patterns };
-
-    fn signature(&self, name: &str) -> Option<Signature> {
-        match name {
-            "length" => Signature::new(&[Nodelist], FunctionArgType::Value),
-            _ => None,
-        }
-    }
-
-    fn numbers(&self) -> Numbers {
-        Numbers::Whole
-    }
-
-    fn call<'b>(
-        &self,
-        alloc: Global,
-        name: &str,
-        mut args: Vec<FunctionValue<'b>>,
-    ) -> Result<FunctionValue<'b>, QueryError> {
-        match args.pop() {
-            Some(FunctionValue::Nodes(nodes)) => {
-                let more = Value::from(nodes.len() as u64 + 1);
-                Ok(FunctionValue::Value(ValueType::Value(more)))
-            }
-            _ => unreachable!(),
         }
     }
 }
@@ -280,7 +241,7 @@ fn calls_functions_of_sets(rt: HostRuntime) -> Result<(), Fail> {
     let mut table = Table::new(&rt);
     let own = Own::refusing(0);
     hold_set(&mut table, &own, ("own functions", OWN, NO_OWN));
-    hold_set(&mut table, &Odd, ("another length", ODD, NO_ODD));
+    hold_set(&mut table, &Overriding, ("another length", ODD, NO_ODD));
     table.end()
 }
 
@@ -306,14 +267,18 @@ fn refuses_where_a_function_is_refused(rt: HostRuntime) -> Result<(), Fail> {
     table.end()
 }
 
-/// Whether the path of a text, as it is read under a set, fits the built-in functions, [`Own`] and [`Odd`].
+/// Whether the path of a text, as it is read under a set, fits the built-in functions, [`Own`] and [`Overriding`].
 fn fitting<F: Functions>(alloc: Global, functions: &F, text: &str) -> Result<String, Fail> {
     let path = JsonPath::parse_with(alloc, text, functions)?;
     let own = path.fits(&Own::refusing(0));
-    Ok(format!(in alloc; "{}, {own}, {}", path.fits(&Builtin), path.fits(&Odd))?)
+    Ok(format!(in alloc;
+        "{}, {own}, {}",
+        path.fits(&Builtin),
+        path.fits(&Overriding)
+    )?)
 }
 
-/// A path, and whether it fits the built-in functions, [`Own`] and [`Odd`].
+/// A path, and whether it fits the built-in functions, [`Own`] and [`Overriding`].
 const FITTING: &[&str] = &[
     "$.a -> true, true, true",
     "$[?count(@.*) == 3] -> true, true, true",
@@ -334,7 +299,7 @@ fn fits_the_sets_that_declare_its_calls(rt: HostRuntime) -> Result<(), Fail> {
         "$[?length(@.*) == 3]",
         "false, false, true",
     );
-    table.hold(odd, fitting(alloc, &Odd, odd.1));
+    table.hold(odd, fitting(alloc, &Overriding, odd.1));
     table.end()
 }
 

@@ -1,16 +1,16 @@
 //! What a set refuses a call for comes through other sets.
 
 ghost use Rattle.serde_json_path_functions.specs.Functions.{Fits};
-ghost use Rattle.serde_json_path_core_tests.specs.Samples.{refused_names};
+ghost use Rattle.serde_json_path_core_tests.specs.TestSets.{refused_names};
 
-use crate::tests::functions::both::Own;
+use crate::sets::Overriding;
 use crate::tests::functions::patterns::arguments;
 use serde_json_path_functions::{Both, Builtin, Functions, QueryError};
 use std::alloc::Global;
 use std::process::Abort;
 use std::test::Fail;
 
-/// Holds a set that has the names of `Own` to its errors.
+/// Holds a set that has the names of `Overriding` to its errors.
 fn refuses_each<F: Functions>(rt: &impl Abort, alloc: Global, functions: &F) -> Result<(), Fail>
     requires { Fits (F.set functions.now) refused_names }
 {
@@ -25,9 +25,9 @@ fn refuses_each<F: Functions>(rt: &impl Abort, alloc: Global, functions: &F) -> 
 #[test]
 fn errors_come_through_other_sets(rt: HostRuntime) -> Result<(), Fail> {
     let alloc = rt.alloc();
-    refuses_each(&rt, alloc, &Own)?;
-    refuses_each(&rt, alloc, &&Own)?;
-    refuses_each(&rt, alloc, &Both(Own, Builtin))?;
-    refuses_each(&rt, alloc, &Both(Builtin, Own))?;
-    refuses_each(&rt, alloc, &Both(&Builtin, Both(&Own, &Builtin)))
+    refuses_each(&rt, alloc, &Overriding)?;
+    refuses_each(&rt, alloc, &&Overriding)?;
+    refuses_each(&rt, alloc, &Both(Overriding, Builtin))?;
+    refuses_each(&rt, alloc, &Both(Builtin, Overriding))?;
+    refuses_each(&rt, alloc, &Both(&Builtin, Both(&Overriding, &Builtin)))
 }
