@@ -1,5 +1,5 @@
 -- The first of some nodes, with another after them.
-use Rattle.std.proofs.Common.{◌≡◌, ◌≤◌, ◌<◌, ◌+◌, ◌∙◌, ◌⊎◌, inl, inr, ℕ, Bool, false, true, Some, string_bytes, List, [], ◌∷◌, ◌++◌, length, map, refl, sym, ap, subst, arith, append_assoc, append-nil, length-append}
+use Rattle.std.proofs.Common.{◌≡◌, ◌≤◌, ◌<◌, ◌+◌, ◌∙◌, ◌⊎◌, inl, inr, ℕ, Bool, false, true, Some, Result, Ok, string_bytes, List, [], ◌∷◌, ◌++◌, length, map, refl, sym, ap, subst, arith, append_assoc, append-nil, length-append}
 use Rattle.std.proofs.lemmas.List.{length_push, map_push}
 use Rattle.std.proofs.lemmas.List.Sums.{sum_by_push}
 use Rattle.serde_json_path_nodes.specs.Location.{Located}
@@ -9,9 +9,11 @@ use Rattle.jsonpath_lines.specs.Output.{IsLine, IsLineOfEach, compact_lines}
 use Rattle.jsonpath_lines.specs.declared.forms.Form.{Form}
 use Rattle.jsonpath_lines.proofs.Pieces.{lines_pushed}
 use Rattle.jsonpath_c.specs.Handles.{AreFirstLines, AreFirstNodes, IsBeyond, IsNodeBeyond, all_name_bytes, name_bytes}
+use Rattle.serde_json_path_functions.specs.declared.error.QueryError.{QueryError}
 use Rattle.jsonpath_c.specs.declared.bounded.BoundedLines.{BoundedLines}
+use Rattle.jsonpath_c.specs.declared.bounded_list.BoundedList.{BoundedList}
 use Rattle.jsonpath_lines.specs.Distinct.{AreEnough}
-use Rattle.jsonpath_c.specs.Inside.{AreWithin, HasNoRoomFor, IsLeftAfter, TookLines}
+use Rattle.jsonpath_c.specs.Inside.{AreWithin, FilledLines, FilledList, HasNoRoomFor, IsLeftAfter, TookLines, TookList}
 use Rattle.jsonpath_c.specs.declared.limits.Limits.{Limits}
 
 -- what is kept of one node more
@@ -143,6 +145,20 @@ all_lines before now nodes took = record {
   complete = λ _. refl;
   cut = λ e. absurd cc;
 }
+
+-- ---- what sinks have when they are fed
+
+-- of a list
+pub nodes_fed : (limits : Limits) (before now : BoundedList) (nodes : List Located) (result : Result Bool QueryError) (all : Bool) → before.left ≡ limits → result ≡ Ok all
+    → (result ≡ Ok true → TookList before nodes now) → (result ≡ Ok false → FilledList before nodes now) → AreFirstNodes limits nodes now.nodes all
+nodes_fed limits before now nodes result true left is took filled = subst (λ (l : Limits). AreFirstNodes l nodes now.nodes true) left (all_within before.left now.left nodes now.nodes (took is).1)
+nodes_fed limits before now nodes result false left is took filled = subst (λ (l : Limits). AreFirstNodes l nodes now.nodes false) left (filled is)
+
+-- of lines
+pub lines_fed : (before now : BoundedLines) (nodes : List Located) (result : Result Bool QueryError) (all : Bool) → result ≡ Ok all
+    → (result ≡ Ok true → TookLines before nodes now) → (result ≡ Ok false → FilledLines before nodes now) → AreFirstLines before.form before.limits.now nodes (string_bytes now.text) all
+lines_fed before now nodes result true is took filled = all_lines before now nodes (took is)
+lines_fed before now nodes result false is took filled = filled is
 
 -- ---- the first of some nodes, by those of their beginning
 

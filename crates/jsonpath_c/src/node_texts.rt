@@ -5,7 +5,7 @@ ghost use Rattle.std.specs.Option.{MatchOption};
 ghost use Rattle.serde_json.specs.Data.{string};
 ghost use Rattle.serde_json_path_nodes.specs.Text.{normal, pointer};
 ghost use Rattle.jsonpath_owned_nodes.specs.Kept.{location_of};
-ghost use Rattle.jsonpath_program.specs.Report.{IsJsonOf};
+ghost use Rattle.jsonpath_lines.specs.Output.{IsJsonOf};
 ghost use Rattle.jsonpath_c.specs.Handles.{AnswersText, HasNode, StandsAt, HasValueAt, location_text};
 
 use crate::handle::document::{Document, DocumentHandle};
